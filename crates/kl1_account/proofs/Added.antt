@@ -17,13 +17,13 @@ use Rattle.kl1_account.specs.Looking.{unlooked, LooksAtOne, LooksAtAdded}
 use Rattle.kl1_account.proofs.SettledStays.{settled_more}
 use Rattle.kl1_account.proofs.Restood.{each_is}
 
--- goals that are settled are so where more hangs
+-- goals that are settled are so if more hangs
 pub all_more : (f : Reading) (hooks more : List Hook) (h : Held CellName) (ms : List Numbered) (shoens : List (Shoen CellName)) (gs : List (Goal CellName)) → AreAmong hooks more → AreSettled f hooks h ms shoens gs → AreSettled f more h ms shoens gs
 all_more f hooks more h ms shoens gs up all = each_is (IsSettled f hooks h ms shoens) (IsSettled f more h ms shoens) gs (λ g s. settled_more f hooks more h ms shoens g up s) all
 
 -- ---- the first of goals
 
--- a fact of the first of goals, so many of them
+-- a fact of the first `k` goals
 abbrev pub FirstAre : (Goal CellName → Type 0) → ℕ → List (Goal CellName) → Type 0
 FirstAre P zero gs = Unit {0}
 FirstAre P (suc k) [] = Unit {0}
@@ -60,7 +60,7 @@ nth_in h (g ∷ gs) (suc k) d all lt = nth_in h gs k d all.1 (omega arith)
 
 -- ---- one goal after another
 
--- a store that holds what it held, and goals of which so many were looked at
+-- a store that holds what it held, and goals of which `k` were looked at
 pub record StillLooks (ms : List Numbered) (shoens : List (Shoen CellName)) (work : List ℕ) (old new : Kept CellName) (k : ℕ) (before now : List (Goal CellName)) : Type 0 where
   pub held : new.held ≡ old.held
   pub grown : HasGrown old new

@@ -154,7 +154,7 @@ any_goes b g n (h ∷ gs) e = one (goes_before h b) (goes_before h g) (list_any 
     one true y v w f k e = or_left y w (f refl)
     one false y v w f k e = or_right y w (k e)
 
--- a goal that is first only where one ahead of it is
+-- a goal that is first only if one ahead of it is
 skipped : (b g : model.Goal) (p q : Bool) (o : Option model.Goal) → (p ≡ false → q ≡ false) → (if p then Some b else if q then Some g else o) ≡ (if p then Some b else o)
 skipped b g true q o f = refl
 skipped b g false q o f = ap (λ c. if c then Some g else o) (f refl)
@@ -188,11 +188,11 @@ first_is_least b (g ∷ gs) = by_case (cases_Bool (goes_before g b)) (first_is_l
 
 -- ---- the goals that stand
 
--- the clause by which a goal can step now, where it may
+-- the clause by which a goal can step now, if it may
 abbrev pub standing_now : Goal CellName → Option ℕ
 standing_now g = if g.is_enabled then g.standing else None
 
--- a goal stands as the definitions have it, where cells mean this
+-- a goal stands as the definitions have it, if cells mean this
 abbrev pub IsStanding : State → Means → Goal CellName → Type 0
 IsStanding s t g = clause_for s (goal_with t g) ≡ standing_now g
 
@@ -313,7 +313,7 @@ any_stands : (s : State) (h : Means) (gs : List (Goal CellName)) → AreStanding
 any_stands s h [] e = refl
 any_stands s h (g ∷ gs) e = ap (λ o. is_some o || list_any (can_step s) (map (goal_with h) gs)) e.0 ∙ ap (λ b. b || list_any (can_step s) (map (goal_with h) gs)) (stands_is g) ∙ ap (λ b. stands g || b) (any_stands s h gs e.1)
 
--- no goal stands just where none can step
+-- no goal stands just if none can step
 pub quiet_is : (s : State) (h : Means) (gs : List (Goal CellName)) → s.goals ≡ map (goal_with h) gs → AreStanding s h gs → not (list_any stands gs) ≡ quiet s
 quiet_is s h gs e k = ap not (sym (any_stands s h gs k) ∙ ap (list_any (can_step s)) (sym e))
 
@@ -347,7 +347,7 @@ found_first : (t : Means) (n : ℕ) (s : Shoen CellName) (ss : List (Shoen CellN
 found_first t n s ss true e = refl
 found_first t n s ss false e = e
 
--- the definitions' shoen of a number is that which is found
+-- the definitions' shoen `n` is that which is found
 shoen_found : (t : Means) (n : ℕ) (ss : List (Shoen CellName)) → shoen_at n (map (shoen_with t) ss) ≡ option_map (shoen_with t) (shoen_in n ss)
 shoen_found t n [] = refl
 shoen_found t n (s ∷ ss) = found_first t n s ss (s.number == n) (shoen_found t n ss)
@@ -368,14 +368,14 @@ clause_found s t shoens n (Reduces x) e =
     find_alike (λ c. is_some (option_map (moves u) (term_move s.modules u c (call_of u)))) (λ c. is_some (move_by s.modules u c)) (λ c. some_moves u (term_move s.modules u c (call_of u))) (0 ∷ call_clauses s.modules (call_of u))
 clause_found s t shoens n (Substitutes x) e = substitute_found (t x) (goal_look (t x))
 
--- where goals may step, it is by that clause
+-- if goals may step, it is by that clause
 clause_enabled : (s : State) (g : model.Goal) (b : Bool) (o : Option ℕ) → is_enabled s g ≡ b → find (λ c. is_some (task_action s g.shoen g.task c)) (task_clauses s.modules g.task) ≡ o → clause_for s g ≡ (if b then o else None)
 clause_enabled s g true o e found =
     find_alike (λ c. is_some (action_of s g c)) (λ c. is_some (task_action s g.shoen g.task c)) (λ c. ap (λ b. is_some (if b then task_action s g.shoen g.task c else None)) e) (task_clauses s.modules g.task) ∙ found
 clause_enabled s g false o e found =
     find_none (λ c. is_some (action_of s g c)) (λ c. ap (λ b. is_some (if b then task_action s g.shoen g.task c else None)) e) (task_clauses s.modules g.task)
 
--- a goal may step just where the definitions let it
+-- a goal may step just if the definitions let it
 pub enabled_read : (f : Reading) (h : Held CellName) (shoens : List (Shoen CellName)) (work : List ℕ) (s : State) (g : Goal CellName) → s.shoens ≡ map (shoen_with (meaning f h)) shoens → s.work ≡ work → IsEnabled shoens work g → is_enabled s (goal_with (meaning f h) g) ≡ g.is_enabled
 enabled_read f h shoens work s g e w is =
     let has : Has f h shoens work s = record { shoens = e; charged = w } in
@@ -427,7 +427,7 @@ picks f a b hooks o e settled enabled p fits =
     ∙ first_is (state_of f a) (meaning f a.held) a.goals refl (stand_in f a hooks all enabled)
     ∙ ap (λ (z : Account). first (state_of f z)) e
 
--- and no goal can step just where the table has none ready
+-- and no goal can step just if the table has none ready
 pub is_quiet : (f : Reading) (a b : Account) (hooks : List Hook) (r : Bool) → a ≡ b → AreSettledIn a hooks → AreEnabled a.shoens a.work a.goals → r ≡ list_any stands a.goals → Fits b.names f → not r ≡ quiet (state_of f b)
 is_quiet f a b hooks r e settled enabled p fits =
     let F : Account → Type 0 = λ z. Fits z.names f in

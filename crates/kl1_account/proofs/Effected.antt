@@ -140,7 +140,7 @@ name_read a hooks known n c g x p places text y f number name None kept formed i
     )
 name_read a hooks known n c g x p places text y f number name (Some m) kept formed inside found task makes fits reads e is = fits.texts text m e
 
--- where a move uses a text as a name, readings of the names that an account has then read it
+-- if a move uses a text as a name, readings of the names that an account has then read it
 names_read : (a : Account) (hooks : List Hook) (known n c : ℕ) (g : Goal CellName) (x : Qualified CellName) (p : Predicate CellName) (places : List (Place CellName)) (text : List ℕ) (m : Move CellName) (ms : List Numbered) (more : List Known) (number : CellName) (name : Option (List ℕ)) →
     IsKept a hooks known → IsFormed a.held → MoveIn a.held p places text (Some m) → find (has_number n) a.goals ≡ Some g → g.task ≡ Reduces x → IsMade a.held a.modules a.entries x c p places text m →
     ((f : Reading) → Knows ms f → Fits more f) → IsNamedBy a.names more name number → name ≡ name_for m a.names text → ReadsAll m ms a.held a.names text number

@@ -33,7 +33,7 @@ use Rattle.kl1_effects.proofs.DraftRows.{by_text}
 
 -- ---- two numbers, each in place of the other
 
--- a number, where one stands for another and that for this
+-- a number, if one stands for another and that for this
 abbrev swapped : CellName → CellName → CellName → CellName
 swapped a b n = if n.number == a.number then b else if n.number == b.number then a else n
 
@@ -79,7 +79,7 @@ exchanged a b f n = f (swapped a b n)
 
 -- ---- a name that is new, by the spare number
 
--- names, and behind them a text by the spare number
+-- names, and after them a text by the spare number
 abbrev pub with_spare : List Known → List ℕ → List Known
 with_spare names text = names ++ record { text = text; number = record { number = 2 ^ 32 } } ∷ []
 
@@ -105,7 +105,7 @@ small_by names t n a e = elim (option_cases (built_in_of t)) [
 spare_adds : (names : List Known) (text : List ℕ) → number_by names text ≡ None → Adds names text (record { number = 2 ^ 32 }) (with_spare names text)
 spare_adds names text new = let n = not_known names text new in adds_one names text (record { number = 2 ^ 32 }) n.0 n.1
 
--- the texts of names with one behind them
+-- the texts of names with one after them
 pub spare_texts : (names : List Known) (text : List ℕ) → texts_of (with_spare names text) ≡ texts_of names ++ text ∷ []
 spare_texts names text = map-append (λ (k : Known). k.text) names (record { text = text; number = record { number = 2 ^ 32 } } ∷ [])
 
@@ -164,7 +164,7 @@ control_read t ss n = by_case (shoen_in n ss) ∙ sym (ap front_of (found_in t n
     by_case None = refl
     by_case (Some h) = refl
 
--- two ways to read shoens read the same control streams where they read the same shoens
+-- two ways to read shoens read the same control streams if they read the same shoens
 control_alike : (t u : Means) (ss : List (Shoen CellName)) (n : ℕ) → map (shoen_with t) ss ≡ map (shoen_with u) ss → control_with t ss n ≡ control_with u ss n
 control_alike t u ss n e = control_read t ss n ∙ ap (λ (hs : List model.Shoen). front_of (shoen_at n hs)) e ∙ sym (control_read u ss n)
 

@@ -172,7 +172,7 @@ next_looked n (b ∷ before) (a ∷ after) gs ks c e i =
     let rest : map unlooked after ≡ map unlooked before = cc in
     (next_one n gs ks a b first c i.0, next_looked n before after (gs ++ b ∷ []) (ks ++ a ∷ []) (carries_more gs ks a b first c) rest i.1)
 
--- the same, where they come after those that a draft leaves
+-- goals that a table takes in are taken in as well after those that a draft leaves
 pub next_placed : (n : ℕ) (goals added : List (Goal CellName)) (d : Draft) → map unlooked d.added.items ≡ map unlooked added → AreNext goals n added → AreNext (restood d.changes.items (goals_left goals d)) n d.added.items
 next_placed n goals added d e i = next_looked n added d.added.items goals (restood d.changes.items (goals_left goals d)) (λ P all a. stood_holds P all goals d a) e i
 
@@ -249,14 +249,14 @@ enables_to tree goals added d numbered flags e owned come before work le own sam
 
 -- ---- which goals are settled
 
--- where all that are placed are settled, so are all with the draft in place
+-- if all that are placed are settled, so are all with the draft in place
 pub settles_to : (ms : List Numbered) (mark : Point) (now new : Kept CellName) (after : List (Shoen CellName)) (told : List ℕ) (goals placed : List (Goal CellName)) (d : Draft) → SettlesTo ms mark now new after told goals placed → SettlesTo ms mark now new after told goals (shifted d placed)
 settles_to ms mark now new after told goals placed d s old before come inside shoens keeps f knows a =
     shifted_holds (λ g. IsSettled f new.hooks new.held ms after g) (λ g b p. record { standing = p.standing; hung = p.hung }) d placed (s old before come inside shoens keeps f knows a)
 
 -- ---- all of it
 
--- what two clauses say where memory isn't refused
+-- what two clauses say if memory isn't refused
 pub both_ok : {T E : Type 0} (P Q : Type 0) (r : Result T E) → OnOk r P → OnOk r Q → OnOk r (P × Q)
 both_ok P Q (Ok x) p q = (p, q)
 both_ok P Q (Err e) p q = tt

@@ -1,4 +1,4 @@
--- Which goals may step where a shoen opens: those that might before, and its own unless its allowance is 0.
+-- Which goals may step when a shoen opens: those that might before, and its own unless its allowance is 0.
 use Rattle.std.proofs.Common.{◌≡◌, ℕ, zero, suc, ◌+◌, ◌<◌, ◌≤◌, ◌==◌, ◌||◌, not, nat_le, nat_lt, Bool, true, false, if◌then◌else◌, List, [], ◌∷◌, ◌++◌, length, get_or, refl, sym, ap, ap₂, ◌∙◌, arith}
 use Rattle.std.specs.Prelude.{Option, Some, None, find, option_map, unwrap_or, cond}
 use Rattle.std.specs.List.{list_any, AllByRecursion}
@@ -27,7 +27,7 @@ path_same ss h n lower le =
     ap (λ ps. path_within n ps n) (map-append (λ (s : Shoen CellName). s.parent) ss (h ∷ []))
     ∙ path_among (parents_in ss) (h.parent ∷ []) lower n n (omega arith)
 
--- what is charged to any shoen, where the charged reductions were done in those that are there
+-- what is charged to any shoen, if the charged reductions were done in those that are there
 charged_same : (ss : List (Shoen CellName)) (h : Shoen CellName) (a : ℕ) (work : List ℕ) → AreLower ss → AllByRecursion (λ w. w ≤ length ss) work → charged_in (ss ++ h ∷ []) work a ≡ charged_in ss work a
 charged_same ss h a [] lower all = refl
 charged_same ss h a (w ∷ ws) lower all =
@@ -35,7 +35,7 @@ charged_same ss h a (w ∷ ws) lower all =
     ∙ ap₂ (λ b (m : ℕ). cond b 1 0 + m) (ap (is_among a) (path_same ss h w lower all.0)) (charged_same ss h a ws lower all.1)
     ∙ sym (sum_by-cons (λ v. cond (is_on_path_in ss a v) 1 0) w ws)
 
--- the shoen of a number that is there
+-- a shoen that was there is found as before, with one shoen more
 found_same : (k n : ℕ) (ss : List (Shoen CellName)) (h : Shoen CellName) → AreNumbered k ss → n ≤ k + length ss → h.number ≡ suc (k + length ss) → find (has_number n) (ss ++ h ∷ []) ≡ find (has_number n) ss
 found_same k n [] h a le e = ap (λ b. if b then Some h else None) (ne_eqb h.number n (λ q. omega arith))
 found_same k n (s ∷ ss) h a le e = by_case (s.number == n) (found_same (suc k) n ss h a.1 (omega (arith, le)) (e ∙ omega arith))
@@ -169,7 +169,7 @@ blocking_stays ss h work n numbered lower e root le =
     by_case None = refl
     by_case (Some x) = ap (λ c. x.is_stopped || not (is_living x.life) || nat_le x.allowance c) (charged_stays ss h x.number work lower root)
 
--- whether goals of a shoen that is there may step, where one without a parent opens
+-- whether goals of a shoen that is there may step, if one without a parent opens
 pub enabled_stays : (ss : List (Shoen CellName)) (h : Shoen CellName) (work : List ℕ) (n : ℕ) → AreNumbered 0 ss → AreLower ss → h.number ≡ suc (length ss) → h.parent ≡ 0 → n ≤ length ss → is_enabled_at (ss ++ h ∷ []) work n ≡ is_enabled_at ss work n
 enabled_stays ss h work n numbered lower e root le =
     ap (λ ns. not (list_any (is_blocking_at (ss ++ h ∷ []) work) ns)) (path_same ss h n lower le)

@@ -10,7 +10,7 @@ use Rattle.kl1_goals.specs.Tables.{Ascend}
 use Rattle.kl1_effects.specs.Kept.{AreUpTo}
 use Rattle.kl1_account.proofs.Restood.{each_is}
 
--- this is the first goal with a number of at least so much, as far as another one is concerned
+-- this is the first goal with a number of at least `from`, as far as another one is concerned
 abbrev pub IsNext : ℕ → Goal CellName → Goal CellName → Type 0
 IsNext from goal g = (from ≤ g.number → goal.number ≤ g.number) × (g.number ≡ goal.number → (g.shoen ≡ goal.shoen) × (g.task ≡ goal.task))
 
@@ -34,7 +34,7 @@ found_above p from (g ∷ goals) goal up e = here (p g) (found_above p (suc g.nu
     here true later k = let n = ap (λ (a : Goal CellName). a.number) (same_goal goal g k) in let a = up.0 in omega arith
     here false later k = let n = later k in let a = up.0 in omega arith
 
--- the first goal that passes a test is the next, where it comes before those from the number on that do not pass it
+-- the first goal that passes a test is the next, if it comes before those from the number on that do not pass it
 next_found : (p : Goal CellName → Bool) (from low : ℕ) (goals : List (Goal CellName)) (goal : Goal CellName) → ((g : Goal CellName) → p g ≡ false → from ≤ g.number → goal.number ≤ g.number) → Ascend low (map number_of goals) → Some goal ≡ find p goals → IsNextOf from goal goals
 next_found p from low [] goal first up e = tt
 next_found p from low (g ∷ goals) goal first up e = here (p g) refl (next_found p from (suc g.number) goals goal first up.1) e
@@ -58,7 +58,7 @@ next_after n goals goal up e = next_found (is_after n) (suc n) 0 goals goal (λ 
 pub next_zero : (goals : List (Goal CellName)) (goal : Goal CellName) → goal.number ≡ 0 → Ascend 0 (map number_of goals) → Some goal ≡ find (has_number 0) goals → IsNextOf 0 goal goals
 next_zero goals goal is up e = next_found (has_number 0) 0 0 goals goal (λ g k le. omega arith) up e
 
--- where no goal comes after a number, each comes up to it
+-- if no goal comes after a number, each comes up to it
 pub none_after : (n : ℕ) (goals : List (Goal CellName)) → None ≡ find (is_after n) goals → AreUpTo n goals
 none_after n [] e = tt
 none_after n (g ∷ goals) e = here (is_after n g) refl (none_after n goals) e
@@ -67,7 +67,7 @@ none_after n (g ∷ goals) e = here (is_after n g) refl (none_after n goals) e
     here true is later k = absurd (cc)
     here false is later k = (ltb-false n g.number is, later k)
 
--- where no goal has number 0, each comes after it
+-- if no goal has number 0, each comes after it
 pub none_zero : (goals : List (Goal CellName)) → None ≡ find (has_number 0) goals → AllByRecursion (λ g. g.number ≡ 0 → ⊥) goals
 none_zero [] e = tt
 none_zero (g ∷ goals) e = here (g.number == 0) refl (none_zero goals) e

@@ -25,7 +25,7 @@ use Rattle.kl1_account.proofs.Origins.{kept_at, origin_read}
 
 -- ---- elements printed one after another
 
--- of a list's elements some are listed, and with so many of those from a cell on, all that are wanted are
+-- of a list's elements some are listed, and with `left` of those from a cell on, all that are wanted are
 pub record IsListing (ks : List Known) (h : Held CellName) (list at : Cell CellName) (most left : ℕ) (done : List (List ℕ)) : Type 0 where
   pub inside : IsIn h at
   pub named : (f g : Reading) → Fits ks f → Fits ks g → cells_of f h at ≡ cells_of g h at
@@ -45,7 +45,7 @@ pub listed_all : (ks : List Known) (h : Held CellName) (list at : Cell CellName)
 listed_all ks h list at most left done l end f fits =
     sym (append_none done) ∙ ap (λ (ts : List Term). done ++ map cut_print ts) (sym (take_none left (cells_of f h at) (end f fits.reads))) ∙ l.listed f fits
 
--- where so many are listed
+-- if no more are wanted
 pub listed_most : (ks : List Known) (h : Held CellName) (list at : Cell CellName) (most left : ℕ) (done : List (List ℕ)) → IsListing ks h list at most left done → left ≡ 0 → (f : Reading) → Fits ks f → done ≡ map cut_print (take most (cells_of f h list))
 listed_most ks h list at most left done l end f fits = sym (append_none done) ∙ ap (λ n. done ++ map cut_print (take n (cells_of f h at))) (sym end) ∙ l.listed f fits
 
@@ -93,21 +93,21 @@ asked f s h gs ss n from o e le is =
     ∙ ap (λ b. if b then reports_of (with_kept f s h gs ss) from (origin_at n (map (shoen_with (meaning f h)) ss)) else refuse (with_kept f s h gs ss) syntax) (le-leb 1 from le)
     ∙ ap (reports_of (with_kept f s h gs ss) from) (origin_read (meaning f h) n ss ∙ ap (option_map (origin_with (meaning f h))) is)
 
--- where the numbers aren't such
+-- if the numbers aren't such
 pub asked_bad : (f : Reading) (s : State) (h : Held CellName) (gs : List (Goal CellName)) (ss : List (Shoen CellName)) (n from : ℕ) → (is_number n && is_number from) ≡ false → step (with_kept f s h gs ss) (read (reports n from)) ≡ refuse (with_kept f s h gs ss) syntax
 asked_bad f s h gs ss n from e = ap (λ b. if b && nat_le 1 from then reports_of (with_kept f s h gs ss) from (origin_at n (map (shoen_with (meaning f h)) ss)) else refuse (with_kept f s h gs ss) syntax) e
 
--- where the first is 0
+-- if the first is 0
 pub asked_early : (f : Reading) (s : State) (h : Held CellName) (gs : List (Goal CellName)) (ss : List (Shoen CellName)) (n from : ℕ) → (is_number n && is_number from) ≡ true → from < 1 → step (with_kept f s h gs ss) (read (reports n from)) ≡ refuse (with_kept f s h gs ss) syntax
 asked_early f s h gs ss n from e lt =
     ap (λ b. if b && nat_le 1 from then reports_of (with_kept f s h gs ss) from (origin_at n (map (shoen_with (meaning f h)) ss)) else refuse (with_kept f s h gs ss) syntax) e
     ∙ ap (λ b. if b then reports_of (with_kept f s h gs ss) from (origin_at n (map (shoen_with (meaning f h)) ss)) else refuse (with_kept f s h gs ss) syntax) (lt-leb 1 from lt)
 
--- where the console started no shoen of the number
+-- if the console started no shoen of that number
 pub asked_none : (f : Reading) (s : State) (h : Held CellName) (gs : List (Goal CellName)) (ss : List (Shoen CellName)) (n from : ℕ) → (is_number n && is_number from) ≡ true → 1 ≤ from → kept_at n ss ≡ None → step (with_kept f s h gs ss) (read (reports n from)) ≡ refuse (with_kept f s h gs ss) no_shoen
 asked_none f s h gs ss n from e le is = asked f s h gs ss n from None e le is
 
--- where it did
+-- if it did
 pub asked_some : (f : Reading) (s : State) (h : Held CellName) (gs : List (Goal CellName)) (ss : List (Shoen CellName)) (n from : ℕ) (o : Origin CellName) (first : Cell CellName) (texts : List (List ℕ)) → (is_number n && is_number from) ≡ true → 1 ≤ from → kept_at n ss ≡ Some o →
     cells_of f h first ≡ drop (from - 1) (cells_of f h o.reports) → texts ≡ map cut_print (take most_listed (cells_of f h first)) → step (with_kept f s h gs ss) (read (reports n from)) ≡ record { state = with_kept f s h gs ss; reply = listed texts }
 asked_some f s h gs ss n from o first texts e le is drops all =

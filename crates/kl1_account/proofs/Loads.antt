@@ -128,7 +128,7 @@ load_good text m h r = λ s. rw (le-leb (length text) most_source_bytes h) (ap (
 pub same_parts : (x : Numbered) (m n : Module) (row own : List CellName) (place : ℕ × ℕ) → x ≡ record { content = m; row = row; place = place } → n ≡ m → own ≡ row → x ≡ record { content = n; row = own; place = place }
 same_parts x m n row own place is content rows = rw (content, rows) is
 
--- a module is drafted for a source that is read as it, where it is one that may be loaded
+-- a module is drafted for a source that is read as it, if it is one that may be loaded
 pub drafted_is : (ms : List Numbered) (names : List Known) (entries : ℕ) (text : List ℕ) (x d : Numbered) → length text ≤ most_source_bytes → read_module text ≡ good d.content → x ≡ d → IsDraft ms names entries d → IsDraftOf ms names entries text x
 drafted_is ms names entries text x d few read is draft =
     let P : Numbered → Type 0 = λ y. IsDraftOf ms names entries text y in
@@ -150,7 +150,7 @@ pub restood_more : (cs : List Change) (c : Change) (gs : List (Goal CellName)) �
 restood_more [] c gs = sym (stood_is c gs)
 restood_more (b ∷ cs) c gs = restood_more cs c (map (restood_by b) gs)
 
--- the same of a table of goals, where the changes before were made
+-- one change more of a table of goals, if the changes before were made
 pub one_more_change : (old was now : Tabled CellName) (cs : List Change) (i : ℕ) (d : Change) → i < length cs → was ≡ record old { goals = restood (take i cs) old.goals } →
     now ≡ record was { goals = map (stood_by (get_or cs i d).number (get_or cs i d).standing) was.goals } → now ≡ record old { goals = restood (take (i + 1) cs) old.goals }
 one_more_change old was now cs i d lt before after =

@@ -1,4 +1,4 @@
--- The goals that a draft leaves and those that come, looked at where needed.
+-- The goals that a draft leaves and those that come, looked at if needed.
 use Rattle.std.proofs.Common.{◌≡◌, ℕ, zero, suc, ◌<◌, ◌==◌, ◌||◌, not, Bool, true, false, if◌then◌else◌, List, [], ◌∷◌, ◌++◌, length, map, drop, refl, sym, ap, ◌∙◌, arith, subst, eq-eqb}
 use Rattle.std.specs.Prelude.{filter, find, Some, Contains}
 use Rattle.std.specs.List.{AllByRecursion}
@@ -112,7 +112,7 @@ or_true : (b c : Bool) → c ≡ true → (b || c) ≡ true
 or_true true c e = refl
 or_true false c e = e
 
--- monitors keep their control streams but for those that were told, and so where more were told
+-- monitors keep their control streams but for those that were told, and also if more were told
 keeps_more : (some more : List ℕ) (before after : List (Shoen CellName)) (gs : List (Goal CellName)) → KeepControls some before after gs → KeepControls (some ++ more) before after gs
 keeps_more some more before after [] k = tt
 keeps_more some more before after (g ∷ gs) k =

@@ -1,4 +1,4 @@
--- What is found where a goal is looked at.
+-- What is found when a goal is looked at.
 use Rattle.std.proofs.Common.{◌≡◌, ℕ, ◌==◌, ◌&&◌, ◌||◌, Bool, true, false, List, [], ◌∷◌, ◌++◌, map, refl, sym, ap, subst, ◌∙◌}
 use Rattle.std.specs.Prelude.{Option, Some, None, option_map}
 use Rattle.std.proofs.lemmas.Bool.{and_parts, eqb-true}
@@ -52,7 +52,7 @@ call_has ms kind c found p e finds compiled f knows h t =
     subst P (sym e) (λ (is : IsCall f h t c).
     compiled f (clauses_of (contents ms) (call_at f h c)) (finds f knows.reads knows.rows (call_at f h c) (record { module_is = refl; name_is = refl; counted = is.counted })))
 
--- the same for whatever goals call it
+-- a predicate that was found serves whatever goals call it
 pub call_serves : (ms : List Numbered) (kind : Kind CellName) (c : Call CellName) (found : Option (Predicate CellName)) (p : Predicate CellName) → kind ≡ Calls c → Finds ms c.module_name c.name c.count found →
     ((f : CellName → List ℕ) (cs : List Clause) → FoundAs f cs found → AreCompiled (map f p.names.now) p.clauses.now cs) → Serves ms kind p
 call_serves ms kind c found p e finds compiled =
@@ -95,7 +95,7 @@ serves_same ms c kinds.Nothing p e s = tt
 pub serves_too : (ms : List Numbered) (known kind : Kind CellName) (c : Call CellName) (p : Predicate CellName) → known ≡ Calls c → calls_same c kind ≡ true → Serves ms known p → Serves ms kind p
 serves_too ms known kind c p e same s = let P : Kind CellName → Type 0 = λ k. Serves ms k p in serves_same ms c kind p same (subst P e s)
 
--- what is found of a goal where its number hangs on what it waits for, and this is the clause by which it can step
+-- what is found of a goal if its number hangs on what it waits for, and this is the clause by which it can step
 pub stands_by : (h : Held CellName) (hooks : List Hook) (kind : Kind CellName) (p : Predicate CellName) (n : ℕ) (vs ws : List ℕ) (clause : Option ℕ) →
     ((f : Reading) → Reads built f → (modules : List Module) (t : Term) → IsKind f h t kind → HasPredicate f h modules kind p → StandsAs modules t vs clause) →
     ws ≡ vs → HangsOnEach hooks n ws → StandsBy h hooks kind p (record { number = n; standing = clause })
@@ -107,7 +107,7 @@ stands_by h hooks kind p n vs ws clause stands same hangs =
           record { standing = s.clause_is; hung = hangs_on_same hooks n vs (awaited_by_term (contents ms) (aim f h x)) s.awaits (subst H same hangs) };
     }
 
--- the same of the goal for a cell, where its kind and its predicate are found
+-- what is found of the goal for a cell, if its kind and its predicate are found
 pub stands_at : (ms : List Numbered) (shoens : List (Shoen CellName)) (h : Held CellName) (hooks : List Hook) (n : ℕ) (x : Qualified CellName) (kind : Kind CellName) (p : Predicate CellName) (c : Change) →
     ((f : Reading) → Reads built f → IsKind f h (qualified_term f h x) kind) →
     ((f : Reading) → Knows ms f → (k : Held CellName) (t : Term) → IsKind f k t kind → HasPredicate f k (contents ms) kind p) →

@@ -56,7 +56,7 @@ bad_message ss v k e n m a b t s last goals counts =
     let S = state_with s t last goals ss in
     ap₂ (λ x y. if x && y then send_to S n m (shoen_at n S.shoens) else refuse S syntax) a b
 
--- where the console keeps nothing of the shoen
+-- if the console keeps nothing of the shoen
 pub sends_none : (ss : List (Shoen CellName)) (v k e n : ℕ) (m : Message) → is_number n ≡ true → is_message m ≡ true → kept_at n ss ≡ None → Refuses ss v k e n m NoShoen
 sends_none ss v k e n m a b none t s last goals counts = sends ss n m t s last goals a b ∙ by_case (shoen_in n ss) none
   where
@@ -92,7 +92,7 @@ sends_some ss n m o b t s last goals x y some lives = sends ss n m t s last goal
     by_case None q r = absurd (cc)
     by_case (Some h) q r = by_origin h h.origin q r
 
--- where the shoen has ended
+-- if the shoen has ended
 pub sends_ended : (ss : List (Shoen CellName)) (v k e n : ℕ) (m : Message) (o : Origin CellName) → is_number n ≡ true → is_message m ≡ true → kept_at n ss ≡ Some o → lives_in ss n ≡ false → Refuses ss v k e n m Ended
 sends_ended ss v k e n m o a b some lives t s last goals counts = sends_some ss n m o false t s last goals a b some lives
 
@@ -109,17 +109,17 @@ with_room ss v k e n m o b t s last goals x y some lives counts room =
     ∙ ap₂ (λ p q. limited S (room_for p q m) R) counts.variables_are counts.nodes_are
     ∙ ap (λ c. limited S c R) room
 
--- where there is no room for a variable more
+-- if there is no room for a variable more
 pub sends_crowded : (ss : List (Shoen CellName)) (v k e n : ℕ) (m : Message) (o : Origin CellName) → is_number n ≡ true → is_message m ≡ true → kept_at n ss ≡ Some o → lives_in ss n ≡ true → most_variables ≤ v → Refuses ss v k e n m Limit
 sends_crowded ss v k e n m o a b some lives many t s last goals counts =
     with_room ss v k e n m o false t s last goals a b some lives counts (ap (λ p. p && nat_le (k + message_nodes m) most_nodes) (lt-leb (suc v) most_variables (omega (arith, many))))
 
--- where there is no room for its structures
+-- if there is no room for its structures
 pub sends_limited : (ss : List (Shoen CellName)) (v k e n : ℕ) (m : Message) (o : Origin CellName) → is_number n ≡ true → is_message m ≡ true → kept_at n ss ≡ Some o → lives_in ss n ≡ true → v < most_variables → most_nodes < k + message_nodes m → Refuses ss v k e n m Limit
 sends_limited ss v k e n m o a b some lives few many t s last goals counts =
     with_room ss v k e n m o false t s last goals a b some lives counts (ap₂ (λ p q. p && q) (le-leb (suc v) most_variables few) (lt-leb (k + message_nodes m) most_nodes many))
 
--- where the journal is full
+-- if the journal is full
 pub sends_full : (ss : List (Shoen CellName)) (v k e n : ℕ) (m : Message) (o : Origin CellName) → is_number n ≡ true → is_message m ≡ true → kept_at n ss ≡ Some o → lives_in ss n ≡ true → v < most_variables → k + message_nodes m ≤ most_nodes → most_entries ≤ e → Refuses ss v k e n m Journal
 sends_full ss v k e n m o a b some lives variables nodes full t s last goals counts =
     let S = state_with s t last goals ss in
@@ -128,7 +128,7 @@ sends_full ss v k e n m o a b some lives variables nodes full t s last goals cou
     ∙ ap (λ p. if nat_lt p most_entries then R else refuse S journal_full) counts.entries_are
     ∙ ap (λ p. if p then R else refuse S journal_full) (le-ltb e most_entries full)
 
--- where it may be sent
+-- if it may be sent
 pub sends_allowed : (ss : List (Shoen CellName)) (v k e n : ℕ) (m : Message) (o : Origin CellName) → is_number n ≡ true → is_message m ≡ true → kept_at n ss ≡ Some o → lives_in ss n ≡ true → v < most_variables → k + message_nodes m ≤ most_nodes → e < most_entries → Allows ss v k e n m o
 sends_allowed ss v k e n m o a b some lives variables nodes journal = record {
   found = some;
@@ -163,14 +163,14 @@ sent_nowhere n m (integer i) s e = refl
 sent_nowhere n m (atom a) s e = refl
 sent_nowhere n m (structure f ts) s e = refl
 
--- where the tail is no variable
+-- if the tail is no variable
 pub puts_nothing : (n : ℕ) (m : Message) (x : Cell CellName) (h k : Held CellName) (ss : List (Shoen CellName)) (d : Draft) → PutAs built h k x m None → PutsOn n m x h k ss ss d d
 puts_nothing n m x h k ss d put f reads s goals some inside v w =
     sent_nowhere n m (meaning f h x) (with_kept f s h goals ss) (put f reads).1
     ∙ ap (λ (z : Held CellName). with_kept f s z goals ss) (sym (put f reads).0)
     ∙ ap₂ (λ p q. with_kept f (record s { variables = p; nodes = q }) k goals ss) v w
 
--- where it is one
+-- if it is one
 pub puts : (n : ℕ) (m : Message) (x : Cell CellName) (next : ℕ) (h k : Held CellName) (ss : List (Shoen CellName)) (d after : Draft) → AreShoensIn h ss → HasPut built h k x m next → after.variables ≡ suc d.variables → after.nodes ≡ d.nodes + message_nodes m →
     PutsOn n m x h k ss (changed n (going_on next) ss) d after
 puts n m x next h k ss d after shoens put more_variables more_nodes f reads s goals some inside v w =

@@ -1,4 +1,4 @@
--- Readings of numbers as names, where a name comes that is new.
+-- Readings of numbers as names, when a name comes that is new.
 use Rattle.std.proofs.Common.{◌≡◌, ℕ, zero, suc, ◌+◌, ◌<◌, ◌≤◌, Bool, true, false, if◌then◌else◌, ◌||◌, List, [], ◌∷◌, ◌++◌, length, map, Option, Some, None, is_some, bytes_eq, refl, sym, ap, ◌∙◌, subst, inl, inr, arith, length-append}
 use Rattle.std.specs.Prelude.{slice_get, unwrap_or}
 use Rattle.std.specs.List.{list_any}
@@ -152,7 +152,7 @@ not_built ks s b none e = let a : built_in_of s ≡ Some b = ap built_in_of (sym
 abbrev pub otherwise : List Known → List ℕ → Reading → Reading
 otherwise ks s f = λ c. swapped s (unknown ks s) (f c)
 
--- where the text isn't known, it reads names as well
+-- if the text isn't known, it reads names as well
 pub otherwise_fits : (ks : List Known) (s : List ℕ) (f : Reading) → number_by ks s ≡ None → Fits ks f → Fits ks (otherwise ks s f)
 otherwise_fits ks s f none fits =
     let w = unknown ks s in

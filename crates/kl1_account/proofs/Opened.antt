@@ -28,7 +28,7 @@ use Rattle.kl1_effects.proofs.States.{Agree, same_goals, same_shoens, replaced_s
 use Rattle.kl1_account.proofs.Beyond.{absent_next}
 use Rattle.kl1_account.proofs.Streaming.{started_on, broken_first, first_told}
 
--- shoens of which that of a number is changed
+-- shoens, shoen `n` changed
 abbrev changed_to : ℕ → (model.Shoen → model.Shoen) → List model.Shoen → List model.Shoen
 changed_to n change hs = map (λ h. if h.number == n then change h else h) hs
 
@@ -55,7 +55,7 @@ changes_last t change k n (r ∷ ss) z a lt e =
 abbrev streaming : model.Shoen → Term → Opens → model.Shoen
 streaming h goal o = record h { control = o.control; tail = o.tail; is_broken = o.is_broken; origin = Some (record { goal = goal; reports = o.reports; control = o.control }) }
 
--- a state with these goals and shoens and one shoen more with its goal, where cells mean this
+-- a state with these goals and shoens and one shoen more with its goal, if cells mean this
 abbrev opening : State → Means → List (Goal CellName) → List (Shoen CellName) → model.Shoen → Term → Opens → State
 opening s t gs ss h goal o = record s {
   goals = map (goal_with t) gs ++ opening_goals s.last_goal h goal;
@@ -71,7 +71,7 @@ record IsAbsent (old : Held CellName) (t : Means) (goal : Term) (b : ℕ) : Type
   cells : (y : Cell CellName) → IsIn old y → occurs b (t y) ≡ false
   goal_is : occurs b goal ≡ false
 
--- the goals where a variable that is in none is replaced
+-- the goals if a variable that is in none is replaced
 goals_same : (old : Held CellName) (t : Means) (goal C : Term) (b last : ℕ) (gs : List (Goal CellName)) (h : model.Shoen) (s : State) → IsAbsent old t goal b → AreGoalsIn old gs →
     map (replace_in_goal b C) (map (goal_with t) gs ++ opening_goals last h goal) ≡ map (goal_with t) gs ++ opening_goals last h goal
 goals_same old t goal C b last gs h s a i =
@@ -83,7 +83,7 @@ goals_same old t goal C b last gs h s a i =
     two : (w : Term) → w ≡ goal → map (replace_in_goal b C) (opening_goals last h goal) ≡ opening_goals last h goal
     two w e = ap (λ (x : Term). let m : model.Goal = record { number = suc (suc last); task = model.reduces x; shoen = h.number; priority = h.high } in record { number = suc last; task = model.monitor; shoen = h.number; priority = monitor_priority } ∷ m ∷ []) (replace_free b C goal a.goal_is)
 
--- the shoens where it is, and where the tail of the last of them is another
+-- the shoens if it is, and if the tail of the last of them is another
 shoens_same : (old : Held CellName) (t : Means) (goal C tail : Term) (b n : ℕ) (ss : List (Shoen CellName)) (h : model.Shoen) (s : State) → IsAbsent old t goal b → AreShoensIn old ss → AreNumbered 0 ss → length ss < n → h.number ≡ n →
     changed_to n (λ z. record z { tail = tail }) (map (replace_in_shoen b C) (map (shoen_with t) ss ++ h ∷ [])) ≡ map (shoen_with t) ss ++ (let z : model.Shoen = record (replace_in_shoen b C h) { tail = tail } in z) ∷ []
 shoens_same old t goal C tail b n ss h s a i numbered lt number =
@@ -92,7 +92,7 @@ shoens_same old t goal C tail b n ss h s a i numbered lt number =
     (ap (λ (z : State). z.shoens) (replaced_state s b C t 0 [] ss) ∙ same_shoens old (λ y. replace b C (t y)) t (λ y z. replace_free b C (t y) (a.cells y z)) ss i)
     ∙ changes_last t (λ z. record z { tail = tail }) 0 n ss (replace_in_shoen b C h) numbered (omega arith) number
 
--- a report where nothing breaks the stream
+-- a report if nothing breaks the stream
 abbrev sent_at : ℕ → Term → ℕ → State → State
 sent_at b m n s =
     let next = suc s.last_variable in
@@ -151,7 +151,7 @@ all_told old t s gs ss h goal allowance last made false a i j numbered lt = told
 
 -- ---- what is read of the cells of a shoen that opens
 
--- the streams, where cells mean this and this is the last variable
+-- the streams, if cells mean this and this is the last variable
 abbrev pub opens_with : Means → ℕ → Streams → Opens
 opens_with u last st = record { control = u (Variable st.control); reports = u st.reports; tail = u st.tail; is_broken = st.is_broken; last = last; made = st.made }
 

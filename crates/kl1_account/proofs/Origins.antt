@@ -17,7 +17,7 @@ use Rattle.kl1_effects.specs.Fitting.{Reading}
 use Rattle.kl1_effects.specs.Account.{Account, Means, meaning, origin_with, shoen_with, state_of}
 use Rattle.kl1_effects.specs.Kept.{IsKeptIn, IsOriginIn, AreShoensIn}
 
--- what the console keeps of the shoen of a number
+-- what the console keeps of shoen `n`
 abbrev pub kept_at : ℕ → List (Shoen CellName) → Option (Origin CellName)
 kept_at n ss = option_and_then (λ shoen. shoen.origin) (find (has_number n) ss)
 
@@ -57,15 +57,15 @@ reads_as f a n o b e =
     ap (λ c. if c then value_of (state_of f a) (origin_at n (state_of f a).shoens) else refuse (state_of f a) syntax) b
     ∙ ap (value_of (state_of f a)) (origin_is f a n o e)
 
--- where nothing is kept
+-- if nothing is kept
 pub reads_none : (f : Reading) (a : Account) (n : ℕ) → is_number n ≡ true → kept_at n a.shoens ≡ None → step (state_of f a) (read (value n)) ≡ refuse (state_of f a) no_shoen
 reads_none f a n b e = reads_as f a n None b e
 
--- where something is kept
+-- if something is kept
 pub reads_some : (f : Reading) (a : Account) (n : ℕ) (o : Origin CellName) (text : List ℕ) → is_number n ≡ true → kept_at n a.shoens ≡ Some o → text ≡ cut_text 4000 (print (meaning f a.held o.goal)) → step (state_of f a) (read (value n)) ≡ record { state = state_of f a; reply = shown text }
 reads_some f a n o text b e is = reads_as f a n (Some o) b e ∙ ap (λ (t : List ℕ). let z : Stepped = record { state = state_of f a; reply = shown t } in z) (sym is)
 
--- nothing is shown whole where nothing is kept
+-- nothing is shown whole if nothing is kept
 pub whole_none : (f : Reading) (a : Account) (n : ℕ) → kept_at n a.shoens ≡ None → None ≡ whole_value (state_of f a) n
 whole_none f a n e = sym (ap whole_of (origin_is f a n None e))
 

@@ -13,7 +13,7 @@ use Rattle.kl1_effects.specs.Fitting.{Reading, Fits}
 use Rattle.kl1_effects.specs.Account.{meaning}
 use Rattle.kl1_account.specs.Tops.{stacked_terms}
 
--- with the terms on the stack the printer makes the cell's text, for each reading of these names, and it waits for so many
+-- with the terms on the stack the printer makes the cell's text, for each reading of these names, and it waits for as many terms
 pub record IsPrinting (ks : List Known) (h : Held CellName) (x : Cell CellName) (most : Option ℕ) (p : Printer) (stack : List (Cell CellName)) : Type 0 where
   pub text : (f : Reading) → Fits ks f → text_of p (stacked_terms f h stack) ≡ limited most (print (meaning f h x))
   pub waits : waits_of p ≡ length stack

@@ -19,7 +19,7 @@ use Rattle.kl1_effects.specs.Drafts.{staying, goals_left, names_with, made_of}
 use Rattle.kl1_effects.specs.Installing.{IsBegun}
 use Rattle.kl1_effects.proofs.Goals.{all_stay, others_read}
 
--- where no goal has the number 0, none goes with it
+-- if no goal has the number 0, none goes with it
 pub none_goes : (gs : List (Goal CellName)) → AllByRecursion (λ g. 0 < g.number) gs → filter (is_other 0) gs ≡ gs
 none_goes [] a = refl
 none_goes (g ∷ gs) a =
@@ -37,7 +37,7 @@ begun_left removed last variables nodes reports d gs b =
     ∙ all_stay (filter (is_other d.removed) gs)
     ∙ ap (λ n. filter (is_other n) gs) b.removed_is
 
--- what is made of an account at first, without the goal of a number
+-- what is made of an account at first, without goal `removed`
 abbrev pub made_first : Account → ℕ → Made
 made_first a removed = record {
   goals = filter (is_other removed) a.goals;
@@ -62,7 +62,7 @@ begun_made a removed t d shoens work b =
     ∙ ap (λ n. let z : Made = record { goals = filter (is_other removed) a.goals; shoens = a.shoens; work = a.work; names = texts_of a.names; last_goal = a.last_goal; variables = a.variables; nodes = n; reports = d.reports } in z) b.nodes_are
     ∙ ap (λ n. let z : Made = record { goals = filter (is_other removed) a.goals; shoens = a.shoens; work = a.work; names = texts_of a.names; last_goal = a.last_goal; variables = a.variables; nodes = a.nodes; reports = n } in z) b.reports_are
 
--- the state of an account without the goal of a number is what a draft that has begun makes of it
+-- the state of an account without goal `removed` is what a draft that has begun makes of it
 pub begun_state : (f : Reading) (a : Account) (removed : ℕ) (t : Tree CellName) (d : Draft) → t.shoens ≡ a.shoens → t.work ≡ a.work → IsBegun removed a.last_goal a.variables a.nodes a.reports d →
     without_goal removed (with_entry (state_of f a)) ≡ worked f (with_entry (state_of f a)) a.held (made_of a.goals (texts_of a.names) t d)
 begun_state f a removed t d shoens work b =
@@ -70,7 +70,7 @@ begun_state f a removed t d shoens work b =
     ap (λ gs. let z : State = record s { goals = gs } in z) (others_read (meaning f a.held) removed a.goals)
     ∙ sym (ap (λ w. worked f s a.held w) (begun_made a removed t d shoens work b))
 
--- where no goal has the number 0, the state of an account is what a draft makes of it that has begun and removes nothing
+-- if no goal has the number 0, the state of an account is what a draft makes of it that has begun and removes nothing
 pub begun_whole : (f : Reading) (a : Account) (t : Tree CellName) (d : Draft) → AllByRecursion (λ g. 0 < g.number) a.goals → t.shoens ≡ a.shoens → t.work ≡ a.work → IsBegun 0 a.last_goal a.variables a.nodes a.reports d →
     with_entry (state_of f a) ≡ worked f (with_entry (state_of f a)) a.held (made_of a.goals (texts_of a.names) t d)
 begun_whole f a t d first shoens work b =

@@ -93,7 +93,7 @@ looks_at_none ms shoens h hooks goals cs found f knows =
 
 -- ---- one after another
 
--- a store that holds what it held, where the goals up to a number were looked at
+-- a store that holds what it held, if the goals up to a number were looked at
 pub record StillLooks (ms : List Numbered) (shoens : List (Shoen CellName)) (old new : Kept CellName) (goals : List (Goal CellName)) (n : ℕ) (cs : List Change) : Type 0 where
   pub held : new.held ≡ old.held
   pub grown : HasGrown old new

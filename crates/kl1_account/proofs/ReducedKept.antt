@@ -164,7 +164,7 @@ module _ (a : Account) (n c : ℕ) (old mid new : Kept CellName) (t u : Tree Cel
         respells = spare_again effected.spelled mid.held d.spared;
       }
 
-  -- for a reading that fits the names after, where a name was drafted
+  -- for a reading that fits the names after, if a name was drafted
   settled_named : (more : List Known) (last : Held CellName) (text : List ℕ) → effected.name ≡ Some text → number_by a.names text ≡ None → IsPublishedBy a.names more effected mid.held last → (f : Reading) → Fits more f →
       AreSettled f new.hooks last a.modules u.shoens (goals_after a.goals finished)
   settled_named more last text is new_text p f fits =
@@ -177,7 +177,7 @@ module _ (a : Account) (n c : ℕ) (old mid new : Kept CellName) (t u : Tree Cel
       settled_alike g f new.hooks mid.held last a.modules u.shoens (goals_after a.goals finished) (ap (λ (z : State). z.shoens) states) (ap (λ (z : State). z.goals) states)
       (subst H d.same (settled_before g (spare_fits a.names text new_text g two)))
 
-  -- where none was, the store is what it was
+  -- if none was, the store is what it was
   settled_unnamed : (more : List Known) (last : Held CellName) → effected.name ≡ None → IsPublishedBy a.names more effected mid.held last → (f : Reading) → Fits more f → AreSettled f new.hooks last a.modules u.shoens (goals_after a.goals finished)
   settled_unnamed more last is p f fits =
       let S : Option Spelled → Type 0 = λ s. Respells s p.number mid.held last in
@@ -234,7 +234,7 @@ module _ (a : Account) (n c : ℕ) (old mid new : Kept CellName) (t u : Tree Cel
       (goals_respelled effected.spelled k mid.held last a.goals d.spelled r (goals_grown old.held mid.held d.grown a.goals (subst G (sym d.held) d.kept.goals)))
       (subst A (sym added_is) (goals_respelled effected.spelled k mid.held last effected.added.items d.spelled r d.leaves.comes.inside))
 
-  -- the shoens that were there let the same goals step where nothing shifts that
+  -- the shoens that were there let the same goals step if nothing shifts that
   same_flags : finished.shifts ≡ false → SameFlags a.shoens a.work u.shoens u.work
   same_flags e k low high =
       let s = d.finishes.shifts in

@@ -47,14 +47,14 @@ use Rattle.kl1_account.proofs.Steps.{found_holds}
 use Rattle.kl1_account.proofs.Effected.{does_effect, heard_effect}
 use Rattle.kl1_account.proofs.ReducedKept.{drafted_reduces}
 
--- ---- what the goal of a number is
+-- ---- what a goal is, by its number
 
 -- the shoen of a goal for a cell that may step lets it step
 pub shoen_lets : (shoens : List (Shoen CellName)) (work : List ℕ) (g : Goal CellName) (x : Qualified CellName) → g.task ≡ Reduces x → g.is_enabled ≡ true → IsEnabled shoens work g → is_enabled_at shoens work g.shoen ≡ true
 shoen_lets shoens work g x task on is =
     ap (λ t. is_monitor_task t || is_enabled_at shoens work g.shoen) (sym task) ∙ sym is ∙ on
 
--- ---- goals without the one of a number
+-- ---- goals without one
 
 -- goals with greater numbers are other ones
 above_other : (n from : ℕ) (gs : List (Goal CellName)) → n < from → Ascend from (map number_of gs) → filter (is_other n) gs ≡ gs
@@ -85,7 +85,7 @@ one_less n from (x ∷ gs) g up e is = by_case (x.number == n) refl e (λ f. one
         ∙ ap (λ (xs : List (Goal CellName)). suc (length (filter p xs))) (sym (above_other n (suc x.number) gs (omega (arith, number)) up.1))
     by_case false q f k = counted (p x) (k f)
 
--- where a draft has begun that removes a goal which is no monitor, one less acts
+-- if a draft has begun that removes a goal which is no monitor, one less acts
 pub alive_left : (n last variables nodes reports alive : ℕ) (d : Draft) (gs : List (Goal CellName)) (g : Goal CellName) (x : Qualified CellName) → IsBegun n last variables nodes reports d → AreInOrder gs → find (has_number n) gs ≡ Some g → g.task ≡ Reduces x →
     alive ≡ count_by (λ k. not (is_monitor k)) gs → alive ≡ suc (count_by (λ k. not (is_monitor k)) (goals_left (gs ++ d.added.items) d))
 alive_left n last variables nodes reports alive d gs g x begun order found task is =
@@ -95,7 +95,7 @@ alive_left n last variables nodes reports alive d gs g x begun order found task 
 
 -- ---- control streams before monitors
 
--- none of goals passes a test where none is left by it
+-- none of goals passes a test if none is left by it
 none_pass : (p : Goal CellName → Bool) (gs : List (Goal CellName)) → length (filter p gs) < 1 → AllByRecursion (λ g. p g ≡ false) gs
 none_pass p [] lt = tt
 none_pass p (g ∷ gs) lt = by_case (p g) refl lt (none_pass p gs)
@@ -107,7 +107,7 @@ none_pass p (g ∷ gs) lt = by_case (p g) refl lt (none_pass p gs)
 differ : (b : Bool) → b ≡ true → b ≡ false → ⊥
 differ b e f = cc
 
--- where one goal at most passes a test, and that of a number does, only those of this number do
+-- if one goal at most passes a test, and goal `n` does, only those of this number do
 only_one : (p : Goal CellName → Bool) (n : ℕ) (gs : List (Goal CellName)) (g : Goal CellName) → length (filter p gs) ≤ 1 → find (has_number n) gs ≡ Some g → p g ≡ true → AllByRecursion (λ k. p k ≡ true → k.number ≡ n) gs
 only_one p n [] g le e is = tt
 only_one p n (x ∷ gs) g le e is = by_case (x.number == n) (p x) refl refl le e (λ l f. only_one p n gs g l f is)
@@ -149,7 +149,7 @@ one_told n shoen count before after gs g told single found task of size owned ke
       each ks o.1 a.1,
     )
 
--- each monitor has the control stream before it that it had, where all stay
+-- each monitor has the control stream before it that it had, if all stay
 pub all_keep : (count : ℕ) (before after : List (Shoen CellName)) (gs : List (Goal CellName)) (told : List ℕ) → count ≡ length before → AreOwned count gs → KeepsOthers 0 before after → KeepControls told before after gs
 all_keep count before after [] told size o keeps = tt
 all_keep count before after (k ∷ ks) told size o keeps = (
@@ -252,7 +252,7 @@ does_reduces a c known g x p places text made mark old mid new t u table reached
       finishes = subst F at finishes;
     })
 
--- a draft that has begun with what an account has, once it removes the goal of a number
+-- a draft that has begun with what an account has, once it removes goal `n`
 pub begun_for : (n : ℕ) (d : Draft) → IsBegun 0 d.last_goal d.variables d.nodes d.reports d → IsBegun n d.last_goal d.variables d.nodes d.reports (record d { removed = n })
 begun_for n d b = record {
   removed_is = refl;

@@ -66,7 +66,7 @@ last_same (x ∷ []) [] b c e = absurd (cc)
 last_same (x ∷ z ∷ bs) [] b c e = absurd (cc)
 last_same (x ∷ bs) (y ∷ cs) b c e = let rest : bs ++ b ∷ [] ≡ cs ++ c ∷ [] = cc in last_same bs cs b c rest
 
--- where the spare number stands for a name, the store is what it is when the name gets this number
+-- if the spare number stands for a name, the store is what it is when the name gets this number
 pub spare_again : (s : Option Spelled) (h : Held CellName) → IsSparedIn s h → Respells s spare h h
 spare_again None h i = refl
 spare_again (Some s) h i = λ before y marked bound.
@@ -75,6 +75,6 @@ spare_again (Some s) h i = λ before y marked bound.
     let is : y ≡ Atom spare = ap (λ (b : Binding CellName). b.value) (last_same before.bindings i.before.bindings (record { variable = s.variable; value = y }) (record { variable = s.variable; value = Atom spare }) lists) in
     bound ∙ ap (with_binding before s.variable) is
 
--- where nothing is spelled, no spare number stands for a name
+-- if nothing is spelled, no spare number stands for a name
 pub none_spared : (s : Option Spelled) (h : Held CellName) → s ≡ None → IsSparedIn s h
 none_spared s h e = let P : Option Spelled → Type 0 = λ o. IsSparedIn o h in subst P (sym e) tt

@@ -323,7 +323,7 @@ sent_step a b old new t u known n m d gs entries view k held same work s g e f f
     ∙ sent_steps a old new t u n m d held same s f fits.reads
     ∙ ap (λ (w : Account). let y : Stepped = record { state = state_of f w; reply = sent } in y) (sym (placed a old new t u n m d gs entries k.first work s g e))
 
--- ---- where nothing has changed
+-- ---- if nothing has changed
 
 -- the store and the tree are as they were
 pub as_was : (a : Account) (h : Held CellName) (ss : List (Shoen CellName)) (ws : List ℕ) → h ≡ a.held → ss ≡ a.shoens → ws ≡ a.work → record a { held = h; shoens = ss; work = ws } ≡ a

@@ -128,7 +128,7 @@ by_task f hooks old new modules before after g (Substitutes x) e formed grown i 
     let stays = substitutes_stay (values_of l.replacements) t (leaves_hung l.replacements hooks g.number (awaited_by_substitute t) hung (subst N (sym l.numbers) free)) in
     (ap substitute_clause is ∙ ap look_clause stays, ap awaited_by_substitute is ∙ ap awaited_by_look stays)
 
--- a goal that hangs on no variable that was bound is settled as it was, a monitor where its control stream is what it was
+-- a goal that hangs on no variable that was bound is settled as it was, a monitor if its control stream is what it was
 pub stays_settled : (f : Reading) (hooks : List Hook) (old new : Held CellName) (modules : List Numbered) (before after : List (Shoen CellName)) (g : Goal CellName) → IsFormed old → Grown old new → IsTaskIn old g.task → AreShoensIn old before →
     (g.task ≡ Monitor → control_at after g.shoen ≡ control_at before g.shoen) → HangsOnNone hooks g.number (bound_since old new) →
     IsSettled f hooks old modules before g → IsSettled f hooks new modules after g
@@ -137,7 +137,7 @@ stays_settled f hooks old new modules before after g formed grown i inside same 
     let H : List ℕ → Type 0 = λ vs. HangsOnEach hooks g.number vs in
     record { standing = s.standing ∙ sym r.0; hung = subst H (sym r.1) s.hung }
 
--- and stays so where more is hung
+-- and stays so if more is hung
 pub hung_more : (hooks more : List Hook) (n : ℕ) (vs : List ℕ) → ((k : Hook) → Contains hooks k → Contains more k) → HangsOnEach hooks n vs → HangsOnEach more n vs
 hung_more hooks more n [] up h = tt
 hung_more hooks more n (v ∷ vs) up h = (up (record { variable = v; number = n }) h.0, hung_more hooks more n vs up h.1)

@@ -42,7 +42,7 @@ owned_both : (n : ℕ) (gs ks : List (Goal CellName)) → AreOwned n gs → AreO
 owned_both n [] ks a b = b
 owned_both n (g ∷ gs) ks a b = (a.0, owned_both n gs ks a.1 b)
 
--- goals of so many shoens are of more
+-- goals of `n` shoens are of `m` shoens too, if these are no fewer
 pub owned_more : (n m : ℕ) (gs : List (Goal CellName)) → n ≤ m → AreOwned n gs → AreOwned m gs
 owned_more n m [] le a = tt
 owned_more n m (g ∷ gs) le a = let h = a.0.high in (record { low = a.0.low; high = omega arith }, owned_more n m gs le a.1)

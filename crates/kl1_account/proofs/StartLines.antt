@@ -5,7 +5,7 @@ use Rattle.kl1_model.specs.Term.{Term}
 use Rattle.kl1_model.specs.Print.{print}
 use Rattle.kl1_model.specs.Opening.{start_line}
 
--- the parts of the line, put one behind another
+-- the parts of the line, put one after another
 pub line_is : (allowance low high : ℕ) (goal : Term) (x y z w : List ℕ) →
     x ≡ codes "start " ++ decimal allowance ++ 32 ∷ [] → y ≡ x ++ decimal low ++ 32 ∷ [] → z ≡ y ++ decimal high ++ 32 ∷ [] → w ≡ z ++ print goal →
     w ≡ start_line allowance low high goal

@@ -59,7 +59,7 @@ use Rattle.kl1_account.proofs.StartKept.{started_firm, started_owned, started_la
 
 -- ---- goals that were there
 
--- the shoen of a number that the last one has not
+-- a shoen whose number isn't the last one's is found before that
 found_before : (ss : List (Shoen CellName)) (h : Shoen CellName) (n : ℕ) → (h.number ≡ n → ⊥) → shoen_in n (ss ++ h ∷ []) ≡ shoen_in n ss
 found_before [] h n ne = ap (λ b. if b then Some h else None) (ne_eqb h.number n ne)
 found_before (s ∷ ss) h n ne = ap (λ (o : Option (Shoen CellName)). if s.number == n then Some s else o) (found_before ss h n ne)
@@ -73,7 +73,7 @@ control_inside h (s ∷ ss) n x all e = here (s.number == n) (control_inside h s
     here true later k = let I : Cell CellName → Type 0 = λ y. IsIn h y in subst I (let c : s.control ≡ x = cc in c) all.0.control
     here false later k = later k
 
--- a goal whose cells are read as before stays settled, where a shoen opens that is not its own
+-- a goal whose cells are read as before stays settled, if a shoen opens that is not its own
 settled_old : (f : Reading) (hooks more : List Hook) (h k : Held CellName) (ms : List Numbered) (ss : List (Shoen CellName)) (x : Shoen CellName) (g : Goal CellName) → Agree h (meaning f h) (meaning f k) → IsTaskIn h g.task → AreShoensIn h ss → (x.number ≡ g.shoen → ⊥) → ((y : Hook) → Contains hooks y → Contains more y) →
     IsSettled f hooks h ms ss g → IsSettled f more k ms (ss ++ x ∷ []) g
 settled_old f hooks more h k ms ss x g agree i inside ne up s =

@@ -36,7 +36,7 @@ room_in s names c goal at =
 
 -- ---- the step
 
--- what a start does where nothing refuses it
+-- what a start does if nothing refuses it
 abbrev pub done_by : State → ℕ → ℕ → ℕ → Term → Stepped
 done_by s allowance low high goal = record { state = with_entry (start_goal s allowance low high goal); reply = opened (suc s.last_shoen) }
 
@@ -84,7 +84,7 @@ same_names s names c texts b at e = ap (λ (ns : List (List ℕ)). nat_lt most_n
 texts_as : (goal code : Term) (texts : List (List ℕ)) → code ≡ goal → texts ≡ with_names [] (names_of code) → texts ≡ with_names [] (names_of goal)
 texts_as goal code texts same is = is ∙ ap (λ (x : Term). with_names [] (names_of x)) same
 
--- where its names are too many
+-- if its names are too many
 pub refused_crowd : (names : List Known) (c : Counted) (allowance low high : ℕ) (goal code : Term) (texts : List (List ℕ)) → may_start allowance low high goal ≡ true → code ≡ goal → texts ≡ with_names [] (names_of code) → nat_lt most_names (length (with_texts (texts_of names) texts)) ≡ true →
     StartsAs names c allowance low high goal (Refused Names)
 refused_crowd names c allowance low high goal code texts may same is many =
@@ -95,26 +95,26 @@ pub room_for : (c : Counted) (variables nodes : ℕ) (goal code : Term) (b : Boo
 room_for c variables nodes goal code b same v n e =
     sym (ap (λ z. has_room_beside c z nodes) v ∙ ap (has_room_beside c (highest goal)) (n ∙ ap goal_nodes same)) ∙ e
 
--- where a limit would be passed
+-- if a limit would be passed
 pub refused_limit : (names : List Known) (c : Counted) (allowance low high : ℕ) (goal code : Term) (texts : List (List ℕ)) → may_start allowance low high goal ≡ true → code ≡ goal → texts ≡ with_names [] (names_of code) → nat_lt most_names (length (with_texts (texts_of names) texts)) ≡ false →
     has_room_beside c (highest goal) (goal_nodes goal) ≡ false → StartsAs names c allowance low high goal (Refused Limit)
 refused_limit names c allowance low high goal code texts may same is few keeps =
     λ s at. fits_room s allowance low high goal texts false may (texts_as goal code texts same is) (same_names s names c texts false at few) (room_in s names c goal at ∙ keeps)
 
--- where the journal is full
+-- if the journal is full
 pub refused_full : (names : List Known) (c : Counted) (allowance low high : ℕ) (goal code : Term) (texts : List (List ℕ)) → may_start allowance low high goal ≡ true → code ≡ goal → texts ≡ with_names [] (names_of code) → nat_lt most_names (length (with_texts (texts_of names) texts)) ≡ false →
     has_room_beside c (highest goal) (goal_nodes goal) ≡ true → most_entries ≤ c.entries → StartsAs names c allowance low high goal (Refused Journal)
 refused_full names c allowance low high goal code texts may same is few keeps full =
     λ s at. step_full s allowance low high goal texts may (texts_as goal code texts same is) (same_names s names c texts false at few) (room_in s names c goal at ∙ keeps) (let e = at.entries_are in omega arith)
 
--- where it may be started
+-- if it may be started
 pub startable : (names : List Known) (c : Counted) (allowance low high : ℕ) (goal code : Term) (texts : List (List ℕ)) → may_start allowance low high goal ≡ true → code ≡ goal → texts ≡ with_names [] (names_of code) → nat_lt most_names (length (with_texts (texts_of names) texts)) ≡ false →
     has_room_beside c (highest goal) (goal_nodes goal) ≡ true → c.entries < most_entries → StartsAs names c allowance low high goal (Coded code)
 startable names c allowance low high goal code texts may same is few keeps room =
     let N : List (List ℕ) → Type 0 = λ ts. nat_lt most_names (length (with_texts (texts_of names) ts)) ≡ false in
     record { code_is = same; may = may; few = subst N (texts_as goal code texts same is) few; keeps = keeps; room = room }
 
--- the step of a state with these names and counts, where the goal may be started
+-- the step of a state with these names and counts, if the goal may be started
 pub step_startable : (s : State) (names : List Known) (c : Counted) (allowance low high : ℕ) (goal code : Term) → HasNames s names c → IsStartable names c allowance low high goal code → step s (start allowance low high goal) ≡ done_by s allowance low high goal
 step_startable s names c allowance low high goal code at may =
     step_done s allowance low high goal (with_names [] (names_of goal)) may.may refl (same_names s names c (with_names [] (names_of goal)) false at may.few) (room_in s names c goal at ∙ may.keeps) (let e = at.entries_are in let lt = may.room in omega arith)

@@ -82,12 +82,12 @@ asked t s last gs ss n o e is =
     ap (λ b. if b then asking.status_of (state_with s t last gs ss) (shoen_at n (map (shoen_with t) ss)) else refuse (state_with s t last gs ss) syntax) e
     ∙ ap (asking.status_of (state_with s t last gs ss)) (found_in t n ss ∙ ap (option_map (shoen_with t)) (sym is))
 
--- where there is no shoen of the number
+-- if there is no shoen of the number
 pub asked_none : (t : Means) (s : State) (last : ℕ) (gs : List (Goal CellName)) (ss : List (Shoen CellName)) (n : ℕ) (o : Option (Shoen CellName)) → is_number n ≡ true → o ≡ find (has_number n) ss → o ≡ None →
     step (state_with s t last gs ss) (read (status n)) ≡ refuse (state_with s t last gs ss) no_shoen
 asked_none t s last gs ss n o e is none = asked t s last gs ss n o e is ∙ ap (λ p. asking.status_of (state_with s t last gs ss) (option_map (shoen_with t) p)) none
 
--- where there is one
+-- if there is one
 pub asked_some : (t : Means) (s : State) (last : ℕ) (gs : List (Goal CellName)) (ss : List (Shoen CellName)) (work : List ℕ) (n : ℕ) (o : Option (Shoen CellName)) (h : Shoen CellName) (condition : Condition) (charged alive : ℕ) (flags sliced : List Bool) → is_number n ≡ true → o ≡ find (has_number n) ss → o ≡ Some h → h.number ≡ n →
     AreNumbered 0 ss → AreOwned (length ss) gs → s.work ≡ work → charged ≡ charged_in ss work n → condition ≡ condition_by h charged → flags ≡ map (λ k. is_on_path_in ss n k.number) ss → sliced ≡ flags → alive ≡ count_by (λ (g : Goal CellName). not (is_monitor g) && is_flagged sliced g) gs →
     step (state_with s t last gs ss) (read (status n)) ≡ record { state = state_with s t last gs ss; reply = status_is condition charged h.allowance alive }

@@ -31,7 +31,7 @@ use Rattle.kl1_account.specs.Reducing.{IsSteppable, is_read}
 use Rattle.kl1_effects.proofs.States.{found_in}
 use Rattle.kl1_account.proofs.Choosing.{enabled_read}
 
--- ---- the goal of a number
+-- ---- a goal, by its number
 
 -- what holds of each goal holds of the one that is found
 pub found_holds : (P : Goal CellName → Type 0) (n : ℕ) (gs : List (Goal CellName)) (g : Goal CellName) → AllByRecursion P gs → find (has_number n) gs ≡ Some g → P g
@@ -66,7 +66,7 @@ steps_nowhere f a n c e g =
     let s = state_of f a in
     ap (λ b. if b then reduce_goal s c (goal_at n s.goals) else refuse s syntax) e ∙ ap (reduce_goal s c) (finds_goal f a n None g)
 
--- a goal that is there does what its task can, where it may step
+-- a goal that is there does what its task can, if it may step
 steps_by : (f : Reading) (a : Account) (n c : ℕ) (g : Goal CellName) (may : Bool) → (is_number n && is_number c) ≡ true → find (has_number n) a.goals ≡ Some g → g.is_enabled ≡ may → AreEnabled a.shoens a.work a.goals →
     step (state_of f a) (reduce n c)
     ≡ reduced_by (state_of f a) (goal_with (meaning f a.held) g) (if may then task_action (state_of f a) g.shoen (task_with (meaning f a.held) g.task) c else None)
@@ -92,7 +92,7 @@ pub steps_not : (f : Reading) (a : Account) (n c : ℕ) (g : Goal CellName) → 
     step (state_of f a) (reduce n c) ≡ refuse (state_of f a) step_refused
 steps_not f a n c g is all e = steps_to f a n c g is all ∙ ap (reduced_by (state_of f a) (goal_with (meaning f a.held) g)) e
 
--- an action is refused where the journal is full
+-- an action is refused if the journal is full
 pub steps_full : (f : Reading) (a : Account) (n c : ℕ) (g : Goal CellName) (x : reduction.Action) → IsSteppable a.goals n c g → AreEnabled a.shoens a.work a.goals → task_action (state_of f a) g.shoen (task_with (meaning f a.held) g.task) c ≡ Some x → most_entries ≤ a.entries →
     step (state_of f a) (reduce n c) ≡ refuse (state_of f a) journal_full
 steps_full f a n c g x is all e full =
@@ -101,7 +101,7 @@ steps_full f a n c g x is all e full =
     steps_to f a n c g is all ∙ ap (reduced_by s k) e
     ∙ ap (λ b. if b then record { state = acted k x (with_entry s); reply = reduced } else refuse s journal_full) (le-ltb a.entries most_entries full)
 
--- an action is done where there is room in the journal
+-- an action is done if there is room in the journal
 pub steps_on : (f : Reading) (a : Account) (n c : ℕ) (g : Goal CellName) (x : reduction.Action) → IsSteppable a.goals n c g → AreEnabled a.shoens a.work a.goals → task_action (state_of f a) g.shoen (task_with (meaning f a.held) g.task) c ≡ Some x → a.entries < most_entries →
     step (state_of f a) (reduce n c) ≡ record { state = acted (goal_with (meaning f a.held) g) x (with_entry (state_of f a)); reply = reduced }
 steps_on f a n c g x is all e room =
@@ -148,7 +148,7 @@ is_none_read f h (BreaksOff x) e = absurd (cc)
 
 -- ---- what a goal for a cell can do
 
--- it makes the move of its term, where there is one
+-- it makes the move of its term, if there is one
 pub goal_does : (f : Reading) (a : Account) (c : ℕ) (g : Goal CellName) (x : Qualified CellName) (o : Option reduction.Move) → g.task ≡ Reduces x → move_by (contents a.modules) (aim f a.held x) c ≡ o →
     task_action (state_of f a) g.shoen (task_with (meaning f a.held) g.task) c ≡ option_map (moves (aim f a.held x)) o
 goal_does f a c g x o task found =

@@ -92,26 +92,26 @@ first_told last made b e = tells_started last made b false true e (ne_eqb (suc l
 then_told : (last made : ℕ) (b : Bool) → nat_lt (suc made) most_reports ≡ b → tells exhausted_report (started_on last made false) ≡ (if b then exhausted_on last made else started_on last made true)
 then_told last made b e = tells_exhausted last made b false true e (ne_eqb (suc last) (suc (suc (suc last))) (λ q. omega arith)) (eq-eqb (suc (suc (suc last))) (suc (suc (suc last))) refl) refl refl
 
--- where the account has made its last report
+-- if the account has made its last report
 pub none_made : (allowance last made : ℕ) → most_reports ≤ made → streams_opened allowance last made ≡ broken_first last made
 none_made allowance last made le =
     ap (λ o. if allowance == 0 then tells exhausted_report o else o) (first_told last made false (le-ltb made most_reports le))
     ∙ same_either (allowance == 0) (broken_first last made)
 
--- where the shoen isn't exhausted
+-- if the shoen isn't exhausted
 pub one_made : (allowance last made : ℕ) → made < most_reports → (allowance == 0) ≡ false → streams_opened allowance last made ≡ started_on last made false
 one_made allowance last made lt some =
     ap (λ o. if allowance == 0 then tells exhausted_report o else o) (first_told last made true (lt-ltb made most_reports lt))
     ∙ ap (λ b. if b then tells exhausted_report (started_on last made false) else started_on last made false) some
 
--- where it is, and its first report was the account's last
+-- if it is, and its first report was the account's last
 pub last_made : (allowance last made : ℕ) → made < most_reports → (allowance == 0) ≡ true → most_reports ≤ suc made → streams_opened allowance last made ≡ started_on last made true
 last_made allowance last made lt zero_is le =
     ap (λ o. if allowance == 0 then tells exhausted_report o else o) (first_told last made true (lt-ltb made most_reports lt))
     ∙ ap (λ b. if b then tells exhausted_report (started_on last made false) else started_on last made false) zero_is
     ∙ then_told last made false (le-ltb (suc made) most_reports le)
 
--- where it is, and both reports are made
+-- if it is, and both reports are made
 pub two_made : (allowance last made : ℕ) → (allowance == 0) ≡ true → suc made < most_reports → streams_opened allowance last made ≡ exhausted_on last made
 two_made allowance last made zero_is lt =
     ap (λ o. if allowance == 0 then tells exhausted_report o else o) (first_told last made true (lt-ltb made most_reports (omega arith)))

@@ -30,7 +30,7 @@ use Rattle.kl1_account.proofs.Restood.{each_is, restood_holds, restood_push}
 abbrev IsOther : List (Goal CellName) → ℕ → Goal CellName → Type 0
 IsOther goals removed g = (find (has_number g.number) goals ≡ Some g) × (g.number ≡ removed → ⊥)
 
--- where no goal has the number, nothing changes
+-- if no goal has the number, nothing changes
 none_wakes : (ms : List Numbered) (shoens : List (Shoen CellName)) (h : Held CellName) (hooks : List Hook) (goals : List (Goal CellName)) (removed n : ℕ) (changes : List Change) → ((g : Goal CellName) → IsOther goals removed g → g.number ≡ n → ⊥) →
     Wakes ms shoens h hooks hooks goals removed n changes changes
 none_wakes ms shoens h hooks goals removed n changes none f knows gs others told settled =
@@ -109,7 +109,7 @@ all_woken ms shoens old new goals removed told i before after le s f knows gs ot
     let L : List ℕ → Type 0 = λ ns. AreSettledOr ns f new.hooks old.held ms shoens (restood after gs) in
     all_settled f new.hooks old.held ms shoens (restood after gs) (subst L (drop_all i told (omega arith)) (s.wakes f knows gs others settled))
 
--- where no numbers are told, nothing is pending
+-- if no numbers are told, nothing is pending
 pub none_woken : (ms : List Numbered) (shoens : List (Shoen CellName)) (h : Held CellName) (hooks : List Hook) (goals : List (Goal CellName)) (removed : ℕ) (told : List ℕ) (changes : List Change) → told ≡ [] → WakesTold ms shoens h hooks hooks goals removed told changes changes
 none_woken ms shoens h hooks goals removed told changes none f knows gs others settled =
     let L : List ℕ → Type 0 = λ ns. AreSettledOr ns f hooks h ms shoens (restood changes gs) in

@@ -91,7 +91,7 @@ pub none_settled : (f : Reading) (hooks : List Hook) (h : Held CellName) (module
 none_settled f hooks h modules shoens n pending [] not all = tt
 none_settled f hooks h modules shoens n pending (g ∷ goals) not all = (skip_goal f hooks h modules shoens n pending g not.0 all.0, none_settled f hooks h modules shoens n pending goals not.1 all.1)
 
--- where nothing is pending, each goal is settled
+-- if nothing is pending, each goal is settled
 pub all_settled : (f : Reading) (hooks : List Hook) (h : Held CellName) (modules : List Numbered) (shoens : List (Shoen CellName)) (goals : List (Goal CellName)) → AreSettledOr [] f hooks h modules shoens goals → AreSettled f hooks h modules shoens goals
 all_settled f hooks h modules shoens [] all = tt
 all_settled f hooks h modules shoens (g ∷ goals) all =
@@ -112,7 +112,7 @@ told_goal f hooks old new modules before after told g true e formed grown i insi
 told_goal f hooks old new modules before after told g false e formed grown i inside keeps all s =
     inl (stays_settled f hooks old new modules before after g formed grown i inside (λ m. keeps m e) (never_told hooks (bound_since old new) told g.number all e) s)
 
--- after bindings, the goals that were told are pending and all others are settled, where each monitor that wasn't told has the control
+-- after bindings, the goals that were told are pending and all others are settled, if each monitor that wasn't told has the control
 -- stream before it that it had
 pub told_are_pending : (f : Reading) (hooks : List Hook) (old new : Held CellName) (modules : List Numbered) (before after : List (Shoen CellName)) (told : List ℕ) (goals : List (Goal CellName)) → IsFormed old → Grown old new → AreGoalsIn old goals → AreShoensIn old before →
     KeepControls told before after goals → AreTold hooks (bound_since old new) told → AreSettled f hooks old modules before goals → AreSettledOr told f hooks new modules after goals

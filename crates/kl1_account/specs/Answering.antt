@@ -29,17 +29,17 @@ use Rattle.kl1_account.specs.declared.answerable.Answering.{Answering}
 use Rattle.kl1_account.specs.declared.answerable.Answering.TheVariants.{Refused, Coded}
 use Rattle.kl1_account.specs.Starting.{HasNames}
 
--- whether a goal with so many variables and structures can be an answer beside what is counted
+-- whether a goal with `variables` variables and `nodes` structures can be an answer beside what is counted
 abbrev pub has_room_to_answer_beside : Counted → ℕ → ℕ → Bool
 has_room_to_answer_beside c variables nodes = nat_le (c.variables + variables) most_variables && nat_le (c.nodes + nodes) most_nodes
 
--- an answer to a report of the shoen of a number is refused for a reason, where so much is counted
+-- an answer to a report of shoen `n` is refused for a reason, if this is counted
 abbrev pub RefusesAnswer : Rules → Held CellName → List (Shoen CellName) → List Known → Counted → ℕ → ℕ → Term → Refusal → Type 0
 RefusesAnswer rules h ss names counted n report goal r =
     (f : Reading) → Reads built f → (s : State) (goals : List (Goal CellName)) → s.rules ≡ rules → HasNames (with_kept f s h goals ss) names counted →
     step (with_kept f s h goals ss) (answer n report goal) ≡ refuse (with_kept f s h goals ss) (refusal_of r)
 
--- an answer to a report of the shoen of a number may be given: this is its goal's code, and a substitute waits for this variable
+-- an answer to a report of shoen `n` may be given: this is its goal's code, and a substitute waits for this variable
 pub record IsAnswerable (rules : Rules) (h : Held CellName) (ss : List (Shoen CellName)) (names : List Known) (counted : Counted) (n report : ℕ) (goal code : Term) (v : ℕ) : Type 0 where
   pub code_is : code ≡ goal
   pub substitutes : has_substitutes rules ≡ true
@@ -55,7 +55,7 @@ pub record IsAnswerable (rules : Rules) (h : Held CellName) (ss : List (Shoen Ce
   pub unbound : IsUnbound h v
   pub waits : (f : Reading) → Reads built f → unanswered_at (meaning f h origin.reports) report ≡ Some v
 
--- what comes of an answer to a report of the shoen of a number
+-- what comes of an answer to a report of shoen `n`
 abbrev pub AnswersAs : Rules → Held CellName → List (Shoen CellName) → List Known → Counted → ℕ → ℕ → Term → Answering → Type 0
 AnswersAs rules h ss names counted n report goal (Refused r) = RefusesAnswer rules h ss names counted n report goal r
 AnswersAs rules h ss names counted n report goal (Coded code v) = IsAnswerable rules h ss names counted n report goal code v

@@ -13,13 +13,13 @@ use Rattle.kl1_ancestors.specs.declared.shoen.Shoen.{Shoen}
 use Rattle.kl1_effects.specs.Fitting.{Reading}
 use Rattle.kl1_effects.specs.Account.{meaning}
 
--- the state of a shoen of this life as it is shown, where it was charged so much
+-- the state of a shoen of this life as it is shown, if `charged` is what it was charged
 abbrev pub condition_at : Shoen CellName → ℕ → Life → Condition
 condition_at h charged Terminated = HasTerminated
 condition_at h charged Aborted = IsAborted
 condition_at h charged Living = if h.is_stopped then Stopped else if nat_le h.allowance charged then Exhausted else Running
 
--- the state of a shoen as it is shown, where it was charged so much
+-- the state of a shoen as it is shown, if `charged` is what it was charged
 abbrev pub condition_by : Shoen CellName → ℕ → Condition
 condition_by h charged = condition_at h charged h.life
 

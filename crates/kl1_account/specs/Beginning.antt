@@ -5,7 +5,7 @@ use Rattle.kl1_atoms.specs.declared.known.Known.{Known}
 use Rattle.kl1_store.specs.Held.{nothing_held, with_variable}
 use Rattle.kl1_effects.specs.Account.{Account}
 
--- an account of this name, which keeps to these rules, in which nothing has happened but that it has used these names, and that so many sessions are open; its store
+-- an account of this name, which keeps to these rules, in which nothing has happened but that it has used these names, and that `sessions` sessions are open; its store
 -- holds one variable, which it never uses, so that its variables are numbered from 1
 abbrev pub begun : List ℕ → Rules → List Known → ℕ → Account
 begun own rules names sessions = record {

@@ -33,7 +33,7 @@ pub record HasComeTo (mark : Point) (old now : Kept CellName) : Type 0 where
   pub grown : Grown old.held now.held
   pub hooks : now.hooks ≡ old.hooks
 
--- where goals were settled when an event began, these others are settled now, where each monitor whose number isn't among those that
+-- if goals were settled when an event began, these others are settled now, provided each monitor whose number isn't among those that
 -- were told has the control stream before it that it had
 abbrev pub SettlesTo : List Numbered → Point → Kept CellName → Kept CellName → List (Shoen CellName) → List ℕ → List (Goal CellName) → List (Goal CellName) → Type 0
 SettlesTo ms mark now new after told goals others =
@@ -46,7 +46,7 @@ pub record LooksAgain (ms : List Numbered) (mark : Point) (now new : Kept CellNa
   pub same : map unlooked after.added.items ≡ map unlooked before.added.items
   pub enabled : AreEnabled tree.shoens tree.work after.added.items
 
--- each of these shoens lets its goals step where it did so before
+-- each of these shoens lets its goals step if it did so before
 abbrev pub SameFlags : List (Shoen CellName) → List ℕ → List (Shoen CellName) → List ℕ → Type 0
 SameFlags before before_work after work = (n : ℕ) → 0 < n → n ≤ length before → is_enabled_at after work n ≡ is_enabled_at before before_work n
 
@@ -57,18 +57,18 @@ pub record ShiftsFor (tree : Tree CellName) (reached : List ℕ) (before after :
   pub reached_none : after.shifts ≡ false → reached ≡ []
   pub ended_none : after.shifts ≡ false → before.ended.items ≡ []
 
--- the shoen of a number lets its goals step where a draft lets and holds back none other than before
+-- shoen `running` lets its goals step if a draft lets and holds back none other than before
 abbrev pub LetsStill : Tree CellName → List ℕ → ℕ → Draft → Type 0
 LetsStill tree reached running d = d.shifts ≡ false → d.ended.items ≡ [] → reached ≡ [] → is_enabled_at tree.shoens tree.work running ≡ true
 
--- where goals might step as other shoens had it, they may with a draft in place as these have it, where the draft shifts them or
+-- if goals might step as other shoens had it, they may with a draft in place as these have it, provided the draft shifts them or
 -- those shoens let their goals step as before
 abbrev pub EnablesTo : Tree CellName → List (Goal CellName) → Draft → Type 0
 EnablesTo tree goals d =
     (before : List (Shoen CellName)) (work : List ℕ) → length before ≤ length tree.shoens → AreOwned (length before) goals → (d.shifts ≡ false → SameFlags before work tree.shoens tree.work) →
     AreEnabled before work goals → AreEnabled tree.shoens tree.work (goals_after goals d)
 
--- the goals of an account with a draft in place are of so many shoens
+-- the goals of an account with a draft in place are of shoens of which its goals and those that come are
 abbrev pub OwnsAfter : List (Goal CellName) → List (Goal CellName) → Draft → Type 0
 OwnsAfter goals added d = (count : ℕ) → AreOwned count goals → AreOwned count added → AreOwned count (goals_after goals d)
 

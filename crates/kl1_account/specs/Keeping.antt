@@ -10,7 +10,7 @@ use Rattle.kl1_effects.specs.Kept.{AreGoalsIn, AreOwned, AreUpTo, AreShoensIn}
 use Rattle.kl1_effects.specs.Settled.{AreSettled, AreEnabled}
 use Rattle.kl1_effects.specs.Naming.{AreSmall}
 
--- what always holds of an account, on whose variables these numbers hang, and whose table of goals knows so many shoens; that its
+-- what always holds of an account, on whose variables these numbers hang, and whose table of goals knows `known` shoens; that its
 -- shoens are a tree is what the tree of shoens keeps
 pub record IsKept (a : Account) (hooks : List Hook) (known : ℕ) : Type 0 where
   pub some : 0 < a.held.variables

@@ -27,7 +27,7 @@ use Rattle.kl1_effects.specs.Drafts.{restood}
 use Rattle.kl1_effects.specs.Settled.{AreSettled}
 use Rattle.kl1_event.specs.Views.{refusal_of}
 
--- a state with these modules and names, and so many entries
+-- a state with these modules and names, and `entries` entries
 pub record HasModules (s : State) (ms : List Numbered) (names : List Known) (entries : ℕ) : Type 0 where
   pub modules_are : s.modules ≡ contents ms
   pub names_are : s.names ≡ texts_of names
@@ -47,7 +47,7 @@ pub record IsDraft (ms : List Numbered) (names : List Known) (entries : ℕ) (d 
   pub room : entries < most_entries
   pub loads : (s : State) → HasModules s ms names entries → load_module s (good d.content) ≡ record { state = with_entry (with_module s d.content); reply = loaded d.content.name }
 
--- why a drafted module is refused, or nothing where it may be loaded
+-- why a drafted module is refused, or nothing if it may be loaded
 abbrev pub DraftsAs : List Numbered → List Known → ℕ → Numbered → Option Refusal → Type 0
 DraftsAs ms names entries d None = IsDraft ms names entries d
 DraftsAs ms names entries d (Some r) = (s : State) → HasModules s ms names entries → load_module s (good d.content) ≡ refuse s (refusal_of r)

@@ -56,7 +56,7 @@ calls_same c kind.Goes = false
 calls_same c (kind.Waits v) = false
 calls_same c kind.Nothing = false
 
--- this was found of a goal of this kind, where these are the clauses of its predicate: the clause by which it can step, and that its
+-- this was found of a goal of this kind, if these are the clauses of its predicate: the clause by which it can step, and that its
 -- number hangs on each variable that it waits for
 pub record StandsBy (h : Held CellName) (hooks : List Hook) (kind : Kind CellName) (p : Predicate CellName) (c : Change) : Type 0 where
   pub found : (f : Reading) (modules : List Numbered) (shoens : List (Shoen CellName)) (shoen : ℕ) (x : Qualified CellName) → Reads built f → IsKind f h (aim f h x) kind → HasPredicate f h (contents modules) kind p → IsFoundOut f hooks h modules shoens shoen (Reduces x) c
@@ -66,11 +66,11 @@ pub record HearsAt (h : Held CellName) (hooks : List Hook) (x : Cell CellName) (
   pub standing : (f : Reading) → Reads built f → c.standing ≡ control_clause (control_of (term_of f h x))
   pub hung : (f : Reading) → Reads built f → HangsOnEach hooks c.number (awaited_by_control (control_of (term_of f h x)))
 
--- the same of a goal of this shoen with this task
+-- this was found of a goal of this shoen with this task
 pub record StandsAt (modules : List Numbered) (shoens : List (Shoen CellName)) (h : Held CellName) (hooks : List Hook) (shoen : ℕ) (t : Task CellName) (c : Change) : Type 0 where
   pub found : (f : Reading) → Knows modules f → IsFoundOut f hooks h modules shoens shoen t c
 
--- the goal of a number, which is of this shoen and has this task, was looked at: there is one change more
+-- goal `number`, which is of this shoen and has this task, was looked at: there is one change more
 pub record FindsOut (modules : List Numbered) (shoens : List (Shoen CellName)) (h : Held CellName) (hooks : List Hook) (shoen : ℕ) (t : Task CellName) (number : ℕ) (before after : List Change) : Type 0 where
   pub change : Change
   pub is : after ≡ before ++ change ∷ []
@@ -81,7 +81,7 @@ pub record FindsOut (modules : List Numbered) (shoens : List (Shoen CellName)) (
 abbrev pub AreOthersOf : List (Goal CellName) → ℕ → List (Goal CellName) → Type 0
 AreOthersOf goals removed gs = AllByRecursion (λ g. (find (has_number g.number) goals ≡ Some g) × (g.number ≡ removed → ⊥)) gs
 
--- goals of which that of a number and those of others were pending are settled but for the others, after more changes
+-- goals of which goal `number` and others were pending are settled but for the others, after more changes
 abbrev pub Wakes : List Numbered → List (Shoen CellName) → Held CellName → List Hook → List Hook → List (Goal CellName) → ℕ → ℕ → List Change → List Change → Type 0
 Wakes modules shoens h hooks more goals removed number before after =
     (f : Reading) → Knows modules f → (gs : List (Goal CellName)) → AreOthersOf goals removed gs → (told : List ℕ) →
@@ -111,7 +111,7 @@ pub record LooksAtAdded (modules : List Numbered) (shoens : List (Shoen CellName
   pub settled : (f : Reading) → Knows modules f → AreSettled f hooks h modules shoens after
   pub enabled : AreEnabled shoens work after
 
--- a goal is settled where its number is below this one
+-- a goal is settled if its number is below this one
 abbrev pub IsReached : Reading → List Hook → Held CellName → List Numbered → List (Shoen CellName) → ℕ → Goal CellName → Type 0
 IsReached f hooks h modules shoens n g = g.number < n → IsSettled f hooks h modules shoens g
 

@@ -48,7 +48,7 @@ Refuses a n c r = (f : Reading) → Knows a.modules f → step (state_of f a) (r
 abbrev pub RefusesAmong : List (Goal CellName) → ℕ → ℕ → Refusal → Type 0
 RefusesAmong goals n c r = (a : Account) → AreEnabled a.shoens a.work goals → Refuses (record a { goals = goals }) n c r
 
--- the goal of a number is there and may step, and a command may have these numbers
+-- goal `n` is there and may step, and a command may have these numbers
 pub record IsSteppable (goals : List (Goal CellName)) (n c : ℕ) (g : Goal CellName) : Type 0 where
   pub numbers : (is_number n && is_number c) ≡ true
   pub found : find (has_number n) goals ≡ Some g
@@ -62,47 +62,47 @@ is_read (TellsOther m rest) = true
 is_read Ends = true
 is_read (BreaksOff x) = true
 
--- an account with the cells of a store, these shoens, and so many entries in its journal
+-- an account with the cells of a store, these shoens, and `entries` entries in its journal
 abbrev pub with_tree : Account → Held CellName → List (Shoen CellName) → ℕ → Account
 with_tree a h shoens entries = record a { held = h; shoens = shoens; entries = entries }
 
--- the reduction of a monitor, which may step, by the clause of a number is refused
+-- the reduction of a monitor, which may step, by clause `c` is refused
 abbrev pub NotHeard : Held CellName → List (Shoen CellName) → ℕ → Goal CellName → ℕ → Refusal → Type 0
 NotHeard h shoens entries g c r =
     (a : Account) (n : ℕ) → IsSteppable a.goals n c g → g.task ≡ Monitor → AreEnabled shoens a.work a.goals → Refuses (with_tree a h shoens entries) n c r
 
--- a monitor, which may step, reads this by the clause of a number, and terminations come after it
+-- a monitor, which may step, reads this by clause `c`, and terminations come after it
 abbrev pub HeardAs : Held CellName → List (Shoen CellName) → ℕ → Goal CellName → ℕ → Control CellName → Type 0
 HeardAs h shoens entries g c control =
     (a : Account) (n : ℕ) → IsSteppable a.goals n c g → g.task ≡ Monitor → AreEnabled shoens a.work a.goals → (f : Reading) → Knows a.modules f →
     step (state_of f (with_tree a h shoens entries)) (reduce n c)
     ≡ record { state = settle g.shoen (heard g.shoen (control_as f h control) (with_entry (state_of f (with_tree a h shoens entries)))); reply = reduced }
 
--- an account with the cells of a store, these modules, and so many entries in its journal
+-- an account with the cells of a store, these modules, and `entries` entries in its journal
 abbrev pub with_modules : Account → Held CellName → List Numbered → ℕ → Account
 with_modules a h ms entries = record a { held = h; modules = ms; entries = entries }
 
--- the reduction of a goal for a cell, which may step, by the clause of a number is refused
+-- the reduction of a goal for a cell, which may step, by clause `c` is refused
 abbrev pub NotMade : Held CellName → List Numbered → ℕ → Qualified CellName → ℕ → Refusal → Type 0
 NotMade h ms entries x c r =
     (a : Account) (n : ℕ) (g : Goal CellName) → IsSteppable a.goals n c g → g.task ≡ Reduces x → AreEnabled a.shoens a.work a.goals → Refuses (with_modules a h ms entries) n c r
 
--- a move, or nothing but to go where there is none
+-- a move, or nothing but to go if there is none
 abbrev pub move_or_go : Option model.Move → model.Move
 move_or_go None = goes
 move_or_go (Some m) = m
 
--- what a goal for a cell does by the clause of a number
+-- what a goal for a cell does by clause `c`
 abbrev pub move_at : List Numbered → Held CellName → Qualified CellName → ℕ → Reading → model.Move
 move_at ms h x c f = move_or_go (move_by (contents ms) (aim f h x) c)
 
--- a goal for a cell can do this move by the clause of a number, and there is room in the journal
+-- a goal for a cell can do this move by clause `c`, and there is room in the journal
 pub record IsMade (h : Held CellName) (ms : List Numbered) (entries : ℕ) (x : Qualified CellName) (c : ℕ) (p : Predicate CellName) (places : List (Place CellName)) (text : List ℕ) (made : Move CellName) : Type 0 where
   pub moves : (f : Reading) → Knows ms f → MovesAs f h (contents ms) (aim f h x) c p places text (Some made)
   pub some : (f : Reading) → Knows ms f → move_by (contents ms) (aim f h x) c ≡ Some (move_at ms h x c f)
   pub room : entries < most_entries
 
--- an account after a draft is put in place, where its store holds this and its shoens are those of a tree, with one entry more in its
+-- an account after a draft is put in place, if its store holds this and its shoens are those of a tree, with one entry more in its
 -- journal; names are those that it has then
 abbrev pub put_in : Account → Held CellName → Tree CellName → Draft → Account
 put_in a h t d = record a {
@@ -117,7 +117,7 @@ put_in a h t d = record a {
   entries = suc a.entries;
 }
 
--- an account of this name, with so many open sessions, with these rules and parts
+-- an account of this name, with this number of open sessions, with these rules and parts
 abbrev pub account_at : (List ℕ × ℕ) → Rules → Held CellName → List (Goal CellName) → Tree CellName → List Numbered → List Known → ℕ → ℕ → ℕ → ℕ → ℕ → Account
 account_at own rules h goals t ms known last variables nodes reports entries = record {
   own_name = own.0;
@@ -167,7 +167,7 @@ abbrev pub ReducesAs : Account → ℕ → ℕ → Kept CellName → Kept CellNa
 ReducesAs a n c old new t u table d None = IsReduced a n c new u table d
 ReducesAs a n c old new t u table d (Some r) = IsRefused a n c old new t u r
 
--- a row with these numbers and this capacity is ready for the number of a name, where there is one
+-- a row with these numbers and this capacity is ready for the number of a name, if there is one
 abbrev pub HasRow : Option (List ℕ) → List CellName → ℕ → Type 0
 HasRow None row capacity = Unit {0}
 HasRow (Some text) row capacity = (row ≡ []) × (1 ≤ capacity)

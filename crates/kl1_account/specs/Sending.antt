@@ -37,19 +37,19 @@ bare h = record h { origin = None }
 abbrev pub AreAlike : List (Shoen CellName) → List (Shoen CellName) → Type 0
 AreAlike before after = map bare after ≡ map bare before
 
--- a state that counts so many variables, structures and entries
+-- a state that counts `variables` variables, `nodes` structures and `entries` entries
 pub record Counts (variables nodes entries : ℕ) (s : State) : Type 0 where
   pub variables_are : s.variables ≡ variables
   pub nodes_are : s.nodes ≡ nodes
   pub entries_are : s.entries ≡ entries
 
--- a message to the shoen of a number is refused for a reason, where so much is counted
+-- a message to shoen `n` is refused for a reason, if this is counted
 abbrev pub Refuses : List (Shoen CellName) → ℕ → ℕ → ℕ → ℕ → Message → Refusal → Type 0
 Refuses ss variables nodes entries n m r =
     (t : Means) (s : State) (last : ℕ) (goals : List (Goal CellName)) → Counts variables nodes entries s →
     step (state_with s t last goals ss) (control n m) ≡ refuse (state_with s t last goals ss) (refusal_of r)
 
--- a message to the shoen of a number, of which the console keeps this, may be sent, where so much is counted
+-- a message to shoen `n`, of which the console keeps this, may be sent, if this is counted
 pub record Allows (ss : List (Shoen CellName)) (variables nodes entries n : ℕ) (m : Message) (o : Origin CellName) : Type 0 where
   pub found : option_and_then (λ h. h.origin) (shoen_in n ss) ≡ Some o
   pub message : is_message m ≡ true
@@ -59,13 +59,13 @@ pub record Allows (ss : List (Shoen CellName)) (variables nodes entries n : ℕ)
   pub steps : (t : Means) (s : State) (last : ℕ) (goals : List (Goal CellName)) → Counts variables nodes entries s →
       step (state_with s t last goals ss) (control n m) ≡ record { state = with_entry (sent_on n m (t o.control) (state_with s t last goals ss)); reply = sent }
 
--- a message was put on the control stream of the shoen of a number, whose tail at the console is this cell
+-- a message was put on the control stream of shoen `n`, whose tail at the console is this cell
 abbrev pub PutsOn : ℕ → Message → Cell CellName → Held CellName → Held CellName → List (Shoen CellName) → List (Shoen CellName) → Draft → Draft → Type 0
 PutsOn n m x old new ss us before after =
     (f : Reading) → Reads built f → (s : State) (goals : List (Goal CellName)) → 0 < old.variables → AreGoalsIn old goals → s.variables ≡ before.variables → s.nodes ≡ before.nodes →
     sent_on n m (meaning f old x) (with_kept f s old goals ss) ≡ with_kept f (record s { variables = after.variables; nodes = after.nodes }) new goals us
 
--- a message to the shoen of a number is drafted, and what hangs on the tail that it binds was looked at
+-- a message to shoen `n` is drafted, and what hangs on the tail that it binds was looked at
 pub record IsSent (ms : List Numbered) (old new : Kept CellName) (goals : List (Goal CellName)) (t u : Tree CellName) (variables nodes entries n : ℕ) (m : Message) (d : Draft) : Type 0 where
   pub journal : entries < most_entries
   pub added : d.added.items ≡ []
@@ -77,14 +77,14 @@ pub record IsSent (ms : List Numbered) (old new : Kept CellName) (goals : List (
   pub steps : (f : Reading) → Reads built f → (s : State) → Counts variables nodes entries s →
       step (with_kept f s old.held goals t.shoens) (control n m) ≡ record { state = with_kept f (record s { variables = d.variables; nodes = d.nodes; entries = suc entries }) new.held goals u.shoens; reply = sent }
 
--- a message to the shoen of a number is refused for a reason, and nothing has changed
+-- a message to shoen `n` is refused for a reason, and nothing has changed
 pub record IsRefused (old new : Kept CellName) (t u : Tree CellName) (variables nodes entries n : ℕ) (m : Message) (r : Refusal) : Type 0 where
   pub held : new.held ≡ old.held
   pub hooks : new.hooks ≡ old.hooks
   pub tree : u ≡ t
   pub steps : Refuses t.shoens variables nodes entries n m r
 
--- what comes of a message to the shoen of a number
+-- what comes of a message to shoen `n`
 abbrev pub SendsAs : List Numbered → Kept CellName → Kept CellName → List (Goal CellName) → Tree CellName → Tree CellName → ℕ → ℕ → ℕ → ℕ → Message → Draft → Option Refusal → Type 0
 SendsAs ms old new goals t u variables nodes entries n m d None = IsSent ms old new goals t u variables nodes entries n m d
 SendsAs ms old new goals t u variables nodes entries n m d (Some r) = IsRefused old new t u variables nodes entries n m r

@@ -46,7 +46,7 @@ use Rattle.kl1_effects.specs.Account.{meaning, texts_of, whole}
 use Rattle.kl1_effects.specs.Naming.{AreSmall}
 use Rattle.kl1_effects.specs.Works.{Knows}
 
--- a state with these names, and so much of what is limited
+-- a state with these names, and with what is limited counted so
 pub record HasNames (s : State) (names : List Known) (counted : Counted) : Type 0 where
   pub names_are : s.names ≡ texts_of names
   pub goals_are : goals_alive s ≡ counted.goals
@@ -55,7 +55,7 @@ pub record HasNames (s : State) (names : List Known) (counted : Counted) : Type 
   pub shoens_are : s.last_shoen ≡ counted.shoens
   pub entries_are : s.entries ≡ counted.entries
 
--- whether a goal with so many variables and structures can be started beside what is counted
+-- whether a goal with `variables` variables and `nodes` structures can be started beside what is counted
 abbrev pub has_room_beside : Counted → ℕ → ℕ → Bool
 has_room_beside c variables nodes =
     nat_lt c.goals most_goals && nat_le (c.variables + suc (suc variables)) most_variables && nat_le (c.nodes + nodes) most_nodes && nat_lt c.shoens most_shoens
@@ -123,7 +123,7 @@ tells message o = if o.is_broken then o else tells_at message o.tail o
 abbrev pub first_streams : ℕ → ℕ → Opens
 first_streams last made = record { control = variable (suc last); reports = variable (suc (suc last)); tail = variable (suc (suc last)); is_broken = false; last = suc (suc last); made = made }
 
--- the streams of a shoen that has reported that it has started, and, where its allowance is 0, that it is exhausted
+-- the streams of a shoen that has reported that it has started, and, if its allowance is 0, that it is exhausted
 abbrev pub streams_opened : ℕ → ℕ → ℕ → Opens
 streams_opened allowance last made =
     let opened = tells started_report (first_streams last made) in
@@ -149,7 +149,7 @@ pub record IsLink (old new : Held CellName) (name : BuiltIn) (rest x : Cell Cell
   pub means : (f : Reading) → Reads built f → meaning f new x ≡ cell (atom (text_of name)) (meaning f old rest)
   pub kept : (f : Reading) (y : Cell CellName) → IsIn old y → meaning f new y ≡ meaning f old y
 
--- the streams of a shoen that opens were built of variables more, in an account that made so many reports; no variable was bound
+-- the streams of a shoen that opens were built of variables more, in an account that made `made` reports; no variable was bound
 pub record OpensStreams (allowance made : ℕ) (old new : Held CellName) (s : Streams) : Type 0 where
   pub bindings : new.bindings ≡ old.bindings
   pub control : IsUnbound new s.control
@@ -158,7 +158,7 @@ pub record OpensStreams (allowance made : ℕ) (old new : Held CellName) (s : St
   pub streams : (f : Reading) → Reads built f → streams_of f new s ≡ streams_opened allowance (old.variables - 1) made
   pub kept : (f : Reading) (x : Cell CellName) → IsIn old x → meaning f new x ≡ meaning f old x
 
--- by this clause the goal of a row can step, which waits for these variables, where its names have these numbers
+-- by this clause the goal of a row can step, which waits for these variables, if its names have these numbers
 abbrev pub Judges : List Numbered → List CellName → List Instruction → List (Cell CellName) → Held CellName → List ℕ → Option ℕ → Type 0
 Judges ms names row cells h awaited standing =
     (f : Reading) → Knows ms f → (goal : Term) → IsRowOf (map f names) row (nodes_of goal) → IsTrue (is_numbered goal) → (last : ℕ) → AreGoalVariables h last (highest goal) cells →

@@ -62,7 +62,7 @@ pub record Takes (h : Held CellName) (t : Top) (before after : List (Cell CellNa
   pub inside : AreIn h after
   pub same : (f g : Reading) → stacked_terms f h before ≡ stacked_terms g h before → AreSame f g h t after
 
--- the same, or the stack is empty
+-- what is at the top of the first term was taken from the stack, or the stack is empty
 abbrev pub TakesTop : Held CellName → List (Cell CellName) → List (Cell CellName) → Option Top → Type 0
 TakesTop h before after None = before ≡ []
 TakesTop h before after (Some t) = Takes h t before after

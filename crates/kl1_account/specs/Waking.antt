@@ -33,11 +33,11 @@ IsSettledOr numbers f hooks h modules shoens g = IsSettled f hooks h modules sho
 abbrev pub AreSettledOr : List ℕ → Reading → List Hook → Held CellName → List Numbered → List (Shoen CellName) → List (Goal CellName) → Type 0
 AreSettledOr numbers f hooks h modules shoens goals = AllByRecursion (IsSettledOr numbers f hooks h modules shoens) goals
 
--- a goal of a number is of this shoen and has this task
+-- a goal is of this shoen and has this task, if its number is `n`
 abbrev pub IsFor : ℕ → ℕ → Task CellName → Goal CellName → Type 0
 IsFor n shoen t g = g.number ≡ n → (g.shoen ≡ shoen) × (g.task ≡ t)
 
--- the goals of a number are
+-- goals numbered `n` are of this shoen and have this task
 abbrev pub AreFor : ℕ → ℕ → Task CellName → List (Goal CellName) → Type 0
 AreFor n shoen t goals = AllByRecursion (IsFor n shoen t) goals
 

@@ -126,7 +126,7 @@ impl<C: CodeSource> Account<C> {
         }
     }
 
-    /// Reduces the goal of a number by the clause of a number, or says why it is refused.
+    /// Reduces goal `number` by the clause numbered `clause`, or says why it is refused.
     pub fn reduce<A: AtomSource>(
         &mut self,
         names: &mut A,
@@ -145,6 +145,7 @@ impl<C: CodeSource> Account<C> {
         ensures modules { self.new.modules ≡ self.old.modules }
     {
         let mark = self.store.mark();
+        // Only for the proof: the goals are in order of number.
         let _ordered = self.goals.shoens();
         self.shoens.begin();
         begin_draft(
@@ -199,7 +200,7 @@ impl<C: CodeSource> Account<C> {
         Ok(None)
     }
 
-    /// Sends a message to the shoen of a number, which the console started.
+    /// Sends a message to shoen `number`, which the console started.
     pub fn send(&mut self, codes: &C, number: u64, message: Message) -> Result<Reply, AllocError>
         requires { ArePlaced (C.has codes.now) self.old.modules }
         ensures step { IfOk result (λ reply. (f : Reading) → Fits self.old.names f → step (state_of f self.old) (control number message) ≡ record { state = state_of f self.new; reply = reply_of reply }) }
@@ -208,6 +209,7 @@ impl<C: CodeSource> Account<C> {
         ensures err { OnErr result (self.new ≡ self.old) }
     {
         let mark = self.store.mark();
+        // Only for the proof: the goals are in order of number.
         let _ordered = self.goals.shoens();
         self.shoens.begin();
         let drafted = draft_message(
@@ -375,7 +377,7 @@ impl<C: CodeSource> Account<C> {
         Ok(Reply::Opened(ShoenNo(shoen)))
     }
 
-    /// Answers a report of the shoen of a number, which the console started, the first being 1: a goal takes the place of the variable for
+    /// Answers a report of shoen `number`, which the console started, the first being 1: a goal takes the place of the variable for
     /// which a substitute waits.
     pub fn answer<A: AtomSource>(
         &mut self,
@@ -412,6 +414,7 @@ impl<C: CodeSource> Account<C> {
             Answering::Coded(code, variable) => (code, variable),
         };
         let mark = self.store.mark();
+        // Only for the proof: the goals are in order of number.
         let _ordered = self.goals.shoens();
         let mut spares = Vec::new(self.alloc);
         self.numbers.clear();
@@ -462,14 +465,14 @@ impl<C: CodeSource> Account<C> {
         Ok(Reply::Sent)
     }
 
-    /// The state of the shoen of a number, with what it was charged, its allowance, and how many goals there are in it and below it.
+    /// The state of shoen `number`, with what it was charged, its allowance, and how many goals there are in it and below it.
     pub fn status(&self, number: u64) -> Result<Reply, AllocError>
         ensures step { IfOk result (λ reply. (f : Reading) → Fits self.now.names f → step (state_of f self.now) (read (status number)) ≡ record { state = state_of f self.now; reply = reply_of reply }) }
     {
         status_of(self.alloc, &self.shoens, &self.goals, number)
     }
 
-    /// The reports of the shoen of a number, which the console started, from one on, the first being 1: at most 64, each printed and cut.
+    /// The reports of shoen `number`, which the console started, from one on, the first being 1: at most 64, each printed and cut.
     pub fn reports<A: AtomSource>(
         &self,
         names: &mut A,
@@ -502,7 +505,7 @@ impl<C: CodeSource> Account<C> {
         modules_of(self.alloc, &CodedModules::over(&self.modules, codes))
     }
 
-    /// The goal of the shoen of a number, as started, with what is bound now.
+    /// The goal of shoen `number`, as started, with what is bound now.
     pub fn value<A: AtomSource>(
         &self,
         names: &mut A,
@@ -534,7 +537,7 @@ impl<C: CodeSource> Account<C> {
         }
     }
 
-    /// The goal of the shoen of a number, as started, with what is bound now, without the cut of a reply; `None` where the
+    /// The goal of shoen `number`, as started, with what is bound now, without the cut of a reply; `None` if the
     /// console started no shoen of this number.
     pub fn whole_value<A: AtomSource>(
         &self,

@@ -32,7 +32,7 @@ impl Model for AccountName {
 }
 
 impl AccountName {
-    /// The name of these bytes, where they are one.
+    /// The name of these bytes, if they are one.
     pub fn read(bytes: &[u8]) -> Option<Self>
         ensures value { IfSome result (λ name. name ≡ bytes.now) }
         ensures variant { is_some result ≡ is_account_name bytes.now }
@@ -66,7 +66,7 @@ fn is_account_name(bytes: &[u8]) -> bool
     }
 }
 
-/// Whether each byte may stand in the name of an account behind the first.
+/// Whether each byte may stand in the name of an account after the first.
 fn are_name_bytes(bytes: &[u8]) -> bool
     ensures { result ≡ list_all (λ c. is_small_letter c || is_digit c) bytes.now }
 {

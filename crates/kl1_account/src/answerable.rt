@@ -70,7 +70,7 @@ fn may_answer(alloc: Global, number: u64, report: u64, goal: &Term) -> Result<bo
     Ok(line.len() <= MOST_LINE_BYTES)
 }
 
-/// The code of the goal of an answer to a report of the shoen of a number, in an account with these rules, names and counts, and the
+/// The code of the goal of an answer to a report of shoen `number`, in an account with these rules, names and counts, and the
 /// variable for which a substitute waits, or why it is refused.
 pub(crate) fn code_of_answer(
     alloc: Global,

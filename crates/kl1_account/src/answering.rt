@@ -18,8 +18,8 @@ use kl1_store::{Cell, Store};
 use kl1_text::CellName;
 use std::alloc::AllocError;
 
-/// Drafts an answer, whose goal has so many variables, in place of a variable: spare numbers stand for the names that are new, and the
-/// goals that hang on the variable are looked at. There is room for the names and their numbers then. Where memory is refused, the store
+/// Drafts an answer, whose goal has `count` variables, in place of a variable: spare numbers stand for the names that are new, and the
+/// goals that hang on the variable are looked at. There is room for the names and their numbers then. If memory is refused, the store
 /// may have grown.
 pub(crate) fn draft_answer<C: CodeSource>(
     store: &mut Store<CellName>,

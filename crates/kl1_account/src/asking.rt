@@ -34,7 +34,7 @@ use kl1_stream::{next_element, nth_cell};
 use kl1_text::{CellName, put_atom};
 use std::alloc::{AllocError, Global};
 
-/// The state of a shoen as it is shown, where it was charged so much.
+/// The state of a shoen as it is shown, if `charged` is what it was charged.
 fn condition_of(shoen: &Shoen<CellName>, charged: u64) -> Condition
     ensures { result ≡ condition_by shoen.now charged }
 {
@@ -53,7 +53,7 @@ fn condition_of(shoen: &Shoen<CellName>, charged: u64) -> Condition
     }
 }
 
-/// The state of the shoen of a number, with what it was charged, its allowance, and how many goals there are in it and below it.
+/// The state of shoen `number`, with what it was charged, its allowance, and how many goals there are in it and below it.
 pub(crate) fn status_of(
     alloc: Global,
     shoens: &ShoenTree<CellName>,
@@ -66,6 +66,7 @@ pub(crate) fn status_of(
     if !is_number(number) {
         return Ok(Reply::Refused(Refusal::Syntax));
     }
+    // Only for the proof: the shoens are numbered in order.
     let _numbered = shoens.len();
     let Some(shoen) = shoens.lend(number) else {
         return Ok(Reply::Refused(Refusal::NoShoen));
@@ -81,7 +82,7 @@ pub(crate) fn status_of(
     })
 }
 
-/// The elements of a list from one on, which are so many at most, each printed and cut.
+/// The elements of a list from one on, at most `most`, each printed and cut.
 fn list_cells<A: AtomSource>(
     alloc: Global,
     names: &mut A,
@@ -113,7 +114,7 @@ fn list_cells<A: AtomSource>(
     Ok(listed)
 }
 
-/// The reports of the shoen of a number, which the console started, from one on, the first being 1: at most 64, each printed and cut.
+/// The reports of shoen `number`, which the console started, from one on, the first being 1: at most 64, each printed and cut.
 pub(crate) fn reports_of<A: AtomSource>(
     alloc: Global,
     names: &mut A,
@@ -157,7 +158,7 @@ fn line_of<C: CodeSource>(alloc: Global, loaded: &CodedModule<'_, C>) -> Result<
     Ok(line)
 }
 
-/// Puts a blank and a number behind bytes. After an error some of them may be there.
+/// Puts a blank and a number after bytes. After an error some of them may be there.
 fn put_count(line: &mut Vec<u8>, count: usize) -> Result<(), AllocError>
     ensures { OnOk result (line.new.items ≡ (line.old.items ++ codes " ") ++ decimal count) }
 {

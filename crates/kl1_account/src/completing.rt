@@ -22,7 +22,7 @@ use kl1_store::{Point, Store};
 use kl1_text::CellName;
 use std::alloc::AllocError;
 
-/// Looks at the goals that a draft has told, where there are any.
+/// Looks at the goals that a draft has told, if there are any.
 fn wake_any<C: CodeSource>(
     store: &mut Store<CellName>,
     goals: &GoalTable<CellName>,
@@ -64,7 +64,7 @@ fn tell_bound(store: &Store<CellName>, since: Point, told: &mut Vec<u64>) -> Res
 }
 
 /// Looks at the goals that were told of bindings since a mark, and at those that come. The predicate of goals of one kind is
-/// known, and that the shoen of a number lets its goals step.
+/// known, and that shoen `letting` lets its goals step.
 fn look_again<C: CodeSource>(
     store: &mut Store<CellName>,
     goals: &GoalTable<CellName>,
@@ -89,6 +89,7 @@ fn look_again<C: CodeSource>(
     ensures held { store.new.held ≡ store.old.held }
     ensures grown { HasGrown store.old store.new }
 {
+    // Only for the proof: the goals are in order of number.
     let _order = goals.shoens();
     tell_bound(store, mark, &mut draft.told)?;
     wake_any(
@@ -115,7 +116,7 @@ fn look_again<C: CodeSource>(
     )
 }
 
-/// Finds which goals may step now, where that may be other than before.
+/// Finds which goals may step now, if that may be other than before.
 #[inline(always)]
 fn set_flags(shoens: &ShoenTree<CellName>, draft: &mut Draft, walk: &Walk) -> Result<(), AllocError>
     ensures flags { OnOk result (ShiftsFor shoens.now walk.now.reached.items draft.old draft.new) }
@@ -130,12 +131,13 @@ fn set_flags(shoens: &ShoenTree<CellName>, draft: &mut Draft, walk: &Walk) -> Re
     Ok(())
 }
 
-/// The number of a shoen that lets its goals step: of one that let them before a draft, where they may be let or held back only as
+/// The number of a shoen that lets its goals step: of one that let them before a draft, if they may be let or held back only as
 /// before, and else 0.
 fn still_lets(shoens: &ShoenTree<CellName>, draft: &Draft, walk: &Walk, running: u64) -> u64
     requires { LetsStill shoens.now walk.now.reached.items running draft.now }
     ensures { is_enabled_at shoens.now.shoens shoens.now.work result ≡ true }
 {
+    // Only for the proof: the shoens are numbered in order.
     let _numbered = shoens.len();
     if draft.shifts {
         return 0;
@@ -149,9 +151,9 @@ fn still_lets(shoens: &ShoenTree<CellName>, draft: &Draft, walk: &Walk, running:
     running
 }
 
-/// Finishes a draft of what was done since a mark: looks at the goals that are to be looked at, finds which goals may step now where that
-/// may be other than before, and makes room for what comes. The predicate of goals of one kind is known, and the shoen of a number let
-/// its goals step before. Where memory is refused, the store may have grown.
+/// Finishes a draft of what was done since a mark: looks at the goals that are to be looked at, finds which goals may step now if that
+/// may be other than before, and makes room for what comes. The predicate of goals of one kind is known, and shoen `running` let
+/// its goals step before. If memory is refused, the store may have grown.
 #[inline(always)]
 pub(crate) fn finish<C: CodeSource>(
     store: &mut Store<CellName>,
@@ -183,6 +185,7 @@ pub(crate) fn finish<C: CodeSource>(
     ensures goals { goals.new.goals ≡ goals.old.goals }
     ensures count { goals.new.shoens ≡ goals.old.shoens }
 {
+    // Only for the proof: the shoens are numbered in order.
     let _numbered = shoens.len();
     let letting = still_lets(shoens, draft, walk, running);
     look_again(

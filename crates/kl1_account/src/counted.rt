@@ -17,7 +17,7 @@ pub(crate) struct Counted {
     pub entries: u64,
 }
 
-/// Whether so many more stay within the most that there may be.
+/// Whether `count` and `more` together are at most `most`.
 fn is_within(count: u64, more: u64, most: u64) -> bool
     ensures { result ≡ nat_le (count + more) most }
 {
@@ -25,7 +25,7 @@ fn is_within(count: u64, more: u64, most: u64) -> bool
 }
 
 impl Counted {
-    /// Whether there is room to start a goal of so many variables and structures, in a shoen of its own with two tails.
+    /// Whether there is room to start a goal of `variables` variables and `nodes` structures, in a shoen of its own with two tails.
     pub(crate) fn has_room_to_start(&self, variables: u64, nodes: u64) -> bool
         ensures { result ≡ has_room_beside self.now variables nodes }
     {
@@ -35,7 +35,7 @@ impl Counted {
             && self.shoens < MOST_SHOENS
     }
 
-    /// Whether there is room for an answer of so many variables and structures.
+    /// Whether there is room for an answer of `variables` variables and `nodes` structures.
     pub(crate) fn has_room_to_answer(&self, variables: u64, nodes: u64) -> bool
         ensures { result ≡ has_room_to_answer_beside self.now variables nodes }
     {

@@ -9,8 +9,8 @@ use kl1_effects::{Change, Draft};
 use kl1_goals::{Goal, GoalTable, Rules};
 use kl1_text::CellName;
 
-/// Begins a draft that removes the goal of a number, or none where that is 0, for an account with these rules and this last number of a goal, and so many
-/// variables, structures and reports.
+/// Begins a draft that removes goal `removed`, or none if that is 0, for an account with these rules, whose last goal is
+/// `last_goal`, with `variables` variables, `nodes` structures and `reports` reports.
 pub(crate) fn begin_draft(
     draft: &mut Draft,
     rules: Rules,
@@ -76,7 +76,7 @@ fn restand(goals: &mut GoalTable<CellName>, changes: &[Change])
     }
 }
 
-/// One shoen more is known, where that is so.
+/// One shoen more is known, if that is so.
 fn open_next(goals: &mut GoalTable<CellName>, opens: bool)
     requires { Opens opens goals.old.shoen_room }
     ensures goals { goals.new.goals ≡ goals.old.goals }
@@ -101,7 +101,7 @@ fn put_goals(goals: &mut GoalTable<CellName>, added: &[Goal<CellName>])
     }
 }
 
-/// Lets the goals of shoens step that have a flag, and holds the others back, where that may be other than before.
+/// Lets the goals of shoens step that have a flag, and holds the others back, if that may be other than before.
 fn shift(goals: &mut GoalTable<CellName>, draft: &Draft)
     ensures goals { goals.new.goals ≡ shifted draft.now goals.old.goals }
     ensures count { goals.new.shoens ≡ goals.old.shoens }
@@ -112,7 +112,7 @@ fn shift(goals: &mut GoalTable<CellName>, draft: &Draft)
     goals.set_enabled(&draft.enabled);
 }
 
-/// Puts a draft in place of what it leaves of the goals; where it opens a shoen, one more is known then. It has to fit them.
+/// Puts a draft in place of what it leaves of the goals; if it opens a shoen, one more is known then. It has to fit them.
 pub(crate) fn install(goals: &mut GoalTable<CellName>, draft: &Draft, opens: bool)
     requires { IsFitting goals.old.goals goals.old.shoens goals.old.room goals.old.shoen_room opens draft.now }
     ensures goals { goals.new.goals ≡ goals_after goals.old.goals draft.now }

@@ -22,7 +22,7 @@ use kl1_store::Store;
 use kl1_text::{AtomText, CellName};
 use std::alloc::AllocError;
 
-/// The clause by which the goal of a row can step, or none, where its names have these numbers and the scratch has its variables;
+/// The clause by which the goal of a row can step, or none, if its names have these numbers and the scratch has its variables;
 /// the trial gets what it waits for. The store has grown by the goal then.
 fn judge<C: CodeSource>(
     store: &mut Store<CellName>,
@@ -47,8 +47,8 @@ fn judge<C: CodeSource>(
     standing_of(store, kind, predicate, trial)
 }
 
-/// Drafts a start of the goal of these names and this row, which has so many variables, for an account that made so many reports: in
-/// the store these and the streams of the shoen, in the trial what the goal waits for. There is room for the numbers of its names then. Where memory is refused, the store
+/// Drafts a start of the goal of these names and this row, which has `count` variables, for an account that made `made` reports: in
+/// the store these and the streams of the shoen, in the trial what the goal waits for. There is room for the numbers of its names then. If memory is refused, the store
 /// may have grown.
 pub(crate) fn draft_start<C: CodeSource>(
     store: &mut Store<CellName>,

@@ -46,8 +46,8 @@ fn row_of(alloc: Global, names: &AccountNames, code: &Code) -> Result<Vec<CellNa
     Ok(row)
 }
 
-/// Why an account with these modules and names, whose journal has so many entries, refuses the module of a code whose names have
-/// these numbers; nothing where it may be loaded.
+/// Why an account with these modules and names, whose journal has `entries` entries, refuses the module of a code whose names have
+/// these numbers; nothing if it may be loaded.
 fn refusal_of<C: CodeSource>(
     modules: &Modules<C>,
     names: &AccountNames,
@@ -101,7 +101,7 @@ fn draft_found<C: CodeSource>(
     }
 }
 
-/// Drafts the module of a source that wasn't found, as `draft_module`. Its code is put in only where the module isn't refused.
+/// Drafts the module of a source that wasn't found, as `draft_module`. Its code is put in only if the module isn't refused.
 fn draft_new<C: CodeSource>(
     alloc: Global,
     modules: &Modules<C>,
@@ -135,8 +135,8 @@ fn draft_new<C: CodeSource>(
     }
 }
 
-/// Drafts the module of a source for an account with these modules and names, whose journal has so many entries. Its code is put
-/// in where it isn't found and the module isn't refused.
+/// Drafts the module of a source for an account with these modules and names, whose journal has `entries` entries. Its code is put
+/// in if it isn't found and the module isn't refused.
 pub(crate) fn draft_module<C: CodeSource>(
     alloc: Global,
     modules: &Modules<C>,
@@ -162,7 +162,7 @@ pub(crate) fn draft_module<C: CodeSource>(
 }
 
 /// Looks at all goals beside a drafted module, and makes room for what is to be put in place: the result has room for the
-/// numbers of its names. Where memory is refused, more may hang.
+/// numbers of its names. If memory is refused, more may hang.
 fn prepare_parts<C: CodeSource>(
     alloc: Global,
     store: &mut Store<CellName>,
@@ -198,7 +198,7 @@ fn prepare_parts<C: CodeSource>(
     Vec::with_capacity(alloc, count)
 }
 
-/// The same, but where memory is refused, as much hangs as before.
+/// Like `prepare_parts`; on an error no hook is added.
 pub(crate) fn prepare<C: CodeSource>(
     alloc: Global,
     store: &mut Store<CellName>,
@@ -237,7 +237,7 @@ pub(crate) fn prepare<C: CodeSource>(
     }
 }
 
-/// Puts a drafted module behind the others, under these numbers of its names, and each changed goal as it was found.
+/// Puts a drafted module after the others, under these numbers of its names, and each changed goal as it was found.
 pub(crate) fn install_module<C: CodeSource>(
     goals: &mut GoalTable<CellName>,
     modules: &mut Modules<C>,

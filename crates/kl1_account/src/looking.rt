@@ -32,7 +32,7 @@ use kl1_stream::{Control, read_control};
 use kl1_text::CellName;
 use std::alloc::AllocError;
 
-/// The clauses of the predicate of a goal of a kind; none where there is no such predicate, or it is no call.
+/// The clauses of the predicate of a goal of a kind; none if there is no such predicate, or it is no call.
 #[inline(always)]
 pub(crate) fn predicate_of<'a, C: CodeSource>(
     modules: &'a CodedModules<'_, C>,
@@ -74,7 +74,7 @@ fn calls_same(call: Call<CellName>, kind: &Kind<CellName>) -> bool
     }
 }
 
-/// The clauses of the predicate of a goal of a kind, where those of goals of another kind are known: of the same predicate they
+/// The clauses of the predicate of a goal of a kind, if those of goals of another kind are known: of the same predicate they
 /// aren't looked up again.
 #[inline(always)]
 fn predicate_near<'a, C: CodeSource>(
@@ -97,8 +97,8 @@ fn predicate_near<'a, C: CodeSource>(
     predicate_of(modules, kind)
 }
 
-/// The clause by which the goal of a number, which is of a kind, can step by the clauses of its predicate, or none. The number is
-/// hung on each variable that the goal waits for then; where memory is refused, it may hang on some of them.
+/// The clause by which goal `number`, which is of a kind, can step by the clauses of its predicate, or none. The number is
+/// hung on each variable that the goal waits for then; if memory is refused, it may hang on some of them.
 #[inline(always)]
 pub(crate) fn hung_standing(
     store: &mut Store<CellName>,
@@ -120,7 +120,7 @@ pub(crate) fn hung_standing(
     Ok(standing)
 }
 
-/// The same of the goal of a number, which is for a cell, where the predicate of goals of one kind is known.
+/// The clause by which goal `number`, which is for a cell, can step, if the predicate of goals of one kind is known; or none.
 #[inline(always)]
 fn standing_at<C: CodeSource>(
     store: &mut Store<CellName>,
@@ -143,7 +143,7 @@ fn standing_at<C: CodeSource>(
     hung_standing(store, kind, clauses, trial, number)
 }
 
-/// The clause by which the monitor of a number can step that reads this control stream: 0, or none as long as it waits. The number is
+/// The clause by which monitor `number` can step that reads this control stream: 0, or none as long as it waits. The number is
 /// hung on the variable that it waits for then.
 fn control_standing(
     store: &mut Store<CellName>,
@@ -167,7 +167,7 @@ fn control_standing(
     }
 }
 
-/// The same of the monitor of a shoen; none where there is no such shoen.
+/// The clause by which the monitor of a shoen can step, as `control_standing` tells; none if there is no such shoen.
 #[inline(never)]
 pub(crate) fn monitor_standing(
     store: &mut Store<CellName>,
@@ -186,7 +186,7 @@ pub(crate) fn monitor_standing(
     }
 }
 
-/// The clause by which the substitute of a number can step, for what a cell is: 0, or none as long as it waits. The number is hung on the
+/// The clause by which substitute `number` can step, for what a cell is: 0, or none as long as it waits. The number is hung on the
 /// variable that it waits for then.
 pub(crate) fn substitute_hung(
     store: &mut Store<CellName>,
@@ -262,7 +262,7 @@ fn look_at_task<C: CodeSource>(
     Ok(())
 }
 
-/// Looks at the goal of a number, where it is there and is not the one that is removed.
+/// Looks at goal `number`, if it is there and is not the one that is removed.
 fn wake<C: CodeSource>(
     store: &mut Store<CellName>,
     goals: &GoalTable<CellName>,
@@ -297,7 +297,7 @@ fn wake<C: CodeSource>(
 }
 
 /// Looks at the goals of these numbers that are there, monitors too, but the one that is removed. A goal that goes for another
-/// reason may be looked at as well: that makes nothing of the others. Where memory is refused, more may hang.
+/// reason may be looked at as well: that makes nothing of the others. If memory is refused, more may hang.
 pub(crate) fn wake_told<C: CodeSource>(
     store: &mut Store<CellName>,
     goals: &GoalTable<CellName>,
@@ -326,7 +326,7 @@ pub(crate) fn wake_told<C: CodeSource>(
     Ok(())
 }
 
-/// Whether the shoen of a goal lets it step; a monitor is always let. The shoen of a number is known to let its goals step.
+/// Whether the shoen of a goal lets it step; a monitor is always let. Shoen `letting` is known to let its goals step.
 fn may_step(shoens: &ShoenTree<CellName>, letting: u64, goal: &Goal<CellName>) -> bool
     requires { is_enabled_at shoens.now.shoens shoens.now.work letting ≡ true }
     ensures { result ≡ (is_monitor goal.now || is_enabled_at shoens.now.shoens shoens.now.work goal.now.shoen) }
@@ -337,7 +337,7 @@ fn may_step(shoens: &ShoenTree<CellName>, letting: u64, goal: &Goal<CellName>) -
     goal.is_monitor() || shoens.is_enabled(goal.shoen)
 }
 
-/// Looks at a goal that comes: it gets the clause by which it can step, and whether its shoen lets it. The shoen of a number is known
+/// Looks at a goal that comes: it gets the clause by which it can step, and whether its shoen lets it. Shoen `letting` is known
 /// to let its goals step, here and below.
 fn look_at_added<C: CodeSource>(
     store: &mut Store<CellName>,
@@ -365,7 +365,7 @@ fn look_at_added<C: CodeSource>(
     Ok(())
 }
 
-/// Looks at goals that come: each gets the clause by which it can step, and whether its shoen lets it. Where memory is refused, more
+/// Looks at goals that come: each gets the clause by which it can step, and whether its shoen lets it. If memory is refused, more
 /// may hang.
 pub(crate) fn wake_added<C: CodeSource>(
     store: &mut Store<CellName>,

@@ -29,7 +29,7 @@ use kl1_store::{Qualified, Store};
 use kl1_text::CellName;
 use std::alloc::AllocError;
 
-/// The clauses of the predicate of a goal of a kind, in modules or in one that is drafted; none where there is no such predicate,
+/// The clauses of the predicate of a goal of a kind, in modules or in one that is drafted; none if there is no such predicate,
 /// or it is no call.
 fn predicate_beside<'a, C: CodeSource>(
     modules: &'a CodedModules<'_, C>,
@@ -57,7 +57,7 @@ fn predicate_beside<'a, C: CodeSource>(
     }
 }
 
-/// The clause by which the goal of a number can step, which is for a cell, or none. The number is hung on each variable that the goal
+/// The clause by which goal `number` can step, which is for a cell, or none. The number is hung on each variable that the goal
 /// waits for.
 fn standing_beside<C: CodeSource>(
     store: &mut Store<CellName>,
@@ -78,7 +78,7 @@ fn standing_beside<C: CodeSource>(
     hung_standing(store, kind, predicate, trial, number)
 }
 
-/// The same of a goal of a shoen with a task.
+/// The clause by which goal `number` of a shoen, with a task, can step, or none.
 fn task_beside<C: CodeSource>(
     store: &mut Store<CellName>,
     shoens: &ShoenTree<CellName>,
@@ -128,7 +128,7 @@ fn look_at_goal<C: CodeSource>(
     Ok(())
 }
 
-/// Looks at the goal of number 0, where there is one.
+/// Looks at goal 0, if there is one.
 fn look_at_first<C: CodeSource>(
     store: &mut Store<CellName>,
     goals: &GoalTable<CellName>,
@@ -151,7 +151,7 @@ fn look_at_first<C: CodeSource>(
     }
 }
 
-/// Looks at all goals, where a module that is drafted is there too. Where memory is refused, more may hang.
+/// Looks at all goals, with a module that is drafted beside the others. If memory is refused, more may hang.
 pub(crate) fn look_at_all<C: CodeSource>(
     store: &mut Store<CellName>,
     goals: &GoalTable<CellName>,

@@ -12,7 +12,7 @@ use kl1_effects::{AccountNames, Draft};
 use kl1_store::Store;
 use kl1_text::CellName;
 
-/// Publishes the name that a draft has, where it has one, and puts its number where a spare one stands for it. It takes no memory.
+/// Publishes the name that a draft has, if it has one, and puts its number where a spare one stands for it. It takes no memory.
 pub(crate) fn publish_drafted<A: AtomSource>(
     names: &mut A,
     seat: &mut A::Seat,

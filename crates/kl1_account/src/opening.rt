@@ -41,15 +41,16 @@ fn link(
     ensures grown { HasGrown store.old store.new }
     ensures hooks { store.new.hooks ≡ store.old.hooks }
 {
+    // Only for the proof: what the store holds is formed.
     let _formed = store.mark();
     let list = CellName::of(BuiltIn::ListCell);
     let structure = store.build_pair(list, Cell::Atom(CellName::of(name)), rest)?;
     Ok(Cell::Structure(structure))
 }
 
-/// The streams of a shoen that opens, in an account that made so many reports, and that reports that it has started, and, where its
+/// The streams of a shoen that opens, in an account that made `made` reports, and that reports that it has started, and, if its
 /// allowance is 0, that it is exhausted. Of their variables some take only a number: the cells of what is reported are there at
-/// once. Where memory is refused, the store may have grown.
+/// once. If memory is refused, the store may have grown.
 pub(crate) fn open_streams(
     store: &mut Store<CellName>,
     allowance: u64,
@@ -60,6 +61,7 @@ pub(crate) fn open_streams(
     ensures grown { HasGrown store.old store.new }
     ensures hooks { store.new.hooks ≡ store.old.hooks }
 {
+    // Only for the proof: what the store holds is formed.
     let _formed = store.mark();
     let control = store.fresh()?;
     let first = store.fresh()?;

@@ -17,7 +17,7 @@ use kl1_term::{Node, Printer};
 use kl1_text::{AtomNo, AtomText, CellName};
 use std::alloc::{AllocError, Global};
 
-/// Puts the arguments of a structure, which are so many, on a stack, the first of them on top.
+/// Puts the `count` arguments of a structure on a stack, the first of them on top.
 #[tactic(auto, using(crate::proofs::Stacks::one_argument))]
 fn put_arguments(
     store: &Store<CellName>,
@@ -47,6 +47,7 @@ fn top_of(
     requires stack { AreIn store.now.held stack.old.items }
     ensures { IfOk result (λ top. IsNext store.now.held cell top stack.old.items stack.new.items) }
 {
+    // Only for the proof: what the store holds is formed.
     let _ = store.mark();
     match store.walk(cell) {
         Cell::Variable(number) => Ok(Top::Variable(u64::from(number))),
@@ -60,7 +61,7 @@ fn top_of(
     }
 }
 
-/// What is at the top of the first of the terms of cells on a stack, whose arguments take its place there; nothing where the
+/// What is at the top of the first of the terms of cells on a stack, whose arguments take its place there; nothing if the
 /// stack is empty.
 #[tactic(auto, using(crate::proofs::Stacks::top_in, crate::proofs::Stacks::rest_in, crate::proofs::Stacks::takes))]
 fn next_top(
@@ -110,7 +111,7 @@ fn node_of<A: AtomSource>(names: &mut A, seat: &mut A::Seat, top: Top) -> Node
     }
 }
 
-/// The text of a cell's term: where a number of bytes is given, it is cut after so many, with three dots where it is longer.
+/// The text of a cell's term: if a number of bytes is given, it is cut after these, with three dots if it is longer.
 pub(crate) fn print_cell<A: AtomSource>(
     alloc: Global,
     names: &mut A,

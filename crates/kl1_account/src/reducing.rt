@@ -40,7 +40,7 @@ use kl1_stream::{Control, read_control};
 use kl1_text::CellName;
 use std::alloc::AllocError;
 
-/// The goal of a number, which may step, or why its reduction by the clause of a number is refused.
+/// Goal `number`, which may step, or why its reduction by clause `clause` is refused.
 fn steppable(
     goals: &GoalTable<CellName>,
     number: u64,
@@ -76,7 +76,7 @@ fn is_read(control: Control<CellName>) -> bool
     }
 }
 
-/// What a monitor, which may step, reads by the clause of a number, for an account with so many entries in its journal, or why that is
+/// What a monitor, which may step, reads by clause `clause`, for an account with `entries` entries in its journal, or why that is
 /// refused.
 fn control_to_read(
     store: &Store<CellName>,
@@ -107,7 +107,7 @@ fn control_to_read(
     Ok(control)
 }
 
-/// What a goal for a cell, which may step and is of a kind, does by the clause of a number of its predicate, for an account with so many
+/// What a goal for a cell, which may step and is of a kind, does by clause `clause` of its predicate, for an account with `entries`
 /// entries in its journal, or why that is refused.
 fn move_to_make<C: CodeSource>(
     store: &Store<CellName>,
@@ -136,7 +136,7 @@ fn move_to_make<C: CodeSource>(
     Ok(Ok(made))
 }
 
-/// Drafts what a monitor reads, which may step, by the clause of a number, for an account with so many entries in its journal, or says
+/// Drafts what a monitor reads, which may step, by clause `clause`, for an account with `entries` entries in its journal, or says
 /// why it is refused. The draft has begun with what the account has.
 #[inline(never)]
 fn draft_reading<C: CodeSource>(
@@ -167,7 +167,9 @@ fn draft_reading<C: CodeSource>(
         Err(refusal) => return Ok(Some(refusal)),
         Ok(control) => control,
     };
+    // Only for the proof: no shoen has two monitors.
     let _single = goals.shoens();
+    // Only for the proof: reductions were done in shoens that are there.
     let _worked = shoens.len();
     let mark = store.mark();
     walk.reached.clear();
@@ -208,7 +210,9 @@ fn draft_made<C: CodeSource>(
     predicate: Predicate<'_, CellName>,
     made: Move<CellName>,
 ) -> Result<(), AllocError> {
+    // Only for the proof: the goals are in order of number.
     let _ordered = goals.shoens();
+    // Only for the proof: reductions were done in shoens that are there.
     let _worked = shoens.len();
     let mark = store.mark();
     draft.removed = goal.number;
@@ -221,7 +225,7 @@ fn draft_made<C: CodeSource>(
     )
 }
 
-/// Drafts what a substitute does, which may step, for what a cell is, by the clause of a number, for an account with so many entries in
+/// Drafts what a substitute does, which may step, for what a cell is, by clause `clause`, for an account with `entries` entries in
 /// its journal, or says why it is refused. The draft has begun with what the account has.
 fn draft_substitute<C: CodeSource>(
     store: &mut Store<CellName>,
@@ -279,7 +283,7 @@ fn draft_substitute<C: CodeSource>(
     Ok(None)
 }
 
-/// Drafts the move that a goal for a cell does, which may step, by the clause of a number, for an account with so many entries in its
+/// Drafts the move that a goal for a cell does, which may step, by clause `clause`, for an account with `entries` entries in its
 /// journal, or says why it is refused. The draft has begun with what the account has.
 #[inline(always)]
 fn draft_move<C: CodeSource>(
@@ -323,8 +327,8 @@ fn draft_move<C: CodeSource>(
     Ok(None)
 }
 
-/// Drafts the reduction of the goal of a number by the clause of a number, for an account with so many entries in its journal, or says
-/// why it is refused. The draft has begun with what the account has. Where memory is refused, the store and the tree may have changed.
+/// Drafts the reduction of goal `number` by clause `clause`, for an account with `entries` entries in its journal, or says
+/// why it is refused. The draft has begun with what the account has. If memory is refused, the store and the tree may have changed.
 #[inline(always)]
 fn draft_reduction<C: CodeSource>(
     store: &mut Store<CellName>,
@@ -377,7 +381,7 @@ fn ready_row(row: &mut Vec<CellName>, draft: &Draft) -> Result<(), AllocError>
     row.reserve(1)
 }
 
-/// The same, and a row is ready for the number of a name that is drafted.
+/// Does what `draft_reduction` does; then a row is ready for the number of a name that is drafted.
 #[inline(always)]
 pub(crate) fn draft_named<C: CodeSource>(
     store: &mut Store<CellName>,

@@ -56,8 +56,8 @@ fn nodes_of(message: Message) -> u64
     }
 }
 
-/// What the console keeps of the shoen of a number to which a message may be sent, where so many variables, structures and entries
-/// are counted, or why it is refused.
+/// What the console keeps of shoen `number`, to which a message may be sent, if `variables`, `nodes` and `entries` are counted; or
+/// why it is refused.
 fn origin_for(
     shoens: &ShoenTree<CellName>,
     variables: u64,
@@ -92,8 +92,8 @@ fn origin_for(
     Ok(origin)
 }
 
-/// Puts a message on the control stream of the shoen of a number, whose tail at the console is this cell; where that is no variable,
-/// nothing changes. Where memory is refused, the store may have grown.
+/// Puts a message on the control stream of shoen `number`, whose tail at the console is this cell; if that is no variable,
+/// nothing changes. If memory is refused, the store may have grown.
 fn put_message(
     store: &mut Store<CellName>,
     shoens: &mut ShoenTree<CellName>,
@@ -125,7 +125,7 @@ fn put_message(
     Ok(())
 }
 
-/// Looks at the goals and monitors that hang on what was bound since a mark. Where memory is refused, more may hang.
+/// Looks at the goals and monitors that hang on what was bound since a mark. If memory is refused, more may hang.
 pub(crate) fn wake_bound<C: CodeSource>(
     store: &mut Store<CellName>,
     goals: &GoalTable<CellName>,
@@ -159,7 +159,7 @@ pub(crate) fn wake_bound<C: CodeSource>(
     )
 }
 
-/// Drafts a message to the shoen of a number, which the console started, or says why it is refused. Where memory is refused, the store
+/// Drafts a message to shoen `number`, which the console started, or says why it is refused. If memory is refused, the store
 /// and the tree may have changed.
 pub(crate) fn draft_message<C: CodeSource>(
     store: &mut Store<CellName>,

@@ -30,7 +30,7 @@ fn is_range(low: u64, high: u64) -> bool
     low <= high && high <= MOST_PRIORITY
 }
 
-/// Puts a number and a blank behind bytes. After an error some of them may be there.
+/// Puts a number and a blank after bytes. After an error some of them may be there.
 pub(crate) fn put_number(line: &mut Vec<u8>, number: u64) -> Result<(), AllocError>
     ensures { OnOk result (line.new.items ≡ line.old.items ++ decimal number ++ 32 ∷ []) }
 {
@@ -39,7 +39,7 @@ pub(crate) fn put_number(line: &mut Vec<u8>, number: u64) -> Result<(), AllocErr
     line.extend_from_slice(b" ")
 }
 
-/// Puts the rest of the line of a journal for a start behind its first word. After an error some of it may be there.
+/// Puts the rest of the line of a journal for a start after its first word. After an error some of it may be there.
 #[tactic(auto, using(crate::proofs::StartLines::line_is))]
 fn put_start(
     alloc: Global,

@@ -50,7 +50,7 @@ pub(crate) fn next_goals(last: u64) -> Result<u64, AllocError>
     last.checked_add(2).ok_or(AllocError)
 }
 
-/// Makes the room that a start takes: for the goal of a row, for so many hooks and names, and for a shoen with its two goals.
+/// Makes the room that a start takes: for the goal of a row, `hooks` hooks and `more_names` names, and a shoen with its two goals.
 fn reserve_start(
     store: &mut Store<CellName>,
     goals: &mut GoalTable<CellName>,
@@ -83,9 +83,9 @@ fn reserve_start(
     names.reserve(more_names)
 }
 
-/// Drafts a start of the goal of these names and this row, which has so many variables, in a shoen that may be charged so much, for
-/// an account that made so many reports, and makes the room that it takes: nothing of
-/// it can be refused then. Where memory is refused, the store holds what it held.
+/// Drafts a start of the goal of these names and this row, which has `count` variables, in a shoen that may be charged `allowance`,
+/// for an account that made `made` reports, and makes the room that it takes: nothing of
+/// it can be refused then. If memory is refused, the store holds what it held.
 pub(crate) fn prepare_start<C: CodeSource>(
     store: &mut Store<CellName>,
     goals: &mut GoalTable<CellName>,

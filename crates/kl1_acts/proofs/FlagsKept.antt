@@ -91,7 +91,7 @@ enabled_stays xs ys work n p numbered lower all le =
     ap (λ ns. not (list_any (is_blocking_at ys work) ns)) (path_stays xs ys n p lower le)
     ∙ ap (λ b. not b) (any_same (is_blocking_at ys work) (is_blocking_at xs work) (length xs) (path_in xs n) (λ k low high. blocking_stays xs ys work k p numbered lower all low high) (path_up (length xs) (parents_in xs) lower n n le))
 
--- the same of trees
+-- after a calm change, a tree lets the same goals step
 pub same_flags : (t u : Tree CellName) → AreNumbered 0 t.shoens → AreLower t.shoens → AllByRecursion (λ w. w ≤ length t.shoens) t.work → IsCalm t u → SameFlags t u
 same_flags t u numbered lower all stays n le =
     ap (λ (work : List ℕ). is_enabled_at u.shoens work n) stays.work
@@ -131,7 +131,7 @@ exhausts_none ss work n may none h on found =
     let apart : h.allowance ≡ charged_in ss (n ∷ work) a → ⊥ = eqb-false h.allowance (charged_in ss (n ∷ work) a) unlike in
     lt-leb h.allowance (charged_in ss (n ∷ work) a) (omega (arith, lt, one, apart))
 
--- goals may step as before where a goal that might step has acted, and no shoen has ended or been exhausted
+-- goals may step as before if a goal that might step has acted, and no shoen has ended or been exhausted
 pub act_flags : (t u v y : Tree CellName) (n : ℕ) → AreNumbered 0 t.shoens → AreLower t.shoens → AllByRecursion (λ w. w ≤ length t.shoens) t.work → n ≤ length t.shoens → is_enabled_at t.shoens t.work n ≡ true →
     u ≡ record t { work = n ∷ t.work } → Stays u v → Stays v y → NoneReached v n → SameFlags t y
 act_flags t u v y n numbered lower all high may is first last none m le =

@@ -21,7 +21,7 @@ use Rattle.kl1_acts.proofs.FlagsKept.{act_flags, same_flags}
 use Rattle.kl1_effects.proofs.Outlines.{frames_outlines, outlines_then, others_keep}
 use Rattle.kl1_effects.proofs.Arriving.{comes_none, comes_ended}
 
--- ---- what is so where there was no want of memory
+-- ---- what is so if there was no want of memory
 
 pub on_ok_five : {T E P Q R S U V : Type 0} (r : Result T E) → (P → Q → R → S → U → V) → OnOk r P → OnOk r Q → OnOk r R → OnOk r S → OnOk r U → OnOk r V
 on_ok_five (Ok x) f p q s t u = f p q s t u
@@ -54,7 +54,7 @@ act_leaves k l t u v y goals d e z reached n numbered lower worked high may is s
       flags = λ unshifted ended nothing. act_flags t u v y n numbered lower worked high may is stays (lives (ended ∙ sym early)) (none (ended ∙ sym early) nothing);
     }
 
--- what the monitor of the shoen of a number leaves that has read, and after which shoens have terminated
+-- what the monitor of shoen `n` leaves that has read, and after which shoens have terminated
 pub read_leaves : (l : Held CellName) (t u v : Tree CellName) (d e z : Draft) (n : ℕ) → AreNumbered 0 t.shoens → AreLower t.shoens → AllByRecursion (λ w. w ≤ length t.shoens) t.work → z.added.items ≡ [] → z.last_goal ≡ d.last_goal → z.shifts ≡ e.shifts →
     KeepsOutlines n t.shoens u.shoens → (e.shifts ≡ false → IsCalm t u) → length u.shoens ≡ length t.shoens → u.work ≡ t.work → KeepsFrames u.shoens v.shoens → length e.ended.items ≤ length z.ended.items → (z.ended.items ≡ e.ended.items → Stays u v) → length v.shoens ≡ length u.shoens → v.work ≡ u.work →
     Leaves n l t v [] d z

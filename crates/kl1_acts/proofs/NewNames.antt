@@ -86,7 +86,7 @@ structure_none h known text a x s p e inside means new keeps f reads other =
     let t = at_structure f h x s p e inside in
     subst P (sym t.is ∙ means f) (structure_unsolved t.name t.arguments text)
 
--- an unbound variable becomes a name that is new, where the account may use it
+-- an unbound variable becomes a name that is new, if the account may use it
 pub variable_spells : (h : Held CellName) (known : List Known) (text : List ℕ) (a x : Cell CellName) (v : ℕ) → x ≡ Variable v → IsIn h x → IsWalked h x → ((f : Reading) → meaning f h x ≡ meaning f h a) → IsTrue (is_text text) → number_by known text ≡ None → keeps_names known text ≡ true →
     IsSpelling h known text a v
 variable_spells h known text a x v e inside walked means is_text new keeps =
@@ -141,7 +141,7 @@ becomes goal t x b v text s keeps is =
     ∙ ap (λ (r : Term). unified goal.shoen x (solve (equation r (atom text))) (with_text text s)) is
     ∙ ap (λ o. unified goal.shoen x o (with_text text s)) (variable_solved v text)
 
--- where a variable is bound to a number that is read as a text, it is replaced by this text
+-- if a variable is bound to a number that is read as a text, it is replaced by this text
 bound_state : (f : Reading) (s : State) (h : Held CellName) (w : Made) (v : ℕ) (n : CellName) (text : List ℕ) → f n ≡ text → IsMadeIn h w → replace_in_state v (atom text) (worked f s h w) ≡ worked f s (with_binding h v (Atom n)) w
 bound_state f s h w v n text is i =
     let k = with_binding h v (Atom n) in
@@ -231,7 +231,7 @@ spelled_keeps (move.Opens s) h known text v by = absurd by
 spelled_keeps move.Goes h known text v by = absurd by
 spelled_keeps move.GivesWay h known text v by = absurd by
 
--- where there is room for one name there is room for what is drafted
+-- if there is room for one name there is room for what is drafted
 pub room_for : (room : ℕ) (name : Option (List ℕ)) → 0 < room → HasRoomFor room name
 room_for room None lt = tt
 room_for room (Some text) lt = lt

@@ -66,7 +66,7 @@ named_one ks more name t row c k is new texts numbers small fits at =
           small = small;
         }
 
--- no name is published where none is drafted
+-- no name is published if none is drafted
 pub published_without : (ks : List Known) (d : Draft) (h : Held CellName) → d.name ≡ None → HasName d.spelled d.name → AreSmall ks → IsPublished ks ks d h h
 published_without ks d h is has small = record {
   number = record { number = 0 };

@@ -38,13 +38,13 @@ bound_grows h v x = record {
   bindings = take_at h.bindings (_ ∷ []) (length h.bindings) refl;
 }
 
--- the cells of shoens are of a store where a variable is bound more
+-- the cells of shoens are of a store if a variable is bound more
 pub shoens_bound : (h k l : Held CellName) (v : ℕ) (x : Cell CellName) (ss : List (Shoen CellName)) → k ≡ h → l ≡ with_binding k v x → AreShoensIn h ss → AreShoensIn l ss
 shoens_bound h k l v x ss same is inside =
     let P : Held CellName → Type 0 = λ y. AreShoensIn y ss in
     subst P (sym is) (shoens_grown k (with_binding k v x) (bound_grows k v x) ss (subst P (sym same) inside))
 
--- the shoen of a number was charged, a text is used that is new, and what comes after effects has come
+-- shoen `n` was charged, a text is used that is new, and what comes after effects has come
 pub drafts_spelled : (h k : Held CellName) (t u z : Tree CellName) (d x : Draft) (n v : ℕ) (text : List ℕ) (known : List Known) (goals : List (Goal CellName)) → u ≡ record t { work = n ∷ t.work } → d.name ≡ None → number_by known text ≡ None →
     ((ms : List Numbered) (names : List (List ℕ)) → Drafts ms (λ f. settle_charged_late v n) h k goals names u z (record d { name = Some text }) x) →
     (ms : List Numbered) → Drafts ms (λ f s. settle_charged_late v n (with_text text (charge n s))) h k goals (texts_of known) t z d x
@@ -59,7 +59,7 @@ drafts_spelled h k t u z d x n v text known goals is none new settled ms i =
     (turns_then ms (λ f. charge n) (λ f. with_text text) h h h w a b charging naming)
     (settled ms names naming.inside)
 
--- no goal comes, a reduction is charged, and goals may step as before where no shoen has ended or been exhausted
+-- no goal comes, a reduction is charged, and goals may step as before if no shoen has ended or been exhausted
 pub leaves_spelled : (l : Held CellName) (t u z : Tree CellName) (d y : Draft) (n : ℕ) (reached : List ℕ) →
     AreNumbered 0 t.shoens → AreLower t.shoens → AllByRecursion (λ w. w ≤ length t.shoens) t.work → n ≤ length t.shoens → is_enabled_at t.shoens t.work n ≡ true → u ≡ record t { work = n ∷ t.work } →
     d.ended.items ≡ [] → d.added.items ≡ [] → y.added.items ≡ d.added.items → y.last_goal ≡ d.last_goal → length z.shoens ≡ length u.shoens → z.work ≡ u.work → KeepsFrames u.shoens z.shoens →

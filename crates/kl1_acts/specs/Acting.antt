@@ -26,8 +26,8 @@ use Rattle.kl1_effects.specs.Moving.{ReadsMove}
 use Rattle.kl1_effects.specs.Drafts.{Drafts}
 use Rattle.kl1_effects.specs.Works.{Knows}
 
--- a goal of an account with these goals and names, which is this cell and has been removed, has made this move by the clause of some
--- number, where this text stands for a name: its shoen was charged before, and reports of exhaustion and terminations have come after
+-- a goal of an account with these goals and names, which is this cell and has been removed, has made this move by some
+-- clause, if this text stands for a name: its shoen was charged before, and reports of exhaustion and terminations have come after
 abbrev pub Acts : Predicate CellName → Move CellName → List (Place CellName) → List ℕ → Goal CellName → Qualified CellName → List (Goal CellName) → List Known → Held CellName → Held CellName → Tree CellName → Tree CellName → Draft → Draft → Type 0
 Acts p made places text goal x goals known old new t u before after =
     (ms : List Numbered) (modules : List Module) (clause : ℕ) (m : Reading → model.Move) → ReadsMove made ms old known text →

@@ -39,7 +39,7 @@ use Rattle.kl1_effects.specs.Naming.{AreSmall}
 use Rattle.kl1_effects.specs.Calling.{spare, keeps_names}
 use Rattle.kl1_effects.specs.Late.{settle_charged_late}
 
--- where a variable becomes a name, it was bound last, to a spare number
+-- if a variable becomes a name, it was bound last, to a spare number
 abbrev pub IsSpelledIn : Option Spelled → Held CellName → Type 0
 IsSpelledIn None h = Unit {0}
 IsSpelledIn (Some s) h = HasJustBound s.before.sizes s.variable h
@@ -49,12 +49,12 @@ pub record HasSpared (v : ℕ) (h : Held CellName) : Type 0 where
   pub before : Held CellName
   pub bound : h ≡ with_binding before v (Atom spare)
 
--- where a variable becomes a name, the spare number stands for it
+-- if a variable becomes a name, the spare number stands for it
 abbrev pub IsSparedIn : Option Spelled → Held CellName → Type 0
 IsSparedIn None h = Unit {0}
 IsSparedIn (Some s) h = HasSpared s.variable h
 
--- the cells of a store where a variable becomes a name: it is bound to the number that the name got
+-- the cells of a store if a variable becomes a name: it is bound to the number that the name got
 abbrev pub Respells : Option Spelled → CellName → Held CellName → Held CellName → Type 0
 Respells None k h last = last ≡ h
 Respells (Some s) k h last = Rebinds s.before.sizes s.variable (Atom k) h last
@@ -106,7 +106,7 @@ SpellsNone move.GivesWay h known text = Unit {0}
 abbrev pub with_text : List ℕ → State → State
 with_text text s = record s { names = with_name s.names text }
 
--- a goal of the shoen of a number has made a text, which is new to an account with these goals and names, a name: the shoen was charged,
+-- a goal of shoen `n` has made a text, which is new to an account with these goals and names, a name: the shoen was charged,
 -- the text is used, what comes after effects has come, and then the variable was bound to the spare number
 pub record Spells (n : ℕ) (text : List ℕ) (v : ℕ) (goals : List (Goal CellName)) (known : List Known) (old new : Held CellName) (t u : Tree CellName) (before after : Draft) : Type 0 where
   pub held : Held CellName
@@ -125,14 +125,14 @@ abbrev pub ReadsNew : Reading → CellName → Option (List ℕ) → Type 0
 ReadsNew f k None = Unit {0}
 ReadsNew f k (Some text) = f k ≡ text
 
--- an account has these names where it had those before and a name was drafted, which got this number
+-- an account has these names if it had those before and a name was drafted, which got this number
 pub record IsNamed (known more : List Known) (name : Option (List ℕ)) (k : CellName) : Type 0 where
   pub texts : texts_of more ≡ names_with (texts_of known) name
   pub fits : (f : Reading) → Fits more f → Fits known f
   pub reads : (f : Reading) → Fits more f → ReadsNew f k name
   pub small : AreSmall more
 
--- the same, whatever the number is
+-- an account has names as in `IsNamed`, whatever the number is
 pub record IsNamedBy (known more : List Known) (name : Option (List ℕ)) (k : CellName) : Type 0 where
   pub texts : texts_of more ≡ names_with (texts_of known) name
   pub fits : (f : Reading) → Fits more f → Fits known f
@@ -144,13 +144,13 @@ pub record IsPublished (known more : List Known) (d : Draft) (h last : Held Cell
   pub named : IsNamed known more d.name number
   pub respells : Respells d.spelled number h last
 
--- the same, whatever the number is: the spare number also
+-- a drafted name got a number as in `IsPublished`, whatever the number is: the spare number also
 pub record IsPublishedBy (known more : List Known) (d : Draft) (h last : Held CellName) : Type 0 where
   pub number : CellName
   pub named : IsNamedBy known more d.name number
   pub respells : Respells d.spelled number h last
 
--- a variable becomes a name only where a name is drafted
+-- a variable becomes a name only if a name is drafted
 abbrev pub HasName : Option Spelled → Option (List ℕ) → Type 0
 HasName s name = name ≡ None → s ≡ None
 
@@ -159,13 +159,13 @@ abbrev pub HasRoomFor : ℕ → Option (List ℕ) → Type 0
 HasRoomFor room None = Unit {0}
 HasRoomFor room (Some text) = 0 < room
 
--- a reading reads a number by which an account knows a text as this text; where the account knows it by none and may use it, it reads
+-- a reading reads a number by which an account knows a text as this text; if the account knows it by none and may use it, it reads
 -- the number that it gets as the text, and no other cell as it
 abbrev pub ReadsText : Reading → Held CellName → List Known → List ℕ → Cell CellName → CellName → Option ℕ → Type 0
 ReadsText f h known text a k None = keeps_names known text ≡ true → (f k ≡ text) × (meaning f h a ≡ atom text → ⊥)
 ReadsText f h known text a k (Some n) = f (record { number = n }) ≡ text
 
--- where a move uses a text as a name, each reading that knows these modules does, where the name gets this number
+-- if a move uses a text as a name, each reading that knows these modules does, if the name gets this number
 abbrev pub ReadsAll : Move CellName → List Numbered → Held CellName → List Known → List ℕ → CellName → Type 0
 ReadsAll (move.Commits place) ms h known text k = Unit {0}
 ReadsAll (move.Raises b) ms h known text k = Unit {0}
@@ -175,8 +175,8 @@ ReadsAll (move.Opens s) ms h known text k = Unit {0}
 ReadsAll move.Goes ms h known text k = Unit {0}
 ReadsAll move.GivesWay ms h known text k = Unit {0}
 
--- a goal of an account with these goals and names, which is this cell and has been removed, has made this move by the clause of some
--- number, where this text stands for a name: its shoen was charged before, and reports of exhaustion and terminations have come after;
+-- a goal of an account with these goals and names, which is this cell and has been removed, has made this move by some
+-- clause, if this text stands for a name: its shoen was charged before, and reports of exhaustion and terminations have come after;
 -- a name that is new gets a number when all is done
 abbrev pub Does : Predicate CellName → Move CellName → List (Place CellName) → List ℕ → Goal CellName → Qualified CellName → List (Goal CellName) → List Known → Held CellName → Held CellName → Tree CellName → Tree CellName → Draft → Draft → Type 0
 Does p made places text goal x goals known old new t u before after =

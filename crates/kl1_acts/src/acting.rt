@@ -27,7 +27,7 @@ use kl1_text::CellName;
 use std::alloc::AllocError;
 
 /// A goal that a draft removes, which is this cell, makes a move: its shoen is charged, the move is done, and after that
-/// shoens report that they are exhausted, and terminate. So many goals are there without it. Where memory is refused, the store and the
+/// shoens report that they are exhausted, and terminate. `alive` counts the goals without it. If memory is refused, the store and the
 /// tree may have changed, and the draft is of no use.
 pub fn act(
     store: &mut Store<CellName>,
@@ -66,7 +66,9 @@ pub fn act(
     ensures grown { Grown store.old.held store.new.held }
     ensures hooks { store.new.hooks ≡ store.old.hooks }
 {
+    // Only for the proof: what the store holds is formed.
     let _formed = store.mark();
+    // Only for the proof: the shoens are numbered in order.
     let _numbered = shoens.len();
     shoens.charge(goal.shoen)?;
     do_move(
@@ -75,7 +77,7 @@ pub fn act(
     settle_charged(store, goals, shoens, draft, walk, goal.shoen)
 }
 
-/// The monitor of a shoen reads this, and after that shoens terminate; nobody is charged. Where memory is refused, the store and the tree
+/// The monitor of a shoen reads this, and after that shoens terminate; nobody is charged. If memory is refused, the store and the tree
 /// may have changed, and the draft is of no use.
 pub fn read(
     store: &mut Store<CellName>,
@@ -99,7 +101,9 @@ pub fn read(
     ensures grown { Grown store.old.held store.new.held }
     ensures hooks { store.new.hooks ≡ store.old.hooks }
 {
+    // Only for the proof: what the store holds is formed.
     let _formed = store.mark();
+    // Only for the proof: the shoens are numbered in order.
     let _numbered = shoens.len();
     hear(store, shoens, draft, number, control)?;
     settle(store, goals, shoens, draft, walk, number)

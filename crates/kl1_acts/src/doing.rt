@@ -1,4 +1,4 @@
-// What goals do in one step, where a name that is new may come of it.
+// What goals do in one step, if a name that is new may come of it.
 
 ghost use Rattle.std.specs.Prelude.{◌≡◌, ◌+◌, ◌<◌, ◌≤◌, ◌^◌, [], ℕ, List, length, not, true, ◌++◌, Some, None, count_by, OnOk};
 ghost use Rattle.kl1_model.specs.Limits.{monitor_priority};
@@ -25,7 +25,7 @@ use kl1_store::{Qualified, Store};
 use kl1_text::CellName;
 use std::alloc::AllocError;
 
-/// Makes room for a name where a move may use a text as one.
+/// Makes room for a name if a move may use a text as one.
 fn make_room(names: &mut AccountNames, made: Move<CellName>) -> Result<(), AllocError>
     ensures names { names.new.names ≡ names.old.names }
     ensures room { OnOk result ((text : List ℕ) → HasRoomFor names.new.room (name_for made names.new.names text)) }
@@ -42,8 +42,8 @@ fn make_room(names: &mut AccountNames, made: Move<CellName>) -> Result<(), Alloc
 }
 
 /// A goal that a draft removes, which is this cell, makes a move: its shoen is charged, the move is done, and after that shoens report
-/// that they are exhausted, and terminate. So many goals are there without it. Where a variable becomes a name that is new to the
-/// account, this is the last binding, and a spare number stands for the name. Where memory is refused, the store and the tree may have
+/// that they are exhausted, and terminate. `alive` counts the goals without it. If a variable becomes a name that is new to the
+/// account, this is the last binding, and a spare number stands for the name. If memory is refused, the store and the tree may have
 /// changed, and the draft is of no use.
 pub fn do_or_spell(
     store: &mut Store<CellName>,
@@ -87,6 +87,7 @@ pub fn do_or_spell(
     ensures grown { Grown store.old.held store.new.held }
     ensures hooks { store.new.hooks ≡ store.old.hooks }
 {
+    // Only for the proof: what the store holds is formed.
     let _formed = store.mark();
     let Some(variable) = name_to_spell(store, names, made, trial) else {
         make_room(names, made)?;

@@ -22,7 +22,7 @@ use kl1_store::{Cell, Store};
 use kl1_text::{AtomText, CellName};
 use std::alloc::AllocError;
 
-/// The variable that a term is, where it can become a name that is new to the account, and the account may use it.
+/// The variable that a term is, if it can become a name that is new to the account, and the account may use it.
 fn variable_to_spell(
     store: &Store<CellName>,
     names: &AccountNames,
@@ -38,6 +38,7 @@ fn variable_to_spell(
     if names.number_of(&text).is_some() || !has_room(names, &text) {
         return None;
     }
+    // Only for the proof: what the store holds is formed.
     let _formed = store.mark();
     match store.walk(target) {
         Cell::Variable(variable) => Some(variable),
@@ -47,7 +48,7 @@ fn variable_to_spell(
     }
 }
 
-/// The variable that a move makes a name which is new to the account, where it does that.
+/// The variable that a move makes a name which is new to the account, if it does that.
 pub fn name_to_spell(
     store: &Store<CellName>,
     names: &AccountNames,
@@ -64,9 +65,9 @@ pub fn name_to_spell(
     variable_to_spell(store, names, target, trial.text.as_slice())
 }
 
-/// A goal of the shoen of a number makes a text, which is new to the account, a name, and a variable becomes it: the shoen is charged,
+/// A goal of shoen `number` makes a text, which is new to the account, a name, and a variable becomes it: the shoen is charged,
 /// the draft has the name, and after that shoens report that they are exhausted, and terminate. A spare number stands for the name in
-/// cells, by the last binding. Where memory is refused, the store and the tree may have changed, and the draft is of no use.
+/// cells, by the last binding. If memory is refused, the store and the tree may have changed, and the draft is of no use.
 pub fn spell(
     store: &mut Store<CellName>,
     goals: &GoalTable<CellName>,
@@ -100,7 +101,9 @@ pub fn spell(
     ensures grown { Grown store.old.held store.new.held }
     ensures hooks { store.new.hooks ≡ store.old.hooks }
 {
+    // Only for the proof: what the store holds is formed.
     let _formed = store.mark();
+    // Only for the proof: the shoens are numbered in order.
     let _numbered = shoens.len();
     shoens.charge(number)?;
     draft.name = Some(text);
@@ -113,7 +116,7 @@ pub fn spell(
     Ok(())
 }
 
-/// The same of a text in bytes.
+/// Does what `spell` does, with a text in bytes.
 pub(crate) fn spell_text(
     store: &mut Store<CellName>,
     goals: &GoalTable<CellName>,
@@ -154,7 +157,7 @@ pub(crate) fn spell_text(
     )
 }
 
-/// Publishes the name that a draft has, where it has one, and puts its number where a spare one stands for it. The row has room for one
+/// Publishes the name that a draft has, if it has one, and puts its number where a spare one stands for it. The row has room for one
 /// number. It takes no memory.
 pub fn spell_anew<A: AtomSource>(
     names: &mut A,

@@ -20,7 +20,7 @@ find_from last (suc i) n (s ∷ ss) a e =
     let m = a.0 in
     ap (λ c. if c then Some s else find (has_number n) ss) (ne_eqb s.number n (λ x. omega arith)) ∙ find_from (suc last) i n ss a.1 (omega arith)
 
--- the shoen of a number stands at its place
+-- shoen `n` stands at its place
 pub found_at : {N : Type 0} (n : ℕ) (ss : List (Shoen N)) → AreNumbered 0 ss → 0 < n → find (has_number n) ss ≡ slice_get ss (n - 1)
 found_at n ss a lt = find_from 0 (n - 1) n ss a (omega arith)
 
@@ -44,7 +44,7 @@ number_at {N = N} n ss (Some s) a lt e =
     let Q : Option (Shoen N) → Type 0 = λ z. IfSome z (λ (x : Shoen N). x.number ≡ n) in
     subst Q (sym e) (subst P (omega arith) (number_from 0 (n - 1) ss a))
 
--- the same of the shoen that is got from a place
+-- the shoen that is got from a place has that place's number
 pub numbered_get : {N : Type 0} (last i : ℕ) (ss : List (Shoen N)) (x : Shoen N) → AreNumbered last ss → i < length ss → x ≡ get_or ss i x → x.number ≡ suc (last + i)
 numbered_get last i [] x a lt e = absurd (omega (arith, lt))
 numbered_get last zero (s ∷ ss) x a lt e = ap (λ (y : Shoen _). y.number) e ∙ a.0 ∙ omega arith

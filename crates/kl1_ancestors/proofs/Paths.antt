@@ -51,7 +51,7 @@ parent_at {N = N} n p ss a e lt = e ∙ ap (λ (o : Option (Shoen N)). unwrap_or
 pub parent_below : {N : Type 0} (n p : ℕ) (ss : List (Shoen N)) → AreNumbered 0 ss → AreLower ss → p ≡ unwrap_or (option_map (λ (h : Shoen N). h.parent) (find (has_number n) ss)) 0 → 0 < n → p < n
 parent_below n p ss a lower e lt = let at = parent_at n p ss a e lt in let l = lower (n - 1) in omega (arith, at, l, lt)
 
--- the same for the parent that is found
+-- the path of a shoen goes on with the parent that is found
 pub path_parent : {N : Type 0} (n p : ℕ) (ss : List (Shoen N)) → AreNumbered 0 ss → AreLower ss → p ≡ unwrap_or (option_map (λ (h : Shoen N). h.parent) (find (has_number n) ss)) 0 → 0 < n → path_in ss n ≡ n ∷ path_in ss p
 path_parent n p ss a lower e lt =
     let is : n ≡ suc (n - 1) = omega (arith, lt) in

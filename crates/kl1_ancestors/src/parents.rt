@@ -13,7 +13,7 @@ fn at<N: NameValue>(shoens: &[Shoen<N>], place: usize) -> Option<&Shoen<N>>
     shoens.get(place)
 }
 
-/// The shoen of a number, lent.
+/// Shoen `number`, lent.
 pub fn lent<N: NameValue>(shoens: &[Shoen<N>], number: u64) -> Option<&Shoen<N>>
     requires { AreNumbered 0 shoens.now }
     ensures value { option_copied result ≡ find (has_number number) shoens.now }
@@ -25,7 +25,7 @@ pub fn lent<N: NameValue>(shoens: &[Shoen<N>], number: u64) -> Option<&Shoen<N>>
     at(shoens, (number - 1) as usize)
 }
 
-/// The number of the parent of the shoen of a number; 0 where the console started it, and where no shoen has the number.
+/// The number of the parent of shoen `number`; 0 if the console started it, and if no shoen has the number.
 pub fn parent_of<N: NameValue>(shoens: &[Shoen<N>], number: u64) -> u64
     requires numbered { AreNumbered 0 shoens.now }
     requires lower { AreLower shoens.now }

@@ -27,7 +27,7 @@ pub fn raise<N: NameValue>(shoens: &[Shoen<N>], charges: &mut TrackedList<u64>, 
     }
 }
 
-/// Charges one reduction more to the shoen of a number alone, and gives the number of its parent.
+/// Charges one reduction more to shoen `number` alone, and gives the number of its parent.
 fn raise_at<N: NameValue>(shoens: &[Shoen<N>], charges: &mut TrackedList<u64>, number: u64) -> u64
     requires numbered { AreNumbered 0 shoens.now }
     requires lower { AreLower shoens.now }

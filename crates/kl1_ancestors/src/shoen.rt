@@ -27,7 +27,7 @@ impl<N: Copy> Clone for Origin<N> {
 
 impl<N: Copy> Copy for Origin<N> {}
 
-/// A shoen: its number in the account, from 1, and that of its parent, 0 where the console started it; the reductions that it may
+/// A shoen: its number in the account, from 1, and that of its parent, 0 if the console started it; the reductions that it may
 /// be charged; its priorities from low to high; what is left of its control stream, and the tail of its report stream; whether it
 /// lives, whether it is stopped, and whether its report stream is broken; and its origin at the console.
 pub struct Shoen<N> {

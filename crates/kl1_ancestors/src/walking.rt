@@ -8,7 +8,7 @@ use crate::tracked::item_at;
 use kl1_text::NameValue;
 use std::alloc::AllocError;
 
-/// Whether each shoen is that of a number, or below it, in order of number.
+/// Whether each shoen is shoen `number`, or below it, in order of number.
 pub fn tell_below<N: NameValue>(
     shoens: &[Shoen<N>],
     number: u64,
@@ -26,14 +26,14 @@ pub fn tell_below<N: NameValue>(
     Ok(())
 }
 
-/// Whether a shoen is that of a number or below it, where its parent is or isn't.
+/// Whether a shoen is shoen `number` or below it, by whether its parent is.
 fn is_below<N: NameValue>(shoen: &Shoen<N>, number: u64, is_parent_below: bool) -> bool
     ensures { result ≡ (number == shoen.now.number || is_parent_below) }
 {
     number == shoen.number || is_parent_below
 }
 
-/// The flag of the shoen of a number, where they stand in order of number; that which is given for the number 0.
+/// The flag of shoen `number`, of flags in order of number; `of_none` for the number 0.
 pub fn flag_of(flags: &[bool], number: u64, of_none: bool) -> bool
     requires { number ≤ length flags.now }
     ensures none { number ≡ 0 → result ≡ of_none }

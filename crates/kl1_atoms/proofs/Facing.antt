@@ -28,7 +28,7 @@ same_by_index (x ∷ xs) (y ∷ ys) e same =
     let tail : xs ≡ ys = same_by_index xs ys (omega arith) (λ k h. same (suc k) (omega arith)) in
     cc
 
--- so many words are so many
+-- `words_of n` gives `n` words
 pub length-words_of : (n : ℕ) (bs : List ℕ) → length (words_of n bs) ≡ n
 unfolding words_of
 length-words_of zero bs = refl
@@ -148,7 +148,7 @@ none_knows : (n : ℕ) (ws : List ℕ) (t : List ℕ) (i d : ℕ) (fs : List Fac
 none_knows n ws t i d [] sound free way others all = tt
 none_knows n ws t i d (g ∷ gs) sound free way others all = (not_known n ws g t i d sound (all 0 g refl) free way others, none_knows n ws t i d gs sound free way others (λ k h e. all (suc k) h e))
 
--- what a look tells of the accounts behind a seat's own
+-- what a look tells of the accounts after a seat's own
 pub meets : (n : ℕ) (ws : List ℕ) (f : Face) (fs : List Face) (i : ℕ) → Sound n ws → Fits n ws f → ((k : ℕ) (g : Face) → get_elem? fs k ≡ some g → Fits n ws g) → Meets f fs i (slice_index ws i)
 meets n ws f fs i sound fits all = record {
   agree = each_agrees n ws f fs sound fits all;

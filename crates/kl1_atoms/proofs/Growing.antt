@@ -73,7 +73,7 @@ module _ (views : List View) (id : ℕ) (f f' : Face) (fs : List Face) (at : get
     | inr there ↦ inr ((mine.0, there.1, mine.2), (λ same z. there.0 same))
   ]
 
-  -- a step that changes the first face keeps the rule, where it keeps the words sound and what other accounts know
+  -- a step that changes the first face keeps the rule, if it keeps the words sound and what other accounts know
   pub step_kept : (n : ℕ) (ws vs : List ℕ) → Sound n vs → ((j k : ℕ) (g : Face) → Mine views j k g → Fits n ws g)
       → ((i j k l : ℕ) (g h : Face) → Mine views i k g → Mine views j l h → g.account ≡ h.account → (i ≡ j) × (k ≡ l))
       → f'.account ≡ f.account → ((g : Face) → g.account ≢ f.account → Fits n ws g → Fits n vs g) → Fits n vs f'

@@ -9,7 +9,7 @@ use Rattle.kl1_atoms.specs.declared.face.View.{View}
 use Rattle.kl1_atoms.specs.Rule.{Mine, Kept}
 use Rattle.kl1_atoms.specs.Seats.{joint_view, spent_view}
 
--- an element of two lists, one behind the other
+-- an element of two lists, one after the other
 in_either : (fs gs : List Face) (k : ℕ) (f : Face) → get_elem? (fs ++ gs) k ≡ some f → ((k < length fs) × (get_elem? fs k ≡ some f)) ⊎ ((l : ℕ) × (k ≡ length fs + l) × (get_elem? gs l ≡ some f))
 in_either [] gs k f e = inr (k, (let z : k ≡ 0 + k = omega arith in z), e)
 in_either (x ∷ fs) gs zero f e = inl (omega arith, e)

@@ -81,7 +81,7 @@ walks_seen f g i found t d drafted walks sees =
       drafted_room = walks.drafted_room;
     } in more)
 
--- a text that isn't known, where there is room, finds an entry
+-- a text that isn't known, if there is room, finds an entry
 pub entry_left : (f : Face) (t : List ℕ) (d : ℕ) (drafted : Bool) → Walks f t d drafted → number_in f.knows t ≡ None → f.used < most_names
 entry_left f t d drafted walks new = elim walks.room [
   | inl known ↦ absurd (false≢true (rw (walks.other, new) at known))
@@ -290,7 +290,7 @@ pub first_left : (fs : List Face) (f : Face) → IsTrue (has_first (with_first f
 first_left [] f = refl
 first_left (x ∷ fs) f = refl
 
--- the text of a number that is known and isn't a built-in name's place
+-- the text of `n`, which is known and isn't a built-in name's place
 pub known_text : (ks : List Known) (n : ℕ) → IsSome (text_by ks n) → built_in_at n ≡ None → (t : List ℕ) × (text_in ks n ≡ Some t)
 known_text ks n known none = elim (option_cases (text_in ks n)) [
   | inl absent ↦ absurd (false≢true (rw (none, absent) at known))

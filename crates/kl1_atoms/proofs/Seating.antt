@@ -54,7 +54,7 @@ kept_first n ws size zeros = record {
       (o.0 ∙ sym p.0, omega arith);
 }
 
--- an element of a list with one more behind it
+-- an element of a list with one more after it
 at_end : {A : Type 0} (l : List A) (a b : A) (j : ℕ) → get_elem? (l ++ a ∷ []) j ≡ some b → (get_elem? l j ≡ some b) ⊎ ((j ≡ length l) × (a ≡ b))
 at_end [] a b zero e = inr (refl, some-injective a b e)
 at_end [] a b (suc j) e = absurd (some-ne-none b (sym e))

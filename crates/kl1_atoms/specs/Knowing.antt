@@ -19,7 +19,7 @@ use Rattle.kl1_atoms.specs.Names.{number_in, text_in, number_by, text_by, Adds, 
 some_is : (m n : ℕ) → Some m ≡ Some n → m ≡ n
 some_is m n e = cc
 
--- the same of texts
+-- what an option holds, of texts
 text_is : (t u : List ℕ) → Some t ≡ Some u → t ≡ u
 text_is t u e = cc
 
@@ -223,7 +223,7 @@ number_in-kept (x ∷ ks) k t n e = elim (cases_Bool (bytes_eq x.text t)) [
   | inr other ↦ rw other (number_in-kept ks k t n (rw other at e))
 ]
 
--- the same of texts that may be built-in names
+-- a number that was known by a text still is with one pair more, also if the text is a built-in name
 number_by-kept : (ks : List Known) (k : Known) (t : List ℕ) (n : ℕ) → number_by ks t ≡ Some n → number_by (ks ++ k ∷ []) t ≡ Some n
 number_by-kept ks k t n e = elim (option_cases (built_in_of t)) [
   | inl none ↦ rw none (number_in-kept ks k t n (rw none at e))

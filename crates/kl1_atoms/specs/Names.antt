@@ -12,7 +12,7 @@ abbrev pub number_in : List Known → List ℕ → Option ℕ
 number_in [] t = None
 number_in (k ∷ ks) t = if bytes_eq k.text t then Some k.number.number else number_in ks t
 
--- the text of a number among names
+-- the text of name `n` among names
 abbrev pub text_in : List Known → ℕ → Option (List ℕ)
 text_in [] n = None
 text_in (k ∷ ks) n = if k.number.number == n then Some k.text else text_in ks n
@@ -39,7 +39,7 @@ text_by ks n = text_or (text_in ks n) (built_in_at n)
 abbrev pub HasRoom : List Known → List ℕ → Type 0
 HasRoom ks t = IsSome (number_by ks t) ⊎ (length ks < most_names)
 
--- what is known after a look-up: what was, and behind it the pair asked for where it is new
+-- what is known after a look-up: what was, and after it the pair asked for if it is new
 abbrev pub added : List Known → List ℕ → AtomNo → List Known
 added ks t a = if is_some (number_by ks t) then ks else ks ++ record { text = t; number = a } ∷ []
 
@@ -68,7 +68,7 @@ text_or_mark mark n None = mark ∷ n ∷ []
 abbrev pub reading : ℕ → List Known → AtomNo → List ℕ
 reading mark ks a = text_or_mark mark a.number (text_by ks a.number)
 
--- each pair that is known stands in the table, where `at n t` says that the number n has the text t there
+-- each pair that is known stands in the table; `at n t` says that the number n has the text t there
 pub record StandIn (at : ℕ → List ℕ → Type 0) (ks : List Known) : Type 0 where
   pub by_text : (t : List ℕ) (n : ℕ) → number_in ks t ≡ Some n → at n t
   pub by_number : (t : List ℕ) (n : ℕ) → text_in ks n ≡ Some t → at n t

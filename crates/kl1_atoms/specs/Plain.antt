@@ -4,11 +4,11 @@ use Rattle.kl1_model.specs.Limits.{first_number, most_names}
 use Rattle.kl1_atoms.specs.declared.known.Known.{Known}
 use Rattle.kl1_atoms.specs.Names.{StandIn, IsTable}
 
--- a number has a text where the place that many above 64 holds it
+-- a number has a text if the place that many above 64 holds it
 abbrev pub StandsAt : List (Option (List ℕ)) → ℕ → List ℕ → Type 0
 StandsAt places n t = (first_number ≤ n) × (slice_get places (n - first_number) ≡ Some (Some t))
 
--- a seat of the table: its account's row is there, the row's places behind the used ones are free, and what it knows is there
+-- a seat of the table: its account's row is there, the row's places after the used ones are free, and what it knows is there
 pub record IsSeatOf (places : List (Option (List ℕ))) (account used : ℕ) (known : List Known) : Type 0 where
   pub table : IsTable (StandsAt places)
   pub row : most_names * account + most_names ≤ length places

@@ -32,7 +32,7 @@ abbrev pub with_first : List Face → Face → List Face
 with_first [] g = g ∷ []
 with_first (f ∷ fs) g = g ∷ fs
 
--- the faces behind the first
+-- the faces after the first
 abbrev pub others_of : List Face → List Face
 others_of [] = []
 others_of (f ∷ fs) = fs
@@ -80,7 +80,7 @@ abbrev pub NoneKnows : List Face → List ℕ → Type 0
 NoneKnows [] t = Unit {0}
 NoneKnows (g ∷ gs) t = (number_in g.knows t ≡ None) × NoneKnows gs t
 
--- what a look at a bucket tells of the accounts behind a seat's own: they agree with it, and a free bucket at the end of a text's
+-- what a look at a bucket tells of the accounts after a seat's own: they agree with it, and a free bucket at the end of a text's
 -- way shows that none of them knows the text
 pub record Meets (f : Face) (fs : List Face) (i found : ℕ) : Type 0 where
   pub agree : EachAgrees f.knows fs
@@ -133,7 +133,7 @@ pub record Steps {S : Type 0} (before after : Me S View) (P : Face → Face → 
   pub faces : after.0.faces ≡ with_first before.0.faces (own after.0)
   pub tells : P (own before.0) (own after.0)
 
--- a step that looks at a bucket: what its answer tells of the seat's own face, and of those behind it
+-- a step that looks at a bucket: what its answer tells of the seat's own face, and of those after it
 abbrev pub LooksAt : {S : Type 0} → Step S → Me S View → ℕ → Me S View → Type 0
 LooksAt s before found after = Steps before after (λ f g. Looks f g s.word found) × Meets (own before.0) (others_of before.0.faces) s.word found
 

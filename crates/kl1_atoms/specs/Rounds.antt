@@ -23,7 +23,7 @@ pub record Starts (f : Face) (t : List ℕ) : Type 0 where
   pub draft : f.draft ≡ []
   pub names : Listed f.accounts f.knows
 
--- a face in a look-up of a text, which has passed so many buckets
+-- a face in a look-up of a text, which has passed `d` buckets
 pub record Walks (f : Face) (t : List ℕ) (d : ℕ) (drafted : Bool) : Type 0 where
   pub name : IsTrue (is_text t)
   pub other : built_in_of t ≡ None
@@ -33,7 +33,7 @@ pub record Walks (f : Face) (t : List ℕ) (d : ℕ) (drafted : Bool) : Type 0 w
   pub draft : f.draft ≡ draft_of drafted t
   pub drafted_room : drafted ≡ true → f.used < most_names
 
--- the same account
+-- two faces are of one account
 pub record SameAccount (f g : Face) : Type 0 where
   pub accounts : g.accounts ≡ f.accounts
   pub account : g.account ≡ f.account

@@ -1,4 +1,4 @@
--- The rule of the shared table of names, for n accounts: n times `buckets_each` buckets, and n times `most_names` entries of eight words behind them.
+-- The rule of the shared table of names, for n accounts: n times `buckets_each` buckets, and n times `most_names` entries of eight words after them.
 use Rattle.std.specs.Prelude.{◌≡◌, ◌≢◌, ℕ, suc, ◌+◌, ◌*◌, ◌<◌, ◌≤◌, List, [], ◌∷◌, length, Some, None, IsTrue, slice_index}
 use mathlib.Core.Option.{some}
 use lib.ListN.{get_elem?}
@@ -35,7 +35,7 @@ pub record Stands (n : ℕ) (ws : List ℕ) (i e : ℕ) (t : List ℕ) : Type 0 
   pub name : IsTrue (is_text t)
   pub own : built_in_of t ≡ None
 
--- a number has a text where some bucket points to that entry, which has the text
+-- a number has a text if some bucket points to that entry, which has the text
 abbrev pub At : ℕ → List ℕ → ℕ → List ℕ → Type 0
 At n ws number t = (e : ℕ) × (i : ℕ) × (number ≡ first_number + e) × Stands n ws i e t
 

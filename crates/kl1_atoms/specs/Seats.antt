@@ -9,7 +9,7 @@ use Rattle.kl1_atoms.specs.Plays.{own}
 abbrev pub new_face : ℕ → ℕ → Face
 new_face n account = record { accounts = n; account = account; used = 0; knows = []; heard = []; draft = [] }
 
--- the faces of so many accounts, from one on
+-- the faces of `count` accounts, from `account` on
 abbrev pub faces_from : ℕ → ℕ → ℕ → List Face
 faces_from n account zero = []
 faces_from n account (suc count) = new_face n account ∷ faces_from n (account + 1) count

@@ -30,13 +30,13 @@ pub record HasSeen (f : Face) (t : List ℕ) (i e : ℕ) : Type 0 where
 abbrev pub HasNoted : Face → List ℕ → Type 0
 HasNoted f t = (h : Heard) × In f.heard h × (h.text ≡ t)
 
--- what a glance at a bucket tells, so many behind the first of the text's way
+-- what a glance at a bucket tells, `d` after the first of the text's way
 abbrev pub Glances : Face → Face → List ℕ → ℕ → ℕ → Glance → Type 0
 Glances f g t i d Free = Saw f g × Passed g t d × (d ≤ most_names * f.accounts) × (number_in f.knows t ≡ None)
 Glances f g t i d (Holds e) = Saw f g × HasSeen g t i e × (e < most_names * f.accounts)
 Glances f g t i d Other = Saw f g × Passed g t (d + 1) × (d ≤ most_names * f.accounts)
 
--- what it tells of the accounts behind a seat's own
+-- what it tells of the accounts after a seat's own
 abbrev pub GlancesOthers : Face → List Face → List ℕ → Glance → Type 0
 GlancesOthers f fs t Free = EachAgrees f.knows fs × NoneKnows fs t
 GlancesOthers f fs t (Holds e) = EachAgrees f.knows fs
@@ -47,7 +47,7 @@ abbrev pub Finds : Face → Face → List ℕ → Sought → Type 0
 Finds f g t (Found i e) = Saw f g × HasSeen g t i e × (i < buckets_each * f.accounts) × (e < most_names * f.accounts)
 Finds f g t (FreeAt d) = Saw f g × Passed g t d × (d ≤ most_names * f.accounts) × (number_in f.knows t ≡ None)
 
--- what that tells of the accounts behind a seat's own
+-- what that tells of the accounts after a seat's own
 abbrev pub FindsOthers : Face → List Face → List ℕ → Sought → Type 0
 FindsOthers f fs t (Found i e) = EachAgrees f.knows fs
 FindsOthers f fs t (FreeAt d) = EachAgrees f.knows fs × NoneKnows fs t

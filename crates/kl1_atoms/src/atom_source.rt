@@ -33,7 +33,7 @@ pub trait AtomSource {
         ensures adds { Adds (knows seat.old) text result (knows seat.new) }
         ensures publishes { PublishesWithin (published seat.old) (published seat.new) (knows seat.old) (knows seat.new) };
 
-    /// The name of a number that the seat knows.
+    /// The name with number `number`, which the seat knows.
     fn text_of(&mut self, seat: &mut Self::Seat, number: AtomNo) -> AtomText
         requires of { is_of self.old seat.old }
         requires known { IsSome (text_by (knows seat.old) number.number) }

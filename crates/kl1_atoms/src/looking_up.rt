@@ -115,7 +115,7 @@ impl AtomTable {
         words
     }
 
-    /// The name of a number that the seat knows.
+    /// The name with number `number`, which the seat knows.
     pub fn text_of(&self, seat: &mut AtomSeat, number: AtomNo) -> AtomText
         requires of { IsSharedSeat self.now.table.shared.table_id seat.old.badge.table_id self.now.accounts (face_in seat.old.badge.views) seat.old.account }
         requires known { IsSome (text_by (face_in seat.old.badge.views).knows number.number) }

@@ -31,7 +31,7 @@ impl PlainSeat {
         })
     }
 
-    /// Puts a pair behind what is known.
+    /// Puts a pair after what is known.
     pub(crate) fn learn(&mut self, one: Known)
         requires { vec_len self.old.known < most_names }
         ensures known { self.new.known.items ≡ self.old.known.items ++ one ∷ [] }

@@ -37,7 +37,7 @@ impl PlainTable {
         Ok((PlainTable { places }, seats))
     }
 
-    /// The place of a text that isn't built in, which is put into the account's row where it has none yet.
+    /// The place of a text that isn't built in, which is put into the account's row if it has none yet.
     fn place_of(&mut self, seat: &mut PlainSeat, text: AtomText) -> usize
         requires of { IsSeatOf self.old.places.items seat.old.account seat.old.used seat.old.known.items }
         requires room { vec_len seat.old.known < most_names }
@@ -102,7 +102,7 @@ impl AtomSource for PlainTable {
     }
 }
 
-/// So many free places.
+/// `count` free places.
 fn free_places(alloc: Global, count: usize) -> Result<Vec<Option<AtomText>>, AllocError>
     ensures count { IfOk result (λ places. length places.items ≡ count) }
     ensures free { IfOk result (λ places. (i : ℕ) → i < count → slice_get places.items i ≡ Some None) }
@@ -137,7 +137,7 @@ fn number_in(known: &[Known], text: &AtomText) -> Option<AtomNo>
     None
 }
 
-/// The text of a number among names that are known.
+/// The text of name `number` among names that are known.
 fn text_in(known: &[Known], number: AtomNo) -> Option<AtomText>
     ensures { result ≡ text_in known.now number.number }
 {

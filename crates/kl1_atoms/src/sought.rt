@@ -16,6 +16,6 @@ pub enum Glance {
 pub enum Sought {
     /// At this bucket, which points to this entry, which has the text.
     Found(u64, u64),
-    /// At a free bucket, so many behind the first.
+    /// At a free bucket, this many after the first.
     Free(u64),
 }

@@ -47,7 +47,7 @@ impl AtomTable {
         true
     }
 
-    /// Knows the text of a bucket that was seen, where it is the one that is looked up.
+    /// Knows the text of a bucket that was seen, if it is the one that is looked up.
     fn compare(
         &self,
         seat: &mut Seat<(), View>,
@@ -77,7 +77,7 @@ impl AtomTable {
         }
     }
 
-    /// Drafts a text in the seat's own entry, where that isn't done.
+    /// Drafts a text in the seat's own entry, if that isn't done.
     fn have_draft(&self, seat: &mut Seat<(), View>, entry: u64, text: &AtomText, drafted: bool)
         requires of { seat.old.table_id ≡ self.now.table.shared.table_id }
         requires first { IsTrue (has_first seat.old.me.0.faces) }
@@ -98,7 +98,7 @@ impl AtomTable {
         }
     }
 
-    /// Looks at one bucket of a text's way, and publishes the text where the bucket is free.
+    /// Looks at one bucket of a text's way, and publishes the text if the bucket is free.
     fn round(
         &self,
         seat: &mut Seat<(), View>,
@@ -140,7 +140,7 @@ impl AtomTable {
         mixed(&text.words()) / HALF * (BUCKETS_EACH * self.accounts) / HALF
     }
 
-    /// The bucket that many behind the first, round the end.
+    /// The bucket that is `passed` after `start`, round the end.
     pub(crate) fn bucket_at(&self, start: u64, passed: u64) -> u64
         requires start { start < buckets_each * self.now.accounts }
         requires passed { passed < buckets_each * self.now.accounts }
@@ -194,7 +194,7 @@ impl AtomTable {
         unreachable!()
     }
 
-    /// Looks a text up: along its way, and where that ends without it, among the built-in names. Any other text is published.
+    /// Looks a text up: along its way, and if that ends without it, among the built-in names. Any other text is published.
     pub(crate) fn look_up(
         &self,
         seat: &mut Seat<(), View>,

@@ -55,7 +55,7 @@ ends_by mid after n most (outcome.Refused r) less h z =
     (less, subst (λ (k : Kept). (next : Going) (m : ℕ) → run_choice next k m (first k.state) ≡ stopped_by k m (refusal_of r)) (sym h.1) h.0)
 ends_by mid after n most outcome.Memory less h z = less
 
--- what an outcome leaves is left where it came at once
+-- what an outcome leaves is left if it came at once
 pub left_as : {H : Type 0} (o : Outcome) (old mid new : H) → IsLeft o mid new → mid ≡ old → IsLeft o old new
 left_as outcome.Done old mid new h same = tt
 left_as outcome.Quiet old mid new h same = h ∙ same

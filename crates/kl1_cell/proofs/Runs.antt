@@ -46,12 +46,12 @@ none_for {H} performed.Memory n o old new h left = subst (λ q. IsLeft q old new
 pub vain_zero : (s : Kept) (most : ℕ) → most ≡ 0 → act_in_vain s (run most) ≡ record { kept = s; reply = model.ran 0 }
 vain_zero s most e = subst (λ m. act_in_vain s (run m) ≡ record { kept = s; reply = model.ran 0 }) (sym e) refl
 
--- a run in vain where no goal can step
+-- a run in vain if no goal can step
 pub vain_quiet : (s : Kept) (most : ℕ) → None ≡ first s.state → act_in_vain s (run most) ≡ record { kept = s; reply = model.ran 0 }
 vain_quiet s zero e = refl
 vain_quiet s (suc k) e = ap (run_in_vain s) (sym e)
 
--- a run in vain where one can
+-- a run in vain if one can
 pub vain_refused : (s : Kept) (most : ℕ) (c : Chosen) → 0 < most → Some c ≡ first s.state → act_in_vain s (run most) ≡ record { kept = s; reply = model.refused model.journal_full }
 vain_refused s zero c some e = absurd (let z : 0 < 0 = some in omega (arith, z))
 vain_refused s (suc k) c some e = ap (run_in_vain s) (sym e)
@@ -74,7 +74,7 @@ vain_by false s after e reply is entry other = vain_other s e (record { kept = a
 pub vain_event : (s after : Kept) (e : model.Event) (reply : model.Reply) → (is_entry e ≡ true → (reply ≡ model.refused model.journal_full) × (after ≡ s)) → (is_entry e ≡ false → done s e ≡ record { kept = after; reply = reply }) → act_in_vain s (does e) ≡ record { kept = after; reply = reply }
 vain_event s after e reply entry other = vain_by (is_entry e) s after e reply refl entry other
 
--- the same by the event of a command
+-- a command in vain or not, by its event
 pub vain_command : (s after : Kept) (c : Command) (e : model.Event) (reply : model.Reply) → c ≡ does e → act_in_vain s (does e) ≡ record { kept = after; reply = reply } → act_in_vain s c ≡ record { kept = after; reply = reply }
 vain_command s after c e reply is h = subst (λ (x : Command). act_in_vain s x ≡ record { kept = after; reply = reply }) (sym is) h
 

@@ -180,7 +180,7 @@ pub done_counts : (p : Past) (b : Book) (k : Kept) (e : model.Event) (d : Done) 
 done_counts p b k e d is h room =
     subst (λ (x : Done). IsCounted (past_by p k.journal x.reply) x.kept.journal (with_more b (events_by x.reply) (steps_by x.reply)) × (is_run x.reply ≡ false)) is (step_counts p k.journal b k.state e h room)
 
--- the past after a reply, where a book tells what it has and a journal
+-- the past after a reply, if a book tells what it has and a journal
 pub ended_is : (p : Past) (j : Journal) (b : Book) (r : model.Reply) → IsCounted p j b → ended p b r ≡ past_by p j r
 ended_is p j b (model.loaded name) h = refl
 ended_is p j b (model.opened n) h = refl

@@ -13,7 +13,7 @@ use Rattle.kl1_tally.specs.Seats.{Book}
 abbrev pub room_in : Book → ℕ
 room_in b = 2 ^ 63 - b.events
 
--- whether an event is an entry of a journal where it is accepted
+-- whether an event is an entry of a journal if it is accepted
 abbrev pub is_entry : model.Event → Bool
 is_entry (model.load text) = true
 is_entry (model.start allowance low high t) = true
@@ -33,14 +33,14 @@ abbrev pub run_in_vain : Kept → Option Chosen → Done
 run_in_vain s None = said s (model.ran 0)
 run_in_vain s (Some c) = said s (model.refused model.journal_full)
 
--- what a command does where the book has no room: what would be an entry is refused, as by a full journal
+-- what a command does if the book has no room: what would be an entry is refused, as by a full journal
 abbrev pub act_in_vain : Kept → Command → Done
 act_in_vain s (does e) = if is_entry e then said s (model.refused model.journal_full) else done s e
 act_in_vain s (run zero) = said s (model.ran 0)
 act_in_vain s (run (suc k)) = run_in_vain s (first s.state)
 act_in_vain s (shows from count) = act s (shows from count)
 
--- a command was done where the book has no room, with its reply; or memory was refused
+-- a command was done if the book has no room, with its reply; or memory was refused
 abbrev pub PerformsInVain : Kept → Command → Performed → Kept → Type 0
 PerformsInVain s c (performed.Whole reply) after = act_in_vain s c ≡ record { kept = after; reply = reply_of reply }
 PerformsInVain s c (performed.Short n) after = ⊥

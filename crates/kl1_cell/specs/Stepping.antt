@@ -14,7 +14,7 @@ use Rattle.kl1_cell.specs.declared.outcome.Outcome.TheVariants as outcome
 abbrev pub AreFirstSteps : Kept → ℕ → Kept → Type 0
 AreFirstSteps s n after = run_from n 0 s ≡ record { kept = after; reply = model.ran n }
 
--- whether an account goes on after a turn of n steps, where a whole turn has `most`: all of these were done, and a goal can step
+-- whether an account goes on after a turn of n steps, if a whole turn has `most`: all of these were done, and a goal can step
 abbrev pub goes_on : ℕ → ℕ → Kept → Bool
 goes_on most n after = nat_le most n && not (quiet after.state)
 
@@ -34,14 +34,14 @@ step_of _ = 0
 abbrev pub RunsOn : Kept → ℕ → Kept → Type 0
 RunsOn s n after = (m : ℕ) → run_from (n + m) 0 s ≡ run_from m n after
 
--- how steps ended, where at most `most` were asked for
+-- how steps ended, if at most `most` were asked for
 abbrev pub IsEnd : ℕ → ℕ → Outcome → Kept → Type 0
 IsEnd most n outcome.Done after = n ≡ most
 IsEnd most n outcome.Quiet after = (n < most) × (first after.state ≡ None)
 IsEnd most n (outcome.Refused r) after = (n < most) × ((next : Going) (k : ℕ) → run_choice next after k (first after.state) ≡ stopped_by after k (refusal_of r))
 IsEnd most n outcome.Memory after = n < most
 
--- where memory was refused, or no step was tried, nothing changes
+-- if memory was refused, or no step was tried, nothing changes
 abbrev pub IsLeft : {H : Type 0} → Outcome → H → H → Type 0
 IsLeft outcome.Done before after = ⊤
 IsLeft outcome.Quiet before after = after ≡ before
@@ -52,7 +52,7 @@ IsLeft outcome.Memory before after = after ≡ before
 abbrev pub memory : Outcome
 memory = outcome.Memory
 
--- an answer that nothing was done is one to no step, where memory was refused for the first
+-- an answer that nothing was done is one to no step, if memory was refused for the first
 abbrev pub IsNoneFor : Performed → ℕ → Outcome → Type 0
 IsNoneFor (performed.Whole reply) n last = ⊤
 IsNoneFor (performed.Short k) n last = ⊤

@@ -54,7 +54,7 @@ pub(crate) fn count_step<K: Naming>(
     }
 }
 
-/// The past after a reply, where the book tells what it has and what the journal adds.
+/// The past after a reply, if the book tells what it has and what the journal adds.
 pub(crate) fn past_after(past: Past, book: &BookSeat, reply: &Reply) -> Past
     ensures { result ≡ ended past book.now (reply_of reply.now) }
 {

@@ -30,7 +30,7 @@ use std::sync::Wait;
 impl<'t, R: Wait, K: CellNaming> Cell<'t, R, K> {
     /// What a command does to the account and its journal, and the answer. The book and `share` get what the answer tells: one event
     /// for a load, a start and a message, one event and one step for a reduction, and both for each step of a run. An accepted reset
-    /// adds the journal that it ends to what was counted before. A run ends where the book tells `MOST_EVENTS`, as if the next step
+    /// adds the journal that it ends to what was counted before. A run ends when the book tells `MOST_EVENTS`, as if the next step
     /// was refused by a full journal, and so is what would be an entry.
     pub fn perform(
         &mut self,
@@ -115,7 +115,7 @@ impl<'t, R: Wait, K: CellNaming> Cell<'t, R, K> {
         performed(self.steps(tally, names, codes, share, most.min(room)))
     }
 
-    /// The reply to a run where the book can tell no more events.
+    /// The reply to a run if the book can tell no more events.
     fn run_in_vain(&self, most: u64) -> Reply
         ensures reply { (f : Reading) → Fits self.now.held.0.names f → act_in_vain (kept_of f self.now.held) (run_command most) ≡ record { kept = kept_of f self.now.held; reply = reply_of result } }
         ensures none { (events_by (reply_of result) ≡ 0) × (steps_by (reply_of result) ≡ 0) }

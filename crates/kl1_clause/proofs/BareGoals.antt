@@ -75,7 +75,7 @@ colon_stays : (names : List (List ℕ)) → with_text names (codes ":") ≡ name
 unfolding with_text
 colon_stays names = refl
 
--- the names of a goal are that of its module and those behind it
+-- the names of a goal are that of its module and those after it
 pub names_apart : (names : List (List ℕ)) (t : Term) → with_texts names (names_of t) ≡ with_texts (with_texts names (name_list (module_of t))) (names_of (bare t))
 names_apart names t = elim (parts t) [
   | alone e same ↦

@@ -1,4 +1,4 @@
--- Goals of a body put one behind another.
+-- Goals of a body put one after another.
 use Rattle.std.proofs.Common.{◌≡◌, ℕ, List, [], ◌∷◌, ◌++◌, length, map, take, get_or, ◌+◌, ◌<◌, refl, sym, ap, subst, ◌∙◌, append_assoc, append-nil}
 use Rattle.std.specs.Prelude.{Option, Some, None}
 use Rattle.std.proofs.lemmas.List.{map-append, take_more}
@@ -43,7 +43,7 @@ modules_of_stay names new ms texts g a =
     let s = modules_stay names new ms g a.placed in
     record { placed = s.0; texts_are = s.1 ∙ a.texts_are }
 
--- one more behind them
+-- one more after them
 placed_push : (count : ℕ) (ms : List (Option Name)) (m : Option Name) → ArePlaced count ms → IsModulePlaced count m → ArePlaced count (ms ++ m ∷ [])
 placed_push count [] m p q = (q, tt)
 placed_push count (n ∷ ms) m p q = (p.0, placed_push count ms m p.1 q)
@@ -59,11 +59,11 @@ one_module names new text name e p t = record { names_are = e ∙ sym (with_more
 grown_with : (names new texts : List (List ℕ)) → new ≡ with_texts names texts → Grows names new
 grown_with names new texts e = let g = all_grow names texts in record { added = g.added; is = e ∙ g.is }
 
--- a row behind which a module was named
+-- a row after which a module was named
 pub row_named : (a b : List (List ℕ)) (row : List Instruction) (text : Option (List ℕ)) (m : Option Name) → AreNamed (length a) row → PutsModule a b text m → AreNamed (length b) row
 row_named a b row text m named put = (row_stays a b row (grown_with a b (name_list text) put.names_are) named).0
 
--- a goal's module and its nodes behind it
+-- a goal's module and its nodes after it
 pub goal_put : (a b c : List (List ℕ)) (row after : List Instruction) (modules later : List (Option Name)) (m : Option Name) (goal : Term) →
     ArePlaced (length a) modules → AreNamed (length a) row → later ≡ modules ++ m ∷ [] → PutsModule a b (module_of goal) m → Puts b c row after (nodes_of (bare goal)) → PutsGoal a c row after modules later goal
 goal_put a b c row after modules later m goal placed named e put rows =

@@ -21,7 +21,7 @@ use Rattle.kl1_clause.proofs.BareGoals.{whole_each_again}
 use Rattle.kl1_clause.proofs.Bodies.{modules_of_stay}
 use Rattle.kl1_clause.proofs.Growth.{Grows, joined, one_grows, all_grow, with_more, with_both, name_stays, row_stays}
 
--- names with others behind them, where it is known which
+-- names with others after them, if it is known which
 pub grown_by : (names new texts : List (List ℕ)) → new ≡ with_texts names texts → Grows names new
 grown_by names new texts e = let g = all_grow names texts in record { added = g.added; is = e ∙ g.is }
 
@@ -67,7 +67,7 @@ clauses_stay names new [] (d ∷ ds) g a = absurd a
 clauses_stay names new (c ∷ cs) [] g a = absurd a
 clauses_stay names new (c ∷ cs) (d ∷ ds) g a = (clause_stays names new c d g a.0, clauses_stay names new cs ds g a.1)
 
--- one more clause behind the others
+-- one more clause after the others
 pub clauses_push : (names : List (List ℕ)) (cs : List CompiledClause) (ds : List Clause) (c : CompiledClause) (d : Clause) → AreCompiled names cs ds → IsCompiled names c d → AreCompiled names (cs ++ c ∷ []) (ds ++ d ∷ [])
 clauses_push names [] [] c d a i = (i, tt)
 clauses_push names [] (e ∷ ds) c d a i = absurd a

@@ -11,7 +11,7 @@ use Rattle.kl1_clause.specs.Clauses.{IsCompiled, AreCompiled}
 use Rattle.kl1_clause.proofs.Growth.{with_none, with_both}
 use Rattle.kl1_clause.proofs.ClauseFacts.{grown_by, clauses_stay, clauses_push}
 
--- the names of clauses with one more behind
+-- the names of clauses with one more after
 names_push : (cs : List Clause) (c : Clause) → names_of_clauses (cs ++ c ∷ []) ≡ names_of_clauses cs ++ names_of_clause c
 names_push [] c = append-nil (names_of_clause c)
 names_push (d ∷ cs) c = ap (λ (x : List (List ℕ)). names_of_clause d ++ x) (names_push cs c) ∙ sym (append_assoc (names_of_clause d) (names_of_clauses cs) (names_of_clause c))

@@ -13,7 +13,7 @@ use Rattle.kl1_clause.specs.declared.instruction.Instruction.TheVariants.{Variab
 use Rattle.kl1_clause.specs.NameList.{with_text, with_texts}
 use Rattle.kl1_clause.specs.Instructions.{text_in, IsPlaced, code_in, IsNamed, AreNamed, names_of_nodes}
 
--- names with others behind them
+-- names with others after them
 pub record Grows (old new : List (List ℕ)) : Type 0 where
   pub added : List (List ℕ)
   pub is : new ≡ old ++ added
@@ -53,12 +53,12 @@ all_grow names (a ∷ as') =
     let rest = all_grow (with_text names a) as' in
     joined (one_grows names a) (record { added = rest.added; is = with_more names a as' ∙ rest.is })
 
--- a name keeps its text where names come behind
+-- a name keeps its text if names come after
 pub name_stays : (names added : List (List ℕ)) (n : Name) → IsPlaced (length names) n → IsPlaced (length (names ++ added)) n × (text_in (names ++ added) n ≡ text_in names n)
 name_stays names added (Language b) p = (tt, refl)
 name_stays names added (Place k) p = (omega (arith, length-append names added), get_or-append names added [] k p)
 
--- an instruction keeps its meaning where names come behind
+-- an instruction keeps its meaning if names come after
 pub instruction_stays : (names added : List (List ℕ)) (i : Instruction) → IsNamed (length names) i → IsNamed (length (names ++ added)) i × (code_in (names ++ added) i ≡ code_in names i)
 instruction_stays names added (Variable n) p = (tt, refl)
 instruction_stays names added (Integer i) p = (tt, refl)
@@ -84,7 +84,7 @@ row_stays names new row g p =
     let P : List (List ℕ) → Type 0 = λ x. AreNamed (length x) row × (map (code_in x) row ≡ map (code_in names) row) in
     subst P (sym g.is) (row_stays_behind names g.added row p)
 
--- one instruction behind a row
+-- one instruction after a row
 pub named_push : (count : ℕ) (row : List Instruction) (i : Instruction) → AreNamed count row → IsNamed count i → AreNamed count (row ++ i ∷ [])
 named_push count [] i p q = (q, tt)
 named_push count (j ∷ row) i p q = (p.0, named_push count row i p.1 q)

@@ -25,7 +25,7 @@ found : (p q : BuiltIn → Bool) → ((b : BuiltIn) → p b ≡ q b) → (b : Bu
 found p q same b [] h = cc
 found p q same b (c ∷ cs) h = found_first p q c b cs (p c) (q c) refl refl (same c) (found p q same b cs) h
 
--- where nothing is found, nothing passes the test
+-- if nothing is found, nothing passes the test
 missed_first : (p q : BuiltIn → Bool) (c : BuiltIn) (cs : List BuiltIn) (v w : Bool) → v ≡ w → (find p cs ≡ None → list_any q cs ≡ false) → cond v (Some c) (find p cs) ≡ None → (w || list_any q cs) ≡ false
 missed_first p q c cs true true same later h = cc
 missed_first p q c cs false false same later h = later h

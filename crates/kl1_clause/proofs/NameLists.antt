@@ -71,7 +71,7 @@ is_new names text h none old = record {
 pub no_names_in : (names : List (List ℕ)) → names ≡ [] → IsNameList names
 no_names_in names e = subst IsNameList (sym e) no_names
 
--- names with a text put in where it is new
+-- names with a text put in if it is new
 abbrev pub put_in : List (List ℕ) → List ℕ → List (List ℕ)
 put_in names text = if list_any (bytes_eq text) names then names else names ++ text ∷ []
 

@@ -12,7 +12,7 @@ use Rattle.kl1_clause.specs.BareGoals.{bare}
 use Rattle.kl1_clause.specs.NodeCounts.{structures_counted, arguments_counted, behind_terms, nodes_counted}
 use Rattle.kl1_clause.proofs.BareGoals.{alone, inside, parts, three}
 
--- the structures of a term, and of terms, with those of other nodes behind them
+-- the structures of a term, and of terms, with those of other nodes after them
 mutual
   counted_of : (t : Term) (cs : List NodeCode) → structures_counted (nodes_of t ++ cs) ≡ structures_of t + structures_counted cs
   counted_of (variable n) cs = refl
@@ -52,7 +52,7 @@ one_more n k = omega arith
 none_plus : (k : ℕ) → 0 + k ≡ k
 none_plus k = omega arith
 
--- what is behind the nodes of one term more, and of so many
+-- what is after the nodes of one term more, and of more terms
 mutual
   behind_one : (t : Term) (k : ℕ) (cs : List NodeCode) → behind_terms (suc k) (nodes_of t ++ cs) ≡ behind_terms k cs
   behind_one (variable n) k cs = ap (λ j. behind_terms j cs) (plus_none k)
@@ -89,7 +89,7 @@ counted (structure f (more m (more b (more c us)))) =
 pub goal_counted : (nodes : List Node) (t : Term) → map code_of nodes ≡ nodes_of t → nodes_counted (map code_of nodes) ≡ goal_nodes t
 goal_counted nodes t e = ap nodes_counted e ∙ counted t
 
--- nothing is behind more terms than there are nodes
+-- nothing is after more terms than there are nodes
 behind_wide : (k : ℕ) (cs : List NodeCode) → length cs ≤ k → behind_terms k cs ≡ []
 behind_wide zero [] h = refl
 behind_wide zero (c ∷ cs) h = absurd (omega (arith, h))
@@ -101,7 +101,7 @@ lt_or_le k zero = inr (omega arith)
 lt_or_le zero (suc n) = inl (omega arith)
 lt_or_le (suc k) (suc n) = elim (lt_or_le k n) [ inl h ↦ inl (omega arith) | inr h ↦ inr (omega arith) ]
 
--- how many terms are left, where it is within a number or not
+-- how many terms are left, whether that is within a number or not
 step_by : (n now : ℕ) (cs : List NodeCode) → length cs < 2 ^ 64 → now ≡ min n (2 ^ 64 - 1) → (n < 2 ^ 64) ⊎ (2 ^ 64 ≤ n) → behind_terms now cs ≡ behind_terms n cs
 step_by n now cs few is (inl low) = let h : now ≡ n = omega (arith, is, low) in ap (λ j. behind_terms j cs) h
 step_by n now cs few is (inr high) = behind_wide now cs (omega (arith, is, high, few)) ∙ sym (behind_wide n cs (omega (arith, high, few)))
@@ -120,7 +120,7 @@ behind_step zero now c cs some few is = absurd (omega (arith, some))
 behind_step (suc k) now c cs some few is =
     step_by (k + count_of_code c) now cs few (is ∙ ap (λ n. min (n + count_of_code c) (2 ^ 64 - 1)) (minus_one k)) (lt_or_le (k + count_of_code c) (2 ^ 64))
 
--- the nodes behind the first, as a slice has them
+-- the nodes after the first, as a slice has them
 rest_is : (n : Node) (ns : List Node) → take (length (n ∷ ns) - 1) (drop 1 (n ∷ ns)) ≡ ns
 rest_is n ns = take_all (length (n ∷ ns) - 1) ns (omega arith)
 

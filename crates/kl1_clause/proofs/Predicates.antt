@@ -16,7 +16,7 @@ whole_at names [] i d h w = absurd (omega arith)
 whole_at names (c ∷ cs) zero d h w = w.0
 whole_at names (c ∷ cs) (suc i) d h w = whole_at names cs i d (omega arith) w.1
 
--- the first so many of compiled clauses
+-- the first `i` of compiled clauses
 pub whole_front : (names : List (List ℕ)) (cs : List CompiledClause) (i : ℕ) → AreWhole names cs → AreWhole names (take i cs)
 whole_front names cs zero w = tt
 whole_front names [] (suc i) w = tt

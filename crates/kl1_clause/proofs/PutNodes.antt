@@ -1,4 +1,4 @@
--- Nodes put behind rows.
+-- Nodes put after rows.
 use Rattle.std.proofs.Common.{◌≡◌, ℕ, List, [], ◌∷◌, ◌++◌, length, map, take, get_or, ◌+◌, ◌<◌, sym, ap, subst, ◌∙◌, append-nil, append_assoc}
 use Rattle.std.proofs.lemmas.List.{map-append, take_more}
 use Rattle.kl1_model.specs.Term.{Term, Terms, terms_of}
@@ -40,7 +40,7 @@ pub put_next : (a b c : List (List ℕ)) (r s t : List Instruction) (nodes : Lis
 put_next a b c r s t nodes i node within is p q =
     subst (Puts a c r t) (sym (ap (map code_of) (take_more nodes i node within ∙ ap (λ (x : Node). take i nodes ++ x ∷ []) (sym is)) ∙ map-append code_of (take i nodes) (node ∷ []))) (put_both p q)
 
--- the nodes of terms with one more behind
+-- the nodes of terms with one more after
 pub nodes_push : (ts : List Term) (t : Term) → nodes_of_all (terms_of (ts ++ t ∷ [])) ≡ nodes_of_all (terms_of ts) ++ nodes_of t
 nodes_push [] t = append-nil (nodes_of t)
 nodes_push (u ∷ us) t = ap (λ (x : List NodeCode). nodes_of u ++ x) (nodes_push us t) ∙ sym (append_assoc (nodes_of u) (nodes_of_all (terms_of us)) (nodes_of t))

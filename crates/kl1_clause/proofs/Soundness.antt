@@ -27,7 +27,7 @@ module_is source parts c b =
     let clauses : map (clause_in c.names) c.clauses.items ≡ map clause_of_parts parts.clauses.items = clauses_mean c.names c.clauses.items (map clause_of_parts parts.clauses.items) b.clauses_are in
     λ x. record { name = b.name_is x; source = b.source_is x; clauses = clauses x }
 
--- and it is what its source means, where the parts are
+-- and it is what its source means, if the parts are
 pub is_sound : (source : List ℕ) (parts : Source) (c : Inside) → IsMeant source (module_of_parts source parts) → IsBuilt source parts c → IsSound c
 is_sound source parts c meant b =
     let module_eq : module_in c ≡ module_of_parts source parts = module_is source parts c b in

@@ -12,7 +12,7 @@ use Rattle.kl1_model.specs.Module.{Clause, Module, Reading, good, bad, Item, ite
 use Rattle.kl1_clause.specs.Predicates.{from_first, front_run}
 use Rattle.kl1_clause.specs.Modules.{IsMeant}
 
--- the clauses that pass a test stand together: none before them, and none behind
+-- the clauses that pass a test stand together: none before them, and none after
 pub record IsTogether (test : Clause → Bool) (cs : List Clause) : Type 0 where
   pub before : List Clause
   pub run : List Clause
@@ -63,7 +63,7 @@ first_run test (c ∷ cs) ds h none =
     let parts = and_parts (test c) (list_all test cs) h in
     ap (λ (b : Bool). front_run test (if b then c ∷ (cs ++ ds) else from_first test (cs ++ ds))) parts.0 ∙ run_all test (c ∷ cs) ds h none
 
--- so the first of them with those behind it, up to the first other, are all that pass
+-- so the first of them with those after it, up to the first other, are all that pass
 pub run_is_all : (test : Clause → Bool) (cs : List Clause) → IsTogether test cs → front_run test (from_first test cs) ≡ filter test cs
 run_is_all test cs t =
     let left : front_run test (from_first test cs) ≡ t.run = ap (λ (ds : List Clause). front_run test (from_first test ds)) t.are ∙ (ap (front_run test) (first_none test t.before (t.run ++ t.behind) t.none_before) ∙ first_run test t.run t.behind t.all t.none_behind) in
@@ -83,7 +83,7 @@ add_other test cs c t h = record {
   none_behind = list_any-append test t.behind (c ∷ []) ∙ (ap (λ (b : Bool). b || (test c || false)) t.none_behind ∙ ap (λ (b : Bool). b || false) h);
 }
 
--- one more that passes, where none did
+-- one more that passes, if none did
 add_first : (test : Clause → Bool) (cs : List Clause) (c : Clause) → list_any test cs ≡ false → test c ≡ true → IsTogether test (cs ++ c ∷ [])
 add_first test cs c none h = record {
   before = cs;
@@ -95,7 +95,7 @@ add_first test cs c none h = record {
   none_behind = refl;
 }
 
--- one more that passes, where the last did
+-- one more that passes, if the last did
 last_behind : (before : List Clause) (b : Clause) (bs : List Clause) → last_of (before ++ b ∷ bs) ≡ last_of (b ∷ bs)
 last_behind [] b bs = refl
 last_behind (a ∷ []) b bs = refl

@@ -15,7 +15,7 @@ pub record PutsModule (names new : List (List ℕ)) (text : Option (List ℕ)) (
   pub placed : IsModulePlaced (length new) name
   pub text_is : module_text new name ≡ text
 
--- a goal was put behind a row without the name of its module, that name behind others, and all its names to the others
+-- a goal was put after a row without the name of its module, that name after others, and all its names to the others
 pub record PutsGoal (names new : List (List ℕ)) (row after : List Instruction) (modules later : List (Option Name)) (goal : Term) : Type 0 where
   pub names_are : new ≡ with_texts names (names_of goal)
   pub named : AreNamed (length new) after

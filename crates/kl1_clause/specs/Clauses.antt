@@ -12,7 +12,7 @@ use Rattle.kl1_clause.specs.Instructions.{text_in, IsPlaced, IsRowOf, code_in}
 use Rattle.kl1_clause.specs.BareGoals.{module_of, bare, whole_each, module_text, AreModulesOf}
 use Rattle.kl1_clause.specs.Plain.{IsPlain}
 
--- the terms of a row, one behind another, where the names of the code are these
+-- the terms of a row, one after another, if the names of the code are these
 abbrev pub terms_in : List (List ℕ) → List Instruction → List Term
 terms_in names row = read_nodes (map (code_in names) row) []
 
@@ -26,11 +26,11 @@ goals_with [] priorities = []
 goals_with (t ∷ ts) [] = []
 goals_with (t ∷ ts) (p ∷ ps) = record { goal = t; priority = p } ∷ goals_with ts ps
 
--- the clause that a compiled clause means, where the names of the code are these
+-- the clause that a compiled clause means, if the names of the code are these
 abbrev pub clause_in : List (List ℕ) → CompiledClause → Clause
 clause_in names c = record { name = text_in names c.name; patterns = terms_of (terms_in names c.patterns.items); tests = terms_in names c.tests.items; section = c.section; body = goals_with (whole_each (map (module_text names) c.modules.items) (terms_in names c.goals.items)) c.priorities.items }
 
--- a compiled clause is this clause, whose tests have variables of its head alone, where the names of the code are these
+-- a compiled clause is this clause, whose tests have variables of its head alone, if the names of the code are these
 pub record IsCompiled (names : List (List ℕ)) (compiled : CompiledClause) (clause : Clause) : Type 0 where
   pub placed : IsPlaced (length names) compiled.name
   pub name : text_in names compiled.name ≡ clause.name

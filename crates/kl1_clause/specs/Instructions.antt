@@ -8,31 +8,31 @@ use Rattle.kl1_clause.specs.declared.name.Name.TheVariants.{Language, Place}
 use Rattle.kl1_clause.specs.declared.instruction.Instruction.{Instruction}
 use Rattle.kl1_clause.specs.declared.instruction.Instruction.TheVariants.{Variable, Integer, Atom, Structure}
 
--- the text of a name, where the names of the code are these
+-- the text of a name, if the names of the code are these
 abbrev pub text_in : List (List ℕ) → Name → List ℕ
 text_in names (Language b) = text_of b
 text_in names (Place k) = slice_index_or names k []
 
--- a name is one of the language or of so many
+-- a name is one of the language or one of the first `count`
 abbrev pub IsPlaced : ℕ → Name → Type 0
 IsPlaced count (Language b) = Unit {0}
 IsPlaced count (Place k) = k < count
 
--- an instruction as a node of a term, where the names of the code are these
+-- an instruction as a node of a term, if the names of the code are these
 abbrev pub code_in : List (List ℕ) → Instruction → NodeCode
 code_in names (Variable n) = inl (inl n)
 code_in names (Integer i) = inl (inr i)
 code_in names (Atom a) = inr (inl (text_in names a))
 code_in names (Structure f n) = inr (inr (text_in names f, n))
 
--- the name of an instruction is one of the language or of so many
+-- the name of an instruction is one of the language or one of the first `count`
 abbrev pub IsNamed : ℕ → Instruction → Type 0
 IsNamed count (Variable n) = Unit {0}
 IsNamed count (Integer i) = Unit {0}
 IsNamed count (Atom a) = IsPlaced count a
 IsNamed count (Structure f n) = IsPlaced count f
 
--- the names of instructions are of the language or of so many
+-- the names of instructions are of the language or of the first `count`
 abbrev pub AreNamed : ℕ → List Instruction → Type 0
 AreNamed count [] = Unit {0}
 AreNamed count (i ∷ is) = IsNamed count i × AreNamed count is

@@ -7,7 +7,7 @@ use Rattle.kl1_model.specs.State.{with_name, with_names}
 unfoldable pub is_of_language : List ℕ → Bool
 is_of_language text = is_built_in text
 
--- names so far, with one more where it is new and not of the language
+-- names so far, with one more if it is new and not of the language
 unfoldable pub with_text : List (List ℕ) → List ℕ → List (List ℕ)
 with_text names text = with_name names text
 

@@ -21,7 +21,7 @@ abbrev pub arguments_counted : List NodeCode → ℕ
 arguments_counted [] = 0
 arguments_counted (c ∷ cs) = structures_counted cs
 
--- the nodes behind those of so many terms
+-- the nodes after those of `k` terms
 abbrev pub behind_terms : ℕ → List NodeCode → List NodeCode
 behind_terms zero cs = cs
 behind_terms (suc k) [] = []

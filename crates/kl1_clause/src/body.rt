@@ -18,7 +18,7 @@ use kl1_term::{Node, Term};
 use kl1_text::AtomText;
 use std::alloc::{AllocError, Global};
 
-/// The goals of a body as one row, each without the name of its module where it names one by an atom; and that name for each.
+/// The goals of a body as one row, each without the name of its module if it names one by an atom; and that name for each.
 #[derive(Drop)]
 pub(crate) struct Body {
     pub goals: Vec<Instruction>,
@@ -84,7 +84,7 @@ fn bare_nodes(nodes: &[Node]) -> &[Node]
     nodes
 }
 
-/// The name of a module put to the others, where there is one.
+/// The name of a module put to the others, if there is one.
 fn placed_module(names: &mut Names, text: Option<AtomText>) -> Result<Option<Name>, AllocError>
     ensures { IfOk result (PutsModule names.old names.new text) }
 {
@@ -97,7 +97,7 @@ fn placed_module(names: &mut Names, text: Option<AtomText>) -> Result<Option<Nam
     }
 }
 
-/// Puts a goal behind the others of a body, with its names put to the others.
+/// Puts a goal after the others of a body, with its names put to the others.
 fn put_goal(
     names: &mut Names,
     row: &mut Vec<Instruction>,

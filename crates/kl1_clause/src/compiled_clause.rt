@@ -24,11 +24,11 @@ use kl1_term::highest_among;
 use std::alloc::{AllocError, Global};
 
 /// A clause as instructions: its predicate's name and number of arguments; the number of its section, from 0, between the
-/// `otherwise`s of its predicate; its patterns, its tests and the goals of its body, each a row of terms one behind another,
-/// where a goal that names its module by an atom stands without that name and the `:`; for each goal that name, and the
+/// `otherwise`s of its predicate; its patterns, its tests and the goals of its body, each a row of terms one after another,
+/// in which a goal that names its module by an atom stands without that name and the `:`; for each goal that name, and the
 /// priority that it names, if any; how many variables its head has, and how many others its body has; how many structures stand in
 /// the arguments of its goals; and whether it is plain:
-/// where it is, it has no tests but `true`, and its head repeats no variable.
+/// if it is, it has no tests but `true`, and its head repeats no variable.
 #[derive(Drop)]
 pub struct CompiledClause {
     pub name: Name,
@@ -92,7 +92,7 @@ fn priorities_of(alloc: Global, goals: &[GoalParts]) -> Result<Vec<Option<u64>>,
     Ok(priorities)
 }
 
-/// How many variables of goals are numbered behind those of the head, which are so many.
+/// How many variables of goals are numbered after those of the head, of which there are `head_variables`.
 fn fresh_among(goals: &[GoalParts], head_variables: u64) -> u64
     ensures { result ≡ highest_in (terms_of (goals_of (map goal_of_parts goals.now))) - head_variables }
 {

@@ -49,8 +49,8 @@ impl Names {
         self.texts.as_slice()
     }
 
-    /// A text as a name: one of the language, or its place, at the end where it is new. So many names that places would no more
-    /// fit 32 bits are refused as for want of memory.
+    /// A text as a name: one of the language, or its place, at the end if it is new. A name whose place would no more
+    /// fit 32 bits is refused as for want of memory.
     pub(crate) fn placed(&mut self, text: &AtomText) -> Result<Name, AllocError>
         ensures names { OnOk result (self.new ≡ with_text self.old text.now) }
         ensures placed { IfOk result (IsPlaced (length self.new)) }

@@ -88,7 +88,7 @@ fn structure_weight(node: &Node) -> u64
     }
 }
 
-/// How many terms of those behind it belong to a node.
+/// How many terms of those after it belong to a node.
 fn count_in(node: &Node) -> usize
     ensures { result ≡ count_in node.now }
 {
@@ -100,7 +100,7 @@ fn count_in(node: &Node) -> usize
     }
 }
 
-/// How many terms are left behind a node, where so many began with it; where they are more than a number holds, as many as it
+/// How many terms are left after a node, if `left` began with it; if they are more than a number holds, as many as it
 /// holds, which are more than there are nodes.
 fn left_behind(left: usize, node: &Node) -> usize
     requires { 0 < left }
@@ -109,7 +109,7 @@ fn left_behind(left: usize, node: &Node) -> usize
     (left - 1).saturating_add(count_in(node))
 }
 
-/// The nodes behind those of the first term.
+/// The nodes after those of the first term.
 fn behind_first(nodes: &[Node]) -> &[Node]
     ensures { map code_of result.now ≡ behind_terms 1 (map code_of nodes.now) }
 {

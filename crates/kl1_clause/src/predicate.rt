@@ -17,7 +17,7 @@ pub struct Predicate<'a, N> {
     pub clauses: &'a [CompiledClause],
 }
 
-/// The first clause of a predicate, with those behind it.
+/// The first clause of a predicate, with those after it.
 pub(crate) fn from_first<'a>(
     texts: &[AtomText],
     clauses: &'a [CompiledClause],
@@ -67,7 +67,7 @@ fn is_of(texts: &[AtomText], clause: &CompiledClause, name: &AtomText, count: us
     has_count(clause, count) && text_of(texts, clause.name).is(name)
 }
 
-/// Whether a clause has so many patterns.
+/// Whether a clause has `count` patterns.
 fn has_count(clause: &CompiledClause, count: usize) -> bool
     ensures { result ≡ (clause.now.count == count) }
 {

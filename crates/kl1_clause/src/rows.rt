@@ -14,7 +14,7 @@ use crate::names::Names;
 use kl1_term::{Node, Term};
 use std::alloc::{AllocError, Global};
 
-/// The instructions of terms, one term behind another, with their names put to the others.
+/// The instructions of terms, one term after another, with their names put to the others.
 pub(crate) fn row_of(
     alloc: Global,
     names: &mut Names,
@@ -30,7 +30,7 @@ pub(crate) fn row_of(
     Ok(row)
 }
 
-/// Puts the instructions of nodes behind the others.
+/// Puts the instructions of nodes after the others.
 pub(crate) fn put_nodes(
     names: &mut Names,
     row: &mut Vec<Instruction>,
@@ -45,7 +45,7 @@ pub(crate) fn put_nodes(
     Ok(())
 }
 
-/// Puts the instruction of a node behind the others.
+/// Puts the instruction of a node after the others.
 fn put_node(names: &mut Names, row: &mut Vec<Instruction>, node: &Node) -> Result<(), AllocError>
     requires { AreNamed (length names.old) row.old.items }
     ensures { OnOk result (Puts names.old names.new row.old.items row.new.items (code_of node.now ∷ [])) }

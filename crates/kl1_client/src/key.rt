@@ -17,7 +17,7 @@ const MOST_KEY_BYTES: usize = 64;
 /// The most bytes of a key's file that are read.
 const MOST_FILE_BYTES: u64 = 4_096;
 
-/// Whether bytes are printable ASCII without blanks, at least one and at most so many.
+/// Whether bytes are printable ASCII without blanks, at least one and at most `most`.
 pub fn is_word(bytes: &[u8], most: usize) -> bool {
     !bytes.is_empty()
         && bytes.len() <= most

@@ -21,7 +21,7 @@ pub struct Terminal<'r, S> {
     pub prompt: Option<&'r str>,
 }
 
-/// Puts the bytes of a file in the place of these, or so many that it is too long.
+/// Puts the bytes of a file in the place of these, at most one more than a source may have.
 fn read_file(rt: &HostRuntime, name: &str, bytes: &mut Vec<u8>) -> io::Result<()> {
     bytes.clear();
     File::open(rt, name)?

@@ -21,7 +21,7 @@ pub trait CodeSource {
     /// The module whose code a reference finds.
     ghost meaning: { Self.Ref → Module };
 
-    /// A reference to the code of a source, where it is found. A source that was put in need not be found.
+    /// A reference to the code of a source, if it is found. A source that was put in need not be found.
     fn find(&self, source: &[u8]) -> Option<Self::Ref>
         ensures of { IfSome result (λ r. has self.now (place r)) }
         ensures source { IfSome result (λ r. (meaning r).source ≡ source.now) }
@@ -33,7 +33,7 @@ pub trait CodeSource {
         ensures is { IfOk result (λ r. meaning r ≡ code) }
         ensures same { (p : ℕ × ℕ) → has self.old p ↔ has self.new p };
 
-    /// A reference to the code of a source, which is compiled and put in where it isn't found.
+    /// A reference to the code of a source, which is compiled and put in if it isn't found.
     fn find_or_push(&mut self, source: &[u8]) -> Result<Self::Ref, CodeFault>
         ensures of { IfOk result (λ r. has self.new (place r)) }
         ensures source { IfOk result (λ r. (meaning r).source ≡ source.now) }

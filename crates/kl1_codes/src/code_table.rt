@@ -46,7 +46,7 @@ impl CodeTable {
         })
     }
 
-    /// The code at a place, where it is that of a source.
+    /// The code at a place, if it is that of a source.
     fn at(&self, place: usize, source: &[u8]) -> Option<Pushed<Code>>
         ensures of { IfSome result (Shows self.now) }
         ensures module { IfSome result (λ r. read_module source.now ≡ good r.value) }
@@ -58,7 +58,7 @@ impl CodeTable {
         Some(shown)
     }
 
-    /// The code of a source, where one of these hints says the place.
+    /// The code of a source, if one of these hints says the place.
     fn find_by(&self, hints: &[AtomicU64], source: &[u8]) -> Option<Pushed<Code>>
         ensures of { IfSome result (Shows self.now) }
         ensures module { IfSome result (λ r. read_module source.now ≡ good r.value) }
@@ -73,7 +73,7 @@ impl CodeTable {
         None
     }
 
-    /// What shows the code of a source, where one of its hints says the place.
+    /// What shows the code of a source, if one of its hints says the place.
     pub fn find(&self, source: &[u8]) -> Option<Pushed<Code>>
         ensures of { IfSome result (Shows self.now) }
         ensures source { IfSome result (λ r. r.value.source ≡ source.now) }
@@ -95,7 +95,7 @@ impl CodeTable {
         Ok(shown)
     }
 
-    /// What shows the code of a source, which is compiled and put in where no hint finds it. Two threads that put in one source at
+    /// What shows the code of a source, which is compiled and put in if no hint finds it. Two threads that put in one source at
     /// once may both put it in.
     pub fn find_or_push<R: Wait>(&self, rt: &R, source: &[u8]) -> Result<Pushed<Code>, CodeFault>
         ensures of { IfOk result (Shows self.now) }

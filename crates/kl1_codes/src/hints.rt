@@ -10,7 +10,7 @@ use std::sync::atomic::{AtomicU64, Ordering};
 /// How many words there are for one source.
 const EACH: usize = 8;
 
-/// How many groups of so many words there are.
+/// How many groups of words there are.
 const GROUPS: usize = 1_024;
 
 /// Words that say at which places codes may stand: one more than the place, or 0, which says nothing. A word may be wrong: it

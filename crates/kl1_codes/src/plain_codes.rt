@@ -25,7 +25,7 @@ impl PlainCodes {
         }
     }
 
-    /// The code of a source that was put in, or nothing where there is none.
+    /// The code of a source that was put in, or nothing if there is none.
     fn kept(&self, source: &[u8]) -> Option<&Arc<Code>>
         ensures { IfSome result (λ r. read_module source.now ≡ good (arc_value r.now)) }
     {

@@ -1,11 +1,11 @@
--- How runs go on behind their first steps.
+-- How runs go on after their first steps.
 use Rattle.std.proofs.Common.{◌≡◌, ℕ, suc, ◌+◌, ◌-◌, ◌<◌, None, ap, sym, ◌∙◌, arith}
 use Rattle.kl1_history.specs.Journal.{Kept}
 use Rattle.kl1_model.specs.Event.{Refusal, ran}
 use Rattle.kl1_model.specs.Choice.{first}
 use Rattle.kl1_history.specs.Command.{Going, stopped_by, run_choice, run_from}
 
--- runs from one account go on at another behind so many steps
+-- runs from one account go on at another after `n` steps
 abbrev pub GoesOn : Kept → ℕ → Kept → Type 0
 GoesOn s n after = (m : ℕ) → run_from (n + m) 0 s ≡ run_from m n after
 
@@ -19,7 +19,7 @@ none_done s after n h e =
     let none : run_from 0 0 s ≡ run_from 0 n after = ap (λ k. run_from k 0 s) (let sum : 0 ≡ n + 0 = omega arith in sum) ∙ h 0 in
     sym (ap (λ d. d.kept) none)
 
--- a run of so many steps
+-- a run of `n` steps
 pub all_done : (s after : Kept) (n : ℕ) → GoesOn s n after → run_from n 0 s ≡ record { kept = after; reply = ran n }
 all_done s after n h = let same : n ≡ n + 0 = omega arith in ap (λ k. run_from k 0 s) same ∙ h 0
 
@@ -31,7 +31,7 @@ none_left s after n most h less e = let same : most ≡ n + suc (most - n - 1) =
 pub next_refused : (s after : Kept) (n most : ℕ) (r : Refusal) → GoesOn s n after → n < most → ((next : Going) (k : ℕ) → run_choice next after k (first after.state) ≡ stopped_by after k r) → run_from most 0 s ≡ stopped_by after n r
 next_refused s after n most r h less stops = let same : most ≡ n + suc (most - n - 1) = omega arith in ap (λ k. run_from k 0 s) same ∙ h (suc (most - n - 1)) ∙ stops (run_from (most - n - 1)) n
 
--- so where the account after the last look is the same by another name
+-- also if the account after the last look is the same by another name
 pub left_quiet : (s after last : Kept) (n most : ℕ) → GoesOn s n after → n < most → first after.state ≡ None → last ≡ after → run_from most 0 s ≡ record { kept = last; reply = ran n }
 left_quiet s after last n most h less e same = none_left s after n most h less e ∙ ap (λ (x : Kept). record { kept = x; reply = ran n }) (sym same)
 

@@ -10,7 +10,7 @@ use Rattle.kl1_command.specs.declared.performed.Performed.TheVariants as perform
 use Rattle.kl1_command.specs.declared.first_step.FirstStep.{FirstStep}
 use Rattle.kl1_command.specs.declared.first_step.FirstStep.TheVariants as first_step
 
--- why an event was refused, where it was
+-- why an event was refused, if it was
 abbrev pub refusal_in : model.Reply → Option model.Refusal
 refusal_in (model.refused r) = Some r
 refusal_in (model.loaded name) = None
@@ -52,13 +52,13 @@ IsFirstStep s first_step.Done after = (next : Going) (n : ℕ) → run_choice ne
 IsFirstStep s (first_step.Refused r) after = ((next : Going) (n : ℕ) → run_choice next s n (first s.state) ≡ stopped_by s n (refusal_of r)) × (after ≡ s)
 IsFirstStep s first_step.Memory after = after ≡ s
 
--- where memory was refused at once, a host is as it was
+-- if memory was refused at once, a host is as it was
 abbrev pub IsUntouched : {H : Type 0} → Performed → H → H → Type 0
 IsUntouched (performed.Whole reply) before after = Unit {0}
 IsUntouched (performed.Short n) before after = Unit {0}
 IsUntouched performed.Memory before after = after ≡ before
 
--- where memory was refused at the first step, a host is as it was
+-- if memory was refused at the first step, a host is as it was
 abbrev pub IsStepUntouched : {H : Type 0} → FirstStep → H → H → Type 0
 IsStepUntouched first_step.Quiet before after = Unit {0}
 IsStepUntouched first_step.Done before after = Unit {0}

@@ -3,7 +3,7 @@ use Rattle.std.specs.Prelude.{ℕ, List, [], ◌++◌, codes, Option, Some, None
 use Rattle.kl1_history.specs.Command.{written_lines}
 use Rattle.kl1_history.specs.Script.{written_reply}
 
--- the lines of a reply as they are written, each after a word where one is given
+-- the lines of a reply as they are written, each after a word if one is given
 abbrev pub written_after : Option (List ℕ) → List (List ℕ) → List ℕ
 written_after None lines = written_lines lines
 written_after (Some word) lines = written_reply word lines

@@ -35,7 +35,7 @@ pub(crate) fn reduce_first<H: Host>(host: &mut H) -> FirstStep
     }
 }
 
-/// What became of a goal whose reduction is refused for this reason, or done where there is none.
+/// What became of a goal whose reduction is refused for this reason, or done if there is none.
 fn step_by(refused: Option<Refusal>) -> FirstStep
     ensures { IsTold (reduced_or refused) result }
 {

@@ -6,7 +6,7 @@ use Rattle.kl1_history.specs.Command.{Command, does}
 use Rattle.kl1_history.specs.Inputs.{Input, login, command, refused}
 use Rattle.kl1_keys.specs.Files.{Entry, found}
 
--- what becomes of an input: it is refused; it is refused as a login, or since there is none; a session of the account of a number
+-- what becomes of an input: it is refused; it is refused as a login, or since there is none; a session of an account, by number,
 -- begins, or ends; or a command is done to that account
 pub data Deed : Type 0 where
   refuse : Refusal → Deed
@@ -20,13 +20,13 @@ abbrev pub entering : Option ℕ → Deed
 entering None = refuse_login
 entering (Some n) = log_in n
 
--- a command of one who is logged in to the account of a number: a second login is refused, and a logout ends the session
+-- a command of one who is logged in to account `n`: a second login is refused, and a logout ends the session
 abbrev pub doing : ℕ → Command → Deed
 doing n (does event.login) = refuse_login
 doing n (does event.logout) = log_out n
 doing n c = perform n
 
--- what becomes of an input of one who isn't logged in, or who is, to the account of a number
+-- what becomes of an input of `visitor`, who is logged in to the account with that number, or to none
 abbrev pub deed_of : List Entry → Option ℕ → Input → Deed
 deed_of accounts visitor (refused r) = refuse r
 deed_of accounts None (login name key) = entering (found accounts name key)

@@ -84,7 +84,7 @@ for_met all last shoen ps [] = tt
 for_met all last shoen [] (x ∷ xs) = tt
 for_met all last shoen (p ∷ ps) (x ∷ xs) = (λ m. absurd (cc), for_met all (suc last) shoen ps xs)
 
--- where they are those of a shoen
+-- if they are those of a shoen
 pub comes_for : (k : Held CellName) (n count : ℕ) (d e : Draft) (sh : Shoen CellName) (own : ℕ) (ps : List (Option ℕ)) (cells : List (Qualified CellName)) → HasBegun d → e.removed ≡ d.removed → e.aborted.items ≡ d.aborted.items → e.ended.items ≡ d.ended.items →
     e.added.items ≡ goals_for d.last_goal sh.number (priorities_by (Some sh) own ps) cells → e.last_goal ≡ d.last_goal + length cells → 0 < sh.number → sh.number ≤ count → own ≤ monitor_priority → sh.low ≤ monitor_priority → sh.high ≤ monitor_priority → AreQualifiedIn k cells → Comes k n count d e
 comes_for k n count d e sh own ps cells begun removed aborted ended is last low high level least most inside =
@@ -151,7 +151,7 @@ or_true : (b c : Bool) → c ≡ true → (b || c) ≡ true
 or_true true c e = refl
 or_true false c e = e
 
--- goals that come are among those that a draft leaves, where no shoen has ended
+-- goals that come are among those that a draft leaves, if no shoen has ended
 added_left : (goals : List (Goal CellName)) (e : Draft) (n : ℕ) → e.ended.items ≡ [] → goals_left e.added.items e ≡ e.added.items → list_any (is_goal_of n) e.added.items ≡ true → list_any (is_goal_of n) (goals_left (goals ++ e.added.items) e) ≡ true
 added_left goals e n early stay any =
     let p : Goal CellName → Bool = λ g. not (is_flagged e.aborted.items g) in
@@ -171,7 +171,7 @@ stay_ended goals e ended early met alone stay =
     ap (without_monitors ended) same
     ∙ without_none ended come (met_left come (goals_left (goals ++ come) e) come ended met (λ n any. added_left goals e n early stay any) alone)
 
--- goals that have come stay where shoens without goals end
+-- goals that have come stay if shoens without goals end
 pub comes_ended : (k l : Held CellName) (n count more : ℕ) (goals : List (Goal CellName)) (d e y : Draft) → Grown k l → y ≡ record e { reports = y.reports; ended = y.ended } → more ≡ count → e.ended.items ≡ [] → AreMet e.added.items → HaveNoGoals y.ended.items (goals_left (goals ++ e.added.items) e) →
     Comes k n count d e → Comes l n more d y
 comes_ended k l n count more goals d e y grown is same early met alone c =

@@ -43,7 +43,7 @@ known_named known text n e =
     ∙ put_known_text known [] text n e
     ∙ with_none (texts_of known)
 
--- one that isn't comes behind the others
+-- one that isn't comes after the others
 pub new_named : (known : List Known) (text : List ℕ) → number_by known text ≡ None → with_name (texts_of known) text ≡ texts_of known ++ text ∷ []
 new_named known text e =
     let n = no_text known text e in

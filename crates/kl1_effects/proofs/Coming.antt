@@ -87,7 +87,7 @@ all_are_left d gs a =
     ∙ ap (without_monitors d.ended.items) (filter_all p gs (all_of (IsLeft d) (λ g. p g ≡ true) gs (λ g h. ap not h.unflagged) a))
     ∙ without_none d.ended.items gs (all_of (IsLeft d) (λ g. AllByRecursion (λ n. is_monitor_of n g ≡ false) d.ended.items) gs (λ g h. h.unended) a)
 
--- where none come
+-- if none come
 pub none_left : (d : Draft) (gs : List (Goal CellName)) → gs ≡ [] → goals_left gs d ≡ gs
 none_left d gs e = let P : List (Goal CellName) → Type 0 = λ xs. goals_left xs d ≡ xs in subst P (sym e) (all_are_left d [] tt)
 
@@ -120,7 +120,7 @@ ending_alone goals (n ∷ ns) ss = by_case (ends_in goals ss n) refl (ending_alo
     by_case true e x y = (alone (lives_in ss n) (list_any (is_goal_of n) goals) (not (list_any (is_living_child_of n) ss)) e, x)
     by_case false e x y = y
 
--- the monitor of a shoen that has a goal is none that goes where shoens without goals terminate
+-- the monitor of a shoen that has a goal is none that goes if shoens without goals terminate
 pub monitor_left : (goals : List (Goal CellName)) (ns : List ℕ) (g : Goal CellName) → list_any (is_goal_of g.shoen) goals ≡ true → AllByRecursion (λ n. list_any (is_goal_of n) goals ≡ false) ns → AllByRecursion (λ n. is_monitor_of n g ≡ false) ns
 monitor_left goals [] g e a = tt
 monitor_left goals (n ∷ ns) g e a =

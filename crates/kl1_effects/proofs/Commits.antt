@@ -235,6 +235,6 @@ nothing_for : (last shoen : ℕ) (ys : List (Qualified CellName)) → goals_for 
 nothing_for last shoen [] = refl
 nothing_for last shoen (y ∷ ys) = refl
 
--- where there is no priority more there is no goal more
+-- if there is no priority more there is no goal more
 pub none_added : (last shoen i own : ℕ) (sh : Shoen CellName) (ps : List (Option ℕ)) (ys : List (Qualified CellName)) → length ps ≤ i → goals_for last shoen (priorities_by (Some sh) own (drop i ps)) ys ≡ []
 none_added last shoen i own sh ps ys le = ap (λ (qs : List (Option ℕ)). goals_for last shoen (priorities_by (Some sh) own qs) ys) (drop_all i ps le) ∙ nothing_for last shoen ys

@@ -19,11 +19,11 @@ next_told a b c ns i lt p q =
 pub all_told : (a b ns : List ℕ) (i : ℕ) → length ns ≤ i → b ≡ a ++ take i ns → b ≡ a ++ ns
 all_told a b ns i le p = let P : List ℕ → Type 0 = λ ks. b ≡ a ++ ks in subst P (take_all i ns le) p
 
--- as many shoens are there where one has changed
+-- as many shoens are there if one has changed
 pub count_changed : (t u : Tree CellName) (n : ℕ) (g : Shoen CellName → Shoen CellName) → u ≡ record t { shoens = changed n g t.shoens } → length u.shoens ≡ length t.shoens
 count_changed t u n g is = ap (λ (x : Tree CellName). length x.shoens) is ∙ length-map t.shoens (λ h. if has_number n h then g h else h)
 
--- where some have been aborted
+-- if some have been aborted
 pub count_aborted : (t u : Tree CellName) (n : ℕ) → u ≡ record t { shoens = map (aborted_below_in t.shoens n) t.shoens } → length u.shoens ≡ length t.shoens
 count_aborted t u n is = ap (λ (x : Tree CellName). length x.shoens) is ∙ length-map t.shoens (aborted_below_in t.shoens n)
 
@@ -31,7 +31,7 @@ count_ended : (ns : List ℕ) (ss : List (Shoen CellName)) → length (ended_in 
 count_ended [] ss = refl
 count_ended (n ∷ ns) ss = count_ended ns (changed n terminated ss) ∙ length-map ss (λ h. if has_number n h then terminated h else h)
 
--- and where some have terminated
+-- and if some have terminated
 pub count_terminated : (t u : Tree CellName) (ns : List ℕ) → u ≡ record t { shoens = ended_in ns t.shoens } → length u.shoens ≡ length t.shoens
 count_terminated t u ns is = ap (λ (x : Tree CellName). length x.shoens) is ∙ count_ended ns t.shoens
 

@@ -82,7 +82,7 @@ one_grows ks k t n e = elim (option_cases (built_in_of t)) [
   | inr some ↦ rw some.1 (rw some.1 at e)
 ]
 
--- a name is known among names and one more where it was, or is that one
+-- a name is known among names and one more if it was, or is that one
 pub by_text : (ks : List Known) (k : Known) (t : List ℕ) (n : ℕ) → number_by (ks ++ k ∷ []) t ≡ Some n → (number_by ks t ≡ Some n) ⊎ ((k.text ≡ t) × (k.number.number ≡ n))
 by_text ks k t n e = elim (option_cases (built_in_of t)) [
   | inl none ↦ elim (more_by_text ks k t n (rw none at e)) [ inl was ↦ inl (rw none was) | inr is ↦ inr is ]
@@ -101,7 +101,7 @@ text_by_kept ks k t n e = elim (option_cases (built_in_at n)) [
   | inr some ↦ rw some.1 (rw some.1 at e)
 ]
 
--- a name that is new, by a number that is new, put behind names
+-- a name that is new, by a number that is new, put after names
 module _ (ks : List Known) (k : Known) (name : IsTrue (is_text k.text)) (new : number_by ks k.text ≡ None) (number : built_in_at k.number.number ≡ None) (other : text_in ks k.number.number ≡ None) where
   own_number : number_by (ks ++ k ∷ []) k.text ≡ Some k.number.number
   own_number = let n = not_known ks k.text new in let none : built_in_of k.text ≡ None = n.0 in rw none (number_in-last ks k n.1)
@@ -149,7 +149,7 @@ spare_number n le = slice_get_past built_ins n (omega arith)
 
 -- ---- the draft
 
--- the first names, and behind them those of the texts seen that are new, each with a spare number; and the texts' row of numbers
+-- the first names, and after them those of the texts seen that are new, each with a spare number; and the texts' row of numbers
 pub record Drafted (ks : List Known) (seen : List (List ℕ)) (row : List CellName) (spare : ℕ) : Type 0 where
   pub all : List Known
   pub names : AreNames all
@@ -233,7 +233,7 @@ next_new ks texts i row spare t o c list within is name e found number d =
     subst (λ (seen : List (List ℕ)). Drafted ks seen (row ++ c ∷ []) (spare + 1)) (sym (next_take texts i t within is))
     (drafted_new ks (take i texts) row spare t c name (sym e ∙ ap (λ (p : Option CellName). option_map (λ (x : CellName). x.number) p) found) (not_before texts i t list within is) number d)
 
--- the same row and the same spare number, otherwise written
+-- a row and a spare number that are the same, otherwise written
 pub same_draft : (ks : List Known) (seen : List (List ℕ)) (row now : List CellName) (spare next : ℕ) → now ≡ row → next ≡ spare → Drafted ks seen row spare → Drafted ks seen now next
 same_draft ks seen row now spare next e f d = subst (λ (r : List CellName). Drafted ks seen r next) (sym e) (subst (λ n. Drafted ks seen row n) (sym f) d)
 

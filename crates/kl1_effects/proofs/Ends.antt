@@ -77,12 +77,12 @@ others_have d n goals added e =
     ∙ ap (list_any (is_goal_of n)) (filter_append (is_other d.removed) goals added)
     ∙ any_append (is_goal_of n) (filter (is_other d.removed) goals) (filter (is_other d.removed) added)
 
--- of two the second decides where it holds
+-- of two the second decides if it holds
 pub or_true : (b : Bool) → (b || true) ≡ true
 or_true true = refl
 or_true false = refl
 
--- and the first where it doesn't
+-- and the first if it doesn't
 pub or_false : (b : Bool) → (b || false) ≡ b
 or_false true = refl
 or_false false = refl
@@ -145,7 +145,7 @@ last_end goals old now n at ending path i = record {
   tree_is = i.tree;
 }
 
--- where none ends the tree stays
+-- if none ends the tree stays
 pub none_end : (goals : List (Goal CellName)) (t : Tree CellName) (n : ℕ) (ending : List ℕ) → ending ≡ [] → ending_in goals (path_in t.shoens n) t.shoens ≡ [] → EndsLives goals t t n ending
 none_end goals t n ending e is =
     let P : List ℕ → Type 0 = λ ns. EndsLives goals t t n ns in

@@ -64,7 +64,7 @@ stays_more t u h is work =
     let P : List (Shoen CellName) → Type 0 = λ ss. KeepsLives t.shoens ss in
     record { shoens = subst P (sym is) (keeps_more bare t.shoens (h ∷ [])); work = work }
 
--- ---- the shoen of a number, and its control stream
+-- ---- a shoen by its number, and its control stream
 
 pub found_stays : (f : Shoen CellName → Shoen CellName) (k n : ℕ) (before after : List (Shoen CellName)) → ((h : Shoen CellName) → (f h).number ≡ h.number) → AreNumbered k before → KeepsBy f before after → k < n → n ≤ k + length before →
     option_map f (find (has_number n) after) ≡ option_map f (find (has_number n) before)
@@ -90,7 +90,7 @@ controls_stay n before after a p low high =
     ∙ ap (λ (o : Option (Shoen CellName)). option_map (λ (h : Shoen CellName). h.control) o) (found_stays frame 0 n before after (λ h. refl) a p low (omega (arith, high)))
     ∙ control_of_frame (find (has_number n) before)
 
--- ---- what is so where there was no want of memory
+-- ---- what is so if there was no want of memory
 
 pub on_ok_both : {T E P Q R : Type 0} (r : Result T E) → (P → Q → R) → OnOk r P → OnOk r Q → OnOk r R
 on_ok_both (Ok x) f p q = f p q
@@ -116,7 +116,7 @@ settled_stays t u v ending xs ys is s le e =
     let P : Tree CellName → Type 0 = λ x. Stays x v in
     subst P (tree_of_ended t u ending (none_more ending xs ys le e) is) s
 
--- what was charged stays where shoens end
+-- what was charged stays if shoens end
 pub settled_work : (t u v : Tree CellName) (ending : List ℕ) → u ≡ record t { shoens = ended_in ending t.shoens } → Stays u v → v.work ≡ t.work
 settled_work t u v ending is s = s.work ∙ ap (λ (x : Tree CellName). x.work) is
 
@@ -133,7 +133,7 @@ and_true : (b : Bool) → (b && true) ≡ false → b ≡ false
 and_true true e = e
 and_true false e = refl
 
--- no shoen on the path has been charged just what it may be, where none is put down and none ends
+-- no shoen on the path has been charged just what it may be, if none is put down and none ends
 pub none_reached : (t u : Tree CellName) (n : ℕ) (ending reached xs ys : List ℕ) → u ≡ record t { shoens = ended_in ending t.shoens } → reached ≡ reached_in u.shoens u.work ending (path_in u.shoens n) → length xs + length ending ≤ length ys → ys ≡ xs → reached ≡ [] → NoneReached t n
 none_reached t u n ending reached xs ys is r le e none a on =
     let empty = none_more ending xs ys le e in
@@ -163,7 +163,7 @@ calm_controlled n x t u is =
     let P : Tree CellName → Type 0 = λ y. IsCalm t y in
     subst P (sym is) (record { shoens = keeps_changed plain (λ h. record h { control = x }) n t.shoens (λ h. refl); work = refl })
 
--- none where there are no more than none
+-- none if there are no more than none
 pub still_none : (xs ys : List ℕ) → length xs ≤ length ys → ys ≡ [] → xs ≡ []
 still_none [] ys le e = refl
 still_none (x ∷ xs) ys le e = let same : length ys ≡ 0 = ap (λ (zs : List ℕ). length zs) e in absurd (omega (arith, le, same))

@@ -47,7 +47,7 @@ above_stay n (g ∷ gs) a =
     ap (λ b. if not b then g ∷ filter (is_other n) gs else filter (is_other n) gs) (ne_eqb g.number n (λ e. omega arith))
     ∙ ap (λ (xs : List (Goal CellName)). g ∷ xs) (above_stay n gs a.1)
 
--- what a draft leaves where nothing has ended
+-- what a draft leaves if nothing has ended
 pub early_left : (d : Draft) (gs : List (Goal CellName)) → HasBegun d → goals_left gs d ≡ filter (is_other d.removed) gs
 early_left d gs b =
     ap (λ (ns : List ℕ). staying d.removed d.aborted.items ns gs) b.ended
@@ -129,7 +129,7 @@ drafts_opened h k t u v d e y sh x some p q =
     ap (λ b. if b then report sh.number exhausted_report opened else opened) some)
     (drafts_then (λ f. with_shoen (shoen_with (meaning f h) sh) (meaning f h x)) (λ f. report sh.number started_report) h h k t u v d e y p q)
 
--- and after that that it is exhausted, where it may be charged nothing
+-- and after that that it is exhausted, if it may be charged nothing
 pub drafts_opened_empty : (h k l : Held CellName) (t u v y : Tree CellName) (d e a b : Draft) (sh : Shoen CellName) (x : Cell CellName) → (sh.allowance == 0) ≡ true → DraftsAll (λ f. with_shoen (shoen_with (meaning f h) sh) (meaning f h x)) h h t u d e →
     DraftsAll (λ f. report sh.number started_report) h k u v e a → DraftsAll (λ f. report sh.number exhausted_report) k l v y a b → DraftsAll (λ f. open_shoen (shoen_with (meaning f h) sh) (meaning f h x)) h l t y d b
 drafts_opened_empty h k l t u v y d e a b sh x none p q r =

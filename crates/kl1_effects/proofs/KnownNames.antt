@@ -1,4 +1,4 @@
--- Names that are known, with one more behind them.
+-- Names that are known, with one more after them.
 use Rattle.std.proofs.Common.{◌≡◌, ℕ, true, false, List, [], ◌∷◌, ◌++◌, map, Option, Some, None, is_some, bytes_eq, refl, sym, ap, ◌∙◌, subst, inl, inr}
 use Rattle.std.specs.Prelude.{option_map}
 use Rattle.std.specs.Map.{lookup}
@@ -60,16 +60,16 @@ number_is es ks t o none is e =
     ∙ ap (λ (l : List Known). number_in l t) is
     ∙ (let n : number_in ks t ≡ number_by ks t = rw none refl in n)
 
--- where a look-up finds nothing, the text isn't known
+-- if a look-up finds nothing, the text isn't known
 pub found_none : (o : Option CellName) (ks : List Known) (t : List ℕ) → option_map (λ (c : CellName). c.number) o ≡ number_by ks t → is_some o ≡ false → number_by ks t ≡ None
 found_none None ks t e h = sym e
 found_none (Some c) ks t e h = absurd (false≢true (sym h))
 
--- what is added where the text isn't known
+-- what is added if the text isn't known
 pub added_new : (ks : List Known) (t : List ℕ) (a : AtomNo) → number_by ks t ≡ None → added ks t a ≡ ks ++ record { text = t; number = a } ∷ []
 added_new ks t a e = rw e refl
 
--- an entry put behind others
+-- an entry put after others
 module _ {S : Type 0} (m : HashMap (List ℕ) AtomNo S) (ks : List Known) (t : List ℕ) (a : AtomNo) (is : map known_of m.entries ≡ ks) (new : number_by ks t ≡ None) (es : List (List ℕ × AtomNo)) (e : es ≡ insert_entry bytes_eq m.entries t a) where
   entries_are : es ≡ m.entries ++ (t, a) ∷ []
   entries_are = e ∙ insert_entry-new bytes_eq m t a (no_entry m.entries t (ap (λ (l : List Known). number_in l t) is ∙ (not_known ks t new).1))
@@ -84,7 +84,7 @@ module _ {S : Type 0} (m : HashMap (List ℕ) AtomNo S) (ks : List Known) (t : L
       ∙ ap (λ (l : List Known). l ++ record { text = t; number = a } ∷ []) is
       ∙ sym (added_new ks t a new)
 
--- where a look-up finds a number, the text is known by it
+-- if a look-up finds a number, the text is known by it
 pub found_some : (o : Option CellName) (ks : List Known) (t : List ℕ) → option_map (λ (c : CellName). c.number) o ≡ number_by ks t → is_some o ≡ true → (n : ℕ) × (number_by ks t ≡ Some n)
 found_some None ks t e h = absurd (false≢true h)
 found_some (Some c) ks t e h = (c.number, sym e)

@@ -18,7 +18,7 @@ use Rattle.kl1_effects.specs.Account.{texts_of}
 use Rattle.kl1_effects.proofs.KnownNames.{comm, not_known, added_new}
 use Rattle.kl1_effects.proofs.ModuleNames.{in_language, among, not_there, still_among}
 
--- a text has a number among names where it is one of their texts
+-- a text has a number among names if it is one of their texts
 pub known_text : (ks : List Known) (t : List ℕ) → is_some (number_in ks t) ≡ list_any (bytes_eq t) (texts_of ks)
 known_text [] t = refl
 known_text (k ∷ ks) t = elim (cases_Bool (bytes_eq k.text t)) [
@@ -46,7 +46,7 @@ put_known_text ks seen t n e = elim (text_there ks t n e) [
   | inr there ↦ among (with_texts (texts_of ks) seen) t (still_among (bytes_eq t) (texts_of ks) seen there)
 ]
 
--- the texts of names with one put to them where it is new
+-- the texts of names with one put to them if it is new
 pub texts_added : (ks : List Known) (t : List ℕ) (a : AtomNo) → texts_of (added ks t a) ≡ with_text (texts_of ks) t
 texts_added ks t a = elim (option_cases (number_by ks t)) [
   | inl none ↦
@@ -111,7 +111,7 @@ one_of_two first (y ∷ seen) t e = elim (one_of_two (with_text first y) seen t 
   | inr later ↦ inr (ap (λ b. bytes_eq t y || b) later ∙ or-true (bytes_eq t y))
 ]
 
--- a text that isn't known, and isn't among those seen, comes behind both
+-- a text that isn't known, and isn't among those seen, comes after both
 pub put_new_text : (ks : List Known) (seen : List (List ℕ)) (t : List ℕ) → number_by ks t ≡ None → list_any (bytes_eq t) seen ≡ false → with_text (with_texts (texts_of ks) seen) t ≡ with_texts (texts_of ks) seen ++ t ∷ []
 put_new_text ks seen t e new =
     let n = no_text ks t e in

@@ -73,7 +73,7 @@ close_by (Some h) v s b e = by_case h.is_broken (is_variable v h.tail) ∙ ap (�
     by_case false true = refl
     by_case false false = refl
 
--- whether an unbound variable is the one of a number
+-- whether an unbound variable is variable `v`
 pub tail_variable : (h : Held CellName) (f : Reading) (v w : ℕ) (x : Cell CellName) → x ≡ Variable w → IsWalked h x → is_variable v (meaning f h x) ≡ (w == v)
 tail_variable h f v w x e walked =
     let P : Cell CellName → Type 0 = λ y. IsWalked h y in

@@ -77,7 +77,7 @@ swapped_shoens : (v w : ℕ) (a : List ℕ) (u : Term) → (w == v) ≡ false �
 swapped_shoens v w a u e [] = refl
 swapped_shoens v w a u e (h ∷ hs) = ap₂ (λ (k : Shoen) (ks : List Shoen). k ∷ ks) (swapped_shoen v w a u e h) (swapped_shoens v w a u e hs)
 
--- the same everywhere
+-- two replacements in a state may be made in either order
 pub swapped_state : (v w : ℕ) (a : List ℕ) (u : Term) → (w == v) ≡ false → (s : State) → replace_in_state v (atom a) (replace_in_state w u s) ≡ replace_in_state w (replace v (atom a) u) (replace_in_state v (atom a) s)
 swapped_state v w a u e s =
     ap₂ (λ (gs : List Goal) (hs : List Shoen). let z : State = record s { goals = gs; shoens = hs } in z) (swapped_goals v w a u e s.goals) (swapped_shoens v w a u e s.shoens)
@@ -101,7 +101,7 @@ found_if : (c : Bool) (v : ℕ) (t : Term) (h : Shoen) (o p : Option Shoen) → 
 found_if true v t h o p e = refl
 found_if false v t h o p e = e
 
--- the shoen of a number, after a variable is replaced
+-- a shoen by its number, after a variable is replaced
 pub found_replaced : (n v : ℕ) (t : Term) (hs : List Shoen) → shoen_at n (map (replace_in_shoen v t) hs) ≡ option_map (replace_in_shoen v t) (shoen_at n hs)
 found_replaced n v t [] = refl
 found_replaced n v t (h ∷ hs) = found_if (h.number == n) v t h (shoen_at n (map (replace_in_shoen v t) hs)) (shoen_at n hs) (found_replaced n v t hs)
@@ -372,7 +372,7 @@ ends_more (n ∷ ns) last s le = ends_more ns last (ended_at n s) le
 
 -- ---- all of it
 
--- the same report of shoens, before a variable becomes a name or after that
+-- one report of each of some shoens, before a variable becomes a name or after that
 pub reports_replaced : (ns : List ℕ) (v : ℕ) (a b : List ℕ) (s : State) → v ≤ s.last_variable → report_each ns (atom b) (replace_in_state v (atom a) s) ≡ replace_in_state v (atom a) (report_each_late v ns (atom b) s)
 reports_replaced [] v a b s le = refl
 reports_replaced (n ∷ ns) v a b s le =
@@ -385,7 +385,7 @@ finish_replaced n v a s le =
     ∙ ap (close n) (report_replaced n v a (codes "terminated") (without_monitor n s) le)
     ∙ close_replaced n v a (report_late v n terminated_report (without_monitor n s))
 
--- the same of shoens, in order
+-- what is left of terminations of shoens, in order, before a variable becomes a name or after that
 pub finishes_replaced : (ns : List ℕ) (v : ℕ) (a : List ℕ) (s : State) → v ≤ s.last_variable → finished_each ns (replace_in_state v (atom a) s) ≡ replace_in_state v (atom a) (finished_each_late v ns s)
 finishes_replaced [] v a s le = refl
 finishes_replaced (n ∷ ns) v a s le =

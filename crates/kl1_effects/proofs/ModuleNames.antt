@@ -22,20 +22,20 @@ among names text e =
     ap (λ (v : Bool). cond (is_of_language text || v) names (names ++ text ∷ [])) e
     ∙ ap (λ (v : Bool). cond v names (names ++ text ∷ [])) (or-true (is_of_language text))
 
--- a text that is neither comes behind the others
+-- a text that is neither comes after the others
 pub not_there : (names : List (List ℕ)) (text : List ℕ) → is_of_language text ≡ false → list_any (bytes_eq text) names ≡ false → with_text names text ≡ names ++ text ∷ []
 unfolding with_text is_of_language
 not_there names text p e =
     ap (λ (v : Bool). cond (v || list_any (bytes_eq text) names) names (names ++ text ∷ [])) p
     ∙ ap (λ (v : Bool). cond v names (names ++ text ∷ [])) e
 
--- what is among names stays among them where others are put
+-- what is among names stays among them if others are put
 pub still_among : (q : List ℕ → Bool) (names more : List (List ℕ)) → list_any q names ≡ true → list_any q (with_texts names more) ≡ true
 still_among q names more e =
     let g = all_grow names more in
     ap (list_any q) g.is ∙ (list_any-append q names g.added ∙ ap (λ b. b || list_any q g.added) e)
 
--- a text behind others is among them
+-- a text after others is among them
 pub last_among : (names : List (List ℕ)) (text : List ℕ) → list_any (bytes_eq text) (names ++ text ∷ []) ≡ true
 last_among names text =
     list_any-append (bytes_eq text) names (text ∷ [])

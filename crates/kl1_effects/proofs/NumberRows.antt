@@ -20,7 +20,7 @@ numbered_push ks [] (u ∷ ts) c t n e = absurd n
 numbered_push ks (d ∷ cs) [] c t n e = absurd n
 numbered_push ks (d ∷ cs) (u ∷ ts) c t n e = (n.0, numbered_push ks cs ts c t n.1 e)
 
--- numbers stay where more is known
+-- numbers stay if more is known
 pub numbered_kept : (old new : List Known) (cs : List CellName) (ts : List (List ℕ)) → Grows old new → AreNumbered old cs ts → AreNumbered new cs ts
 numbered_kept old new [] [] g n = tt
 numbered_kept old new [] (u ∷ ts) g n = absurd n

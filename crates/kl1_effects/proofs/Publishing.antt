@@ -59,11 +59,11 @@ published_more first texts i now row t a new c longer within is adds number low 
       grows = λ u n e. more u n (p.grows u n e);
     } in one)
 
--- the next text's number behind a row
+-- the next text's number after a row
 pub row_more : (row longer : List CellName) (c : CellName) (i : ℕ) → longer ≡ row ++ c ∷ [] → length row ≡ i → length longer ≡ i + 1
 row_more row longer c i pushed count = ap length pushed ∙ length_push row c ∙ ap (λ (n : ℕ). n + 1) count
 
--- there is room for the next text, where there is room for all
+-- there is room for the next text, if there is room for all
 pub has_room : (first : List Known) (texts : List (List ℕ)) (i : ℕ) (now : List Known) (row : List CellName) (t : List ℕ) → i < length texts → t ≡ get_or texts i t → length (with_texts (texts_of first) texts) ≤ most_names → Published first texts i now row → HasRoom now t
 has_room first texts i now row t within is few p = elim (option_cases (number_by now t)) [
   | inl none ↦

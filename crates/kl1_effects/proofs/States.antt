@@ -113,7 +113,7 @@ if_found : (c : Bool) (t : Means) (h : Shoen CellName) (o : Option (Shoen CellNa
 if_found true t h o p e = refl
 if_found false t h o p e = e
 
--- the shoen of a number is the one that is found
+-- shoen `n` is the one that is found
 pub found_in : (t : Means) (n : ℕ) (ss : List (Shoen CellName)) → shoen_at n (map (shoen_with t) ss) ≡ option_map (shoen_with t) (find (has_number n) ss)
 found_in t n [] = refl
 found_in t n (h ∷ ss) = if_found (h.number == n) t h (find (has_number n) ss) (shoen_at n (map (shoen_with t) ss)) (found_in t n ss)
@@ -122,7 +122,7 @@ if_changed : (c : Bool) (t : Means) (f : Shoen CellName → Shoen CellName) (g :
 if_changed true t f g h e = e
 if_changed false t f g h e = refl
 
--- a change of the shoen of a number is one of the definitions'
+-- a change of shoen `n` is one of the definitions'
 pub changed_in : (t : Means) (n : ℕ) (f : Shoen CellName → Shoen CellName) (g : model.Shoen → model.Shoen) → ((h : Shoen CellName) → g (shoen_with t h) ≡ shoen_with t (f h)) → (ss : List (Shoen CellName)) →
     map (λ (h : model.Shoen). if h.number == n then g h else h) (map (shoen_with t) ss) ≡ map (shoen_with t) (changed n f ss)
 changed_in t n f g e [] = refl

@@ -117,7 +117,7 @@ raised_turns ms h full k w v n kind goal message g e i next =
     (λ f knows s. ap (λ t. report n t (worked f s h w)) (sym (e.means f knows.reads)))
     (turns_then ms (λ f s. s) (λ f. report n (meaning f full message)) h full k w w v first (next first.inside))
 
--- the same of a goal that was made whole before
+-- a report of an exception, of a goal that was made whole before
 pub whole_turns : (ms : List Numbered) (h mid k : Held CellName) (w v : Made) (n : ℕ) (kind : BuiltIn) (goal : Qualified CellName) (x : Cell CellName) → Grown h mid → IsWhole h mid goal x → IsMadeIn h w →
     (IsMadeIn mid w → Turns ms (λ f. report n (exception (text_of kind) (meaning f mid x))) mid k w v) → Turns ms (λ f. report n (exception (text_of kind) (aim f h goal))) h k w v
 whole_turns ms h mid k w v n kind goal x g e i next =

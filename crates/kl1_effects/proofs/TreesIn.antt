@@ -18,7 +18,7 @@ tree_in h t u ss is i = let P : List (Shoen CellName) → Type 0 = λ x. AreShoe
 pub changed_in : (h k : Held CellName) (t u : Tree CellName) (n : ℕ) (f : Shoen CellName → Shoen CellName) → Grown h k → ((s : Shoen CellName) → IsShoenIn k s → IsShoenIn k (f s)) → AreShoensIn h t.shoens → u ≡ record t { shoens = changed n f t.shoens } → AreShoensIn k u.shoens
 changed_in h k t u n f g e i is = tree_in k t u (changed n f t.shoens) is (shoens_changed k n f e t.shoens (shoens_grown h k g t.shoens i))
 
--- the shoen of a number is there
+-- shoen `n` is there
 pub never_absent : (last n : ℕ) (ss : List (Shoen CellName)) → AreNumbered last ss → last < n → n ≤ last + length ss → find (has_number n) ss ≡ None → ⊥
 never_absent last n [] a low high e = omega arith
 never_absent last n (h ∷ ss) a low high e = by_case (h.number == n) refl e (λ lt. never_absent (suc last) n ss a.1 lt (omega arith))

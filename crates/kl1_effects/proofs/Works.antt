@@ -50,7 +50,7 @@ base s w = record s { work = w.work; names = w.names; last_goal = w.last_goal; l
 abbrev pub read_as : State → Means → ℕ → Made → State
 read_as s t last w = state_with (base s w) t last w.goals w.shoens
 
--- the shoen of a number
+-- shoen `n` is found
 pub finds : (s : State) (t : Means) (last : ℕ) (w : Made) (n : ℕ) (o : Option (Shoen CellName)) → find (has_number n) w.shoens ≡ o → shoen_at n (read_as s t last w).shoens ≡ option_map (shoen_with t) o
 finds s t last w n o e = found_in t n w.shoens ∙ ap (option_map (shoen_with t)) e
 

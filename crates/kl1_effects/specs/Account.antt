@@ -48,12 +48,12 @@ Means = Cell CellName → Term
 abbrev pub meaning : Reading → Held CellName → Means
 meaning f h x = term_of f h x
 
--- a goal in the module of a name, or a whole goal, where cells mean this
+-- a goal in a module by its name, or a whole goal, if cells mean this
 abbrev pub told_in : Means → Option CellName → Term → Term
 told_in t None u = u
 told_in t (Some m) u = structure (codes ":") (more (t (Atom m)) (more u none))
 
--- what is to be reduced, where cells mean this
+-- what is to be reduced, if cells mean this
 abbrev pub aim_with : Means → Qualified CellName → Term
 aim_with t q = told_in t q.module_name (t q.cell)
 
@@ -65,21 +65,21 @@ aim f h q = aim_with (meaning f h) q
 abbrev pub whole : Cell CellName → Qualified CellName
 whole x = record { module_name = None; cell = x }
 
--- a task, where cells mean this
+-- a task, if cells mean this
 abbrev pub task_with : Means → Task CellName → model.Task
 task_with t Monitor = monitor
 task_with t (Reduces q) = reduces (aim_with t q)
 task_with t (Substitutes x) = substitutes (t x)
 
--- a goal, where cells mean this
+-- a goal, if cells mean this
 abbrev pub goal_with : Means → Goal CellName → model.Goal
 goal_with t g = record { number = g.number; task = task_with t g.task; shoen = g.shoen; priority = g.priority }
 
--- what the console keeps, where cells mean this
+-- what the console keeps, if cells mean this
 abbrev pub origin_with : Means → Origin CellName → model.Origin
 origin_with t o = record { goal = t o.goal; reports = t o.reports; control = t o.control }
 
--- a shoen, where cells mean this
+-- a shoen, if cells mean this
 abbrev pub shoen_with : Means → Shoen CellName → model.Shoen
 shoen_with t h = record {
   number = h.number;
@@ -99,7 +99,7 @@ shoen_with t h = record {
 abbrev pub texts_of : List Known → List (List ℕ)
 texts_of names = map (λ k. k.text) names
 
--- a state with these goals and shoens in place of its own, where cells mean this, and this last variable
+-- a state with these goals and shoens in place of its own, if cells mean this, and this last variable
 abbrev pub state_with : State → Means → ℕ → List (Goal CellName) → List (Shoen CellName) → State
 state_with s t last goals shoens = record s { goals = map (goal_with t) goals; shoens = map (shoen_with t) shoens; last_variable = last }
 

@@ -34,13 +34,13 @@ abbrev pub IsNewName : List Known → Option (List ℕ) → Type 0
 IsNewName known None = Unit {0}
 IsNewName known (Some text) = IsTrue (is_text text) × ((number_by known text ≡ None) × (keeps_names known text ≡ true))
 
--- the name that is drafted where a text is used as a name: none where the account knows it by a number, or where it may not use it
+-- the name that is drafted if a text is used as a name: none if the account knows it by a number, or if it may not use it
 abbrev pub name_of : Option ℕ → Bool → List ℕ → Option (List ℕ)
 name_of None true text = Some text
 name_of None false text = None
 name_of (Some n) keeps text = None
 
--- a reading reads a number by which an account knows a text as this text; where the account knows it by none and may use it, the term
+-- a reading reads a number by which an account knows a text as this text; if the account knows it by none and may use it, the term
 -- that a cell means can't become that name
 abbrev pub ReadsKnown : Reading → Held CellName → List Known → List ℕ → Cell CellName → Option ℕ → Type 0
 ReadsKnown f h known text a None = keeps_names known text ≡ true → solve (equation (meaning f h a) (atom text)) ≡ None
@@ -50,7 +50,7 @@ ReadsKnown f h known text a (Some n) = f (record { number = n }) ≡ text
 abbrev pub ReadsName : List Numbered → Held CellName → List Known → List ℕ → Cell CellName → Type 0
 ReadsName ms h known text a = (f : Reading) → Knows ms f → ReadsKnown f h known text a (number_by known text)
 
--- a goal, which is this cell and has been removed, has used a text as a name and unified a term with it, or has raised an exception where
+-- a goal, which is this cell and has been removed, has used a text as a name and unified a term with it, or has raised an exception if
 -- that would be a name too many; the account uses these names
 abbrev pub NamesTerm : Goal CellName → List ℕ → List Known → Cell CellName → Qualified CellName → Held CellName → Held CellName → Tree CellName → Tree CellName → Draft → Draft → Type 0
 NamesTerm g text known a x old new t u before after =

@@ -23,7 +23,7 @@ abbrev pub without_monitors : List ℕ → List (Goal CellName) → List (Goal C
 without_monitors [] goals = goals
 without_monitors (n ∷ ns) goals = without_monitors ns (filter (λ g. not (is_monitor_of n g)) goals)
 
--- goals that stay: not the one of a number, none of the shoens that have a flag, and no monitor of these shoens
+-- goals that stay: not goal `removed`, none of the shoens that have a flag, and no monitor of these shoens
 abbrev pub staying : ℕ → List Bool → List ℕ → List (Goal CellName) → List (Goal CellName)
 staying removed flags ended goals = without_monitors ended (filter (λ g. not (is_flagged flags g)) (filter (is_other removed) goals))
 
@@ -31,7 +31,7 @@ staying removed flags ended goals = without_monitors ended (filter (λ g. not (i
 abbrev pub goals_left : List (Goal CellName) → Draft → List (Goal CellName)
 goals_left goals d = staying d.removed d.aborted.items d.ended.items goals
 
--- names, and one more where there is one
+-- names, and one more if there is one
 abbrev pub names_with : List (List ℕ) → Option (List ℕ) → List (List ℕ)
 names_with names None = names
 names_with names (Some text) = names ++ text ∷ []
@@ -65,7 +65,7 @@ pub record CanGoBack (t u : Tree CellName) : Type 0 where
   pub shoens : u.kept ≡ t.kept
   pub work : u.kept_work ≡ t.kept_work
 
--- a goal with a clause by which it could step, where it has the number of a change
+-- a goal with a clause by which it could step, if it has the number of a change
 abbrev pub restood_by : Change → Goal CellName → Goal CellName
 restood_by c g = if g.number == c.number then record g { standing = c.standing } else g
 

@@ -11,7 +11,7 @@ use Rattle.kl1_shoen.specs.Shoens.{Tree, path_in, is_enabled_at, has_reached_in}
 abbrev pub bare : Shoen CellName → Shoen CellName
 bare h = record h { tail = h.control; is_broken = false; origin = None }
 
--- the same without its life
+-- a shoen without what reports change, without what the console keeps, and without its life
 abbrev pub frame : Shoen CellName → Shoen CellName
 frame h = record h { tail = h.control; is_broken = false; origin = None; life = Living }
 

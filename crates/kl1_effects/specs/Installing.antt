@@ -8,7 +8,7 @@ use Rattle.kl1_goals.specs.Tables.{IsNext}
 use Rattle.kl1_effects.specs.declared.draft.Draft.{Draft}
 use Rattle.kl1_effects.specs.Drafts.{goals_left, restood}
 
--- a draft of an account with these rules that removes the goal of a number, and leaves the rest as it is
+-- a draft of an account with these rules that removes goal `removed`, and leaves the rest as it is
 pub record IsBegun (removed : ℕ) (rules : Rules) (last variables nodes reports : ℕ) (d : Draft) : Type 0 where
   pub rules_are : d.rules ≡ rules
   pub removed_is : d.removed ≡ removed
@@ -25,12 +25,12 @@ pub record IsBegun (removed : ℕ) (rules : Rules) (last variables nodes reports
   pub shifts : d.shifts ≡ false
   pub changes : d.changes.items ≡ []
 
--- goals that a table of such goals and so many shoens takes in, one after another
+-- goals that a table of such goals and `shoens` shoens takes in, one after another
 abbrev pub AreNext : List (Goal CellName) → ℕ → List (Goal CellName) → Type 0
 AreNext goals shoens [] = Unit {0}
 AreNext goals shoens (g ∷ gs) = IsNext g goals shoens × AreNext (goals ++ g ∷ []) shoens gs
 
--- goals, let to step or held back as a draft has it, where that may be other than before
+-- goals, let to step or held back as a draft has it, if that may be other than before
 abbrev pub shifted : Draft → List (Goal CellName) → List (Goal CellName)
 shifted d goals = if d.shifts then map (enabled_by d.enabled.items) goals else goals
 
@@ -38,11 +38,11 @@ shifted d goals = if d.shifts then map (enabled_by d.enabled.items) goals else g
 abbrev pub goals_after : List (Goal CellName) → Draft → List (Goal CellName)
 goals_after goals d = shifted d (restood d.changes.items (goals_left goals d) ++ d.added.items)
 
--- there is room for a shoen more, where one opens
+-- there is room for a shoen more, if one opens
 abbrev pub Opens : Bool → ℕ → Type 0
 Opens opens room = opens ≡ true → 0 < room
 
--- a draft can be put in place of these goals, where so many shoens are known, and there is so much room
+-- a draft can be put in place of these goals, if `shoens` shoens are known, with room for `room` goals and `shoen_room` shoens
 pub record IsFitting (goals : List (Goal CellName)) (shoens room shoen_room : ℕ) (opens : Bool) (d : Draft) : Type 0 where
   pub enough : length d.added.items ≤ room
   pub opening : Opens opens shoen_room

@@ -20,12 +20,12 @@ IsTaskIn h (Substitutes x) = IsIn h x
 abbrev pub AreGoalsIn : Held CellName → List (Goal CellName) → Type 0
 AreGoalsIn h goals = AllByRecursion (λ g. IsTaskIn h g.task) goals
 
--- a goal is of one of so many shoens
+-- a goal is of one of `count` shoens
 pub record IsOwned (count : ℕ) (g : Goal CellName) : Type 0 where
   pub low : 0 < g.shoen
   pub high : g.shoen < suc count
 
--- each goal is of one of so many shoens
+-- each goal is of one of `count` shoens
 abbrev pub AreOwned : ℕ → List (Goal CellName) → Type 0
 AreOwned count goals = AllByRecursion (IsOwned count) goals
 
@@ -39,7 +39,7 @@ pub record IsKeptIn (h : Held CellName) (o : Origin CellName) : Type 0 where
   pub reports : IsIn h o.reports
   pub control : IsIn h o.control
 
--- the same, where the console keeps something
+-- the cells of what the console keeps are of the store, if it keeps something
 abbrev pub IsOriginIn : Held CellName → Option (Origin CellName) → Type 0
 IsOriginIn h None = Unit {0}
 IsOriginIn h (Some o) = IsKeptIn h o
@@ -52,6 +52,6 @@ pub record IsShoenIn (h : Held CellName) (s : Shoen CellName) : Type 0 where
   pub low : s.low ≤ monitor_priority
   pub high : s.high ≤ monitor_priority
 
--- the same of each of these shoens
+-- the cells of each of these shoens are of the store, and no range has a priority above a monitor's
 abbrev pub AreShoensIn : Held CellName → List (Shoen CellName) → Type 0
 AreShoensIn h shoens = AllByRecursion (IsShoenIn h) shoens

@@ -15,50 +15,50 @@ use Rattle.kl1_effects.specs.Fitting.{Reading, built}
 use Rattle.kl1_effects.specs.Account.{meaning, shoen_with}
 use Rattle.kl1_effects.specs.Endings.{ended_each}
 
--- whether a term is the variable of a number
+-- whether a term is variable `v`
 abbrev pub is_variable : ℕ → Term → Bool
 is_variable v (variable w) = w == v
 is_variable v (integer i) = false
 is_variable v (atom a) = false
 is_variable v (structure f ts) = false
 
--- a shoen's report stream broken, where its tail is a variable that becomes a name
+-- a shoen's report stream broken, if its tail is a variable that becomes a name
 abbrev pub break_of : Option Shoen → ℕ → ℕ → State → State
 break_of None v n s = s
 break_of (Some h) v n s = if h.is_broken then s else if is_variable v h.tail then broken_at n s else s
 
--- the same of the shoen of a number
+-- the report stream of shoen `n` broken, if its tail is a variable that becomes a name
 abbrev pub break_at : ℕ → ℕ → State → State
 break_at v n s = break_of (shoen_at n s.shoens) v n s
 
--- a report of the shoen of a number, where a variable becomes a name at the end
+-- a report of shoen `n`, if a variable becomes a name at the end
 abbrev pub report_late : ℕ → ℕ → Term → State → State
 report_late v n message s = report n message (break_at v n s)
 
--- the same report of each of these shoens, in order
+-- a report with this message of each of these shoens, in order, if a variable becomes a name at the end
 abbrev pub report_each_late : ℕ → List ℕ → Term → State → State
 report_each_late v [] message s = s
 report_each_late v (n ∷ ns) message s = report_each_late v ns message (report_late v n message s)
 
--- the end of a shoen's report stream, where a variable becomes a name at the end: nothing where that is the tail
+-- the end of a shoen's report stream, if a variable becomes a name at the end: nothing if that is the tail
 abbrev pub close_late_of : Option Shoen → ℕ → State → State
 close_late_of None v s = s
 close_late_of (Some h) v s = if h.is_broken then s else if is_variable v h.tail then s else closed_at h.tail s
 
--- the same of the shoen of a number
+-- the end of the report stream of shoen `n`, if a variable becomes a name at the end
 abbrev pub close_late : ℕ → ℕ → State → State
 close_late v n s = close_late_of (shoen_at n s.shoens) v s
 
--- what is left of a termination where the shoen's life has ended, where a variable becomes a name at the end
+-- what is left of a termination after the shoen's life has ended, if a variable becomes a name at the end
 abbrev pub finished_late : ℕ → ℕ → State → State
 finished_late v n s = close_late v n (report_late v n terminated_report (without_monitor n s))
 
--- the same of each of these shoens, in order
+-- what is left of the terminations of these shoens, in order, if a variable becomes a name at the end
 abbrev pub finished_each_late : ℕ → List ℕ → State → State
 finished_each_late v [] s = s
 finished_each_late v (n ∷ ns) s = finished_each_late v ns (finished_late v n s)
 
--- what comes after the effects of a reduction in a shoen, where a variable becomes a name at the end: lives end, reports of exhaustion
+-- what comes after the effects of a reduction in a shoen, if a variable becomes a name at the end: lives end, reports of exhaustion
 -- are made, and then the rest of each termination
 abbrev pub settle_charged_late : ℕ → ℕ → State → State
 settle_charged_late v n s =
@@ -66,12 +66,12 @@ settle_charged_late v n s =
     let ending = ending_of ns s in
     finished_each_late v ending (report_each_late v (reached_of s ending ns) exhausted_report (ended_each ending s))
 
--- whether a shoen has an unbroken report stream whose tail is the variable of a number
+-- whether a shoen has an unbroken report stream whose tail is variable `v`
 abbrev pub is_tail_of : ℕ → Option Shoen → Bool
 is_tail_of v None = false
 is_tail_of v (Some h) = not h.is_broken && is_variable v h.tail
 
--- the shoen of a number has no unbroken report stream whose tail is this variable
+-- shoen `n` has no unbroken report stream whose tail is variable `v`
 abbrev pub IsNoTail : ℕ → ℕ → Held CellName → List (kept.Shoen CellName) → Type 0
 IsNoTail v n h shoens = (f : Reading) → is_tail_of v (option_map (shoen_with (meaning f h)) (find (has_number n) shoens)) ≡ false
 
@@ -79,6 +79,6 @@ IsNoTail v n h shoens = (f : Reading) → is_tail_of v (option_map (shoen_with (
 abbrev pub StaysFree : ℕ → Held CellName → Held CellName → Type 0
 StaysFree v old new = (f : Reading) → Reads built f → meaning f old (cell.Variable v) ≡ variable v → meaning f new (cell.Variable v) ≡ variable v
 
--- each variable does that isn't the tail of the report stream of the shoen of a number
+-- each variable does that isn't the tail of the report stream of shoen `n`
 abbrev pub KeepsFree : ℕ → List (kept.Shoen CellName) → Held CellName → Held CellName → Type 0
 KeepsFree n shoens old new = (v : ℕ) → v < old.variables → IsNoTail v n old shoens → StaysFree v old new

@@ -13,7 +13,7 @@ use Rattle.kl1_effects.specs.Installing.{AreNext}
 use Rattle.kl1_effects.specs.Frames.{SameFlags}
 use Rattle.kl1_effects.specs.Outlines.{KeepsOthers}
 
--- goals that come, where a draft had none before: a table of so many shoens takes them in, their draft leaves them, and their numbers
+-- goals that come, if a draft had none before: a table of `shoens` shoens takes them in, their draft leaves them, and their numbers
 -- follow the last one; their cells are of a store
 pub record Comes (new : Held CellName) (count : ℕ) (shoens : ℕ) (before after : Draft) : Type 0 where
   pub next : (goals : List (Goal CellName)) → AreUpTo before.last_goal goals → AreOwned count goals → AreNext goals shoens after.added.items
@@ -27,8 +27,8 @@ pub record Comes (new : Held CellName) (count : ℕ) (shoens : ℕ) (before afte
 abbrev pub AreMet : List (Goal CellName) → Type 0
 AreMet goals = AllByRecursion (λ g. is_monitor g ≡ true → list_any (is_goal_of g.shoen) goals ≡ true) goals
 
--- what is left where the shoen of a number may have another control stream: goals that come, at most a shoen more, at most a reduction
--- more that is charged, the other control streams, and that goals may step as before where nothing shifts that
+-- what is left if shoen `number` may have another control stream: goals that come, at most a shoen more, at most a reduction
+-- more that is charged, the other control streams, and that goals may step as before if nothing shifts that
 pub record Leaves (number : ℕ) (new : Held CellName) (t u : Tree CellName) (reached : List ℕ) (before after : Draft) : Type 0 where
   pub comes : Comes new (length t.shoens) (length u.shoens) before after
   pub more : length t.shoens ≤ length u.shoens

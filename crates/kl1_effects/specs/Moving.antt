@@ -35,13 +35,13 @@ priorities_by None own ps = map (priority_of None own) ps
 priorities_by (Some h) own ps = map (λ (p : Option ℕ). unwrap_or (option_map (clipped h.low h.high) p) own) ps
 
 -- a goal of an account with these goals, which is this cell and has been removed, has committed to the candidate whose clause stands at
--- a place of a predicate, or has raised an exception where that would pass a limit
+-- a place of a predicate, or has raised an exception if that would pass a limit
 abbrev pub Commits : Predicate CellName → ℕ → List (Place CellName) → Goal CellName → Qualified CellName → List (Goal CellName) → Held CellName → Held CellName → Tree CellName → Tree CellName → Draft → Draft → Type 0
 Commits p place places goal x goals old new t u before after =
     (ms : List Numbered) (k : Reading → Candidate) → ((f : Reading) → Knows ms f → IsCandidate f old p place places (k f)) →
     (names : List (List ℕ)) → Drafts ms (λ f. moved (goal_with (meaning f old) goal) (aim f old x) (commits (k f))) old new goals names t u before after
 
--- where a move uses a text as a name, each reading that knows these modules reads its number as this text, or the term can't become
+-- if a move uses a text as a name, each reading that knows these modules reads its number as this text, or the term can't become
 -- that name
 abbrev pub ReadsMove : Move CellName → List Numbered → Held CellName → List Known → List ℕ → Type 0
 ReadsMove (move.Commits place) ms h known text = Unit {0}
@@ -52,7 +52,7 @@ ReadsMove (move.Opens s) ms h known text = Unit {0}
 ReadsMove move.Goes ms h known text = Unit {0}
 ReadsMove move.GivesWay ms h known text = Unit {0}
 
--- the name that is drafted by a move, where this text stands for a name
+-- the name that is drafted by a move, if this text stands for a name
 abbrev pub name_for : Move CellName → List Known → List ℕ → Option (List ℕ)
 name_for (move.Commits place) known text = None
 name_for (move.Raises b) known text = None
@@ -62,8 +62,8 @@ name_for (move.Opens s) known text = None
 name_for move.Goes known text = None
 name_for move.GivesWay known text = None
 
--- a goal of an account with these goals and names, which is this cell and has been removed, has done this move by the clause of some
--- number, where this text stands for a name
+-- a goal of an account with these goals and names, which is this cell and has been removed, has done this move by some
+-- clause, if this text stands for a name
 abbrev pub Moves : Predicate CellName → Move CellName → List (Place CellName) → List ℕ → Goal CellName → Qualified CellName → List (Goal CellName) → List Known → Held CellName → Held CellName → Tree CellName → Tree CellName → Draft → Draft → Type 0
 Moves p made places text goal x goals known old new t u before after =
     (ms : List Numbered) (modules : List Module) (clause : ℕ) (m : Reading → model.Move) → ReadsMove made ms old known text →
@@ -71,7 +71,7 @@ Moves p made places text goal x goals known old new t u before after =
     ((f : Reading) → Knows ms f → move_by modules (aim f old x) clause ≡ Some (m f)) →
     Drafts ms (λ f. moved (goal_with (meaning f old) goal) (aim f old x) (m f)) old new goals (texts_of known) t u before after
 
--- a goal that is this cell and has been removed has opened a child by the order that a structure is, or has raised an exception where
+-- a goal that is this cell and has been removed has opened a child by the order that a structure is, or has raised an exception if
 -- that would pass a limit
 abbrev pub OpensChild : ℕ → Goal CellName → Qualified CellName → Held CellName → Held CellName → Tree CellName → Tree CellName → Draft → Draft → Type 0
 OpensChild s goal x old new t u before after =

@@ -8,14 +8,14 @@ use Rattle.kl1_shoen.specs.Shoens.{has_number}
 use Rattle.kl1_effects.specs.Settled.{control_at}
 use Rattle.kl1_effects.specs.Frames.{KeepsBy}
 
--- a shoen without anything but its place and what is left of its control stream, and without that too where it is the shoen of a number
+-- a shoen without anything but its place and what is left of its control stream, and without that too if it is shoen `n`
 abbrev pub outline : ℕ → Shoen CellName → Shoen CellName
 outline n h = record h { tail = Variable 0; is_broken = false; origin = None; life = Living; is_stopped = false; allowance = 0; control = if has_number n h then Variable 0 else h.control }
 
--- shoens that were there have the control streams that they had, but for that of a number
+-- shoens that were there have the control streams that they had, but for shoen `n`
 abbrev pub KeepsOutlines : ℕ → List (Shoen CellName) → List (Shoen CellName) → Type 0
 KeepsOutlines n before after = KeepsBy (outline n) before after
 
--- the control streams of all shoens that were there stay, but for that of a number
+-- the control streams of all shoens that were there stay, but for that of shoen `number`
 abbrev pub KeepsOthers : ℕ → List (Shoen CellName) → List (Shoen CellName) → Type 0
 KeepsOthers number before after = (n : ℕ) → 0 < n → n ≤ length before → (n ≡ number → ⊥) → control_at after n ≡ control_at before n

@@ -12,6 +12,6 @@ use Rattle.kl1_effects.specs.declared.draft.Draft.{Draft}
 use Rattle.kl1_effects.specs.Fitting.{Reading, built}
 use Rattle.kl1_effects.specs.Account.{meaning, with_kept}
 
--- whether a report of the shoen of a number is made is told, whatever goals there are
+-- whether a report of shoen `n` is made is told, whatever goals there are
 pub record IsTold (n : ℕ) (message : Cell CellName) (old new : Held CellName) (shoens : List (Shoen CellName)) (before : Draft) (made : Bool) : Type 0 where
   pub is : (f : Reading) → Reads built f → (s : State) (goals : List (Goal CellName)) → made ≡ is_reported n (meaning f old message) (record (with_kept f s old goals shoens) { reports = before.reports })

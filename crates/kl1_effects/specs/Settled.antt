@@ -21,15 +21,15 @@ use Rattle.kl1_hooks.specs.Hanging.{HangsOnEach}
 use Rattle.kl1_effects.specs.Fitting.{Reading}
 use Rattle.kl1_effects.specs.Account.{Means, meaning, task_with}
 
--- the cell of what is left of the control stream of the shoen of a number, where there is one
+-- the cell of what is left of the control stream of shoen `n`, if there is one
 abbrev pub control_at : List (Shoen CellName) → ℕ → Option (Cell CellName)
 control_at shoens n = option_map (λ h. h.control) (shoen_in n shoens)
 
--- what stands at the front of the control stream that a cell means, where there is one
+-- what stands at the front of the control stream that a cell means, if there is one
 abbrev pub front_with : Means → Option (Cell CellName) → Option Control
 front_with t x = option_map (λ y. control_of (t y)) x
 
--- what stands at the front of the control stream of the shoen of a number, where cells mean this
+-- what stands at the front of the control stream of shoen `n`, if cells mean this
 abbrev pub control_with : Means → List (Shoen CellName) → ℕ → Option Control
 control_with t shoens n = front_with t (control_at shoens n)
 
@@ -41,7 +41,7 @@ control_clause (tells_other m rest) = Some 0
 control_clause ends = Some 0
 control_clause (breaks_off t) = Some 0
 
--- the same, where there may be no control stream
+-- the clause by which a monitor can step, if there is a control stream
 abbrev pub monitor_clause : Option Control → Option ℕ
 monitor_clause None = None
 monitor_clause (Some c) = control_clause c

@@ -17,7 +17,7 @@ terminated h = record h { life = Terminated }
 abbrev pub ends_in : List (Goal CellName) → List (Shoen CellName) → ℕ → Bool
 ends_in goals shoens n = lives_in shoens n && not (list_any (is_goal_of n) goals) && not (list_any (is_living_child_of n) shoens)
 
--- those of these shoens that terminate, in order, each where those before it have
+-- those of these shoens that terminate, in order, each if those before it have
 abbrev pub ending_in : List (Goal CellName) → List ℕ → List (Shoen CellName) → List ℕ
 ending_in goals [] shoens = []
 ending_in goals (n ∷ ns) shoens = if ends_in goals shoens n then n ∷ ending_in goals ns (changed n terminated shoens) else ending_in goals ns shoens
@@ -31,12 +31,12 @@ ended_in (n ∷ ns) shoens = ended_in ns (changed n terminated shoens)
 abbrev pub reached_in : List (Shoen CellName) → List ℕ → List ℕ → List ℕ → List ℕ
 reached_in shoens work ending ns = filter (λ n. has_reached_in shoens work n && not (is_among n ending)) ns
 
--- shoens on the path of a number have terminated: those that do for an account with these goals
+-- shoens on the path of shoen `n` have terminated: those that do for an account with these goals
 pub record EndsLives (goals : List (Goal CellName)) (old new : Tree CellName) (n : ℕ) (ending : List ℕ) : Type 0 where
   pub ending_is : ending ≡ ending_in goals (path_in old.shoens n) old.shoens
   pub tree_is : new ≡ record old { shoens = ended_in ending old.shoens }
 
--- a shoen of a number has terminated, where it does, and its number is put down then
+-- shoen `n` has terminated, if it does, and its number is put down then
 pub record EndsOne (goals : List (Goal CellName)) (old new : Tree CellName) (n : ℕ) (before after : List ℕ) : Type 0 where
   pub ending_is : after ≡ before ++ (if ends_in goals old.shoens n then n ∷ [] else [])
   pub tree_is : new ≡ (if ends_in goals old.shoens n then record old { shoens = changed n terminated old.shoens } else old)

@@ -55,8 +55,8 @@ fn add_two(draft: &mut Draft, shoen: u64, high: u64, cell: Cell<CellName>) -> Re
     Ok(())
 }
 
-/// Opens a shoen for a goal: it and the goal join the account, and it reports that it has started, and after that, where its
-/// allowance is 0, that it is exhausted. Where memory is refused, the store may have grown.
+/// Opens a shoen for a goal: it and the goal join the account, and it reports that it has started, and after that, if its
+/// allowance is 0, that it is exhausted. If memory is refused, the store may have grown.
 pub fn open_shoen(
     store: &mut Store<CellName>,
     shoens: &mut ShoenTree<CellName>,
@@ -82,6 +82,7 @@ pub fn open_shoen(
     ensures grown { Grown store.old.held store.new.held }
     ensures hooks { store.new.hooks ≡ store.old.hooks }
 {
+    // Only for the proof: what the store holds is formed.
     let _formed = store.mark();
     shoens.reserve(1)?;
     shoens.open(shoen);
@@ -107,8 +108,8 @@ fn clipped_in(shoen: &Shoen<CellName>, number: u64) -> u64
     number.min(shoen.high).max(shoen.low)
 }
 
-/// Opens a child in the shoen of a goal that has been removed, by the order that a structure is; where a limit would be passed, the goal
-/// raises an exception. Where memory is refused, the store may have grown.
+/// Opens a child in the shoen of a goal that has been removed, by the order that a structure is; if a limit would be passed, the goal
+/// raises an exception. If memory is refused, the store may have grown.
 pub fn open_child(
     store: &mut Store<CellName>,
     shoens: &mut ShoenTree<CellName>,

@@ -28,7 +28,7 @@ use kl1_store::{Qualified, Store};
 use kl1_text::CellName;
 use std::alloc::AllocError;
 
-/// Whether so much and so much more isn't over the most.
+/// Whether `have` and `more` together are at most `most`.
 fn keeps(most: u64, have: u64, more: u64) -> bool
     ensures { result ≡ nat_le (have + more) most }
 {
@@ -38,7 +38,7 @@ fn keeps(most: u64, have: u64, more: u64) -> bool
     have <= most - more
 }
 
-/// Whether so much more keeps to the limits on goals, variables and structures, where so many goals are there.
+/// Whether what `needs` counts keeps to the limits on goals, variables and structures, if `alive` goals are there.
 fn has_room(draft: &Draft, alive: u64, needs: Needs) -> bool
     ensures { result ≡ (nat_le (alive + needs.goals) most_goals && nat_le (draft.now.variables + needs.variables) most_variables && nat_le (draft.now.nodes + needs.nodes) most_nodes) }
 {
@@ -57,7 +57,7 @@ fn priority_in(shoen: &Shoen<CellName>, own: u64, named: Option<u64>) -> u64
     priority.min(shoen.high).max(shoen.low)
 }
 
-/// The number after which there are so many more. Numbers that run out are refused as for want of memory.
+/// The number that is `more` after `last`. Numbers that run out are refused as for want of memory.
 pub fn last_of(last: u64, more: usize) -> Result<u64, AllocError>
     ensures { IfOk result (λ number. number ≡ last + more) }
 {
@@ -65,7 +65,7 @@ pub fn last_of(last: u64, more: usize) -> Result<u64, AllocError>
 }
 
 /// Puts goals for cells after others, of a shoen, with the numbers after the last; none can step as yet. Each has its own of these
-/// priorities, or where that is none, the one that is given.
+/// priorities, or if that is none, the one that is given.
 #[inline]
 fn add_goals(
     added: &mut Vec<Goal<CellName>>,
@@ -102,7 +102,7 @@ fn add_goals(
 }
 
 /// Puts the goals of the body of the clause at a place of a predicate into a draft, for the goal that it removes, which is this cell;
-/// where a limit would be passed, the goal raises an exception. So many goals are there without it. Where memory is refused, the store
+/// if a limit would be passed, the goal raises an exception. `alive` counts the goals without it. If memory is refused, the store
 /// may have grown, and the draft is of no use.
 pub fn commit(
     store: &mut Store<CellName>,
@@ -142,6 +142,7 @@ pub fn commit(
     if !has_room(draft, alive, needs) {
         return raise(store, shoens, draft, goal, BuiltIn::Exhaustion, cell);
     }
+    // Only for the proof: the shoens are numbered in order.
     let _numbered = shoens.len();
     let Some(shoen) = shoens.lend(goal.shoen) else {
         unreachable!()

@@ -7,7 +7,7 @@ use kl1_store::{Point, Qualified};
 use kl1_text::{AtomText, CellName};
 use std::alloc::Global;
 
-/// The clause by which the goal of a number could step from now on, or none.
+/// The clause by which a goal, by its number, could step from now on, or none.
 #[derive(Clone, Copy)]
 pub struct Change {
     pub number: u64,
@@ -23,14 +23,14 @@ pub struct Spelled {
 }
 
 /// What an event is to leave of an account's goals and counters, before it is put in place. The store and the tree of shoens are
-/// changed at once, and go back where memory is refused; the table of goals is changed at the end alone.
+/// changed at once, and go back if memory is refused; the table of goals is changed at the end alone.
 #[derive(Drop)]
 pub struct Draft {
     /// The rules that the account keeps to.
     pub rules: Rules,
     /// The number of the goal that goes, or 0.
     pub removed: u64,
-    /// Which shoens an abort ends, the first of them shoen 1: their goals and monitors go. Empty where nothing is aborted.
+    /// Which shoens an abort ends, the first of them shoen 1: their goals and monitors go. Empty if nothing is aborted.
     pub aborted: Vec<bool>,
     /// The numbers of the shoens whose monitors go.
     pub ended: Vec<u64>,
@@ -46,11 +46,11 @@ pub struct Draft {
     pub reports: u64,
     /// A name that is new to the account.
     pub name: Option<AtomText>,
-    /// The variable that becomes the new name, where there is one.
+    /// The variable that becomes the new name, if there is one.
     pub spelled: Option<Spelled>,
     /// Whether goals that stay may be let or held back other than before.
     pub shifts: bool,
-    /// Which shoens let their goals step, the first of them shoen 1, where that may be other than before.
+    /// Which shoens let their goals step, the first of them shoen 1, if that may be other than before.
     pub enabled: Vec<bool>,
     /// The goals that stay and can step by other clauses than before.
     pub changes: Vec<Change>,

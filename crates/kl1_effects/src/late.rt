@@ -27,7 +27,7 @@ use kl1_store::{Cell, Store};
 use kl1_text::CellName;
 use std::alloc::AllocError;
 
-/// Whether the shoen of a number has an unbroken report stream whose tail is the variable of a number.
+/// Whether shoen `number` has an unbroken report stream whose tail is the variable `variable`.
 fn is_tail(
     store: &Store<CellName>,
     shoens: &ShoenTree<CellName>,
@@ -43,6 +43,7 @@ fn is_tail(
     if shoen.is_broken {
         return false;
     }
+    // Only for the proof: what the store holds is formed.
     let _formed = store.mark();
     match store.walk(shoen.tail) {
         Cell::Variable(other) => other == variable,
@@ -52,7 +53,7 @@ fn is_tail(
     }
 }
 
-/// Breaks the report stream of the shoen of a number, where its tail is the variable that becomes a name.
+/// Breaks the report stream of shoen `number`, if its tail is the variable that becomes a name.
 fn break_late(
     store: &Store<CellName>,
     shoens: &mut ShoenTree<CellName>,
@@ -73,7 +74,7 @@ fn break_late(
     Ok(())
 }
 
-/// A report, which is a name of the language, of the shoen of a number, where a variable becomes a name at the end. Where memory is
+/// A report, which is a name of the language, of shoen `number`, if a variable becomes a name at the end. If memory is
 /// refused, the store may have grown.
 fn report_name_late(
     store: &mut Store<CellName>,
@@ -95,12 +96,14 @@ fn report_name_late(
     ensures grown { Grown store.old.held store.new.held }
     ensures hooks { store.new.hooks ≡ store.old.hooks }
 {
+    // Only for the proof: what the store holds is formed.
     let _formed = store.mark();
     break_late(store, shoens, number, variable)?;
     report_name(store, shoens, draft, number, name)
 }
 
-/// The same report of each of these shoens, in order. Where memory is refused, the store may have grown.
+/// A report of each of these shoens, in order, if a variable becomes a name at the end. If memory is refused, the store may have
+/// grown.
 fn report_each_late(
     store: &mut Store<CellName>,
     shoens: &mut ShoenTree<CellName>,
@@ -121,6 +124,7 @@ fn report_each_late(
     ensures grown { Grown store.old.held store.new.held }
     ensures hooks { store.new.hooks ≡ store.old.hooks }
 {
+    // Only for the proof: what the store holds is formed.
     let _formed = store.mark();
     for number in numbers {
         report_name_late(store, shoens, draft, *number, variable, name)?;
@@ -128,7 +132,7 @@ fn report_each_late(
     Ok(())
 }
 
-/// Ends the report stream of the shoen of a number, where a variable becomes a name at the end. Where memory is refused, the store
+/// Ends the report stream of shoen `number`, if a variable becomes a name at the end. If memory is refused, the store
 /// holds what it held.
 fn close_late(
     store: &mut Store<CellName>,
@@ -144,6 +148,7 @@ fn close_late(
     ensures grown { Grown store.old.held store.new.held }
     ensures hooks { store.new.hooks ≡ store.old.hooks }
 {
+    // Only for the proof: what the store holds is formed.
     let _formed = store.mark();
     if is_tail(store, shoens, number, variable) {
         return Ok(());
@@ -151,7 +156,7 @@ fn close_late(
     close(store, shoens, number)
 }
 
-/// Does what is left of a termination where the shoen's life has ended, where a variable becomes a name at the end. Where memory is
+/// Does what is left of a termination after the shoen's life has ended, if a variable becomes a name at the end. If memory is
 /// refused, the store may have grown.
 fn finish_late(
     store: &mut Store<CellName>,
@@ -173,13 +178,14 @@ fn finish_late(
     ensures grown { Grown store.old.held store.new.held }
     ensures hooks { store.new.hooks ≡ store.old.hooks }
 {
+    // Only for the proof: what the store holds is formed.
     let _formed = store.mark();
     draft.ended.push(number)?;
     report_name_late(store, shoens, draft, number, variable, BuiltIn::Terminated)?;
     close_late(store, shoens, number, variable)
 }
 
-/// The same of each of these shoens, in order.
+/// Does what is left of the terminations of these shoens, in order, if a variable becomes a name at the end.
 fn finish_each_late(
     store: &mut Store<CellName>,
     shoens: &mut ShoenTree<CellName>,
@@ -200,6 +206,7 @@ fn finish_each_late(
     ensures grown { Grown store.old.held store.new.held }
     ensures hooks { store.new.hooks ≡ store.old.hooks }
 {
+    // Only for the proof: what the store holds is formed.
     let _formed = store.mark();
     for number in numbers {
         finish_late(store, shoens, draft, *number, variable)?;
@@ -207,8 +214,8 @@ fn finish_each_late(
     Ok(())
 }
 
-/// What comes after the effects of a reduction in a shoen, where a variable becomes a name at the end: reports of shoens that were
-/// charged what they may be, and terminations. Where memory is refused, the store may have grown.
+/// What comes after the effects of a reduction in a shoen, if a variable becomes a name at the end: reports of shoens that were
+/// charged what they may be, and terminations. If memory is refused, the store may have grown.
 pub fn settle_late(
     store: &mut Store<CellName>,
     goals: &GoalTable<CellName>,
@@ -234,6 +241,7 @@ pub fn settle_late(
     ensures grown { Grown store.old.held store.new.held }
     ensures hooks { store.new.hooks ≡ store.old.hooks }
 {
+    // Only for the proof: what the store holds is formed.
     let _formed = store.mark();
     end_lives(goals, shoens, draft, number, &mut walk.ending)?;
     let ending = walk.ending.as_slice();
@@ -241,11 +249,13 @@ pub fn settle_late(
     let reached = walk.reached.as_slice();
     report_each_late(store, shoens, draft, reached, variable, BuiltIn::Exhausted)?;
     finish_each_late(store, shoens, draft, ending, variable)?;
+    // Only for the proof: what the store holds is formed.
     let _left = store.mark();
     Ok(())
 }
 
-/// What comes after the effects of a reduction leaves the same, whether a variable becomes a name before it or after it.
+/// What comes after the effects of a reduction leaves the same, whether a variable becomes a name before it or after it. It does
+/// nothing: its contract is this law.
 pub fn late_law()
     ensures law { (n v : ℕ) → (a : List ℕ) → (s : State) → v ≤ s.last_variable → settle_charged n (replace_in_state v (atom a) s) ≡ replace_in_state v (atom a) (settle_charged_late v n s) }
 {}

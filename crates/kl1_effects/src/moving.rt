@@ -27,8 +27,8 @@ use kl1_store::{Qualified, Store};
 use kl1_text::{AtomText, CellName};
 use std::alloc::AllocError;
 
-/// Does a move of a goal that a draft removes, which is this cell; so many goals are there without it. Where the move would pass a
-/// limit, the goal raises an exception in its place. Where it uses a name that is new to the account, no variable becomes it. Where memory is refused, the store may have grown, and the draft is of no use.
+/// Does a move of a goal that a draft removes, which is this cell; `alive` counts the goals without it. If the move would pass a
+/// limit, the goal raises an exception in its place. If it uses a name that is new to the account, no variable becomes it. If memory is refused, the store may have grown, and the draft is of no use.
 pub fn do_move(
     store: &mut Store<CellName>,
     goals: &GoalTable<CellName>,
@@ -66,6 +66,7 @@ pub fn do_move(
     ensures grown { Grown store.old.held store.new.held }
     ensures hooks { store.new.hooks ≡ store.old.hooks }
 {
+    // Only for the proof: what the store holds is formed.
     let _formed = store.mark();
     match made {
         Move::Commits(place) => commit(
@@ -78,6 +79,7 @@ pub fn do_move(
             name_term(store, shoens, draft, names, goal, text, target, cell)
         }
         Move::Opens(structure) => {
+            // Only for the proof: which order the structure is.
             let _order = order_at(store, structure);
             open_child(store, shoens, draft, structure, goal, cell)
         }

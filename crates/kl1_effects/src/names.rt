@@ -73,7 +73,7 @@ impl AccountNames {
         }
     }
 
-    /// Makes room for so many names more. Where memory is refused, the names are as before.
+    /// Makes room for `more` names more. If memory is refused, the names are as before.
     pub fn reserve(&mut self, more: usize) -> Result<(), AllocError>
         ensures ok { OnOk result (more ≤ self.new.room) }
         ensures names { self.new.names ≡ self.old.names }
@@ -82,7 +82,7 @@ impl AccountNames {
         self.numbers.reserve(more)
     }
 
-    /// Takes in a name with its number, where it is new and there is room.
+    /// Takes in a name with its number, if it is new and there is room.
     pub fn learn(&mut self, text: AtomText, number: AtomNo)
         requires { 0 < self.old.room }
         ensures names { self.new.names ≡ added self.old.names text number }

@@ -32,9 +32,9 @@ pub fn has_room(names: &AccountNames, text: &AtomText) -> bool
     }
 }
 
-/// Uses a text as a name, and unifies a term with it, for a goal that a draft removes and that is this cell. Where this would be
-/// a name too many, the goal raises an exception. Where the name is new to the account, the draft has it, and the term is none that
-/// can become it. Where memory is refused, the store may have grown, and the draft is of no use.
+/// Uses a text as a name, and unifies a term with it, for a goal that a draft removes and that is this cell. If this would be
+/// a name too many, the goal raises an exception. If the name is new to the account, the draft has it, and the term is none that
+/// can become it. If memory is refused, the store may have grown, and the draft is of no use.
 pub fn name_term(
     store: &mut Store<CellName>,
     shoens: &mut ShoenTree<CellName>,
@@ -65,6 +65,7 @@ pub fn name_term(
     ensures grown { Grown store.old.held store.new.held }
     ensures hooks { store.new.hooks ≡ store.old.hooks }
 {
+    // Only for the proof: what the store holds is formed.
     let _formed = store.mark();
     if !has_room(names, &text) {
         return raise(store, shoens, draft, goal, BuiltIn::Exhaustion, cell);

@@ -21,7 +21,7 @@ use kl1_stream::Control;
 use kl1_text::CellName;
 use std::alloc::AllocError;
 
-/// Stops a shoen, and reports that, where it wasn't stopped. Where memory is refused, the store may have grown.
+/// Stops a shoen, and reports that, if it wasn't stopped. If memory is refused, the store may have grown.
 fn stop(
     store: &mut Store<CellName>,
     shoens: &mut ShoenTree<CellName>,
@@ -40,6 +40,7 @@ fn stop(
     ensures grown { Grown store.old.held store.new.held }
     ensures hooks { store.new.hooks ≡ store.old.hooks }
 {
+    // Only for the proof: what the store holds is formed.
     let _formed = store.mark();
     let Some(shoen) = shoens.lend(number).copied() else {
         return Ok(());
@@ -52,7 +53,7 @@ fn stop(
     report_name(store, shoens, draft, number, BuiltIn::Stopped)
 }
 
-/// Lets a shoen go on, and reports that, where it was stopped. Where memory is refused, the store may have grown.
+/// Lets a shoen go on, and reports that, if it was stopped. If memory is refused, the store may have grown.
 fn resume(
     store: &mut Store<CellName>,
     shoens: &mut ShoenTree<CellName>,
@@ -71,6 +72,7 @@ fn resume(
     ensures grown { Grown store.old.held store.new.held }
     ensures hooks { store.new.hooks ≡ store.old.hooks }
 {
+    // Only for the proof: what the store holds is formed.
     let _formed = store.mark();
     let Some(shoen) = shoens.lend(number).copied() else {
         return Ok(());
@@ -84,7 +86,7 @@ fn resume(
 }
 
 /// Ends a shoen and all below it as aborted; it alone reports that, and its stream is closed. No shoen of the draft may have ended
-/// before. Where memory is refused, the store may have grown.
+/// before. If memory is refused, the store may have grown.
 fn abort(
     store: &mut Store<CellName>,
     shoens: &mut ShoenTree<CellName>,
@@ -105,7 +107,9 @@ fn abort(
     ensures grown { Grown store.old.held store.new.held }
     ensures hooks { store.new.hooks ≡ store.old.hooks }
 {
+    // Only for the proof: what the store holds is formed.
     let _formed = store.mark();
+    // Only for the proof: the shoens are numbered in order.
     let _numbered = shoens.len();
     shoens.below(number, &mut draft.aborted)?;
     shoens.abort(number)?;
@@ -134,7 +138,7 @@ fn allow(
     shoens.allow(number, extra)
 }
 
-/// Does what a message says to a shoen. No shoen of the draft may have ended before. Where memory is refused, the store may have
+/// Does what a message says to a shoen. No shoen of the draft may have ended before. If memory is refused, the store may have
 /// grown.
 pub fn obey(
     store: &mut Store<CellName>,
@@ -157,6 +161,7 @@ pub fn obey(
     ensures grown { Grown store.old.held store.new.held }
     ensures hooks { store.new.hooks ≡ store.old.hooks }
 {
+    // Only for the proof: what the store holds is formed.
     let _formed = store.mark();
     match message {
         Message::Stop => stop(store, shoens, draft, number),
@@ -175,7 +180,7 @@ fn let_go(draft: &mut Draft, number: u64) -> Result<(), AllocError>
     Ok(())
 }
 
-/// Does what the monitor of a shoen reads. No shoen of the draft may have ended before. Where memory is refused, the store may have
+/// Does what the monitor of a shoen reads. No shoen of the draft may have ended before. If memory is refused, the store may have
 /// grown.
 pub fn hear(
     store: &mut Store<CellName>,
@@ -199,6 +204,7 @@ pub fn hear(
     ensures grown { Grown store.old.held store.new.held }
     ensures hooks { store.new.hooks ≡ store.old.hooks }
 {
+    // Only for the proof: what the store holds is formed.
     let _formed = store.mark();
     match control {
         Control::Awaits(_variable) => Ok(()),

@@ -31,7 +31,7 @@ use kl1_stream::{Told, append_report, close_report, exception_of, exception_with
 use kl1_text::{CellName, NameValue};
 use std::alloc::AllocError;
 
-/// A report of the shoen of a number; it tells whether that is made, and not dropped. Where memory is refused, the store may have grown.
+/// A report of shoen `number`; it tells whether that is made, and not dropped. If memory is refused, the store may have grown.
 fn tell(
     store: &mut Store<CellName>,
     shoens: &mut ShoenTree<CellName>,
@@ -53,6 +53,7 @@ fn tell(
     ensures hooks { store.new.hooks ≡ store.old.hooks }
 {
     let Some(shoen) = shoens.lend(number).copied() else {
+        // Only for the proof: what the store holds is formed.
         let _formed = store.mark();
         return Ok(false);
     };
@@ -71,7 +72,7 @@ fn tell(
     }
 }
 
-/// A report of the shoen of a number. Where memory is refused, the store may have grown.
+/// A report of shoen `number`. If memory is refused, the store may have grown.
 pub fn report(
     store: &mut Store<CellName>,
     shoens: &mut ShoenTree<CellName>,
@@ -95,7 +96,7 @@ pub fn report(
     Ok(())
 }
 
-/// The same report, of a name of the language, of each of these shoens, in order. Where memory is refused, the store may have grown.
+/// A report, which is a name of the language, of each of these shoens, in order. If memory is refused, the store may have grown.
 pub fn report_each(
     store: &mut Store<CellName>,
     shoens: &mut ShoenTree<CellName>,
@@ -113,6 +114,7 @@ pub fn report_each(
     ensures grown { Grown store.old.held store.new.held }
     ensures hooks { store.new.hooks ≡ store.old.hooks }
 {
+    // Only for the proof: what the store holds is formed.
     let _formed = store.mark();
     for number in numbers {
         report_name(store, shoens, draft, *number, name)?;
@@ -120,7 +122,7 @@ pub fn report_each(
     Ok(())
 }
 
-/// A report, which is a name of the language, of the shoen of a number. Where memory is refused, the store may have grown.
+/// A report, which is a name of the language, of shoen `number`. If memory is refused, the store may have grown.
 pub fn report_name(
     store: &mut Store<CellName>,
     shoens: &mut ShoenTree<CellName>,
@@ -142,7 +144,7 @@ pub fn report_name(
     report(store, shoens, draft, number, Cell::Atom(CellName::of(name)))
 }
 
-/// The cell of a whole goal. Where memory is refused, the store holds what it held.
+/// The cell of a whole goal. If memory is refused, the store holds what it held.
 fn whole(
     store: &mut Store<CellName>,
     goal: Qualified<CellName>,
@@ -152,6 +154,7 @@ fn whole(
     ensures grown { Grown store.old.held store.new.held }
     ensures hooks { store.new.hooks ≡ store.old.hooks }
 {
+    // Only for the proof: what the store holds is formed.
     let _formed = store.mark();
     match goal.module_name {
         None => Ok(goal.cell),
@@ -187,7 +190,7 @@ pub(crate) fn replace_goal(
 }
 
 /// Reports that a goal which a draft removes, and which is this term, raised an exception of the kind of a name, with a new variable, for
-/// which a substitute waits in its place; where the report is dropped, there is neither.
+/// which a substitute waits in its place; if the report is dropped, there is neither.
 fn raise_with_substitute(
     store: &mut Store<CellName>,
     shoens: &mut ShoenTree<CellName>,
@@ -224,7 +227,7 @@ fn raise_with_substitute(
 }
 
 /// Does what comes of an exception of the kind of a name that a goal raises, which a draft removes and which is this cell: its shoen
-/// reports that, and by the second rules a substitute stands in its place. Where memory is refused, the store may have grown.
+/// reports that, and by the second rules a substitute stands in its place. If memory is refused, the store may have grown.
 pub fn raise(
     store: &mut Store<CellName>,
     shoens: &mut ShoenTree<CellName>,
@@ -257,7 +260,7 @@ pub fn raise(
     }
 }
 
-/// Reports an exception of the kind of a name of a whole goal of the shoen of a number, or of any term. Where memory is refused, the
+/// Reports an exception of the kind of a name of a whole goal of shoen `number`, or of any term. If memory is refused, the
 /// store may have grown.
 pub fn raise_whole(
     store: &mut Store<CellName>,
@@ -282,7 +285,7 @@ pub fn raise_whole(
     report(store, shoens, draft, number, message)
 }
 
-/// Unifies two terms for a goal that a draft removes and that is this cell; where that fails, the goal raises an exception. Where memory
+/// Unifies two terms for a goal that a draft removes and that is this cell; if that fails, the goal raises an exception. If memory
 /// is refused, the store may have grown.
 pub fn unify(
     store: &mut Store<CellName>,
@@ -318,7 +321,7 @@ pub fn unify(
     }
 }
 
-/// Ends the report stream of the shoen of a number. Where memory is refused, the store holds what it held.
+/// Ends the report stream of shoen `number`. If memory is refused, the store holds what it held.
 pub fn close(
     store: &mut Store<CellName>,
     shoens: &ShoenTree<CellName>,
@@ -331,6 +334,7 @@ pub fn close(
     ensures grown { Grown store.old.held store.new.held }
     ensures hooks { store.new.hooks ≡ store.old.hooks }
 {
+    // Only for the proof: what the store holds is formed.
     let _formed = store.mark();
     let Some(shoen) = shoens.lend(number) else {
         return Ok(());

@@ -54,7 +54,7 @@ fn is_any_added(draft: &Draft, number: u64) -> bool
     false
 }
 
-/// Whether a draft aborts the shoen of a number.
+/// Whether a draft aborts shoen `number`.
 fn is_aborted(draft: &Draft, number: u64) -> bool
     ensures { result ≡ get_or draft.now.aborted.items (number - 1) false }
 {
@@ -98,7 +98,7 @@ fn ends_now(
     !shoens.has_living_child(number)
 }
 
-/// Ends the life of a shoen, which lives or doesn't, where it terminates, with a draft in place, and puts its number down then.
+/// Ends the life of a shoen, which lives or doesn't, if it terminates, with a draft in place, and puts its number down then.
 fn end_one(
     goals: &GoalTable<CellName>,
     shoens: &mut ShoenTree<CellName>,
@@ -144,7 +144,7 @@ fn is_calm(
 }
 
 /// Ends the lives of the shoens on the path of one that terminate, with a draft in place, and puts their numbers down, innermost
-/// first. Where memory is refused, some may have ended.
+/// first. If memory is refused, some may have ended.
 pub fn end_lives(
     goals: &GoalTable<CellName>,
     shoens: &mut ShoenTree<CellName>,
@@ -177,7 +177,7 @@ fn is_among(numbers: &[u64], number: u64) -> bool
     false
 }
 
-/// Puts the number of a shoen down, where it was charged just what it may be and doesn't end.
+/// Puts the number of a shoen down, if it was charged just what it may be and doesn't end.
 fn put_reached(
     number: u64,
     has_reached: bool,
@@ -245,8 +245,8 @@ fn find_charged(
     find_reached(shoens, number, ending, reached)
 }
 
-/// Does what is left of a termination where the shoen's life has ended: its monitor goes, it reports that, and its stream is closed.
-/// Where memory is refused, the store may have grown.
+/// Does what is left of a termination after the shoen's life has ended: its monitor goes, it reports that, and its stream is closed.
+/// If memory is refused, the store may have grown.
 fn finish(
     store: &mut Store<CellName>,
     shoens: &mut ShoenTree<CellName>,
@@ -264,13 +264,14 @@ fn finish(
     ensures grown { Grown store.old.held store.new.held }
     ensures hooks { store.new.hooks ≡ store.old.hooks }
 {
+    // Only for the proof: what the store holds is formed.
     let _formed = store.mark();
     draft.ended.push(number)?;
     report_name(store, shoens, draft, number, BuiltIn::Terminated)?;
     close(store, shoens, number)
 }
 
-/// The same of each of these shoens, in order.
+/// Does what is left of the terminations of these shoens, in order.
 fn finish_each(
     store: &mut Store<CellName>,
     shoens: &mut ShoenTree<CellName>,
@@ -289,6 +290,7 @@ fn finish_each(
     ensures grown { Grown store.old.held store.new.held }
     ensures hooks { store.new.hooks ≡ store.old.hooks }
 {
+    // Only for the proof: what the store holds is formed.
     let _formed = store.mark();
     for number in numbers {
         finish(store, shoens, draft, *number)?;
@@ -296,7 +298,7 @@ fn finish_each(
     Ok(())
 }
 
-/// The same as `finish_each`, with a first look whether there are any.
+/// Does what `finish_each` does, with a first look whether there are any.
 fn finish_found(
     store: &mut Store<CellName>,
     shoens: &mut ShoenTree<CellName>,
@@ -315,6 +317,7 @@ fn finish_found(
     ensures grown { Grown store.old.held store.new.held }
     ensures hooks { store.new.hooks ≡ store.old.hooks }
 {
+    // Only for the proof: what the store holds is formed.
     let _formed = store.mark();
     if numbers.is_empty() {
         return Ok(());
@@ -322,7 +325,7 @@ fn finish_found(
     finish_each(store, shoens, draft, numbers)
 }
 
-/// Terminations on the path of a shoen, innermost first. Where memory is refused, the store may have grown.
+/// Terminations on the path of a shoen, innermost first. If memory is refused, the store may have grown.
 pub fn settle(
     store: &mut Store<CellName>,
     goals: &GoalTable<CellName>,
@@ -344,6 +347,7 @@ pub fn settle(
     ensures grown { Grown store.old.held store.new.held }
     ensures hooks { store.new.hooks ≡ store.old.hooks }
 {
+    // Only for the proof: what the store holds is formed.
     let _formed = store.mark();
     end_lives(goals, shoens, draft, number, &mut walk.ending)?;
     let ending = walk.ending.as_slice();
@@ -373,6 +377,7 @@ fn settle_path(
     ensures grown { Grown store.old.held store.new.held }
     ensures hooks { store.new.hooks ≡ store.old.hooks }
 {
+    // Only for the proof: what the store holds is formed.
     let _formed = store.mark();
     end_lives(goals, shoens, draft, number, &mut walk.ending)?;
     let ending = walk.ending.as_slice();
@@ -383,7 +388,7 @@ fn settle_path(
 }
 
 /// What comes after the effects of a reduction in a shoen: the shoens on its path that have just been charged what they may be, and go
-/// on, report that they are exhausted, innermost first, and then come terminations. Where memory is refused, the store may have grown.
+/// on, report that they are exhausted, innermost first, and then come terminations. If memory is refused, the store may have grown.
 pub fn settle_charged(
     store: &mut Store<CellName>,
     goals: &GoalTable<CellName>,
@@ -406,6 +411,7 @@ pub fn settle_charged(
     ensures grown { Grown store.old.held store.new.held }
     ensures hooks { store.new.hooks ≡ store.old.hooks }
 {
+    // Only for the proof: what the store holds is formed.
     let _formed = store.mark();
     if is_calm(goals, shoens, draft, number) {
         walk.ending.clear();

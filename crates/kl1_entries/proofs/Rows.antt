@@ -44,7 +44,7 @@ short_place ws (slot.Resume n) here = refl
 short_place ws (slot.Abort n) here = refl
 short_place ws (slot.Kept k) here = absurd (omega (arith, here))
 
--- and stays a place where more is kept whole
+-- and stays a place if more is kept whole
 pub place_more : (n m : ℕ) (s : Slot) → n < suc m → IsPlace n s → IsPlace m s
 place_more n m (slot.Step g c) less here = here
 place_more n m (slot.Stop k) less here = here

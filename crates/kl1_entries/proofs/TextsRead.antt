@@ -58,7 +58,7 @@ pub no_name : (rules : Rules) (sessions : ℕ) (names : List (List ℕ)) (m n : 
 unfolding after_by
 no_name rules sessions names m n text line after count is read = name_line_read rules sessions names m n text line after None count is read ∙ neither (length (lines_of after).rest == 0)
 
--- no line, where names follow
+-- no line, if names follow
 pub no_line : (rules : Rules) (sessions : ℕ) (names : List (List ℕ)) (m n : ℕ) (text : List ℕ) → m ≡ suc n → lines_of text ≡ record { whole = []; rest = text } → read_after rules sessions names m text ≡ None
 no_line rules sessions names m n text count is =
     ap (λ (k : ℕ). read_after rules sessions names k text) count

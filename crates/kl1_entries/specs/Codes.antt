@@ -41,7 +41,7 @@ abbrev pub rules_number : Rules → ℕ
 rules_number One = 1
 rules_number Two = 2
 
--- the rules of a number
+-- the rules with a number
 abbrev pub rules_from : ℕ → Rules
 rules_from (suc (suc n)) = Two
 rules_from n = One

@@ -28,7 +28,7 @@ pub enum Entry<'a> {
         shoen: ShoenNo,
         message: Message,
     },
-    /// A goal reduced by the clause of a number, or 0.
+    /// A goal reduced by a clause's number, or by 0.
     Reduce {
         goal: GoalNo,
         clause: ClauseNo,

@@ -42,7 +42,7 @@ fn rules_of(word: &[u8]) -> Option<Rules>
     None
 }
 
-/// Puts bytes behind others.
+/// Puts bytes after others.
 fn put_short(out: &mut ShortBytes, bytes: &[u8])
     requires { length out.old + length bytes.now ≤ 128 }
     ensures { out.new ≡ out.old ++ bytes.now }

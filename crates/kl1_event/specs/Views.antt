@@ -75,12 +75,12 @@ reply_of reply.Bye = model.bye
 reply_of reply.Reset = model.was_reset
 reply_of (reply.Refused r) = model.refused (refusal_of r)
 
--- the reply to a reduction that is refused for this reason, or done where there is none
+-- the reply to a reduction that is refused for this reason, or done if there is none
 abbrev pub reduced_or : Option Refusal → model.Reply
 reduced_or None = model.reduced
 reduced_or (Some r) = model.refused (refusal_of r)
 
--- the reply to a message that is refused for this reason, or sent where there is none
+-- the reply to a message that is refused for this reason, or sent if there is none
 abbrev pub sent_or : Option Refusal → model.Reply
 sent_or None = model.sent
 sent_or (Some r) = model.refused (refusal_of r)

@@ -8,6 +8,6 @@ use Rattle.kl1_model.specs.Asking.{origin_at}
 abbrev pub whole_of : Option Origin → Option (List ℕ)
 whole_of o = option_map (λ kept. print kept.goal) o
 
--- the goal of the shoen of a number, which the console started, with what is bound now, whole
+-- the goal of shoen `n`, which the console started, with what is bound now, whole
 abbrev pub whole_value : State → ℕ → Option (List ℕ)
 whole_value s n = whole_of (origin_at n s.shoens)

@@ -40,7 +40,7 @@ pub enum Event {
         shoen: ShoenNo,
         message: Message,
     },
-    /// A goal is reduced by the clause of a number in its predicate, from 1, or by 0, the number for a goal that fails and
+    /// A goal is reduced by a clause, by its number in the predicate from 1, or by 0, the number for a goal that fails and
     /// for a built-in goal.
     Reduce {
         goal: GoalNo,

@@ -17,7 +17,7 @@ pub enum Reply {
     Sent,
     /// A reduction is done.
     Reduced,
-    /// So many steps of a run are done.
+    /// This many steps of a run are done.
     Ran(u64),
     /// A goal, printed and cut.
     Shown(Vec<u8>),

@@ -25,7 +25,7 @@ same_read xs k x y w p q = p ∙ get_or_default xs k x y w ∙ q
 pub field_at : {N : Type 0} (f : Slot N → ℕ) (ss : List (Slot N)) (k : ℕ) (s : Slot N) → k < length ss → get_or ss k s ≡ s → get_or (map f ss) k 0 ≡ f s
 field_at f ss k s w e = get_or-map f ss k s 0 w ∙ ap f e
 
--- the same of what was read there
+-- what a list of a function of the places has at a place that was read
 pub field_read : {N : Type 0} (f : Slot N → ℕ) (ss : List (Slot N)) (k : ℕ) (s : Slot N) → k < length ss → s ≡ get_or ss k s → get_or (map f ss) k 0 ≡ f s
 field_read f ss k s w e = field_at f ss k s w (sym e)
 
@@ -351,6 +351,6 @@ held_here {N = N} ss n k x s h e = record {
   held = ap (λ (v : Slot N). v.is_held) (same_read ss k x s h.within e h.at) ∙ h.held;
 }
 
--- the same of the goal that was found there
+-- a goal that was found is held under its own number
 pub held_itself : {N : Type 0} (ss : List (Slot N)) (n k : ℕ) (s : Slot N) → IsHeldAt ss n k s → IsHeldAt ss s.goal.number k s
 held_itself ss n k s h = record { within = h.within; at = h.at; number = refl; held = h.held }

@@ -186,7 +186,7 @@ ranks_kept ss k s ranks w e r = r ∙ sym (field_kept rank_in ss k s s w e refl)
 pub priority_at : {N : Type 0} (ss : List (Slot N)) (k : ℕ) (s : Slot N) → AreLow (map level_in ss) → k < length ss → s ≡ get_or ss k s → s.goal.priority ≤ monitor_priority
 priority_at ss k s a w e = omega (arith, low_at (map level_in ss) k a (omega (arith, w, length-map ss level_in)), field_read level_in ss k s w e)
 
--- places of which so many are changed
+-- the first `k` places are changed, and then the next
 pub changed_one : {N : Type 0} (f : Slot N → Slot N) (k : ℕ) (ss : List (Slot N)) → changed_at f k (changed_to f k ss) ≡ changed_to f (suc k) ss
 changed_one f zero [] = refl
 changed_one f (suc k) [] = refl

@@ -29,7 +29,7 @@ pub ascend_push : (from : ℕ) (ns : List ℕ) (n : ℕ) → Ascend from ns → 
 ascend_push from [] n a b p = (p, tt)
 ascend_push from (m ∷ ms) n a b p = (a.0, ascend_push (suc m) ms n a.1 b.1 (omega (arith, b.0)))
 
--- where the last is below a number, all are
+-- if the last is below a number, all are
 pub below_by_last : (from : ℕ) (ns : List ℕ) (n : ℕ) → Ascend from ns → ((j : ℕ) → j < length ns → get_or ns j 0 < n) → AreBelow n ns
 below_by_last from [] n a b = tt
 below_by_last from (m ∷ ms) n a b = (b 0 (omega arith), below_by_last (suc m) ms n a.1 (λ j w. b (suc j) (omega arith)))

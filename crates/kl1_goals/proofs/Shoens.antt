@@ -146,7 +146,7 @@ shoen_known g gs ts some h =
       ],
     )
 
--- goals without the one of a number, and goals that fail a test that it alone passes
+-- goals without the one numbered `n`, and goals that fail a test that it alone passes
 goals_others : {N : Type 0} (n from : ℕ) (gs : List (Goal N)) → n < from → Ascend from (map number_of gs) → filter (is_other n) gs ≡ gs
 goals_others n from [] p a = refl
 goals_others n from (g ∷ gs) p a = rw (ne_eqb g.number n (λ e. omega (arith, a.0, e))) (ap (λ l. g ∷ l) (goals_others n (suc g.number) gs (omega (arith, a.0)) a.1))
@@ -183,7 +183,7 @@ only_other p from n (g ∷ gs) a e =
     only_on (p g) n g (filter p gs) gs (filter (is_other n) gs) (filter (λ g. not (p g)) gs) e
     (λ k. goals_others n (suc g.number) gs (omega (arith, k)) a.1) (none_fail p gs) (λ f. (only_from p (suc g.number) n gs a.1 f, only_other p (suc g.number) n gs a.1 f))
 
--- how a count falls when the goal of a number goes
+-- how a count falls when a goal goes
 one_more : {N : Type 0} (b : Bool) (g : Goal N) (gs : List (Goal N)) → length (cond b (g ∷ gs) gs) ≡ length gs + cond b 1 0
 one_more false g gs = omega arith
 one_more true g gs = omega arith

@@ -89,7 +89,7 @@ missing_stood n clause (g ∷ gs) e = let m = missing_head (g.number == n) g (fi
 pub goals_counted : {N : Type 0} (n : ℕ) (ss : List (Slot N)) (empty : ℕ) (ranks : List ℕ) (ts : List Tally) (alive : ℕ) (t : Tally) (gs : List (Goal N)) → IsTable ss empty ranks ts alive → t ≡ tally_at ts n → goals_in ss ≡ gs → t.goals ≡ length (filter (is_goal_of n) gs)
 goals_counted n ss empty ranks ts alive t gs h e s = ap (λ (u : Tally). u.goals) e ∙ (h.tallied n).goals ∙ ap (λ l. length (filter (is_goal_of n) l)) s
 
--- where not just one goal passes, it doesn't matter whether one that is left out does
+-- if not just one goal passes, it doesn't matter whether one that is left out does
 most_left : (b : Bool) (count : ℕ) → (count ≡ 1 → ⊥) → nat_lt 1 count ≡ nat_lt (cond b 1 0) count
 most_left true count w = refl
 most_left false count w = elim (cases_lt 1 count) [ inl a ↦ lt-ltb 1 count a ∙ sym (lt-ltb 0 count (omega (arith, a))) | inr a ↦ le-ltb 1 count a ∙ sym (le-ltb 0 count (omega (arith, a, w))) ]
@@ -102,7 +102,7 @@ most_beside p n count gs (Some g) a f e w = most_left (p g) count w ∙ any_besi
 pub any_many : {N : Type 0} (p : Goal N → Bool) (n count : ℕ) (gs : List (Goal N)) → Ascend 0 (map number_of gs) → count ≡ length (filter p gs) → (count ≡ 1 → ⊥) → nat_lt 1 count ≡ list_any p (filter (is_other n) gs)
 any_many p n count gs a e w = most_beside p n count gs (find (has_number n) gs) a refl e w
 
--- where just one goal passes, another is left unless it is that one
+-- if just one goal passes, another is left unless it is that one
 one_fallen : (b : Bool) → not b ≡ nat_lt (cond b 1 0) 1
 one_fallen true = refl
 one_fallen false = refl

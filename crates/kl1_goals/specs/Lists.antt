@@ -42,7 +42,7 @@ is_goal_of n g = g.shoen == n && not (is_monitor g)
 abbrev pub stood_by : {N : Type 0} → ℕ → Option ℕ → Goal N → Goal N
 stood_by n clause g = record g { standing = if g.number == n then clause else g.standing }
 
--- whether the flag of a goal's shoen is set, where the first of them is shoen 1's
+-- whether the flag of a goal's shoen is set, the first of them being shoen 1's
 abbrev pub is_flagged : {N : Type 0} → List Bool → Goal N → Bool
 is_flagged flags g = get_or flags (g.shoen - 1) false
 

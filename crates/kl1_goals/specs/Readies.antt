@@ -20,7 +20,7 @@ stands g = g.is_enabled && is_some g.standing
 abbrev pub ready_by : {N : Type 0} → Goal N → ℕ → Ready
 ready_by g clause = record { goal = g.number; clause = clause; priority = g.priority }
 
--- a goal, where it can step
+-- a goal, if it can step
 abbrev pub ready_of : {N : Type 0} → Goal N → Option Ready
 ready_of g = if g.is_enabled then option_map (ready_by g) g.standing else None
 

@@ -61,7 +61,7 @@ changed_at f k [] = []
 changed_at f zero (s ∷ ss) = f s ∷ ss
 changed_at f (suc k) (s ∷ ss) = s ∷ changed_at f k ss
 
--- places of which so many are changed
+-- places of which the first `k` are changed
 abbrev pub changed_to : {N : Type 0} → (Slot N → Slot N) → ℕ → List (Slot N) → List (Slot N)
 changed_to f zero ss = ss
 changed_to f (suc k) [] = []
@@ -83,7 +83,7 @@ pub record IsCut (ns : List ℕ) (n count : ℕ) : Type 0 where
   pub low : (j : ℕ) → j < count → get_or ns j 0 ≤ n
   pub high : (j : ℕ) → count ≤ j → j < length ns → n < get_or ns j 0
 
--- the place of a number
+-- the place `k` of number `n`
 pub record IsPlace (ns : List ℕ) (n k : ℕ) : Type 0 where
   pub within : k < length ns
   pub is : get_or ns k 0 ≡ n
@@ -104,7 +104,7 @@ pub record IsEmptyEnd {N : Type 0} (ss : List (Slot N)) : Type 0 where
   pub some : 0 < length ss
   pub goals : goals_in (take (length ss - 1) ss) ≡ goals_in ss
 
--- places in order of number with their ranks, of which so many are empty
+-- places in order of number with their ranks, of which `empty` are empty
 pub record AreSlots {N : Type 0} (ss : List (Slot N)) (empty : ℕ) (ranks : List ℕ) : Type 0 where
   pub ascend : Ascend 0 (numbers_of ss)
   pub low : AreLow (map level_in ss)

@@ -21,7 +21,7 @@ Ascend from (n ∷ ns) = (from ≤ n) × Ascend (suc n) ns
 abbrev pub AreBefore : {N : Type 0} → ℕ → List (Goal N) → Type 0
 AreBefore n goals = AllByRecursion (λ g. g.number < n) goals
 
--- a goal that a table of such goals and so many shoens takes in
+-- a goal that a table of such goals and `shoens` shoens takes in
 pub record IsNext {N : Type 0} (g : Goal N) (goals : List (Goal N)) (shoens : ℕ) : Type 0 where
   pub number : AreBefore g.number goals
   pub low : 0 < g.shoen
@@ -29,7 +29,7 @@ pub record IsNext {N : Type 0} (g : Goal N) (goals : List (Goal N)) (shoens : �
   pub priority : g.priority ≤ monitor_priority
   pub monitor : is_monitor g ≡ true → list_any (is_monitor_of g.shoen) goals ≡ false
 
--- what is so of each goal of a table with so many shoens
+-- what is so of each goal of a table with `shoens` shoens
 pub record IsKnown {N : Type 0} (g : Goal N) (shoens : ℕ) : Type 0 where
   pub low : 0 < g.shoen
   pub high : g.shoen ≤ shoens

@@ -11,7 +11,7 @@ use crate::slot::Slot;
 use kl1_queue::ReadyQueue;
 use kl1_text::NameValue;
 
-/// The flag of a shoen, of which the first is shoen 1's; not set where there is none.
+/// The flag of a shoen, of which the first is shoen 1's; not set if there is none.
 pub(crate) fn flag_of(flags: &[bool], shoen: u64) -> bool
     ensures { result ≡ get_or flags.now (shoen - 1) false }
 {
@@ -50,7 +50,7 @@ fn may_step<N: NameValue>(goal: &Goal<N>, flags: &[bool]) -> bool
     goal.is_monitor() || flag_of(flags, goal.shoen)
 }
 
-/// Lets the goal of a place step, where it is a monitor or its shoen's flag is set, and no other.
+/// Lets the goal of a place step, if it is a monitor or its shoen's flag is set, and no other.
 fn enable<N: NameValue>(
     slots: &mut Vec<Slot<N>>,
     queue: &mut ReadyQueue,

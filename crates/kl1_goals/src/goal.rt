@@ -8,7 +8,7 @@ ghost use Rattle.kl1_goals.specs.Readies.{stands};
 use crate::task::Task;
 
 /// A goal: its number in the account, from 1, its task, the number of its shoen, its priority, at most a monitor's, the number of
-/// the clause by which it could step, as of the last change, none where there is none, and whether its shoen lets it step; a
+/// the clause by which it could step, as of the last change, none if there is none, and whether its shoen lets it step; a
 /// monitor is always let.
 #[derive(Clone, Copy)]
 pub struct Goal<N> {
@@ -39,7 +39,7 @@ impl<N> Goal<N> {
         self.shoen == shoen && !self.is_monitor()
     }
 
-    /// The priority, where it can step.
+    /// The priority, if it can step.
     pub(crate) fn ready_priority(&self) -> Option<u16>
         requires { self.now.priority ≤ monitor_priority }
         ensures { result ≡ cond (stands self.now) (Some self.now.priority) None }

@@ -20,7 +20,7 @@ use std::marker::Model;
 /// The goals of an account in order of number, each with the clause by which it could step and whether it may, and its shoens,
 /// counted from 1.
 ///
-/// A goal that is removed leaves its place empty; empty places are dropped where no goal is after them, and where they come to
+/// A goal that is removed leaves its place empty; empty places are dropped if no goal is after them, and if they come to
 /// more than three quarters. `seen` is the place in which a goal was found last to change it: a hint of where it may be.
 #[derive(Drop)]
 pub struct GoalTable<N: NameValue> {
@@ -67,7 +67,7 @@ impl<N: NameValue> GoalTable<N> {
         }
     }
 
-    /// Makes room for so many more goals and shoens: to put and to open these can't be refused then.
+    /// Makes room for `goals` goals and `shoens` shoens more: to put and to open these can't be refused then.
     #[inline(always)]
     pub fn reserve(&mut self, goals: usize, shoens: usize) -> Result<(), AllocError>
         ensures room { OnOk result (goals ≤ self.new.room) }
@@ -105,7 +105,7 @@ impl<N: NameValue> GoalTable<N> {
         self.tallies.len()
     }
 
-    /// The goal of a number.
+    /// The goal with number `number`.
     pub fn get(&self, number: u64) -> Option<Goal<N>>
         ensures goal { result ≡ find (has_number number) self.now.goals }
         ensures number { IfSome result (λ g. g.number ≡ number) }
@@ -163,7 +163,7 @@ impl<N: NameValue> GoalTable<N> {
         self.alive = raise_alive(self.alive, goal);
     }
 
-    /// Removes the goal of a number, where there is one.
+    /// Removes the goal with number `number`, if there is one.
     #[inline(always)]
     pub fn remove(&mut self, number: u64)
         ensures goals { self.new.goals ≡ filter (is_other number) self.old.goals }
@@ -184,7 +184,7 @@ impl<N: NameValue> GoalTable<N> {
         }
     }
 
-    /// Removes the monitor of a shoen, where it has one.
+    /// Removes the monitor of a shoen, if it has one.
     pub fn remove_monitor(&mut self, shoen: u64)
         ensures goals { self.new.goals ≡ filter (λ g. not (is_monitor_of shoen g)) self.old.goals }
         ensures shoens { self.new.shoens ≡ self.old.shoens }
@@ -218,7 +218,7 @@ impl<N: NameValue> GoalTable<N> {
         enable_all(&mut self.slots, self.empty, &mut self.queue, flags);
     }
 
-    /// From now on the goal of a number has this clause by which it could step, or none.
+    /// From now on goal `number` has this clause by which it could step, or none.
     pub fn set_standing(&mut self, number: u64, standing: Option<u64>)
         ensures { self.new ≡ record self.old { goals = map (stood_by number standing) self.old.goals } }
     {
@@ -277,7 +277,7 @@ impl<N: NameValue> GoalTable<N> {
         count_flagged(&self.slots, flags)
     }
 
-    /// The number of a shoen's monitor, where it has one.
+    /// The number of a shoen's monitor, if it has one.
     pub fn monitor_of(&self, shoen: u64) -> Option<u64>
         ensures { result ≡ option_map number_of (find (is_monitor_of shoen) self.now.goals) }
     {
@@ -291,7 +291,7 @@ impl<N: NameValue> GoalTable<N> {
         tally_of(&self.tallies, shoen).goals > 0
     }
 
-    /// Whether a shoen has a goal other than its monitor beside the goal of a number.
+    /// Whether a shoen has a goal other than its monitor and goal `number`.
     pub fn has_goal_beside(&self, shoen: u64, number: u64) -> bool
         ensures { result ≡ list_any (is_goal_of shoen) (filter (is_other number) self.now.goals) }
     {

@@ -12,7 +12,7 @@ use crate::slot::Slot;
 use kl1_queue::ReadyQueue;
 use kl1_text::NameValue;
 
-/// A table of at most so many places isn't compacted.
+/// A table of at most this many places isn't compacted.
 const FEW: usize = 32;
 
 /// How many places have this number or a lesser one.
@@ -46,7 +46,7 @@ fn ends_before<N: NameValue>(slots: &Vec<Slot<N>>, number: u64) -> bool
     slots[count - 1].goal.number < number
 }
 
-/// The place of a number, by a search.
+/// The place of `number`, by a search.
 fn searched_place<N: NameValue>(slots: &Vec<Slot<N>>, number: u64) -> Option<usize>
     requires { Ascend 0 (numbers_of slots.now.items) }
     ensures { MatchOption result (IsAbsent (numbers_of slots.now.items) number) (λ k. IsPlace (numbers_of slots.now.items) number k) }
@@ -63,7 +63,7 @@ fn searched_place<N: NameValue>(slots: &Vec<Slot<N>>, number: u64) -> Option<usi
     }
 }
 
-/// The place of a number, which may be where one was found last.
+/// The place of `number`, which may be where one was found last.
 #[inline(never)]
 fn far_place<N: NameValue>(slots: &Vec<Slot<N>>, seen: usize, number: u64) -> Option<usize>
     requires { Ascend 0 (numbers_of slots.now.items) }
@@ -75,7 +75,7 @@ fn far_place<N: NameValue>(slots: &Vec<Slot<N>>, seen: usize, number: u64) -> Op
     searched_place(slots, number)
 }
 
-/// The place of a number: found by one look where none is left out between it and the last.
+/// The place of `number`: found by one look if none is left out between it and the last.
 #[inline]
 fn place_of<N: NameValue>(slots: &Vec<Slot<N>>, seen: usize, number: u64) -> Option<usize>
     requires { Ascend 0 (numbers_of slots.now.items) }
@@ -269,7 +269,7 @@ fn trim<N: NameValue>(slots: &mut Vec<Slot<N>>, empty: &mut usize, queue: &mut R
     }
 }
 
-/// Drops the empty places at the end, and all of them where they are more than three quarters: then each that is dropped costs a
+/// Drops the empty places at the end, and all of them if they are more than three quarters: then each that is dropped costs a
 /// third of a place that is moved.
 #[inline(always)]
 pub(crate) fn tidy<N: NameValue>(
@@ -294,7 +294,7 @@ pub(crate) fn tidy<N: NameValue>(
     }
 }
 
-/// Drops the empty places where one of them may have this number or a greater one.
+/// Drops the empty places if one of them may have this number or a greater one.
 #[inline]
 pub(crate) fn make_end<N: NameValue>(
     slots: &mut Vec<Slot<N>>,

@@ -7,7 +7,7 @@ ghost use Rattle.kl1_goals.specs.Slots.{priority_in};
 use crate::goal::Goal;
 use kl1_text::NameValue;
 
-/// A goal in a table; it is empty where the goal is gone, and only its number counts then.
+/// A goal in a table; it is empty if the goal is gone, and only its number counts then.
 #[derive(Clone, Copy)]
 pub(crate) struct Slot<N> {
     pub goal: Goal<N>,
@@ -15,7 +15,7 @@ pub(crate) struct Slot<N> {
 }
 
 impl<N: NameValue> Slot<N> {
-    /// The priority of the goal, where it is there and can step.
+    /// The priority of the goal, if it is there and can step.
     pub(crate) fn priority(&self) -> Option<u16>
         requires { self.now.goal.priority ≤ monitor_priority }
         ensures { result ≡ priority_in self.now }

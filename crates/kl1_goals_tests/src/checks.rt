@@ -8,7 +8,7 @@ use kl1_rows::Text;
 use std::sync::Wait;
 use std::thread::Threads;
 
-/// Puts a line on each check of the queue, the goals, the modules, the codes and the store behind a report.
+/// Puts a line on each check of the queue, the goals, the modules, the codes and the store after a report.
 pub fn put_checks<R: Threads + Wait + Sync>(rt: &R, out: &mut Text) {
     put_ready_checks(out);
     put_checks_beside(out);

@@ -1,4 +1,4 @@
-// The same work done by the store and by plain Rust, and how long each takes.
+// Work done by the store and by plain Rust, and how long each takes.
 
 mod cells;
 mod plain;

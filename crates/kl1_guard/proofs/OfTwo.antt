@@ -8,7 +8,7 @@ use Rattle.kl1_guard.specs.Tests.{IsOfTwo, IsTestAt}
 at_two : {A : Type 0} (IsAt : A → Type 0) (left right a b : A) → IsAt left → IsAt right → (a ≡ left) × (b ≡ right) → IsAt a × IsAt b
 at_two IsAt left right a b h k e = (subst IsAt (sym e.0) h, subst IsAt (sym e.1) k)
 
--- terms stand where a test of two asks for them, where they do
+-- terms stand where a test of two asks for them, if they do
 pub two_at : {A : Type 0} (IsAt : A → Type 0) (left right : A) (o : Option (Test A)) → IsAt left → IsAt right → IfSome o (IsOfTwo left right) → IfSome o (IsTestAt IsAt)
 two_at IsAt left right None h k e = tt
 two_at IsAt left right (Some Holds) h k e = tt

@@ -63,7 +63,7 @@ MeetsAs number arguments t u (Waits v) = (clash t u ≡ false) × (awaited t u �
 MeetsAs number arguments t u (WaitsBoth v w) = (clash t u ≡ false) × (awaited t u ≡ number v ∷ number w ∷ [])
 MeetsAs number arguments t u (Open s r n) = (clash t u ≡ any_clash (arguments s) (arguments r)) × (awaited t u ≡ all_awaited (arguments s) (arguments r))
 
--- two structures that are to be looked at: the left one's arguments are so many, and smaller than it
+-- two structures that are to be looked at: the left one's arguments are as many as the number says, and smaller than it
 abbrev pub OpensAs : {V S : Type 0} → (S → Terms) → Term → Met V S → Type 0
 OpensAs arguments t Same = Unit {0}
 OpensAs arguments t Clash = Unit {0}
@@ -71,7 +71,7 @@ OpensAs arguments t (Waits v) = Unit {0}
 OpensAs arguments t (WaitsBoth v w) = Unit {0}
 OpensAs arguments t (Open s r n) = (count_of (arguments s) ≡ n) × (size t ≡ suc (sizes (arguments s)))
 
--- variables that are unbound, and structures that are there and have so many arguments
+-- variables that are unbound, and structures that are there and have as many arguments as the number says
 abbrev pub IsMetIn : {V S : Type 0} → (V → Type 0) → (S → Type 0) → (S → ℕ) → Met V S → Type 0
 IsMetIn IsFree IsThere count Same = Unit {0}
 IsMetIn IsFree IsThere count Clash = Unit {0}
@@ -79,7 +79,7 @@ IsMetIn IsFree IsThere count (Waits v) = IsFree v
 IsMetIn IsFree IsThere count (WaitsBoth v w) = IsFree v × IsFree w
 IsMetIn IsFree IsThere count (Open s r n) = IsThere s × IsThere r × (n ≡ count s) × (n ≡ count r)
 
--- two structures that are there and have so many arguments
+-- two structures that are there and have as many arguments as the frame says
 pub record IsFrameOf {N S : Type 0} (IsThere : S → Type 0) (count : S → ℕ) (arguments : (N → List ℕ) → S → Terms) (x : Frame S) : Type 0 where
   pub left : IsThere x.left
   pub right : IsThere x.right
@@ -99,7 +99,7 @@ pub record TakesUp {V S A : Type 0} (number : V → ℕ) (arguments : S → Term
   pub clash : clash_left arguments term frames_after rest_after ≡ (clash (term pair.left) (term pair.right) || clash_left arguments term frames rest)
   pub awaited : (v : ℕ) → await_left number arguments term v frames_after waits_after rest_after ≡ (wait_for v (term pair.left) (term pair.right) || await_left number arguments term v frames waits rest)
 
--- two terms were taken up, or they clash, where the answer is no
+-- two terms were taken up, or they clash, if the answer is no
 abbrev pub TakesUpAs : {N V S A : Type 0} → (BuiltIn → N) → (V → ℕ) → ((N → List ℕ) → S → Terms) → ((N → List ℕ) → A → Term) → Pair A → List (Frame S) → List V → List (Pair A) → List (Frame S) → List V → List (Pair A) → Bool → Type 0
 TakesUpAs {N = N} built number arguments term pair frames waits rest frames_after waits_after rest_after true = (f : N → List ℕ) → Reads built f → TakesUp number (arguments f) (term f) pair frames waits rest frames_after waits_after rest_after
 TakesUpAs {N = N} built number arguments term pair frames waits rest frames_after waits_after rest_after false = (f : N → List ℕ) → Reads built f → clash (term f pair.left) (term f pair.right) ≡ true
@@ -109,7 +109,7 @@ pub record Parts {V A : Type 0} (number : V → ℕ) (term : A → Term) (t u : 
   pub clash : clash t u ≡ some_pair term clash rest
   pub awaited : (v : ℕ) → wait_for v t u ≡ (is_among v (map number waits) || some_pair term (wait_for v) rest)
 
--- that, or the terms clash, where the answer is no
+-- that, or the terms clash, if the answer is no
 abbrev pub PartsAs : {N V A : Type 0} → (BuiltIn → N) → (V → ℕ) → ((N → List ℕ) → A → Term) → A → A → List V → List (Pair A) → Bool → Type 0
 PartsAs {N = N} built number term left right waits rest true = (f : N → List ℕ) → Reads built f → Parts number (term f) (term f left) (term f right) waits rest
 PartsAs {N = N} built number term left right waits rest false = (f : N → List ℕ) → Reads built f → clash (term f left) (term f right) ≡ true

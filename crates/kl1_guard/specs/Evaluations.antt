@@ -9,7 +9,7 @@ use Rattle.kl1_guard.specs.declared.evaluated.Evaluated.{Evaluated}
 use Rattle.kl1_guard.specs.declared.evaluated.Evaluated.TheVariants.{ComesTo, Awaits, IsNoExpression}
 use Rattle.kl1_guard.specs.declared.scratch.Scratch.{Scratch}
 
--- what the definitions call it, where variables have these numbers
+-- what the definitions call it, if variables have these numbers
 abbrev pub evaluated_of : {V : Type 0} → (V → ℕ) → Evaluated V → model.Evaluated
 evaluated_of number (ComesTo x) = model.comes_to x
 evaluated_of number (Awaits v) = model.awaits (number v)

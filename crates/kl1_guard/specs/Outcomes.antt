@@ -9,7 +9,7 @@ use Rattle.kl1_text.specs.Reading.{Reads}
 use Rattle.kl1_guard.specs.declared.outcome.Outcome.{Outcome}
 use Rattle.kl1_guard.specs.declared.outcome.Outcome.TheVariants.{Agrees, Clashes, Waits}
 
--- what the definitions call it, where variables have these numbers
+-- what the definitions call it, if variables have these numbers
 abbrev pub outcome_of : {V : Type 0} → (V → ℕ) → Outcome V → model.Outcome
 outcome_of number Agrees = model.agrees
 outcome_of number Clashes = model.clashes

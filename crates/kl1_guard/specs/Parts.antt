@@ -5,7 +5,7 @@ use Rattle.kl1_model.specs.Arithmetic.{Scan, found, waits_for, wrong_type, numbe
 use Rattle.kl1_guard.specs.declared.part.Part.{Part}
 use Rattle.kl1_guard.specs.declared.part.Part.TheVariants.{Variable, Integer, Operation, Other}
 
--- what is found in a part, where there may be this many operators, variables have these numbers, and these terms stand there
+-- what is found in a part, if there may be this many operators, variables have these numbers, and these terms stand there
 abbrev pub part_scan : {V A : Type 0} → (V → ℕ) → (A → Term) → ℕ → Part V A → Scan
 part_scan number_of term n (Variable v) = waits_for (number_of v)
 part_scan number_of term n (Integer i) = found (number i) n

@@ -12,7 +12,7 @@ use Rattle.kl1_guard.specs.declared.pending.Pending.TheVariants.{Right, With, Ap
 use Rattle.kl1_guard.specs.declared.carrying.Carried.{Carried}
 use Rattle.kl1_guard.specs.declared.carrying.Carried.TheVariants.{To, Whole}
 
--- what a scan comes to, where what it finds goes further on as a number, with the operators that there might still have been
+-- what a scan comes to, if what it finds goes further on as a number, with the operators that there might still have been
 abbrev pub going_on : Scan → (Number → ℕ → Evaluated) → Evaluated
 going_on (found e left) next = next (compute e) left
 going_on (waits_for v) next = awaits v

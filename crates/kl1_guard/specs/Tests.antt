@@ -5,7 +5,7 @@ use Rattle.kl1_model.specs.Guard as model
 use Rattle.kl1_guard.specs.declared.test.Test.{Test}
 use Rattle.kl1_guard.specs.declared.test.Test.TheVariants.{Holds, Looks, IsSame, IsOther, Compares}
 
--- what the definitions call it, where these terms stand there
+-- what the definitions call it, if these terms stand there
 abbrev pub test_in : {A : Type 0} → (A → Term) → Test A → model.Test
 test_in term Holds = model.holds
 test_in term (Looks i a) = model.looks i (term a)

@@ -7,7 +7,7 @@ ghost use Rattle.kl1_model.specs.Arithmetic.{fitted, operated, applied};
 
 use kl1_model::{Number, Operator};
 
-/// The number that a checked operation found, or an overflow where it found none.
+/// The number that a checked operation found, or an overflow if it found none.
 fn number_of(checked: Option<i64>) -> Number
     ensures { (z : ℤ) → SomeIff checked (FitsSigned w64 z) z → result ≡ fitted z }
 {

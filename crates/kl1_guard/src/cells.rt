@@ -15,7 +15,7 @@ use kl1_store::{Cell, Store};
 use kl1_text::NameValue;
 use std::alloc::AllocError;
 
-/// What the term of a cell comes to as an expression. Want of memory is the only error; where the scratch has served a call
+/// What the term of a cell comes to as an expression. Want of memory is the only error; if the scratch has served a call
 /// before, there is none.
 #[inline(always)]
 pub fn evaluate_cell<N: NameValue>(

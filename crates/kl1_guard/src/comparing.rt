@@ -46,7 +46,7 @@ fn compare_numbers<V>(comparison: Comparison, left: Number, right: Number) -> Ou
 }
 
 /// Compares two terms as expressions: the left one is scanned first, and the first that is no number, or waits, decides. Want of
-/// memory is the only error; where the scratch has served a call before, there is none.
+/// memory is the only error; if the scratch has served a call before, there is none.
 #[inline(always)]
 pub fn compare<N: NameValue, T: View<N>>(
     view: &T,

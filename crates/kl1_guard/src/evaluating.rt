@@ -17,7 +17,7 @@ use kl1_model::limits::MOST_OPERATORS;
 use kl1_text::NameValue;
 use std::alloc::AllocError;
 
-/// What a term comes to by itself and its operands, or nothing where there is more to be scanned.
+/// What a term comes to by itself and its operands, or nothing if there is more to be scanned.
 #[inline(always)]
 fn at_once<N: NameValue, T: View<N>>(view: &T, at: T::At) -> Option<Evaluated<T::Variable>>
     requires { T.IsAt view.now at }
@@ -75,7 +75,7 @@ fn scan<N: NameValue, T: View<N>>(
     }
 }
 
-/// What a term comes to as an expression. Want of memory is the only error; where the scratch has served a call before, there is
+/// What a term comes to as an expression. Want of memory is the only error; if the scratch has served a call before, there is
 /// none.
 #[inline(always)]
 pub fn evaluate<N: NameValue, T: View<N>>(

@@ -19,7 +19,7 @@ pub(crate) enum Met<V, S> {
     Waits(V),
     /// They are these two variables.
     WaitsBoth(V, V),
-    /// They are as their arguments are, which are so many.
+    /// They are as their arguments are; the number says how many each has.
     Open(S, S, u32),
 }
 

@@ -13,7 +13,7 @@ use crate::view::View;
 use kl1_text::NameValue;
 use std::alloc::AllocError;
 
-/// Takes two terms up: false where they clash at the top. Where both are kept as a whole they are left for later.
+/// Takes two terms up: false if they clash at the top. If both are kept as a whole they are left for later.
 fn take_up<N: NameValue, T: View<N>>(
     view: &T,
     pair: Pair<T::At>,
@@ -64,7 +64,7 @@ fn take_up<N: NameValue, T: View<N>>(
     }
 }
 
-/// Compares two terms by passive equality, but for what is kept as a whole: false where they clash. `waits` gets the variables
+/// Compares two terms by passive equality, but for what is kept as a whole: false if they clash. `waits` gets the variables
 /// that they wait for, and `rest` the pairs of what is kept as a whole, on which the answer depends too.
 pub fn alike<N: NameValue, T: View<N>>(
     view: &T,

@@ -50,6 +50,7 @@ impl<N: NameValue> View<N> for Store<N> {
 
     #[inline(always)]
     fn argument(&self, structure: u32, index: u32) -> Cell<N> {
+        // Only for the proof: what the store holds is formed.
         let _ = self.mark();
         Store::argument(self, structure, index)
     }

@@ -123,7 +123,7 @@ line_goes_on p q h = elim (cases_lt (length p) (most_command_bytes + 2)) [
   | inr many ↦ long_goes_on p q h many (fed_or q)
 ]
 
--- a load with bytes behind it, and then a line feed
+-- a load with bytes after it, and then a line feed
 spoiled_at : (f : List ℕ → Cut) (n : ℕ) (p a b : List ℕ) → has_feed (drop n p) ≡ false → has_feed a ≡ false → n + 2 ≤ length p → load_cut f n (p ++ (a ++ 10 ∷ b)) ≡ request_first spoiled_load (f b)
 spoiled_at f n p a b h k many =
     let none : has_feed (drop n p ++ a) ≡ false = feed_append (drop n p) a h ∙ k in
@@ -150,7 +150,7 @@ load_goes_on f n p q h = elim (cases_lt (length p) (n + 2)) [
   | inr many ↦ more_goes_on f n p q h many (fed_or q)
 ]
 
--- behind the line of a load, for texts of which shorter ones cut anywhere
+-- after the line of a load, for texts of which shorter ones cut anywhere
 load_after : (n : ℕ) (p q : List ℕ) → n ≤ most_source_bytes → (has_feed (drop n p) ≡ false) ⊎ Fed (drop n p) → ((bs : List ℕ) → length bs ≤ length p → cut_of (bs ++ q) ≡ cut_after (cut_of bs) q) → load_cut cut_of n (p ++ q) ≡ cut_after (load_cut cut_of n p) q
 load_after n p q few (inl none) next =
     let again : cut_of (unfinished_load n p ++ q) ≡ load_cut cut_of n (take (n + 2) p ++ q) = ap cut_of (append_assoc (codes "load " ++ decimal n) (10 ∷ take (n + 2) p) q) ∙ cut_load n (take (n + 2) p ++ q) few in

@@ -1,4 +1,4 @@
--- Line feeds in texts, and what stands before and behind them.
+-- Line feeds in texts, and what stands before and after them.
 use Rattle.std.proofs.Common.{◌≡◌, ℕ, zero, suc, ◌+◌, ◌<◌, ◌≤◌, ◌⊎◌, inl, inr, eqb, Bool, true, false, ◌||◌, List, [], ◌∷◌, ◌++◌, length, take, if◌then◌else◌, refl, ap, ◌∙◌, arith}
 use Rattle.std.specs.List.{list_any}
 use Rattle.std.proofs.lemmas.List.{append-nil}
@@ -76,7 +76,7 @@ pub fed_or : (text : List ℕ) → (has_feed text ≡ false) ⊎ Fed text
 fed_or [] = inl refl
 fed_or (b ∷ bs) = fed_by (eqb b 10) b bs refl (fed_or bs)
 
--- what stands before and behind the line feed of such a text
+-- what stands before and after the line feed of such a text
 pub before_at : (a b : List ℕ) → has_feed a ≡ false → before_feed (a ++ 10 ∷ b) ≡ a
 before_at a b h = before_append a (10 ∷ b) h ∙ append-nil a
 

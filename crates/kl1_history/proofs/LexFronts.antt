@@ -81,7 +81,7 @@ byte_in_quotes : (x : Bool) (b : ℕ) (bs text rest : List ℕ) → (b == 39) �
 byte_in_quotes true b bs text rest is fine = let same : b ≡ 39 = eqb-true b 39 is in rw same
 byte_in_quotes false b bs text rest is fine = rw is (plain_byte b (doubled bs ++ rest) text is fine)
 
--- the text between quotes, where each quote stands twice
+-- the text between quotes, in which each quote stands twice
 doubled_ends : (bs text rest : List ℕ) → list_all is_name_byte bs ≡ true → first_is (λ b. b == 39) rest ≡ false → quoted_from false text (doubled bs ++ 39 ∷ rest) ≡ Some (text ++ bs, rest)
 doubled_ends [] text rest all none = quote_ends text rest none ∙ ap (λ x. Some (x, rest)) (sym (append-nil text))
 doubled_ends (b ∷ bs) text rest all none =
@@ -134,7 +134,7 @@ first_digit : (n : ℕ) (ds rest : List ℕ) → Writes n ds → first_is is_dig
 first_digit n [] rest writes = absurd (omega (arith, writes.some))
 first_digit n (d ∷ ds) rest writes = (and_parts (is_digit d) (list_all is_digit ds) writes.digits).0
 
--- a number of at most number_limit behind a `-`
+-- a number of at most number_limit after a `-`
 pub lexes_negative : (n : ℕ) (rest : List ℕ) (ts : List Numbered) → n ≤ number_limit → first_is is_digit rest ≡ false → Lexes rest ts → Lexes (45 ∷ (decimal n ++ rest)) (minus_token true ∷ digits_token n ∷ ts)
 lexes_negative n rest ts few none behind =
     lexes_token (minus_token true) (ap (λ x. token (minus_token x) (decimal n ++ rest)) (first_digit n (decimal n) rest (decimal_writes n (omega arith)))) (lexes_digits n rest ts few none behind)

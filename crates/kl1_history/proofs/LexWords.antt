@@ -17,7 +17,7 @@ word_stops (w ∷ ws) rest all none =
     let both = and_parts (is_word_byte w) (list_all is_word_byte ws) all in
     rw (both.0, word_of) (ap (λ x. w ∷ x) (word_stops ws rest both.1 none))
 
--- behind a word stands what is no part of it
+-- after a word stands what is no part of it
 pub behind_word_is : (ws rest : List ℕ) → list_all is_word_byte ws ≡ true → first_is is_word_byte rest ≡ false → behind_word (ws ++ rest) ≡ rest
 behind_word_is [] [] all none = refl
 behind_word_is [] (b ∷ bs) all none = rw (none, behind_word)
@@ -33,7 +33,7 @@ digits_stop (d ∷ ds) rest all none =
     let both = and_parts (is_digit d) (list_all is_digit ds) all in
     rw (both.0, digits_of) (ap (λ x. d ∷ x) (digits_stop ds rest both.1 none))
 
--- behind digits stands what is none
+-- after digits stands what is none
 pub behind_digits_is : (ds rest : List ℕ) → list_all is_digit ds ≡ true → first_is is_digit rest ≡ false → behind_digits (ds ++ rest) ≡ rest
 behind_digits_is [] [] all none = refl
 behind_digits_is [] (b ∷ bs) all none = rw (none, behind_digits)
@@ -52,7 +52,7 @@ digits_are_words (d ∷ ds) all =
     let both = and_parts (is_digit d) (list_all is_digit ds) all in
     and_from (is_word_byte d) (list_all is_word_byte ds) (digit_is_word d both.0) (digits_are_words ds both.1)
 
--- where no word goes on, no digits do
+-- if no word goes on, no digits do
 pub no_word_no_digit : (bs : List ℕ) → first_is is_word_byte bs ≡ false → first_is is_digit bs ≡ false
 no_word_no_digit [] none = refl
 no_word_no_digit (b ∷ bs) none =

@@ -64,7 +64,7 @@ digits_no_return (b ∷ c ∷ bs) h =
     let p = and_parts (is_digit b) (list_all is_digit (c ∷ bs)) h in
     ap (λ x. b ∷ x) (digits_no_return (c ∷ bs) p.1)
 
--- what holds of the digits of a number
+-- what holds of the digits `ds` of number `n`
 record Writes (n : ℕ) (ds : List ℕ) : Type 0 where
   all : list_all is_digit ds ≡ true
   value : number_of ds ≡ n
@@ -106,7 +106,7 @@ number_of_decimal n h =
     let few : length (decimal n) ≤ 5 = length-decimal-le 5 n (lit< tt) (omega (arith, h)) (omega (arith, h)) in
     rw (le-leb 1 (length (decimal n)) w.some, le-leb (length (decimal n)) most_digits (omega (arith, few)), w.all, w.value, lt-ltb n number_limit (omega (arith, h))) refl
 
--- the line of a load, without its end, asks for so many bytes
+-- the line of a load, without its end, asks for `n` bytes
 pub source_of_load : (n : ℕ) → n ≤ most_source_bytes → source_bytes_in (codes "load " ++ decimal n) ≡ Some n
 source_of_load n h =
     let w : Writes n (decimal n) = decimal_writes n (omega (arith, h)) in

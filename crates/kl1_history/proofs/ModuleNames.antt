@@ -128,7 +128,7 @@ good_some : {A P : Type 0} (line : ℕ) (x : Option A) (go : A → Reading (List
 good_some line None go cs h k = cc
 good_some line (Some now) go cs h k = k now refl h
 
--- clauses that were good go on where another is
+-- clauses that were good go on if another is
 added : (before : List Clause) (behind : Bool) (x : Option Clause) (now : List Clause) → with_clause before behind x ≡ Some now → list_all has_texts before ≡ true → ((c : Clause) → x ≡ Some c → has_texts c ≡ true) → list_all has_texts now ≡ true
 added before behind None now h all each = absurd (none-some now h)
 added before behind (Some c) now h all each =

@@ -114,7 +114,7 @@ exhausted_or false g t after s e = raised_has g exhaustion t s
 abbrev pub IsNamed : State → Type 0
 IsNamed s = AreNames s.names
 
--- the same names
+-- an account with the names of one that is named is named
 pub same_names : (s t : State) → t.names ≡ s.names → IsNamed s → IsNamed t
 same_names s t e h = subst AreNames (sym e) h
 
@@ -122,7 +122,7 @@ named_or : (c : Bool) (g : Goal) (t : Term) (after s : State) → (c ≡ true �
 named_or true g t after s go h = go refl
 named_or false g t after s go h = same_names s (raised g exhaustion t s) (raised_has g exhaustion t s) h
 
--- a name more, where there is room for it
+-- a name more, if there is room for it
 text_named : (g : Goal) (t : Term) (text : List ℕ) (a : Term) (s : State) → is_text text ≡ true → IsNamed s → nat_le (length (with_name s.names text)) most_names ≡ true → IsNamed (named_by g t text a s)
 text_named g t text a s fine h room =
     let u = record s { names = with_name s.names text } in

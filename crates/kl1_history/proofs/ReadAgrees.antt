@@ -22,7 +22,7 @@ use Rattle.kl1_history.proofs.ReadPlanted.{Planted, plainly, series_of, planted_
 abbrev pub IsText : List ℕ → Part → Type 0
 IsText text p = (bs : List ℕ) (ts : List Numbered) → Calm bs → Lexes bs ts → Lexes (text ++ bs) (part_tokens p ts)
 
--- the same of arguments
+-- a text has the tokens of arguments, whatever calm text follows
 abbrev pub IsTextOfEach : List ℕ → Series → Type 0
 IsTextOfEach text s = (bs : List ℕ) (ts : List Numbered) → Calm bs → Lexes bs ts → Lexes (text ++ bs) (series_tokens s ts)
 
@@ -38,7 +38,7 @@ pub record Agrees (t : Term) (p : Printed) (q : Planted) : Type 0 where
 closing : (bs : List ℕ) (ts : List Numbered) → Lexes bs ts → Lexes (93 ∷ bs) (sign_token CloseList ∷ ts)
 closing bs ts behind = lexes_token (sign_token CloseList) refl behind
 
--- a term that is no list, with its text behind a bar
+-- a term that is no list, with its text after a bar
 pub plain_agrees : (t : Term) (text : List ℕ) (p : Part) → Bears t p → IsText text p → Agrees t (plain text) (planted_plain p)
 plain_agrees t text p h whole =
     record {
@@ -87,7 +87,7 @@ pub atom_agrees : (x : Bool) (a : List ℕ) → bytes_eq a (codes "[]") ≡ x �
 atom_agrees true a is fine = subst (λ b. Agrees (atom b) (printed_atom b) (planted_atom b)) (sym ((bytes_eq-Decides a (codes "[]")).0 is)) nil_agrees
 atom_agrees false a is fine = rw (is, printed_atom, planted_atom, atom_text) (constant_agrees a fine)
 
--- a list cell, from its element and what is behind it
+-- a list cell, from its element and what is after it
 pub cell_agrees : (a b : Term) (pa pb : Printed) (qa qb : Planted) → Agrees a pa qa → Agrees b pb qb → Agrees (cell a b) (printed_cell pa pb) (planted_cell qa qb)
 cell_agrees a b pa pb qa qb h j =
     let s = series_of (plainly qa.whole) qb.following in

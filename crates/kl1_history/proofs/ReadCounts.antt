@@ -29,7 +29,7 @@ few_numbers [] = omega arith
 few_numbers (variable_token v ∷ ts) = omega (arith, few_numbers ts)
 few_numbers (t ∷ ts) = omega (arith, few_numbers ts)
 
--- whether each number is at most so much
+-- whether each number is at most `most`
 abbrev pub are_upto : ℕ → List ℕ → Bool
 are_upto most vs = list_all (λ v. nat_le v most) vs
 
@@ -41,7 +41,7 @@ numbered_upto (v ∷ vs) k most h within =
     let last = leb-true v (suc k) (and_parts (nat_le 1 v) (nat_le v (suc k)) here.0).1 in
     and_from (nat_le v most) (are_upto most vs) (le-leb v most (omega arith)) (numbered_upto vs (max k v) most here.1 (omega arith))
 
--- where each variable has a number of at most so much, the greatest has
+-- if each variable has a number of at most `most`, the greatest has
 mutual
   pub highest_upto : (t : Term) (most : ℕ) → are_upto most (variables_of t) ≡ true → highest t ≤ most
   highest_upto (variable n) most h = leb-true n most (and_parts (nat_le n most) true h).0
@@ -55,7 +55,7 @@ mutual
       let both = and_parts (are_upto most (variables_of t)) (are_upto most (variables_in ts)) (sym (list_all-append (λ v. nat_le v most) (variables_of t) (variables_in ts)) ∙ h) in
       omega (arith, highest_upto t most both.0, highest_in_upto ts most both.1)
 
--- fewer tokens behind a front
+-- fewer tokens after a front
 few_by : (next : ℕ → List ℕ → Tokens) (line most : ℕ) (x : Front) → LeavesLess most x → ((l : ℕ) (rest : List ℕ) → length (next l rest).placed ≤ length rest) → length (tokens_by next line x).placed ≤ most
 few_by next line most finished less few = omega arith
 few_by next line most broken less few = omega arith

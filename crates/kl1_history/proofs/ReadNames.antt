@@ -61,7 +61,7 @@ not_names : (x : Bool) (s t : Start) → is_names s ≡ false → is_names t ≡
 not_names true s t p q = p
 not_names false s t p q = q
 
--- where a name begins only if a test tells so
+-- a start that may be a name only if a test says so: if it is one, the test says so
 names_if : (x : Bool) (t : Start) → is_names t ≡ false → is_names (if x then names else t) ≡ true → x ≡ true
 names_if true t other h = refl
 names_if false t other h = sym other ∙ h
@@ -101,7 +101,7 @@ HasText (minus_token digit) = Unit {0}
 HasText (sign_token s) = Unit {0}
 HasText end_token = Unit {0}
 
--- the same of the token that may stand in front of a text
+-- what stands in front of a text has a text as its name, if it is a token with a name
 abbrev FrontHas : Front → Type 0
 FrontHas finished = Unit {0}
 FrontHas broken = Unit {0}
@@ -200,7 +200,7 @@ text_has text = within_have (suc (length text)) 1 text
 abbrev pub AllText : List (Token (List ℕ)) → Type 0
 AllText ts = AllByRecursion HasText ts
 
--- the same of an item that may have tokens
+-- an item has texts as names, if it has tokens
 abbrev pub ItemHas : Option (List (Token (List ℕ))) → Type 0
 ItemHas None = Unit {0}
 ItemHas (Some ts) = AllText ts

@@ -16,7 +16,7 @@ use Rattle.kl1_history.proofs.LexWords.{decimal_writes}
 use Rattle.kl1_history.proofs.LexFronts.{spelling, spelled}
 use Rattle.kl1_model.proofs.ReadMeans.{numbers_of}
 
--- the spellings of so many variables, from this number on
+-- the spellings of `k` variables, from number `i` on
 abbrev pub spellings : ℕ → ℕ → List (List ℕ)
 spellings i zero = []
 spellings i (suc k) = spelling i ∷ spellings (suc i) k
@@ -97,7 +97,7 @@ numbered_again (minus_token digit ∷ ts) k h few small = ap (λ x. minus_token 
 numbered_again (sign_token s ∷ ts) k h few small = ap (λ x. sign_token s ∷ x) (numbered_again ts k h few small)
 numbered_again (end_token ∷ ts) k h few small = ap (λ x. end_token ∷ x) (numbered_again ts k h few small)
 
--- where the greatest number is below number_limit, each is
+-- if the greatest number is below number_limit, each is
 mutual
   pub few_variables : (t : Term) → highest t < number_limit → are_few (variables_of t) ≡ true
   few_variables (variable n) few = and_from (nat_lt n number_limit) true (lt-ltb n number_limit few) refl

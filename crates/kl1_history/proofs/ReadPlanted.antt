@@ -13,7 +13,7 @@ use Rattle.kl1_model.specs.Meaning.{pair, cell, cells, expression_term, part_ter
 use Rattle.kl1_model.specs.Print.{form_of}
 use Rattle.kl1_model.specs.ReadLaws.{is_sound_expression, is_sound_part, is_sound_series, is_sound_rest}
 
--- the tree of a term alone, and the elements and the end that it is behind an element of a list
+-- the tree of a term alone, and the elements and the end that it is after an element of a list
 pub record Planted : Type 0 where
   pub whole : Part
   pub following : Option Series
@@ -36,12 +36,12 @@ planted_plain p = record { whole = p; following = None; ending = tail (plainly p
 abbrev pub planted_atom : List ℕ → Planted
 planted_atom a = if bytes_eq a (codes "[]") then record { whole = single empty_list; following = None; ending = closed } else planted_plain (single (constant a (not (is_bare a))))
 
--- an integer, with its digits behind `-` where it is negative
+-- an integer, with its digits after `-` if it is negative
 abbrev pub planted_integer : ℤ → Primary
 planted_integer (pos n) = positive n
 planted_integer (negsuc n) = negative (suc n)
 
--- a list cell, one list with the elements behind it
+-- a list cell, one list with the elements after it
 abbrev pub planted_cell : Planted → Planted → Planted
 planted_cell h t = let s = series_of (plainly h.whole) t.following in record { whole = single (list s t.ending); following = Some s; ending = t.ending }
 
@@ -83,7 +83,7 @@ abbrev pub following_row : Option Series → List Numbered → List Numbered
 following_row None ts = ts
 following_row (Some s) ts = sign_token Comma ∷ series_tokens s ts
 
--- the tokens of what a term is behind an element of a list
+-- the tokens of what a term is after an element of a list
 abbrev pub rest_row : Planted → List Numbered → List Numbered
 rest_row q ts = following_row q.following (rest_tokens q.ending (sign_token CloseList ∷ ts))
 
@@ -97,7 +97,7 @@ abbrev pub is_sound_following : Option Series → Bool
 is_sound_following None = true
 is_sound_following (Some s) = is_sound_series s
 
--- an element and those that follow are sound where they are
+-- an element and those that follow are sound if they are
 pub series_of_sound : (e : Expression) (following : Option Series) (r : Rest) → is_sound_expression e ≡ true → (is_sound_following following && is_sound_rest r) ≡ true → (is_sound_series (series_of e following) && is_sound_rest r) ≡ true
 series_of_sound e None r first behind = and_from (is_sound_expression e) (is_sound_rest r) first behind
 series_of_sound e (Some s) r first behind =
@@ -109,17 +109,17 @@ pub record Bears (t : Term) (p : Part) : Type 0 where
   pub means : part_term p ≡ t
   pub sound : is_sound_part p ≡ true
 
--- the same of what a term is behind an element of a list
+-- what holds of the elements and the end that a term is after an element of a list, apart from any text
 pub record BearsBehind (t : Term) (q : Planted) : Type 0 where
   pub means : (e : Expression) → cells (series_terms (series_of e q.following)) (rest_term q.ending) ≡ cell (expression_term e) t
   pub sound : (is_sound_following q.following && is_sound_rest q.ending) ≡ true
 
--- the same of arguments
+-- what the trees of arguments mean, apart from any text
 pub record BearsEach (ts : Terms) (s : Series) : Type 0 where
   pub means : series_terms s ≡ ts
   pub sound : is_sound_series s ≡ true
 
--- a term that is no list, behind an element
+-- a term that is no list, after an element
 pub plain_behind : (t : Term) (p : Part) → Bears t p → BearsBehind t (planted_plain p)
 plain_behind t p h =
     record {
@@ -166,6 +166,6 @@ module _ (a b : Term) (p q : Planted) (h : Bears a p.whole) (j : BearsBehind b q
   pub cell_bears : Bears (cell a b) (planted_cell p q).whole
   cell_bears = record { means = cell_means; sound = cell_sound }
 
-  -- a list cell behind an element
+  -- a list cell after an element
   pub cell_behind : BearsBehind (cell a b) (planted_cell p q)
   cell_behind = record { means = λ e. ap (cell (expression_term e)) cell_means; sound = cell_sound }

@@ -61,7 +61,7 @@ started : (line : ℕ) (x : Option Term) (t : Term) → startable line x ≡ goo
 started line None t h = cc
 started line (Some u) t h = started_by (is_writable u && is_goal u) line u t refl h
 
--- the same of tokens with a broken byte or none
+-- what is known of a goal that was read from tokens
 goal_read : (ts : List Placed) (broken_at : Option ℕ) (t : Term) → goal_of_tokens (record { placed = ts; broken_at = broken_at }) ≡ good t → Started (term_of_tokens (bare_tokens ts)) t
 goal_read ts None t h = started (first_line ts None) (term_of_tokens (bare_tokens ts)) t h
 goal_read ts (Some line) t h = absurd (none-some t (started (first_line ts (Some line)) None t h).found)
@@ -85,7 +85,7 @@ strict_read : (x : Reading Term) (bs : List ℕ) (t : Term) → strict_by bs x �
 strict_read (good u) bs t h = strict_case (bytes_eq (print u) bs) bs u t refl h
 strict_read (bad line) bs t h = absurd (none-some t h)
 
--- a text is of the strict form exactly where it is the print of such a goal
+-- a text is of the strict form exactly if it is the print of such a goal
 pub strict_texts_are_prints : (bs : List ℕ) (t : Term) → length bs < number_limit → ((strict_goal bs ≡ Some t) ↔ ((is_printable t ≡ true) × (is_goal t ≡ true) × (print t ≡ bs)))
 strict_texts_are_prints bs t short = (
   λ h.

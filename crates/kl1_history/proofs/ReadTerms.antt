@@ -38,14 +38,14 @@ name_tight_by false f is = λ bs. (refl, refl)
 name_tight : (f : List ℕ) → Tight (name_text f)
 name_tight f = name_tight_by (is_bare f) f refl
 
--- more behind it changes nothing
+-- more after it changes nothing
 tight_before : (n c : List ℕ) → Tight n → Tight (n ++ c)
 tight_before n c h bs = rw append_assoc (h (c ++ bs))
 
 call_tight : (f : List ℕ) (ps : List Printed) → Tight (call_text f ps)
 call_tight f ps = tight_before (name_text f ++ codes "(" ++ commas ps) (codes ")") (tight_before (name_text f ++ codes "(") (commas ps) (tight_before (name_text f) (codes "(") (name_tight f)))
 
--- what may stand behind a colon: it begins neither with `-` nor with `=`, and its tree is one primary
+-- what may stand after a colon: it begins neither with `-` nor with `=`, and its tree is one primary
 pub record StandsBehind (p : Printed) (q : Planted) : Type 0 where
   pub tight : Tight p.whole
   pub one : single (primary_of q.whole) ≡ q.whole
@@ -81,7 +81,7 @@ structure_behind f (more a (more b none)) h =
     true≢false (sym there.0 ∙ not-true (bytes_eq f (codes ":")) h))
 structure_behind f (more a (more b (more c ts))) h = record { tight = call_tight f (printed_each (more a (more b (more c ts)))); one = refl }
 
--- what may stand behind a colon does
+-- what may stand after a colon does
 pub behind_colon : (t : Term) → is_behind_colon t ≡ true → StandsBehind (printed t) (planted t)
 behind_colon (atom a) h = atom_behind (bytes_eq a (codes "[]")) a refl
 behind_colon (structure f ts) h = structure_behind f ts h

@@ -88,7 +88,7 @@ rules_stay s logout = ruled_or (nat_lt 0 s.sessions) s sessions_refused (record 
 rules_stay s reset = refl
 rules_stay s (answer n report t) = entry_rules s (answers n report t)
 
--- an account by its journal, where the name is told apart
+-- an account by its journal, with the name told apart
 record Replays (name : List ℕ) (j : Journal) (s : State) : Type 0 where
   is : replay name j ≡ s
   rules : j.rules ≡ s.rules

@@ -67,7 +67,7 @@ NamesText (opens o) = Unit {0}
 NamesText goes = Unit {0}
 NamesText gives_way = Unit {0}
 
--- the same of a move that may be there
+-- what a move names is a text, if there is a move
 abbrev MayName : Option Move → Type 0
 MayName None = Unit {0}
 MayName (Some m) = NamesText m
@@ -144,12 +144,12 @@ substitute_names right = tt
 substitute_names (waits_on v) = tt
 substitute_names wrong = tt
 
--- the same of an action
+-- what an action names is a text
 abbrev pub ActionText : Action → Type 0
 ActionText (moves t m) = NamesText m
 ActionText (reads c) = Unit {0}
 
--- the same of an action that may be there
+-- what an action names is a text, if there is an action
 abbrev pub MayAct : Option Action → Type 0
 MayAct None = Unit {0}
 MayAct (Some a) = ActionText a

@@ -28,7 +28,7 @@ byte_back : (x : Bool) (b : ℕ) (bs : List ℕ) → (b == 39) ≡ x → unquote
 byte_back true b bs is = let same : b ≡ 39 = eqb-true b 39 is in rw same
 byte_back false b bs is = rw is (plain_byte b bs is)
 
--- the text between quotes, where each quote stands twice
+-- the text between quotes, in which each quote stands twice
 unquoted_back : (bs : List ℕ) → unquoted (doubled bs ++ 39 ∷ []) ≡ bs
 unquoted_back [] = refl
 unquoted_back (b ∷ bs) = byte_back (b == 39) b bs refl ∙ ap (λ x. b ∷ x) (unquoted_back bs)

@@ -44,7 +44,7 @@ named_if : (c : Bool) (r : Refusal) (s : State) (x : Stepped) → (c ≡ true �
 named_if true r s x go h = go refl
 named_if false r s x go h = h
 
--- what may be refused where a test says so
+-- what may be refused if a test says so
 named_unless : (c : Bool) (r : Refusal) (s : State) (x : Stepped) → IsNamed x.state → IsNamed s → IsNamed (if c then refuse s r else x).state
 named_unless true r s x n h = h
 named_unless false r s x n h = n

@@ -3,7 +3,7 @@ use Rattle.std.specs.Prelude.{ℕ, ◌==◌, if◌then◌else◌, List, [], ◌�
 use Rattle.kl1_model.specs.Event.{Event, Reply}
 use Rattle.kl1_history.specs.Journal.{Kept, done}
 
--- an event of the account of a number, from 0
+-- an event, and the number of its account, from 0
 pub record Deed : Type 0 where
   pub account : ℕ
   pub event : Event

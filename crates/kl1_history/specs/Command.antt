@@ -53,11 +53,11 @@ reduce_command line = option_and_then (λ goal. option_map (λ clause. does (red
 abbrev pub allow_command : List ℕ → Option Command
 allow_command line = option_and_then (λ n. option_map (λ more. does (control n (Allow more))) (only_number (behind_word_in line))) (number_in (word_in line))
 
--- a message to the shoen of a number, and nothing else
+-- a message to a shoen by its number, and nothing else
 abbrev pub send_command : Message → List ℕ → Option Command
 send_command m line = option_map (λ n. does (control n m)) (only_number line)
 
--- the reports of a shoen from the one of a number on, if that is at least 1
+-- the reports of shoen `n` from number `from` on, if that is at least 1
 abbrev pub reports_from : ℕ → ℕ → Option Command
 reports_from n from = if nat_le 1 from then Some (does (read (reports n from))) else None
 

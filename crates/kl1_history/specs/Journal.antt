@@ -9,7 +9,7 @@ use Rattle.kl1_model.specs.Step.{step}
 use Rattle.kl1_model.specs.TreeLaws.{is_refused}
 
 -- an entry of a journal: a module loaded from its source; a goal started with an allowance and priorities from low to high; a message
--- sent to a shoen; a goal reduced by the clause of a number, or 0; a goal given as the answer to a report of a shoen, the first being 1
+-- sent to a shoen; a goal reduced by a clause's number, or by 0; a goal given as the answer to a report of a shoen, the first being 1
 pub data Entry : Type 0 where
   loads : List ℕ → Entry
   starts : ℕ → ℕ → ℕ → Term → Entry

@@ -17,7 +17,7 @@ written_fault k = written_line (codes "fault " ++ decimal k)
 abbrev pub written_end : ℕ → List ℕ
 written_end n = written_line (codes "+ end " ++ decimal n)
 
--- what is written for the line of a number, by what became of its entry, and how the replay goes on from the account
+-- what is written for line `k`, by what became of its entry, and how the replay goes on from the account
 abbrev pub written_step : (State → List ℕ) → ℕ → Stepped → List ℕ
 written_step next k x = if is_refused x.reply then written_fault k else written_lines (reply_lines x.reply) ++ next x.state
 
@@ -26,7 +26,7 @@ abbrev pub written_entry : (State → List ℕ) → ℕ → State → Option Ent
 written_entry next k s None = written_fault k
 written_entry next k s (Some e) = written_step next k (step s (event_in e))
 
--- what is written for the end of a text, after this number of entries, where the next line has this number and these bytes are left
+-- what is written for the end of a text, after this number of entries, with the next line's number and the bytes that are left
 abbrev pub written_rest : ℕ → ℕ → List ℕ → List ℕ
 written_rest k n [] = written_end n
 written_rest k n (b ∷ bs) = written_fault k

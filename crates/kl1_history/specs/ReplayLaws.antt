@@ -11,7 +11,7 @@ use Rattle.kl1_history.specs.HistoryLaws.{IsReplay}
 use Rattle.kl1_history.specs.TextLaws.{IsWritten, journal_text}
 use Rattle.kl1_history.specs.Replay.{replay_name, written_end, replay_output}
 
--- whether entries are all accepted, where they are done in order
+-- whether entries are all accepted, if they are done in order
 abbrev pub are_accepted : State → List Entry → Bool
 are_accepted s [] = true
 are_accepted s (e ∷ es) = not (is_refused (step s (event_in e)).reply) && are_accepted (step s (event_in e)).state es
@@ -30,7 +30,7 @@ abbrev pub RepliesOfReplays : Type 0
 RepliesOfReplays =
     (j : Journal) → IsWritten j → IsTrue (are_accepted (replayed_from j) j.entries) → replay_output (journal_text j) ≡ written_replies (replayed_from j) j.entries ++ written_end (length j.entries)
 
--- an account whose journal is its own, and whose entries are all accepted where it is replayed
+-- an account whose journal is its own, and whose entries are all accepted if it is replayed
 pub record IsReplayable (k : Kept) : Type 0 where
   pub is : IsReplay k
   pub accepted : IsTrue (are_accepted (replayed_from k.journal) k.journal.entries)

@@ -6,7 +6,8 @@ ghost use Rattle.kl1_history.specs.ReplayLaws.{RepliesOfReplays, FreshIsReplayab
 ghost use Rattle.kl1_history.specs.TextLaws.{EntriesReadBack, StrictLinesAreEntries, NamesReadBack, StrictLinesAreNames, HeadingsReadBack, StrictLinesAreHeadings, LinesOfLines, TextsAreLines, JournalsReadBack, StrictTextsAreJournals, FreshIsWritten, WrittenStays};
 
 /// An account is the replay of its journal: so is a fresh one, and it stays so through each event. What an entry does
-/// depends neither on the own name nor on the number of open sessions, and no event changes the own name or the rules.
+/// depends neither on the own name nor on the number of open sessions, and no event changes the own name or the rules. It does
+/// nothing: its contract is for callers' proofs.
 pub fn replays_stay()
     ensures beside { StaysBeside }
     ensures names { NamesStay }
@@ -16,7 +17,7 @@ pub fn replays_stay()
 {}
 
 /// The text of a journal reads back as that journal, and no other text is read as one: so are the lines of its entries and names and
-/// its first line, and lines as they are written are the lines of that text.
+/// its first line, and lines as they are written are the lines of that text. It does nothing: its contract is this law.
 pub fn journal_texts_read_back()
     ensures entries { EntriesReadBack }
     ensures strict_entries { StrictLinesAreEntries }
@@ -31,14 +32,14 @@ pub fn journal_texts_read_back()
 {}
 
 /// The journal of an account has a text: so has that of a fresh one, and each event, whatever becomes of it, leaves a journal that has
-/// one, if the source of a load is bytes.
+/// one, if the source of a load is bytes. It does nothing: its contract is this law.
 pub fn journals_stay_written()
     ensures fresh { FreshIsWritten }
     ensures stay { WrittenStays }
 {}
 
 /// For the text of an account's journal there are written the replies to its entries, and then how many they are: the entries of such a
-/// journal are all accepted where it is replayed, and stay so through each event.
+/// journal are all accepted if it is replayed, and stay so through each event. It does nothing: its contract is this law.
 pub fn replays_tell_replies()
     ensures replies { RepliesOfReplays }
     ensures fresh { FreshIsReplayable }

@@ -9,7 +9,7 @@ use kl1_store::Store;
 use kl1_text::NameValue;
 use std::alloc::AllocError;
 
-/// Hangs a number on a variable, but where it was hung on it last. Where memory is refused, nothing more hangs.
+/// Hangs a number on a variable, unless it was the last to be hung there. If memory is refused, nothing more hangs.
 fn hang_once<N: NameValue>(
     store: &mut Store<N>,
     variable: u32,
@@ -26,7 +26,7 @@ fn hang_once<N: NameValue>(
     store.hang(variable, number)
 }
 
-/// Hangs a number on each of these variables. Where memory is refused, it may hang on some of them.
+/// Hangs a number on each of these variables. If memory is refused, it may hang on some of them.
 pub fn hang_on<N: NameValue>(
     store: &mut Store<N>,
     awaited: &[u32],

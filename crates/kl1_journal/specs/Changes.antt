@@ -26,7 +26,7 @@ IsEntered model.logout = ⊥
 IsEntered model.reset = ⊥
 IsEntered _ = ⊤
 
--- a change is that of an event in this journal, where the account uses these names
+-- a change is that of an event in this journal, if the account uses these names
 abbrev pub IsChange : List (List ℕ) → Journal → model.Event → Change → Type 0
 IsChange names j e (change.Entry entry) = (entry ≡ lined_entry e) × IsEntered e
 IsChange names j e change.Sessions = (e ≡ model.login) ⊎ (e ≡ model.logout)

@@ -12,7 +12,7 @@ use Rattle.kl1_user.specs.Accounts.{Account, state_of, texts_of}
 abbrev pub Held : Type 0
 Held = Account × Journal
 
--- what stands for an account where there is none
+-- what stands for an account if there is none
 abbrev pub nobody : Held
 nobody = (record { own_name = []; rules = One; held = nothing_held; goals = []; shoens = []; work = []; modules = []; names = []; last_goal = 0; variables = 0; nodes = 0; reports = 0; entries = 0; sessions = 0 }, new_journal One [] 0)
 

@@ -139,7 +139,7 @@ impl<A: AtomSource, C: CodeSource> Kept<A, C> {
         Ok(refused)
     }
 
-    /// The goal of the shoen of a number, as started, with what is bound now, without the cut of a reply; `None` if the console
+    /// The goal of shoen `number`, as started, with what is bound now, without the cut of a reply; `None` if the console
     /// started no shoen of this number. The account and its journal stay.
     pub fn whole_value(
         &mut self,

@@ -40,7 +40,7 @@ or_right : (a b : Bool) → a ≡ false → a || b ≡ true → b ≡ true
 or_right true b h e = absurd (false≢true (sym h))
 or_right false b h e = e
 
--- where goals of a shoen are enabled, no shoen on its path holds them back
+-- if goals of a shoen are enabled, no shoen on its path holds them back
 not_blocking : (s : State) (n a : ℕ) → is_enabled_in s n ≡ true → is_on_path s.shoens a n ≡ true → is_blocking_at s a ≡ false
 not_blocking s n a enabled on = by_case (is_blocking_at s a) refl
   where

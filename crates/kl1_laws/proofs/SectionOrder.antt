@@ -29,7 +29,7 @@ last_by : (test : Clause → Bool) (c : Clause) (cs : List Clause) (e : Clause) 
 last_by test c cs e true h = last_more c cs e h
 last_by test c cs e false h = h
 
--- the last of clauses is the last of those that pass a test, where it passes
+-- the last of clauses is the last of those that pass a test, if it passes
 last_kept : (test : Clause → Bool) (cs : List Clause) (e : Clause) → last_of cs ≡ Some e → test e ≡ true → last_of (filter test cs) ≡ Some e
 last_kept test [] e h passes = absurd (none-some e h)
 last_kept test (c ∷ []) e h passes =

@@ -10,7 +10,7 @@ is_some-option_map : {A B : Type 0} (f : A → B) (o : Option A) → IsSome o �
 is_some-option_map f None h = absurd cc
 is_some-option_map f (Some x) h = refl
 
--- where something makes all sides equal, there is a solution
+-- if something makes all sides equal, there is a solution
 abbrev Found : (ℕ → Term) → List Equation → Option (List Replacement) → Type 0
 Found s es o = MakesEqual (substituted s) es → IsSome o
 
@@ -28,7 +28,7 @@ found s = record {
   clash = λ t u es c m. absurd (c s m.0);
 }
 
--- where there is no solution, nothing makes all sides equal
+-- if there is no solution, nothing makes all sides equal
 pub failure_leaves_none : FailureLeavesNone
 failure_leaves_none es e s m =
     let k : is_some (solve es) ≡ true = holds_of_answer (Found s) (found s) es m in

@@ -16,7 +16,7 @@ use Rattle.kl1_laws.proofs.UnifySound.{HoldsInEachCase, holds_of_solution}
 bound_sides : (v : ℕ) (t : Term) (rs : List Replacement) → occurs v t ≡ false → replaced (bind v t ∷ rs) (variable v) ≡ replaced (bind v t ∷ rs) t
 bound_sides v t rs o = ap (replaced rs) (cond-true (v == v) t (variable v) (eq-eqb v v refl) ∙ sym (replace-absent v t t o))
 
--- structures become equal where their arguments do
+-- structures become equal if their arguments do
 equal_structures : (f : List ℕ) (ts us : Terms) (es : List Equation) (rs : List Replacement) → count_of ts ≡ count_of us → MakesEqual (replaced rs) (argument_equations ts us es) → MakesEqual (replaced rs) (equate (structure f ts) (structure f us) ∷ es)
 equal_structures f ts us es rs n h =
     let s = values_of rs in
@@ -91,7 +91,7 @@ all_gone (r ∷ rs) o n t = (avoided r.number rs (replace r.number r.by t) n.0 (
 pub replaced_are_gone : ReplacedAreGone
 replaced_are_gone es rs e = all_gone rs (replaced_by_lower es rs e) (replaced_once es rs e)
 
--- replacements numbered up to the last, where the equations are
+-- replacements numbered up to the last, if the equations are
 abbrev KeepsNumbers : ℕ → List Equation → List Replacement → Type 0
 KeepsNumbers last es rs = AllNumberedTo last es → AllByRecursion (λ r. (r.number ≤ last) × NumberedTo last r.by) rs
 
@@ -133,7 +133,7 @@ most_general s = record {
 pub solutions_are_most_general : SolutionsAreMostGeneral
 solutions_are_most_general es rs e s = holds_of_solution (MostGeneral s) (most_general s) es rs e
 
--- the same of replacements
+-- no replacements that make all sides equal are more general than a solution
 pub none_more_general : NoReplacementsAreMoreGeneral
 none_more_general es rs others e h t =
     replaced_is others (replaced rs t)
@@ -142,7 +142,7 @@ none_more_general es rs others e h t =
 
 -- ---- none
 
--- a value is none where it can be nothing else
+-- a value is none if it can be nothing else
 none_if_never : {A : Type 0} (o : Option A) → ((x : A) → o ≡ Some x → ⊥) → o ≡ None
 none_if_never None h = refl
 none_if_never (Some x) h = absurd (h x refl)

@@ -72,7 +72,7 @@ stream n s = reports_of (origin_at n s.shoens)
 abbrev pub numbers : State → List ℕ
 numbers s = s.last_variable ∷ s.last_goal ∷ s.last_shoen ∷ s.entries ∷ []
 
--- an account whose journal has so many entries
+-- an account whose journal has `n` entries
 abbrev pub with_entries : ℕ → State → State
 with_entries n s = record s { entries = n }
 
@@ -86,7 +86,7 @@ true_term = atom (codes "true")
 
 -- what accounts come to by events
 pub record AccountRowsHold : Type 0 where
-  -- a start of a goal with one variable: its variable, two tails, and the tail behind its report; monitor and goal
+  -- a start of a goal with one variable: its variable, two tails, and the tail after its report; monitor and goal
   pub numbers_after_a_start : numbers (after_lines (having one_fact) (codes "start 10 0 10 t:q(X,c)" ∷ [])) ≡ 4 ∷ 2 ∷ 1 ∷ 2 ∷ []
   -- the report stream of a shoen that has opened
   pub stream_after_a_start : stream 1 (after_lines (having one_fact) (codes "start 10 0 10 t:q(X,c)" ∷ [])) ≡ codes "[started|_4]"
@@ -104,7 +104,7 @@ pub record AccountRowsHold : Type 0 where
   pub numbers_after_two_starts : numbers (after_lines (having one_fact) (codes "start 10 0 10 t:q(X,c)" ∷ codes "start 9 1 7 f(X,Y,X) = Z" ∷ [])) ≡ 10 ∷ 4 ∷ 2 ∷ 3 ∷ []
   -- six events: a load, a start and four reductions; a fresh variable goes before the last report
   pub append_numbers : numbers (after_lines (having app_text) (codes "start 100 0 10 app:app([1],[2],R)" ∷ codes "run 100" ∷ [])) ≡ 6 ∷ 5 ∷ 1 ∷ 6 ∷ []
-  -- the same by named reductions
+  -- those numbers by named reductions
   pub append_by_reductions : stream 1 (after_events (after_lines (having app_text) (codes "start 100 0 10 app:app([1],[2],R)" ∷ [])) (reduce 2 2 ∷ reduce 3 0 ∷ reduce 4 1 ∷ reduce 5 0 ∷ [])) ≡ codes "[started,terminated]"
   -- a named reduction may take another candidate
   pub second_of_two_clauses : option_map (λ o. print o.goal) (origin_at 1 (after_events (after_lines (having two_ways) (codes "start 9 0 1 m:m(X,R)" ∷ [])) (reduce 2 2 ∷ reduce 3 0 ∷ [])).shoens) ≡ Some (codes "m:m(_1,two)")
@@ -206,7 +206,7 @@ pub record AccountRowsHold : Type 0 where
   pub second_section_waits : (line_done (after_lines (having (lines (codes ":- module m." ∷ codes "p(a,X)." ∷ codes "otherwise." ∷ codes "p(X,b)." ∷ codes "otherwise." ∷ codes "p(X,Y)." ∷ []))) (codes "start 9 0 9 m:p(c,V)" ∷ [])) (parse (codes "quiet"))).reply ≡ quiet_is true
   -- so that no clause there is a candidate
   pub third_section_is_closed : (line_done (after_lines (having (lines (codes ":- module m." ∷ codes "p(a,X)." ∷ codes "otherwise." ∷ codes "p(X,b)." ∷ codes "otherwise." ∷ codes "p(X,Y)." ∷ []))) (codes "start 9 0 9 m:p(c,V)" ∷ [])) (parse (codes "reduce 2 3"))).reply ≡ refused step_refused
-  -- which is one where all above reject
+  -- which is one if all above reject
   pub third_section_is_open : (line_done (after_lines (having (lines (codes ":- module m." ∷ codes "p(a,X)." ∷ codes "otherwise." ∷ codes "p(X,b)." ∷ codes "otherwise." ∷ codes "p(X,Y)." ∷ []))) (codes "start 9 0 9 m:p(c,d)" ∷ [])) (parse (codes "reduce 2 3"))).reply ≡ reduced
   -- clause 0 of a call that waits is refused
   pub clause_0_of_a_goal_that_waits : (line_done (after_lines (having one_fact) (codes "start 10 0 10 t:q(X,b)" ∷ [])) (parse (codes "reduce 2 0"))).reply ≡ refused step_refused

@@ -25,7 +25,7 @@ term_in text = term_of_tokens (bare_tokens (tokens_of_text text).placed)
 abbrev pub outcome_in : List ℕ → Outcome
 outcome_in text = outcome_by (λ v. variable v) (option_and_then test_of (term_in text))
 
--- ones joined by so many operators, each sum the left operand of the next
+-- ones joined by `n` operators, each sum the left operand of the next
 abbrev pub ones_to_the_left : ℕ → Term
 ones_to_the_left zero = integer (pos 1)
 ones_to_the_left (suc n) = pair (codes "+") (ones_to_the_left n) (integer (pos 1))
@@ -35,7 +35,7 @@ abbrev pub ones_to_the_right : ℕ → Term
 ones_to_the_right zero = integer (pos 1)
 ones_to_the_right (suc n) = pair (codes "+") (integer (pos 1)) (ones_to_the_right n)
 
--- a term and ones behind it, joined by so many operators, each sum the left operand of the next
+-- `t` and ones after it, joined by `n` operators, each sum the left operand of the next
 abbrev pub ones_behind : ℕ → Term → Term
 ones_behind zero t = t
 ones_behind (suc n) t = pair (codes "+") (ones_behind n t) (integer (pos 1))
@@ -96,9 +96,9 @@ pub record GuardRowsHold : Type 0 where
   pub product_before_the_start : operated Times (negsuc 4611686018427387904) (pos 2) ≡ Overflow
   -- a quotient is rounded towards zero
   pub quotient_below_zero : operated Divide (negsuc 6) (pos 2) ≡ Value (negsuc 2)
-  -- and so it is where the divisor is negative
+  -- and so it is if the divisor is negative
   pub quotient_by_less_than_zero : operated Divide (pos 7) (negsuc 1) ≡ Value (negsuc 2)
-  -- and where both are
+  -- and if both are
   pub quotient_of_two_below_zero : operated Divide (negsuc 6) (negsuc 1) ≡ Value (pos 3)
   -- the least integer by -1 overflows
   pub quotient_past_the_end : operated Divide (negsuc 9223372036854775807) (negsuc 0) ≡ Overflow
@@ -178,49 +178,49 @@ pub record GuardRowsHold : Type 0 where
   pub list_waits : outcome_in (codes "list(X)") ≡ waits (1 ∷ [])
   -- `=` agrees with the same term
   pub same_agrees : outcome_in (codes "f(X,a) = f(X,a)") ≡ agrees
-  -- `=` clashes where the terms do
+  -- `=` clashes if the terms do
   pub same_clashes : outcome_in (codes "f(X,a) = f(Y,b)") ≡ clashes
   -- `=` waits for each variable beside another term
   pub same_waits : outcome_in (codes "f(X,Z,g(Y)) = f(1,Z,g(W))") ≡ waits (1 ∷ 3 ∷ 4 ∷ [])
-  -- `\=` agrees where the terms clash
+  -- `\=` agrees if the terms clash
   pub other_agrees : outcome_in (codes "f(X,a) \\= f(Y,b)") ≡ agrees
   -- `\=` clashes with the same term
   pub other_clashes : outcome_in (codes "X \\= X") ≡ clashes
   -- `\=` waits else
   pub other_waits : outcome_in (codes "X \\= a") ≡ waits (1 ∷ [])
-  -- `<` agrees where it holds
+  -- `<` agrees if it holds
   pub less_agrees : outcome_in (codes "1 < 2") ≡ agrees
-  -- `<` clashes where it doesn't
+  -- `<` clashes if it doesn't
   pub less_clashes : outcome_in (codes "2 < 2") ≡ clashes
   -- `<` waits
   pub less_waits : outcome_in (codes "X < 1") ≡ waits (1 ∷ [])
-  -- `>` agrees where it holds
+  -- `>` agrees if it holds
   pub greater_agrees : outcome_in (codes "2 > 1") ≡ agrees
-  -- `>` clashes where it doesn't
+  -- `>` clashes if it doesn't
   pub greater_clashes : outcome_in (codes "2 > 2") ≡ clashes
   -- `>` waits
   pub greater_waits : outcome_in (codes "X > 1") ≡ waits (1 ∷ [])
-  -- `=<` agrees where it holds
+  -- `=<` agrees if it holds
   pub at_most_agrees : outcome_in (codes "2 =< 2") ≡ agrees
-  -- `=<` clashes where it doesn't
+  -- `=<` clashes if it doesn't
   pub at_most_clashes : outcome_in (codes "3 =< 2") ≡ clashes
   -- `=<` waits
   pub at_most_waits : outcome_in (codes "X =< 1") ≡ waits (1 ∷ [])
-  -- `>=` agrees where it holds
+  -- `>=` agrees if it holds
   pub at_least_agrees : outcome_in (codes "2 >= 2") ≡ agrees
-  -- `>=` clashes where it doesn't
+  -- `>=` clashes if it doesn't
   pub at_least_clashes : outcome_in (codes "1 >= 2") ≡ clashes
   -- `>=` waits
   pub at_least_waits : outcome_in (codes "X >= 1") ≡ waits (1 ∷ [])
-  -- `=:=` agrees where it holds
+  -- `=:=` agrees if it holds
   pub same_number_agrees : outcome_in (codes "2 =:= 1 + 1") ≡ agrees
-  -- `=:=` clashes where it doesn't
+  -- `=:=` clashes if it doesn't
   pub same_number_clashes : outcome_in (codes "2 =:= 3") ≡ clashes
   -- `=:=` waits
   pub same_number_waits : outcome_in (codes "X =:= 1") ≡ waits (1 ∷ [])
-  -- `=\=` agrees where it holds
+  -- `=\=` agrees if it holds
   pub other_number_agrees : outcome_in (codes "2 =\\= 3") ≡ agrees
-  -- `=\=` clashes where it doesn't
+  -- `=\=` clashes if it doesn't
   pub other_number_clashes : outcome_in (codes "2 =\\= 1 + 1") ≡ clashes
   -- `=\=` waits
   pub other_number_waits : outcome_in (codes "X =\\= 1") ≡ waits (1 ∷ [])
@@ -234,13 +234,13 @@ pub record GuardRowsHold : Type 0 where
   pub right_side_waits : outcome_in (codes "1 < X") ≡ waits (1 ∷ [])
   -- a fault of computing clashes
   pub fault_of_computing : outcome_in (codes "1 / 0 =\\= 1") ≡ clashes
-  -- and is looked for where neither side waits
+  -- and is looked for if neither side waits
   pub scan_before_fault : outcome_in (codes "1 / 0 < X") ≡ waits (1 ∷ [])
   -- a sum prints as structures, and its print reads back
   pub print_of_a_sum : option_map print (term_in (codes "X := 1 - 2 - 3")) ≡ Some (codes "':='(_1,'-'('-'(1,2),3))")
   -- as the same term
   pub print_of_a_sum_reads_back : term_in (codes "':='(_1,'-'('-'(1,2),3))") ≡ term_in (codes "X := 1 - 2 - 3")
-  -- `otherwise` stands behind a clause
+  -- `otherwise` stands after a clause
   pub otherwise_first : read_module (lines (codes ":- module z." ∷ codes "otherwise." ∷ codes "p." ∷ [])) ≡ bad 2
   -- `otherwise` stands before a clause
   pub otherwise_last : read_module (lines (codes ":- module z." ∷ codes "p." ∷ codes "otherwise." ∷ [])) ≡ bad 3
@@ -294,7 +294,7 @@ pub record GuardRowsHold : Type 0 where
   pub minus_before_a_name : read_module (lines (codes ":- module z." ∷ codes "p(-a)." ∷ [])) ≡ bad 2
   -- an operator has a right operand
   pub operator_without_operand : read_module (lines (codes ":- module z." ∷ codes "p(X) :- X := 1 + ." ∷ [])) ≡ bad 2
-  -- 2 ^ 63 is none behind an operator
+  -- 2 ^ 63 is none after an operator
   pub operand_past_the_end : read_module (lines (codes ":- module z." ∷ codes "p(X) :- X := 1 -9223372036854775808." ∷ [])) ≡ bad 2
   -- but is the least integer where no operator may stand
   pub operand_at_the_start : is_read (lines (codes ":- module z." ∷ codes "p(X) :- X := 1 - -9223372036854775808." ∷ [])) ≡ true
@@ -334,7 +334,7 @@ pub record GuardRowsHold : Type 0 where
   pub first_place_decides : verdict_in (codes "p(f(X),X) :- X > 5 | true.") (codes "p(V,1)") ≡ Some (rejects (1 ∷ []))
   -- which another may come to be
   pub first_place_changes : verdict_in (codes "p(f(X),X) :- X > 5 | true.") (codes "p(f(W),1)") ≡ Some (suspends (1 ∷ 1 ∷ []))
-  -- a clause accepts where match, places and tests agree
+  -- a clause accepts if match, places and tests agree
   pub accepts_by_all : verdict_in (codes "p(f(X),X) :- X > 5 | true.") (codes "p(f(6),6)") ≡ Some (accepts (record { number = 1; by = integer (pos 6) } ∷ record { number = 1; by = integer (pos 6) } ∷ []))
   -- an unbound leaf below 64 operators is waited for
   pub unbound_below_64_operators : evaluated (ones_behind 64 (variable 1)) ≡ awaits 1
@@ -352,19 +352,19 @@ pub record GuardRowsHold : Type 0 where
   pub mod_three_times : term_in (codes "mod mod mod") ≡ Some (pair (codes "mod") (atom (codes "mod")) (atom (codes "mod")))
   -- and groups to the left
   pub mods_group_to_the_left : term_in (codes "a mod b mod c") ≡ Some (pair (codes "mod") (pair (codes "mod") (atom (codes "a")) (atom (codes "b"))) (atom (codes "c")))
-  -- behind an operand it takes one operand
+  -- after an operand it takes one operand
   pub mod_before_two_operands : term_in (codes "7 mod(1,2)") ≡ None
   -- and no less
   pub mod_at_the_end : term_in (codes "7 mod") ≡ None
   -- also as an argument
   pub mod_before_a_parenthesis : term_in (codes "f(a mod)") ≡ None
-  -- `-` before digits is a part of them behind `mod`
+  -- `-` before digits is a part of them after `mod`
   pub mod_of_a_negative_integer : term_in (codes "7 mod -5") ≡ Some (pair (codes "mod") (integer (pos 7)) (integer (negsuc 4)))
-  -- but an operator where `mod` is the operand
+  -- but an operator if `mod` is the operand
   pub mod_less_five : term_in (codes "mod -5") ≡ Some (pair (codes "-") (atom (codes "mod")) (integer (pos 5)))
-  -- and behind a name
+  -- and after a name
   pub name_less_five : term_in (codes "a -5") ≡ Some (pair (codes "-") (atom (codes "a")) (integer (pos 5)))
-  -- behind an operator it is a part of the digits
+  -- after an operator it is a part of the digits
   pub twice_minus_three : term_in (codes "2*-3") ≡ Some (pair (codes "*") (integer (pos 2)) (integer (negsuc 2)))
   -- also without blanks
   pub one_less_minus_one : term_in (codes "1--1") ≡ Some (pair (codes "-") (integer (pos 1)) (integer (negsuc 0)))

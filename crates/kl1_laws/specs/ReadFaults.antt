@@ -72,12 +72,12 @@ SpellingsAreOne = read_goal (codes "'[]' = '.'(a,b)") ≡ good (pair (codes "=")
 abbrev pub ArgumentsAreTooMany : Type 0
 ArgumentsAreTooMany = read_goal (codes "m:p(1,2,3,4,5,6,7,8,9)") ≡ bad 1
 
--- so many structures inside one another
+-- `n` structures inside one another
 abbrev pub nested : ℕ → List ℕ
 nested zero = codes "a"
 nested (suc n) = codes "f(" ++ nested n ++ codes ")"
 
--- the same as a term
+-- `n` structures inside one another, as a term
 abbrev pub nested_term : ℕ → Term
 nested_term zero = atom (codes "a")
 nested_term (suc n) = structure (codes "f") (more (nested_term n) none)
@@ -90,7 +90,7 @@ DepthIsRead = read_goal (codes "X = " ++ nested 254) ≡ good (pair (codes "=") 
 abbrev pub DepthIsTooLarge : Type 0
 DepthIsTooLarge = read_goal (codes "X = " ++ nested 255) ≡ bad 1
 
--- so many clauses `p.`, each on a line
+-- `n` clauses `p.`, each on a line
 abbrev pub clauses_text : ℕ → List ℕ
 clauses_text zero = []
 clauses_text (suc n) = codes "p.\n" ++ clauses_text n

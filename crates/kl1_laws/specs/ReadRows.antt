@@ -28,11 +28,11 @@ AppIsRead = read_module app_text ≡ good (record { name = codes "app"; source =
 abbrev pub TestIsBad : Type 0
 TestIsBad = read_module (codes ":- module z.\np(X) :- Y > 0 | true.") ≡ bad 2
 
--- a name of so many bytes
+-- a name of `n` bytes
 abbrev pub long_name : ℕ → List ℕ
 long_name n = replicate n 97
 
--- a module of one clause with a name of so many bytes
+-- a module of one clause with a name of `n` bytes
 abbrev pub long_text : ℕ → List ℕ
 long_text n = codes ":- module z.\n" ++ long_name n ++ codes "."
 
@@ -64,6 +64,6 @@ LeastIsRead = read_goal (codes "X = -9223372036854775808") ≡ good (pair (codes
 abbrev pub TooLargeIsBad : Type 0
 TooLargeIsBad = read_goal (codes "X = 9223372036854775808") ≡ bad 1
 
--- a blank behind `-` makes it no integer
+-- a blank after `-` makes it no integer
 abbrev pub LooseMinusIsBad : Type 0
 LooseMinusIsBad = read_goal (codes "X = - 1") ≡ bad 1

@@ -16,28 +16,28 @@ use Rattle.kl1_laws.specs.AccountRows.{after_events, after_lines, equals, having
 abbrev pub nothing_done : State
 nothing_done = fresh One (codes "alice")
 
--- an account whose starts, messages and commits had so many variables and structures
+-- an account whose starts, messages and commits had `variables` variables and `nodes` structures
 abbrev pub with_counts : ℕ → ℕ → State → State
 with_counts variables nodes s = record s { variables = variables; nodes = nodes }
 
--- an account that has made so many reports
+-- an account that has made `n` reports
 abbrev pub with_reports : ℕ → State → State
 with_reports n s = record s { reports = n }
 
--- an account that has opened so many shoens
+-- an account that has opened `n` shoens
 abbrev pub with_last_shoen : ℕ → State → State
 with_last_shoen n s = record s { last_shoen = n }
 
--- so many names, each the decimal of a number after a letter
+-- `n` names, each the letter x and a decimal
 abbrev pub many_names : ℕ → List (List ℕ)
 many_names zero = []
 many_names (suc n) = (codes "x" ++ decimal n) ∷ many_names n
 
--- an account that has used so many names
+-- an account that has used `n` names
 abbrev pub with_many_names : ℕ → State → State
 with_many_names n s = record s { names = many_names n }
 
--- an account with so many modules of names that are used nowhere else
+-- an account with `n` modules of names that are used nowhere else
 abbrev pub with_modules : ℕ → State → State
 with_modules n s = record s { modules = replicate n (record { name = codes "z"; source = []; clauses = [] }) }
 
@@ -49,18 +49,18 @@ twice_text = lines (codes ":- module r." ∷ codes "r :- true | r, r." ∷ [])
 abbrev pub twice : Term
 twice = pair (codes ":") (atom (codes "r")) (atom (codes "r"))
 
--- goals `r:r` of shoen 1, with so many numbers after this one
+-- goals `r:r` of shoen 1, with the `n` numbers after `last`
 abbrev pub twins : ℕ → ℕ → List Goal
 twins last zero = []
 twins last (suc n) = record { number = suc last; task = reduces twice; shoen = 1; priority = 10 } ∷ twins (suc last) n
 
--- an account in whose first shoen so many goals `r:r` stand beside a monitor, after so many reductions
+-- an account in whose first shoen `goals` goals `r:r` stand beside a monitor, after `done` reductions
 abbrev pub crowded : ℕ → ℕ → State
 crowded goals done =
     let s = after_lines (having twice_text) (codes "start 100000 0 10 r:r" ∷ []) in
     record s { goals = record { number = 1; task = monitor; shoen = 1; priority = 4096 } ∷ twins 1 goals; work = replicate done 1; last_goal = suc goals }
 
--- a list of so many codes of the letter a
+-- a list of `n` codes of the letter a
 abbrev pub letters : ℕ → Term
 letters zero = nil
 letters (suc n) = cell (integer (pos 97)) (letters n)
@@ -85,11 +85,11 @@ with_codes = after_lines nothing_done (codes "start 9 0 9 atom_from([104,105],A)
 abbrev pub ended_and_waiting : State
 ended_and_waiting = after_lines nothing_done (codes "start 9 0 9 true" ∷ codes "run 1" ∷ codes "start 9 0 9 X := Y" ∷ [])
 
--- a shoen whose report stream at the console is a list of so many codes
+-- a shoen whose report stream at the console is a list of `n` codes
 abbrev pub with_long_stream : ℕ → Shoen → Shoen
 with_long_stream n h = record h { origin = Some (record { goal = true_term; reports = letters n; control = nil }) }
 
--- an account whose first shoen has made so many reports
+-- an account whose first shoen has made `n` reports
 abbrev pub with_many_reports : ℕ → State
 with_many_reports n = let s = after_lines nothing_done (codes "start 9 0 9 true" ∷ []) in record s { shoens = map (with_long_stream n) s.shoens }
 
@@ -109,7 +109,7 @@ with_built_in_codes = after_lines nothing_done (codes "start 9 0 9 atom_from([11
 abbrev pub counts : State → List ℕ
 counts s = s.variables ∷ s.nodes ∷ []
 
--- a text, so many times
+-- `text`, `n` times
 abbrev pub repeated : ℕ → List ℕ → List ℕ
 repeated zero text = []
 repeated (suc n) text = text ++ repeated n text
@@ -153,11 +153,11 @@ pub record ShoenRowsHold : Type 0 where
   pub message_past_the_last_variable : (step (with_counts 262144 0 ended_and_waiting) (control 2 Stop)).reply ≡ refused limit_passed
   -- a commit takes one for each fresh variable
   pub commit_of_the_last_variable : stream 1 (after_events (with_counts 262143 0 with_fresh_variable) (reduce 2 1 ∷ [])) ≡ codes "[started|_3]"
-  -- which is an exception where it is too many
+  -- which is an exception if it is too many
   pub commit_past_the_last_variable : stream 1 (after_events (with_counts 262144 0 with_fresh_variable) (reduce 2 1 ∷ [])) ≡ codes "[started,exception(exhaustion,m:p),terminated]"
   -- a commit takes a structure for each in its goals' arguments
   pub commit_of_the_last_structure : stream 1 (after_events (with_counts 0 1048575 with_fresh_variable) (reduce 2 1 ∷ [])) ≡ codes "[started|_3]"
-  -- which is an exception where it is too many
+  -- which is an exception if it is too many
   pub commit_past_the_last_structure : stream 1 (after_events (with_counts 0 1048576 with_fresh_variable) (reduce 2 1 ∷ [])) ≡ codes "[started,exception(exhaustion,m:p),terminated]"
   -- so does a start; its goal's outermost structure is none
   pub start_of_the_last_structure : (step (with_counts 0 1048575 nothing_done) (start 1 0 1 (equals (cell (variable 1) nil) nil))).reply ≡ opened 1
@@ -185,7 +185,7 @@ pub record ShoenRowsHold : Type 0 where
   pub codes_past_the_last_name : stream 1 (after_events (with_many_names 1024 with_codes) (reduce 2 0 ∷ [])) ≡ codes "[started,exception(exhaustion,atom_from([104,105],_1)),terminated]"
   -- and the 1,024th is none
   pub codes_of_the_last_name : stream 1 (after_events (with_many_names 1023 with_codes) (reduce 2 0 ∷ [])) ≡ codes "[started,terminated]"
-  -- a name stays used where the unification with it fails
+  -- a name stays used even if the unification with it fails
   pub name_of_a_failed_unification : (after_lines nothing_done (codes "start 9 0 9 atom_from([97],b)" ∷ codes "run 1" ∷ [])).names ≡ codes "b" ∷ codes "a" ∷ []
   -- 63 codes spell a name
   pub codes_of_63_cells : stream 1 (after_events nothing_done (start 9 0 9 (from_codes (letters 63) (variable 1)) ∷ reduce 2 0 ∷ [])) ≡ codes "[started,terminated]"
@@ -265,15 +265,15 @@ pub record ShoenRowsHold : Type 0 where
   pub codes_of_a_known_name : stream 1 (after_events (with_many_names 1024 with_known_codes) (reduce 2 0 ∷ [])) ≡ codes "[started,terminated]"
   -- nor do codes of a built-in name
   pub codes_of_a_built_in_name : stream 1 (after_events (with_many_names 1024 with_built_in_codes) (reduce 2 0 ∷ [])) ≡ codes "[started,terminated]"
-  -- where one report is left, the innermost of two shoens that terminate makes it
+  -- if one report is left, the innermost of two shoens that terminate makes it
   pub innermost_terminates_first : stream 1 (after_lines (with_reports 65533 nothing_done) (codes "start 9 0 9 shoen:execute(true,0,9,5,C,R)" ∷ codes "run 2" ∷ [])) ≡ codes "[started|_5]"
   -- a start that makes the last report can't tell that it is exhausted
   pub last_report_of_a_start : stream 1 (after_lines (with_reports 65535 nothing_done) (codes "start 0 0 9 true" ∷ [])) ≡ codes "[started|_3]"
   -- by which its stream is broken, and nothing takes a number
   pub numbers_after_the_last_report_of_a_start : numbers (after_lines (with_reports 65535 nothing_done) (codes "start 0 0 9 true" ∷ [])) ≡ 3 ∷ 2 ∷ 1 ∷ 1 ∷ []
-  -- where none is left, a start's stream is broken from the beginning
+  -- if none is left, a start's stream is broken from the beginning
   pub no_report_of_a_start : stream 1 (after_lines (with_reports 65536 nothing_done) (codes "start 0 0 9 true" ∷ [])) ≡ codes "_2"
   -- and takes one number less
   pub numbers_without_a_report_of_a_start : numbers (after_lines (with_reports 65536 nothing_done) (codes "start 0 0 9 true" ∷ [])) ≡ 2 ∷ 2 ∷ 1 ∷ 1 ∷ []
-  -- a report of more than 4,000 bytes is cut behind them
+  -- a report of more than 4,000 bytes is cut after them
   pub long_report_is_cut : (step with_one_long_report (read (reports 1 1))).reply ≡ listed ((codes "exception(failure,m:p([" ++ repeated 1325 (codes "97,") ++ codes "97...") ∷ [])

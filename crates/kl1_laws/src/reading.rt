@@ -5,7 +5,7 @@ ghost use Rattle.kl1_laws.specs.ReadRows.{AppHasBytes, AppIsRead, TestIsBad, Lon
 ghost use Rattle.kl1_laws.specs.ReadFaults.{FirstLineOfItem, EndIsMissing, ByteIsBroken, CommentIsBroken, QuoteIsOpen, HeadRepeats, HeadIsOperator, HeadIsTrue, ClausesStandApart, ModuleIsShoen, ModuleIsEmpty, GoalIsUnqualified, GoalIsQualified, UnderscoresDiffer, SpellingsAreOne, ArgumentsAreTooMany, DepthIsRead, DepthIsTooLarge, ClausesAreRead, ClausesAreTooMany};
 
 /// The reader reads what the grammar writes, and nothing else: the tokens that it reads as a tree are that tree's,
-/// and each tree is read from its tokens.
+/// and each tree is read from its tokens. It does nothing: its contract is this law.
 pub fn reader_reads_the_grammar()
     ensures expressions_sound { ExpressionsAreSound }
     ensures expressions_complete { ExpressionsAreComplete }
@@ -16,7 +16,7 @@ pub fn reader_reads_the_grammar()
 {}
 
 /// The tokens of a text need no count of steps: each front leaves less of the text, more steps than bytes give the same
-/// tokens, and so the tokens are what the front makes of those behind it.
+/// tokens, and so the tokens are what the front makes of those after it. It does nothing: its contract is this law.
 pub fn tokens_go_on()
     ensures less { FrontsLeaveLess }
     ensures enough { StepsAreEnough }
@@ -24,7 +24,8 @@ pub fn tokens_go_on()
 {}
 
 /// The reader needs no count of steps: an expression leaves fewer tokens, more steps than tokens read the same, and so
-/// expressions, sums, products, series, bodies and clauses are read from whole expressions inside them.
+/// expressions, sums, products, series, bodies and clauses are read from whole expressions inside them. It does nothing: its
+/// contract is this law.
 pub fn expressions_go_on()
     ensures enough { ReaderStepsAreEnough }
     ensures less { ExpressionsLeaveLess }
@@ -37,7 +38,7 @@ pub fn expressions_go_on()
 {}
 
 /// A printed goal reads back as the goal that was printed, with the same numbers of variables; the print of any printable
-/// term stands on one line and reads as that term, and so no two of them have one print.
+/// term stands on one line and reads as that term, and so no two of them have one print. It does nothing: its contract is this law.
 pub fn printed_goal_reads_back()
     ensures plain { PrintsArePlain }
     ensures tokens { PrintsAreTokens }
@@ -47,23 +48,24 @@ pub fn printed_goal_reads_back()
 {}
 
 /// A goal that was read has its variables numbered by first occurrence, so it can be read from its print; a text is of the
-/// strict form exactly where it is such a print.
+/// strict form exactly if it is such a print. It does nothing: its contract is this law.
 pub fn strict_texts_are_prints()
     ensures read { GoalsReadArePrintable }
     ensures strict { StrictTextsArePrints }
 {}
 
-/// The variables of each clause of a module that was read are numbered from 1 by first occurrence, those of the head first.
+/// The variables of each clause of a module that was read are numbered from 1 by first occurrence, those of the head first. It does
+/// nothing: its contract is this law.
 pub fn clauses_are_numbered()
     ensures { ClausesAreNumbered }
 {}
 
-/// The guard of each clause of a module that was read has variables of its head alone.
+/// The guard of each clause of a module that was read has variables of its head alone. It does nothing: its contract is this law.
 pub fn clauses_are_guarded()
     ensures { ClausesAreGuarded }
 {}
 
-/// Some texts with what they are, computed from the definitions.
+/// Some texts with what they are, computed from the definitions. It does nothing: this is its contract.
 pub fn worked_texts()
     ensures bytes { AppHasBytes }
     ensures app { AppIsRead }
@@ -78,7 +80,7 @@ pub fn worked_texts()
     ensures loose_minus { LooseMinusIsBad }
 {}
 
-/// Some texts that are bad, and the good ones next to them, computed from the definitions.
+/// Some texts that are bad, and the good ones next to them, computed from the definitions. It does nothing: this is its contract.
 pub fn worked_faults()
     ensures line { FirstLineOfItem }
     ensures end { EndIsMissing }

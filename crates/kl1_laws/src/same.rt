@@ -2,19 +2,22 @@
 ghost use Rattle.kl1_model.specs.Same.{ClashesAreOnPaths, SameIsEqual, DiffersIsOnPath};
 ghost use Rattle.kl1_model.specs.SameLaws.{SameStays, DiffersStays, UnknownWaits, UnknownStays, AllSameStays, SomeDifferStays, AllUnknownWaits, AllUnknownStays};
 
-/// Two terms clash where some path of argument numbers leads in both to a constant or structure and these differ.
+/// Two terms clash if some path of argument numbers leads in both to a constant or structure and these differ. It does nothing: its
+/// contract is this law.
 pub fn clashes_are_on_paths()
     ensures { ClashesAreOnPaths }
 {}
 
-/// Passive equality says that two terms are the same where they are equal, and that they differ where they clash.
+/// Passive equality says that two terms are the same if they are equal, and that they differ if they clash. It does nothing: its
+/// contract is this law.
 pub fn passive_equality_is_by_paths()
     ensures same { SameIsEqual }
     ensures differs { DiffersIsOnPath }
 {}
 
-/// What passive equality says of two terms, or of a list of them, holds whatever takes the place of their variables; where it leaves
-/// the answer open, it names a variable, and the answer stays open until a variable that it names is replaced.
+/// What passive equality says of two terms, or of a list of them, holds whatever takes the place of their variables; if it leaves
+/// the answer open, it names a variable, and the answer stays open until a variable that it names is replaced. It does nothing: its
+/// contract is this law.
 pub fn open_answers_wait_for_named_variables()
     ensures same { SameStays }
     ensures differs { DiffersStays }

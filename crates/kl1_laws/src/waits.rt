@@ -4,9 +4,9 @@ ghost use Rattle.kl1_model.specs.OutcomeLaws.{OutcomesAnswer, VerdictsAnswer, Ac
 ghost use Rattle.kl1_laws.specs.SectionLaws.{SectionsAreInOrder, CandidatesOfModulesAreOpen, CandidatesOfCallsAreOpen};
 
 /// What a clause says of a goal stays until a variable that it names is replaced. It accepts a goal for good, and rejects it for
-/// good where it names none: while the match waits, a test may reject the goal by a place that isn't the first of its variable,
+/// good if it names none: while the match waits, a test may reject the goal by a place that isn't the first of its variable,
 /// and then the match's variables are named, since the clause may come to suspend. One that rejects never comes to accept. A
-/// clause that suspends names a variable, where its guard has variables of the head alone.
+/// clause that suspends names a variable, if its guard has variables of the head alone. It does nothing: its contract is this law.
 pub fn verdicts_wait_for_named_variables()
     ensures rejects { RejectsStays }
     ensures never { RejectsNeverAccepts }
@@ -17,7 +17,7 @@ pub fn verdicts_wait_for_named_variables()
 
 /// The outcome of each test has the test's answer. The verdict that names variables, and in whose tests they have other numbers, has
 /// the answer of the plain verdict, for every clause and every goal; if it accepts, then with the terms at the same places; and it names the
-/// variables that the clause waits for.
+/// variables that the clause waits for. It does nothing: its contract is this law.
 pub fn outcomes_have_answers()
     ensures tests { OutcomesAnswer }
     ensures verdicts { VerdictsAnswer }
@@ -27,7 +27,7 @@ pub fn outcomes_have_answers()
 
 /// The candidates of a goal are the clauses that accept it and above whose nearest `otherwise` each clause rejects it: of clauses
 /// whose sections are in order; of the clauses of each predicate of a module that was read; and so of each call in each account,
-/// whatever was done to it since it was fresh.
+/// whatever was done to it since it was fresh. It does nothing: its contract is this law.
 pub fn candidates_stand_in_an_open_section()
     ensures clauses { CandidatesAreOpen }
     ensures sections { SectionsAreInOrder }
@@ -36,19 +36,21 @@ pub fn candidates_stand_in_an_open_section()
 {}
 
 /// The clause by which a goal can step, and the variables that it waits for, stay until one of these is replaced; and so does
-/// what it calls, but for its arguments.
+/// what it calls, but for its arguments. It does nothing: its contract is this law.
 pub fn goals_wait_for_named_variables()
     ensures clauses { ClausesStay }
     ensures head { HeadStays }
     ensures term { TermStays }
 {}
 
-/// What a monitor reads stays, but for the rest of the stream, until the variable that it waits for is replaced.
+/// What a monitor reads stays, but for the rest of the stream, until the variable that it waits for is replaced. It does nothing:
+/// its contract is this law.
 pub fn monitors_wait_for_one_variable()
     ensures { ControlStays }
 {}
 
-/// What is found of the term that a substitute waits for stays until the variable that it waits for is replaced.
+/// What is found of the term that a substitute waits for stays until the variable that it waits for is replaced. It does nothing:
+/// its contract is this law.
 pub fn substitutes_wait_for_one_variable()
     ensures { SubstitutesStay }
 {}

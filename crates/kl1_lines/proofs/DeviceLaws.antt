@@ -14,7 +14,7 @@ consumes_more (Some xs) None c bs cs h k = absurd h
 consumes_more (Some xs) (Some ys) None bs cs h k = tt
 consumes_more (Some xs) (Some ys) (Some zs) bs cs h k = h ∙ ap (λ x. bs ++ x) k ∙ sym (append_assoc bs cs zs)
 
--- few bytes behind others
+-- few bytes after others
 pub reads_more : (a b c : Option (List ℕ)) (bs : List ℕ) (more most : ℕ) → Consumes a b bs → ReadsFew b c more → length bs + more ≤ most → ReadsFew a c most
 reads_more a b c bs more most h k few = record {
   bytes = bs ++ k.bytes;

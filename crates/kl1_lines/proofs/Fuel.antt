@@ -4,13 +4,13 @@ use Rattle.std.proofs.lemmas.List.{length-drop}
 use Rattle.kl1_model.specs.Line.{is_blank_line, behind_feed, line_in, before_space, behind_space}
 use Rattle.kl1_model.specs.Record.{Records, records_by, records_within, records_of, source_bytes_in}
 
--- what is behind a line is no longer than the text
+-- what is after a line is no longer than the text
 pub behind_shorter : (bs : List ℕ) → length (behind_feed bs) ≤ length bs
 behind_shorter [] = omega arith
 behind_shorter (b ∷ bs) =
     elim (eqb b 10) as (λ v. let rest : List ℕ = elim v [ true ↦ bs | false ↦ behind_feed bs ] in length rest ≤ suc (length bs)) [ true ↦ omega arith | false ↦ omega (arith, behind_shorter bs) ]
 
--- and shorter where the text has a byte
+-- and shorter if the text has a byte
 pub behind_less : (bs : List ℕ) → 0 < length bs → length (behind_feed bs) < length bs
 behind_less [] h = absurd (omega arith)
 behind_less (b ∷ bs) h =

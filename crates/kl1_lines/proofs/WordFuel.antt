@@ -3,7 +3,7 @@ use Rattle.std.proofs.Common.{◌≡◌, ℕ, zero, suc, ◌<◌, ◌≤◌, Boo
 use Rattle.std.proofs.lemmas.Bool.{true≢false}
 use Rattle.kl1_model.specs.Line.{is_space, behind_first, word_in, behind_word_in, is_blank_line, words_within, words_of}
 
--- what is behind a word is no longer than the line
+-- what is after a word is no longer than the line
 behind_begun : (bs : List ℕ) → length (behind_first true bs) ≤ length bs
 behind_begun [] = omega arith
 behind_begun (b ∷ bs) =
@@ -16,7 +16,7 @@ behind_by true b bs e h next =
     rw (behind_first, e) (omega (arith, less))
 behind_by false b bs e h next = rw (behind_first, e) (omega (arith, behind_begun bs))
 
--- and shorter where the line has a word
+-- and shorter if the line has a word
 pub behind_word_less : (bs : List ℕ) → is_blank_line bs ≡ false → length (behind_word_in bs) < length bs
 behind_word_less [] h = absurd (true≢false h)
 behind_word_less (b ∷ bs) h = behind_by (is_space b) b bs refl h (behind_word_less bs)
@@ -41,7 +41,7 @@ same_bounds (suc n) (suc m) line false e h k =
 pub words_none : (line : List ℕ) → is_blank_line line ≡ true → words_of line ≡ []
 words_none line e = by_blank (length line) line true e
 
--- another line has its first word, and those behind it
+-- another line has its first word, and those after it
 pub words_more : (line : List ℕ) → is_blank_line line ≡ false → words_of line ≡ word_in line ∷ words_of (behind_word_in line)
 words_more line e =
     let less : length (behind_word_in line) < length line = behind_word_less line e in

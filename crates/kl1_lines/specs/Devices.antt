@@ -24,19 +24,19 @@ pub record Takes (old new : Option (List ℕ)) (n : ℕ) (bytes : List ℕ) : Ty
   pub some : 0 < length bytes → 0 < n
   pub appends : Appends old new (take n bytes)
 
--- where the bytes are known before and after, they are the same
+-- if the bytes are known before and after, they are the same
 abbrev pub KeepsIfKnown : Option (List ℕ) → Option (List ℕ) → Type 0
 KeepsIfKnown None new = ⊤
 KeepsIfKnown (Some xs) None = ⊤
 KeepsIfKnown (Some xs) (Some ys) = ys ≡ xs
 
--- where the bytes that are left are known before and after, these were taken from their front
+-- if the bytes that are left are known before and after, these were taken from their front
 abbrev pub ConsumesIfKnown : Option (List ℕ) → Option (List ℕ) → List ℕ → Type 0
 ConsumesIfKnown None new bs = ⊤
 ConsumesIfKnown (Some xs) None bs = ⊤
 ConsumesIfKnown (Some xs) (Some ys) bs = xs ≡ bs ++ ys
 
--- at most so many bytes were read
+-- at most `most` bytes were read
 pub record ReadsFew (old new : Option (List ℕ)) (most : ℕ) : Type 0 where
   pub bytes : List ℕ
   pub few : length bytes ≤ most
@@ -55,13 +55,13 @@ pub record IsWhole (old new : Option (List ℕ)) (bytes : List ℕ) : Type 0 whe
   pub consumes : Consumes old new bytes
   pub end : IsAtEnd new
 
--- where the bytes are known before and after, they grew by these
+-- if the bytes are known before and after, they grew by these
 abbrev pub GrowsIfKnown : Option (List ℕ) → Option (List ℕ) → List ℕ → Type 0
 GrowsIfKnown None new bs = ⊤
 GrowsIfKnown (Some xs) None bs = ⊤
 GrowsIfKnown (Some xs) (Some ys) bs = ys ≡ xs ++ bs
 
--- where the bytes are known before and after, they grew by the first of these up to some place
+-- if the bytes are known before and after, they grew by the first of these up to some place
 pub record AppendsFront (old new : Option (List ℕ)) (bytes : List ℕ) : Type 0 where
   pub count : ℕ
   pub grows : GrowsIfKnown old new (take count bytes)
@@ -72,7 +72,7 @@ pub record PassesOn (old new : Option (List ℕ)) (before after : List ℕ) : Ty
   pub appends : Appends old new passed
   pub same : passed ++ after ≡ before
 
--- these bytes are all that is left, where that is known
+-- these bytes are all that is left, if that is known
 abbrev pub IsLeft : Option (List ℕ) → List ℕ → Type 0
 IsLeft None bs = ⊤
 IsLeft (Some xs) bs = xs ≡ bs

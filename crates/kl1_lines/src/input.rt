@@ -14,7 +14,7 @@ use std::alloc::Global;
 /// The most bytes of one read.
 const PIECE: usize = 16_384;
 
-/// Reads once, at most so many bytes, and puts them after the others. Answers how many.
+/// Reads once, at most `most` bytes, and puts them after the others. Answers how many.
 fn read_piece<S: Source>(
     source: &mut S,
     bytes: &mut Vec<u8>,
@@ -40,7 +40,7 @@ fn read_piece<S: Source>(
     }
 }
 
-/// Reads all there is, if a script may have so many bytes. No byte after the first one too many is read.
+/// Reads all there is, if a script may have that many bytes. No byte after the first one too many is read.
 pub fn read_all<S: Source>(alloc: Global, source: &mut S) -> Result<Vec<u8>, ScriptFault>
     ensures ok { IfOk result (λ bytes. IsWhole (S.remaining source.old) (S.remaining source.new) bytes.items) }
     ensures small { IfOk result (λ bytes. length bytes.items ≤ most_script_bytes) }

@@ -52,7 +52,7 @@ pub fn only_number(line: &[u8]) -> Option<u64>
     }
 }
 
-/// A number, if it is at most so much.
+/// A number, if it is at most `most`.
 pub fn up_to(most: u64, number: Option<u64>) -> Option<u64>
     ensures { result ≡ up_to most number }
 {

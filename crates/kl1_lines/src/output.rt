@@ -36,7 +36,7 @@ pub fn finish<S: Sink>(sink: &mut S, bytes: &[u8]) -> Result<(), DeviceFailed>
     }
 }
 
-/// Writes the bytes where they are many, and empties them. After a failure, those up to some place are written.
+/// Writes the bytes if they are many, and empties them. After a failure, those up to some place are written.
 pub fn pass_on<S: Sink>(sink: &mut S, bytes: &mut Vec<u8>) -> Result<(), DeviceFailed>
     ensures ok { OnOk result (PassesOn (S.contents sink.old) (S.contents sink.new) bytes.old.items bytes.new.items) }
     ensures few { OnOk result (length bytes.new.items < most_waiting_bytes) }

@@ -64,7 +64,7 @@ pub fn next_record(text: &[u8]) -> NextRecord<'_>
     NextRecord::End
 }
 
-/// The record of a load of so many bytes.
+/// The record of a load of `count` bytes.
 fn load_record<'a>(name: &'a [u8], count: u64, rest: &'a [u8]) -> NextRecord<'a>
     ensures step { records_from result ≡ records_by records_of name.now [] rest.now (Some count) }
     ensures less { IsShorter (length rest.now + 1) result }

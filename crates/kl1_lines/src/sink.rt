@@ -10,7 +10,7 @@ use std::io::Write;
 
 /// What takes bytes, and counts the calls that failed.
 pub trait Sink {
-    // The bytes that it holds, where they are known.
+    // The bytes that it holds, if they are known.
     ghost contents: { Self → Option (List ℕ) };
 
     // How many calls have failed.
@@ -36,7 +36,7 @@ impl<W: Write> Sink for Counted<W> {
 
     ghost failures = { failures_of };
 
-    /// Writes once, and again where the call was interrupted. To take no byte is a failure.
+    /// Writes once, and again if the call was interrupted. To take no byte is a failure.
     fn write(&mut self, bytes: &[u8]) -> Result<usize, DeviceFailed> {
         if self.failures == u64::MAX {
             return Ok(bytes.len());

@@ -10,7 +10,7 @@ use std::io::Read;
 
 /// What gives bytes, and counts the calls that failed.
 pub trait Source {
-    // The bytes that reads will give from here on, where they are known.
+    // The bytes that reads will give from here on, if they are known.
     ghost remaining: { Self → Option (List ℕ) };
 
     // How many reads have failed.
@@ -29,7 +29,7 @@ impl<R: Read> Source for Counted<R> {
 
     ghost failures = { failures_of };
 
-    /// Reads once, and again where the call was interrupted.
+    /// Reads once, and again if the call was interrupted.
     fn read(&mut self, into: &mut [u8]) -> Result<usize, DeviceFailed> {
         if self.failures == u64::MAX {
             return Ok(0);

@@ -35,7 +35,7 @@ rises_within : (low high : ℕ) (ns : List ℕ) → Rises low high ns → low �
 rises_within low high [] r = r
 rises_within low high (n ∷ ns) r = let k = rises_within n high ns r.1 in omega (arith, r.0, k)
 
--- numbers that rise, and behind them others
+-- numbers that rise, and after them others
 record Parted (low high : ℕ) (ns ms : List ℕ) : Type 0 where
   pub seam : ℕ
   pub front : Rises low seam ns
@@ -118,7 +118,7 @@ abbrev atom_at : List NodeCode → Term
 atom_at (inr (inl a) ∷ cs) = atom a
 atom_at cs = variable 0
 
--- the nodes behind the first
+-- the nodes after the first
 abbrev behind_node : List NodeCode → List NodeCode
 behind_node [] = []
 behind_node (c ∷ cs) = cs

@@ -110,7 +110,7 @@ next_of f h patterns arguments c nodes behind x cells rest places named e popped
 behind_same : {A : Type 0} {x : A} {xs ys : List A} → x ∷ xs ≡ x ∷ ys → xs ≡ ys
 behind_same e = cc
 
--- a pattern that agrees is left behind, with its arguments in front of the others
+-- a pattern that agrees is passed, with its arguments in front of the others
 pub agreed : {N : Type 0} (f : N → List ℕ) (h : Held N) (patterns arguments : Terms) (c : NodeCode) (behind : List NodeCode) (x : Cell N) (cells now : List (Cell N)) (places longer : List (Place N)) (named : List ℕ) →
     (n : IsNext f h patterns arguments c behind x cells places named) → GoesInto f h c n.first (term_of f h x) cells now places longer → IsLeft f h patterns arguments behind now longer named
 agreed f h patterns arguments c behind x cells now places longer named n g =
@@ -133,7 +133,7 @@ agreed f h patterns arguments c behind x cells now places longer named n g =
           ∙ ap (λ us. match_both (matched_with (so_far named) (replacements_of f h longer)) (match_terms (joined g.inner n.others) us)) (sym g.cells_are);
     }
 
--- a pattern that waits is left behind
+-- a pattern that waits is passed
 pub waited : {N : Type 0} (f : N → List ℕ) (h : Held N) (patterns arguments : Terms) (c : NodeCode) (behind nodes : List NodeCode) (x : Cell N) (cells : List (Cell N)) (places : List (Place N)) (named : List ℕ) (w : ℕ) →
     (n : IsNext f h patterns arguments c behind x cells places named) → match_term n.first (term_of f h x) ≡ with_outcome (waits (w ∷ [])) → nodes ≡ nodes_of_all n.others → IsLeft f h patterns arguments nodes cells places (named ++ w ∷ [])
 waited f h patterns arguments c behind nodes x cells places named w n m are =

@@ -34,7 +34,7 @@ operand_is built f t q (instruction.Structure a n) i k is = absurd is
 abbrev row_of : BuiltIn → Instruction → Instruction → List Instruction
 row_of name left right = instruction.Structure (Language name) 2 ∷ left ∷ right ∷ []
 
--- nothing stands behind it
+-- nothing stands after it
 none_behind : {N : Type 0} (h : Held N) (places : List (Place N)) (name : BuiltIn) (left right : Instruction) (i j : ℤ) → IsInteger h places left i → IsInteger h places right j → (named : Name → List ℕ) → terms_from named (drop 3 (row_of name left right)) ≡ behind_first (terms_from named (drop 0 (row_of name left right)))
 none_behind h places name (instruction.Variable v) (instruction.Variable w) i j one two named = refl
 none_behind h places name (instruction.Variable v) (instruction.Integer k) i j one two named = refl
@@ -70,7 +70,7 @@ named_test {N = N} built h names places name c left right i j is one two f reads
     by (instruction.Atom a) right one two = absurd one
     by (instruction.Structure a n) right one two = absurd one
 
--- what all tests come to where the first is the last
+-- what all tests come to if the first is the last
 all_come : {N : Type 0} (built : BuiltIn → N) (t : Tests N) (awaited : List ℕ) (b : Bool) → length t.row ≡ 3 → ((named : Name → List ℕ) → terms_from named (drop 3 t.row) ≡ behind_first (terms_from named (drop 0 t.row))) → TestComes built t 0 awaited awaited b → TestsCome built t 0 awaited awaited b
 all_come built t awaited true three behind c = tests_end built t 3 awaited awaited (omega (arith, three)) (tests_step built t 0 3 awaited awaited awaited (omega (arith, three)) behind (tests_begin built t awaited) c)
 all_come built t awaited false three behind c = tests_clash built t 0 awaited awaited awaited (omega (arith, three)) (tests_begin built t awaited) c
@@ -93,7 +93,7 @@ row_is (a ∷ b ∷ []) e = absurd (omega (arith, e))
 row_is (a ∷ b ∷ c ∷ []) e = refl
 row_is (a ∷ b ∷ c ∷ d ∷ is) e = absurd (omega (arith, e))
 
--- the same of a row whose instructions are these
+-- a row whose three instructions are one comparison of two integers comes to whether it holds
 pub row_at_once : {N : Type 0} (built : BuiltIn → N) (h : Held N) (names : List N) (row : List Instruction) (places : List (Place N)) (name : BuiltIn) (c : Comparison) (left right : Instruction) (i j : ℤ) (b : Bool) (awaited : List ℕ) → length row ≡ 3 →
     instruction_in row 0 ≡ instruction.Structure (Language name) 2 → instruction_in row 1 ≡ left → instruction_in row 2 ≡ right → IsComparison name c → IsInteger h places left i → IsInteger h places right j → b ≡ compared c i j →
     TestsCome built (tests_with h names row places) 0 awaited awaited b

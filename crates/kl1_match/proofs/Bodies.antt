@@ -73,7 +73,7 @@ each_in_module built f h names (m ∷ ms) (x ∷ xs) reads p =
     ap (λ t. t ∷ qualified_list f h (qualified_each (map (module_at built names) ms) xs)) (in_module_as built f names m (term_of f h x) reads p.0)
     ∙ ap (λ ts. whole (module_text (map f names) m) (term_of f h x) ∷ ts) (each_in_module built f h names ms xs reads p.1)
 
--- cells in modules are of the store where the cells are
+-- cells in modules are of the store if the cells are
 qualified_in : {N : Type 0} (vs ss : ℕ) (ms : List (Option N)) (xs : List (Cell N)) → AreWithin vs ss xs → AreWithin vs ss (cells_of (qualified_each ms xs))
 qualified_in vs ss [] xs h = tt
 qualified_in vs ss (m ∷ ms) [] h = tt

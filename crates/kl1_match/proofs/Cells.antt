@@ -132,7 +132,7 @@ cells_behind-append h (t ∷ ss) s = ap (λ l. l ++ span_cells h t) (cells_behin
 pub no_cells : {N : Type 0} (h : Held N) (span : Span) → IsSpan h span → span.end ≤ span.next → span_cells h span ≡ []
 no_cells h span within le = drop_all span.next (take span.end (all_arguments h)) (omega (arith, le, length-take-le span.end (all_arguments h) within))
 
--- where a row has no cell, the last one behind it goes before the others
+-- if a row has no cell, the last one after it goes before the others
 pub no_next : {N : Type 0} (h : Held N) (span outer : Span) (behind rest : List Span) → IsSpan h span → span.end ≤ span.next → behind ≡ rest ++ outer ∷ [] → cells_left h span behind ≡ cells_left h outer rest
 no_next h span outer behind rest within le e =
     ap (λ l. l ++ cells_behind h behind) (no_cells h span within le) ∙ ap (cells_behind h) e ∙ cells_behind-append h rest outer

@@ -28,12 +28,12 @@ use Rattle.kl1_match.proofs.Bodies.{rows_below}
 
 -- ---- the variables of a goal
 
--- the variables from one on, so many, are of a store that has as many
+-- the `k` variables from `n` on are of a store that has as many
 fresh_within : (N : Type 0) (vs ss n k : ℕ) → n + k ≤ vs → AreWithin {N = N} vs ss (fresh_cells n k)
 fresh_within N vs ss n zero h = tt
 fresh_within N vs ss n (suc k) h = (omega (arith, h), fresh_within N vs ss (suc n) k (omega (arith, h)))
 
--- behind a cell for none, new variables are the next
+-- after a cell for none, new variables are the next
 behind_filler : {N : Type 0} (filler : Cell N) (n count last v : ℕ) → n ≡ last + 1 → 1 ≤ v → v ≤ count → slice_index_or (filler ∷ fresh_cells n count) v (cell.Variable 0) ≡ cell.Variable (last + v)
 behind_filler filler n count last zero e low high = absurd (omega (arith, low))
 behind_filler filler n count last (suc k) e low high =
@@ -61,7 +61,7 @@ variables_put {N = N} old new count name start first cells formed some start_is 
     let Q : List (Cell N) → Type 0 = λ xs. AreGoalVariables new last count xs in
     subst Q (sym same) (subst P (sym is) result)
 
--- they still are where a store has grown and nothing was bound
+-- they still are if a store has grown and nothing was bound
 pub still_variables : {N : Type 0} (old new : Held N) (last count : ℕ) (cells : List (Cell N)) → Grown old new → new.bindings ≡ old.bindings → AreGoalVariables old last count cells → AreGoalVariables new last count cells
 still_variables old new last count cells grown same vs = record {
   inside = all_still_in old new cells grown vs.inside;
@@ -99,7 +99,7 @@ one_right : (us vs : List ℕ) → AreFromOne (us ++ vs) → AreFromOne vs
 one_right [] vs h = h
 one_right (u ∷ us) vs h = one_right us vs h.1
 
--- terms that are put for variables are the same where they are for those of the term
+-- terms that are put for variables are the same if they are for those of the term
 mutual
   same_term : (d e : ℕ → Term) (count : ℕ) → ((v : ℕ) → 1 ≤ v → v ≤ count → d v ≡ e v) → (t : Term) → highest t ≤ count → AreFromOne (variables_of t) → substituted d t ≡ substituted e t
   same_term d e count same (variable n) high low = same n low.0 high

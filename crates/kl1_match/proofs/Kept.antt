@@ -13,7 +13,7 @@ from_more {N = N} n (y ∷ ys) x =
     let e : suc n + length ys ≡ n + suc (length ys) = omega arith in
     ap (λ ps. record { variable = n; cell = y } ∷ ps) (from_more (suc n) ys x ∙ ap (λ m. places_from (suc n) ys ++ record { variable = m; cell = x } ∷ []) e)
 
--- the same behind a first cell
+-- one cell more is the place of the next variable, after a first cell
 pub behind_more : {N : Type 0} (xs : List (Cell N)) (x : Cell N) → 0 < length xs → places_behind (xs ++ x ∷ []) ≡ places_behind xs ++ record { variable = length xs; cell = x } ∷ []
 behind_more [] x some = absurd (omega (arith, some))
 behind_more (y ∷ ys) x some =
@@ -26,7 +26,7 @@ low_place n v [] none h = refl
 low_place n v (x ∷ xs) none h =
     choice_false (n == v) x (cell_at (places_from (suc n) xs) v none) (ne_eqb n v (λ e. absurd (omega (arith, e, h)))) ∙ low_place (suc n) v xs none (omega (arith, h))
 
--- cells that were cut or filled up to so many stand at the places of their variables
+-- cells that were cut or filled up to `count` stand at the places of their variables
 cut_or_filled : {N : Type 0} (n count wanted i v : ℕ) (xs : List (Cell N)) (none d : Cell N) → wanted ≡ count - length xs → i < count → v ≡ n + i →
     slice_index_or (take count xs ++ replicate wanted none) i d ≡ cell_at (places_from n xs) v none
 cut_or_filled n zero wanted i v xs none d w h e = absurd (omega (arith, h))
@@ -37,13 +37,13 @@ cut_or_filled n (suc c) wanted (suc i) v (x ∷ xs) none d w h e =
     cut_or_filled (suc n) c wanted i v xs none d (omega (arith, w)) (omega (arith, h)) (omega (arith, e))
     ∙ sym (choice_false (n == v) x (cell_at (places_from (suc n) xs) v none) (ne_eqb n v (λ q. absurd (omega (arith, q, e)))))
 
--- one for none in place of the first of the same
+-- one for none is put in place of the first of equal cells
 set_same : {N : Type 0} (wanted v : ℕ) (none d : Cell N) → v < wanted → slice_index_or (slice_set (replicate wanted none) 0 none) v d ≡ none
 set_same zero v none d h = absurd (omega (arith, h))
 set_same (suc c) zero none d h = refl
 set_same (suc c) (suc i) none d h = at_same c i none d (omega (arith, h))
 
--- cells that were cut or filled up to so many, the first then standing for none, are those at the places behind the first
+-- cells that were cut or filled up to `count`, the first then standing for none, are those at the places after the first
 pub filled_behind : {N : Type 0} (count wanted : ℕ) (old now : List (Cell N)) (none : Cell N) → wanted ≡ count - length old → now ≡ take count old ++ replicate wanted none →
     (v : ℕ) (d : Cell N) → v < count → slice_index_or (slice_set now 0 none) v d ≡ cell_at (places_behind old) v none
 filled_behind zero wanted old now none w is v d h = absurd (omega (arith, h))

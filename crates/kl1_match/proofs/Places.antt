@@ -22,7 +22,7 @@ use Rattle.kl1_match.specs.Steps.{Agrees}
 use Rattle.kl1_match.specs.Variables.{cell_at, cells_at, AreFrom, with_variables, fresh_cells, stands_for, AreVariables}
 use Rattle.kl1_match.proofs.Built.{within_more}
 
--- the cells so far, where the places from one on are set
+-- the cells so far, with the places from one on set
 pub record AreSet {N : Type 0} (old now : List (Cell N)) (places : List (Place N)) (left : ℕ) : Type 0 where
   pub within : left ≤ length places
   pub same : length now ≡ length old
@@ -65,7 +65,7 @@ fresh_more {N = N} old mid new before cells after count (suc k) number some fres
       grown = let G : Held N → Type 0 = λ h. Grown old h in subst G (sym grown) (Grown-trans old mid (with_variable mid) fresh.grown (Grown-variable mid));
     })
 
--- so many variables more change no term
+-- `count` variables more change no term
 pub kept_with : {N : Type 0} (f : N → List ℕ) (h : Held N) (count : ℕ) (x : Cell N) → term_of f (with_variables h count) x ≡ term_of f h x
 unfolding term_of
 kept_with f h count x = refl
@@ -163,7 +163,7 @@ before_order n [] v x h lt = refl
 before_order n (p ∷ ps) v x h lt =
     choice_false (p.variable == v) p.cell (cell_at ps v x) (ne_eqb p.variable v (λ e. absurd (omega (arith, e, h.0, lt)))) ∙ before_order (suc n) ps v x h.1 (omega (arith, lt))
 
--- the place of each other is as far behind the first as its variable
+-- the place of each other is as far after the first as its variable
 in_order : {N : Type 0} (n : ℕ) (ps : List (Place N)) (i v : ℕ) (x d : Cell N) → AreFrom n ps → i < length ps → v ≡ n + i → slice_index_or (cells_at ps) i d ≡ cell_at ps v x
 in_order n [] i v x d h lt e = absurd (omega (arith, lt))
 in_order n (p ∷ ps) zero v x d h lt e =
@@ -212,7 +212,7 @@ pub length-cells_at : {N : Type 0} (ps : List (Place N)) → length (cells_at ps
 length-cells_at [] = refl
 length-cells_at (p ∷ ps) = ap suc (length-cells_at ps)
 
--- the cells of the head's variables with the new variables behind them are cells for all variables
+-- the cells of the head's variables with the new variables after them are cells for all variables
 pub are_variables : {N : Type 0} (built : BuiltIn → N) (head fresh : ℕ) (places : List (Place N)) (old new : Held N) (none : Cell N) (empty first cells : List (Cell N)) →
     IsFormed old → 0 < old.variables → AreThere old places → none ≡ Atom (built EmptyList) → empty ≡ replicate (head + 1) none → length first ≡ length empty →
     ((v : ℕ) (d : Cell N) → v < length empty → slice_index_or first v d ≡ cell_at places v (slice_index_or empty v d)) →
@@ -258,7 +258,7 @@ are_variables {N = N} built head fresh places old new none empty first cells for
     let Q : List (Cell N) → Type 0 = λ xs. AreVariables built head fresh places old new xs in
     subst Q (sym cells_are) (subst P (sym is) result)
 
--- the same of cells of which it is known what stands at each variable
+-- cells for all variables, by what is known to stand at each variable
 pub variables_are : {N : Type 0} (built : BuiltIn → N) (head fresh : ℕ) (places : List (Place N)) (old new : Held N) (none : Cell N) (first cells : List (Cell N)) →
     IsFormed old → 0 < old.variables → AreThere old places → none ≡ Atom (built EmptyList) → length first ≡ head + 1 →
     ((v : ℕ) (d : Cell N) → v < head + 1 → slice_index_or first v d ≡ cell_at places v none) →

@@ -45,14 +45,14 @@ terms_count : (named : Name → List ℕ) (row : List Instruction) → length (t
 terms_count named [] = omega arith
 terms_count named (i ∷ is) = omega (arith, node_count named i (terms_from named is), terms_count named is)
 
--- the terms behind a first one are those behind its arguments
+-- the terms after a first one are those after its arguments
 behind_node : (named : Name → List ℕ) (i : Instruction) (k : ℕ) (ts : List Term) → behind (suc k) (read_node (coded named i) ts) ≡ behind (arguments_after i + k) ts
 behind_node named (Variable n) k ts = let e : k ≡ 0 + k = omega arith in ap (λ m. behind m ts) e
 behind_node named (Integer i) k ts = let e : k ≡ 0 + k = omega arith in ap (λ m. behind m ts) e
 behind_node named (Atom a) k ts = let e : k ≡ 0 + k = omega arith in ap (λ m. behind m ts) e
 behind_node named (Structure a n) k ts = behind_behind k n ts
 
--- so many are left behind the first instruction, also where a machine's greatest number stands for more
+-- what is after `m` terms, also if a machine's greatest number stands for more
 behind_either : (most m : ℕ) (ts : List Term) → length ts ≤ most → behind (min m most) ts ≡ behind m ts
 behind_either most m ts le = by (nat_le m most) refl
   where
@@ -90,7 +90,7 @@ pub none_left : (ts : List Term) (left : ℕ) → left ≤ 0 → ts ≡ behind l
 none_left ts zero le = refl
 none_left ts (suc left) le = absurd (omega arith)
 
--- the terms behind the first, where these are behind its arguments
+-- the terms after the first, if these are after its arguments
 pub behind_one : (named : Name → List ℕ) (row : List Instruction) (at : ℕ) (i : Instruction) (ts : List Term) → at < length row → ts ≡ behind (arguments_after (get_or row at i)) (terms_from named (drop (at + 1) row)) → ts ≡ behind_first (terms_from named (drop at row))
 behind_one named row at i ts lt e =
     let one : suc at ≡ at + 1 = omega arith in

@@ -43,12 +43,12 @@ puts_one structures arguments room stack after x e same = record {
   capacity = same;
 }
 
--- what is left of room where the end of a row is built
+-- what is left of room if the end of a row is built
 pub record RoomLeft {N : Type 0} (row : List Instruction) (left : ℕ) (old now : Room) (stack : Vec (Cell N) Global) : Type 0 where
   pub spends : Spends old now 0 (structures_in (drop left row)) (arguments_in (drop left row)) 0
   pub fits : length stack.items + left ≤ vec_capacity stack
 
--- all is left where nothing is built
+-- all is left if nothing is built
 pub all_left : {N : Type 0} (row : List Instruction) (room : Room) (stack : Vec (Cell N) Global) → stack.items ≡ [] → length row ≤ vec_capacity stack → RoomLeft row (length row) room room stack
 all_left row room stack e fits =
     let rest : drop (length row) row ≡ [] = drop_all (length row) row (omega arith) in

@@ -1,4 +1,4 @@
--- Cells that stand one behind another, and structures of them.
+-- Cells that stand one after another, and structures of them.
 use Rattle.std.proofs.Common.{◌≡◌, ℕ, zero, suc, ◌+◌, List, [], ◌∷◌, ◌++◌, length, length-append, reverse, refl, ap, sym, ◌∙◌, subst, arith}
 use Rattle.std.specs.Prelude.{Some, slice_get}
 use Rattle.std.proofs.lemmas.List.{reverse-append}
@@ -17,7 +17,7 @@ use Rattle.kl1_store.specs.Tops.{first_or, but_first, firsts, others}
 use Rattle.kl1_store.proofs.Tops.{AreWithin-reverse, AreWithin-back, firsts_within, others_within}
 use Rattle.kl1_match.specs.Rows.{front_with, Joined, Joins}
 
--- the terms of the first so many cells
+-- the first term of cells, or what is given for one that is missing
 pub first_term_is : {N : Type 0} (f : N → List ℕ) (h : Held N) (m : Cell N) (xs : List (Cell N)) → term_of f h (first_or m xs) ≡ first_or (term_of f h m) (term_list f h xs)
 first_term_is f h m [] = refl
 first_term_is f h m (x ∷ xs) = refl
@@ -52,7 +52,7 @@ last_of : {A : Type 0} (xs : List A) (x : A) → slice_get (xs ++ x ∷ []) (len
 last_of [] x = refl
 last_of (y ∷ xs) x = last_of xs x
 
--- a structure that was built of the first so many cells
+-- a structure that was built of the first `count` cells
 pub joined : {N : Type 0} (f : N → List ℕ) (old : Held N) (missing : Cell N) (name : N) (count : ℕ) (before : List (Cell N)) →
     IsFormed old → AreIn old before → IsIn old missing →
     Joined f old (with_structure old name (firsts missing count before)) missing name count before (Structure (length old.structures) ∷ others count before)
@@ -77,7 +77,7 @@ joined {N = N} f old missing name count before formed inside there =
       kept = kept;
     }
 
--- a structure of the first so many cells was put in front of the others
+-- a structure of the first `count` cells was put in front of the others
 pub joins_are : {N : Type 0} (old new : Held N) (missing : Cell N) (name : N) (count s : ℕ) (stack left now arguments : List (Cell N)) →
     IsFormed old → AreIn old stack → IsIn old missing →
     arguments ≡ firsts missing count (reverse stack) → reverse left ≡ others count (reverse stack) →

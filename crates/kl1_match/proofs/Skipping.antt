@@ -1,4 +1,4 @@
--- Rows behind their first terms.
+-- Rows after their first terms.
 use Rattle.std.specs.Prelude.{◌^◌, min}
 use Rattle.std.proofs.Common.{◌≡◌, ℕ, suc, ◌+◌, ◌-◌, ◌<◌, ◌≤◌, List, [], ◌∷◌, ◌++◌, length, map, refl, sym, ap, ◌∙◌, arith, inl, inr, length-append, append_assoc, get_or, drop, length-drop, drop-cons, subst}
 use Rattle.std.proofs.lemmas.List.{length-map, drop_all}
@@ -9,7 +9,7 @@ use Rattle.kl1_clause.specs.declared.instruction.Instruction.TheVariants.{Variab
 use Rattle.kl1_clause.specs.Instructions.{code_in}
 use Rattle.kl1_match.specs.Matching.{joined, arguments_after}
 
--- so many terms stand in a row in front of others
+-- `left` terms stand in a row in front of others
 pub record AreAhead (names : List (List ℕ)) (row : List Instruction) (left : ℕ) (ps : Terms) : Type 0 where
   pub terms : Terms
   pub counted : count_of terms ≡ left
@@ -80,7 +80,7 @@ heads names (Structure a n) row (structure g us) ps e =
       row_is = rest ∙ sym (nodes_of-joined us ps);
     }
 
--- a row that begins with an instruction, behind that
+-- a row that begins with an instruction, after that
 goes_ahead : (names : List (List ℕ)) (i : Instruction) (row : List Instruction) (left now : ℕ) (ps : Terms) → length row < 2 ^ 64 →
     0 < left → now ≡ min (left - 1 + arguments_after i) (2 ^ 64 - 1) → AreAhead names (i ∷ row) left ps → AreAhead names row now ps
 goes_ahead names i row left now ps short some e a = of_terms a.terms a.counted a.row_is
@@ -107,7 +107,7 @@ goes_ahead_at names row at left now i ps short lt some e a =
     let one : suc at ≡ at + 1 = omega arith in
     subst Q one (goes_ahead names (get_or row at i) (drop (suc at) row) left now ps (omega (arith, length-drop (suc at) row)) some e (subst P (drop-cons row at i lt) a))
 
--- where nothing is left to skip, the others stand in front
+-- if nothing is left to skip, the others stand in front
 pub all_skipped : (names : List (List ℕ)) (row : List Instruction) (left : ℕ) (ps : Terms) → left ≡ 0 → AreAhead names row left ps → map (code_in names) row ≡ nodes_of_all ps
 all_skipped names row left ps e a = of_terms a.terms a.counted a.row_is
   where

@@ -50,7 +50,7 @@ own_one : {N : Type 0} (t : Tests N) (x : TestVariable) (vs : List ℕ) → IsFr
 own_one t (Own v) vs free = own_dropped (last_of t) v vs free
 own_one t (Goal w) vs free = own_taken (last_of t) w vs
 
--- the variables that are left, behind those that were put
+-- the variables that are left, after those that were put
 pub record PutLeft {N : Type 0} (t : Tests N) (all left : List TestVariable) (before now : List ℕ) : Type 0 where
   pub free : All (IsFreeIn t) left
   pub put : now ++ own_variables (last_of t) (map (test_number t) left) ≡ before ++ own_variables (last_of t) (map (test_number t) all)

@@ -1,4 +1,4 @@
--- What is left of a clause's patterns and of the rows of cells, and the places where they are kept.
+-- What is left of a clause's patterns and of the rows of cells, and the places if they are kept.
 use Rattle.std.proofs.Common.{◌≡◌, ℕ, ◌+◌, ◌<◌, ◌≤◌, Bool, true, nat_eq, not, List, [], ◌∷◌, ◌++◌, length, map, take, drop, get_or, refl, sym, ap, ◌∙◌, subst}
 use Rattle.std.proofs.lemmas.List.{append-nil}
 use Rattle.kl1_model.specs.declared.built_in.BuiltIn.{BuiltIn}
@@ -26,15 +26,15 @@ use Rattle.kl1_match.proofs.Whole.{GivesAll, starts, goes_on, waits_there, clash
 abbrev pub keeps_of : ℕ → Bool
 keeps_of k = not (nat_eq k 0)
 
--- what is left gives the answer of all, with the places where they are kept
+-- what is left gives the answer of all, with the places if they are kept
 abbrev pub GivesKept : {N : Type 0} → (BuiltIn → N) → List N → CompiledClause → Held N → Cell N → ℕ → Bool → List (Cell N) → List (Place N) → List ℕ → List ℕ → Type 0
 GivesKept built names compiled h goal at keeps cells places before after = Keeps keeps places (λ ps. GivesAll built names compiled h goal at cells ps before after)
 
--- the verdict, with the places where they are kept
+-- the verdict, with the places if they are kept
 abbrev pub TriedKept : {N : Type 0} → (BuiltIn → N) → List N → CompiledClause → Held N → Cell N → Bool → List (Place N) → List ℕ → List ℕ → Verdict → Type 0
 TriedKept built names compiled h goal keeps places before after given = Keeps keeps places (λ ps. IsTried built names compiled h goal ps before after given)
 
--- no row stands behind one
+-- no row stands after one
 pub none_behind : {N : Type 0} (h : Held N) (behind : List Span) → behind ≡ [] → AreSpans h behind
 none_behind {N = N} h behind e = let P : List Span → Type 0 = λ l. AreSpans h l in subst P (sym e) tt
 
@@ -122,7 +122,7 @@ suspended_kept built names compiled h goal at keeps cells same places before aft
 
 -- ---- verdicts
 
--- the verdict for callers, with the places where they are kept
+-- the verdict for callers, with the places if they are kept
 abbrev pub GivenKept : {N : Type 0} → (BuiltIn → N) → List N → CompiledClause → Held N → Cell N → Bool → List (Place N) → List ℕ → List ℕ → Verdict → Type 0
 GivenKept built names compiled h goal keeps places before after given = Keeps keeps places (λ ps. IsVerdict built names compiled h goal ps before after given)
 
@@ -138,7 +138,7 @@ pub dropped_kept : {N : Type 0} (built : BuiltIn → N) (names : List N) (compil
     TriedKept built names compiled h goal keeps places before after Rejects → GivenKept built names compiled h goal keeps places before now Rejects
 dropped_kept built names compiled h goal keeps places before after now n count e t = record { taken = t.taken; kept = t.kept; holds = dropped built names compiled h goal t.taken before after now n count e t.holds }
 
--- where places are kept, these are the places
+-- if places are kept, these are the places
 pub of_places : {N : Type 0} (places : List (Place N)) (Fact : List (Place N) → Type 0) → Keeps true places Fact → Fact places
 of_places places Fact k = subst Fact (sym (k.kept refl)) k.holds
 

@@ -165,7 +165,7 @@ patterns_wanted built names compiled h goal at cells places before after le some
     rejected built names compiled h goal places before after all.named all.places_in all.unbound all.awaited (λ f reads clause is.
     no_patterns f h clause.patterns (arguments_of_goal (term_of f h goal)) (map (code_in (map f names)) (drop at compiled.patterns.items)) cells r.1 r.0 places all.named (nothing_more (map f names) compiled.patterns.items at le) r.2 (all.left f reads clause is))
 
--- the verdict where nothing clashed
+-- the verdict if nothing clashed
 abbrev pub verdict_so_far : List ℕ → Verdict
 verdict_so_far [] = Accepts
 verdict_so_far (v ∷ vs) = Suspends

@@ -13,12 +13,12 @@ use Rattle.kl1_clause.specs.Instructions.{code_in}
 use Rattle.kl1_match.specs.Instances.{AreKept}
 use Rattle.kl1_match.specs.Steps.{Agrees}
 
--- an instruction whose variable is one of so many, of which there are some
+-- an instruction whose variable is one of `count`, of which there are some
 abbrev pub IsWithinRow : ℕ → Instruction → Type 0
 IsWithinRow count (Variable n) = n < count
 IsWithinRow count i = 0 < count
 
--- instructions whose variables are of so many, of which there are some
+-- instructions whose variables are of `count`, of which there are some
 abbrev pub AreBelow : ℕ → List Instruction → Type 0
 AreBelow count [] = Unit {0}
 AreBelow count (i ∷ is) = IsWithinRow count i × AreBelow count is

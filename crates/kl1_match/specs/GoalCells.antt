@@ -25,30 +25,30 @@ goal_variables s = s.variables.items
 abbrev pub HasRoomForGoal : {N : Type 0} → Room → Scratch N → List Instruction → Type 0
 HasRoomForGoal room s row = HasRoomForRow room (vec_capacity s.stack) row
 
--- behind a cell for none, the variables behind the last, so many
+-- after a cell for none, the `count` variables after the last
 pub record AreNext {N : Type 0} (last count : ℕ) (cells : List (Cell N)) : Type 0 where
   pub length_is : length cells ≡ count + 1
   pub are : (v : ℕ) → 1 ≤ v → v ≤ count → slice_index_or cells v (cell.Variable 0) ≡ cell.Variable (last + v)
 
--- the variables behind the last, so many, are unbound
+-- the `count` variables after the last are unbound
 abbrev pub AreFreeBehind : {N : Type 0} → Held N → ℕ → ℕ → Type 0
 AreFreeBehind h last count = (v : ℕ) → 1 ≤ v → v ≤ count → is_bound (last + v) h.bindings ≡ false
 
--- the cells for a goal's variables, so many, are the variables of the store behind the last, of which none is bound
+-- the cells for a goal's `count` variables are the variables of the store after the last, of which none is bound
 pub record AreGoalVariables {N : Type 0} (h : Held N) (last count : ℕ) (cells : List (Cell N)) : Type 0 where
   pub inside : AreIn h cells
   pub next : AreNext last count cells
   pub free : AreFreeBehind h last count
 
--- a cell was built of the row of a goal, where these cells stand for the goal's variables, for one reading of the names: it means
--- the goal with what the variables mean in place of them; where they are the next of the store, the goal with these; and where
+-- a cell was built of the row of a goal, if these cells stand for the goal's variables, for one reading of the names: it means
+-- the goal with what the variables mean in place of them; if they are the next of the store, the goal with these; and if
 -- those are unbound, as in the definitions
 pub record IsGoalBuilt {N : Type 0} (f : N → List ℕ) (old new : Held N) (cells : List (Cell N)) (goal : Term) (x : Cell N) : Type 0 where
   pub means : (e : ℕ → Term) → Agrees f old cells e → term_of f new x ≡ substituted e goal
   pub term : IsTrue (is_numbered goal) → (last : ℕ) → AreNext last (highest goal) cells → term_of f new x ≡ substituted (λ v. term_of f new (cell.Variable (last + v))) goal
   pub next : IsTrue (is_numbered goal) → (last : ℕ) → AreNext last (highest goal) cells → AreFreeBehind old last (highest goal) → term_of f new x ≡ with_next_variables last goal
 
--- a cell was built of a row, where these cells stand for its variables: whatever goal the row is, however names are read, it
+-- a cell was built of a row, if these cells stand for its variables: whatever goal the row is, however names are read, it
 -- means that goal; and each cell that was there means what it meant
 pub record BuildsGoal {N : Type 0} (built : BuiltIn → N) (names : List N) (row : List Instruction) (cells : List (Cell N)) (old new : Held N) (x : Cell N) : Type 0 where
   pub inside : IsIn new x

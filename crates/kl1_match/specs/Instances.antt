@@ -14,7 +14,7 @@ use Rattle.kl1_clause.specs.declared.compiled_clause.CompiledClause.{CompiledCla
 use Rattle.kl1_clause.specs.Clauses.{IsCompiled}
 use Rattle.kl1_match.specs.declared.place.Place.{Place}
 
--- a compiled clause is some clause, where its code has so many names
+-- a compiled clause is some clause, if its code has as many names as these
 pub record IsClause {N : Type 0} (names : List N) (compiled : CompiledClause) : Type 0 where
   pub texts : List (List ℕ)
   pub count : length texts ≡ length names

@@ -9,7 +9,7 @@ abbrev pub places_from : {N : Type 0} → ℕ → List (Cell N) → List (Place 
 places_from n [] = []
 places_from n (x ∷ xs) = record { variable = n; cell = x } ∷ places_from (suc n) xs
 
--- the cells behind the first as the places of the variables from 1 on
+-- the cells after the first as the places of the variables from 1 on
 abbrev pub places_behind : {N : Type 0} → List (Cell N) → List (Place N)
 places_behind [] = []
 places_behind (x ∷ xs) = places_from 1 xs

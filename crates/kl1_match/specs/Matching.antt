@@ -63,11 +63,11 @@ pub record IsOpened {N : Type 0} (f : N → List ℕ) (h : Held N) (name : N) (c
   pub matched : (ps : Terms) → count_of ps ≡ count → match_term (structure (f name) ps) t ≡ match_terms ps arguments
   pub cells_are : terms_of f h now ≡ joined arguments (terms_of f h cells)
 
--- the same of the term of a cell, however names are read
+-- the term of a cell is such a structure, however names are read
 pub record Opens {N : Type 0} (built : BuiltIn → N) (h : Held N) (name : N) (count : ℕ) (x : Cell N) (cells now : List (Cell N)) : Type 0 where
   pub opened : (f : N → List ℕ) → Reads built f → IsOpened f h name count (term_of f h x) cells now
 
--- a structure as a pattern beside a cell with this outcome, where the cells that are left stay
+-- a structure as a pattern beside a cell with this outcome, if the cells that are left stay
 pub record Stays {N : Type 0} (built : BuiltIn → N) (h : Held N) (name : N) (count : ℕ) (x : Cell N) (cells now : List (Cell N)) (outcome : Outcome) : Type 0 where
   pub cells_are : now ≡ cells
   pub matched : (f : N → List ℕ) → Reads built f → (ps : Terms) → count_of ps ≡ count → match_term (structure (f name) ps) (term_of f h x) ≡ with_outcome outcome
@@ -94,7 +94,7 @@ pub record GoesInto {N : Type 0} (f : N → List ℕ) (h : Held N) (c : NodeCode
   pub cells_are : terms_of f h now ≡ joined arguments (terms_of f h cells)
   pub places_are : replacements_of f h longer ≡ replacements_of f h places ++ taken
 
--- the same of an instruction's pattern and the term of a cell, however names are read, and the places are of the store
+-- an instruction's pattern agrees so with the term of a cell, however names are read, and the places are of the store
 pub record Continues {N : Type 0} (built : BuiltIn → N) (h : Held N) (names : List N) (i : Instruction) (x : Cell N) (cells now : List (Cell N)) (places longer : List (Place N)) : Type 0 where
   pub places_in : AreThere h longer
   pub goes_into : (f : N → List ℕ) → Reads built f → (p : Term) → Begins (code_in (map f names) i) p → GoesInto f h (code_in (map f names) i) p (term_of f h x) cells now places longer
@@ -118,7 +118,7 @@ with_place places (Integer i) x = places
 with_place places (Atom a) x = places
 with_place places (Structure a n) x = places
 
--- a pattern that begins with an instruction is met by the first of cells; its place is kept where places are
+-- a pattern that begins with an instruction is met by the first of cells; its place is kept if places are
 pub record MeetsFirst {N : Type 0} (built : BuiltIn → N) (h : Held N) (names : List N) (i : Instruction) (keeps : Bool) (cells now : List (Cell N)) (places longer : List (Place N)) (met : Met) : Type 0 where
   pub first : Cell N
   pub rest : List (Cell N)
@@ -126,7 +126,7 @@ pub record MeetsFirst {N : Type 0} (built : BuiltIn → N) (h : Held N) (names :
   pub kept : keeps ≡ true → longer ≡ with_place places i first
   pub meets : (ps : List (Place N)) → AreThere h ps → MeetsAs built h names i first rest now ps (with_place ps i first) met
 
--- a fact of places, which are these where places are kept
+-- a fact of places, which are these if places are kept
 pub record Keeps {N : Type 0} (keeps : Bool) (places : List (Place N)) (Fact : List (Place N) → Type 0) : Type 0 where
   pub taken : List (Place N)
   pub kept : keeps ≡ true → places ≡ taken

@@ -12,7 +12,7 @@ WaitsFor named agrees = named ≡ []
 WaitsFor named clashes = ⊥
 WaitsFor named (waits vs) = AreSame named vs
 
--- parts clash, where the answer is no, and else wait for these
+-- parts clash, if the answer is no, and else wait for these
 abbrev pub ComesTo : Bool → List ℕ → Outcome → Type 0
 ComesTo true named outcome = WaitsFor named outcome
 ComesTo false named outcome = outcome ≡ clashes

@@ -22,7 +22,7 @@ pub record PairsWait {N : Type 0} (built : BuiltIn → N) (f : N → List ℕ) (
   pub awaited : (w : ℕ) → is_among w named ≡ some_pair (test_term built f t) (wait_for (goal_number t w)) pairs
   pub none : named ≡ [] → (v : ℕ) → some_pair (test_term built f t) (wait_for v) pairs ≡ false
 
--- that, or two clash, where the answer is no
+-- that, or two clash, if the answer is no
 abbrev pub PairsWaitAs : {N : Type 0} → (BuiltIn → N) → (N → List ℕ) → Tests N → List (Pair (TestAt N)) → List ℕ → Bool → Type 0
 PairsWaitAs built f t pairs named true = PairsWait built f t pairs named
 PairsWaitAs built f t pairs named false = some_pair (test_term built f t) clash pairs ≡ true

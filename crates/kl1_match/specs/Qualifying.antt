@@ -6,7 +6,7 @@ use Rattle.kl1_store.specs.declared.qualified.Qualified.{Qualified}
 use Rattle.kl1_clause.specs.declared.name.Name.{Name}
 use Rattle.kl1_match.specs.TestTerms.{name_of}
 
--- the name of a module, if there is one, where the names of the code's list are these
+-- the name of a module, if there is one and the names of the code's list are these
 abbrev pub module_at : {N : Type 0} → (BuiltIn → N) → List N → Option Name → Option N
 module_at built names None = None
 module_at built names (Some n) = Some (name_of built names n)

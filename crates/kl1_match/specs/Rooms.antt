@@ -41,18 +41,18 @@ step_arguments (Integer i) = 0
 step_arguments (Atom a) = 0
 step_arguments (Structure a n) = n
 
--- room for so many structures and arguments in the store
+-- room for `structures` structures and `arguments` arguments in the store
 pub record HasRoomFor (structures arguments : ℕ) (room : Room) : Type 0 where
   pub structures_fit : structures ≤ room.structures
   pub arguments_fit : arguments ≤ room.arguments
 
--- at most so much of the room was used, and one cell more put on the stack
+-- at most `structures` and `arguments` of the room were used, and at most one cell more was put on the stack
 pub record UsesRoom {N : Type 0} (structures arguments : ℕ) (old new : Room) (stack after : Vec (Cell N) Global) : Type 0 where
   pub spends : Spends old new 0 structures arguments 0
   pub height : length after.items ≤ length stack.items + 1
   pub capacity : vec_capacity after ≡ vec_capacity stack
 
--- room to build a row in: in the store, and on an empty stack, which can hold so many
+-- room to build a row in: in the store, and on an empty stack, which can hold `stack` cells
 pub record HasRoomForRow (room : Room) (stack : ℕ) (row : List Instruction) : Type 0 where
   pub structures_fit : structures_in row ≤ room.structures
   pub arguments_fit : arguments_in row ≤ room.arguments

@@ -22,6 +22,6 @@ abbrev pub cells_behind : {N : Type 0} → Held N → List Span → List (Cell N
 cells_behind h [] = []
 cells_behind h (s ∷ ss) = cells_behind h ss ++ span_cells h s
 
--- the cells of a row, and then those of the rows behind it
+-- the cells of a row, and then those of the rows after it
 abbrev pub cells_left : {N : Type 0} → Held N → Span → List Span → List (Cell N)
 cells_left h s ss = span_cells h s ++ cells_behind h ss

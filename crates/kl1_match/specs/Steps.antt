@@ -19,7 +19,7 @@ step_code f (Integer i) = inl (inr i)
 step_code f (Atom a) = inr (inl (f a))
 step_code f (Structure a n) = inr (inr (f a, n))
 
--- a step whose variable is one of so many, of which there are some
+-- a step whose variable is one of `count`, of which there are some
 abbrev pub IsBelow : {N : Type 0} → ℕ → Step N → Type 0
 IsBelow count (Variable n) = n < count
 IsBelow count step = 0 < count

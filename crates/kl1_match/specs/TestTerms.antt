@@ -35,18 +35,18 @@ abbrev pub name_of : {N : Type 0} → (BuiltIn → N) → List N → Name → N
 name_of built names (name.Language b) = built b
 name_of built names (name.Place k) = slice_index_or names k (built EmptyList)
 
--- an instruction as a node of a term, where names are read so
+-- an instruction as a node of a term, if names are read so
 abbrev pub coded : (Name → List ℕ) → Instruction → NodeCode
 coded named (instruction.Variable n) = inl (inl n)
 coded named (instruction.Integer i) = inl (inr i)
 coded named (instruction.Atom a) = inr (inl (named a))
 coded named (instruction.Structure a n) = inr (inr (named a, n))
 
--- the terms of a row, one behind another
+-- the terms of a row, one after another
 abbrev pub terms_from : (Name → List ℕ) → List Instruction → List Term
 terms_from named row = read_nodes (map (coded named) row) []
 
--- the instruction at a place, or a variable where there is none
+-- the instruction at a place, or a variable if there is none
 abbrev pub instruction_in : List Instruction → ℕ → Instruction
 instruction_in row place = slice_index_or row place (instruction.Variable 0)
 
@@ -98,7 +98,7 @@ named_in built f t a = f (name_of built t.names a)
 abbrev pub value_in : {N : Type 0} → (N → List ℕ) → Tests N → ℕ → Term
 value_in f t = test_variable (last_of t) (replacements_of f t.held t.places)
 
--- the term that stands somewhere: a cell's, behind the variables of the tests, or one of the row
+-- the term that stands somewhere: a cell's, after the variables of the tests, or one of the row
 abbrev pub test_term : {N : Type 0} → (BuiltIn → N) → (N → List ℕ) → Tests N → TestAt N → Term
 test_term built f t (at.Cell x) = beside (last_of t) (term_of f t.held x)
 test_term built f t (at.Row q) = substituted (value_in f t) (first_term (terms_from (named_in built f t) (drop q t.row)))
@@ -113,7 +113,7 @@ abbrev pub test_arguments : {N : Type 0} → (BuiltIn → N) → (N → List ℕ
 test_arguments built f t (structure.Cell s) = each_substituted (λ v. variable (suc (last_of t + v))) (terms_of f t.held (arguments_of t.held s))
 test_arguments built f t (structure.Row q) = each_substituted (value_in f t) (front_of (arguments_after (instruction_in t.row q)) (terms_from (named_in built f t) (drop (suc q) t.row)))
 
--- the number of a variable: those of the goal go behind the clause's own
+-- the number of a variable: those of the goal go after the clause's own
 abbrev pub test_number : {N : Type 0} → Tests N → TestVariable → ℕ
 test_number t (Own v) = v
 test_number t (Goal w) = suc (last_of t + w)
@@ -143,7 +143,7 @@ abbrev pub IsCellAt : {N : Type 0} → Tests N → TestAt N → Type 0
 IsCellAt t (at.Cell x) = IsIn t.held x
 IsCellAt t (at.Row q) = ⊥
 
--- the form of a cell's term behind the variables of the tests
+-- the form of a cell's term after the variables of the tests
 abbrev pub moved_form : {N : Type 0} → Form N ℕ ℕ → Form N TestVariable TestStructure
 moved_form (form.Variable v) = form.Variable (Goal v)
 moved_form (form.Integer i) = form.Integer i

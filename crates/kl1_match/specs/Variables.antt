@@ -12,7 +12,7 @@ use Rattle.kl1_match.specs.declared.place.Place.{Place}
 use Rattle.kl1_match.specs.Instances.{replacements_of}
 use Rattle.kl1_match.specs.Steps.{Agrees}
 
--- the cell at the first place of a variable, or a given one where it has no place
+-- the cell at the first place of a variable, or a given one if it has no place
 abbrev pub cell_at : {N : Type 0} → List (Place N) → ℕ → Cell N → Cell N
 cell_at [] v x = x
 cell_at (p ∷ ps) v x = if p.variable == v then p.cell else cell_at ps v x
@@ -27,20 +27,20 @@ abbrev pub AreFrom : {N : Type 0} → ℕ → List (Place N) → Type 0
 AreFrom n [] = Unit {0}
 AreFrom n (p ∷ ps) = (p.variable ≡ n) × AreFrom (suc n) ps
 
--- so many variables more
+-- `count` variables more
 abbrev pub with_variables : {N : Type 0} → Held N → ℕ → Held N
 with_variables h count = record { variables = h.variables + count; structures = h.structures; bindings = h.bindings }
 
--- so many variables from one on
+-- as many variables as given, from `n` on
 abbrev pub fresh_cells : {N : Type 0} → ℕ → ℕ → List (Cell N)
 fresh_cells n zero = []
 fresh_cells n (suc k) = Variable n ∷ fresh_cells (suc n) k
 
--- what stands for a variable of a clause whose head has so many: the term at its place, or the next variable behind the last
+-- what stands for a variable of a clause whose head has `head`: the term at its place, or the next variable after the last
 abbrev pub stands_for : ℕ → List Replacement → ℕ → ℕ → Term
 stands_for head places last v = if nat_le v head then term_at places v nil else variable (last + (v - head))
 
--- a cell for each variable of a clause whose head has so many variables and whose body so many others
+-- a cell for each variable of a clause whose head has `head` variables and whose body has `fresh` others
 pub record AreVariables {N : Type 0} (built : BuiltIn → N) (head fresh : ℕ) (places : List (Place N)) (old new : Held N) (cells : List (Cell N)) : Type 0 where
   pub held : new ≡ with_variables old fresh
   pub length_is : length cells ≡ head + 1 + fresh

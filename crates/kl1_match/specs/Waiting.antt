@@ -2,6 +2,6 @@
 use Rattle.std.specs.Prelude.{ℕ, ◌↔◌, List, Contains}
 pub use Rattle.kl1_store.specs.Unbound.{IsUnbound, AreUnbound}
 
--- the same variables stand in both lists, in whatever order and however often
+-- both lists hold the same variables, in whatever order and however often
 pub record AreSame (vs ws : List ℕ) : Type 0 where
   pub each : (v : ℕ) → Contains vs v ↔ Contains ws v

@@ -25,7 +25,7 @@ use kl1_text::NameValue;
 use std::alloc::AllocError;
 
 /// Whether a pattern that begins with an instruction may agree with the next cell of `span`, which is taken, and a variable of
-/// it is the next in order behind those whose cells are kept. What is left to be matched is as `meet` says.
+/// it is the next in order after those whose cells are kept. What is left to be matched is as `meet` says.
 #[inline]
 fn agrees_in_order<N: NameValue>(
     store: &Store<N>,
@@ -104,7 +104,7 @@ fn plain_accepts_in_order<N: NameValue>(
     Ok(!is_left(store, &mut span, behind))
 }
 
-/// Whether a clause without tests but `true` accepts a goal, and the variables of its head stand in order of their numbers, each once, where
+/// Whether a clause without tests but `true` accepts a goal, and the variables of its head stand in order of their numbers, each once, if
 /// the names of the clause's code are these. Then the scratch keeps the cells at their places until it is used for something else
 /// than an instance of this clause. If not, nothing is said of the clause.
 #[inline]

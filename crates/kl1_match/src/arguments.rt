@@ -31,6 +31,7 @@ pub(crate) fn span_of<N: NameValue>(store: &Store<N>, goal: Cell<N>) -> Span
     ensures within { IsSpan store.now.held result }
     ensures means { (f : N → List ℕ) → terms_of f store.now.held (span_cells store.now.held result) ≡ arguments_of_goal (term_of f store.now.held goal) }
 {
+    // Only for the proof: what the store holds is formed.
     let _ = store.mark();
     match store.walk(goal) {
         Cell::Variable(_) => Span { next: 0, end: 0 },
@@ -40,7 +41,7 @@ pub(crate) fn span_of<N: NameValue>(store: &Store<N>, goal: Cell<N>) -> Span
     }
 }
 
-/// Whether a cell is left; where one is, it is the next of `span` then.
+/// Whether a cell is left; if one is, it is the next of `span` then.
 #[inline]
 pub(crate) fn is_left<N: NameValue>(
     store: &Store<N>,

@@ -56,8 +56,8 @@ fn integer_at<N: NameValue>(
     }
 }
 
-/// What all tests of a row come to, where they are one comparison of two operands, each an integer or a variable at whose first
-/// place one stands: whether it holds. No variable is awaited then. Where nothing is answered, nothing is said of the tests.
+/// What all tests of a row come to, if they are one comparison of two operands, each an integer or a variable at whose first
+/// place one stands: whether it holds. No variable is awaited then. If nothing is answered, nothing is said of the tests.
 #[inline(always)]
 pub fn known_at_once<N: NameValue>(
     store: &Store<N>,

@@ -24,8 +24,8 @@ pub(crate) fn put_cell<N: Copy>(stack: &mut Vec<Cell<N>>, cell: Cell<N>) -> Resu
     }
 }
 
-/// Puts the structure of a name and so many cells from the top of a stack on it; where none is left, `missing` stands for
-/// it. Where memory is refused, the stack is of no use.
+/// Puts the structure with name `name` and `count` cells from the top of a stack on it; if none is left, `missing` stands for
+/// it. If memory is refused, the stack is of no use.
 #[inline]
 pub(crate) fn join_top<N: NameValue>(
     store: &mut Store<N>,
@@ -45,6 +45,7 @@ pub(crate) fn join_top<N: NameValue>(
     ensures uses { OnOk result (UsesRoom 1 count store.old.room store.new.room stack.old stack.new) }
     ensures hook_room { store.new.hook_room ≡ store.old.hook_room }
 {
+    // Only for the proof: what the store holds is formed.
     let _ = store.mark();
     let structure = store.build_top(name, stack, missing, count)?;
     stack.push_reserved(Cell::Structure(structure));
@@ -52,7 +53,7 @@ pub(crate) fn join_top<N: NameValue>(
 }
 
 /// Puts on a stack, which has room for it, the cell of a term that begins with a step, whose arguments are taken from its top.
-/// `variables` has a cell for each variable, by its number from 0. Where memory is refused, the stack is of no use.
+/// `variables` has a cell for each variable, by its number from 0. If memory is refused, the stack is of no use.
 #[inline]
 pub(crate) fn put_step<N: NameValue>(
     store: &mut Store<N>,

@@ -20,8 +20,8 @@ use kl1_store::{Cell, Store};
 use kl1_text::NameValue;
 use std::alloc::AllocError;
 
-/// Puts a cell for each variable of a goal in the scratch, by its number from 0: so many new variables of the store, behind the
-/// cell of the empty list. Where memory is refused, the store may have grown, and the scratch's cells are of no use.
+/// Puts a cell for each variable of a goal in the scratch, by its number from 0: `count` new variables of the store, after the
+/// cell of the empty list. If memory is refused, the store may have grown, and the scratch's cells are of no use.
 pub fn put_goal_variables<N: NameValue>(
     store: &mut Store<N>,
     count: u64,
@@ -34,6 +34,7 @@ pub fn put_goal_variables<N: NameValue>(
     ensures held { OnOk result (store.new.held ≡ with_variables store.old.held count) }
     ensures variables { OnOk result (AreGoalVariables store.new.held (store.old.held.variables - 1) count (goal_variables scratch.new)) }
 {
+    // Only for the proof: what the store holds is formed.
     let _ = store.mark();
     let variables = &mut scratch.variables;
     let all = (count as usize).checked_add(1).ok_or(AllocError)?;
@@ -72,7 +73,8 @@ pub fn reserve_goal<N: NameValue>(
     reserve_goal_beside(store, row, scratch, 0, 0, 0, 0)
 }
 
-/// The same, with room for so many variables, structures, arguments and bindings beside it.
+/// Makes that room and, beside it, room for `variables` variables, `structures` structures, `arguments` arguments and `bindings`
+/// bindings.
 pub fn reserve_goal_beside<N: NameValue>(
     store: &mut Store<N>,
     row: &[Instruction],

@@ -20,7 +20,7 @@ use kl1_text::NameValue;
 use std::alloc::AllocError;
 
 /// The verdict on a goal of a plain clause, of which the match alone decides: it keeps places as `find_match` does. `awaited` gets
-/// the variables that the clause waits for behind its own, and none where it rejects. Where memory is refused, nothing is said of
+/// the variables that the clause waits for, after those in it, and none if it rejects. If memory is refused, nothing is said of
 /// what the lists got.
 #[inline(always)]
 pub fn judge_plain<N: NameValue, const KEEP: bool>(
@@ -48,7 +48,7 @@ pub fn judge_plain<N: NameValue, const KEEP: bool>(
     }
 }
 
-/// Empties places, and makes room for so many where they are kept.
+/// Empties places, and makes room for `count` if they are kept.
 #[inline]
 fn clear_places<N: NameValue, const KEEP: bool>(
     places: &mut Vec<Place<N>>,
@@ -65,9 +65,9 @@ fn clear_places<N: NameValue, const KEEP: bool>(
 }
 
 /// The verdict of the match of a clause with a goal alone, whatever its tests and the places of its variables say: that it
-/// agrees, clashes, or waits, where the names of the clause's code are these. Where places are to be kept, `places` gets those of
+/// agrees, clashes, or waits, if the names of the clause's code are these. If places are to be kept, `places` gets those of
 /// the head's variables that are reached, in order; else nothing is said of it. `awaited` gets the variables that its patterns wait
-/// for behind its own, also where a later one clashes. Where memory is refused, nothing is said of what the lists got.
+/// for, after those in it, also if a later one clashes. If memory is refused, nothing is said of what the lists got.
 #[inline(always)]
 pub fn find_match<N: NameValue, const KEEP: bool>(
     store: &Store<N>,

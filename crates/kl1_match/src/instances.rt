@@ -49,7 +49,7 @@ fn step_in<N: NameValue>(names: &[N], instruction: Instruction) -> Step<N>
 }
 
 /// Puts on an empty stack the cells of the terms of a row, the last of them first. `variables` has a cell for each variable,
-/// by its number from 0. Where memory is refused, the stack is of no use.
+/// by its number from 0. If memory is refused, the stack is of no use.
 #[inline(always)]
 pub(crate) fn put_row<N: NameValue>(
     store: &mut Store<N>,
@@ -80,8 +80,8 @@ pub(crate) fn put_row<N: NameValue>(
     Ok(())
 }
 
-/// Puts so many cells in a list without any, which has room for them: those of the variables of a head, by their number from 0,
-/// where `none` stands for 0 and for each variable that has no place.
+/// Puts `count` cells in a list without any, which has room for them: those of the variables of a head, by their number from 0;
+/// `none` stands for 0 and for each variable that has no place.
 fn put_places<N: NameValue>(
     cells: &mut Vec<Cell<N>>,
     places: &[Place<N>],
@@ -106,8 +106,8 @@ fn put_places<N: NameValue>(
     Ok(())
 }
 
-/// Puts a cell for each variable of a clause where there is none yet, by its number from 0: for those of the head the cells at
-/// their places, and for the others new variables of the store. Where memory is refused, the store may have grown.
+/// Puts a cell for each variable of a clause if there is none yet, by its number from 0: for those of the head the cells at
+/// their places, and for the others new variables of the store. If memory is refused, the store may have grown.
 fn put_variables<N: NameValue>(
     store: &mut Store<N>,
     clause: &CompiledClause,
@@ -122,6 +122,7 @@ fn put_variables<N: NameValue>(
     ensures bindings { store.new.held.bindings ≡ store.old.held.bindings }
     ensures variables { OnOk result (AreVariables N.built clause.now.head_variables clause.now.fresh_variables places.now store.old.held store.new.held cells.new.items) }
 {
+    // Only for the proof: what the store holds is formed.
     let _ = store.mark();
     let none = Cell::Atom(N::of(BuiltIn::EmptyList));
     let count = (clause.head_variables as usize)
@@ -136,7 +137,7 @@ fn put_variables<N: NameValue>(
 }
 
 /// Puts in place of `goals` those of a clause's body. `variables` has a cell for each of its variables, by its number from 0.
-/// Where memory is refused, `goals` is of no use.
+/// If memory is refused, `goals` is of no use.
 fn put_body<N: NameValue>(
     store: &mut Store<N>,
     names: &[N],
@@ -159,7 +160,7 @@ fn put_body<N: NameValue>(
 }
 
 /// Puts in place of `goals` those of a clause's body, with the terms at the places of its head's variables in them. Its other
-/// variables are the next of the store, in order of first occurrence. No variable is bound. Where memory is refused, the store
+/// variables are the next of the store, in order of first occurrence. No variable is bound. If memory is refused, the store
 /// may have grown, and `goals` is of no use.
 pub fn put_instance<N: NameValue>(
     store: &mut Store<N>,
@@ -190,7 +191,7 @@ pub fn put_instance<N: NameValue>(
     )
 }
 
-/// Makes so many cells of those that are kept in order: the first stands for 0, and what is wanted behind them too.
+/// Makes `count` cells of those that are kept in order: the first stands for 0, and what is wanted after them too.
 fn fill_places<N: NameValue>(
     cells: &mut Vec<Cell<N>>,
     none: Cell<N>,
@@ -207,8 +208,8 @@ fn fill_places<N: NameValue>(
     Ok(())
 }
 
-/// Makes of the cells that are kept in order a cell for each variable of a clause, by its number from 0: behind those of the head
-/// new variables of the store. Where memory is refused, the store may have grown.
+/// Makes of the cells that are kept in order a cell for each variable of a clause, by its number from 0: after those of the head
+/// new variables of the store. If memory is refused, the store may have grown.
 fn fill_variables<N: NameValue>(
     store: &mut Store<N>,
     clause: &CompiledClause,
@@ -221,6 +222,7 @@ fn fill_variables<N: NameValue>(
     ensures bindings { store.new.held.bindings ≡ store.old.held.bindings }
     ensures variables { OnOk result (AreVariables N.built clause.now.head_variables clause.now.fresh_variables (places_behind cells.old.items) store.old.held store.new.held cells.new.items) }
 {
+    // Only for the proof: what the store holds is formed.
     let _ = store.mark();
     let none = Cell::Atom(N::of(BuiltIn::EmptyList));
     let count = (clause.head_variables as usize)
@@ -231,7 +233,7 @@ fn fill_variables<N: NameValue>(
     put_fresh(store, cells, clause.fresh_variables)
 }
 
-/// The same as `put_instance`, where the scratch keeps the cells at the places of the head's variables.
+/// Does what `put_instance` does, if the scratch keeps the cells at the places of the head's variables.
 pub fn put_kept_instance<N: NameValue>(
     store: &mut Store<N>,
     names: &[N],

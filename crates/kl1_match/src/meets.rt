@@ -25,6 +25,7 @@ fn meet_integer<N: NameValue>(store: &Store<N>, integer: i64, cell: Cell<N>) -> 
     ensures meets { IntegerMeets N.built store.now.held integer cell result }
     ensures waits { WaitsAt cell result }
 {
+    // Only for the proof: what the store holds is formed.
     let _ = store.mark();
     match cell {
         Cell::Variable(variable) => Met::Waits(variable),
@@ -46,6 +47,7 @@ fn meet_atom<N: NameValue>(store: &Store<N>, name: N, cell: Cell<N>) -> Met
     ensures meets { AtomMeets N.built store.now.held name cell result }
     ensures waits { WaitsAt cell result }
 {
+    // Only for the proof: what the store holds is formed.
     let _ = store.mark();
     match cell {
         Cell::Variable(variable) => Met::Waits(variable),
@@ -81,6 +83,7 @@ fn meet_structure<N: NameValue>(
     ensures behind_len { vec_len behind.new ≤ vec_len behind.old + 1 }
     ensures waits { WaitsAt cell result }
 {
+    // Only for the proof: what the store holds is formed.
     let _ = store.mark();
     match cell {
         Cell::Variable(variable) => Met::Waits(variable),
@@ -101,7 +104,7 @@ fn meet_structure<N: NameValue>(
     }
 }
 
-/// Takes the next cell of a span as the place of a variable, and keeps it where places are kept; there is room for it then.
+/// Takes the next cell of a span as the place of a variable, and keeps it if places are kept; there is room for it then.
 #[inline(always)]
 pub(crate) fn take_place<N: NameValue, const KEEP: bool>(
     store: &Store<N>,
@@ -124,9 +127,9 @@ pub(crate) fn take_place<N: NameValue, const KEEP: bool>(
     }
 }
 
-/// What comes of a pattern that begins with an instruction beside the next cell of `span`, which is taken. Where they may agree,
+/// What comes of a pattern that begins with an instruction beside the next cell of `span`, which is taken. If they may agree,
 /// a structure's arguments are to be matched next, before what was left, and a variable of the pattern takes the cell as its
-/// place. There is room behind, and where places are kept in these.
+/// place. There is room in `behind`, and in `places` if places are kept.
 #[inline(always)]
 pub(crate) fn meet<N: NameValue, const KEEP: bool>(
     store: &Store<N>,

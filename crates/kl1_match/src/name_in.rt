@@ -8,7 +8,7 @@ ghost use Rattle.kl1_match.specs.TestTerms.{name_of};
 use kl1_clause::Name;
 use kl1_text::NameValue;
 
-/// The name that a code's name is, where the names of its list are these.
+/// The name that a code's name is, if the names of its list are these.
 pub fn name_at<N: NameValue>(names: &[N], name: Name) -> N
     requires { IsPlaced (length names.now) name }
     ensures reads { (f : N → List ℕ) → Reads N.built f → f result ≡ text_in (map f names.now) name }

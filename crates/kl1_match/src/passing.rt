@@ -23,7 +23,7 @@ pub(crate) enum Passed {
     Unknown,
 }
 
-/// Puts a variable behind others, if it is the goal's.
+/// Puts a variable after others, if it is the goal's.
 fn put_goal_variable(variable: TestVariable, awaited: &mut Vec<u32>) -> Result<(), AllocError>
     ensures { OnOk result (awaited.new.items ≡ awaited.old.items ++ goal_of variable) }
 {
@@ -36,7 +36,7 @@ fn put_goal_variable(variable: TestVariable, awaited: &mut Vec<u32>) -> Result<(
     }
 }
 
-/// Puts the variables of the goal behind others. One of the clause is waited for by the match.
+/// Puts the variables of the goal after others. One of the clause is waited for by the match.
 fn put_goal_variables<N: NameValue>(
     view: &TestView<N>,
     waits: &[TestVariable],
@@ -53,7 +53,7 @@ fn put_goal_variables<N: NameValue>(
     Ok(())
 }
 
-/// Compares two cells: false where they clash. `awaited` gets the variables that they wait for behind its own.
+/// Compares two cells: false if they clash. `awaited` gets the variables that they wait for, after those in it.
 fn compare_pair<N: NameValue>(
     view: &TestView<N>,
     pair: Pair<TestAt<N>>,
@@ -74,7 +74,7 @@ fn compare_pair<N: NameValue>(
     }
 }
 
-/// The same of each of some pairs.
+/// Compares the two cells of each of some pairs, as `compare_pair` does: false if those of one clash.
 fn compare_pairs<N: NameValue>(
     view: &TestView<N>,
     pairs: &[Pair<TestAt<N>>],
@@ -106,7 +106,7 @@ fn is_settled(waits: &[TestVariable], before: usize, after: usize) -> bool
     after == before
 }
 
-/// What passive equality answers of two terms. `awaited` gets the variables of the goal that they wait for behind its own; where
+/// What passive equality answers of two terms. `awaited` gets the variables of the goal that they wait for, after those in it; if
 /// they differ, it may have got some too.
 pub(crate) fn compare_terms<N: NameValue>(
     view: &TestView<N>,

@@ -10,7 +10,7 @@ use kl1_store::{Cell, Qualified};
 use kl1_text::NameValue;
 use std::alloc::AllocError;
 
-/// The name of a module, if there is one, where the names of the code's list are these.
+/// The name of a module, if there is one and the names of the code's list are these.
 fn module_at<N: NameValue>(names: &[N], name: Option<Name>) -> Option<N>
     requires { IsModulePlaced (length names.now) name }
     ensures { result ≡ module_at N.built names.now name }

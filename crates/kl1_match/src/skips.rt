@@ -1,4 +1,4 @@
-// Places in rows behind terms.
+// Places in rows after terms.
 
 ghost use Rattle.std.specs.Prelude.{◌≡◌, ℕ, ◌<◌, ◌≤◌, List, length, map, drop};
 ghost use Rattle.kl1_model.specs.Term.{Term, Terms, more, count_of};
@@ -22,7 +22,7 @@ pub(crate) fn arguments_of(instruction: Instruction) -> usize
     }
 }
 
-/// The place in a row, from 0, behind so many terms from a place on.
+/// The place in a row, from 0, after `terms` terms from place `from` on.
 #[inline(always)]
 pub(crate) fn behind_terms(row: &[Instruction], from: usize, terms: usize) -> usize
     requires { from ≤ length row.now }
@@ -44,7 +44,7 @@ pub(crate) fn behind_terms(row: &[Instruction], from: usize, terms: usize) -> us
     at
 }
 
-/// The place in a row, from 0, behind the term at a place.
+/// The place in a row, from 0, after the term at a place.
 #[inline(always)]
 pub(crate) fn behind_term(row: &[Instruction], from: usize) -> usize
     requires { from < length row.now }

@@ -41,7 +41,7 @@ pub struct TestView<'a, N: NameValue> {
     pub places: &'a [Place<N>],
 }
 
-/// The instruction at a place, or a variable where there is none.
+/// The instruction at a place, or a variable if there is none.
 #[inline]
 pub(crate) fn instruction_at(row: &[Instruction], place: usize) -> Instruction
     ensures { result ≡ instruction_in row.now place }

@@ -177,8 +177,8 @@ fn is_variable(instruction: Instruction) -> bool
     }
 }
 
-/// Whether the test at a place of the row may hold: false where it clashes. Else `awaited` gets the variables of the goal that it
-/// waits for behind its own.
+/// Whether the test at a place of the row may hold: false if it clashes. Else `awaited` gets the variables of the goal that it
+/// waits for, after those in it.
 fn run_test<N: NameValue>(
     view: &TestView<N>,
     place: usize,
@@ -199,8 +199,8 @@ fn run_test<N: NameValue>(
     }
 }
 
-/// Whether all tests of the row may hold: false where one clashes. Else `awaited` gets the variables of the goal that they wait
-/// for behind its own. Where memory is refused, nothing is said of what it got.
+/// Whether all tests of the row may hold: false if one clashes. Else `awaited` gets the variables of the goal that they wait
+/// for, after those in it. If memory is refused, nothing is said of what it got.
 pub fn run_tests<N: NameValue>(
     view: &TestView<N>,
     scratch: &mut TestScratch<N>,

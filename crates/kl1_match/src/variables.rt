@@ -28,8 +28,8 @@ pub(crate) fn set_places<N: NameValue>(cells: &mut Vec<Cell<N>>, places: &[Place
     }
 }
 
-/// Puts the cells at places behind cells, if the places are of the variables that come next, one of each in order: whether they
-/// are. If not, what stands behind the cells is of no use.
+/// Puts the cells at places after cells, if the places are of the variables that come next, one of each in order: whether they
+/// are. If not, what stands after the cells is of no use.
 pub(crate) fn put_in_order<N: NameValue>(cells: &mut Vec<Cell<N>>, places: &[Place<N>]) -> bool
     requires fits { length cells.old.items + length places.now ≤ vec_capacity cells.old }
     ensures order { IsTrue result → AreFrom (length cells.old.items) places.now }
@@ -48,7 +48,7 @@ pub(crate) fn put_in_order<N: NameValue>(cells: &mut Vec<Cell<N>>, places: &[Pla
     true
 }
 
-/// Puts so many new variables of the store behind cells, which have room for them. Where memory is refused, the store may have
+/// Puts `count` new variables of the store after cells, which have room for them. If memory is refused, the store may have
 /// grown.
 pub(crate) fn put_fresh<N: NameValue>(
     store: &mut Store<N>,

@@ -141,7 +141,7 @@ everywhere f g all t = agreeing f g (highest t) (λ v few. all v) t (omega arith
 
 -- ---- tests beside the goal's variables
 
--- a substitution of the goal's variables, where those of a test go before them
+-- a substitution of the goal's variables, with those of a test before them
 abbrev lift : ℕ → (ℕ → Term) → ℕ → Term
 lift last s n = if nat_le n last then variable n else beside last (s (n - suc last))
 
@@ -171,7 +171,7 @@ test_variable_stays last s [] v few = sym (lift_own last s v few)
 test_variable_stays last s (p ∷ places) v few =
     by_place last s (p.number == v) p.by (test_variable last (places_substituted s places) v) (test_variable last places v) (test_variable_stays last s places v few)
 
--- what stands for the variables of a test before and after, where a substitution makes the one of the other
+-- what stands for the variables of a test before and after, if a substitution makes the one of the other
 module _ (last : ℕ) (s before later : ℕ → Term) (again : (v : ℕ) → v ≤ last → later v ≡ substituted s (before v)) where
   term_again : (t : Term) → highest t ≤ last → substituted later t ≡ substituted s (substituted before t)
   term_again t few = agreeing later (λ v. substituted s (before v)) last again t few ∙ sym (then_substituted s before t)

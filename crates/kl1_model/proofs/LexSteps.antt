@@ -9,7 +9,7 @@ use Rattle.kl1_model.specs.Name.{is_word_byte}
 use Rattle.kl1_model.specs.Token.{Token, Front, finished, broken, line_end, blank, token, Start, ends_line, blanks, comments, names, variables, numbers, quotes, dots, subtracts, signs_or_nothing, is_digit, is_source_byte, behind_word, behind_digits, quoted_from, quoted_front, behind_comment, comment_front, dot_front, sign_at, sign_front, spelling_of, start_of, front_by, front_of, Tokens, token_first, tokens_by, tokens_within}
 use Rattle.kl1_model.specs.ReadLaws.{tokens_at, LeavesLess}
 
--- a token under a condition leaves less where what is behind it is less
+-- a token under a condition leaves less if what is after it is less
 if_leaves : (x : Bool) (most : ℕ) (t : Token (List ℕ)) (rest : List ℕ) → length rest < most → LeavesLess most (if x then token t rest else broken)
 if_leaves true most t rest less = less
 if_leaves false most t rest less = tt
@@ -86,7 +86,7 @@ pub fronts_leave_less : (bs : List ℕ) → LeavesLess (length bs) (front_of bs)
 fronts_leave_less [] = tt
 fronts_leave_less (b ∷ bs) = start_leaves (start_of b) b bs
 
--- two ways to go on that agree on less than so much give the same tokens
+-- two ways to go on that agree on fewer than `most` bytes give the same tokens
 tokens_by_same : (f g : ℕ → List ℕ → Tokens) (line most : ℕ) (x : Front) → LeavesLess most x → ((l : ℕ) (rest : List ℕ) → length rest < most → f l rest ≡ g l rest) → tokens_by f line x ≡ tokens_by g line x
 tokens_by_same f g line most finished less same = refl
 tokens_by_same f g line most broken less same = refl
@@ -106,7 +106,7 @@ one_step : (n line : ℕ) (bs : List ℕ) → tokens_within (suc n) line bs ≡ 
 unfolding tokens_within
 one_step n line bs = refl
 
--- the tokens of a text are what its front makes of those behind it
+-- the tokens of a text are what its front makes of those after it
 pub tokens_go_on : (line : ℕ) (bs : List ℕ) → tokens_at line bs ≡ tokens_by tokens_at line (front_of bs)
 tokens_go_on line bs =
     one_step (length bs) line bs

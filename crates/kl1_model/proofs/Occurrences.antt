@@ -46,7 +46,7 @@ mutual
   absent_above_each last v (more t ts) h l = or_from (occurs v t) (occurs_in v ts) (absent_above last v t h.0 l) (absent_above_each last v ts h.1 l)
 
 mutual
-  -- a term is numbered up to the last where each variable that occurs is
+  -- a term is numbered up to the last if each variable that occurs is
   pub numbered_if : (last : ℕ) (t : Term) → ((v : ℕ) → occurs v t ≡ true → v ≤ last) → NumberedTo last t
   numbered_if last (variable n) h = h n (eq-eqb n n refl)
   numbered_if last (integer i) h = tt

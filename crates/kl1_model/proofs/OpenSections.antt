@@ -28,7 +28,7 @@ order_behind c (d ∷ cs) h =
     let le = leb-true c.section d.section b.0 in
     (le, behind_lower c.section d.section cs le (order_behind d cs b.1))
 
--- a clause of a section is open where all others stand in it or later
+-- a clause of a section is open if all others stand in it or later
 open_here : (ts : Terms) (c : Clause) (n : ℕ) (cs : List Clause) → c.section ≤ n → AreBehind n cs → is_open cs ts c ≡ true
 open_here ts c n [] le a = refl
 open_here ts c n (d ∷ cs) le a =
@@ -37,7 +37,7 @@ open_here ts c n (d ∷ cs) le a =
     (or_left (nat_le c.section d.section) (is_no (verdict d ts)) (le-leb c.section d.section (omega (arith, le, p))))
     (open_here ts c n cs le a.1)
 
--- a clause after one whose verdict isn't no is closed, where it stands in a later section
+-- a clause after one whose verdict isn't no is closed, if it stands in a later section
 closed_by : (a b x : Bool) → a ≡ false → b ≡ false → ((a || b) && x) ≡ false
 closed_by true b x e f = absurd (false≢true (sym e))
 closed_by false true x e f = absurd (false≢true (sym f))

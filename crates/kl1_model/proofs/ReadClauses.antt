@@ -151,7 +151,7 @@ module _ (ok : Clause → Bool) (free : (c : Clause) (n : ℕ) → ok (record c 
   item_holds : (m : List ℕ) (tokens : Option (List (Token (List ℕ)))) (c : Clause) → option_and_then (clause_of m) tokens ≡ Some c → ok c ≡ true
   item_holds m tokens c h = option_and_then_some (clause_of m) tokens c h (λ ts there is. one m ts c is)
 
-  -- clauses that were good go on where another is
+  -- clauses that were good go on if another is
   added : (before : List Clause) (behind : Bool) (x : Option Clause) (now : List Clause) → with_clause before behind x ≡ Some now → list_all ok before ≡ true → ((c : Clause) → x ≡ Some c → ok c ≡ true) → list_all ok now ≡ true
   added before behind None now h all each = absurd (none-some now h)
   added before behind (Some c) now h all each =

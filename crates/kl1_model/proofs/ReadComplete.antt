@@ -82,20 +82,20 @@ mutual
   rest_steps_few closed ts = omega arith
   rest_steps_few (tail e) ts = omega (arith, steps_of_few e ts)
 
--- what may stand behind an expression: no colon, no operator and no relation
+-- what may stand after an expression: no colon, no operator and no relation
 pub record Ends (ts : List Numbered) : Type 0 where
   pub no_colon : behind_colon ts ≡ None
   pub no_multiplying : multiplying_in_front ts ≡ None
   pub no_adding : adding_in_front ts ≡ None
   pub no_relation : relation_in_front ts ≡ None
 
--- what may stand behind a sum
+-- what may stand after a sum
 record EndsSum (ts : List Numbered) : Type 0 where
   no_colon : behind_colon ts ≡ None
   no_multiplying : multiplying_in_front ts ≡ None
   no_adding : adding_in_front ts ≡ None
 
--- what may stand behind a product
+-- what may stand after a product
 record EndsProduct (ts : List Numbered) : Type 0 where
   no_colon : behind_colon ts ≡ None
   no_multiplying : multiplying_in_front ts ≡ None
@@ -140,11 +140,11 @@ multiplying_front by_star ts = refl
 multiplying_front by_slash ts = refl
 multiplying_front (by_mod applied) ts = refl
 
--- going on behind what was read
+-- going on after what was read
 then_read_is : {A B : Type 0} (x : Answer A) (a : A) (us : List Numbered) (go : A → List Numbered → Option B) → x ≡ Some (a, us) → then_read x go ≡ go a us
 then_read_is x a us go h = ap (λ y. then_read y go) h
 
--- going on where a token isn't there
+-- going on if a token isn't there
 not_there : {B : Type 0} (x : Option (List Numbered)) (otherwise : Option B) (go : List Numbered → Option B) → x ≡ None → if_there x otherwise go ≡ otherwise
 not_there x otherwise go h = ap (λ y. if_there y otherwise go) h
 
@@ -193,7 +193,7 @@ rest_no_comma : (r : Rest) (ts : List Numbered) → behind_comma (rest_tokens r 
 rest_no_comma closed ts = refl
 rest_no_comma (tail e) ts = refl
 
--- the first product of a sum, what is behind it, and how many operators are there
+-- the first product of a sum, what is after it, and how many operators are there
 abbrev first_product : Sum → Product
 first_product (summand p) = p
 first_product (added s o p) = first_product s
@@ -210,7 +210,7 @@ sum_operators_few : (s : Sum) (ts : List Numbered) → sum_operators s + length 
 sum_operators_few (summand p) ts = omega arith
 sum_operators_few (added s o p) ts = omega (arith, sum_operators_few s (adding_token o ∷ product_tokens p ts), product_steps_few p ts)
 
--- the same of a product
+-- the first part of a product, what is after it, and how many operators are there
 abbrev first_part : Product → Part
 first_part (factor p) = p
 first_part (multiplied p o q) = first_part p
@@ -227,7 +227,7 @@ product_operators_few : (p : Product) (ts : List Numbered) → product_operators
 product_operators_few (factor p) ts = omega arith
 product_operators_few (multiplied p o q) ts = omega (arith, product_operators_few p (multiplying_token o ∷ part_tokens q ts), part_steps_few q ts)
 
--- nothing goes on where no operator is in front
+-- nothing goes on if no operator is in front
 grouped_end : {S O A : Type 0} (operator : List Numbered → Answer O) (operand : List Numbered → Answer A) (join : S → O → A → S) (m : ℕ) (s : S) (ts : List Numbered) → operator ts ≡ None → grouped_by operator operand join (suc m) s ts ≡ Some (s, ts)
 unfolding grouped_by
 grouped_end operator operand join m s ts h = ap (grouped_on operand join (grouped_by operator operand join m) s ts) h
@@ -238,7 +238,7 @@ unfolding grouped_by
 grouped_step operator operand join m s ts o us a vs h j =
     ap (grouped_on operand join (grouped_by operator operand join m) s ts) h ∙ ap (λ y. then_read y (λ a us. grouped_by operator operand join m (join s o a) us)) j
 
--- a sum, from its first product and the operators behind it
+-- a sum, from its first product and the operators after it
 sum_done : (n : ℕ) (s : Sum) (ts : List Numbered) → product_at (expression_at n) (sum_tokens s ts) ≡ Some (first_product s, behind_product s ts) →
     ((m : ℕ) → grouped_by adding_in_front (product_at (expression_at n)) added (sum_operators s + m) (summand (first_product s)) (behind_product s ts) ≡ grouped_by adding_in_front (product_at (expression_at n)) added m s ts) →
     adding_in_front ts ≡ None → sum_at (expression_at n) (sum_tokens s ts) ≡ Some (s, ts)
@@ -251,7 +251,7 @@ sum_done n s ts first grouped no_adding =
     ∙ grouped (suc left)
     ∙ grouped_end adding_in_front (product_at (expression_at n)) added left s ts no_adding
 
--- a product, from its first part and the operators behind it
+-- a product, from its first part and the operators after it
 product_done : (n : ℕ) (p : Product) (ts : List Numbered) → part_at (expression_at n) (product_tokens p ts) ≡ Some (first_part p, behind_part p ts) →
     ((m : ℕ) → grouped_by multiplying_in_front (part_at (expression_at n)) multiplied (product_operators p + m) (factor (first_part p)) (behind_part p ts) ≡ grouped_by multiplying_in_front (part_at (expression_at n)) multiplied m p ts) →
     multiplying_in_front ts ≡ None → product_at (expression_at n) (product_tokens p ts) ≡ Some (p, ts)
@@ -271,7 +271,7 @@ no_more_sum n m p ts = let same : 0 + m ≡ m = omega arith in ap (λ k. grouped
 no_more_product : (n m : ℕ) (p : Part) (ts : List Numbered) → grouped_by multiplying_in_front (part_at (expression_at n)) multiplied (0 + m) (factor p) ts ≡ grouped_by multiplying_in_front (part_at (expression_at n)) multiplied m (factor p) ts
 no_more_product n m p ts = let same : 0 + m ≡ m = omega arith in ap (λ k. grouped_by multiplying_in_front (part_at (expression_at n)) multiplied k (factor p) ts) same
 
--- one operator more, where the operand behind it is read
+-- one operator more, if the operand after it is read
 sum_more : (n m : ℕ) (s : Sum) (o : Adding) (p : Product) (ts : List Numbered) →
     ((k : ℕ) → grouped_by adding_in_front (product_at (expression_at n)) added (sum_operators s + k) (summand (first_product s)) (behind_product s (adding_token o ∷ product_tokens p ts)) ≡ grouped_by adding_in_front (product_at (expression_at n)) added k s (adding_token o ∷ product_tokens p ts)) →
     product_at (expression_at n) (product_tokens p ts) ≡ Some (p, ts) →

@@ -20,7 +20,7 @@ numbers_of (_ ∷ ts) = numbers_of ts
 two_variables : (f : List ℕ) (a b : Term) (ns : List ℕ) → variables_of (pair f a b) ++ ns ≡ variables_of a ++ (variables_of b ++ ns)
 two_variables f a b ns = ap (λ x. (variables_of a ++ x) ++ ns) (append-nil (variables_of b)) ∙ append_assoc (variables_of a) (variables_of b) ns
 
--- the variables of cells are those of the elements and of what is behind them
+-- the variables of cells are those of the elements and of what is after them
 cells_variables : (es : Terms) (t : Term) (ns : List ℕ) → variables_of (cells es t) ++ ns ≡ variables_in es ++ (variables_of t ++ ns)
 cells_variables none t ns = refl
 cells_variables (more e es) t ns =

@@ -12,12 +12,12 @@ use Rattle.kl1_model.specs.Token.{name_token, variable_token, digits_token, minu
 use Rattle.kl1_model.specs.Grammar.{Numbered, relation_token, Adding, by_plus, by_minus, adding_token, Multiplying, by_star, by_slash, by_mod, multiplying_token, Expression, alone, related, Sum, summand, added, Product, factor, multiplied, Part, single, qualified, Primary, numbered, positive, negative, constant, call, empty_list, list, group, Series, last, another, Rest, closed, tail, Head, bare_head, head_with, GoalTree, plain_goal, urgent_goal, Body, last_goal, another_goal, ClauseTree, fact, rule, guarded, expression_tokens, sum_tokens, product_tokens, part_tokens, primary_tokens, series_tokens, rest_tokens, head_tokens, goal_tokens, body_tokens, clause_tokens}
 use Rattle.kl1_model.specs.Reader.{Answer, Inner, then_read, then_skip, if_there, behind_comma, behind_close, behind_open, behind_close_list, behind_bar, behind_colon, behind_neck, behind_at, digits_in_front, priority_in_front, relation_in_front, adding_in_front, multiplying_in_front, series_by, series_at, rest_at, list_at, arguments_at, negative_at, primary_at, part_at, grouped_on, grouped_by, product_at, sum_at, related_at, expression_at, inner_of, all_read, expression_tree, head_at, priority_at, goal_at, body_by, body_at, tests_of, behind_neck_at, clause_at, clause_tree}
 
--- an answer that came from going on behind another
+-- an answer that came from going on after another
 pub then_read_some : {A B P : Type 0} (x : Answer A) (go : A → List Numbered → Option B) (b : B) → then_read x go ≡ Some b → ((a : A) (us : List Numbered) → x ≡ Some (a, us) → go a us ≡ Some b → P) → P
 then_read_some None go b h k = absurd (none-some b h)
 then_read_some (Some r) go b h k = k r.0 r.1 refl h
 
--- an answer that came from going on behind a token
+-- an answer that came from going on after a token
 pub then_skip_some : {B P : Type 0} (x : Option (List Numbered)) (go : List Numbered → Option B) (b : B) → then_skip x go ≡ Some b → ((us : List Numbered) → x ≡ Some us → go us ≡ Some b → P) → P
 then_skip_some None go b h k = absurd (none-some b h)
 then_skip_some (Some us) go b h k = k us refl h
@@ -27,11 +27,11 @@ pub if_there_some : {B P : Type 0} (x : Option (List Numbered)) (otherwise : Opt
 if_there_some None otherwise go b h j k = j h
 if_there_some (Some us) otherwise go b h j k = k us refl h
 
--- one answer, under a function of what was read and of what is behind it
+-- one answer, under a function of what was read and of what is after it
 pub answered : {A : Type 0} (f : A → List Numbered → List Numbered) (a x : A) (us vs : List Numbered) → ◌≡◌ {A = Answer A} (Some (a, us)) (Some (x, vs)) → f x vs ≡ f a us
 answered f a x us vs e = let p = some_pair_parts a x us vs e in cc (p.0, p.1)
 
--- what a sign in front is, with what is behind it
+-- what a sign in front is, with what is after it
 pub comma_is : (ts us : List Numbered) → behind_comma ts ≡ Some us → sign_token Comma ∷ us ≡ ts
 comma_is (sign_token Comma ∷ ts) us h = cc
 comma_is _ us h = absurd (none-some us h)
@@ -107,7 +107,7 @@ multiplying_is (sign_token Slash ∷ ts) us o h = answered (λ o us. multiplying
 multiplying_is (name_token f quotes applied ∷ ts) us o h = modulo_is f quotes applied ts (not quotes && bytes_eq f (codes "mod")) refl us o h
 multiplying_is _ us o h = absurd (none-some (o, us) h)
 
--- what was read with the operands behind it has the tokens of what was read, and then these
+-- what was read with the operands after it has the tokens of what was read, and then these
 module _ {S O A : Type 0} (operator : List Numbered → Answer O) (operand : List Numbered → Answer A) (join : S → O → A → S) (rows : S → List Numbered → List Numbered) (mark : O → Numbered) (row : A → List Numbered → List Numbered)
     (joins : (s : S) (o : O) (a : A) (ts : List Numbered) → rows (join s o a) ts ≡ rows s (mark o ∷ row a ts))
     (operator_sound : (ts us : List Numbered) (o : O) → operator ts ≡ Some (o, us) → mark o ∷ us ≡ ts)
@@ -289,7 +289,7 @@ expressions_sound (suc n) ts e us h =
     then_read_some (sum_at (expression_at n) ts) _ (e, us) h (λ s vs read after.
     related_sound (expression_at n) (expressions_sound n) s vs (relation_in_front vs) refl e us after ∙ sum_sound (expression_at n) (expressions_sound n) ts s vs read)
 
--- what was read with nothing behind it
+-- what was read with nothing after it
 pub all_read_some : {A : Type 0} (x : Answer A) (a : A) → all_read x ≡ Some a → x ≡ Some (a, [])
 all_read_some None a h = absurd (none-some a h)
 all_read_some (Some (b, [])) a h = cc
@@ -305,7 +305,7 @@ clause_row (fact h) ts = head_tokens h ts
 clause_row (rule h body) ts = head_tokens h (sign_token Neck ∷ body_tokens body ts)
 clause_row (guarded h tests body) ts = head_tokens h (sign_token Neck ∷ series_tokens tests (sign_token Bar ∷ body_tokens body ts))
 
--- the tokens of a clause with none behind them
+-- the tokens of a clause with none after them
 pub clause_row_alone : (c : ClauseTree) → clause_row c [] ≡ clause_tokens c
 clause_row_alone (fact h) = refl
 clause_row_alone (rule h body) = refl

@@ -22,7 +22,7 @@ if_there_same : {B : Type 0} (x : Option (List Numbered)) (a b : Option B) (go o
 if_there_same None a b go other same on = same
 if_there_same (Some us) a b go other same on = on us refl
 
--- what is behind an expression is less
+-- what is after an expression is less
 behind_expression : (inner : Inner) → IsSound inner → (ts us : List Numbered) (e : Expression) → inner ts ≡ Some (e, us) → length us < length ts
 behind_expression inner sound ts us e read = omega (arith, ap (length {A = Numbered}) (sound ts e us read), steps_of_few e us, some_steps e)
 
@@ -56,7 +56,7 @@ behind_series inner sound m ts us s read = omega (arith, ap (length {A = Numbere
 behind_head : (inner : Inner) → IsSound inner → (ts us : List Numbered) (h : Head) → head_at inner ts ≡ Some (h, us) → length us ≤ length ts
 behind_head inner sound ts us h read = omega (arith, ap (length {A = Numbered}) (head_sound inner sound ts h us read), head_steps_few h us)
 
--- operands that are read in two ways, which agree on no more tokens than so many
+-- operands that are read in two ways, which agree on at most `most` tokens
 module _ {S O A : Type 0} (operator : List Numbered → Answer O) (f g : List Numbered → Answer A) (join : S → O → A → S)
     (operator_less : (ts us : List Numbered) (o : O) → operator ts ≡ Some (o, us) → length us < length ts)
     (operand_less : (ts us : List Numbered) (a : A) → f ts ≡ Some (a, us) → length us < length ts)
@@ -94,7 +94,7 @@ module _ {S O A : Type 0} (operator : List Numbered → Answer O) (operand : Lis
   grouped_goes_on s ts =
       next_enough (grouped_by operator operand join (length ts)) (grouped_at operator operand join) s ts (operator ts) refl (λ r us less. grouped_enough (length ts) (suc (length us)) r us less (omega arith))
 
--- two ways to read inner expressions that agree on fewer tokens than so many
+-- two ways to read inner expressions that agree on fewer than `most` tokens
 module _ (f g : Inner) (sound : IsSound f) (most : ℕ) (same : (ts : List Numbered) → length ts < most → f ts ≡ g ts) where
   series_same : (m : ℕ) (ts : List Numbered) → length ts < most → series_by f m ts ≡ series_by g m ts
   unfolding series_by
@@ -204,7 +204,7 @@ reader_steps_are_enough (suc m) (suc n) ts h j =
 pub whole_sound : IsSound whole_expression
 whole_sound ts e us read = expressions_sound (suc (length ts)) ts e us read
 
--- fewer tokens are behind an expression
+-- fewer tokens are after an expression
 pub expressions_leave_less : (ts : List Numbered) (e : Expression) (us : List Numbered) → whole_expression ts ≡ Some (e, us) → length us < length ts
 expressions_leave_less ts e us read = behind_expression whole_expression whole_sound ts us e read
 
@@ -212,17 +212,17 @@ one_step : (n : ℕ) (ts : List Numbered) → expression_at (suc n) ts ≡ then_
 unfolding expression_at
 one_step n ts = refl
 
--- an expression is its first sum and what is behind it
+-- an expression is its first sum and what is after it
 pub expressions_go_on : (ts : List Numbered) → whole_expression ts ≡ then_read (sum_at whole_expression ts) (λ s us. related_at whole_expression s us (relation_in_front us))
 expressions_go_on ts =
     one_step (length ts) ts
     ∙ expression_same (expression_at (length ts)) whole_expression (expressions_sound (length ts)) (length ts) (λ us less. reader_steps_are_enough (length ts) (suc (length us)) us less (omega arith)) ts (omega arith)
 
--- a sum is what was read of it and, behind an operator, the next product
+-- a sum is what was read of it and, after an operator, the next product
 pub sums_go_on : SumsGoOn
 sums_go_on s ts = grouped_goes_on adding_in_front (product_at whole_expression) added adding_less (λ vs ws q read. behind_product whole_expression whole_sound vs ws q read) s ts
 
--- a product is what was read of it and, behind an operator, the next part
+-- a product is what was read of it and, after an operator, the next part
 pub products_go_on : ProductsGoOn
 products_go_on p ts = grouped_goes_on multiplying_in_front (part_at whole_expression) multiplied multiplying_less (λ vs ws q read. behind_part whole_expression whole_sound vs ws q read) p ts
 
@@ -238,7 +238,7 @@ series_enough (suc m) (suc n) ts h j =
     let one = ap (length {A = Numbered}) (comma_is us vs comma) in
     then_read_same (series_by whole_expression m vs) (series_by whole_expression n vs) _ _ (series_enough m n vs (omega arith) (omega arith)) (λ s ws more_read. refl)))
 
--- a series is its first expression and, behind a comma, another series
+-- a series is its first expression and, after a comma, another series
 pub series_go_on : (ts : List Numbered) → series_at whole_expression ts ≡ then_read (whole_expression ts) (λ e us. if_there (behind_comma us) (Some (last e, us)) (λ vs. then_read (series_at whole_expression vs) (λ s ws. Some (another e s, ws))))
 unfolding series_by
 series_go_on ts =
@@ -260,7 +260,7 @@ body_enough (suc m) (suc n) ts h j =
     let one = ap (length {A = Numbered}) (comma_is us vs comma) in
     then_read_same (body_by whole_expression m vs) (body_by whole_expression n vs) _ _ (body_enough m n vs (omega arith) (omega arith)) (λ b ws more_read. refl)))
 
--- a body is its first goal and, behind a comma, another body
+-- a body is its first goal and, after a comma, another body
 pub bodies_go_on : BodiesGoOn
 unfolding body_by
 bodies_go_on ts =

@@ -76,6 +76,6 @@ mutual
       let p = or_parts (occurs v t) (occurs_in v ts) h in
       ap₂ more (replace-absent v u t p.0) (replace_each-absent v u ts p.1)
 
--- two terms are the same where they are equal
+-- two terms are the same if they are equal
 pub same_term_decides : (t u : Term) → Decides (same_term t u) (t ≡ u)
 same_term_decides t u = (same_term-true t u, λ e. subst (λ x. same_term t x ≡ true) e (same_term-self t))

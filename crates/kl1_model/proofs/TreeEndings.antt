@@ -154,7 +154,7 @@ abort_removes_all_below n s = (abort_leaves n s).goals
 
 -- ---- terminations
 
--- a mark where shoens of these numbers have terminated
+-- a mark after shoens of these numbers have terminated
 abbrev pub ended_mark : List ℕ → Mark → Mark
 ended_mark ns m = record { number = m.number; life = if is_among m.number ns then Terminated else m.life }
 

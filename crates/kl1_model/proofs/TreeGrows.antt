@@ -71,7 +71,7 @@ paths_follow_parents s n h tree e =
     let is : n ≡ suc at.place = omega (arith, at.number) in
     ap (path s.shoens) is ∙ paths_go_on s.shoens at.place tree.lower ∙ ap₂ (λ (m p : ℕ). m ∷ path s.shoens p) (sym is) at.parent
 
--- a path among known shoens doesn't change where more are opened
+-- a path among known shoens doesn't change if more are opened
 path_among : (ps qs : List ℕ) → ParentsAreLower ps → (m n : ℕ) → n ≤ length ps → path_within m (ps ++ qs) n ≡ path_within m ps n
 unfolding path_within
 path_among ps qs lower zero n few = refl
@@ -85,7 +85,7 @@ among_case : (p : ℕ → Bool) (a n : ℕ) (ns : List ℕ) (c : Bool) → a == 
 among_case p a n ns true d f e h = ap (λ b. b || list_any p ns) (ap p (sym (eqb-true a n d)) ∙ h)
 among_case p a n ns false d f e h = ap (λ b. p n || b) (f e) ∙ or-true (p n)
 
--- a test that holds of a number among others holds of one of them
+-- a test that holds for a number among others holds for one of them
 among_any : (p : ℕ → Bool) (a : ℕ) (ns : List ℕ) → is_among a ns ≡ true → p a ≡ true → list_any p ns ≡ true
 among_any p a [] e h = absurd (false≢true e)
 among_any p a (n ∷ ns) e h = among_case p a n ns (a == n) refl (λ f. among_any p a ns f h) e h
@@ -103,7 +103,7 @@ count_same p q most e [] a = refl
 count_same p q most e (w ∷ ws) a =
     sum_by-cons (λ x. cond (p x) 1 0) w ws ∙ ap₂ (λ b (n : ℕ). cond b 1 0 + n) (e w a.0) (count_same p q most e ws a.1) ∙ sym (sum_by-cons (λ x. cond (q x) 1 0) w ws)
 
--- what charged reductions come to where shoens were opened
+-- what charged reductions come to if shoens were opened
 pub charged_among : (s t : State) (more : List ℕ) (a : ℕ) → IsTree s → parents_of t.shoens ≡ parents_of s.shoens ++ more → t.work ≡ s.work → charged_of t a ≡ charged_of s a
 charged_among s t more a tree parents work =
     ap (λ ps. count_by (λ w. is_among a (path_within w ps w)) t.work) parents

@@ -30,7 +30,7 @@ keeps_same s = record { parents = refl; work = refl; last = refl; owners = λ n 
 pub keeps_both : (s t u : State) → Keeps s t → Keeps t u → Keeps s u
 keeps_both s t u p q = record { parents = q.parents ∙ p.parents; work = q.work ∙ p.work; last = q.last ∙ p.last; owners = λ n a. q.owners n (p.owners n a); numbered = λ n a. q.numbered n (p.numbered n a) }
 
--- a tree stays a tree where an effect keeps it
+-- a tree stays a tree if an effect keeps it
 pub kept_tree : (s t : State) → Keeps s t → IsTree s → IsTree t
 kept_tree s t k tree = record {
   numbered = k.numbered 0 tree.numbered;

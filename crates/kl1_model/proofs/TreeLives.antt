@@ -11,7 +11,7 @@ use Rattle.kl1_model.specs.Ending.{has_goal, lives, without_monitor, ended_at, t
 use Rattle.kl1_model.specs.TreeLaws.{AreOfLiving, owners_of}
 use Rattle.kl1_model.proofs.TreeEndings.{Mark, mark_of, marks_of, Post, post_of, posts_of, Leaves, leaves_both, leaves_report, leaves_report_each, leaves_close, abort_leaves, ended_mark, ended_marks, ending_have_no_goals}
 
--- whether the shoen of a number lives, by marks
+-- whether shoen `n` lives, by marks
 abbrev pub lives_in : List Mark → ℕ → Bool
 lives_in [] n = false
 lives_in (m ∷ ms) n = if m.number == n then is_living m.life else lives_in ms n

@@ -30,7 +30,7 @@ fresh_is_tree rules name = record { numbered = tt; lower = λ k. omega arith; co
 
 -- ---- what is refused changes nothing, and what follows an event that is no reduction
 
--- an event's outcome: what follows the account, and no change where it is refused
+-- an event's outcome: what follows the account, and no change if it is refused
 record Comes (s : State) (x : Stepped) : Type 0 where
   follows : Follows 0 s x.state
   kept : is_refused x.reply ≡ true → x.state ≡ s
@@ -260,7 +260,7 @@ reductions_charge s goal clause g tree e h r a = (reduces_goal s goal clause g e
 pub monitors_charge_nobody : MonitorsChargeNobody
 monitors_charge_nobody s goal clause g tree e h a = (reduces_goal s goal clause g e).spares h a
 
--- where no goal has the number, the event is refused
+-- if no goal has the number, the event is refused
 no_goal : (s : State) (goal clause : ℕ) → goal_at goal s.goals ≡ None → (step s (reduce goal clause)).state ≡ s
 no_goal s goal clause e =
     ap (λ o. (if is_number goal && is_number clause then reduce_goal s clause o else refuse s syntax).state) e ∙ both_refused (is_number goal && is_number clause)

@@ -54,7 +54,7 @@ tally_fewer p q (suc m) h =
     let o = one_if_fewer (p m) (q m) (h m) in
     omega arith
 
--- and at fewer, where it fails at one more
+-- and at fewer, if it fails at one more
 tally_less : (p q : ℕ → Bool) (m w : ℕ) → ((v : ℕ) → p v ≡ false → q v ≡ false) → w < m → p w ≡ true → q w ≡ false → tally q m < tally p m
 tally_less p q zero w h l a b = absurd (omega arith)
 tally_less p q (suc m) w h l a b =
@@ -139,7 +139,7 @@ loses_right last v t es o h = loses_bound last v t (equate t (variable v) ∷ es
 
 -- ---- fuel that is enough
 
--- what is done after the front equation is the same where it is on equations that shrink, and on such as lose a variable
+-- what is done after the front equation is the same if it is on equations that shrink, and on such as lose a variable
 after_agrees : (last : ℕ) (e : Equation) (es : List Equation) (same same' next next' : List Equation → Option (List Replacement)) → AllNumberedTo last (e ∷ es) → ((to : List Equation) → Shrinks last (e ∷ es) to → same to ≡ same' to) → ((to : List Equation) → Loses last (e ∷ es) to → next to ≡ next' to) → after same next (front e.left e.right es) ≡ after same' next' (front e.left e.right es)
 after_agrees last e es same same' next next' h shrinks loses =
     front_cases es (λ a b r. AllNumberedTo last (equate a b ∷ es) → ((to : List Equation) → Shrinks last (equate a b ∷ es) to → same to ≡ same' to) → ((to : List Equation) → Loses last (equate a b ∷ es) to → next to ≡ next' to) → after same next r ≡ after same' next' r)
@@ -222,7 +222,7 @@ front_decides e es =
     front_decides_to last e es h
     ∙ after_agrees last e es (solve_to last) solve (solve_to last) solve h (λ to s. any_bound_serves last to s.numbered) (λ to s. any_bound_serves last to s.numbered)
 
--- a step, where it is known what the front equation leads to
+-- a step, if it is known what the front equation leads to
 pub stepped : (t u : Term) (es : List Equation) (to : Front) → front t u es ≡ to → solve (equate t u ∷ es) ≡ after solve solve to
 stepped t u es to e = front_decides (equate t u) es ∙ ap (after solve solve) e
 

@@ -69,7 +69,7 @@ each_answers (p ∷ ps) = answer_both (alike_with p ps) (each_alike ps) ∙ ap�
 
 -- ---- the variables of tests
 
--- the numbers that variables have in the guard, where a test's own go up to the last: the goal's are what they are in
+-- the numbers that variables have in the guard, if a test's own go up to the last: the goal's are what they are in
 -- the goal, and the test's own are above the goal's
 abbrev pub guard_number : ℕ → ℕ → ℕ → ℕ
 guard_number last top v = if nat_le v last then suc (top + v) else v - suc last

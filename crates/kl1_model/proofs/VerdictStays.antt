@@ -120,14 +120,14 @@ mutual
 abbrev pub whole : List Term → Matched → Outcome
 whole tests m = both (both m.outcome (each_alike m.places)) (guard_outcome m.places tests)
 
--- it stays where the match does, until a variable for which it waits is replaced
+-- it stays if the match does, until a variable for which it waits is replaced
 whole_stays : (s : ℕ → Term) (tests : List Term) (m : Matched) → Stays s (whole tests m) (whole tests (after s m))
 whole_stays s tests m =
     both_stay s (both m.outcome (each_alike m.places)) (guard_outcome m.places tests) (both m.outcome (each_alike (places_substituted s m.places))) (guard_outcome (places_substituted s m.places) tests)
     (both_stay s m.outcome (each_alike m.places) m.outcome (each_alike (places_substituted s m.places)) (λ l. refl) (each_alike_stays s m.places))
     (guard_stays s m.places tests)
 
--- the verdict where the match stays and the whole outcome is this
+-- the verdict if the match stays and the whole outcome is this
 stays_with : (s : ℕ → Term) (c : Clause) (ts : Terms) (o : Outcome) → whole c.tests (match_terms c.patterns ts) ≡ o → Left s (match_terms c.patterns ts).outcome → LeavesEach s (awaited_in o) →
     named_verdict c (each_substituted s ts) ≡ verdict_with (after s (match_terms c.patterns ts)) o
 stays_with s c ts o e left l =
@@ -150,7 +150,7 @@ was_waiting m agrees vs e = absurd (cc)
 was_waiting m clashes vs e = absurd (cc)
 was_waiting m (waits ws) vs e = cc
 
--- a match that doesn't clash stays where the variables for which it waits are left, and so does what it names
+-- a match that doesn't clash stays if the variables for which it waits are left, and so does what it names
 open_stays : (s : ℕ → Term) (c : Clause) (ts : Terms) (o : Outcome) → (match_terms c.patterns ts).outcome ≡ o → whole c.tests (match_terms c.patterns ts) ≡ clashes → LeavesEach s (awaited_in o) → named_verdict c (each_substituted s ts) ≡ rejects (awaited_in o)
 open_stays s c ts agrees e w l = stays_with s c ts clashes w (subst (λ o. Left s o) (sym e) tt) tt ∙ ap (λ o. rejects (awaited_in o)) e
 open_stays s c ts clashes e w l =
@@ -189,7 +189,7 @@ abbrev SameWithin : (ℕ → Term) → ℕ → List Clause → Terms → Type 0
 SameWithin s section cs ts =
     ((n : ℕ) → named_least_within section n cs (each_substituted s ts) ≡ named_least_within section n cs ts) × (named_within section cs (each_substituted s ts) ≡ named_within section cs ts)
 
--- the same of all
+-- the answers of clauses before and after, and the variables that they wait for, in all sections
 abbrev Same : (ℕ → Term) → List Clause → Terms → Type 0
 Same s cs ts = ((n : ℕ) → named_least_from n cs (each_substituted s ts) ≡ named_least_from n cs ts) × (named_by_clauses cs (each_substituted s ts) ≡ named_by_clauses cs ts)
 
@@ -199,7 +199,7 @@ SameVerdict s (accepts ps) w = w ≡ accepts (places_substituted s ps)
 SameVerdict s (rejects vs) w = w ≡ rejects vs
 SameVerdict s (suspends vs) w = w ≡ suspends vs
 
--- a verdict, and what later clauses lead to where it rejects and where it suspends
+-- a verdict, and what later clauses lead to if it rejects and if it suspends
 verdict_stays : (s : ℕ → Term) (c : Clause) (ts : Terms) (v : Verdict) (rs ws : List ℕ) → named_verdict c ts ≡ v → LeavesEach s (named_after v rs ws) → SameVerdict s v (named_verdict c (each_substituted s ts))
 verdict_stays s c ts (accepts ps) rs ws e l = named_accepts_stays s c ts ps e
 verdict_stays s c ts (rejects vs) rs ws e l = named_rejects_stays s c ts vs e (left_front s vs rs l)

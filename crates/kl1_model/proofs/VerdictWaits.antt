@@ -1,4 +1,4 @@
--- A clause that suspends names a variable, where the variables of its guard are the head's.
+-- A clause that suspends names a variable, if the variables of its guard are the head's.
 use Rattle.std.proofs.Common.{◌≡◌, ℕ, zero, suc, ◌+◌, ◌-◌, ◌≤◌, ◌==◌, ◌&&◌, ◌||◌, Bool, true, false, if◌then◌else◌, List, [], ◌∷◌, ◌++◌, refl, sym, ap, ◌∙◌, subst, arith}
 use Rattle.std.specs.Prelude.{nat_le, bytes_eq, codes, Option, Some, None, option_map}
 use Rattle.std.specs.List.{list_all, list_any}

@@ -30,7 +30,7 @@ abbrev pub unanswered : Term → Option ℕ
 unanswered (structure f (more kind (more goal (more (variable v) none)))) = if bytes_eq f (codes "exception") then Some v else None
 unanswered t = None
 
--- the variable that a substitute waits for by the report of a number, the first being 1, of those on a stream
+-- the variable that a substitute waits for by report `report`, the first being 1, of those on a stream
 abbrev pub unanswered_at : Term → ℕ → Option ℕ
 unanswered_at reports report = option_and_then unanswered (slice_get (elements_of reports) (report - 1))
 
@@ -43,7 +43,7 @@ answered v t s = record (replace_in_state v (with_next_variables s.last_variable
   nodes = s.nodes + structures_of t;
 }
 
--- an answer where a substitute waits for it
+-- an answer if a substitute waits for it
 abbrev pub answer_by : State → Term → Option ℕ → Stepped
 answer_by s t None = refuse s answer_refused
 answer_by s t (Some v) = record { state = with_entry (answered v t s); reply = sent }

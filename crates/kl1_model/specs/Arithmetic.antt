@@ -37,19 +37,19 @@ pub data Scan : Type 0 where
   waits_for : ℕ → Scan
   wrong_type : Scan
 
--- an operation, where its right operand is found
+-- an operation, if its right operand is found
 abbrev pub with_right : Operator → Formula → Scan → Scan
 with_right o a (found b left) = found (operation o a b) left
 with_right o a (waits_for v) = waits_for v
 with_right o a wrong_type = wrong_type
 
--- an operation, where its left operand is found; the right one is scanned then
+-- an operation, if its left operand is found; the right one is scanned then
 abbrev pub with_left : Operator → Scan → (ℕ → Scan) → Scan
 with_left o (found a left) right = with_right o a (right left)
 with_left o (waits_for v) right = waits_for v
 with_left o wrong_type right = wrong_type
 
--- a term scanned where there may be this many operators: the first leaf that is no integer decides
+-- a term scanned for at most `most` operators: the first leaf that is no integer decides
 abbrev mutual
   pub scan : ℕ → Term → Scan
   scan most (variable v) = waits_for v

@@ -19,7 +19,7 @@ abbrev pub value_of : State → Option Origin → Stepped
 value_of s None = refuse s no_shoen
 value_of s (Some o) = record { state = s; reply = shown (cut_print o.goal) }
 
--- what the console keeps of the shoen of a number, where it started one
+-- what the console keeps of shoen `n`, if it started that shoen
 abbrev pub origin_at : ℕ → List Shoen → Option Origin
 origin_at n shoens = option_and_then (λ h. h.origin) (shoen_at n shoens)
 

@@ -15,7 +15,7 @@ has_goal n s = list_any (λ g. g.shoen == n && not (is_monitor g.task)) s.goals
 abbrev pub has_living_child : ℕ → State → Bool
 has_living_child n s = list_any (is_living_child n) s.shoens
 
--- whether the shoen of a number lives
+-- whether shoen `n` lives
 abbrev pub lives : ℕ → State → Bool
 lives n s = unwrap_or (option_map (λ h. is_living h.life) (shoen_at n s.shoens)) false
 
@@ -27,7 +27,7 @@ ends_now n s = lives n s && not (has_goal n s) && not (has_living_child n s)
 abbrev pub ended_at : ℕ → State → State
 ended_at n s = change_shoen n (λ h. record h { life = Terminated }) s
 
--- those of these shoens that terminate, in order, each where those before it have
+-- those of these shoens that terminate, in order, each if those before it have
 abbrev pub ending_of : List ℕ → State → List ℕ
 ending_of [] s = []
 ending_of (n ∷ ns) s = if ends_now n s then n ∷ ending_of ns (ended_at n s) else ending_of ns s
@@ -49,7 +49,7 @@ terminate_each (n ∷ ns) s = terminate_each ns (terminate n s)
 abbrev pub settle : ℕ → State → State
 settle n s = terminate_each (ending_of (path s.shoens n) s) s
 
--- whether the shoen of a number was charged just what it may be
+-- whether shoen `n` was charged just what it may be
 abbrev pub has_reached : State → ℕ → Bool
 has_reached s n = unwrap_or (option_map (λ h. h.allowance == charged_of s n) (shoen_at n s.shoens)) false
 
@@ -65,7 +65,7 @@ settle_charged n s =
     let ending = ending_of ns s in
     terminate_each ending (report_each (reached_of s ending ns) exhausted_report s)
 
--- a shoen after an abort of one on whose path it may be: it is ended, where it lives
+-- a shoen after an abort of one on whose path it may be: it is ended, if it lives
 abbrev pub aborted_below : List Shoen → ℕ → Shoen → Shoen
 aborted_below shoens n h = if is_living h.life && is_on_path shoens n h.number then record h { life = Aborted } else h
 

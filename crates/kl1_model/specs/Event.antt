@@ -31,7 +31,7 @@ pub data Query : Type 0 where
   is_quiet : Query
 
 -- what may be done to an account: a module loaded from its source; a goal started with an allowance and priorities from low to high;
--- a message sent to a shoen; a goal reduced by the clause of a number, or 0; a query; a session opened, and one closed; the account made
+-- a message sent to a shoen; a goal reduced by a clause's number, or by 0; a query; a session opened, and one closed; the account made
 -- fresh again, with its names and sessions; and a goal given as the answer to a report of a shoen, the first being 1
 pub data Event : Type 0 where
   load : List ℕ → Event
@@ -44,7 +44,7 @@ pub data Event : Type 0 where
   reset : Event
   answer : ℕ → ℕ → Term → Event
 
--- a reply: the name of the module loaded, the number of the shoen opened, a message or an answer sent, a reduction done, so many steps
+-- a reply: the name of the module loaded, the number of the shoen opened, a message or an answer sent, a reduction done, the steps
 -- done by a run, the printed goal, a shoen's state with what it was charged, its allowance and its goals alive, a list of texts, whether
 -- no goal can step, a session opened in the account of a name, a session closed, the account made fresh again, or a refusal
 pub data Reply : Type 0 where
@@ -79,15 +79,15 @@ is_number n = nat_lt n number_limit
 abbrev pub with_entry : State → State
 with_entry s = record s { entries = suc s.entries }
 
--- a change that is an entry of the journal: refused where the journal is full
+-- a change that is an entry of the journal: refused if the journal is full
 abbrev pub recorded : State → Stepped → Stepped
 recorded s after = if nat_lt s.entries most_entries then after else refuse s journal_full
 
--- a change after which these names are used: refused where they are too many
+-- a change after which these names are used: refused if they are too many
 abbrev pub named : State → List (List ℕ) → Stepped → Stepped
 named s names after = if nat_le (length names) most_names then after else refuse s too_many_names
 
--- a change that keeps to the limits of an account, as a test tells: refused where it doesn't
+-- a change that keeps to the limits of an account, as a test tells: refused if it doesn't
 abbrev pub limited : State → Bool → Stepped → Stepped
 limited s keeps after = if keeps then after else refuse s limit_passed
 

@@ -16,7 +16,7 @@ reserved_names = Equal ∷ NotEqual ∷ Assign ∷ Less ∷ Greater ∷ AtMost �
 abbrev pub is_reserved : List ℕ → Bool
 is_reserved p = list_any (λ b. bytes_eq p (text_of b)) reserved_names
 
--- a name with so many arguments
+-- whether `p` with `n` arguments is `name` with `count`
 abbrev pub is_called : List ℕ → ℕ → List ℕ → ℕ → Bool
 is_called name count p n = bytes_eq p name && n == count
 
@@ -73,6 +73,6 @@ is_goal t = is_built_in_goal t || is_qualified_goal t
 abbrev pub is_test : Term → Bool
 is_test t = is_some (test_of t)
 
--- a goal as it stands in the body of a clause of this module, with the module's name where it names none
+-- a goal as it stands in the body of a clause of this module, with the module's name if it names none
 abbrev pub body_goal : List ℕ → Term → Option Term
 body_goal m t = if is_goal t then Some t else if is_unqualified_goal t then Some (pair (codes ":") (atom m) t) else None

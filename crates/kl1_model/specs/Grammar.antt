@@ -10,12 +10,12 @@ use Rattle.kl1_model.specs.Token.{Token, name_token, variable_token, digits_toke
 abbrev pub Numbered : Type 0
 Numbered = Token ℕ
 
--- an operator of sums: `+`, or `-` with whether a digit stands directly behind it
+-- an operator of sums: `+`, or `-` with whether a digit stands directly after it
 pub data Adding : Type 0 where
   by_plus : Adding
   by_minus : Bool → Adding
 
--- an operator of products: `*`, `/`, or `mod` with whether a `(` stands directly behind it
+-- an operator of products: `*`, `/`, or `mod` with whether a `(` stands directly after it
 pub data Multiplying : Type 0 where
   by_star : Multiplying
   by_slash : Multiplying

@@ -30,7 +30,7 @@ most_source_bytes = MOST_SOURCE_BYTES
 abbrev pub number_limit : ℕ
 number_limit = NUMBER_LIMIT
 
--- the most digits of a number in a command
+-- the most digits that a number in a command has
 abbrev pub most_digits : ℕ
 most_digits = MOST_DIGITS
 

@@ -44,7 +44,7 @@ first_word before [] = before
 first_word [] (b ∷ bs) = elim (is_space b) [ true ↦ first_word [] bs | false ↦ first_word (b ∷ []) bs ]
 first_word (a ∷ before) (b ∷ bs) = elim (is_space b) [ true ↦ a ∷ before | false ↦ first_word (a ∷ before ++ b ∷ []) bs ]
 
--- what is after the first word, where the test tells whether bytes of it have been seen
+-- what is after the first word; the test tells whether bytes of it have been seen
 abbrev pub behind_first : Bool → List ℕ → List ℕ
 behind_first begun [] = []
 behind_first false (b ∷ bs) = elim (is_space b) [ true ↦ behind_first false bs | false ↦ behind_first true bs ]
@@ -66,7 +66,7 @@ is_blank_line line = list_all is_space line
 abbrev pub number_in : List ℕ → Option ℕ
 number_in w = if nat_le 1 (length w) && nat_le (length w) most_digits && list_all is_digit w && nat_lt (number_of w) number_limit then Some (number_of w) else None
 
--- a number of at most so much
+-- a number, if it is at most `most`
 abbrev pub up_to : ℕ → Option ℕ → Option ℕ
 up_to most None = None
 up_to most (Some n) = if nat_le n most then Some n else None
@@ -75,7 +75,7 @@ up_to most (Some n) = if nat_le n most then Some n else None
 abbrev pub only_number : List ℕ → Option ℕ
 only_number line = if is_blank_line (behind_word_in line) then number_in (word_in line) else None
 
--- the words of a line, in fewer than so many
+-- the first words of a line, at most `n`
 unfoldable pub words_within : ℕ → List ℕ → List (List ℕ)
 words_within zero line = []
 words_within (suc n) line = elim (is_blank_line line) [ true ↦ [] | false ↦ word_in line ∷ words_within n (behind_word_in line) ]

@@ -24,7 +24,7 @@ spelled_by (variable v) rest = awaits_code v
 spelled_by (integer (pos n)) rest = if is_name_byte n then spelled_before n rest else misspelled
 spelled_by _ rest = misspelled
 
--- what a list of codes comes to, which may have so many cells more: each cell goes before its element, and the first thing that
+-- what a list of codes comes to, which may have `most` cells: each cell goes before its element, and the first thing that
 -- isn't right decides
 abbrev pub spelling : ℕ → Term → Spelling
 spelling most (variable v) = awaits_code v
@@ -38,11 +38,11 @@ pub data Look : Type 0 where
   waits_on : ℕ → Look
   wrong : Look
 
--- a look that is right where this holds
+-- a look that is right if this holds
 abbrev pub right_if : Bool → Look
 right_if b = if b then right else wrong
 
--- one look, and another where it is right
+-- one look, and another if it is right
 abbrev pub then_look : Look → Look → Look
 then_look right next = next
 then_look (waits_on v) next = waits_on v
@@ -77,7 +77,7 @@ allowance_look (variable v) = waits_on v
 allowance_look (integer (pos n)) = right
 allowance_look _ = wrong
 
--- the number that a term is, where it is an integer from 0
+-- the number that a term is, if it is an integer from 0
 abbrev pub number_of_term : Term → ℕ
 number_of_term (integer (pos n)) = n
 number_of_term _ = 0

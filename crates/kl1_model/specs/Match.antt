@@ -106,7 +106,7 @@ abbrev pub clauses_in : Option Module → Call → List Clause
 clauses_in None call = []
 clauses_in (Some m) call = filter (is_of call.name (count_of call.arguments)) m.clauses
 
--- the clauses of a call's predicate, in order; none where there is no such module or predicate
+-- the clauses of a call's predicate, in order; none if there is no such module or predicate
 abbrev pub clauses_of : List Module → Call → List Clause
 clauses_of modules call = clauses_in (module_of modules call.module_name) call
 

@@ -35,7 +35,7 @@ multiplying_name by_star = codes "*"
 multiplying_name by_slash = codes "/"
 multiplying_name (by_mod applied) = codes "mod"
 
--- cells for the elements, the last with this behind it
+-- cells for the elements, the last with this after it
 abbrev pub cells : Terms → Term → Term
 cells none t = t
 cells (more e es) t = cell e (cells es t)
@@ -149,7 +149,7 @@ abbrev mutual
   variables_in none = []
   variables_in (more t ts) = variables_of t ++ variables_in ts
 
--- the greatest number of a variable in a term, 0 where it has none
+-- the greatest number of a variable in a term, 0 if it has none
 abbrev mutual
   pub highest : Term → ℕ
   highest (variable n) = n
@@ -161,7 +161,7 @@ abbrev mutual
   highest_in none = 0
   highest_in (more t ts) = max (highest t) (highest_in ts)
 
--- whether variables are numbered by first occurrence, where so many have occurred before
+-- whether variables are numbered by first occurrence, if `seen` have occurred before
 abbrev pub numbered_after : ℕ → List ℕ → Bool
 numbered_after seen [] = true
 numbered_after seen (v ∷ vs) = nat_le 1 v && nat_le v (suc seen) && numbered_after (max seen v) vs

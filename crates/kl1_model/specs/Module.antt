@@ -42,7 +42,7 @@ pub data Reading (A : Type 0) : Type 0 where
   good : A → Reading A
   bad : ℕ → Reading A
 
--- an item: the line on which it begins, and its tokens without its end, or none where it has no end or something in it is no token
+-- an item: the line on which it begins, and its tokens without its end, or none if it has no end or something in it is no token
 pub record Item : Type 0 where
   pub line : ℕ
   pub tokens : Option (List (Token (List ℕ)))
@@ -52,13 +52,13 @@ abbrev pub is_end : Token (List ℕ) → Bool
 is_end end_token = true
 is_end _ = false
 
--- what is left of a text behind its last end: nothing, or an item that is bad
+-- what is left of a text after its last end: nothing, or an item that is bad
 abbrev pub last_item : Option ℕ → Option ℕ → List Item
 last_item None None = []
 last_item None (Some line) = record { line = line; tokens = None } ∷ []
 last_item (Some line) broken_at = record { line = line; tokens = None } ∷ []
 
--- the items of tokens, where an item may have begun on a line with tokens before these
+-- the items of tokens; an item may have begun on a line with tokens before these
 abbrev pub items_from : Option ℕ → List (Token (List ℕ)) → List Placed → Option ℕ → List Item
 items_from began before [] broken_at = last_item began broken_at
 items_from began before (p ∷ ps) broken_at =
@@ -74,7 +74,7 @@ abbrev pub named_module : List (Token (List ℕ)) → Option (List ℕ)
 named_module (sign_token Neck ∷ name_token word q a ∷ name_token name r b ∷ []) = if bytes_eq word (codes "module") && not (bytes_eq name (codes "shoen")) then Some name else None
 named_module _ = None
 
--- what a function gives for all elements, where it gives something for each
+-- what a function gives for all elements, if it gives something for each
 abbrev pub each_of : {A B : Type 0} → (A → Option B) → List A → Option (List B)
 each_of f [] = Some []
 each_of f (x ∷ xs) = option_and_then (λ y. option_map (λ ys. y ∷ ys) (each_of f xs)) (f x)
@@ -157,7 +157,7 @@ clause_of m ts = option_and_then (clause_of_tree m) (clause_tree (numbered_token
 abbrev pub is_of : List ℕ → ℕ → Clause → Bool
 is_of name count c = bytes_eq c.name name && count_of c.patterns == count
 
--- the last of clauses, where there is one
+-- the last of clauses, if there is one
 abbrev pub last_of : List Clause → Option Clause
 last_of [] = None
 last_of (c ∷ []) = Some c
@@ -167,13 +167,13 @@ last_of (c ∷ d ∷ cs) = last_of (d ∷ cs)
 abbrev pub continues : List Clause → Clause → Bool
 continues before c = unwrap_or (option_map (is_of c.name (count_of c.patterns)) (last_of before)) false
 
--- whether a clause may follow these, directly behind an `otherwise` or not: there is room, clauses of one name and number of
--- arguments stand together, and the one behind an `otherwise` is of the same predicate as the one before it
+-- whether a clause may follow these, directly after an `otherwise` or not: there is room, clauses of one name and number of
+-- arguments stand together, and the one after an `otherwise` is of the same predicate as the one before it
 abbrev pub may_follow : List Clause → Bool → Clause → Bool
 may_follow before behind c =
     nat_lt (length before) most_clauses && (continues before c || not behind && not (list_any (is_of c.name (count_of c.patterns)) before))
 
--- the section of a clause that follows these: the last one's or, behind an `otherwise`, the next; a predicate's first is 0
+-- the section of a clause that follows these: the last one's or, after an `otherwise`, the next; a predicate's first is 0
 abbrev pub section_after : List Clause → Bool → Clause → ℕ
 section_after before behind c =
     let last = unwrap_or (option_map (λ d. d.section) (last_of before)) 0 in
@@ -189,17 +189,17 @@ abbrev pub is_otherwise : Option (List (Token (List ℕ))) → Bool
 is_otherwise (Some (name_token word quotes applied ∷ [])) = bytes_eq word (codes "otherwise")
 is_otherwise _ = false
 
--- goes on where an item is good
+-- goes on if an item is good
 abbrev pub if_good : {A : Type 0} → ℕ → Option A → (A → Reading (List Clause)) → Reading (List Clause)
 if_good line None go = bad line
 if_good line (Some a) go = go a
 
--- the clauses before; an `otherwise` on this line with no clause behind it is bad
+-- the clauses before; an `otherwise` on this line with no clause after it is bad
 abbrev pub clauses_ended : List Clause → Option ℕ → Reading (List Clause)
 clauses_ended before None = good before
 clauses_ended before (Some line) = bad line
 
--- the line of an `otherwise` that stands directly behind a clause, and not behind another `otherwise`
+-- the line of an `otherwise` that stands directly after a clause, and not after another `otherwise`
 abbrev pub otherwise_on : ℕ → List Clause → Option ℕ → Option ℕ
 otherwise_on line before behind = if is_some (last_of before) && is_none behind then Some line else None
 
@@ -218,7 +218,7 @@ abbrev pub module_with : List ℕ → List ℕ → Reading (List Clause) → Rea
 module_with name source (bad line) = bad line
 module_with name source (good clauses) = good (record { name = name; source = source; clauses = clauses })
 
--- a module whose first item gives it this name, with the items behind
+-- a module whose first item gives it this name, with the items after
 abbrev pub module_named : List ℕ → Item → List Item → Option (List ℕ) → Reading Module
 module_named source item items None = bad item.line
 module_named source item items (Some name) = module_with name source (clauses_from name [] None items)
@@ -232,7 +232,7 @@ module_of_items source (item ∷ items) = module_named source item items (option
 abbrev pub read_module : List ℕ → Reading Module
 read_module source = module_of_items source (items_of (tokens_of_text source))
 
--- the term, where it is a goal that may be started, or else a fault on this line
+-- the term, if it is a goal that may be started, or else a fault on this line
 abbrev pub startable : ℕ → Option Term → Reading Term
 startable line None = bad line
 startable line (Some t) = if is_writable t && is_goal t then good t else bad line
@@ -247,7 +247,7 @@ first_line [] None = 1
 first_line [] (Some line) = line
 first_line (p ∷ ps) broken_at = p.line
 
--- the term that tokens are, where they are one expression
+-- the term that tokens are, if they are one expression
 abbrev pub term_of_tokens : List (Token (List ℕ)) → Option Term
 term_of_tokens ts = option_map expression_term (expression_tree (numbered_tokens ts))
 

@@ -38,7 +38,7 @@ with_shoen h goal s = record s {
   last_shoen = h.number;
 }
 
--- a shoen that opens for a goal: it and the goal join the account, and it reports that it has started, and after that, where its
+-- a shoen that opens for a goal: it and the goal join the account, and it reports that it has started, and after that, if its
 -- allowance is 0, that it is exhausted
 abbrev pub open_shoen : Shoen → Term → State → State
 open_shoen h goal s =

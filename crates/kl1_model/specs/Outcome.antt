@@ -53,7 +53,7 @@ other_outcome unknown vs = waits vs
 abbrev pub alike : Term → Term → Outcome
 alike t u = same_outcome (passive t u) (awaited t u)
 
--- a comparison of what two expressions come to, which clashes where one of them has a fault of computing
+-- a comparison of what two expressions come to, which clashes if one of them has a fault of computing
 abbrev pub compared_numbers : Comparison → Number → Number → Outcome
 compared_numbers c (Value x) (Value y) = decided (compared c x y)
 compared_numbers c a b = clashes
@@ -123,7 +123,7 @@ abbrev mutual
   match_terms (more p ps) (more t ts) = match_both (match_term p t) (match_terms ps ts)
   match_terms ps ts = with_outcome clashes
 
--- the terms at two places, where they are places of one variable
+-- the terms at two places, if they are places of one variable
 abbrev pub places_alike : Replacement → Replacement → Outcome
 places_alike p q = if p.number == q.number then alike p.by q.by else agrees
 
@@ -141,7 +141,7 @@ each_alike (p ∷ ps) = both (alike_with p ps) (each_alike ps)
 abbrev pub beside : ℕ → Term → Term
 beside last t = substituted (λ v. variable (suc (last + v))) t
 
--- what stands in a test for a variable of the clause: the term at the first of its places that were reached; where none was, it
+-- what stands in a test for a variable of the clause: the term at the first of its places that were reached; if none was, it
 -- stands for itself, an unbound variable that differs from all others
 abbrev pub test_variable : ℕ → List Replacement → ℕ → Term
 test_variable last [] v = variable v

@@ -32,7 +32,7 @@ VerdictsName = (c : Clause) (ts : Terms) → awaited_by_clause c ts ≡ named_in
 
 -- ---- the laws of what clauses wait for, of verdicts that name variables
 
--- a clause that rejects a goal rejects it until a variable that it names is replaced, and for good where it names none
+-- a clause that rejects a goal rejects it until a variable that it names is replaced, and for good if it names none
 abbrev pub NamedRejectsStays : Type 0
 NamedRejectsStays = (s : ℕ → Term) (c : Clause) (ts : Terms) (vs : List ℕ) → named_verdict c ts ≡ rejects vs → LeavesEach s vs → named_verdict c (each_substituted s ts) ≡ rejects vs
 
@@ -49,6 +49,6 @@ NamedAcceptsStays = (s : ℕ → Term) (c : Clause) (ts : Terms) (places : List 
 abbrev pub NamedSuspendsStays : Type 0
 NamedSuspendsStays = (s : ℕ → Term) (c : Clause) (ts : Terms) (vs : List ℕ) → named_verdict c ts ≡ suspends vs → LeavesEach s vs → named_verdict c (each_substituted s ts) ≡ suspends vs
 
--- and names a variable, where the variables of its guard are the head's
+-- and names a variable, if the variables of its guard are the head's
 abbrev pub NamedSuspendsWaits : Type 0
 NamedSuspendsWaits = (c : Clause) (ts : Terms) → IsTrue (is_guarded c) → named_verdict c ts ≡ suspends [] → ⊥

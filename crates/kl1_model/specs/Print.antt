@@ -17,7 +17,7 @@ abbrev pub is_before_colon : Term → Bool
 is_before_colon (atom a) = true
 is_before_colon _ = false
 
--- what may stand behind the colon: an atom, or a structure that isn't itself a `:` of two arguments
+-- what may stand after the colon: an atom, or a structure that isn't itself a `:` of two arguments
 abbrev pub is_behind_colon : Term → Bool
 is_behind_colon (atom a) = true
 is_behind_colon (structure f ts) = not (is_colon_pair (structure f ts))
@@ -35,11 +35,11 @@ pub record Printed : Type 0 where
   pub whole : List ℕ
   pub rest : List ℕ
 
--- a term that is no list: behind elements it stands after a bar
+-- a term that is no list: after elements it follows a bar
 abbrev pub plain : List ℕ → Printed
 plain text = record { whole = text; rest = codes "|" ++ text ++ codes "]" }
 
--- an atom: behind elements the empty list is the end alone
+-- an atom: after elements the empty list is the end alone
 abbrev pub printed_atom : List ℕ → Printed
 printed_atom a = if bytes_eq a (codes "[]") then record { whole = codes "[]"; rest = codes "]" } else plain (atom_text a)
 
@@ -64,7 +64,7 @@ printed_pair Qualified f p q = plain (p.whole ++ codes ":" ++ q.whole)
 printed_pair Call f p q = plain (call_text f (p ∷ q ∷ []))
 
 -- how a term is printed: `_` and its number for a variable, decimal for an integer, a list in brackets,
--- `m:p` for a name behind its module's, and else a name with its arguments
+-- `m:p` for a name after its module's, and else a name with its arguments
 abbrev mutual
   pub printed : Term → Printed
   printed (variable n) = plain (codes "_" ++ decimal n)
@@ -81,10 +81,10 @@ abbrev mutual
 abbrev pub print : Term → List ℕ
 print t = (printed t).whole
 
--- a text cut after so many bytes, with three dots in place of what is left out
+-- a text cut after `most` bytes, with three dots in place of what is left out
 abbrev pub cut_text : ℕ → List ℕ → List ℕ
 cut_text most text = if nat_le (length text) most then text else take most text ++ codes "..."
 
--- the text of a term in a reply: at most 4,000 bytes, and three dots where it is longer
+-- the text of a term in a reply: at most 4,000 bytes, and three dots if it is longer
 abbrev pub cut_print : Term → List ℕ
 cut_print t = cut_text most_printed_bytes (print t)

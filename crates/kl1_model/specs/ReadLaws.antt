@@ -49,22 +49,22 @@ abbrev mutual
   is_sound_rest closed = true
   is_sound_rest (tail e) = is_sound_expression e
 
--- the same of a head
+-- whether the expressions of a head are sound
 abbrev pub is_sound_head : Head → Bool
 is_sound_head (bare_head p quotes) = true
 is_sound_head (head_with p quotes s) = is_sound_series s
 
--- the same of a goal
+-- whether the expression of a goal is sound
 abbrev pub is_sound_goal : GoalTree → Bool
 is_sound_goal (plain_goal e) = is_sound_expression e
 is_sound_goal (urgent_goal e quotes n) = is_sound_expression e
 
--- the same of a body
+-- whether the expressions of a body are sound
 abbrev pub is_sound_body : Body → Bool
 is_sound_body (last_goal g) = is_sound_goal g
 is_sound_body (another_goal g b) = is_sound_goal g && is_sound_body b
 
--- the same of a clause
+-- whether the expressions of a clause are sound
 abbrev pub is_sound_clause : ClauseTree → Bool
 is_sound_clause (fact h) = is_sound_head h
 is_sound_clause (rule h body) = is_sound_head h && is_sound_body body
@@ -98,7 +98,7 @@ ClausesAreUnambiguous = (c d : ClauseTree) → IsTrue (is_sound_clause c) → Is
 abbrev pub tokens_at : ℕ → List ℕ → Tokens
 tokens_at line bs = tokens_within (suc (length bs)) line bs
 
--- what is behind the front of a text has fewer bytes than these
+-- what comes after the front of a text has fewer bytes than the text
 abbrev pub LeavesLess : ℕ → Front → Type 0
 LeavesLess most finished = Unit {0}
 LeavesLess most broken = Unit {0}
@@ -106,7 +106,7 @@ LeavesLess most (line_end rest) = length rest < most
 LeavesLess most (blank rest) = length rest < most
 LeavesLess most (token t rest) = length rest < most
 
--- whatever stands in front of a text, less than the text is behind it
+-- whatever stands in front of a text, what comes after it is shorter than the text
 abbrev pub FrontsLeaveLess : Type 0
 FrontsLeaveLess = (bs : List ℕ) → LeavesLess (length bs) (front_of bs)
 
@@ -114,7 +114,7 @@ FrontsLeaveLess = (bs : List ℕ) → LeavesLess (length bs) (front_of bs)
 abbrev pub StepsAreEnough : Type 0
 StepsAreEnough = (m n line : ℕ) (bs : List ℕ) → length bs < m → length bs < n → tokens_within m line bs ≡ tokens_within n line bs
 
--- the tokens of a text are what its front makes of those behind it
+-- the tokens of a text are what its front makes of those after it
 abbrev pub TokensGoOn : Type 0
 TokensGoOn = (line : ℕ) (bs : List ℕ) → tokens_at line bs ≡ tokens_by tokens_at line (front_of bs)
 
@@ -126,31 +126,31 @@ whole_expression ts = expression_at (suc (length ts)) ts
 abbrev pub ReaderStepsAreEnough : Type 0
 ReaderStepsAreEnough = (m n : ℕ) (ts : List Numbered) → length ts < m → length ts < n → expression_at m ts ≡ expression_at n ts
 
--- fewer tokens are behind an expression
+-- fewer tokens are after an expression
 abbrev pub ExpressionsLeaveLess : Type 0
 ExpressionsLeaveLess = (ts : List Numbered) (e : Expression) (us : List Numbered) → whole_expression ts ≡ Some (e, us) → length us < length ts
 
--- an expression is its first sum, and what is behind it
+-- an expression is its first sum, and what is after it
 abbrev pub ExpressionsGoOn : Type 0
 ExpressionsGoOn = (ts : List Numbered) → whole_expression ts ≡ then_read (sum_at whole_expression ts) (λ s us. related_at whole_expression s us (relation_in_front us))
 
--- a sum is what was read of it and, behind an operator, the next product
+-- a sum is what was read of it and, after an operator, the next product
 abbrev pub SumsGoOn : Type 0
 SumsGoOn =
     (s : Sum) (ts : List Numbered) →
     grouped_at adding_in_front (product_at whole_expression) added s ts ≡ grouped_on (product_at whole_expression) added (grouped_at adding_in_front (product_at whole_expression) added) s ts (adding_in_front ts)
 
--- a product is what was read of it and, behind an operator, the next part
+-- a product is what was read of it and, after an operator, the next part
 abbrev pub ProductsGoOn : Type 0
 ProductsGoOn =
     (p : Product) (ts : List Numbered) →
     grouped_at multiplying_in_front (part_at whole_expression) multiplied p ts ≡ grouped_on (part_at whole_expression) multiplied (grouped_at multiplying_in_front (part_at whole_expression) multiplied) p ts (multiplying_in_front ts)
 
--- expressions parted by commas are the first and, behind a comma, the others
+-- expressions parted by commas are the first and, after a comma, the others
 abbrev pub SeriesGoOn : Type 0
 SeriesGoOn = (ts : List Numbered) → series_at whole_expression ts ≡ then_read (whole_expression ts) (λ e us. if_there (behind_comma us) (Some (last e, us)) (λ vs. then_read (series_at whole_expression vs) (λ s ws. Some (another e s, ws))))
 
--- goals parted by commas are the first and, behind a comma, the others
+-- goals parted by commas are the first and, after a comma, the others
 abbrev pub BodiesGoOn : Type 0
 BodiesGoOn = (ts : List Numbered) → body_at whole_expression ts ≡ then_read (goal_at whole_expression ts) (λ g us. if_there (behind_comma us) (Some (last_goal g, us)) (λ vs. then_read (body_at whole_expression vs) (λ b ws. Some (another_goal g b, ws))))
 
@@ -183,7 +183,7 @@ PrintedGoalsReadBack = (t : Term) → IsTrue (is_printable t) → IsTrue (is_goa
 abbrev pub PrintingIsOneToOne : Type 0
 PrintingIsOneToOne = (t u : Term) → IsTrue (is_printable t) → IsTrue (is_printable u) → print t ≡ print u → t ≡ u
 
--- the goal that a text is where the text is the goal's print
+-- the goal that a text is if the text is the goal's print
 abbrev pub strict_by : List ℕ → Reading Term → Option Term
 strict_by bs (good t) = if bytes_eq (print t) bs then Some t else None
 strict_by bs (bad line) = None
@@ -196,7 +196,7 @@ strict_goal bs = strict_by bs (read_goal bs)
 abbrev pub GoalsReadArePrintable : Type 0
 GoalsReadArePrintable = (bs : List ℕ) (t : Term) → length bs < number_limit → read_goal bs ≡ good t → IsTrue (is_printable t) × IsTrue (is_goal t)
 
--- a text is of the strict form exactly where it is the print of a goal that can be read from it, and is that goal
+-- a text is of the strict form exactly if it is the print of a goal that can be read from it, and is that goal
 abbrev pub StrictTextsArePrints : Type 0
 StrictTextsArePrints = (bs : List ℕ) (t : Term) → length bs < number_limit → ((strict_goal bs ≡ Some t) ↔ (IsTrue (is_printable t) × IsTrue (is_goal t) × (print t ≡ bs)))
 

@@ -39,7 +39,7 @@ records_by next name line rest (Some n) =
     then record_first (record { name = name; request = load_before (take n rest) (drop n rest) }) (next (behind_feed (drop n rest)))
     else record { list = []; is_truncated = true }
 
--- the records of a text, in fewer than so many lines; blank lines are skipped
+-- the records of a text of fewer than `n` lines; blank lines are skipped
 unfoldable pub records_within : ℕ → List ℕ → Records
 records_within zero text = record { list = []; is_truncated = false }
 records_within (suc n) [] = record { list = []; is_truncated = false }

@@ -34,7 +34,7 @@ pub data Move : Type 0 where
   goes : Move
   gives_way : Move
 
--- what a call can do by the clause of a number: commit to a candidate, or by 0 fail where each clause rejects it
+-- what a call can do by the clause numbered `clause`: commit to a candidate, or by 0 fail if each clause rejects it
 abbrev pub call_move : List Module → Call → ℕ → Option Move
 call_move modules call clause =
     if clause == 0 then (if fails modules call then Some (raises failure) else None)
@@ -74,7 +74,7 @@ abbrev pub order_move : Option Order → Option Move
 order_move None = None
 order_move (Some o) = ordered o (order_look o)
 
--- what a goal of the module of a name does, where it is `shoen:execute` with six arguments
+-- what a goal `a:b` does, if it is `shoen:execute` with six arguments
 abbrev pub execute_move : Term → Term → Option Move
 execute_move (atom m) b = if is_execute m b then order_move (order_of b) else None
 execute_move a b = None
@@ -94,7 +94,7 @@ built_in_move (atom a) = if bytes_eq a (codes "true") then Some goes else None
 built_in_move (structure f (more a (more b none))) = pair_move f a b
 built_in_move t = None
 
--- what a term can do by the clause of a number; a built-in goal takes 0 alone
+-- what a term can do by the clause numbered `clause`; a built-in goal takes 0 alone
 abbrev pub term_move : List Module → Term → ℕ → Option Call → Option Move
 term_move modules t clause None = if clause == 0 then built_in_move t else None
 term_move modules t clause (Some call) = call_move modules call clause
@@ -110,7 +110,7 @@ pub data Action : Type 0 where
   moves : Term → Move → Action
   reads : Control → Action
 
--- what a monitor reads, where it doesn't wait
+-- what a monitor reads, if it doesn't wait
 abbrev pub read_action : Control → Option Action
 read_action (awaits_message v) = None
 read_action (tells m rest) = Some (reads (tells m rest))
@@ -123,13 +123,13 @@ abbrev pub monitor_action : Option Shoen → ℕ → Option Action
 monitor_action None clause = None
 monitor_action (Some h) clause = if clause == 0 then read_action (control_of h.control) else None
 
--- what a goal of a shoen can do by its task and the clause of a number
+-- what a goal of shoen `shoen` can do by its task and the clause numbered `clause`
 abbrev pub task_action : State → ℕ → Task → ℕ → Option Action
 task_action s shoen monitor clause = monitor_action (shoen_at shoen s.shoens) clause
 task_action s shoen (reduces t) clause = option_map (moves t) (term_move s.modules t clause (call_of t))
 task_action s shoen (substitutes t) clause = if clause == 0 then option_map (moves t) (substitute_move (goal_look t)) else None
 
--- what a goal can do by the clause of a number, or nothing where that isn't allowed
+-- what a goal can do by the clause numbered `clause`, or nothing if that isn't allowed
 abbrev pub action_of : State → Goal → ℕ → Option Action
 action_of s g clause = if is_enabled s g then task_action s g.shoen g.task clause else None
 
@@ -175,7 +175,7 @@ substituted_by g kind t s =
     let new = suc s.last_variable in
     replaced_by g (substitutes (variable new)) (report g.shoen (exception_with kind t (variable new)) (record s { last_variable = new }))
 
--- an exception of a kind of a goal of this term, which has been removed: its shoen reports it; where there are substitutes, one takes the
+-- an exception of a kind of a goal of this term, which has been removed: its shoen reports it; if there are substitutes, one takes the
 -- place of the goal, unless the report is dropped
 abbrev pub raised : Goal → List ℕ → Term → State → State
 raised g kind t s =
@@ -195,7 +195,7 @@ abbrev pub or_exhaustion : Bool → Goal → Term → State → State → State
 or_exhaustion true g t after s = after
 or_exhaustion false g t after s = raised g exhaustion t s
 
--- a text used as a name, which stays used where the unification with a term fails
+-- a text used as a name, which stays used even if the unification with a term fails
 abbrev pub named_by : Goal → Term → List ℕ → Term → State → State
 named_by g t text a s = unified g t (solve (equation a (atom text))) (record s { names = with_name s.names text })
 
@@ -209,17 +209,17 @@ moved g t (opens o) s = or_exhaustion (has_room_for_child s g.shoen) g t (open_c
 moved g t goes s = s
 moved g t gives_way s = replaced_by g (reduces t) s
 
--- a shoen stopped, and a report of it where it wasn't
+-- a shoen stopped, and a report of it if it wasn't
 abbrev pub stopped_of : Option Shoen → ℕ → State → State
 stopped_of None n s = s
 stopped_of (Some h) n s = if h.is_stopped then s else report n stopped_report (change_shoen n (λ h. record h { is_stopped = true }) s)
 
--- a shoen stopped no longer, and a report of it where it was
+-- a shoen stopped no longer, and a report of it if it was
 abbrev pub resumed_of : Option Shoen → ℕ → State → State
 resumed_of None n s = s
 resumed_of (Some h) n s = if h.is_stopped then report n resumed_report (change_shoen n (λ h. record h { is_stopped = false }) s) else s
 
--- a shoen whose allowance grows by so much, up to the greatest there is
+-- a shoen whose allowance grows by `extra`, up to the greatest there is
 abbrev pub allowed_more : ℕ → Shoen → Shoen
 allowed_more extra h = record h { allowance = min (h.allowance + extra) most_allowance }
 
@@ -248,7 +248,7 @@ abbrev pub acted : Goal → Action → State → State
 acted g (moves t m) s = settle_charged g.shoen (moved g t m (charge g.shoen (without_goal g.number s)))
 acted g (reads c) s = settle g.shoen (heard g.shoen c s)
 
--- a reduction, where it is allowed
+-- a reduction, if it is allowed
 abbrev pub reduced_by : State → Goal → Option Action → Stepped
 reduced_by s g None = refuse s step_refused
 reduced_by s g (Some a) = recorded s (record { state = acted g a (with_entry s); reply = reduced })

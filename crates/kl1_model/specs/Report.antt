@@ -10,7 +10,7 @@ abbrev pub broken_at : ℕ → State → State
 broken_at n s = change_shoen n (λ h. record h { is_broken = true }) s
 
 -- a report on an unbroken stream with this tail: the tail becomes a cell of the message and the next variable, and the account has
--- made one report more; where the tail is no variable, or stands in the message, or the account has made its last report, the
+-- made one report more; if the tail is no variable, or stands in the message, or the account has made its last report, the
 -- stream is broken from now on
 abbrev pub reported_at : ℕ → Term → Term → State → State
 reported_at n message (variable v) s =
@@ -24,7 +24,7 @@ abbrev pub report_of : Option Shoen → ℕ → Term → State → State
 report_of None n message s = s
 report_of (Some h) n message s = if h.is_broken then s else reported_at n message h.tail s
 
--- a report of the shoen of a number
+-- a report of shoen `n`
 abbrev pub report : ℕ → Term → State → State
 report n message s = report_of (shoen_at n s.shoens) n message s
 
@@ -38,16 +38,16 @@ abbrev pub is_reported_of : Option Shoen → Term → ℕ → Bool
 is_reported_of None message made = false
 is_reported_of (Some h) message made = not h.is_broken && is_reported_at message h.tail made
 
--- whether a report of the shoen of a number is made, and not dropped
+-- whether a report of shoen `n` is made, and not dropped
 abbrev pub is_reported : ℕ → Term → State → Bool
 is_reported n message s = is_reported_of (shoen_at n s.shoens) message s.reports
 
--- the same report of each of these shoens, in order
+-- a report with this message of each of these shoens, in order
 abbrev pub report_each : List ℕ → Term → State → State
 report_each [] message s = s
 report_each (n ∷ ns) message s = report_each ns message (report n message s)
 
--- the end of a report stream: an unbound tail becomes the empty list, where the stream isn't broken
+-- the end of a report stream: an unbound tail becomes the empty list, if the stream isn't broken
 abbrev pub closed_at : Term → State → State
 closed_at (variable v) s = replace_in_state v nil s
 closed_at t s = s
@@ -57,7 +57,7 @@ abbrev pub close_of : Option Shoen → State → State
 close_of None s = s
 close_of (Some h) s = if h.is_broken then s else closed_at h.tail s
 
--- the end of the report stream of the shoen of a number
+-- the end of the report stream of shoen `n`
 abbrev pub close : ℕ → State → State
 close n s = close_of (shoen_at n s.shoens) s
 

@@ -131,14 +131,14 @@ abbrev pub DiffersAt : List ℕ → Term → Term → Type 0
 DiffersAt [] t u = IsOther t u
 DiffersAt (k ∷ path) t u = (a : Term) × ((b : Term) × ((child t k ≡ Some a) × (child u k ≡ Some b) × DiffersAt path a b))
 
--- two terms clash where some path leads to places that differ
+-- two terms clash if some path leads to places that differ
 abbrev pub ClashesAreOnPaths : Type 0
 ClashesAreOnPaths = (t u : Term) → Decides (clash t u) ((path : List ℕ) × DiffersAt path t u)
 
--- passive equality answers that two terms are the same where they are equal
+-- passive equality answers that two terms are the same if they are equal
 abbrev pub SameIsEqual : Type 0
 SameIsEqual = (t u : Term) → (passive t u ≡ same) ↔ (t ≡ u)
 
--- it answers that they differ where some path leads to places that differ
+-- it answers that they differ if some path leads to places that differ
 abbrev pub DiffersIsOnPath : Type 0
 DiffersIsOnPath = (t u : Term) → (passive t u ≡ differs) ↔ ((path : List ℕ) × DiffersAt path t u)

@@ -13,6 +13,6 @@ abbrev pub operators_of : Formula → ℕ
 operators_of (number i) = 0
 operators_of (operation o a b) = suc (operators_of a + operators_of b)
 
--- an expression is found in a term exactly where the term writes it, and it has as many operators as there are fewer left
+-- an expression is found in a term exactly if the term writes it, and it has as many operators as there are fewer left
 abbrev pub ScanFinds : Type 0
 ScanFinds = (most left : ℕ) (t : Term) (e : Formula) → (scan most t ≡ found e left) ↔ ((formula_term e ≡ t) × (most ≡ operators_of e + left))

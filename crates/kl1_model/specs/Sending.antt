@@ -16,7 +16,7 @@ is_message Start = true
 is_message Abort = true
 is_message (Allow n) = is_number n
 
--- whether a message to the shoen of a number has numbers in range
+-- whether a message to shoen `n` has numbers in range
 abbrev pub may_send : ℕ → Message → Bool
 may_send n m = is_number n && is_message m
 

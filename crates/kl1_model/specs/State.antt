@@ -30,7 +30,7 @@ pub record Origin : Type 0 where
   pub reports : Term
   pub control : Term
 
--- a shoen: its number; the number of its parent, 0 where the console started it; whether it lives, or how it ended, and whether
+-- a shoen: its number; the number of its parent, 0 if the console started it; whether it lives, or how it ended, and whether
 -- it is stopped; the reductions that it may be charged; its priorities from low to high; what is left of its control stream, the
 -- tail of its report stream, whether that stream is broken, and its origin at the console
 pub record Shoen : Type 0 where
@@ -97,11 +97,11 @@ fresh rules name = record {
 abbrev pub fresh_with : Rules → List ℕ → List (List ℕ) → ℕ → State
 fresh_with rules name names sessions = record (fresh rules name) { names = names; sessions = sessions }
 
--- the goal of a number
+-- the goal with number `n`
 abbrev pub goal_at : ℕ → List Goal → Option Goal
 goal_at n goals = find (λ g. g.number == n) goals
 
--- the shoen of a number
+-- the shoen with number `n`
 abbrev pub shoen_at : ℕ → List Shoen → Option Shoen
 shoen_at n shoens = find (λ h. h.number == n) shoens
 
@@ -136,7 +136,7 @@ replace_all (r ∷ rs) s = replace_all rs (replace_in_state r.number r.by s)
 abbrev pub change_shoen : ℕ → (Shoen → Shoen) → State → State
 change_shoen n change s = record s { shoens = map (λ h. if h.number == n then change h else h) s.shoens }
 
--- without the goal of a number
+-- the account without goal `n`
 abbrev pub without_goal : ℕ → State → State
 without_goal n s = record s { goals = filter (λ g. not (g.number == n)) s.goals }
 
@@ -165,7 +165,7 @@ names_of_clauses (c ∷ cs) = names_of_clause c ++ names_of_clauses cs
 abbrev pub names_of_module : Module → List (List ℕ)
 names_of_module m = m.name ∷ names_of_clauses m.clauses
 
--- names used so far, with one more where it is new and not built in
+-- names used so far, with one more if it is new and not built in
 abbrev pub with_name : List (List ℕ) → List ℕ → List (List ℕ)
 with_name names a = if is_built_in a || list_any (bytes_eq a) names then names else names ++ a ∷ []
 

@@ -24,11 +24,11 @@ load_module s (good m) =
     else named s (with_names s.names (names_of_module m)) (limited s (nat_lt (length s.modules) most_modules) (recorded s
     (record { state = with_entry (with_module s m); reply = loaded m.name })))
 
--- a session more, where not too many are open
+-- a session more, if not too many are open
 abbrev pub log_in : State → Stepped
 log_in s = if nat_lt s.sessions most_sessions then record { state = record s { sessions = suc s.sessions }; reply = welcome s.own_name } else refuse s sessions_refused
 
--- a session less, where one is open
+-- a session less, if one is open
 abbrev pub log_out : State → Stepped
 log_out s = if nat_lt 0 s.sessions then record { state = record s { sessions = s.sessions - 1 }; reply = bye } else refuse s sessions_refused
 

@@ -8,8 +8,8 @@ use Rattle.kl1_model.specs.Text.{is_name_byte}
 use Rattle.kl1_model.specs.Name.{is_small_letter, is_word_byte}
 
 -- a token; a variable is known by V, its spelling at first and then its number
--- a name with its text, whether it stood in quotes, and whether a `(` stands directly behind it
--- digits with their value, `-` with whether a digit stands directly behind it, a sign, or the end of an item
+-- a name with its text, whether it stood in quotes, and whether a `(` stands directly after it
+-- digits with their value, `-` with whether a digit stands directly after it, a sign, or the end of an item
 pub data Token (V : Type 0) : Type 0 where
   name_token : List ℕ → Bool → Bool → Token V
   variable_token : V → Token V
@@ -39,7 +39,7 @@ abbrev pub word_of : List ℕ → List ℕ
 word_of [] = []
 word_of (b ∷ bs) = elim (is_word_byte b) [ true ↦ b ∷ word_of bs | false ↦ [] ]
 
--- what is behind that word
+-- what is after that word
 abbrev pub behind_word : List ℕ → List ℕ
 behind_word [] = []
 behind_word (b ∷ bs) = elim (is_word_byte b) [ true ↦ behind_word bs | false ↦ b ∷ bs ]
@@ -49,7 +49,7 @@ abbrev pub digits_of : List ℕ → List ℕ
 digits_of [] = []
 digits_of (b ∷ bs) = elim (is_digit b) [ true ↦ b ∷ digits_of bs | false ↦ [] ]
 
--- what is behind those digits
+-- what is after those digits
 abbrev pub behind_digits : List ℕ → List ℕ
 behind_digits [] = []
 behind_digits (b ∷ bs) = elim (is_digit b) [ true ↦ behind_digits bs | false ↦ b ∷ bs ]
@@ -58,7 +58,7 @@ behind_digits (b ∷ bs) = elim (is_digit b) [ true ↦ behind_digits bs | false
 abbrev pub number_of : List ℕ → ℕ
 number_of digits = fold (λ n b. 10 * n + (b - 48)) 0 digits
 
--- the text between quotes of which these bytes have been seen, and what is behind it, or none where no quote ends it;
+-- the text between quotes of which these bytes have been seen, and what is after it, or none if no quote ends it;
 -- the test tells whether the last byte was a quote, which ends the text unless another one follows
 abbrev pub quoted_from : Bool → List ℕ → List ℕ → Option (List ℕ × List ℕ)
 quoted_from true text [] = Some (text, [])
@@ -66,7 +66,7 @@ quoted_from false text [] = None
 quoted_from true text (b ∷ bs) = elim (b == 39) [ true ↦ quoted_from false (text ++ b ∷ []) bs | false ↦ Some (text, b ∷ bs) ]
 quoted_from false text (b ∷ bs) = elim (b == 39) [ true ↦ quoted_from true text bs | false ↦ elim (is_name_byte b) [ true ↦ quoted_from false (text ++ b ∷ []) bs | false ↦ None ] ]
 
--- what is behind a comment, from the end of its line; none where it holds a byte that no text may hold
+-- what is after a comment, from the end of its line; none if it holds a byte that no text may hold
 abbrev pub behind_comment : List ℕ → Option (List ℕ)
 behind_comment [] = Some []
 behind_comment (b ∷ bs) = elim (b == 10) [ true ↦ Some (b ∷ bs) | false ↦ elim (is_source_byte b) [ true ↦ behind_comment bs | false ↦ None ] ]
@@ -104,7 +104,7 @@ abbrev pub sign_at : List ℕ → Option Sign
 sign_at bs = find (λ s. starts_with nat_eq bs (spelling_of s)) signs
 
 -- what stands in front of a text: nothing, something that is no token, the end of a line, another blank or a comment,
--- or a token; with what is behind
+-- or a token; with what is after
 pub data Front : Type 0 where
   finished : Front
   broken : Front
@@ -121,11 +121,11 @@ first_is test (b ∷ bs) = test b
 abbrev pub bounded : List ℕ → Token (List ℕ) → List ℕ → Front
 bounded text t rest = if nat_le (length text) most_name_bytes then token t rest else broken
 
--- a name, with what is behind it
+-- a name, with what is after it
 abbrev pub name_front : Bool → List ℕ → List ℕ → Front
 name_front quotes text rest = bounded text (name_token text quotes (first_is (λ b. b == 40) rest)) rest
 
--- a name in quotes, where a quote ends it
+-- a name in quotes, if a quote ends it
 abbrev pub quoted_front : Option (List ℕ × List ℕ) → Front
 quoted_front None = broken
 quoted_front (Some q) = name_front true q.0 q.1
@@ -134,7 +134,7 @@ quoted_front (Some q) = name_front true q.0 q.1
 abbrev pub digits_front : ℕ → List ℕ → Front
 digits_front n rest = if nat_le n number_limit then token (digits_token n) rest else broken
 
--- a comment, where it holds no byte that no text may hold
+-- a comment, if it holds no byte that no text may hold
 abbrev pub comment_front : Option (List ℕ) → Front
 comment_front None = broken
 comment_front (Some rest) = blank rest
@@ -144,7 +144,7 @@ abbrev pub dot_front : List ℕ → Front
 dot_front [] = token end_token []
 dot_front (b ∷ bs) = if is_blank b || b == 37 then token end_token (b ∷ bs) else broken
 
--- a sign, where one is in front
+-- a sign, if one is in front
 abbrev pub sign_front : Option Sign → List ℕ → Front
 sign_front None bs = broken
 sign_front (Some s) bs = token (sign_token s) (drop (length (spelling_of s)) bs)
@@ -162,7 +162,7 @@ pub data Start : Type 0 where
   subtracts : Start
   signs_or_nothing : Start
 
--- what a byte begins, where a token may begin
+-- what a byte begins, if a token may begin
 abbrev pub start_of : ℕ → Start
 start_of b =
     if b == 10 then ends_line
@@ -199,7 +199,7 @@ pub record Placed : Type 0 where
   pub line : ℕ
   pub token : Token (List ℕ)
 
--- the tokens of a text up to the first place where no token stands, and the line of that place where there is one
+-- the tokens of a text up to the first place where no token stands, and the line of that place if there is one
 pub record Tokens : Type 0 where
   pub placed : List Placed
   pub broken_at : Option ℕ
@@ -216,7 +216,7 @@ tokens_by next line (line_end rest) = next (suc line) rest
 tokens_by next line (blank rest) = next line rest
 tokens_by next line (token t rest) = token_first (record { line = line; token = t }) (next line rest)
 
--- the tokens of a text whose first byte is on this line, in fewer than so many fronts; a text has no more fronts than bytes and one
+-- the tokens of a text whose first byte is on this line, in fewer than `n` fronts; a text has no more fronts than bytes and one
 unfoldable pub tokens_within : ℕ → ℕ → List ℕ → Tokens
 tokens_within zero line bs = record { placed = []; broken_at = Some line }
 tokens_within (suc n) line bs = tokens_by (tokens_within n) line (front_of bs)

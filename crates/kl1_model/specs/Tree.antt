@@ -8,7 +8,7 @@ use Rattle.kl1_model.specs.State.{Goal, Shoen, State, shoen_at, is_monitor, is_l
 abbrev pub parents_of : List Shoen → List ℕ
 parents_of shoens = map (λ h. h.parent) shoens
 
--- a shoen and its ancestors, innermost first, at most so many of them
+-- a shoen and its ancestors, innermost first, at most `most` of them
 unfoldable pub path_within : ℕ → List ℕ → ℕ → List ℕ
 path_within zero parents n = []
 path_within (suc most) parents zero = []
@@ -23,7 +23,7 @@ path shoens n = path_within n (parents_of shoens) n
 abbrev pub is_on_path : List Shoen → ℕ → ℕ → Bool
 is_on_path shoens a n = is_among a (path shoens n)
 
--- how deep a shoen is: 1 where the console started it
+-- how deep a shoen is: 1 if the console started it
 abbrev pub depth_of : List Shoen → ℕ → ℕ
 depth_of shoens n = length (path shoens n)
 
@@ -43,7 +43,7 @@ is_exhausted s h = nat_le h.allowance (charged_of s h.number)
 abbrev pub is_blocking : State → Shoen → Bool
 is_blocking s h = h.is_stopped || not (is_living h.life) || is_exhausted s h
 
--- the same of the shoen of a number
+-- whether shoen `n` holds back the goals in it and below it
 abbrev pub is_blocking_at : State → ℕ → Bool
 is_blocking_at s n = unwrap_or (option_map (is_blocking s) (shoen_at n s.shoens)) false
 

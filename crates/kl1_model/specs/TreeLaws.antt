@@ -47,7 +47,7 @@ FreshIsTree = (rules : Rules) (name : List ℕ) → IsTree (fresh rules name)
 abbrev pub TreesStay : Type 0
 TreesStay = (s : State) (e : Event) → IsTree s → IsTree (step s e).state
 
--- the path of the shoen of a number is that number, and then the path of the shoen's parent
+-- the path of shoen `n` is that number, and then the path of the shoen's parent
 abbrev pub PathsFollowParents : Type 0
 PathsFollowParents = (s : State) (n : ℕ) (h : Shoen) → IsTree s → shoen_at n s.shoens ≡ Some h → path s.shoens n ≡ n ∷ path s.shoens h.parent
 
@@ -134,14 +134,14 @@ AbortEndsAllBelow = (n : ℕ) (s : State) → lives_of (abort n s).shoens ≡ ma
 abbrev pub AbortRemovesAllBelow : Type 0
 AbortRemovesAllBelow = (n : ℕ) (s : State) → numbers_of (abort n s).goals ≡ numbers_of (filter (λ g. not (is_on_path s.shoens n g.shoen)) s.goals)
 
--- those that terminate after a reduction are those of the path that are found without goals, each where those before it have
+-- those that terminate after a reduction are those of the path that are found without goals, each if those before it have
 -- ended, and no other shoen's life changes then
 abbrev pub TerminationsEnd : Type 0
 TerminationsEnd =
     (n : ℕ) (s : State) →
     lives_of (settle_charged n s).shoens ≡ map (λ h. if is_among h.number (ending_of (path s.shoens n) s) then Terminated else h.life) s.shoens
 
--- the same after what a monitor reads
+-- and those that terminate after what a monitor reads are found on the path likewise
 abbrev pub TerminationsEndAlone : Type 0
 TerminationsEndAlone =
     (n : ℕ) (s : State) →

@@ -51,27 +51,27 @@ abbrev pub equations_size : List Equation → ℕ
 equations_size [] = 0
 equations_size (e ∷ es) = suc (size e.left) + equations_size es
 
--- front equations one after another, at most so many, until one binds
+-- front equations one after another, fewer than `n`, until one binds
 unfoldable pub walk : (List Equation → Option (List Replacement)) → ℕ → List Equation → Option (List Replacement)
 walk next zero es = None
 walk next (suc n) [] = Some []
 walk next (suc n) (e ∷ es) = after (walk next n) next (front e.left e.right es)
 
--- the replacements that make both sides of all equations equal, fewer than so many
+-- the replacements that make both sides of all equations equal, fewer than `n`
 unfoldable pub solve_within : ℕ → List Equation → Option (List Replacement)
 solve_within zero es = None
 solve_within (suc n) es = walk (solve_within n) (suc (equations_size es)) es
 
--- the replacements for equations whose variables are numbered up to the last, or none where nothing unifies them;
+-- the replacements for equations whose variables are numbered up to the last, or none if nothing unifies them;
 -- each replacement is of another variable, so these are enough
 abbrev pub solve_to : ℕ → List Equation → Option (List Replacement)
 solve_to last es = solve_within (suc (suc last)) es
 
--- the greatest number of a variable in equations, 0 where they have none
+-- the greatest number of a variable in equations, 0 if they have none
 abbrev pub highest_among : List Equation → ℕ
 highest_among [] = 0
 highest_among (e ∷ es) = max (max (highest e.left) (highest e.right)) (highest_among es)
 
--- the replacements that make both sides of all equations equal, or none where nothing unifies them
+-- the replacements that make both sides of all equations equal, or none if nothing unifies them
 abbrev pub solve : List Equation → Option (List Replacement)
 solve es = solve_to (highest_among es) es

@@ -84,7 +84,7 @@ abbrev pub RightTakesLeft : Type 0
 RightTakesLeft = (v : ℕ) (t : Term) (es : List Equation) → IsFalse (occurs v t) → IsLower v t → solve (equate t (variable v) ∷ es) ≡ bound_first v t es
 
 -- how equations are solved, with no fuel: equal sides are dropped, structures give way to their arguments, a variable
--- takes a lower variable, or a term that is none and in which it doesn't occur, and where nothing makes the front
+-- takes a lower variable, or a term that is none and in which it doesn't occur, and if nothing makes the front
 -- sides equal there is no solution
 pub data Solves : List Equation → Option (List Replacement) → Type 0 where
   all_done : Solves [] (Some [])
@@ -131,11 +131,11 @@ ReplacedAreGone = (es : List Equation) (rs : List Replacement) → solve es ≡ 
 abbrev pub SolutionsKeepNumbers : Type 0
 SolutionsKeepNumbers = (last : ℕ) (es : List Equation) (rs : List Replacement) → AllNumberedTo last es → solve es ≡ Some rs → AllByRecursion (λ r. (r.number ≤ last) × NumberedTo last r.by) rs
 
--- where there is no solution, no terms in place of the variables make both sides of each equation equal
+-- if there is no solution, no terms in place of the variables make both sides of each equation equal
 abbrev pub FailureLeavesNone : Type 0
 FailureLeavesNone = (es : List Equation) → solve es ≡ None → (s : ℕ → Term) → MakesEqual (substituted s) es → ⊥
 
--- where there is no solution, no replacements do either
+-- if there is no solution, no replacements do either
 abbrev pub FailureLeavesNoReplacements : Type 0
 FailureLeavesNoReplacements = (es : List Equation) → solve es ≡ None → (rs : List Replacement) → MakesEqual (replaced rs) es → ⊥
 
@@ -147,7 +147,7 @@ NoneWhereNoneUnify = (es : List Equation) → ((rs : List Replacement) → Makes
 abbrev pub SolutionsAreMostGeneral : Type 0
 SolutionsAreMostGeneral = (es : List Equation) (rs : List Replacement) → solve es ≡ Some rs → (s : ℕ → Term) → MakesEqual (substituted s) es → (t : Term) → substituted s (replaced rs t) ≡ substituted s t
 
--- the same of other replacements
+-- no replacements that make both sides of each equation equal are more general than the solution
 abbrev pub NoReplacementsAreMoreGeneral : Type 0
 NoReplacementsAreMoreGeneral = (es : List Equation) (rs others : List Replacement) → solve es ≡ Some rs → MakesEqual (replaced others) es → (t : Term) → replaced others (replaced rs t) ≡ replaced others t
 
@@ -189,7 +189,7 @@ NeverInItself = solved variable_x (structure (codes "f") (more variable_x none))
 abbrev pub NeverInItselfLater : Type 0
 NeverInItselfLater = solved (f_of variable_x variable_x) (f_of variable_y (f_of variable_y atom_a)) ≡ None
 
--- f(X, Y) and f(Y, X) are equal where Y is X
+-- f(X, Y) and f(Y, X) are equal if Y is X
 abbrev pub HigherTakesLower : Type 0
 HigherTakesLower = solved (f_of variable_x variable_y) (f_of variable_y variable_x) ≡ Some (bind 2 variable_x ∷ [])
 
@@ -197,11 +197,11 @@ HigherTakesLower = solved (f_of variable_x variable_y) (f_of variable_y variable
 abbrev pub LowerStays : Type 0
 LowerStays = (solved variable_x variable_y ≡ Some (bind 2 variable_x ∷ [])) × (solved variable_y variable_x ≡ Some (bind 2 variable_x ∷ []))
 
--- f(X, b) and f(a, Y) are equal where X is a and Y is b
+-- f(X, b) and f(a, Y) are equal if X is a and Y is b
 abbrev pub BothSidesGive : Type 0
 BothSidesGive = solved (f_of variable_x atom_b) (f_of atom_a variable_y) ≡ Some (bind 1 atom_a ∷ bind 2 atom_b ∷ [])
 
--- f(X, X) and f(Y, a) are equal where Y is X, and X is a
+-- f(X, X) and f(Y, a) are equal if Y is X, and X is a
 abbrev pub RestIsReplaced : Type 0
 RestIsReplaced = solved (f_of variable_x variable_x) (f_of variable_y atom_a) ≡ Some (bind 2 variable_x ∷ bind 1 atom_a ∷ [])
 
@@ -213,10 +213,10 @@ NamesClash = solved (f_of atom_a atom_b) (structure (codes "g") (more atom_a (mo
 abbrev pub LengthsClash : Type 0
 LengthsClash = solved (f_of atom_a atom_b) (structure (codes "f") (more atom_a none)) ≡ None
 
--- f(1, f(X, b)) and f(1, f(a, Y)) are equal where X is a and Y is b
+-- f(1, f(X, b)) and f(1, f(a, Y)) are equal if X is a and Y is b
 abbrev pub InnerArgumentsGive : Type 0
 InnerArgumentsGive = solved (f_of (integer (pos 1)) (f_of variable_x atom_b)) (f_of (integer (pos 1)) (f_of atom_a variable_y)) ≡ Some (bind 1 atom_a ∷ bind 2 atom_b ∷ [])
 
--- f(f(a, b), X) and f(f(a, b), b) are equal where X is b
+-- f(f(a, b), X) and f(f(a, b), b) are equal if X is b
 abbrev pub RestFollows : Type 0
 RestFollows = solved (f_of (f_of atom_a atom_b) variable_x) (f_of (f_of atom_a atom_b) atom_b) ≡ Some (bind 1 atom_b ∷ [])

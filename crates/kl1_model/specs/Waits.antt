@@ -13,7 +13,7 @@ use Rattle.kl1_model.specs.Look.{Spelling, spelled, awaits_code, misspelled, spe
 use Rattle.kl1_model.specs.Reduction.{Move, order_of, term_move}
 use Rattle.kl1_model.specs.Choice.{call_clauses}
 
--- what a term can do by the clause of a number
+-- what a term can do by the clause numbered `clause`
 abbrev pub move_by : List Module → Term → ℕ → Option Move
 move_by modules t clause = term_move modules t clause (call_of t)
 
@@ -35,13 +35,13 @@ least_within section n (c ∷ cs) ts =
     let later = least_within section (suc n) cs ts in
     if c.section == section then least_by (Some n) later later (verdict c ts) else None
 
--- the least number of a clause that accepts, the first having this number, or 0 where each rejects; a clause that waits ends
+-- the least number of a clause that accepts, the first having this number, or 0 if each rejects; a clause that waits ends
 -- the search with its section
 abbrev pub least_from : ℕ → List Clause → Terms → Option ℕ
 least_from n [] ts = Some 0
 least_from n (c ∷ cs) ts = least_by (Some n) (least_from (suc n) cs ts) (least_within c.section (suc n) cs ts) (verdict c ts)
 
--- the least number of a clause that accepts, from 1, or 0 where each rejects or there is none, or nothing
+-- the least number of a clause that accepts, from 1, or 0 if each rejects or there is none, or nothing
 abbrev pub least_clause : List Clause → Terms → Option ℕ
 least_clause cs ts = least_from 1 cs ts
 
@@ -188,7 +188,7 @@ abbrev pub awaited_by_order : Option Order → List ℕ
 awaited_by_order None = []
 awaited_by_order (Some o) = awaited_by_look (order_look o)
 
--- the variable that a goal of the module of a name waits for, where it is `shoen:execute` with six arguments
+-- the variable that a goal `a:b` waits for, if it is `shoen:execute` with six arguments
 abbrev pub awaited_by_execute : Term → Term → List ℕ
 awaited_by_execute (atom m) b = if is_execute m b then awaited_by_order (order_of b) else []
 awaited_by_execute a b = []

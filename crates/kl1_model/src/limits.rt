@@ -21,7 +21,7 @@ pub const MOST_SOURCE_BYTES: usize = 65_536;
 /// The first number that no command takes, and the first integer that no term has.
 pub const NUMBER_LIMIT: u64 = 1 << 63;
 
-/// The most digits of a number in a command.
+/// The most digits that a number in a command has.
 pub const MOST_DIGITS: usize = 19;
 
 /// The greatest priority of a shoen's goals.

@@ -26,7 +26,7 @@ same_answer false false f g = refl
 pub number_is : (m n : CellName) → m.number ≡ n.number → m ≡ n
 number_is m n e = ap (λ k. let c : CellName = record { number = k } in c) e
 
--- texts of numbers are equal where the numbers are
+-- texts of numbers are equal if the numbers are
 pub same_texts : (f : CellName → List ℕ) → Reads built f → (m n : CellName) → bytes_eq (f m) (f n) ≡ (m.number == n.number)
 same_texts f r m n =
     same_answer (bytes_eq (f m) (f n)) (m.number == n.number)
@@ -41,7 +41,7 @@ of_both : (a b : Bool) → a ≡ true → b ≡ true → (a && b) ≡ true
 of_both true b e f = f
 of_both false b e f = e
 
--- keys are the same where their parts are
+-- keys are the same if their parts are
 pub same_parts : (a b : Key) → ((a.0 == b.0) && (a.1 == b.1)) ≡ eq_by_cmp key_order b a
 same_parts a b =
     same_answer ((a.0 == b.0) && (a.1 == b.1)) (eq_by_cmp key_order b a)
@@ -51,7 +51,7 @@ same_parts a b =
     (λ e. let same : b ≡ a = one_key b a (equal_is (key_order b a) e) in
     ap (λ k. (a.0 == k.0) && (a.1 == k.1)) same ∙ of_both (a.0 == a.0) (a.1 == a.1) (eq-eqb a.0 a.0 refl) (eq-eqb a.1 a.1 refl))
 
--- a clause is of a predicate where their keys are equal
+-- a clause is of a predicate if their keys are equal
 pub same_key : (f : CellName → List ℕ) → Reads built f → (row : List CellName) (names : List (List ℕ)) (compiled : CompiledClause) (c : Clause) (key : Key) (name : CellName) (count : ℕ) → map f row ≡ names → IsCompiled names compiled c → IsKeyOf row compiled key →
     is_of (f name) count c ≡ eq_by_cmp key_order (key_by name count) key
 same_key f r row names compiled c key name count e is k =

@@ -32,11 +32,11 @@ rest names (c ∷ cs) (d ∷ ds) (suc n) a = rest names cs ds n a.1
 part : (names : List (List ℕ)) (cs : List CompiledClause) (ds : List Clause) (s : Span) → AreCompiled names cs ds → AreCompiled names (take (s.end - s.start) (drop s.start cs)) (take (s.end - s.start) (drop s.start ds))
 part names cs ds s a = front names (drop s.start cs) (drop s.start ds) (s.end - s.start) (rest names cs ds s.start a)
 
--- the clauses of a predicate, where none begins
+-- the clauses of a predicate, if none begins
 pub not_there : (source : List ℕ) (m : Module) (name : List ℕ) (count : ℕ) → IsMeant source m → from_first (is_of name count) m.clauses ≡ [] → filter (is_of name count) m.clauses ≡ []
 not_there source m name count meant e = sym (run_is_all (is_of name count) m.clauses (together source m name count meant)) ∙ ap (front_run (is_of name count)) e
 
--- the clauses of a predicate, where its span is known
+-- the clauses of a predicate, if its span is known
 pub there : (source : List ℕ) (m : Module) (name : List ℕ) (count : ℕ) (s : Span) → IsMeant source m → IsSpan (is_of name count) m.clauses 0 s → take (s.end - s.start) (drop s.start m.clauses) ≡ filter (is_of name count) m.clauses
 there source m name count s meant is =
     sym is.run ∙ ap (front_run (is_of name count)) (sym is.first) ∙ run_is_all (is_of name count) m.clauses (together source m name count meant)

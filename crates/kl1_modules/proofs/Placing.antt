@@ -3,12 +3,12 @@ use Rattle.std.proofs.Common.{◌≡◌, ℕ, zero, suc, List, [], ◌∷◌, �
 use Rattle.std.specs.Prelude.{◌↔◌, Some, slice_get}
 use Rattle.kl1_modules.specs.Numbered.{Numbered, ArePlaced}
 
--- where every place will do
+-- if every place will do
 pub placed_anywhere : (has : ℕ × ℕ → Type 0) → ((p : ℕ × ℕ) → has p) → (ls : List Numbered) → ArePlaced has ls
 placed_anywhere has all [] = tt
 placed_anywhere has all (l ∷ ls) = (all l.place, placed_anywhere has all ls)
 
--- they stand there still where a source has the same places
+-- they stand there still if a source has the same places
 pub placed_still : (old new : ℕ × ℕ → Type 0) → ((p : ℕ × ℕ) → old p ↔ new p) → (ls : List Numbered) → ArePlaced old ls → ArePlaced new ls
 placed_still old new same [] a = tt
 placed_still old new same (l ∷ ls) a = ((same l.place).0 a.0, placed_still old new same ls a.1)

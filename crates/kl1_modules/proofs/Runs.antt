@@ -8,7 +8,7 @@ use Rattle.kl1_modules.specs.declared.span.Span.{Span}
 use Rattle.kl1_modules.specs.Spans.{IsWithin, IsSpan, SpanIs}
 use Rattle.kl1_modules.specs.Indexes.{end_by}
 
--- where none begins, none runs
+-- if none begins, none runs
 none_run : (test : Clause → Bool) (cs : List Clause) → from_first test cs ≡ [] → front_run test cs ≡ []
 none_run test [] e = refl
 none_run test (c ∷ cs) e = by (test c) e
@@ -17,7 +17,7 @@ none_run test (c ∷ cs) e = by (test c) e
     by true h = absurd (cc)
     by false h = refl
 
--- where they begin later, none runs here
+-- if they begin later, none runs here
 later_run : (test : Clause → Bool) (cs ds : List Clause) → from_first test cs ≡ ds → (length cs ≡ length ds → ⊥) → front_run test cs ≡ []
 later_run test [] ds e ne = refl
 later_run test (c ∷ cs) ds e ne = by (test c) e

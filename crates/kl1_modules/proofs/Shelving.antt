@@ -19,7 +19,7 @@ use Rattle.kl1_modules.specs.Shelves.{AreKeyed}
 use Rattle.kl1_modules.proofs.Answers.{same_texts, nat_same, number_is}
 use Rattle.kl1_modules.proofs.Names.{number_reads}
 
--- a module has a name where its number is the name's
+-- a module has a name if its number is the name's
 named : (f : CellName → List ℕ) → Reads built f → (l : Numbered) → IsRead f l → (n : CellName) → bytes_eq l.content.name (f n) ≡ ((number_of l).number == n.number)
 named f r l e n = ap (λ t. bytes_eq t (f n)) (sym (number_reads f r l e)) ∙ same_texts f r (number_of l) n
 

@@ -18,7 +18,7 @@ FindsIn l name count found = (f : CellName → List ℕ) → Reads built f → I
 abbrev pub contents : List Numbered → List Module
 contents ls = map (λ l. l.content) ls
 
--- a call in the module of a name, of a predicate of this name and so many arguments
+-- a call in the module named `module_name`, of the predicate with name `name` and `count` arguments
 pub record Asks (f : CellName → List ℕ) (module_name name : CellName) (count : ℕ) (call : Call) : Type 0 where
   pub module_is : call.module_name ≡ f module_name
   pub name_is : call.name ≡ f name

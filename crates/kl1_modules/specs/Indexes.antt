@@ -53,13 +53,13 @@ pub record IsGap (rows : Rows) (key : Key) (place : ℕ) : Type 0 where
 abbrev pub HasPut : Rows → Rows → Key → Span → Type 0
 HasPut old new key s = (q : Key) → span_at new q ≡ cond (eq_by_cmp key_order q key) (Some s) (span_at old q)
 
--- where a run that begins at a place ends, by the span of the same predicate from the next place on: with that span where
+-- where a run that begins at a place ends, by the span of the same predicate from the next place on: with that span if
 -- it begins right there, and else alone
 abbrev pub end_by : ℕ → Option Span → ℕ
 end_by start None = start + 1
 end_by start (Some s) = if s.start == start + 1 then s.end else start + 1
 
--- this is the key of a compiled clause, where these are the numbers of its code
+-- this is the key of a compiled clause, if these are the numbers of its code
 pub record IsKeyOf (row : List CellName) (c : CompiledClause) (key : Key) : Type 0 where
   pub name : CellName
   pub is : key ≡ key_by name c.count
@@ -77,7 +77,7 @@ pub record IsIndexed (content : Module) (row : List CellName) (rows : Rows) (cap
   pub spans : Spans row (own_names content) content.clauses 0 rows
   pub room : length content.clauses ≤ capacity
 
--- the same, with the number of the module's own name
+-- a module's spans are as in `IsIndexed`, and this is the number of its own name
 pub record IsFiled (content : Module) (number : CellName) (row : List CellName) (rows : Rows) (capacity : ℕ) : Type 0 where
   pub number_is : number ≡ number_by row (built_in_of content.name)
   pub index : IsIndexed content row rows capacity

@@ -44,7 +44,7 @@ AreRead f (l ∷ ls) = IsRead f l × AreRead f ls
 abbrev pub built : BuiltIn → CellName
 built b = record { number = place_of b }
 
--- the first of numbers, or 0 where there is none
+-- the first of numbers, or 0 if there is none
 abbrev pub first_number : List CellName → CellName
 first_number [] = record { number = 0 }
 first_number (n ∷ ns) = n

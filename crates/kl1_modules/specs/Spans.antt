@@ -4,7 +4,7 @@ use Rattle.kl1_model.specs.Module.{Clause}
 use Rattle.kl1_clause.specs.Predicates.{from_first, front_run}
 use Rattle.kl1_modules.specs.declared.span.Span.{Span}
 
--- a span begins and ends within so many places
+-- a span begins and ends within `count` places
 pub record IsWithin (count : ℕ) (s : Span) : Type 0 where
   pub some : s.start < s.end
   pub last : s.end ≤ count

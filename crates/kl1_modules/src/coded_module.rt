@@ -63,7 +63,7 @@ impl<'a, C: CodeSource> CodedModule<'a, C> {
         self.loaded.number()
     }
 
-    /// The clauses of a predicate, or nothing where there is none.
+    /// The clauses of a predicate, or nothing if there is none.
     pub fn find(&self, name: CellName, count: usize) -> Option<Predicate<'_, CellName>>
         ensures finds { FindsIn self.now name count result }
         ensures some { IfSome result (λ p. AreSome p.names.now p.clauses.now) }

@@ -59,7 +59,7 @@ impl<'a, C: CodeSource> CodedModules<'a, C> {
         }
     }
 
-    /// The clauses of the predicate of this name and so many arguments in a module, or nothing where there is none.
+    /// The clauses of the predicate with name `name` and `count` arguments in a module, or nothing if there is none.
     #[inline(always)]
     pub fn find(
         &self,
@@ -73,7 +73,7 @@ impl<'a, C: CodeSource> CodedModules<'a, C> {
         self.modules.find(self.codes, module_name, name, count)
     }
 
-    /// The same with one module more, which is drafted and none of these.
+    /// Like `find`, with one module more, which is drafted and none of these.
     pub fn find_beside<'b>(
         &'b self,
         draft: &'b CodedModule<'_, C>,

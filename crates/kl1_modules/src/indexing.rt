@@ -11,7 +11,7 @@ use crate::span::Span;
 use kl1_clause::{Code, CompiledClause, Name};
 use kl1_text::{CellName, NameValue};
 
-/// How many keys are compared one by one, before the others are searched by halves: to compare a key with each of so many costs
+/// How many keys are compared one by one, before the others are searched by halves: to compare a key with each of these costs
 /// less than to search among them.
 const FEW: usize = 8;
 
@@ -28,7 +28,7 @@ pub(crate) fn key_by(name: CellName, count: usize) -> Key
     (name.number, count)
 }
 
-/// The number of a code's name, where these are the numbers of its list.
+/// The number of a code's name, if these are the numbers of its list.
 fn number_in(row: &[CellName], name: Name) -> CellName
     requires { IsPlaced (length row.now) name }
     ensures { (f : CellName → List ℕ) → Reads built f → f result ≡ text_in (map f row.now) name }
@@ -39,7 +39,7 @@ fn number_in(row: &[CellName], name: Name) -> CellName
     }
 }
 
-/// The key of a clause's predicate, where these are the numbers of its code.
+/// The key of a clause's predicate, if these are the numbers of its code.
 fn key_of(row: &[CellName], clause: &CompiledClause) -> Key
     requires { IsPlaced (length row.now) clause.now.name }
     ensures { IsKeyOf row.now clause.now result }
@@ -56,7 +56,7 @@ fn search(index: &[(Key, Span)], key: Key) -> Result<usize, usize>
     index.binary_search_by_key(&key, |row| row.0)
 }
 
-/// The span of a key, or nothing where it has none.
+/// The span of a key, or nothing if it has none.
 fn span_of(index: &[(Key, Span)], key: Key) -> Option<Span>
     requires { IsInOrder index.now }
     ensures { result ≡ span_at index.now key }
@@ -76,7 +76,7 @@ fn is_at(index: &[(Key, Span)], key: Key, place: usize) -> bool
     other.0 == key.0 && other.1 == key.1
 }
 
-/// The same as `span_of`. The first few keys are compared one by one.
+/// The span of a key, or nothing if it has none, as `span_of` finds it. The first few keys are compared one by one.
 pub(crate) fn span_near(index: &[(Key, Span)], key: Key) -> Option<Span>
     requires { IsInOrder index.now }
     ensures { result ≡ span_at index.now key }

@@ -40,7 +40,7 @@ impl<C: CodeSource> Model for Loaded<C> {
     ghost invariant = { λ l. IsFiled (C.meaning l.code) l.number l.row.items l.index.items (vec_capacity l.index) };
 }
 
-/// The number of a module's own name, where these are the numbers of its names.
+/// The number of a module's own name, if these are the numbers of its names.
 pub fn number_by(code: &Code, row: &[CellName]) -> CellName
     ensures { result ≡ number_by row.now (built_in_of code.now.name) }
 {
@@ -113,7 +113,7 @@ impl<C: CodeSource> Loaded<C> {
         self.number
     }
 
-    /// The clauses of a predicate, or nothing where there is none. This is the module's code.
+    /// The clauses of a predicate, or nothing if there is none. This is the module's code.
     pub(crate) fn find_in<'a>(
         &'a self,
         code: &'a Code,
@@ -136,7 +136,7 @@ impl<C: CodeSource> Loaded<C> {
         }
     }
 
-    /// The clauses of a predicate, or nothing where there is none.
+    /// The clauses of a predicate, or nothing if there is none.
     pub fn find<'a>(
         &'a self,
         codes: &'a C,

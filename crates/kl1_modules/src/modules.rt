@@ -14,7 +14,7 @@ use kl1_text::CellName;
 use std::alloc::{AllocError, Global};
 use std::marker::Model;
 
-/// How many modules are compared one by one, before the others are looked up: to compare a number with that of each of so many
+/// How many modules are compared one by one, before the others are looked up: to compare a number with that of each of these
 /// costs less than to look it up.
 const FEW: usize = 8;
 
@@ -73,7 +73,7 @@ impl<C: CodeSource> Modules<C> {
         self.loaded.contains_key(&name.number)
     }
 
-    /// The clauses of the predicate of this name and so many arguments in a module, or nothing where there is none.
+    /// The clauses of the predicate with name `name` and `count` arguments in a module, or nothing if there is none.
     #[inline(always)]
     pub fn find<'a>(
         &'a self,
@@ -92,7 +92,7 @@ impl<C: CodeSource> Modules<C> {
         }
     }
 
-    /// Makes room for so many modules more. Where memory is refused, the modules are as before.
+    /// Makes room for `more` modules more. If memory is refused, the modules are as before.
     pub fn reserve(&mut self, more: usize) -> Result<(), AllocError>
         ensures ok { OnOk result (more ≤ self.new.room) }
         ensures loaded { self.new.loaded ≡ self.old.loaded }
@@ -101,7 +101,7 @@ impl<C: CodeSource> Modules<C> {
         self.loaded.reserve(more)
     }
 
-    /// Puts a module after the others, where there is room.
+    /// Puts a module after the others, if there is room.
     pub fn push(&mut self, loaded: Loaded<C>)
         requires room { 0 < self.old.room }
         requires new { is_numbered self.old.loaded (number_of loaded) ≡ false }
@@ -113,7 +113,7 @@ impl<C: CodeSource> Modules<C> {
     }
 }
 
-/// The module under a number, or nothing where there is none.
+/// The module under a number, or nothing if there is none.
 #[inline(always)]
 fn loaded_under<C: CodeSource>(
     modules: &IndexMap<u64, Loaded<C>>,
@@ -134,7 +134,7 @@ fn loaded_under<C: CodeSource>(
     modules.get(&number)
 }
 
-/// Puts a module under a number that none has, where there is room.
+/// Puts a module under a number that none has, if there is room.
 #[tactic(auto, using(crate::proofs::Shelving::entry_is_last))]
 fn put_last<C: CodeSource>(modules: &mut IndexMap<u64, Loaded<C>>, number: u64, loaded: Loaded<C>)
     requires room { 0 < spare modules.old }

@@ -412,7 +412,7 @@ in_module_kind {N = N} f h q m r k p e inside c is =
     let Q : Kind N → Type 0 = λ x. IsKind f h (in_module f (Some m) (term_of f h q.cell)) x in
     subst P (sym e) (subst Q (sym is) (callee_as f h (codes ":") (atom (f m)) (term_of f h q.cell) r p refl inside (called_between f h (atom (f m)) q.cell m r refl c)))
 
--- the kind of what is called stands inside where that of a call does
+-- the kind of what is called stands inside if that of a call does
 pub call_inside : {N : Type 0} (h : Held N) (r : Callee N) (c : Call N) (k : Kind N) → r ≡ callee.Calls c → (IsIn h (cell_of c) → IsCounted h c.count c.structure → KindIn h k) → CalledInside h r → KindIn h k
 call_inside {N = N} h r c k e by inside = let P : Callee N → Type 0 = λ x. CalledInside h x in let i = subst P e inside in by i.0 i.1
 

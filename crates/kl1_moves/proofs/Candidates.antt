@@ -18,7 +18,7 @@ behind_front j n c ps ks yes lt = cond-false (n == j) (Some (record { number = n
 behind_front j n c ps ks no lt = refl
 behind_front j n c ps ks wait lt = refl
 
--- behind all clauses there is no candidate
+-- after all clauses there is no candidate
 none_within : (section j n : ℕ) (cs : List Clause) (ts : Terms) → n + length cs ≤ j → numbered j (candidates_within section n cs ts) ≡ None
 none_within section j n [] ts le = refl
 none_within section j n (c ∷ cs) ts le = by (c.section == section) (none_within section j (suc n) cs ts (omega (arith, le)))

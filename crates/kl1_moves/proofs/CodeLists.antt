@@ -80,7 +80,7 @@ no_codes_yet built h text left rest whole et el er = λ f r.
     nothing (awaits_code v) = refl
     nothing misspelled = refl
 
--- one code more is put behind the text
+-- one code more is put after the text
 pub code_taken : (text text' : List ℕ) (n left left' : ℕ) (t rest : Term) (whole : model.Spelling) → text' ≡ text ++ n ∷ [] → left' ≡ left - 1 → spelling left t ≡ spelled_before n (spelling (left - 1) rest) → spelled_after text (spelling left t) ≡ whole → spelled_after text' (spelling left' rest) ≡ whole
 code_taken text text' n left left' t rest whole et el front so_far =
     ap (λ l. spelled_after l (spelling left' rest)) et ∙ ap (λ k. spelled_after (text ++ n ∷ []) (spelling k rest)) el

@@ -1,4 +1,4 @@
--- What a call can do by the clause of a number, by cells.
+-- What a call can do by a clause's number, by cells.
 use Rattle.std.proofs.Common.{◌≡◌, ℕ, zero, suc, ◌+◌, ◌-◌, ◌<◌, ◌≤◌, Bool, true, false, List, [], ◌∷◌, ◌++◌, length, map, drop, get_or, refl, sym, ap, ◌∙◌, subst, arith, append-nil}
 use Rattle.std.specs.Prelude.{Option, Some, None, slice_get, slice_index_or}
 use Rattle.std.proofs.lemmas.List.{length-map}
@@ -103,7 +103,7 @@ as_many names (c ∷ cs) (d ∷ ds) a = ap suc (as_many names cs ds a.1)
 pub none_left : {N : Type 0} (f : N → List ℕ) (h : Held N) (c : Call N) (p : Predicate N) (cs : List Clause) (number : ℕ) → 0 < number → AreCompiled (map f p.names.now) p.clauses.now cs → length p.clauses.now ≤ number - 1 → candidate_at f h c cs number ≡ None
 none_left f h c p cs number some a le = let count = as_many (map f p.names.now) p.clauses.now cs a in none_behind number 1 cs (arguments_at f h c) (omega (arith, some, le, count))
 
--- the move by the clause at a place, where it is a candidate or isn't
+-- the move by the clause at a place, whether it is a candidate or isn't
 abbrev pub by_answer : {N : Type 0} → ℕ → Bool → Option (Move N)
 by_answer place true = Some (move.Commits place)
 by_answer place false = None

@@ -29,7 +29,7 @@ name_in (integer i) = None
 name_in (atom a) = Some a
 name_in (structure f ts) = Some f
 
--- a goal as a cell: an atom, or a structure where there is one
+-- a goal as a cell: an atom, or a structure if there is one
 abbrev pub cell_in : {N : Type 0} → N → Option ℕ → Cell N
 cell_in name None = Atom name
 cell_in name (Some s) = Structure s
@@ -90,7 +90,7 @@ CalledBetween f h left right callee.Nothing = CallsNothing left right []
 abbrev pub CalledAs : {N : Type 0} → (N → List ℕ) → Held N → Cell N → Cell N → Callee N → Type 0
 CalledAs f h left right r = CalledBetween f h (term_of f h left) (term_of f h right) r
 
--- so many arguments has the goal of a call, which is an atom or a structure
+-- the goal of a call has `count` arguments; it is an atom or a structure
 abbrev pub IsCounted : {N : Type 0} → Held N → ℕ → Option ℕ → Type 0
 IsCounted h count None = count ≡ 0
 IsCounted h count (Some s) = count ≡ length (arguments_of h s)
@@ -99,7 +99,7 @@ IsCounted h count (Some s) = count ≡ length (arguments_of h s)
 abbrev pub is_order : {N : Type 0} → (N → List ℕ) → Call N → Bool
 is_order f c = bytes_eq (f c.module_name) (codes "shoen") && (bytes_eq (f c.name) (codes "execute") && c.count == 6)
 
--- the goal of a call is of the store and has so many arguments, and a variable is unbound
+-- the goal of a call is of the store and has as many arguments as the call says, and a variable is unbound
 abbrev pub CalledInside : {N : Type 0} → Held N → Callee N → Type 0
 CalledInside h (callee.Calls c) = IsIn h (cell_of c) × IsCounted h c.count c.structure
 CalledInside h (callee.Waits v) = IsUnbound h v

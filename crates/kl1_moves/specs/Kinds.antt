@@ -84,7 +84,7 @@ KindIn h kind.Goes = Unit {0}
 KindIn h (kind.Waits v) = IsUnbound h v
 KindIn h kind.Nothing = Unit {0}
 
--- a call of `shoen:execute` is an order where its goal is a structure
+-- a call of `shoen:execute` is an order if its goal is a structure
 abbrev pub order_kind : {N : Type 0} → Call N → Option ℕ → Kind N
 order_kind c None = kind.Calls c
 order_kind c (Some s) = kind.Executes s

@@ -21,11 +21,11 @@ LookIn h Right = Unit {0}
 LookIn h (Waits v) = IsUnbound h v
 LookIn h Wrong = Unit {0}
 
--- a look that is right where this holds
+-- a look that is right if this holds
 abbrev pub right_if : Bool → Look
 right_if b = if b then Right else Wrong
 
--- one look, and another where it is right
+-- one look, and another if it is right
 abbrev pub then_look : Look → Look → Look
 then_look Right next = next
 then_look (Waits v) next = Waits v

@@ -30,7 +30,7 @@ use Rattle.kl1_moves.specs.Calls.{arguments_at, call_at}
 abbrev pub taken_places : {N : Type 0} → Trial N → List (Place N)
 taken_places t = if t.is_in_order then kept_places t.scratch else t.places.items
 
--- where a goal is a call, these are the clauses of its predicate compiled
+-- if a goal is a call, these are the clauses of its predicate compiled
 abbrev pub HasPredicate : {N : Type 0} → (N → List ℕ) → Held N → List Module → Kind N → Predicate N → Type 0
 HasPredicate f h modules (kind.Calls c) p = AreCompiled (map f p.names.now) p.clauses.now (clauses_of modules (call_at f h c))
 HasPredicate f h modules (kind.Unifies a b) p = Unit {0}
@@ -63,7 +63,7 @@ FailsAs f h c cs (Some (move.Opens s)) = ⊥
 FailsAs f h c cs (Some move.Goes) = ⊥
 FailsAs f h c cs (Some move.GivesWay) = ⊥
 
--- the candidate of a number among the clauses of a call
+-- the candidate numbered `number` among the clauses of a call
 abbrev pub candidate_at : {N : Type 0} → (N → List ℕ) → Held N → Call N → List Clause → ℕ → Option Candidate
 candidate_at f h c cs number = numbered number (candidates_from 1 cs (arguments_at f h c))
 
@@ -74,13 +74,13 @@ pub record IsCandidate {N : Type 0} (f : N → List ℕ) (h : Held N) (p : Predi
   pub is : IsCompiled (map f p.names.now) compiled k.clause
   pub places_are : replacements_of f h places ≡ k.places
 
--- the candidate of a number, whose clause stands at a place
+-- the candidate numbered `number`, whose clause stands at `place`
 pub record CommitsBy {N : Type 0} (f : N → List ℕ) (h : Held N) (c : Call N) (p : Predicate N) (cs : List Clause) (number place : ℕ) (places : List (Place N)) : Type 0 where
   pub candidate : Candidate
   pub found : candidate_at f h c cs number ≡ Some candidate
   pub is : IsCandidate f h p place places candidate
 
--- the move by the clause of a number, or nothing
+-- the move by the clause numbered `number`, or nothing
 abbrev pub CommitsAs : {N : Type 0} → (N → List ℕ) → Held N → Call N → Predicate N → List Clause → ℕ → List (Place N) → Option (Move N) → Type 0
 CommitsAs f h c p cs number places None = candidate_at f h c cs number ≡ None
 CommitsAs f h c p cs number places (Some (move.Commits place)) = CommitsBy f h c p cs number place places
@@ -97,7 +97,7 @@ pub record CommitsTo {N : Type 0} (f : N → List ℕ) (h : Held N) (modules : L
   pub moves : move_by modules t number ≡ Some (commits candidate)
   pub is : IsCandidate f h p place places candidate
 
--- what a goal can do by the clause of a number is this move, where a text is what it names
+-- what a goal can do by the clause numbered `number` is this move, and a text is what it names
 abbrev pub MovesAs : {N : Type 0} → (N → List ℕ) → Held N → List Module → Term → ℕ → Predicate N → List (Place N) → List ℕ → Option (Move N) → Type 0
 MovesAs f h modules t number p places text None = move_by modules t number ≡ None
 MovesAs f h modules t number p places text (Some (move.Commits place)) = CommitsTo f h modules t number p place places

@@ -17,7 +17,7 @@ use Rattle.kl1_moves.specs.declared.codes.Code.TheVariants as code
 use Rattle.kl1_moves.specs.declared.codes.Front.{Front}
 use Rattle.kl1_moves.specs.declared.codes.Front.TheVariants as front
 
--- a spelling as in the definitions, where this is the text that is spelled
+-- a spelling as in the definitions, if this is the text that is spelled
 abbrev pub spelling_of : Spelling → List ℕ → model.Spelling
 spelling_of Spelled text = spelled text
 spelling_of (Waits v) text = awaits_code v
@@ -53,7 +53,7 @@ front_by (code.Byte n) rest = front.Code n rest
 front_by (code.Waits v) rest = front.Waits v
 front_by code.Wrong rest = front.Wrong
 
--- what a list of codes comes to that may have so many cells more, by its front
+-- what a list of codes comes to that may have `left` cells more, by its front
 abbrev pub HasFront : {N : Type 0} → (N → List ℕ) → Held N → ℕ → Term → Front N → Type 0
 HasFront f h left t front.Ends = spelling left t ≡ spelled []
 HasFront f h left t (front.Waits v) = spelling left t ≡ awaits_code v

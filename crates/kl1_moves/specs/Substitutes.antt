@@ -19,7 +19,7 @@ giving_way look.Right = Some move.GivesWay
 giving_way (look.Waits v) = None
 giving_way look.Wrong = Some (move.Raises IllegalInput)
 
--- what a substitute can do by the clause of a number, by the definitions
+-- what a substitute can do by the clause numbered `clause`, by the definitions
 abbrev pub move_by_clause : Term → ℕ → Option model.Move
 move_by_clause t clause = if clause == 0 then substitute_move (goal_look t) else None
 
@@ -34,7 +34,7 @@ substitute_move_of (Some (move.Opens s)) m = ⊥
 substitute_move_of (Some move.Goes) m = ⊥
 substitute_move_of (Some move.GivesWay) m = m ≡ Some gives_way
 
--- what a substitute of this term can do by the clause of a number is this move
+-- what a substitute of this term can do by the clause numbered `clause` is this move
 abbrev pub SubstituteMoves : {N : Type 0} → Term → ℕ → Option (Move N) → Type 0
 SubstituteMoves t clause found = substitute_move_of found (move_by_clause t clause)
 

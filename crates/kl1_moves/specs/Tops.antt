@@ -18,7 +18,7 @@ HasTop f t (Integer i) = t ≡ integer i
 HasTop f t (Atom a) = t ≡ atom (f a)
 HasTop f t (Structure s) = is_structure t ≡ true
 
--- where it is a variable, that is unbound
+-- if it is a variable, that is unbound
 abbrev pub TopIn : {N : Type 0} → Held N → Cell N → Type 0
 TopIn h (Variable v) = IsUnbound h v
 TopIn h (Integer i) = Unit {0}

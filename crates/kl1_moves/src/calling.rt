@@ -25,6 +25,7 @@ pub(crate) fn called_in<N: NameValue>(store: &Store<N>, module_name: N, goal: Ce
     ensures inside { CalledInside store.now.held result }
     ensures called { (f : N → List ℕ) → CalledIn f store.now.held module_name goal result }
 {
+    // Only for the proof: what the store holds is formed.
     let _ = store.mark();
     match walk(store, goal) {
         Cell::Variable(variable) => Callee::Waits(variable),
@@ -55,6 +56,7 @@ pub(crate) fn called<N: NameValue>(store: &Store<N>, left: Cell<N>, right: Cell<
     ensures inside { CalledInside store.now.held result }
     ensures called { (f : N → List ℕ) → CalledAs f store.now.held left right result }
 {
+    // Only for the proof: what the store holds is formed.
     let _ = store.mark();
     match store.walk(left) {
         Cell::Variable(variable) => Callee::Waits(variable),

@@ -19,7 +19,7 @@ use kl1_text::NameValue;
 use std::alloc::AllocError;
 
 /// Puts in place of `goals` those of the body of the clause at a place of a predicate, with the terms at the trial's places in
-/// them, as a move that commits leaves them. Other variables are the next of the store, and no variable is bound. Where memory
+/// them, as a move that commits leaves them. Other variables are the next of the store, and no variable is bound. If memory
 /// is refused, the store may have grown, and `goals` is of no use.
 pub fn commit<N: NameValue>(
     store: &mut Store<N>,

@@ -59,6 +59,7 @@ pub fn kind_of_qualified<N: NameValue>(store: &Store<N>, goal: Qualified<N>) -> 
     match goal.module_name {
         None => return kind_of_whole(store, goal.cell),
         Some(name) => {
+            // Only for the proof: what the store holds is formed.
             let _ = store.mark();
             return kind_of_callee(called_in(store, name, goal.cell));
         }
@@ -136,6 +137,7 @@ fn kind_of_two<N: NameValue>(store: &Store<N>, name: N, left: Cell<N>, right: Ce
     ensures kind { (f : N → List ℕ) → Reads N.built f → IsKind f store.now.held (two_terms f store.now.held name left right) result }
 {
     if is_built_in(name, BuiltIn::Colon) {
+        // Only for the proof: what the store holds is formed.
         let _ = store.mark();
         return kind_of_callee(called(store, left, right));
     }

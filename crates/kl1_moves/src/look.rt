@@ -12,7 +12,7 @@ pub enum Look {
 }
 
 impl Look {
-    /// A look that is right where this holds.
+    /// A look that is right if this holds.
     pub(crate) fn right_if(holds: bool) -> Self
         ensures { result ≡ right_if holds }
     {
@@ -22,7 +22,7 @@ impl Look {
         Look::Wrong
     }
 
-    /// This look, and another where it is right.
+    /// This look, and another if it is right.
     pub(crate) fn then(self, next: Look) -> Self
         ensures { result ≡ then_look self next }
     {

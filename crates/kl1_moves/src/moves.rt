@@ -40,8 +40,8 @@ pub enum Move<N> {
     GivesWay,
 }
 
-/// What a goal of a kind can do by the clause of a number, or nothing where that isn't allowed. Where it commits, the cells at
-/// the places of the clause's head are in the trial, and where it uses a name, its text is; otherwise nothing is said of what is
+/// What a goal of a kind can do by the clause numbered `clause`, or nothing if that isn't allowed. If it commits, the cells at
+/// the places of the clause's head are in the trial, and if it uses a name, its text is; otherwise nothing is said of what is
 /// there.
 pub fn move_of<N: NameValue>(
     store: &Store<N>,
@@ -130,7 +130,7 @@ fn failing<N: NameValue>(
     }
 }
 
-/// The move of a call by the clause of a number, from 1, whose cells are kept by their places, or nothing.
+/// The move of a call by the clause numbered `number`, from 1, whose cells are kept by their places, or nothing.
 fn committing_by_places<N: NameValue>(
     store: &Store<N>,
     call: Call<N>,
@@ -163,7 +163,7 @@ fn committing_by_places<N: NameValue>(
     Ok(None)
 }
 
-/// The move of a call by the clause of a number, from 1, or nothing.
+/// The move of a call by the clause numbered `number`, from 1, or nothing.
 fn committing<N: NameValue>(
     store: &Store<N>,
     call: Call<N>,

@@ -37,6 +37,7 @@ pub fn order_at<N: NameValue>(store: &Store<N>, structure: u32) -> Order<N>
     ensures inside { IsOrderIn store.now.held result }
     ensures order { IsOrder store.now.held structure result }
 {
+    // Only for the proof: what the store holds is formed.
     let _ = store.mark();
     Order {
         goal: store.argument(structure, 0),
@@ -78,7 +79,7 @@ fn allowance_by<N: Copy>(top: Cell<N>) -> Look
     }
 }
 
-/// The number that a term is, by what stands at its top; 0 where it is no integer from 0.
+/// The number that a term is, by what stands at its top; 0 if it is no integer from 0.
 fn number_by<N: Copy>(top: Cell<N>) -> u64
     ensures { result ≡ number_by top }
 {
@@ -93,7 +94,7 @@ fn number_by<N: Copy>(top: Cell<N>) -> u64
     }
 }
 
-/// The number that a cell is; 0 where it is no integer from 0.
+/// The number that a cell is; 0 if it is no integer from 0.
 pub fn number_at<N: NameValue>(store: &Store<N>, cell: Cell<N>) -> u64
     requires { IsIn store.now.held cell }
     ensures { (f : N → List ℕ) → result ≡ number_of_term (term_of f store.now.held cell) }
@@ -131,7 +132,7 @@ fn callee_in<N: Copy>(top: Cell<N>) -> Look
     }
 }
 
-/// The look at what is called where there is no module, by what stands at its top.
+/// The look at what is called if there is no module, by what stands at its top.
 fn callee_outside<N: Copy>(top: Cell<N>) -> Look
     ensures { result ≡ callee_outside top }
 {

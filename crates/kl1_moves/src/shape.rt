@@ -25,6 +25,7 @@ pub(crate) fn shape_of<N: NameValue>(store: &Store<N>, goal: Cell<N>) -> Shape<N
     ensures inside { ShapeIn store.now.held result }
     ensures shape { (f : N → List ℕ) → HasShape f store.now.held (term_of f store.now.held goal) result }
 {
+    // Only for the proof: what the store holds is formed.
     let _ = store.mark();
     match walk(store, goal) {
         Cell::Variable(variable) => Shape::Variable(variable),

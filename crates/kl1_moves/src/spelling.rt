@@ -20,7 +20,7 @@ pub enum Spelling {
     Misspelled,
 }
 
-/// What a list of at most 63 codes comes to. `text` gets the name that it spells, where it spells one; otherwise nothing is said of
+/// What a list of at most 63 codes comes to. `text` gets the name that it spells, if it spells one; otherwise nothing is said of
 /// what is there. The variable of one that waits is unbound.
 pub fn spell<N: NameValue>(store: &Store<N>, codes: Cell<N>, text: &mut ShortBytes) -> Spelling
     requires { IsIn store.now.held codes }

@@ -22,7 +22,7 @@ use kl1_text::NameValue;
 use kl1_verdict::choose;
 use std::alloc::AllocError;
 
-/// The least clause by which a goal of a kind can step, or nothing where it has to wait or is no goal. The trial gets the
+/// The least clause by which a goal of a kind can step, or nothing if it has to wait or is no goal. The trial gets the
 /// variables that it waits for; they are unbound.
 #[inline(always)]
 pub fn standing_of<N: NameValue>(

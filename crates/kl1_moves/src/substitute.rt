@@ -27,7 +27,7 @@ fn giving_way<N: Copy>(look: Look) -> Option<Move<N>>
     }
 }
 
-/// What a substitute for what a cell is can do by the clause of a number, or nothing if that isn't allowed.
+/// What a substitute for what a cell is can do by the clause numbered `clause`, or nothing if that isn't allowed.
 pub fn substitute_move<N: NameValue>(
     store: &Store<N>,
     term: Cell<N>,

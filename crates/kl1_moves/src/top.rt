@@ -15,6 +15,7 @@ pub(crate) fn top_of<N: NameValue>(store: &Store<N>, cell: Cell<N>) -> Cell<N>
     ensures inside { TopIn store.now.held result }
     ensures top { (f : N → List ℕ) → HasTop f (term_of f store.now.held cell) result }
 {
+    // Only for the proof: what the store holds is formed.
     let _ = store.mark();
     store.walk(cell)
 }

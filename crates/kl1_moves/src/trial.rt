@@ -6,7 +6,7 @@ use kl1_text::{NameValue, ShortBytes};
 use std::alloc::Global;
 
 /// Lists that calls work with, and keep for the next: scratch of matching and of expressions, the cells at the places of the
-/// head's variables of the clause that was tried last, which the scratch has where they are kept in order, the variables that a goal
+/// head's variables of the clause that was tried last, which the scratch has if they are kept in order, the variables that a goal
 /// waits for, and the text that codes spell. It takes no memory until a call needs some.
 #[derive(Drop)]
 pub struct Trial<N: NameValue> {

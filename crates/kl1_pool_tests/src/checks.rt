@@ -6,7 +6,7 @@ use std::rt::Clock;
 use std::sync::Wait;
 use std::thread::Threads;
 
-/// Puts a line on each check behind a report.
+/// Puts a line on each check after a report.
 pub fn put_checks<R: Threads + Wait + Clock + Sync>(rt: &R, out: &mut Text) {
     let done = eight_threads_start(rt, out.alloc);
     put_check(

@@ -16,7 +16,7 @@ pub trait Job {
         out: &mut Text,
     );
 
-    /// In the thread of a number, from 0.
+    /// What the thread numbered `number`, from 0, does.
     fn go_on<'t, R: Wait + Clock, K: CellNaming>(
         &self,
         rt: &R,

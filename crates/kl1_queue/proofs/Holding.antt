@@ -6,7 +6,7 @@ use Rattle.std.proofs.lemmas.Bool.{cases_lt, cases_eq}
 use Rattle.kl1_queue.specs.Ranks.{AreNone, IsFirst}
 use Rattle.kl1_queue.specs.Holding.{IsBeside}
 
--- no rank where there is none
+-- no rank if there is none
 set_free : (rs : List ℕ) (p : ℕ) → get_or rs p 0 ≡ 0 → set rs p 0 ≡ rs
 set_free rs p e = ap (set rs p) (sym e) ∙ set-get_or rs p 0
 

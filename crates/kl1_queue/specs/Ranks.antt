@@ -2,7 +2,7 @@
 use Rattle.std.specs.Prelude.{◌≡◌, ℕ, ◌+◌, ◌<◌, ◌≤◌, List, length, get_or, Option, Some, None}
 use Rattle.kl1_model.specs.Limits.{monitor_priority}
 
--- the ranks of places in order, 0 where a place isn't ready, else its priority and one, and how many more places can't be refused
+-- the ranks of places in order, 0 if a place isn't ready, else its priority and one, and how many more places can't be refused
 pub record Queued : Type 0 where
   pub ranks : List ℕ
   pub room : ℕ
@@ -12,7 +12,7 @@ abbrev pub rank_of : Option ℕ → ℕ
 rank_of None = 0
 rank_of (Some priority) = priority + 1
 
--- a priority, where there is one, of at most a monitor's
+-- a priority, if there is one, of at most a monitor's
 abbrev pub IsPriority : Option ℕ → Type 0
 IsPriority None = Unit {0}
 IsPriority (Some priority) = priority ≤ monitor_priority

@@ -10,7 +10,7 @@ use std::marker::Model;
 /// How many places a tree can be asked to have.
 const MOST: usize = 0x4000_0000;
 
-/// Ranks of places from 0 in order, 0 where a place isn't ready.
+/// Ranks of places from 0 in order, 0 if a place isn't ready.
 ///
 /// They are the leaves of a tree, in whose inner nodes stands the greater of two ranks: a change costs a walk up from a leaf as
 /// far as something changes, and the first is found by a walk down.
@@ -58,7 +58,7 @@ impl RankTree {
         self.len
     }
 
-    /// Makes room for so many more places: to extend by these can't be refused then.
+    /// Makes room for `more` places more: to extend by these can't be refused then.
     ///
     /// There are at most 2,147,483,648 places; more are refused as for want of memory.
     #[inline]
@@ -74,7 +74,7 @@ impl RankTree {
         self.grow(more)
     }
 
-    /// Makes room for so many more places, where there is too little.
+    /// Makes room for `more` places more, if there is too little.
     #[inline(never)]
     fn grow(&mut self, more: usize) -> Result<(), AllocError>
         requires little { self.old.room < more }
@@ -92,7 +92,7 @@ impl RankTree {
         Ok(())
     }
 
-    /// A tree without places, with room for so many.
+    /// A tree without places, with room for `room`.
     fn with_room(alloc: Global, room: usize) -> Result<RankTree, AllocError>
         requires some { 0 < room }
         requires most { room ≤ 0x8000_0000 }

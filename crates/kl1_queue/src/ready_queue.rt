@@ -10,7 +10,7 @@ use std::marker::Model;
 
 /// Places from 0 in order, each not ready, or ready with a priority, from 0 to a monitor's.
 ///
-/// The rank of one place is held beside the tree of the others, in which that place isn't ready: where places are put and
+/// The rank of one place is held beside the tree of the others, in which that place isn't ready: if places are put and
 /// removed one after another, none costs a walk through the tree.
 #[derive(Drop)]
 pub struct ReadyQueue {
@@ -52,7 +52,7 @@ impl ReadyQueue {
         self.tree.len()
     }
 
-    /// Makes room for so many more places: to extend by these can't be refused then.
+    /// Makes room for `more` places more: to extend by these can't be refused then.
     ///
     /// There are at most 2,147,483,648 places; more are refused as for want of memory.
     #[inline]
@@ -65,7 +65,7 @@ impl ReadyQueue {
         self.tree.reserve(more)
     }
 
-    /// Gives a place this rank, and holds it beside the tree where no other is held.
+    /// Gives a place this rank, and holds it beside the tree if no other is held.
     #[inline]
     fn hold(&mut self, next: usize, rank: u16)
         requires { next < length self.old.ranks }

@@ -72,7 +72,7 @@ fn greater_child(best: &Vec<u16>, node: usize) -> u16
     left.max(right)
 }
 
-/// The first leaf of the greatest rank, where some leaf has one.
+/// The first leaf of the greatest rank, if some leaf has one.
 pub(crate) fn first_leaf(best: &Vec<u16>, depth: usize) -> usize
     requires tree { IsTree (2 ^ depth) best.now.items }
     ensures { Leads best.now.items (2 ^ depth) result }

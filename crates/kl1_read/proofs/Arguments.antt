@@ -124,7 +124,7 @@ two_of xs ys [] a b h k n = h ∙ ap (λ es. es ++ b ∷ []) k
 two_of xs ys (z ∷ zs) a b h k n =
     absurd (omega (arith, ap length h, ap length k, length-append ys (b ∷ []), length-append zs (a ∷ [])))
 
--- where no argument is left
+-- if no argument is left
 pub end_nodes : (xs : List Term) (ns whole : List NodeCode) → length xs ≡ 0 → nodes_of_all (terms_of xs) ++ ns ≡ whole → ns ≡ whole
 end_nodes [] ns whole n h = h
 end_nodes (x ∷ xs) ns whole n h = absurd (omega arith)

@@ -14,12 +14,12 @@ use Rattle.kl1_model.proofs.ReadSteps.{bodies_go_on, series_go_on, expressions_l
 use Rattle.kl1_read.specs.Meanings.{reading, answer_map, series_read, fit}
 use Rattle.kl1_read.specs.BodyGoals.{goal_named, goals_read, are_written, written, written_goals, goals_named, priority_read, with_front, goals_after, terms_after}
 
--- how many tokens are behind what was read
+-- how many tokens are after what was read
 abbrev behind_length : {A : Type 0} → Answer A → ℕ
 behind_length None = 0
 behind_length (Some r) = length r.1
 
--- how goals are read behind others
+-- how goals are read after others
 abbrev Others : Type 0
 Others = List Numbered → Answer (List BodyGoal)
 
@@ -111,7 +111,7 @@ module _ (e : Expression) where
   urgent_first : (vs : List Numbered) → all_named (then_read (priority_at e vs) goals_on) ≡ then_read (priority_read vs) (λ n ws. goals_after goals_read (goals_named (Some n) (expression_term e ∷ [])) ws)
   urgent_first vs = word_by (priority_in_front vs)
 
--- the goals in front of tokens, of which so many are left, are the terms in front with what follows them
+-- the goals in front of tokens, of which fewer than `n` are left, are the terms in front with what follows them
 abbrev Chunked : ℕ → Type 0
 Chunked n = (ts : List Numbered) → length ts < n → goals_read ts ≡ then_read (series_read ts) (terms_after goals_read)
 
@@ -156,7 +156,7 @@ chunked (suc n) ts few =
 pub goals_chunked : (ts : List Numbered) → goals_read ts ≡ then_read (series_read ts) (terms_after goals_read)
 goals_chunked ts = chunked (suc (length ts)) ts (omega arith)
 
--- goals are written where their terms are
+-- goals are written if their terms are
 pub named_written : (p : Option ℕ) (ts : List Term) → are_written (goals_named p ts) ≡ list_all is_writable ts
 named_written p [] = refl
 named_written p (t ∷ []) = refl
@@ -234,7 +234,7 @@ named_last p [] t = refl
 named_last p (u ∷ []) t = refl
 named_last p (u ∷ v ∷ ts) t = ap (λ gs. without_priority u ∷ gs) (named_last p (v ∷ ts) t)
 
--- the goals of terms whose last was taken off and put last, where none of the others is left
+-- the goals of terms whose last was taken off and put last, if none of the others is left
 pub named_put : (p : Option ℕ) (old ts from left : List Term) (t : Term) (before so_far now : List BodyGoal) → old ≡ ts ++ t ∷ [] → from ≡ ts → length left ≡ 0 → so_far ++ map without_priority left ≡ before ++ map without_priority from → now ≡ so_far ++ record { goal = t; priority = p } ∷ [] → now ≡ before ++ goals_named p old
 named_put p old ts from [] t before so_far now e i h f n =
     n
@@ -250,7 +250,7 @@ goals_none ts h = ap (λ x. then_read x (terms_after written_goals)) h ∙ sym (
 pub goals_some : (ts us : List Numbered) (s : List Term) → Some (s, us) ≡ fit (series_read ts) → terms_after written_goals s us ≡ written_goals ts
 goals_some ts us s h = ap (λ x. then_read x (terms_after written_goals)) h ∙ sym (written_chunked ts)
 
--- what is behind terms is no more
+-- what is after terms is no more
 few_by : (ts us vs : List Numbered) (s : List Term) (t : List Term) (b : Bool) → length us ≤ length ts → if◌then◌else◌ {A = Answer (List Term)} b (Some (s, us)) None ≡ Some (t, vs) → length vs ≤ length ts
 few_by ts us vs s t true few e = omega (arith, few, ap (λ (x : Answer (List Term)). behind_length x) e)
 few_by ts us vs s t false few e = absurd (none-some (t, vs) e)

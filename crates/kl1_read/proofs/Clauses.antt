@@ -16,7 +16,7 @@ use Rattle.kl1_read.specs.Sources.{goal_of_parts}
 use Rattle.kl1_read.specs.Statements.{given, fit_as, fit_named, fit_patterns, is_fit_name}
 use Rattle.kl1_read.specs.BodyGoals.{goal_of_term}
 
--- what is given for the elements before, with these behind
+-- what is given for the elements before, with these after
 abbrev pub given_before : {B : Type 0} → List B → Option (List B) → Option (List B)
 given_before done x = option_map (λ ys. ys ++ done) x
 
@@ -38,7 +38,7 @@ module _ {A B : Type 0} (f : A → Option B) where
   front_go None x done = refl
   front_go (Some y) x done = front_by y x done
 
-  -- what the last element gives stands behind what the others give
+  -- what the last element gives stands after what the others give
   last_some : (ts : List A) (t : A) (u : B) → f t ≡ Some u → each_of f (ts ++ t ∷ []) ≡ given_before (u ∷ []) (each_of f ts)
   last_some [] t u e = ap (λ x. option_and_then (λ y. option_map (λ ys. y ∷ ys) (Some [])) x) e
   last_some (s ∷ ts) t u e = ap (λ x. option_and_then (λ y. option_map (λ ys. y ∷ ys) x) (f s)) (last_some ts t u e) ∙ front_go (f s) (each_of f ts) (u ∷ [])
@@ -67,11 +67,11 @@ module _ {A B : Type 0} (f : A → Option B) where
   pub each_begins : (ts : List A) (done : List B) → done ≡ [] → given_before (reverse done) (each_of f ts) ≡ each_of f ts
   each_begins ts done e = ap (λ xs. given_before (reverse xs) (each_of f ts)) e ∙ given_none (each_of f ts)
 
-  -- behind the last of them
+  -- after the last of them
   pub each_ends : (ts : List A) (done : List B) (all : Option (List B)) → ts ≡ [] → given_before (reverse done) (each_of f ts) ≡ all → Some (reverse done) ≡ all
   each_ends ts done all e h = sym (ap (λ xs. given_before (reverse done) (each_of f xs)) e) ∙ h
 
--- the nodes of a goal behind the name of its module
+-- the nodes of a goal after the name of its module
 pub qualified_nodes : (m : List ℕ) (g : Term) (behind whole : List Node) → map code_of behind ≡ nodes_of g → whole ≡ Structure (codes ":") 2 ∷ Atom m ∷ behind → map code_of whole ≡ nodes_of (pair (codes ":") (atom m) g)
 qualified_nodes m g behind whole h w =
     ap (map code_of) w ∙ ap (λ xs. code_of (Structure (codes ":") 2) ∷ code_of (Atom m) ∷ xs) (h ∙ sym (append-nil (nodes_of g)))

@@ -1,4 +1,4 @@
--- Nothing comes of a term that no text can write, whatever goes on behind it.
+-- Nothing comes of a term that no text can write, whatever goes on after it.
 use Rattle.std.proofs.Common.{◌≡◌, ℕ, zero, suc, false, if◌then◌else◌, List, [], ◌∷◌, ◌++◌, length, codes, Option, Some, None, refl, ap, sym}
 use Rattle.std.specs.List.{list_all}
 use Rattle.kl1_model.specs.declared.built_in.BuiltIn.{BuiltIn}
@@ -42,7 +42,7 @@ module _ (k : Going) (dooms : Dooms k) where
   sum_dooms None t ts h = relation_dooms t ts (infix_in_front Relations ts) h
   sum_dooms (Some before) t ts h = dooms (operation before.1 before.0 t) ts (second_unwritable (text_of before.0) before.1 t h)
 
-  -- operands behind one that no text can write
+  -- operands after one that no text can write
   operand_doomed_by : (level : Level) (next : Term → List Numbered → Answer Term) → ((t : Term) (us : List Numbered) → is_writable t ≡ false → fit (then_read (next t us) k) ≡ None) → (t : Term) (name : BuiltIn) (x : Answer Term) → is_writable t ≡ false → fit (then_read (then_read x (λ a us. next (operation t name a) us)) k) ≡ None
   operand_doomed_by level next doomed t name None h = refl
   operand_doomed_by level next doomed t name (Some r) h = doomed (operation t name r.0) r.1 (first_unwritable (text_of name) t r.0 h)

@@ -21,7 +21,7 @@ mapped : (ps : List ClauseParts) → length (map clause_of_parts ps) ≡ length 
 mapped [] = refl
 mapped (p ∷ ps) = ap suc (mapped ps)
 
--- where the last of clauses is one of a predicate, its section, by its place
+-- if the last of clauses is one of a predicate, its section, by its place
 abbrev section_of_one : List ℕ → ℕ → ClauseParts → Option ℕ
 section_of_one name count p = if is_one_of name count p then Some p.section else None
 
@@ -108,7 +108,7 @@ section_few name count before s e few room =
     let less = ltb-true (length before) most_clauses (sym room) in
     omega (arith, is, few, less)
 
--- the section of a clause behind others is that of the last clause
+-- the section of a clause after others is that of the last clause
 last_behind : (before : List ClauseParts) (p : ClauseParts) → last_section (before ++ p ∷ []) ≡ p.section
 last_behind [] p = refl
 last_behind (q ∷ []) p = refl
@@ -159,7 +159,7 @@ last_some : (p : ClauseParts) (ps : List ClauseParts) → is_some (last_of (map 
 last_some p [] = refl
 last_some p (q ∷ ps) = last_some q ps
 
--- an `otherwise` behind some clause
+-- an `otherwise` after some clause
 pub otherwise_stands : (line : ℕ) (before : List ClauseParts) (pending : Option ℕ) → 1 ≤ length before → pending ≡ None → Some line ≡ otherwise_on line (map clause_of_parts before) pending
 otherwise_stands line [] pending some e = absurd (omega arith)
 otherwise_stands line (p ∷ ps) pending some e =
@@ -169,12 +169,12 @@ otherwise_stands line (p ∷ ps) pending some e =
 standing_by : (m : List ℕ) (before : List Clause) (pending : Option ℕ) (line : ℕ) (ts : List (Token (List ℕ))) → true ≡ is_otherwise (Some ts) → option_map (λ here. (before, Some here)) (otherwise_on line before pending) ≡ standing_behind m (before, pending) line ts
 standing_by m before pending line ts o = ap (λ b. if◌then◌else◌ {A = Option Standing} b (option_map (λ here. (before, Some here)) (otherwise_on line before pending)) (option_map (λ now. (now, None)) (with_clause before (is_some pending) (clause_of m ts)))) o
 
--- what stands behind an `otherwise`
+-- what stands after an `otherwise`
 pub standing_otherwise : (m : List ℕ) (before : List Clause) (pending now : Option ℕ) (line : ℕ) (ts : List (Token (List ℕ))) → true ≡ is_otherwise (Some ts) → now ≡ otherwise_on line before pending → given (is_some now) (before, now) ≡ standing_behind m (before, pending) line ts
 standing_otherwise m before pending None line ts o e = ap (option_map (λ here. (before, Some here))) e ∙ standing_by m before pending line ts o
 standing_otherwise m before pending (Some here) line ts o e = ap (option_map (λ here. (before, Some here))) e ∙ standing_by m before pending line ts o
 
--- the items behind one that is good
+-- the items after one that is good
 module _ (m : List ℕ) (old : Standing) (line : ℕ) (ts : List (Token (List ℕ))) (items : List Item) where
   abbrev item : Item
   item = record { line = line; tokens = Some ts }
@@ -205,7 +205,7 @@ module _ (m : List ℕ) (old : Standing) (line : ℕ) (ts : List (Token (List �
   item_stops : None ≡ standing_behind m old line ts → clauses_from m old.0 old.1 (item ∷ items) ≡ bad line
   item_stops e = sym (ap then_items e ∙ item_by (is_otherwise (Some ts)))
 
-  -- the items behind one, where an item put or refused is the first of those that are left
+  -- the items after one, if an item put or refused is the first of those that are left
   pub items_go : (now : Standing) (put : Bool) (left : List Item) (all : Reading (List Clause)) → given put now ≡ standing_behind m old line ts → put ≡ true → item ∷ items ≡ left → clauses_from m old.0 old.1 left ≡ all → clauses_from m now.0 now.1 items ≡ all
   items_go now true left all e is l h = item_goes now e ∙ ap (clauses_from m old.0 old.1) l ∙ h
   items_go now false left all e is l h = absurd (false≢true is)

@@ -10,7 +10,7 @@ use Rattle.kl1_term.specs.declared.node.Node.TheVariants.{Variable, Integer, Ato
 use Rattle.kl1_read.specs.GoalNodes.{begins_named, begins_structure_goal, begins_goal, begins_execute, begins_built_in_structure, begins_built_in}
 use Rattle.kl1_read.proofs.Nodes.{term_of_nodes}
 
--- so many terms in front are so many
+-- `front_of n` gives `n` terms
 count_of-front_of : (n : ℕ) (ts : List Term) → count_of (front_of n ts) ≡ n
 count_of-front_of zero ts = refl
 count_of-front_of (suc n) ts = ap suc (count_of-front_of n (behind_first ts))
@@ -141,10 +141,10 @@ term_begins (Integer i ∷ nodes) = refl
 term_begins (Atom a ∷ nodes) = or_none (bytes_eq a (codes "true"))
 term_begins (Structure f n ∷ nodes) = structure_begins f n nodes
 
--- nodes begin as those of a built-in goal do where they are those of one
+-- nodes begin as those of a built-in goal do if they are those of one
 pub built_in_begins : (nodes : List Node) (t : Term) → map code_of nodes ≡ nodes_of t → begins_built_in nodes ≡ is_built_in_goal t
 built_in_begins nodes t e = term_opens nodes ∙ ap is_built_in_goal (term_of_nodes nodes t e)
 
--- nodes begin as those of a goal do where they are those of a goal
+-- nodes begin as those of a goal do if they are those of a goal
 pub goal_begins : (nodes : List Node) (t : Term) → map code_of nodes ≡ nodes_of t → begins_goal nodes ≡ is_goal t
 goal_begins nodes t e = term_begins nodes ∙ ap is_goal (term_of_nodes nodes t e)

@@ -1,4 +1,4 @@
--- What goes on behind a term: by what stands in front, and that nothing comes of a term that no text can write.
+-- What goes on after a term: by what stands in front, and that nothing comes of a term that no text can write.
 use Rattle.std.proofs.Common.{◌≡◌, ℕ, zero, suc, List, [], ◌∷◌, ◌++◌, length, codes, Option, Some, None, refl, ap, sym, ◌∙◌, append_assoc}
 use Rattle.kl1_model.specs.declared.built_in.BuiltIn.{BuiltIn}
 use Rattle.kl1_model.specs.declared.relation.Relation.{Relation}
@@ -19,7 +19,7 @@ pub list_back : (ts : Terms) → terms_of (list_of ts) ≡ ts
 list_back none = refl
 list_back (more t ts) = ap (more t) (list_back ts)
 
--- goes on behind an answer that is made of another
+-- goes on after an answer that is made of another
 mapped_then : {A B C M R : Type 0} (m : A → M) (n : B → C) (x : Answer A) (go : A → List Numbered → Answer B) (k : C → List Numbered → Option R) (h : M → List Numbered → Option R) → ((a : A) (us : List Numbered) → then_read (answer_map n (go a us)) k ≡ h (m a) us) → then_read (answer_map n (then_read x go)) k ≡ then_read (answer_map m x) h
 mapped_then m n None go k h same = refl
 mapped_then m n (Some r) go k h same = same r.0 r.1
@@ -76,7 +76,7 @@ relation_means AtLeast = refl
 relation_means SameNumber = refl
 relation_means OtherNumber = refl
 
--- an expression is a sum and perhaps a relation and another sum; a sum is products, and a product is parts, each behind an
+-- an expression is a sum and perhaps a relation and another sum; a sum is products, and a product is parts, each after an
 -- operator
 module _ (k : Going) where
   pub product_goes : (ts : List Numbered) → then_read (product_read ts) k ≡ then_read (part_read ts) (after_operand Products None k)
@@ -127,7 +127,7 @@ module _ {R : Type 0} (k : List Term → List Numbered → Option R) where
       ap (λ x. then_read (answer_map (λ s. list_of (series_terms s)) x) k) (series_go_on ts)
       ∙ mapped_then expression_term (λ s. list_of (series_terms s)) (reading ts) _ k _ (λ e us. comma_goes e us (behind_comma us))
 
--- the same behind terms that were read before
+-- goes on after a series, with terms that were read before it
 pub series_behind : {R : Type 0} (k : List Term → List Numbered → Option R) (before : List Term) (ts : List Numbered) → then_read (series_read ts) (λ s us. k (before ++ s) us) ≡ then_read (expression_read ts) (λ e us. if_there (behind_comma us) (k (before ++ e ∷ []) us) (λ vs. then_read (series_read vs) (λ s ws. k (before ++ e ∷ s) ws)))
 series_behind k before ts = series_goes (λ s. k (before ++ s)) ts
 

@@ -9,7 +9,7 @@ use Rattle.kl1_term.specs.declared.node.Node.TheVariants.{Variable, Integer, Ato
 use Rattle.kl1_read.specs.Heads.{may_name_structure, begins_head}
 use Rattle.kl1_read.proofs.Nodes.{term_of_nodes}
 
--- so many terms in front are so many
+-- `front_of n` gives `n` terms
 front_counts : (n : ℕ) (ts : List Term) → count_of (front_of n ts) ≡ n
 front_counts zero ts = refl
 front_counts (suc n) ts = ap suc (front_counts n (behind_first ts))

@@ -1,4 +1,4 @@
--- Where variables are numbered by first occurrence, those of a test are the head's where none has a greater number than those.
+-- If variables are numbered by first occurrence, those of a test are the head's if none has a greater number than those.
 use Rattle.std.proofs.Common.{◌≡◌, ℕ, suc, ◌≤◌, ◌<◌, ◌==◌, max, nat_le, ◌&&◌, ◌||◌, Bool, true, false, if◌then◌else◌, List, [], ◌∷◌, ◌++◌, Option, Some, None, option_map, option_and_then, refl, ap, sym, ◌∙◌, arith}
 use Rattle.std.specs.List.{list_all}
 use Rattle.std.proofs.lemmas.Bool.{true≢false, and_parts, and_from, eqb-true, eqb-false, leb-true, le-leb}
@@ -27,7 +27,7 @@ found_case false v vs k n e next above rest =
     let other : n ≡ v → ⊥ = eqb-false n v e in
     rest (omega (arith, other))
 
--- each number behind this one, up to the greatest, stands there
+-- each number after this one, up to the greatest, stands there
 found : (vs : List ℕ) (k n : ℕ) → numbered_after k vs ≡ true → k < n → n ≤ most_of k vs → is_among n vs ≡ true
 found [] k n h above within = absurd (omega arith)
 found (v ∷ vs) k n h above within =
@@ -90,7 +90,7 @@ most_is ts = ap (most_of 0) (sym (append-nil (variables_in ts))) ∙ most_each t
 both_upto : (a b m : ℕ) → nat_le a m && nat_le b m ≡ nat_le (max a b) m
 both_upto a b m = grind (arith, nat_tests)
 
--- each of a term's variables is at most so much where its highest is
+-- each of a term's variables is at most `m` if its highest is
 mutual
   upto_one : (t : Term) (m : ℕ) → list_all (λ n. nat_le n m) (variables_of t) ≡ nat_le (highest t) m
   upto_one (variable n) m = and-true (nat_le n m)
@@ -106,11 +106,11 @@ mutual
       ∙ ap (λ b. nat_le (highest t) m && b) (upto_each ts m)
       ∙ both_upto (highest t) (highest_in ts) m
 
--- a term has variables of a head alone where its highest is no greater than the head's
+-- a term has variables of a head alone if its highest is no greater than the head's
 only_heads : (ps : Terms) (t : Term) → numbered_after 0 (variables_in ps) ≡ true → list_all (nat_le 1) (variables_of t) ≡ true → has_only (variables_in ps) t ≡ nat_le (highest t) (highest_in ps)
 only_heads ps t h some = all_among (variables_in ps) (variables_of t) h some ∙ upto_one t (most_of 0 (variables_in ps)) ∙ ap (nat_le (highest t)) (most_is ps)
 
--- tests behind a head are fit by their highest numbers
+-- tests after a head are fit by their highest numbers
 pub tests_fit : (ps ts : Terms) → numbered_after 0 (variables_in ps) ≡ true → list_all (nat_le 1) (variables_in ts) ≡ true → each_of (fit_test (variables_in ps)) (list_of ts) ≡ each_of (fit_test_upto (highest_in ps)) (list_of ts)
 tests_fit ps none h some = refl
 tests_fit ps (more t ts) h some =

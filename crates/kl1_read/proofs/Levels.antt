@@ -1,4 +1,4 @@
--- Names of a level and what stands behind them.
+-- Names of a level and what stands after them.
 use Rattle.std.proofs.Common.{◌≡◌, ℕ, ◌<◌, List, length, Option, Some, None, refl, ap, sym, ◌∙◌, arith}
 use Rattle.std.proofs.lemmas.Option.{none-some}
 use Rattle.kl1_model.specs.declared.built_in.BuiltIn.{BuiltIn}
@@ -14,7 +14,7 @@ use Rattle.kl1_read.specs.declared.infix.Level.TheVariants.{Relations, Sums, Pro
 use Rattle.kl1_read.specs.Infixes.{answer_map, relation_named, adding_named, multiplying_named, infix_in_front}
 use Rattle.kl1_read.specs.Meanings.{reading, sum_read, product_read, part_read, operand_read, operation, joined, grouped_read, Going, after_operand}
 
--- less is behind what was read, also once it is changed
+-- less is after what was read, also once it is changed
 mapped_less : {A B : Type 0} (f : A → B) (x : Answer A) (n : ℕ) → ((a : A) (us : List Numbered) → x ≡ Some (a, us) → length us < n) → (b : B) (us : List Numbered) → answer_map f x ≡ Some (b, us) → length us < n
 mapped_less f None n less b us h = absurd (none-some (b, us) h)
 mapped_less f (Some r) n less b us h = omega (arith, less r.0 r.1 refl, ap (length {A = Numbered}) (answered (λ _ vs. vs) (f r.0) b r.1 us h))
@@ -36,7 +36,7 @@ operand_less Sums ts us t h =
 operand_less Products ts us t h =
     mapped_less part_term (part_at reading ts) (length ts) (λ p vs read. omega (arith, ap (length {A = Numbered}) (part_sound reading whole_sound ts p vs read), part_steps_few p vs)) t us h
 
--- the operands of a level are what was read and, behind an operator, the next one
+-- the operands of a level are what was read and, after an operator, the next one
 grouped_step : (level : Level) (t : Term) (ts : List Numbered) → grouped_read level t ts ≡ grouped_on (operand_read level) operation (grouped_read level) t ts (infix_in_front level ts)
 grouped_step level t ts = grouped_goes_on (infix_in_front level) (operand_read level) operation (infix_less level) (operand_less level) t ts
 

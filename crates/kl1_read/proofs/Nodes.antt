@@ -54,12 +54,12 @@ made_of nodes t whole rest e d n l m =
     let w = narrow_writable t n (omega (arith, deep, l)) in
     record { is = ap (λ x. Some x) (term_of_nodes (reverse nodes) t e) ∙ sym (there_writable t w); piece = piece_of_nodes (reverse nodes) t whole rest e d w l m }
 
--- the nodes of a term behind no others
+-- the nodes of a term after no others
 pub spilled_alone : (xs ys : List SmallNode) (t : Term) (whole rest : ℕ) → term_in (reverse (map node_of xs)) ≡ t → IsPiece (reverse (map node_of xs)) whole rest → length ys ≡ 0 → map code_of (reverse (map node_of xs)) ≡ nodes_of t ++ map code_of (reverse (map node_of ys))
 spilled_alone xs [] t whole rest is p n = p.one ∙ ap nodes_of is ∙ sym (append-nil (nodes_of t))
 spilled_alone xs (y ∷ ys) t whole rest is p n = absurd (omega arith)
 
--- the nodes of a term behind others
+-- the nodes of a term after others
 pub spilled_behind : (xs ys zs : List SmallNode) (t : Term) (whole rest : ℕ) → term_in (reverse (map node_of xs)) ≡ t → IsPiece (reverse (map node_of xs)) whole rest → zs ≡ ys ++ xs → map code_of (reverse (map node_of zs)) ≡ nodes_of t ++ map code_of (reverse (map node_of ys))
 spilled_behind xs ys zs t whole rest is p e =
     ap (λ ns. map code_of (reverse (map node_of ns))) e

@@ -29,7 +29,7 @@ pub positive_reads : (n : ℕ) (ts : List Numbered) → primary_read (digits_tok
 unfolding primary_read
 positive_reads n ts = positive_by (nat_lt n number_limit) n ts
 
--- what is read behind a `-` with a digit directly behind it
+-- what is read after a `-` with a digit directly after it
 abbrev pub negative_read : List Numbered → Answer Term
 negative_read (digits_token n ∷ ts) = Some (integer (neg_ℤ (pos n)), ts)
 negative_read _ = None
@@ -125,7 +125,7 @@ module _ (k : Going) where
       ∙ series_behind (after_elements k) (before ++ e ∷ []) us
       ∙ ap (λ (es : List Term). then_read (expression_read us) (λ e us. if_there (behind_comma us) (after_elements k (es ++ e ∷ []) us) (λ vs. then_read (series_read vs) (λ s ws. after_elements k (es ++ e ∷ s) ws)))) (sym h)
 
-  -- a tail behind elements
+  -- a tail after elements
   pub tail_opens : (es : List Term) (v : Vec Term Global) (us : List Numbered) → v.items ≡ es → then_read (expression_read us) (λ t vs. then_skip (behind_close_list vs) (λ ws. k (cells (terms_of es) t) ws)) ≡ open_then (Tail v) k us
   tail_opens es v us h =
       ap (λ (xs : List Term). then_read (expression_read us) (λ t vs. then_skip (behind_close_list vs) (λ ws. k (cells (terms_of xs) t) ws))) (sym h)

@@ -1,4 +1,4 @@
--- The front of a primary, by its first token, and what goes on behind it.
+-- The front of a primary, by its first token, and what goes on after it.
 use Rattle.std.proofs.Common.{◌≡◌, ℕ, zero, suc, ◌<◌, ◌≤◌, nat_lt, Bool, true, false, if◌then◌else◌, List, [], ◌∷◌, length, map, Some, None, Vec, pos, neg_ℤ, refl, ap, sym, ◌∙◌, arith}
 use Rattle.std.specs.Borrow.{Bor}
 use Rattle.std.specs.declared.alloc.Global.{Global}
@@ -60,7 +60,7 @@ pub too_low : (n : ℕ) → number_limit < n → is_writable (integer (neg_ℤ (
 too_low zero h = absurd (omega arith)
 too_low (suc n) h = and_left _ _ (le-ltb n number_limit (omega arith))
 
--- a name and no bracket behind it
+-- a name and no bracket after it
 pub call_gone : (f : List ℕ) (quotes : Bool) (ts : List grammar.Numbered) → None ≡ behind_open ts → primary_read (name_token f quotes true ∷ ts) ≡ None
 unfolding primary_read
 call_gone f quotes ts h =

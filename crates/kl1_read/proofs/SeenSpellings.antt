@@ -35,7 +35,7 @@ place_joins : (seen : List (List ℕ)) (u v : List ℕ) → bytes_eq u v ≡ tru
 place_joins [] u v e h = ap (λ (b : Bool). let n : ℕ = if b then 1 else 2 in n) e
 place_joins (s ∷ seen) u v e h = new_by (bytes_eq s v) _ _ (length seen) (suc (length seen)) (place_joins seen u v e) h
 
--- another spelling is put behind
+-- another spelling is put after those seen
 number_stays : (seen : List (List ℕ)) (u v : List ℕ) (o : Option ℕ) → bytes_eq u v ≡ false → IsNumberAmong seen v o → IsNumberAmong (seen ++ u ∷ []) v o
 number_stays seen u v None e h =
     let more : suc (length seen) ≡ length (seen ++ u ∷ []) = omega (arith, length-append seen (u ∷ [])) in
@@ -43,13 +43,13 @@ number_stays seen u v None e h =
 number_stays seen u v (Some n) e h =
     (place_kept seen u v (omega (arith, h.0, h.1)) ∙ h.0, omega (arith, h.1, length-append seen (u ∷ [])))
 
--- a spelling is put behind, and perhaps is this one
+-- a spelling is put after those seen, and perhaps is this one
 number_with : (seen : List (List ℕ)) (u v : List ℕ) (next : ℕ) (o : Option ℕ) (b : Bool) → bytes_eq u v ≡ b → next ≡ suc (length seen) → (b ≡ true → o ≡ None) → IsNumberAmong seen v o → IsNumberAmong (seen ++ u ∷ []) v (cond b (Some next) o)
 number_with seen u v next o true e n none h =
     (place_joins seen u v e (subst (IsNumberAmong seen v) (none refl) h) ∙ sym n, omega (arith, n, length-append seen (u ∷ [])))
 number_with seen u v next o false e n none h = number_stays seen u v o e h
 
--- nothing is found where nothing was seen
+-- nothing is found if nothing was seen
 pub finds_none : {S : Type 0} (numbers : HashMap (List ℕ) ℕ S) (seen : List (List ℕ)) → numbers.entries ≡ [] → seen ≡ [] → Finds numbers seen
 finds_none numbers seen e s = λ v t other.
     let none : get (pointwise nat_eq) numbers (words_of 8 v) ≡ None = ap (lookup (pointwise nat_eq (words_of 8 v))) e in
@@ -60,7 +60,7 @@ apart_from : (u v w : List ℕ) (b : Bool) → bytes_eq u v ≡ b → bytes_eq u
 apart_from u v w true e is other = absurd (true≢false (sym is ∙ ap (λ x. bytes_eq x w) ((bytes_eq-Decides u v).0 e) ∙ other))
 apart_from u v w false e is other = refl
 
--- the same is found behind `_`
+-- what finds spellings still does with `_` after those seen
 finds_behind : {S : Type 0} (numbers : HashMap (List ℕ) ℕ S) (seen : List (List ℕ)) (u : List ℕ) → bytes_eq u (codes "_") ≡ true → Finds numbers seen → Finds numbers (seen ++ u ∷ [])
 finds_behind numbers seen u is h = λ v t other.
     number_stays seen u v _ (apart_from u v (codes "_") (bytes_eq u v) refl is other) (h v t other)

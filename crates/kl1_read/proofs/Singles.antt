@@ -9,7 +9,7 @@ use Rattle.kl1_read.specs.Pieces.{writable}
 use Rattle.kl1_read.specs.Series.{single}
 use Rattle.kl1_read.specs.Meanings.{reading, answer_map, series_read, fit}
 
--- a list with something behind it is not read alone
+-- a list with something after it is not read alone
 behind_fits : (b : Bool) (es : List Term) (t : Numbered) (ts : List Numbered) → single (if◌then◌else◌ {A = Answer (List Term)} b (Some (es, t ∷ ts)) None) ≡ None
 behind_fits true es t ts = refl
 behind_fits false es t ts = refl

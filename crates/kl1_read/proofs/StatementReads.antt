@@ -101,7 +101,7 @@ head_gone : (h : Head) (tests : List Term) (body : Option (List BodyGoal)) → i
 head_gone h tests body e =
     ap (λ b. if◌then◌else◌ {A = Option Clause} b (clause_by h tests body (head_patterns h)) None) e
 
--- a goal with its priority is fit where its tree is
+-- a goal with its priority is fit if its tree is
 and_true : (b : Bool) → b && true ≡ b
 and_true true = refl
 and_true false = refl
@@ -116,7 +116,7 @@ goals_fit m (g ∷ gs) =
     ap (λ x. option_and_then (λ y. option_map (λ ys. y ∷ ys) (each_of (fit_named m) (map goal_named gs))) x) (goal_fits m g)
     ∙ ap (λ (x : Option (List BodyGoal)). option_and_then (λ y. option_map (λ ys. y ∷ ys) x) (fit_goal m g)) (goals_fit m gs)
 
--- the terms of goals, where none names a priority
+-- the terms of goals, if none names a priority
 abbrev plain_by : Option ℕ → Term → Option (List Term) → Option (List Term)
 plain_by None t x = option_map (λ ts. t ∷ ts) x
 plain_by (Some n) t x = None
@@ -183,7 +183,7 @@ tests_gone_with : (m : List ℕ) (h : Heading) (tests : List Term) (x : Answer (
 tests_gone_with m h tests None e = refl
 tests_gone_with m h tests (Some r) e = tests_gone m h tests r.0 r.1 e
 
--- what is behind a neck, as the goals of a body, before it is known whether they can be written
+-- what is after a neck, as the goals of a body, before it is known whether they can be written
 abbrev behind_goals : Heading → List BodyGoal → List Numbered → Option (List Numbered) → Answer Statement
 behind_goals h gs us y = if_there y (Some (statement_by h [] gs, us)) (λ vs. option_and_then (λ ts. with_body h ts (goals_read vs)) (plain_terms gs))
 
@@ -203,11 +203,11 @@ fact_means : (m : List ℕ) (h : Head) (us : List Numbered) → tree_clause m (S
 fact_means m h [] = sym (statement_means m h [] (without_priority true_goal ∷ []) (Some (without_priority true_goal ∷ [])) refl)
 fact_means m h (u ∷ us) = refl
 
--- a body behind a bar
+-- a body after a bar
 abbrev behind_bar_at : Head → Series → Answer Body → Answer ClauseTree
 behind_bar_at h s x = then_read x (λ body ws. Some (guarded h s body, ws))
 
--- a body, or tests with what is behind them
+-- a body, or tests with what is after them
 abbrev behind_body_at : Head → Body → List Numbered → Option Series → Option (List Numbered) → Answer ClauseTree
 behind_body_at h b us x y = if_there y (Some (rule h b, us)) (λ vs. option_and_then (λ s. behind_bar_at h s (body_at reading vs)) x)
 
@@ -294,7 +294,7 @@ module _ (m : List ℕ) (h : Heading) (s : Series) where
   behind_terms us None bar = ap (λ y. terms_clause m (behind_goals h (goals_named None (list_of (series_terms s))) us y)) bar
   behind_terms us (Some vs) bar = behind_number (priority_read vs)
 
--- terms behind a neck, with what follows them
+-- terms after a neck, with what follows them
 abbrev after_series : Heading → List Term → List Numbered → Option (List Numbered) → Answer Statement
 after_series h ts us y = if_there y (with_body h [] (terms_after written_goals ts us)) (λ vs. with_body h ts (written_goals vs))
 
@@ -345,7 +345,7 @@ first_gone : (m : List ℕ) (h : Head) (x : Answer Body) → is_fit_head h ≡ f
 first_gone m h None e = refl
 first_gone m h (Some r) e = body_none m h r.0 r.1 (tests_of r.0) (behind_bar r.1) e
 
--- what is behind a head
+-- what is after a head
 abbrev behind_head_at : Head → List Numbered → Option (List Numbered) → Answer ClauseTree
 behind_head_at h us y = if_there y (Some (fact h, us)) (λ vs. behind_neck_at reading h vs)
 

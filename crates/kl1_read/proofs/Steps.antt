@@ -26,7 +26,7 @@ pub ok_along : {A E : Type 0} (P Q : A → Type 0) (r : Result A E) → IfOk r P
 ok_along P Q (Ok a) h f = f a h
 ok_along P Q (Err e) h f = h
 
--- what was opened waits behind those before
+-- what was opened waits after those before
 pub frame_opens : (fs gs : List Frame) (f : Frame) (opened : Opened) (left : Left) (done : List Term) (us : List Numbered) → gs ≡ fs ++ f ∷ [] → opened_of f ≡ opened → left_of f ≡ left → primary_then no_left (after_expression (reverse gs) done) us ≡ open_then opened (after_primary left (after_expression (reverse fs) done)) us
 frame_opens fs gs f opened left done us e o l =
     ap (λ xs. primary_then no_left (after_expression xs done) us) (ap reverse e ∙ reverse-append fs (f ∷ []))
@@ -41,7 +41,7 @@ frame_closes fs gs f opened left done e ts h o l =
     ∙ ap (λ x. after_opened (opened_of f) (after_primary x (after_expression (reverse fs) done)) e ts) l
     ∙ ap (λ xs. after_expression xs done e ts) (sym (ap reverse h ∙ reverse-append fs (f ∷ [])))
 
--- more terms are read behind those that are done
+-- more terms are read after those that are done
 pub more_terms : (done : List Term) (us : List Numbered) → primary_then no_left (after_expression [] done) us ≡ then_read (series_read us) (λ s vs. Some (done ++ s, vs))
 more_terms done us =
     sym (expression_goes (after_last done) us) ∙ sym (series_behind (λ es vs. Some (es, vs)) done us)
@@ -62,17 +62,17 @@ read_again (Some r) = refl
 pub terms_begin : (ts : List Numbered) → primary_then no_left (after_expression [] []) ts ≡ series_read ts
 terms_begin ts = more_terms [] ts ∙ read_again (series_read ts)
 
--- goes on behind the front of a primary
+-- goes on after the front of a primary
 pub begun_on : (b c : Begun) (left : Left) (fs : List Frame) (done : List Term) (ts : List Numbered) → b ≡ c → Begins b ts → fit (begun_then c (after_primary left (after_expression fs done))) ≡ fit (primary_then left (after_expression fs done) ts)
 begun_on b c left fs done ts e h =
     ap (λ x. fit (begun_then x (after_primary left (after_expression fs done)))) (sym e) ∙ h (after_primary left (after_expression fs done)) (primary_dooms left (after_expression fs done) (expression_dooms fs done))
 
--- goes on behind a primary
+-- goes on after a primary
 pub joined_on : (b c : Joined) (left now : Left) (fs : List Frame) (done : List Term) (p : Term) (ts : List Numbered) → b ≡ c → Joins left p ts now b → fit (joined_then now c (after_expression fs done)) ≡ fit (after_primary left (after_expression fs done) p ts)
 joined_on b c left now fs done p ts e h =
     ap (λ x. fit (joined_then now x (after_expression fs done))) (sym e) ∙ h (after_expression fs done) (expression_dooms fs done)
 
--- goes on behind an expression in what was opened
+-- goes on after an expression in what was opened
 pub closed_on : (b c : Closed) (opened : Opened) (left : Left) (fs : List Frame) (done : List Term) (e : Term) (ts : List Numbered) → b ≡ c → Closes opened e ts b → fit (closed_then c (after_primary left (after_expression fs done))) ≡ fit (after_opened opened (after_primary left (after_expression fs done)) e ts)
 closed_on b c opened left fs done e ts i h =
     ap (λ x. fit (closed_then x (after_primary left (after_expression fs done)))) (sym i) ∙ h (after_primary left (after_expression fs done)) (primary_dooms left (after_expression fs done) (expression_dooms fs done))

@@ -12,7 +12,7 @@ use Rattle.kl1_term.specs.declared.node.Node.TheVariants.{Variable, Integer, Ato
 use Rattle.kl1_read.specs.Heads.{look_names, compare_names, is_named, is_structure_test, begins_test}
 use Rattle.kl1_read.proofs.Nodes.{term_of_nodes}
 
--- something is found where some element passes, whatever is made of it
+-- something is found if some element passes, whatever is made of it
 found_by : {A B : Type 0} (f : A → B) (p : A → Bool) (x : A) (xs : List A) (b : Bool) → list_any p xs ≡ is_some (option_map f (find p xs)) → b || list_any p xs ≡ is_some (option_map f (if◌then◌else◌ {A = Option A} b (Some x) (find p xs)))
 found_by f p x xs true h = refl
 found_by f p x xs false h = h

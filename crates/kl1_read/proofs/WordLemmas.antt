@@ -11,19 +11,19 @@ use Rattle.kl1_model.specs.Name.{is_word_byte}
 use Rattle.kl1_model.specs.Token.{word_of, behind_word, digits_of, behind_digits, is_digit, quoted_from}
 use Rattle.kl1_read.specs.Quotes.{short}
 
--- the front part of a text, by what is behind it
+-- the front part of a text, by what is after it
 front_taken : (xs ys zs : List ℕ) → xs ++ ys ≡ zs → take (length zs - length ys) zs ≡ xs
 front_taken xs ys zs e =
     let n : length (xs ++ ys) - length ys ≡ length xs = omega (arith, length-append xs ys) in
     rw (← e) (rw n (take-append_seam xs ys))
 
--- a word and what is behind it are the text
+-- a word and what is after it are the text
 word_joined : (bs : List ℕ) → word_of bs ++ behind_word bs ≡ bs
 word_joined [] = refl
 word_joined (b ∷ bs) =
     elim (is_word_byte b) as (λ w. (elim w [ true ↦ b ∷ word_of bs | false ↦ [] ]) ++ (elim w [ true ↦ behind_word bs | false ↦ b ∷ bs ]) ≡ b ∷ bs) [ true ↦ ap (λ cs. b ∷ cs) (word_joined bs) | false ↦ refl ]
 
--- digits and what is behind them are the text
+-- digits and what is after them are the text
 digits_joined : (bs : List ℕ) → digits_of bs ++ behind_digits bs ≡ bs
 digits_joined [] = refl
 digits_joined (b ∷ bs) =
@@ -39,11 +39,11 @@ pub digits_taken : (b : ℕ) (bs : List ℕ) → take (length (b ∷ bs) - lengt
 digits_taken b bs =
     front_taken (b ∷ digits_of bs) (behind_digits bs) (b ∷ bs) (ap (λ cs. b ∷ cs) (digits_joined bs))
 
--- what is behind a word is no longer than the text
+-- what is after a word is no longer than the text
 pub behind_word_length : (bs : List ℕ) → length (behind_word bs) ≤ length bs
 behind_word_length bs = omega (arith, length-append (word_of bs) (behind_word bs), ap length (word_joined bs))
 
--- what is behind digits is no longer than the text
+-- what is after digits is no longer than the text
 pub behind_digits_length : (bs : List ℕ) → length (behind_digits bs) ≤ length bs
 behind_digits_length bs = omega (arith, length-append (digits_of bs) (behind_digits bs), ap length (digits_joined bs))
 

@@ -18,13 +18,13 @@ leaf_term (Integer i) = integer i
 leaf_term (Atom f) = atom f.now
 leaf_term Nil = nil
 
--- goes on behind the front of a primary
+-- goes on after the front of a primary
 abbrev pub begun_then : Begun → Going → Answer (List Term)
 begun_then Bad k = None
 begun_then (Whole l rest) k = k (leaf_term l) (map numbered_token rest.now)
 begun_then (Opens opened rest) k = open_then opened k (map numbered_token rest.now)
 
--- going on behind the front is reading the primary and going on
+-- going on after the front is reading the primary and going on
 abbrev pub Begins : Begun → List grammar.Numbered → Type 0
 Begins b ts = (k : Going) → Dooms k → fit (begun_then b k) ≡ fit (then_read (primary_read ts) k)
 

@@ -9,7 +9,7 @@ use Rattle.kl1_read.specs.declared.clause_parts.ClauseParts.{ClauseParts}
 abbrev pub is_one_of : List ℕ → ℕ → ClauseParts → Bool
 is_one_of name count p = bytes_eq p.name name && length p.patterns.items == count
 
--- the section of the last of clauses, where it is one of a predicate
+-- the section of the last of clauses, if it is one of a predicate
 abbrev pub section_within : List ℕ → ℕ → List ClauseParts → Option ℕ
 section_within name count [] = None
 section_within name count (p ∷ []) = if is_one_of name count p then Some p.section else None
@@ -19,21 +19,21 @@ section_within name count (p ∷ q ∷ ps) = section_within name count (q ∷ ps
 abbrev pub holds : List ℕ → ℕ → List ClauseParts → Bool
 holds name count ps = list_any (is_one_of name count) ps
 
--- the section of the last of clauses, 0 where there is none
+-- the section of the last of clauses, 0 if there is none
 abbrev pub last_section : List ClauseParts → ℕ
 last_section [] = 0
 last_section (p ∷ []) = p.section
 last_section (p ∷ q ∷ ps) = last_section (q ∷ ps)
 
--- the section of a clause that may follow these, directly behind an `otherwise` or not
+-- the section of a clause that may follow these, directly after an `otherwise` or not
 abbrev pub section_for : List Clause → Bool → Clause → Option ℕ
 section_for before behind c = if may_follow before behind c then Some (section_after before behind c) else None
 
--- clauses, and the line of an `otherwise` directly behind them, if one stands there
+-- clauses, and the line of an `otherwise` directly after them, if one stands there
 abbrev pub Standing : Type 0
 Standing = List Clause × Option ℕ
 
--- what stands behind an item with these tokens, where it is good
+-- what stands after an item with these tokens, if it is good
 abbrev pub standing_behind : List ℕ → Standing → ℕ → List (Token (List ℕ)) → Option Standing
 standing_behind m s line ts =
     if is_otherwise (Some ts)

@@ -16,7 +16,7 @@ abbrev pub begins_named : List Node → Bool
 begins_named (Atom m ∷ callee ∷ nodes) = is_callee_node callee
 begins_named _ = false
 
--- whether a structure of a name and so many arguments, whose nodes these are, is a goal
+-- whether a structure with name `f` and `n` arguments, whose nodes these are, is a goal
 abbrev pub begins_structure_goal : List ℕ → ℕ → List Node → Bool
 begins_structure_goal f n nodes = is_pair_goal f n || (n == 2) && bytes_eq f (codes ":") && begins_named nodes
 
@@ -38,7 +38,7 @@ abbrev pub begins_execute : List Node → Bool
 begins_execute (Atom m ∷ callee ∷ nodes) = is_execute_node m callee
 begins_execute _ = false
 
--- whether a structure of a name and so many arguments, whose nodes these are, is a built-in goal
+-- whether a structure with name `f` and `n` arguments, whose nodes these are, is a built-in goal
 abbrev pub begins_built_in_structure : List ℕ → ℕ → List Node → Bool
 begins_built_in_structure f n nodes = is_pair_goal f n || (n == 2) && bytes_eq f (codes ":") && begins_execute nodes
 

@@ -12,7 +12,7 @@ use Rattle.kl1_term.specs.declared.node.Node.TheVariants as node
 abbrev pub may_name_atom : List ℕ → Bool
 may_name_atom p = not (is_reserved p) && not (bytes_eq p (codes "true")) && not (bytes_eq p (codes "otherwise"))
 
--- whether a name may be that of a head with so many arguments
+-- whether `p` may be the name of a head with `n` arguments
 abbrev pub may_name_structure : List ℕ → ℕ → Bool
 may_name_structure p n = not (is_reserved p) && not (is_atom_from p n)
 
@@ -40,7 +40,7 @@ compare_names = Equal ∷ NotEqual ∷ Less ∷ Greater ∷ AtMost ∷ AtLeast �
 abbrev pub is_named : List ℕ → List BuiltIn → Bool
 is_named p names = list_any (λ b. bytes_eq p (text_of b)) names
 
--- whether a structure of a name and so many arguments is a test
+-- whether a structure with name `f` and `n` arguments is a test
 abbrev pub is_structure_test : List ℕ → ℕ → Bool
 is_structure_test f n = (n == 1) && is_named f look_names || (n == 2) && is_named f compare_names
 

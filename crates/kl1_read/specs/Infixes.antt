@@ -41,13 +41,13 @@ multiplying_named by_star = name.Times
 multiplying_named by_slash = name.Divide
 multiplying_named (by_mod applied) = name.Modulo
 
--- the name of a level in front of tokens, with what is behind it
+-- the name of a level in front of tokens, with what is after it
 abbrev pub infix_in_front : Level → List grammar.Numbered → Answer BuiltIn
 infix_in_front Relations ts = answer_map relation_named (relation_in_front ts)
 infix_in_front Sums ts = answer_map adding_named (adding_in_front ts)
 infix_in_front Products ts = answer_map multiplying_named (multiplying_in_front ts)
 
--- a name with what is behind it
+-- a name with what is after it
 abbrev pub infix_view : Option (BuiltIn × Bor (List Numbered)) → Answer BuiltIn
 infix_view None = None
 infix_view (Some r) = Some (r.0, map numbered_token r.1.now)

@@ -7,7 +7,7 @@ use Rattle.kl1_read.specs.declared.item.Next.{Next}
 use Rattle.kl1_read.specs.declared.item.Next.TheVariants.{Nothing, Bad, Whole}
 use Rattle.kl1_read.specs.Views.{kept_token}
 
--- the items of tokens, where an item may have begun with tokens before these
+-- the items of tokens; an item may have begun with tokens before these
 abbrev pub items_among : Option ℕ → List (Token (List ℕ)) → Tokens → List Item
 items_among began before ts = items_from began before ts.placed ts.broken_at
 
@@ -22,7 +22,7 @@ items_of_next (Bad line) = record { line = line; tokens = None } ∷ []
 items_of_next (Whole item place) =
     record { line = item.line; tokens = Some (map kept_token item.tokens.items) } ∷ items_left place.line place.bytes.now
 
--- what is behind an item is less than the text, and no further lines than it has bytes
+-- what is after an item is less than the text, and no further lines than it has bytes
 abbrev pub GoesOn : ℕ → List ℕ → Next → Type 0
 GoesOn line bs Nothing = Unit {0}
 GoesOn line bs (Bad here) = Unit {0}

@@ -13,13 +13,13 @@ use Rattle.kl1_read.specs.Views.{numbered_token}
 use Rattle.kl1_read.specs.Waits.{no_left}
 use Rattle.kl1_read.specs.Meanings.{Going, Dooms, fit, open_then, primary_then, after_primary, after_opened}
 
--- goes on behind a primary that was joined with what stands to its left
+-- goes on after a primary that was joined with what stands to its left
 abbrev pub joined_then : Left → Joined → Going → Answer (List Term)
 joined_then left joined.Bad k = None
 joined_then left (joined.More rest) k = primary_then left k (map numbered_token rest.now)
 joined_then left (joined.Whole p rest) k = k p (map numbered_token rest.now)
 
--- going on behind the join is going on behind the primary
+-- going on after the join is going on after the primary
 abbrev pub Joins : Left → Term → List grammar.Numbered → Left → Joined → Type 0
 Joins left p ts now j = (k : Going) → Dooms k → fit (joined_then now j k) ≡ fit (after_primary left k p ts)
 
@@ -35,13 +35,13 @@ JoinedLess n joined.Bad = Unit {0}
 JoinedLess n (joined.More rest) = length rest.now < n
 JoinedLess n (joined.Whole p rest) = length rest.now ≤ n
 
--- goes on behind an expression in what was opened
+-- goes on after an expression in what was opened
 abbrev pub closed_then : Closed → Going → Answer (List Term)
 closed_then closed.Bad k = None
 closed_then (closed.More opened rest) k = open_then opened k (map numbered_token rest.now)
 closed_then (closed.Whole p rest) k = k p (map numbered_token rest.now)
 
--- going on behind what is closed, or still open, is going on behind the expression
+-- going on after what is closed, or still open, is going on after the expression
 abbrev pub Closes : Opened → Term → List grammar.Numbered → Closed → Type 0
 Closes opened e ts c = (k : Going) → Dooms k → fit (closed_then c k) ≡ fit (after_opened opened k e ts)
 

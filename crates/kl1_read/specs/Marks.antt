@@ -18,7 +18,7 @@ sign_of Colon = sign.Colon
 sign_of Neck = sign.Neck
 sign_of At = sign.At
 
--- what is behind a mark in front
+-- what is after a mark in front
 abbrev pub behind_mark : Mark → List Numbered → Option (List Numbered)
 behind_mark Comma ts = behind_comma ts
 behind_mark Open ts = behind_open ts

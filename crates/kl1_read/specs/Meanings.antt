@@ -45,7 +45,7 @@ primary_read ts = answer_map primary_term (primary_at reading ts)
 unfoldable pub series_read : List grammar.Numbered → Answer (List Term)
 series_read ts = answer_map (λ s. list_of (series_terms s)) (series_at reading ts)
 
--- the term of what stands behind a name of a level
+-- the term of what stands after a name of a level
 abbrev pub operand_read : Level → List grammar.Numbered → Answer Term
 operand_read Relations = sum_read
 operand_read Sums = product_read
@@ -60,65 +60,65 @@ abbrev pub joined : Option (BuiltIn × Term) → Term → Term
 joined None t = t
 joined (Some before) t = operation before.1 before.0 t
 
--- the term of what was read and of the operands behind it, each behind an operator of a level
+-- the term of what was read and of the operands after it, each after an operator of a level
 abbrev pub grouped_read : Level → Term → List grammar.Numbered → Answer Term
 grouped_read level t ts = grouped_at (infix_in_front level) (operand_read level) operation t ts
 
--- what goes on with a term that was read, and with the tokens behind it
+-- what goes on with a term that was read, and with the tokens after it
 abbrev pub Going : Type 0
 Going = Term → List grammar.Numbered → Answer (List Term)
 
--- goes on with a sum, or, where a relation was read, with the structure of it and the sum behind
+-- goes on with a sum, or, if a relation was read, with the structure of it and the sum after
 abbrev pub after_relation : Going → Term → List grammar.Numbered → Answer BuiltIn → Answer (List Term)
 after_relation k s ts None = k s ts
 after_relation k s ts (Some r) = then_read (operand_read Relations r.1) (λ q us. k (operation s r.0 q) us)
 
--- goes on with a sum behind what stands to the left of a relation, or perhaps with a relation
+-- goes on with a sum after what stands to the left of a relation, or perhaps with a relation
 abbrev pub after_sum : Option (BuiltIn × Term) → Going → Going
 after_sum None k s ts = after_relation k s ts (infix_in_front Relations ts)
 after_sum (Some before) k s ts = k (operation before.1 before.0 s) ts
 
--- goes on with an operand behind what stands to its left, and with the operators of its level that follow
+-- goes on with an operand after what stands to its left, and with the operators of its level that follow
 abbrev pub after_operand : Level → Option (BuiltIn × Term) → Going → Going
 after_operand level left k t ts = then_read (grouped_read level (joined left t) ts) k
 
--- goes on with a product behind what stands to its left
+-- goes on with a product after what stands to its left
 abbrev pub after_product : Option (BuiltIn × Term) → Option (BuiltIn × Term) → Going → Going
 after_product relation sum k = after_operand Sums sum (after_sum relation k)
 
--- goes on with a part behind what stands to its left
+-- goes on with a part after what stands to its left
 abbrev pub after_part : Option (BuiltIn × Term) → Option (BuiltIn × Term) → Option (BuiltIn × Term) → Going → Going
 after_part relation sum product k = after_operand Products product (after_product relation sum k)
 
--- goes on with a primary behind what stands to the left of a colon, or perhaps with a colon
+-- goes on with a primary after what stands to the left of a colon, or perhaps with a colon
 abbrev pub after_colon : Option Term → Going → Going
 after_colon None k p ts = if_there (behind_colon ts) (k p ts) (λ us. then_read (primary_read us) (λ q vs. k (pair (codes ":") p q) vs))
 after_colon (Some m) k p ts = k (pair (codes ":") m p) ts
 
--- goes on with a primary behind what stands to its left
+-- goes on with a primary after what stands to its left
 abbrev pub after_primary : Left → Going → Going
 after_primary left k = after_colon left.colon (after_part left.relation left.sum left.product k)
 
--- goes on behind the elements of a list
+-- goes on after the elements of a list
 abbrev pub after_elements : Going → List Term → List grammar.Numbered → Answer (List Term)
 after_elements k es ts = if_there (behind_bar ts) (then_skip (behind_close_list ts) (λ us. k (cells (terms_of es) nil) us)) (λ us. then_read (expression_read us) (λ t vs. then_skip (behind_close_list vs) (λ ws. k (cells (terms_of es) t) ws)))
 
--- goes on behind arguments
+-- goes on after arguments
 abbrev pub after_arguments : List ℕ → Going → List Term → List grammar.Numbered → Answer (List Term)
 after_arguments f k es ts = then_skip (behind_close ts) (λ us. k (structure f (terms_of es)) us)
 
--- goes on behind an expression in what was opened
+-- goes on after an expression in what was opened
 abbrev pub after_opened : Opened → Going → Going
 after_opened Group k e ts = then_skip (behind_close ts) (λ us. k e us)
 after_opened (Arguments f before) k e ts = if_there (behind_comma ts) (after_arguments f.now k (before.items ++ e ∷ []) ts) (λ us. then_read (series_read us) (λ s vs. after_arguments f.now k (before.items ++ e ∷ s) vs))
 after_opened (Elements before) k e ts = if_there (behind_comma ts) (after_elements k (before.items ++ e ∷ []) ts) (λ us. then_read (series_read us) (λ s vs. after_elements k (before.items ++ e ∷ s) vs))
 after_opened (Tail elements) k e ts = then_skip (behind_close_list ts) (λ us. k (cells (terms_of elements.items) e) us)
 
--- goes on behind an expression among others that are parted by commas, behind these
+-- goes on after an expression among others that are parted by commas, after these
 abbrev pub after_last : List Term → Going
 after_last done e ts = if_there (behind_comma ts) (Some (done ++ e ∷ [], ts)) (λ us. then_read (series_read us) (λ s vs. Some (done ++ e ∷ s, vs)))
 
--- goes on behind an expression, where these were opened, the last one first
+-- goes on after an expression, if these were opened, the last one first
 abbrev pub after_expression : List Frame → List Term → Going
 after_expression [] done = after_last done
 after_expression (f ∷ fs) done = after_opened (opened_of f) (after_primary (left_of f) (after_expression fs done))
@@ -131,7 +131,7 @@ open_then opened k ts = then_read (expression_read ts) (after_opened opened k)
 abbrev pub primary_then : Left → Going → List grammar.Numbered → Answer (List Term)
 primary_then left k ts = then_read (primary_read ts) (after_primary left k)
 
--- terms that a text can write, with what is behind them
+-- terms that a text can write, with what is after them
 abbrev pub fit : Answer (List Term) → Answer (List Term)
 fit None = None
 fit (Some r) = if list_all is_writable r.0 then Some r else None

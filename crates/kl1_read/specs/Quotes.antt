@@ -3,11 +3,11 @@ use Rattle.std.specs.Prelude.{◌≡◌, ℕ, nat_le, if◌then◌else◌, List,
 use Rattle.std.specs.Borrow.{Bor}
 use Rattle.kl1_model.specs.Text.{most_name_bytes}
 
--- a text with what is behind it, where it has at most 63 bytes
+-- a text with what is after it, if it has at most 63 bytes
 abbrev pub short : Option (List ℕ × List ℕ) → Option (List ℕ × List ℕ)
 short None = None
 short (Some q) = if nat_le (length q.0) most_name_bytes then Some q else None
 
--- the code's answer is this text with what is behind it
+-- the code's answer is this text with what is after it
 abbrev pub Ends : Option (List ℕ × Bor (List ℕ)) → Option (List ℕ × List ℕ) → Type 0
 Ends found wanted = option_map (λ q. (q.0, q.1.now)) found ≡ wanted

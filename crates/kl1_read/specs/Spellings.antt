@@ -6,7 +6,7 @@ use Rattle.kl1_model.specs.Text.{is_text}
 use Rattle.kl1_model.specs.Numbering.{place_of, variable_number, seen_after}
 use Rattle.kl1_text.specs.Words.{words_of}
 
--- the number of a spelling among those seen, or none where it wasn't seen
+-- the number of a spelling among those seen, or none if it wasn't seen
 abbrev pub IsNumberAmong : List (List ℕ) → List ℕ → Option ℕ → Type 0
 IsNumberAmong seen v None = place_of seen v ≡ suc (length seen)
 IsNumberAmong seen v (Some n) = (place_of seen v ≡ n) × (n ≤ length seen)
@@ -15,7 +15,7 @@ IsNumberAmong seen v (Some n) = (place_of seen v ≡ n) × (n ≤ length seen)
 abbrev pub Finds : {S : Type 0} → HashMap (List ℕ) ℕ S → List (List ℕ) → Type 0
 Finds numbers seen = (v : List ℕ) → IsTrue (is_text v) → bytes_eq v (codes "_") ≡ false → IsNumberAmong seen v (get (pointwise nat_eq) numbers (words_of 8 v))
 
--- a spelling was put behind those seen, and its number is the next one
+-- a spelling was put after those seen, and its number is the next one
 pub record IsBehind (before now : List (List ℕ)) (v : List ℕ) (n : ℕ) : Type 0 where
   pub next : n ≡ suc (length before)
   pub put : now ≡ before ++ v ∷ []

@@ -8,11 +8,11 @@ use Rattle.kl1_model.specs.Goal.{is_goal}
 use Rattle.kl1_read.specs.Pieces.{writable}
 use Rattle.kl1_model.specs.Module.{Reading, good, bad}
 
--- the term of tokens that are one expression, where a text can write it
+-- the term of tokens that are one expression, if a text can write it
 abbrev pub expression_read : List Numbered → Option Term
 expression_read ts = option_and_then writable (option_map expression_term (expression_tree ts))
 
--- a term that a text can write, where there is one and it is a goal for itself, or else a fault on this line
+-- a term that a text can write, if there is one and it is a goal for itself, or else a fault on this line
 abbrev pub started : ℕ → Option Term → Reading Term
 started line None = bad line
 started line (Some t) = if is_goal t then good t else bad line

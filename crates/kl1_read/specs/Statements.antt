@@ -27,7 +27,7 @@ pub record Statement : Type 0 where
   pub tests : List Term
   pub body : List BodyGoal
 
--- what was put, where something was
+-- what was put, if something was
 abbrev pub given : {A : Type 0} → Bool → A → Option A
 given put x = if put then Some x else None
 
@@ -39,30 +39,30 @@ statement_by h tests body = record { heading = h; tests = tests; body = body }
 abbrev pub statement_of : ClauseTerms → Statement
 statement_of c = statement_by (record { name = c.name; arguments = c.arguments.items }) c.tests.items (map goal_of_term c.body.items)
 
--- terms that were read, with what is behind them
+-- terms that were read, with what is after them
 abbrev pub left_view : Option (Bor (List Numbered)) → List Term → Answer (List Term)
 left_view None ts = None
 left_view (Some rest) ts = Some (ts, map numbered_token rest.now)
 
--- a clause that was read, with what is behind it
+-- a clause that was read, with what is after it
 abbrev pub statement_view : Option (Bor (List Numbered)) → Statement → Answer Statement
 statement_view None s = None
 statement_view (Some rest) s = Some (s, map numbered_token rest.now)
 
--- the name and the arguments of a head that were read, with what is behind them
+-- the name and the arguments of a head that were read, with what is after them
 abbrev pub heading_view : Option (Bor (List Numbered)) → List ℕ → List Term → Answer Heading
 heading_view None p ts = None
 heading_view (Some rest) p ts = Some (record { name = p; arguments = ts }, map numbered_token rest.now)
 
--- the terms of expressions parted by commas, where a text can write each
+-- the terms of expressions parted by commas, if a text can write each
 abbrev pub written_series : List grammar.Numbered → Answer (List Term)
 written_series ts = fit (series_read ts)
 
--- arguments in parentheses behind the name of a head
+-- arguments in parentheses after the name of a head
 abbrev pub arguments_read : List ℕ → List grammar.Numbered → Answer Heading
 arguments_read p ts = then_skip (behind_open ts) (λ us. then_read (written_series us) (λ s vs. then_skip (behind_close vs) (λ ws. Some (record { name = p; arguments = s }, ws))))
 
--- a head, where one is in front whose arguments a text can write
+-- a head, if one is in front whose arguments a text can write
 abbrev pub heading_read : List grammar.Numbered → Answer Heading
 heading_read (name_token p quotes false ∷ ts) = Some (record { name = p; arguments = [] }, ts)
 heading_read (name_token p quotes true ∷ ts) = arguments_read p ts
@@ -72,11 +72,11 @@ heading_read _ = None
 abbrev pub with_body : Heading → List Term → Answer (List BodyGoal) → Answer Statement
 with_body h tests x = answer_map (statement_by h tests) x
 
--- a body behind a neck, or tests, a bar and a body
+-- a body after a neck, or tests, a bar and a body
 abbrev pub guarded_read : Heading → List grammar.Numbered → Answer Statement
 guarded_read h ts = then_read (written_series ts) (λ s us. if_there (behind_bar us) (with_body h [] (terms_after written_goals s us)) (λ vs. with_body h s (written_goals vs)))
 
--- what is behind a head: nothing, or a neck with a body
+-- what is after a head: nothing, or a neck with a body
 abbrev pub body_read : Heading → List grammar.Numbered → Answer Statement
 body_read h us = if_there (behind_neck us) (Some (record { heading = h; tests = []; body = without_priority true_goal ∷ [] }, us)) (λ vs. guarded_read h vs)
 

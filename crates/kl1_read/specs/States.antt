@@ -11,12 +11,12 @@ use Rattle.kl1_read.specs.declared.state.Step.TheVariants.{Bad, On, Finished}
 use Rattle.kl1_read.specs.Views.{numbered_token}
 use Rattle.kl1_read.specs.Meanings.{Going, after_primary, after_expression, primary_then}
 
--- reads on, behind a primary where one was read
+-- reads on, after a primary if one was read
 abbrev pub read_on : Option Term → Left → Going → List grammar.Numbered → Answer (List Term)
 read_on None left k ts = primary_then left k ts
 read_on (Some p) left k ts = after_primary left k p ts
 
--- the terms that come of a state, where these were opened, these terms are done and this stands to the left
+-- the terms that come of a state, if these were opened, these terms are done and this stands to the left
 abbrev pub state_answer : List Frame → List Term → Left → State → Answer (List Term)
 state_answer frames done left s = read_on s.read left (after_expression (reverse frames) done) (map numbered_token s.rest.now)
 
@@ -32,7 +32,7 @@ StepLess n Bad = Unit {0}
 StepLess n (On s) = length s.rest.now < n
 StepLess n (Finished rest) = Unit {0}
 
--- more is to be read, and so many tokens are left
+-- more is to be read, and `n` tokens are left
 abbrev pub GoesTo : ℕ → Step → Type 0
 GoesTo n Bad = ⊥
 GoesTo n (On s) = length s.rest.now ≡ n

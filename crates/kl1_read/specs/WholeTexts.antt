@@ -5,17 +5,17 @@ use Rattle.kl1_model.specs.Module.{bare_tokens, first_line}
 use Rattle.kl1_read.specs.declared.whole_text.WholeText.{WholeText}
 use Rattle.kl1_read.specs.Views.{kept_token}
 
--- a line, and tokens where there are some
+-- a line, and tokens if there are some
 pub record Whole : Type 0 where
   pub line : ℕ
   pub tokens : Option (List (Token (List ℕ)))
 
--- the tokens where no byte was none
+-- the tokens, if no line has a byte that is no token
 abbrev pub unbroken : Option ℕ → List (Token (List ℕ)) → Option (List (Token (List ℕ)))
 unbroken None ts = Some ts
 unbroken (Some line) ts = None
 
--- the whole, where it may have begun on a line with tokens before these
+-- the whole; it may have begun on a line with tokens before these
 abbrev pub whole_from : Option ℕ → List (Token (List ℕ)) → Tokens → Whole
 whole_from began before ts = record { line = unwrap_or began (first_line ts.placed ts.broken_at); tokens = unbroken ts.broken_at (before ++ bare_tokens ts.placed) }
 

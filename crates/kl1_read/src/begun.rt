@@ -33,9 +33,9 @@ pub(crate) enum Leaf<'a> {
 pub(crate) enum Begun<'a> {
     /// No primary, or none that a text can write.
     Bad,
-    /// A whole primary, with what is behind it.
+    /// A whole primary, with what is after it.
     Whole(Leaf<'a>, &'a [Numbered]),
-    /// A bracket that opens, with what is in it and behind it.
+    /// A bracket that opens, with what is in it and after it.
     Opens(Opened<'a>, &'a [Numbered]),
 }
 
@@ -106,7 +106,7 @@ fn positive(number: u64, rest: &[Numbered]) -> Begun<'_>
     Begun::Whole(Leaf::Integer(number as i64), rest)
 }
 
-/// An integer behind its `-`.
+/// An integer after its `-`.
 #[tactic(auto, unfolding(crate::specs::Meanings::primary_read))]
 fn negative(tokens: &[Numbered]) -> Begun<'_>
     ensures value { Begins result (minus_token true ∷ map numbered_token tokens.now) }
@@ -118,7 +118,7 @@ fn negative(tokens: &[Numbered]) -> Begun<'_>
     }
 }
 
-/// An integer behind its `-`, by the token there.
+/// An integer after its `-`, by the token there.
 #[tactic(auto, unfolding(crate::specs::Meanings::primary_read))]
 fn negative_with<'a>(first: &Numbered, rest: &'a [Numbered]) -> Begun<'a>
     ensures value { Begins result (minus_token true ∷ numbered_token first.now ∷ map numbered_token rest.now) }
@@ -134,7 +134,7 @@ fn negative_with<'a>(first: &Numbered, rest: &'a [Numbered]) -> Begun<'a>
     }
 }
 
-/// An integer behind its `-`, by its digits.
+/// An integer after its `-`, by its digits.
 fn below_zero(number: u64, rest: &[Numbered]) -> Begun<'_>
     ensures value { Begins result (minus_token true ∷ digits_token number ∷ map numbered_token rest.now) }
     ensures less { BegunLess (suc (length rest.now)) result }
@@ -145,7 +145,7 @@ fn below_zero(number: u64, rest: &[Numbered]) -> Begun<'_>
     Begun::Whole(Leaf::Integer(negated(number)), rest)
 }
 
-/// The negative of a number.
+/// The negative of `number`.
 fn negated(number: u64) -> i64
     requires { number ≤ number_limit }
     ensures { result ≡ neg_ℤ (pos number) }
@@ -169,7 +169,7 @@ fn open<'a>(alloc: Global, sign: Sign, rest: &'a [Numbered]) -> Begun<'a>
     }
 }
 
-/// A list behind the bracket that opens it.
+/// A list after the bracket that opens it.
 fn list<'a>(alloc: Global, rest: &'a [Numbered]) -> Begun<'a>
     ensures value { Begins result (sign_token OpenList ∷ map numbered_token rest.now) }
     ensures less { BegunLess (suc (length rest.now)) result }

@@ -42,7 +42,7 @@ pub(crate) fn put_goals(
     Ok(true)
 }
 
-/// The goal that a term is in the body of a clause, in a module of this name, with the priority that it names. None where it is
+/// The goal that a term is in the body of a clause, in a module of this name, with the priority that it names. None if it is
 /// no goal, or may not name that priority.
 fn goal_of(
     alloc: Global,
@@ -52,6 +52,8 @@ fn goal_of(
     ensures { IfOk result (λ parts. option_map goal_of_parts parts ≡ fit_named module_name (goal_of_term goal)) }
 {
     let GoalTerm { term, priority } = goal;
+    // Only for the proof: a text can write it.
+    // Only for the proof: a text can write it.
     term.is_written();
     let term = term.into_term(alloc)?;
     if !may_have(priority, &term) {
@@ -73,7 +75,7 @@ fn may_have(priority: Option<u64>, term: &Term) -> bool
     }
 }
 
-/// The goal that a term is in the body of a clause, in a module of this name: with the module's name where it names none.
+/// The goal that a term is in the body of a clause, in a module of this name: with the module's name if it names none.
 fn whole_goal(alloc: Global, module_name: AtomText, term: Term) -> Result<Option<Term>, AllocError>
     ensures { IfOk result (λ goal. goal ≡ body_goal module_name term) }
 {

@@ -28,7 +28,7 @@ pub(crate) struct ClauseTerms {
     pub(crate) body: Vec<GoalTerm>,
 }
 
-/// Reads the clause that all tokens of an item are, as terms. Answers false where they are no clause, or no text can write
+/// Reads the clause that all tokens of an item are, as terms. Answers false if they are no clause, or no text can write
 /// one of its arguments, tests or goals.
 pub(crate) fn read_terms(
     alloc: Global,
@@ -49,7 +49,7 @@ pub(crate) fn read_terms(
     }
 }
 
-/// Reads a clause; gives what is behind it.
+/// Reads a clause; gives what is after it.
 fn read_front<'a>(
     alloc: Global,
     tokens: &'a [Numbered],
@@ -66,7 +66,7 @@ fn read_front<'a>(
     }
 }
 
-/// Reads what is behind a head: nothing, which is the body `true`, or a neck with a body, or with tests, a bar and a body.
+/// Reads what is after a head: nothing, which is the body `true`, or a neck with a body, or with tests, a bar and a body.
 fn read_body<'a>(
     alloc: Global,
     tokens: &'a [Numbered],
@@ -90,7 +90,7 @@ fn read_body<'a>(
     }
 }
 
-/// Reads what is behind a neck: a body, or tests, a bar and a body.
+/// Reads what is after a neck: a body, or tests, a bar and a body.
 fn read_guarded<'a>(
     alloc: Global,
     tokens: &'a [Numbered],

@@ -15,7 +15,7 @@ use crate::spelling::Spelling;
 use kl1_text::AtomText;
 use std::alloc::{AllocError, Global};
 
-/// What was opened, behind an expression in it.
+/// What was opened, after an expression in it.
 #[derive(Drop)]
 pub(crate) enum Closed<'a> {
     /// It isn't closed rightly, or no text can write it.
@@ -49,7 +49,7 @@ pub(crate) fn close<'a>(
     }
 }
 
-/// Puts an expression behind arguments, and closes them where no comma follows.
+/// Puts an expression after arguments, and closes them if no comma follows.
 fn close_arguments<'a>(
     alloc: Global,
     name: &'a Spelling,
@@ -74,7 +74,7 @@ fn close_arguments<'a>(
     }
 }
 
-/// Puts an expression behind elements, and goes on to what follows them where no comma does.
+/// Puts an expression after elements, and goes on to what follows them if no comma does.
 fn close_elements<'a>(
     alloc: Global,
     elements: Vec<Piece>,
@@ -92,7 +92,7 @@ fn close_elements<'a>(
     }
 }
 
-/// Closes a list behind its elements, or goes on to its tail.
+/// Closes a list after its elements, or goes on to its tail.
 fn end_elements<'a>(
     alloc: Global,
     elements: Vec<Piece>,
@@ -120,7 +120,7 @@ fn end_elements<'a>(
     }
 }
 
-/// Closes a list behind its tail.
+/// Closes a list after its tail.
 fn close_tail<'a>(
     elements: Vec<Piece>,
     piece: Piece,

@@ -12,7 +12,7 @@ use crate::piece::Piece;
 use crate::series::read_series;
 use std::alloc::{AllocError, Global};
 
-/// The term of tokens that are one expression, where a text can write it.
+/// The term of tokens that are one expression, if a text can write it.
 pub(crate) fn read_expression(
     alloc: Global,
     tokens: &[Numbered],
@@ -23,7 +23,7 @@ pub(crate) fn read_expression(
     Ok(lone_term(series))
 }
 
-/// The term that was read, where it is one and nothing is behind it.
+/// The term that was read, if it is one and nothing is after it.
 fn lone_term(series: Option<(Vec<Piece>, &[Numbered])>) -> Option<Piece>
     ensures { result ≡ single (series_view series.entry) }
 {

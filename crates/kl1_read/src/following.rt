@@ -9,8 +9,8 @@ use crate::clause_parts::ClauseParts;
 use kl1_model::limits::MOST_CLAUSES;
 use kl1_text::AtomText;
 
-/// The section of a clause behind these, directly behind an `otherwise` or not, where it may follow them: there is room, clauses
-/// of one name and number of arguments stand together, and an `otherwise` stands between two of them. Behind an `otherwise` a
+/// The section of a clause after these, directly after an `otherwise` or not, if it may follow them: there is room, clauses
+/// of one name and number of arguments stand together, and an `otherwise` stands between two of them. After an `otherwise` a
 /// section begins.
 pub(crate) fn section_for(before: &[ClauseParts], behind: bool, clause: &ClauseParts) -> Option<u64>
     requires { last_section before.now ≤ length before.now }
@@ -42,7 +42,7 @@ fn has_room(clauses: &[ClauseParts]) -> bool
     clauses.len() < MOST_CLAUSES
 }
 
-/// The section of the last of clauses, where it is one of a predicate.
+/// The section of the last of clauses, if it is one of a predicate.
 fn section_within(clauses: &[ClauseParts], name: &AtomText, count: usize) -> Option<u64>
     ensures { result ≡ section_within name.now count clauses.now }
 {

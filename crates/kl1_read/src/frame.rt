@@ -15,7 +15,7 @@ pub(crate) enum Frame<'a> {
     Group,
     /// What was opened with nothing to its left.
     First(Box<Opened<'a>>),
-    /// What was opened behind something.
+    /// What was opened after something.
     Behind(Box<Waiting<'a>>),
 }
 

@@ -17,7 +17,7 @@ use crate::words::{behind_comment, behind_digits, behind_word, digits_of, word_o
 use kl1_model::limits::NUMBER_LIMIT;
 use kl1_text::{AtomText, decimal_up_to};
 
-/// What stands in front of a text, with what is behind it.
+/// What stands in front of a text, with what is after it.
 pub(crate) enum Front<'a> {
     /// The text is at its end.
     Finished,
@@ -143,7 +143,7 @@ fn sign_front(bytes: &[u8]) -> Front<'_>
     }
 }
 
-/// What is behind so many bytes.
+/// What is after the first `count` bytes.
 fn behind(bytes: &[u8], count: usize) -> &[u8]
     ensures { result.now ≡ drop count bytes.now }
 {

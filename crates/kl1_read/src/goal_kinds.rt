@@ -39,7 +39,7 @@ fn begins_goal(nodes: &[Node]) -> bool
     }
 }
 
-/// Whether a structure of a name and so many arguments, whose nodes these are, is a goal.
+/// Whether a structure with name `name` and `count` arguments, whose nodes these are, is a goal.
 fn begins_structure_goal(name: &AtomText, count: usize, nodes: &[Node]) -> bool
     ensures { result ≡ begins_structure_goal name.now count nodes.now }
 {
@@ -87,7 +87,7 @@ fn begins_built_in(nodes: &[Node]) -> bool
     }
 }
 
-/// Whether a structure of a name and so many arguments, whose nodes these are, is a built-in goal.
+/// Whether a structure with name `name` and `count` arguments, whose nodes these are, is a built-in goal.
 fn begins_built_in_structure(name: &AtomText, count: usize, nodes: &[Node]) -> bool
     ensures { result ≡ begins_built_in_structure name.now count nodes.now }
 {
@@ -95,7 +95,7 @@ fn begins_built_in_structure(name: &AtomText, count: usize, nodes: &[Node]) -> b
         || (count == 2 && name.is(&AtomText::of(b":")) && begins_execute(nodes))
 }
 
-/// Whether a name with so many arguments is that of a built-in goal of two terms.
+/// Whether a name with `count` arguments is that of a built-in goal of two terms.
 fn is_pair_goal(name: &AtomText, count: usize) -> bool
     ensures { result ≡ is_pair_goal name.now count }
 {

@@ -24,13 +24,13 @@ pub(crate) struct GoalTerm {
 enum Following<'a> {
     /// An `@` without a priority.
     Bad,
-    /// No further goal; this is behind them.
+    /// No further goal; this is after them.
     Last(&'a [Numbered]),
     /// Further goals, which begin here.
     More(&'a [Numbered]),
 }
 
-/// Reads the goals of a body; gives what is behind them. None where no goals are there, or no text can write one of them.
+/// Reads the goals of a body; gives what is after them. None if no goals are there, or no text can write one of them.
 pub(crate) fn read_goals<'a>(
     alloc: Global,
     tokens: &'a [Numbered],
@@ -45,7 +45,7 @@ pub(crate) fn read_goals<'a>(
     }
 }
 
-/// Reads the goals of a body of which the first ones were read as these terms; gives what is behind them.
+/// Reads the goals of a body of which the first ones were read as these terms; gives what is after them.
 pub(crate) fn read_on<'a>(
     alloc: Global,
     terms: Vec<Piece>,
@@ -135,7 +135,7 @@ fn put_named(
     }
 }
 
-/// The number of the priority that is named in front, behind its `@`, with what is behind it.
+/// The number of the priority that is named in front, after its `@`, with what is after it.
 fn read_priority(tokens: &[Numbered]) -> Option<(u64, &[Numbered])>
     ensures value { priority_view result ≡ priority_read (map numbered_token tokens.now) }
     ensures less { IfSome result (λ r. length r.1.now < length tokens.now) }
@@ -147,7 +147,7 @@ fn read_priority(tokens: &[Numbered]) -> Option<(u64, &[Numbered])>
     Some((number, after))
 }
 
-/// What is behind the word `priority` in front of a `(`.
+/// What is after the word `priority` in front of a `(`.
 fn behind_word(tokens: &[Numbered]) -> Option<&[Numbered]>
     ensures value { option_map (λ rest. map numbered_token rest.now) result ≡ behind_word (map numbered_token tokens.now) }
     ensures less { IfSome result (λ rest. length rest.now < length tokens.now) }
@@ -168,7 +168,7 @@ fn behind_word(tokens: &[Numbered]) -> Option<&[Numbered]>
     }
 }
 
-/// The digits in front, with what is behind them.
+/// The digits in front, with what is after them.
 fn digits_in_front(tokens: &[Numbered]) -> Option<(u64, &[Numbered])>
     ensures value { priority_view result ≡ digits_in_front (map numbered_token tokens.now) }
     ensures less { IfSome result (λ r. length r.1.now < length tokens.now) }

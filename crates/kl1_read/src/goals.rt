@@ -39,7 +39,7 @@ fn goal_of(alloc: Global, line: u64, tokens: Vec<Kept>) -> Result<Term, ReadFaul
     start_of(alloc, line, numbered.as_slice())
 }
 
-/// The goal that numbered tokens are, where they are one.
+/// The goal that numbered tokens are, if they are one.
 fn start_of(alloc: Global, line: u64, tokens: &[Numbered]) -> Result<Term, ReadFault>
     ensures goal { IfOk result (λ goal. started line (expression_read (map numbered_token tokens.now)) ≡ good goal) }
     ensures fault { IfErr result (IsFaultOf (started line (expression_read (map numbered_token tokens.now)))) }

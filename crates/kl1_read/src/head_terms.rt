@@ -11,7 +11,7 @@ use crate::piece::Piece;
 use kl1_text::AtomText;
 use std::alloc::{AllocError, Global};
 
-/// Reads the name and the arguments of a head; gives what is behind it. None where no head is there, or no text can write
+/// Reads the name and the arguments of a head; gives what is after it. None if no head is there, or no text can write
 /// one of its arguments.
 pub(crate) fn read_head<'a>(
     alloc: Global,

@@ -23,7 +23,7 @@ pub(crate) enum Level {
     Products,
 }
 
-/// The name of a level in front of tokens, with what is behind it.
+/// The name of a level in front of tokens, with what is after it.
 pub(crate) fn infix_in_front(level: Level, tokens: &[Numbered]) -> Option<(BuiltIn, &[Numbered])>
     ensures value { infix_view result ≡ infix_in_front level (map numbered_token tokens.now) }
     ensures less { IfSome result (λ r. length r.1.now < length tokens.now) }
@@ -51,7 +51,7 @@ fn infix_of(level: Level, token: &Numbered) -> Option<BuiltIn>
     }
 }
 
-/// The name of a level that a name is: `mod` is one where it doesn't stand in quotes.
+/// The name of a level that a name is: `mod` is one if it doesn't stand in quotes.
 fn infix_of_name(level: Level, quotes: bool, text: &Spelling) -> Option<BuiltIn>
     ensures { (applied : Bool) (ts : List grammar.Numbered) → option_map (λ name. (name, ts)) result ≡ infix_in_front level (name_token text.now quotes applied ∷ ts) }
 {

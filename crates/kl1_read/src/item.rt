@@ -15,7 +15,7 @@ pub(crate) enum Next<'a> {
     Nothing,
     /// An item that has no end or a byte that is no token, by the line on which it begins.
     Bad(u64),
-    /// An item, with what is behind it.
+    /// An item, with what is after it.
     Whole(Item, Place<'a>),
 }
 
@@ -76,7 +76,7 @@ pub(crate) fn next_item<'a>(alloc: Global, place: Place<'a>) -> Result<Next<'a>,
     }
 }
 
-/// What the end of a text leaves, where an item may have begun.
+/// What the end of a text leaves, if an item may have begun.
 fn last_item<'a>(began: Option<u64>) -> Next<'a>
     ensures items { items_of_next result ≡ last_item began None }
     ensures behind { (line : ℕ) (bytes : List ℕ) → GoesOn line bytes result }

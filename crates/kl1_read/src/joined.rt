@@ -126,12 +126,14 @@ fn join_sum<'a>(
     }
 }
 
-/// Joins an operand with what stands to its left, where a text can write that.
+/// Joins an operand with what stands to its left, if a text can write that.
 fn join_operand(left: Option<(BuiltIn, Piece)>, operand: Piece) -> Result<Option<Piece>, AllocError>
     ensures { IfOk result (λ whole. whole ≡ writable (joined left operand)) }
 {
     match left {
         None => {
+            // Only for the proof: a text can write it.
+            // Only for the proof: a text can write it.
             operand.is_written();
             Ok(Some(operand))
         }

@@ -11,13 +11,13 @@ use std::alloc::{AllocError, Global};
 /// A token whose variables are known by their spellings, in little room.
 #[derive(Drop)]
 pub(crate) enum Kept {
-    /// Whether a name stood in quotes, whether a `(` stands directly behind it, and the name.
+    /// Whether a name stood in quotes, whether a `(` stands directly after it, and the name.
     Name(bool, bool, Spelling),
     /// A variable.
     Variable(Spelling),
     /// Digits by their value, at most 2^63.
     Digits(u64),
-    /// `-`, and whether a digit stands directly behind it.
+    /// `-`, and whether a digit stands directly after it.
     Minus(bool),
     /// A sign.
     Sign(Sign),

@@ -7,7 +7,7 @@ use crate::piece::Piece;
 use kl1_model::BuiltIn;
 
 /// What stands to the left of the primary that is being read, in its expression: what was read of each level, with the name
-/// of what stands behind it.
+/// of what stands after it.
 #[derive(Drop)]
 pub(crate) struct Left {
     /// The sum before a relation.

@@ -51,7 +51,7 @@ pub(crate) fn is_sign(token: &Numbered, sign: Sign) -> bool
     }
 }
 
-/// What is behind a mark in front.
+/// What is after a mark in front.
 pub(crate) fn behind_mark(mark: Mark, tokens: &[Numbered]) -> Option<&[Numbered]>
     ensures value { option_map (λ rest. map numbered_token rest.now) result ≡ behind_mark mark (map numbered_token tokens.now) }
     ensures less { IfSome result (λ rest. length rest.now < length tokens.now) }

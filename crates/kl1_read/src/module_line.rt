@@ -10,7 +10,7 @@ use crate::kept::Kept;
 use kl1_model::Sign;
 use kl1_text::AtomText;
 
-/// The name in the line of a module, where these are its tokens.
+/// The name in the line of a module, if these are its tokens.
 pub(crate) fn named_module(tokens: &[Kept]) -> Option<AtomText>
     ensures { result ≡ named_module (map kept_token tokens.now) }
 {
@@ -26,7 +26,7 @@ pub(crate) fn named_module(tokens: &[Kept]) -> Option<AtomText>
     }
 }
 
-/// The name in the line of a module, where these are its tokens behind a sign.
+/// The name in the line of a module, if these are its tokens after a sign.
 #[tactic(auto, using(crate::proofs::ModuleLines::other_sign))]
 fn behind_sign(sign: Sign, tokens: &[Kept]) -> Option<AtomText>
     ensures { result ≡ named_module (sign_token sign ∷ map kept_token tokens.now) }
@@ -38,7 +38,7 @@ fn behind_sign(sign: Sign, tokens: &[Kept]) -> Option<AtomText>
     }
 }
 
-/// The name in the line of a module, where these are its two tokens behind the neck.
+/// The name in the line of a module, if these are its two tokens after the neck.
 fn named(word: &Kept, name: &Kept) -> Option<AtomText>
     ensures { result ≡ named_module (sign_token Neck ∷ kept_token word.now ∷ kept_token name.now ∷ []) }
 {

@@ -47,7 +47,7 @@ pub fn read_module(alloc: Global, text: &[u8]) -> Result<Source, ReadFault>
     }
 }
 
-/// Puts the clauses of the items that are left of a module of this name behind the others.
+/// Puts the clauses of the items that are left of a module of this name after the others.
 fn put_clauses(
     alloc: Global,
     name: AtomText,
@@ -77,7 +77,7 @@ fn put_clauses(
     }
 }
 
-/// The end of a module's items: an `otherwise` on this line with no clause behind it is bad.
+/// The end of a module's items: an `otherwise` on this line with no clause after it is bad.
 fn ended(pending: Option<u64>) -> Result<(), ReadFault>
     ensures clauses { OnOk result ((before : List Clause) → clauses_ended before pending ≡ good before) }
     ensures fault { IfErr result (λ e. (before : List Clause) → IsFaultOf (clauses_ended before pending) e) }
@@ -88,7 +88,7 @@ fn ended(pending: Option<u64>) -> Result<(), ReadFault>
     }
 }
 
-/// Puts what an item means behind the clauses and the line of an `otherwise` directly behind them, where it may follow them in a
+/// Puts what an item means after the clauses and the line of an `otherwise` directly after them, if it may follow them in a
 /// module of this name. Answers whether it may.
 fn put_item(
     alloc: Global,
@@ -121,7 +121,7 @@ fn is_otherwise(tokens: &[Kept]) -> bool
     }
 }
 
-/// The line of an `otherwise` on this line, where it stands directly behind a clause, and not behind another `otherwise`.
+/// The line of an `otherwise` on this line, if it stands directly after a clause, and not after another `otherwise`.
 fn otherwise_on(line: u64, before: &[ClauseParts], pending: Option<u64>) -> Option<u64>
     ensures { result ≡ otherwise_on line (map clause_of_parts before.now) pending }
 {
@@ -134,8 +134,8 @@ fn otherwise_on(line: u64, before: &[ClauseParts], pending: Option<u64>) -> Opti
     }
 }
 
-/// Puts the clause that the tokens of an item are behind the others, where they are one that may follow them in a module of
-/// this name, directly behind an `otherwise` or not. Answers whether it did.
+/// Puts after the others the clause that the tokens of an item are, if they are one that may follow them in a module of
+/// this name, directly after an `otherwise` or not. Answers whether it did.
 fn put_clause(
     alloc: Global,
     name: AtomText,

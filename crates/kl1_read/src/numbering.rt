@@ -17,7 +17,7 @@ use kl1_text::AtomText;
 use std::alloc::{AllocError, Global};
 use std::collections::HashMap;
 
-/// Puts a spelling behind those seen; gives its number.
+/// Puts a spelling after those seen; gives its number.
 fn put(seen: &mut Vec<AtomText>, text: AtomText) -> Result<u64, AllocError>
     ensures { IfOk result (IsBehind seen.old.items seen.new.items text) }
 {
@@ -33,7 +33,7 @@ fn is_another(text: &AtomText) -> bool
     text.is(&AtomText::of(b"_"))
 }
 
-/// The number of a variable, which joins those seen where it is new: `_` is another one each time.
+/// The number of a variable, which joins those seen if it is new: `_` is another one each time.
 fn number_of(
     numbers: &mut HashMap<[u64; 8], u64>,
     seen: &mut Vec<AtomText>,

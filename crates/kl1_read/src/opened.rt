@@ -12,6 +12,6 @@ pub(crate) enum Opened<'a> {
     Arguments(&'a Spelling, Vec<Piece>),
     /// The elements of a list, those that are read.
     Elements(Vec<Piece>),
-    /// What follows the elements of a list behind a bar.
+    /// What follows the elements of a list after a bar.
     Tail(Vec<Piece>),
 }

@@ -33,7 +33,7 @@ pub(crate) fn put_patterns(
     }
 }
 
-/// Puts the tests of a guard behind a head of these patterns. Answers whether each is a test whose variables are the head's: those
+/// Puts the tests of a guard after a head of these patterns. Answers whether each is a test whose variables are the head's: those
 /// have the numbers from 1 on.
 pub(crate) fn put_tests(
     alloc: Global,
@@ -69,10 +69,12 @@ fn put_terms(
     Ok(true)
 }
 
-/// The term itself, where it may stand there.
+/// The term itself, if it may stand there.
 fn term_as(alloc: Global, role: Role, piece: Piece) -> Result<Option<Term>, AllocError>
     ensures { IfOk result (λ term. term ≡ fit_as role piece) }
 {
+    // Only for the proof: a text can write it.
+    // Only for the proof: a text can write it.
     piece.is_written();
     let term = piece.into_term(alloc)?;
     let stands = match role {
@@ -99,13 +101,15 @@ fn is_fit(name: &AtomText, arguments: &[Piece]) -> bool
     deepest(arguments) < MOST_DEPTH
 }
 
-/// How deep the deepest of terms is, 0 where there is none.
+/// How deep the deepest of terms is, 0 if there is none.
 fn deepest(pieces: &[Piece]) -> u64
     ensures value { result ≡ deepest (terms_of pieces.now) }
     ensures narrow { IsTrue (are_narrow (terms_of pieces.now)) }
 {
     let mut most = 0;
     for piece in pieces {
+        // Only for the proof: a text can write it.
+        // Only for the proof: a text can write it.
         piece.is_written();
         most = most.max(piece.depth());
     }

@@ -71,7 +71,7 @@ impl Piece {
         })
     }
 
-    /// The structure of two arguments with this name, where a text can write it.
+    /// The structure of two arguments with this name, if a text can write it.
     pub(crate) fn pair(
         name: AtomText,
         first: Piece,
@@ -99,7 +99,7 @@ impl Piece {
         Ok(Some(Piece { nodes, whole, rest }))
     }
 
-    /// A text can write the term.
+    /// Tells a caller's proof that a text can write the term. It does nothing.
     pub(crate) fn is_written(&self)
         ensures { IsTrue (is_writable self.now) }
     {
@@ -121,7 +121,7 @@ impl Piece {
         self.whole
     }
 
-    /// Puts the nodes behind others, which come before them in the order of reading; gives the depth. Where there are no
+    /// Puts the nodes after others, which come before them in the order of reading; gives the depth. If there are no
     /// others, the nodes are not copied.
     fn spill(self, nodes: &mut Vec<SmallNode>) -> Result<u64, AllocError>
         ensures nodes { OnOk result (map code_of (reverse (map node_of nodes.new.items)) ≡ nodes_of self ++ map code_of (reverse (map node_of nodes.old.items))) }
@@ -142,7 +142,7 @@ impl Piece {
         Ok(whole)
     }
 
-    /// A list of these elements with this behind them, where a text can write it.
+    /// A list of these elements with this after them, if a text can write it.
     pub(crate) fn cells(elements: Vec<Piece>, tail: Piece) -> Result<Option<Self>, AllocError>
         ensures { IfOk result (λ piece. piece ≡ writable (cells (terms_of elements.items) tail)) }
     {
@@ -155,7 +155,7 @@ impl Piece {
         Piece::put_cells(elements, Piece { nodes, whole, rest })
     }
 
-    /// A list of these elements with this behind them, which is put in front of what is behind it.
+    /// A list of these elements with this after them, which is put in front of what is after it.
     fn put_cells(elements: Vec<Piece>, tail: Piece) -> Result<Option<Self>, AllocError>
         ensures { IfOk result (λ piece. piece ≡ writable (cells (terms_of elements.items) tail)) }
     {
@@ -167,11 +167,12 @@ impl Piece {
                 Some(longer) => list = longer,
             }
         }
+        // Only for the proof: a text can write the list.
         let _nodes = &list.nodes;
         Ok(Some(list))
     }
 
-    /// The structure of these arguments with this name, where a text can write it.
+    /// The structure of these arguments with this name, if a text can write it.
     pub(crate) fn structure(
         alloc: Global,
         name: AtomText,
@@ -220,7 +221,7 @@ impl Piece {
     }
 }
 
-/// Puts the nodes of arguments behind others, which come before them in the order of reading; gives how deep the deepest
+/// Puts the nodes of arguments after others, which come before them in the order of reading; gives how deep the deepest
 /// is.
 fn spill_all(arguments: Vec<Piece>, nodes: &mut Vec<SmallNode>) -> Result<u64, AllocError>
     ensures nodes { OnOk result (map code_of (reverse (map node_of nodes.new.items)) ≡ nodes_of_all (terms_of arguments.items) ++ map code_of (reverse (map node_of nodes.old.items))) }
@@ -236,7 +237,7 @@ fn spill_all(arguments: Vec<Piece>, nodes: &mut Vec<SmallNode>) -> Result<u64, A
     Ok(deepest)
 }
 
-/// Puts the node of a structure behind others.
+/// Puts the node of a structure after others.
 fn put_structure(nodes: &mut Vec<SmallNode>, count: u8, name: AtomText) -> Result<(), AllocError>
     ensures nodes { OnOk result (map node_of nodes.new.items ≡ map node_of nodes.old.items ++ Structure name count ∷ []) }
     ensures text { IsTrue (is_text name) }
@@ -256,7 +257,7 @@ fn is_too_deep(depth: u64) -> bool
     depth > MOST_DEPTH
 }
 
-/// Whether no text can write so many arguments.
+/// Whether no text can write `count` arguments.
 fn are_too_many(count: usize) -> bool
     ensures many { result ≡ true → most_arguments < count }
     ensures few { result ≡ false → count ≤ most_arguments }

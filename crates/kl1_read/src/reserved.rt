@@ -54,7 +54,7 @@ pub(crate) fn may_name_atom(name: &AtomText) -> bool
     !is_reserved(name) && !name.is(&AtomText::of(b"true")) && !name.is(&AtomText::of(b"otherwise"))
 }
 
-/// Whether a name may be that of a head with so many arguments, from 1.
+/// Whether a name may be that of a head with `count` arguments, from 1.
 pub(crate) fn may_name_structure(name: &AtomText, count: usize) -> bool
     ensures { result ≡ may_name_structure name.now count }
 {

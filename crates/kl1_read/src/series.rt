@@ -11,7 +11,7 @@ use crate::piece::Piece;
 use crate::state::{State, Step, one_step};
 use std::alloc::{AllocError, Global};
 
-/// The terms of expressions that are parted by commas, with what is behind them; none where no expressions are there, or
+/// The terms of expressions that are parted by commas, with what is after them; none if no expressions are there, or
 /// no text can write one of them.
 pub(crate) fn read_series<'a>(
     alloc: Global,

@@ -9,13 +9,13 @@ use kl1_text::AtomText;
 /// A token whose variables are known by their spellings.
 #[derive(Clone, Copy)]
 pub(crate) enum Spelled {
-    /// A name, whether it stood in quotes, and whether a `(` stands directly behind it.
+    /// A name, whether it stood in quotes, and whether a `(` stands directly after it.
     Name(AtomText, bool, bool),
     /// A variable.
     Variable(AtomText),
     /// Digits by their value, at most 2^63.
     Digits(u64),
-    /// `-`, and whether a digit stands directly behind it.
+    /// `-`, and whether a digit stands directly after it.
     Minus(bool),
     /// A sign.
     Sign(Sign),

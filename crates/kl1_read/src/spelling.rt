@@ -16,7 +16,7 @@ pub(crate) enum Held {
     Long(Box<AtomText>),
 }
 
-/// A name that takes two words, and memory of its own where it has more than eight bytes.
+/// A name that takes two words, and memory of its own if it has more than eight bytes.
 #[derive(Drop)]
 pub(crate) struct Spelling {
     held: Held,

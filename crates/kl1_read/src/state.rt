@@ -20,7 +20,7 @@ use crate::opened::Opened;
 use crate::piece::Piece;
 use std::alloc::{AllocError, Global};
 
-/// Terms that are being read: the primary that was read last, where one was, and the tokens that are left. What was opened,
+/// Terms that are being read: the primary that was read last, if one was, and the tokens that are left. What was opened,
 /// the last one last, the terms that are done, and what stands to the left in the expression stand apart.
 #[derive(Drop)]
 pub(crate) struct State<'a> {
@@ -35,7 +35,7 @@ pub(crate) enum Step<'a> {
     Bad,
     /// More is to be read.
     On(State<'a>),
-    /// All terms are read; this is behind them.
+    /// All terms are read; this is after them.
     Finished(&'a [Numbered]),
 }
 
@@ -98,7 +98,7 @@ fn step_into<'a>(
     Ok(Step::On(State { read: None, rest }))
 }
 
-/// A step behind a primary.
+/// A step after a primary.
 fn step_behind<'a>(
     alloc: Global,
     frames: &mut Vec<Frame<'a>>,
@@ -122,7 +122,7 @@ fn step_behind<'a>(
     }
 }
 
-/// A step behind an expression.
+/// A step after an expression.
 fn step_out<'a>(
     alloc: Global,
     frames: &mut Vec<Frame<'a>>,
@@ -146,7 +146,7 @@ fn step_out<'a>(
     }
 }
 
-/// A step behind an expression in what was opened.
+/// A step after an expression in what was opened.
 fn step_closed<'a>(
     alloc: Global,
     frames: &mut Vec<Frame<'a>>,
@@ -168,7 +168,7 @@ fn step_closed<'a>(
     }
 }
 
-/// A step behind an expression where nothing is open.
+/// A step after an expression if nothing is open.
 #[tactic(auto, using(crate::proofs::Steps::done_grows))]
 fn step_last<'a>(
     done: &mut Vec<Piece>,
@@ -180,6 +180,8 @@ fn step_last<'a>(
     ensures value { IfOk result (λ s. fit (step_answer [] done.new.items no_left s) ≡ fit (after_last done.old.items piece (map numbered_token rest.now))) }
     ensures less { IfOk result (StepLess (length rest.now)) }
 {
+    // Only for the proof: a text can write it.
+    // Only for the proof: a text can write it.
     piece.is_written();
     done.push(piece)?;
     match behind_mark(Mark::Comma, rest) {

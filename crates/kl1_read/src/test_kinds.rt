@@ -51,7 +51,7 @@ fn begins_test(nodes: &[Node]) -> bool
     }
 }
 
-/// Whether a structure of a name and so many arguments is a test.
+/// Whether a structure with name `name` and `count` arguments is a test.
 fn is_structure_test(name: &AtomText, count: usize) -> bool
     ensures { result ≡ is_structure_test name.now count }
 {

@@ -8,7 +8,7 @@ use crate::front::{Front, front_of};
 use crate::kept::{Kept, kept_of};
 use std::alloc::{AllocError, Global};
 
-/// The tokens of a whole text, or none where a byte is no token; with the line of the first of them.
+/// The tokens of a whole text, or none if a byte is no token; with the line of the first of them.
 #[derive(Drop)]
 pub(crate) struct WholeText {
     pub(crate) line: u64,

@@ -7,7 +7,7 @@ ghost use Rattle.kl1_model.specs.Text.{is_name_byte};
 
 use crate::bytes::{is_digit, is_source_byte, is_word_byte};
 
-/// What is behind the word in front.
+/// What is after the word in front.
 pub(crate) fn behind_word(bytes: &[u8]) -> &[u8]
     ensures { result.now ≡ behind_word bytes.now }
 {
@@ -21,7 +21,7 @@ pub(crate) fn behind_word(bytes: &[u8]) -> &[u8]
     rest
 }
 
-/// What is behind the digits in front.
+/// What is after the digits in front.
 pub(crate) fn behind_digits(bytes: &[u8]) -> &[u8]
     ensures { result.now ≡ behind_digits bytes.now }
 {
@@ -35,7 +35,7 @@ pub(crate) fn behind_digits(bytes: &[u8]) -> &[u8]
     rest
 }
 
-/// What is behind a comment, from the end of its line.
+/// What is after a comment, from the end of its line.
 pub(crate) fn behind_comment(bytes: &[u8]) -> Option<&[u8]>
     ensures { option_map (λ rest. rest.now) result ≡ behind_comment bytes.now }
 {
@@ -70,7 +70,7 @@ pub(crate) fn digits_of<'a>(first: u8, bytes: &'a [u8], rest: &[u8]) -> &'a [u8]
     front_part(bytes, behind_digits(rest).len())
 }
 
-/// A text without so many of its last bytes.
+/// A text without its last `last` bytes.
 fn front_part(bytes: &[u8], last: usize) -> &[u8]
     ensures { result.now ≡ take (length bytes.now - last) bytes.now }
 {

@@ -1,4 +1,4 @@
-// Answers to rows: parts of terms behind a text.
+// Answers to rows: parts of terms after a text.
 
 use kl1_rows::Text;
 use kl1_term::{Term, put_whole};

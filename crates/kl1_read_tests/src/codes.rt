@@ -7,7 +7,7 @@ use kl1_clause::{Code, CodeFault, CompiledClause, Instruction, Name};
 use kl1_rows::{Text, cut, small_number_of};
 use kl1_text::AtomText;
 
-/// Puts what is asked of the code of a source. A name and a number stand behind a question mark.
+/// Puts what is asked of the code of a source. A name and a number stand after a question mark.
 pub fn put_by_code(answer: &mut Text, kind: Kind, act: &[u8]) {
     let (source, behind) = cut(act, b'?');
     match Code::compile(answer.alloc, source) {
@@ -17,7 +17,7 @@ pub fn put_by_code(answer: &mut Text, kind: Kind, act: &[u8]) {
     }
 }
 
-/// Puts what is asked of a code, by its source and what stands behind the question mark.
+/// Puts what is asked of a code, by its source and what stands after the question mark.
 fn put_of_code(answer: &mut Text, kind: Kind, code: &Code, source: &[u8], behind: &[u8]) {
     match kind {
         Kind::Code => put_compiled(answer, code, source),
@@ -50,7 +50,7 @@ fn put_sizes(answer: &mut Text, code: &Code) {
     }
 }
 
-/// Puts the name of a code, its names behind a colon, and its clauses; a source that isn't the code's fails.
+/// Puts the name of a code, its names after a colon, and its clauses; a source that isn't the code's fails.
 fn put_compiled(answer: &mut Text, code: &Code, source: &[u8]) {
     if code.source() != source {
         answer.fail();
@@ -66,7 +66,7 @@ fn put_compiled(answer: &mut Text, code: &Code, source: &[u8]) {
     }
 }
 
-/// Puts a clause: in angle brackets its predicate, with `+` and the number of its section where that isn't 0, the numbers of
+/// Puts a clause: in angle brackets its predicate, with `+` and the number of its section if that isn't 0, the numbers of
 /// the variables of its head and of its others, its patterns, tests and goals, and the modules of its goals with their priorities,
 /// with `?` between them.
 fn put_clause(answer: &mut Text, clause: &CompiledClause) {
@@ -94,7 +94,7 @@ fn put_clause(answer: &mut Text, clause: &CompiledClause) {
     answer.put(b">");
 }
 
-/// Puts the names of modules, each behind a space, and `-` where there is none; with `@` and the priority of the goal, where it
+/// Puts the names of modules, each after a space, and `-` if there is none; with `@` and the priority of the goal, if it
 /// names one.
 fn put_modules(answer: &mut Text, modules: &[Option<Name>], priorities: &[Option<u64>]) {
     for place in 0..modules.len() {
@@ -110,7 +110,7 @@ fn put_modules(answer: &mut Text, modules: &[Option<Name>], priorities: &[Option
     }
 }
 
-/// Puts instructions, each behind a space.
+/// Puts instructions, each after a space.
 fn put_row(answer: &mut Text, row: &[Instruction]) {
     for instruction in row {
         answer.put(b" ");
@@ -138,7 +138,7 @@ fn put_structure(answer: &mut Text, name: Name, count: u64) {
     answer.put_number(count);
 }
 
-/// Puts a name: as it is printed where it is one of the language, and else `$` and its place.
+/// Puts a name: as it is printed if it is one of the language, and else `$` and its place.
 fn put_name(answer: &mut Text, name: Name) {
     match name {
         Name::Language(built_in) => put_atom(answer, &AtomText::of_built_in(built_in)),

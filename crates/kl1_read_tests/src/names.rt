@@ -4,7 +4,7 @@ use crate::answer::put_atom;
 use kl1_rows::{Text, cut, small_number_of};
 use kl1_text::{AtomNo, AtomText, NameValue, built_in_at, built_ins_differ, put_name};
 
-/// Puts a name as an atom, as the name of a structure, its length, and its bytes twice, with bars between them; `none` where
+/// Puts a name as an atom, as the name of a structure, its length, and its bytes twice, with bars between them; `none` if
 /// the bytes are no name.
 pub fn put_forms(answer: &mut Text, bytes: &[u8]) {
     let Some(name) = AtomText::read(bytes) else {
@@ -28,6 +28,7 @@ pub fn put_forms(answer: &mut Text, bytes: &[u8]) {
 
 /// Puts the number of the built-in name of these bytes, or `none`.
 pub fn put_place(answer: &mut Text, bytes: &[u8]) {
+    // It does nothing: its contract is a law of the built-in names.
     built_ins_differ();
     let Some(name) = AtomText::read(bytes) else {
         answer.fail();
@@ -69,7 +70,7 @@ pub fn put_text_is(answer: &mut Text, act: &[u8]) {
     }
 }
 
-/// The same, of the name of a number.
+/// Puts whether the name with a number is the built-in at a place, both with a bar between them.
 pub fn put_number_is(answer: &mut Text, act: &[u8]) {
     let (number, place) = cut(act, b'|');
     let number = small_number_of(number);

@@ -39,7 +39,7 @@ fn put_nodes(nodes: &mut Vec<Node>, act: &[u8]) -> Result<(), AllocError> {
     Ok(())
 }
 
-/// Puts how many nodes a printer takes that cuts after so many bytes, a bar, and its text. The number of bytes and the nodes
+/// Puts how many nodes a printer takes that cuts after a number of bytes, a bar, and its text. The number of bytes and the nodes
 /// are given with a bar between them; no number stands for a printer that doesn't cut and is given all nodes at once.
 pub fn put_printer(answer: &mut Text, act: &[u8]) {
     let (most, behind) = cut(act, b'|');

@@ -1,6 +1,6 @@
 // Integers in acts.
 
-/// The integer that digits write, behind `-` where it is below 0.
+/// The integer that digits write, after `-` if it is below 0.
 pub fn integer_of(text: &[u8]) -> i64 {
     let mut number: i64 = 0;
     for digit in text {

@@ -8,7 +8,7 @@ use kl1_term::Term;
 use kl1_text::AtomText;
 use std::alloc::{AllocError, Global};
 
-/// Puts the structure of a name and so many of the last terms in their place.
+/// Puts the structure with name `name` and the last `count` terms in their place.
 fn put_structure(
     alloc: Global,
     stack: &mut Vec<Term>,
@@ -26,7 +26,7 @@ fn put_structure(
     Ok(())
 }
 
-/// Puts the list of so many of the terms before the last, with the last as its tail, in their place.
+/// Puts the list of the `count` terms before the last, with the last as its tail, in their place.
 fn put_list(alloc: Global, stack: &mut Vec<Term>, count: usize) -> Result<(), AllocError> {
     let Some(tail) = stack.pop() else {
         return Ok(());
@@ -38,7 +38,7 @@ fn put_list(alloc: Global, stack: &mut Vec<Term>, count: usize) -> Result<(), Al
     Ok(())
 }
 
-/// Puts an atom, `a`, or the structure of the last terms, `f/2`, behind the others.
+/// Puts an atom, `a`, or the structure of the last terms, `f/2`, after the others.
 fn put_named(alloc: Global, stack: &mut Vec<Term>, part: &[u8]) -> Result<(), AllocError> {
     let (name, count) = cut(part, b'/');
     let Some(name) = AtomText::read(name) else {
@@ -52,7 +52,7 @@ fn put_named(alloc: Global, stack: &mut Vec<Term>, part: &[u8]) -> Result<(), Al
     Ok(())
 }
 
-/// Puts the term of a part of an act behind the others: `|2` is a list of two of them with the last one as its tail, `_1` a
+/// Puts the term of a part of an act after the others: `|2` is a list of two of them with the last one as its tail, `_1` a
 /// variable, `-7` an integer, and what else has a name.
 fn put_part(alloc: Global, stack: &mut Vec<Term>, part: &[u8]) -> Result<(), AllocError> {
     let term = match part {
@@ -65,7 +65,7 @@ fn put_part(alloc: Global, stack: &mut Vec<Term>, part: &[u8]) -> Result<(), All
     Ok(())
 }
 
-/// Puts the terms of parts with commas between them, of which each structure stands behind its arguments.
+/// Puts the terms of parts with commas between them, of which each structure stands after its arguments.
 fn put_parts(alloc: Global, stack: &mut Vec<Term>, act: &[u8]) -> Result<(), AllocError> {
     let mut left = act;
     for _ in 0..=act.len() {

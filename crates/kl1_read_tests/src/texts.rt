@@ -28,7 +28,7 @@ pub fn put_line(answer: &mut Text, line: u64) {
     answer.put_number(line);
 }
 
-/// Puts the module that a text is, its name and its clauses, each behind a space; or how many clauses it has.
+/// Puts the module that a text is, its name and its clauses, each after a space; or how many clauses it has.
 pub fn put_module(answer: &mut Text, kind: Kind, text: &[u8]) {
     match read_module(answer.alloc, text) {
         Ok(module) => {
@@ -42,7 +42,7 @@ pub fn put_module(answer: &mut Text, kind: Kind, text: &[u8]) {
     }
 }
 
-/// Puts the same of the module `e` that has these items from line 2 on.
+/// Puts the name and the clauses, or how many they are, of the module `e` that has these items from line 2 on.
 pub fn put_items(answer: &mut Text, kind: Kind, items: &[u8]) {
     let mut text = Text::new(answer.alloc);
     text.put(b":- module e.\n");
@@ -62,7 +62,7 @@ fn put_source(answer: &mut Text, module: &Source) {
     }
 }
 
-/// Puts a clause: its head, `+` and the number of its section where that isn't 0, `:-`, its tests, `|` and its goals.
+/// Puts a clause: its head, `+` and the number of its section if that isn't 0, `:-`, its tests, `|` and its goals.
 fn put_clause(answer: &mut Text, clause: &ClauseParts) {
     put_atom(answer, &clause.name);
     if !clause.patterns.is_empty() {
@@ -80,7 +80,7 @@ fn put_clause(answer: &mut Text, clause: &ClauseParts) {
     put_goals(answer, clause.body.as_slice());
 }
 
-/// Puts the prints of goals, with commas between them, each with `@` and its priority where it names one.
+/// Puts the prints of goals, with commas between them, each with `@` and its priority if it names one.
 fn put_goals(answer: &mut Text, goals: &[GoalParts]) {
     let mut is_first = true;
     for goal in goals {

@@ -25,7 +25,7 @@ pub fn put_prints(answer: &mut Text, term: &Term) {
     put_made(answer, cut);
 }
 
-/// The same, the first put behind what stands there.
+/// Puts the print of a term after what stands there, a bar, and the print cut after 4,000 bytes.
 pub fn put_puts(answer: &mut Text, term: &Term) {
     let done = put_whole(answer.alloc, &mut answer.bytes, term);
     answer.note(done);

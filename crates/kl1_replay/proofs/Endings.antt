@@ -123,7 +123,7 @@ finish_ends (Err faults.Write) old new f g bytes all front e x = (front_behind o
 finish_ends (Err faults.Read) old new f g bytes all front e x = absurd x
 finish_ends (Err faults.TooLong) old new f g bytes all front e x = absurd x
 
--- the same is written for another text
+-- an ending, said of equal texts under other names
 pub ends_as : {T : Type 0} (r : Result T ScriptFault) (old new : Option (List ℕ)) (f g : ℕ) (all every : List ℕ) (front first : ℕ → List ℕ) → every ≡ all → ((n : ℕ) → first n ≡ front n) → Ends old new f g every first r → Ends old new f g all front r
 ends_as (Ok v) old new f g all every front first e d x = (let P : List ℕ → Type 0 = λ y. Appends old new y in subst P e x.0, x.1)
 ends_as (Err faults.Memory) old new f g all every front first e d x = ((x.0.0, let P : List ℕ → Type 0 = λ y. Appends old new y in subst P (d x.0.0) x.0.1), x.1)

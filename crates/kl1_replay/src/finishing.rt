@@ -9,7 +9,7 @@ use itoa::Buffer;
 use kl1_lines::{ScriptFault, Sink, finish, write_all};
 use kl1_text::ShortBytes;
 
-/// Puts bytes behind others.
+/// Puts bytes after others.
 fn put_short(out: &mut ShortBytes, bytes: &[u8])
     requires { length out.old + length bytes.now ≤ 128 }
     ensures { out.new ≡ out.old ++ bytes.now }
@@ -51,8 +51,8 @@ fn finish_end<W: Sink>(sink: &mut W, waiting: &[u8], entries: u64) -> Result<(),
     finish_with(sink, waiting, number_line(b"+ end ", entries).as_slice())
 }
 
-/// Writes the bytes that wait, and the last line of a replay after this number of entries, where the next line has this number and these
-/// bytes are left.
+/// Writes the bytes that wait, and the last line of a replay after this number of entries, with the next line's number and the
+/// bytes that are left.
 pub(crate) fn finish_rest<W: Sink>(
     sink: &mut W,
     waiting: &[u8],
@@ -81,7 +81,7 @@ fn finish_with<W: Sink>(sink: &mut W, waiting: &[u8], last: &[u8]) -> Result<(),
     }
 }
 
-/// Writes the last bytes where memory was refused, and answers that, or that the write failed.
+/// Writes the last bytes if memory was refused, and answers that, or that the write failed.
 pub(crate) fn stop<W: Sink>(sink: &mut W, last: &[u8]) -> ScriptFault
     ensures { Stops (W.contents sink.old) (W.contents sink.new) (W.failures sink.old) (W.failures sink.new) last.now result }
 {

@@ -25,7 +25,7 @@ use kl1_user::Rules;
 use std::alloc::Global;
 use std::sync::Wait;
 
-/// Replays a journal: reads all of its text, and writes the replies to its entries. It may wait, where a code is put in.
+/// Replays a journal: reads all of its text, and writes the replies to its entries. It may wait when a code is put in.
 pub fn run_replay<H: Wait, R: Source, W: Sink>(
     rt: &H,
     alloc: Global,

@@ -4,7 +4,7 @@ ghost use Rattle.std.specs.Prelude.{◌≡◌, ◌+◌, ◌≤◌, OnOk, IsOk, v
 
 use std::alloc::AllocError;
 
-/// Makes room in a list for so many more. It is small enough to be put in place: where there is room, nothing is called.
+/// Makes room in a list for `more` elements more. It is small enough to be put in place: if there is room, nothing is called.
 #[inline]
 pub fn make_room<T>(list: &mut Vec<T>, more: usize) -> Result<(), AllocError>
     ensures items { list.new.items ≡ list.old.items }

@@ -13,7 +13,7 @@ fn hexadecimal(digit: u8) -> u8 {
     }
 }
 
-/// The byte that stands for the letter behind a backslash.
+/// The byte that stands for the letter after a backslash.
 fn escaped(letter: u8) -> u8 {
     match letter {
         b'n' => b'\n',
@@ -23,7 +23,7 @@ fn escaped(letter: u8) -> u8 {
     }
 }
 
-/// Puts what stands for the letter behind a backslash and what follows, and answers what is left.
+/// Puts what stands for the letter after a backslash and what follows, and answers what is left.
 fn put_escaped<'a>(whole: &mut Text, letter: u8, rest: &'a [u8]) -> &'a [u8] {
     if letter != b'x' {
         whole.put(&[escaped(letter)]);
@@ -69,7 +69,7 @@ fn put_once(whole: &mut Text, part: &[u8], time: u64) {
     }
 }
 
-/// Puts so many times the part that stands up to a brace, and answers what is left behind that.
+/// Puts the part up to a brace as many times as its count says, and answers what is left after that.
 fn put_part<'a>(whole: &mut Text, rest: &'a [u8]) -> &'a [u8] {
     let (inside, behind) = cut(rest, b'}');
     let (count, part) = cut(inside, b' ');
@@ -79,7 +79,7 @@ fn put_part<'a>(whole: &mut Text, rest: &'a [u8]) -> &'a [u8] {
     behind
 }
 
-/// Puts what a text stands for behind another.
+/// Puts what a text stands for, after another.
 fn put_decoded(whole: &mut Text, text: &[u8]) {
     let mut left = text;
     for _ in 0..text.len() {
@@ -92,7 +92,7 @@ fn put_decoded(whole: &mut Text, text: &[u8]) {
 }
 
 /// What a text stands for: `\n`, `\r` and `\t` for those bytes, `\xHH` for the byte of that number, a backslash before any
-/// other byte for that byte, and `{COUNT PART}` for so many times the part, in which `&` stands for the number of the time,
+/// other byte for that byte, and `{COUNT PART}` for the part COUNT times, in which `&` stands for the number of the time,
 /// from 0.
 pub fn decoded(alloc: Global, text: &[u8]) -> Text {
     let mut whole = Text::new(alloc);

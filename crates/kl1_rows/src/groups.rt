@@ -9,7 +9,7 @@ use std::alloc::Global;
 /// What a line before a group begins with.
 const HEADING: &[u8] = b"== ";
 
-/// What a text stands for, at the second try where memory is refused at the first.
+/// What a text stands for, at the second try if memory is refused at the first.
 fn decoded_again(alloc: Global, text: &[u8]) -> Text {
     let whole = decoded(alloc, text);
     if whole.has_failed {
@@ -19,7 +19,7 @@ fn decoded_again(alloc: Global, text: &[u8]) -> Text {
     }
 }
 
-/// Whether the act of a row comes to its answer, where it is tried on this.
+/// Whether the act of a row comes to its answer, if it is tried on this.
 fn is_right<T: Tried>(alloc: Global, tried: &mut T, row: &[u8]) -> bool {
     let (act, wanted) = cut(row, b'#');
     let act = decoded_again(alloc, act);
@@ -47,7 +47,7 @@ fn group_of(heading: &[u8]) -> Group<'_> {
     }
 }
 
-/// Puts the line on a group behind a report; none where it has no heading.
+/// Puts the line on a group after a report; none if it has no heading.
 fn put_group(out: &mut Text, group: Group<'_>) {
     if group.heading.is_empty() {
         return;
@@ -63,7 +63,7 @@ fn put_group(out: &mut Text, group: Group<'_>) {
     out.put(b"\n");
 }
 
-/// Tries a row of a group, where those before it are right.
+/// Tries a row of a group, if those before it are right.
 fn take_row<'a, T: Tried>(alloc: Global, tried: &mut T, group: &mut Group<'a>, row: &'a [u8]) {
     if row.is_empty() || !group.wrong.is_empty() {
         return;
@@ -75,8 +75,8 @@ fn take_row<'a, T: Tried>(alloc: Global, tried: &mut T, group: &mut Group<'a>, r
     }
 }
 
-/// Puts the report on the rows of a text, which are tried on this, behind `out`: for each group a line with its heading and the
-/// number of its rows, where all are right, or with `WRONG:` and the first row that isn't.
+/// Puts the report on the rows of a text, which are tried on this, after `out`: for each group a line with its heading and the
+/// number of its rows, if all are right, or with `WRONG:` and the first row that isn't.
 ///
 /// A line `== PART KIND NAME` begins a group. Each other line that isn't empty is a row: an act, `#` and the answer that is
 /// wanted, both decoded.

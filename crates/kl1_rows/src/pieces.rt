@@ -15,7 +15,7 @@ pub fn small_number_of(digits: &[u8]) -> u32 {
     number_of(digits).min(0xffff_ffff) as u32
 }
 
-/// A text up to the first `mark`, and what stands behind that: the whole and nothing, where it has none.
+/// A text up to the first `mark`, and what stands after that: the whole and nothing, if it has none.
 pub fn cut(text: &[u8], mark: u8) -> (&[u8], &[u8]) {
     for place in 0..text.len() {
         if text[place] == mark {
@@ -25,7 +25,7 @@ pub fn cut(text: &[u8], mark: u8) -> (&[u8], &[u8]) {
     (text, b"")
 }
 
-/// Whether a text is these two, one behind the other.
+/// Whether a text is these two, one after the other.
 pub fn is_joined(text: &[u8], front: &[u8], behind: &[u8]) -> bool {
     match text.strip_prefix(front) {
         Some(rest) => rest == behind,
@@ -33,7 +33,7 @@ pub fn is_joined(text: &[u8], front: &[u8], behind: &[u8]) -> bool {
     }
 }
 
-/// Whether a text is a front and the digits of a number behind it.
+/// Whether a text is `front` and the digits of `number` after it.
 pub fn is_counted(text: &[u8], front: &[u8], number: u64) -> bool {
     match text.strip_prefix(front) {
         Some(rest) => !rest.is_empty() && number_of(rest) == number,

@@ -3,12 +3,12 @@
 use std::rt::Clock;
 use std::time::Instant;
 
-/// What the clock shows; nothing where it can't be read.
+/// What the clock shows; nothing if it can't be read.
 pub fn moment<R: Clock>(rt: &R) -> Option<Instant> {
     Instant::now(rt).ok()
 }
 
-/// The nanoseconds since a moment; 0 where the clock can't be read.
+/// The nanoseconds since a moment; 0 if the clock can't be read.
 pub fn nanoseconds_since<R: Clock>(rt: &R, start: Option<Instant>) -> u128 {
     match start {
         None => 0,

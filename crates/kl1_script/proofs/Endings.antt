@@ -1,4 +1,4 @@
--- What is written where a script ends, behind what was passed on.
+-- What is written when a script ends, after what was passed on.
 use Rattle.std.proofs.Common.{◌≡◌, ℕ, Bool, if◌then◌else◌, List, [], ◌∷◌, ◌++◌, length, codes, Option, Some, None, ap, sym, ◌∙◌, subst, append_assoc, refl}
 use Rattle.std.proofs.lemmas.List.{append-nil}
 use Rattle.std.specs.Prelude.{Ok, Err}
@@ -67,7 +67,7 @@ finish_same r old new f g waiting more bytes e s =
 pub finish_waiting : {T : Type 0} (r : Result T ScriptFault) (old new : Option (List ℕ)) (f g : ℕ) (waiting bytes : List ℕ) → bytes ≡ waiting → Finishes old new f g bytes r → Closes old new f g waiting [] r
 finish_waiting r old new f g waiting bytes e s = finish_same r old new f g waiting [] bytes (e ∙ sym (append-nil waiting)) s
 
--- memory was refused behind the records that are done, or a write failed, and these bytes and the others are the output
+-- memory was refused after the records that are done, or a write failed, and these bytes and the others are the output
 fails_by : (T : Type 0) (old now after : Option (List ℕ)) (f g : ℕ) (accounts : List (List ℕ)) (text rest : List ℕ) (world : List Held) (out more others : List ℕ) (fault : ScriptFault) → (u : Underway old now accounts text rest world out) → (u.passed ++ (out ++ more)) ++ others ≡ written_records accounts (records_of text) → Fails now after f g out more fault → Ends {T = T} old after f g (written_records accounts (records_of text)) (λ n. first_written n (Some accounts) (records_of text).list) (Err fault)
 fails_by T old now after f g accounts text rest world out more others faults.Memory u all s =
     let P : List ℕ → Type 0 = λ x. Appends old after x in

@@ -26,7 +26,7 @@ no_name names words rest e h k =
     let none : list_all is_account_name words ≡ false = rw (sym more, list_all-append is_account_name names (word_in rest ∷ words_of (behind_word_in rest))) (and_right (list_all is_account_name names) _ (and_left (is_account_name (word_in rest)) _ k)) in
     rw (and_left (list_all is_account_name words) (nat_le (length words) most_accounts) none) refl
 
--- a word behind sixteen names
+-- a word after sixteen names
 pub too_many : (names words : List (List ℕ)) (rest : List ℕ) → names ++ words_of rest ≡ words → is_blank_line rest ≡ false → length names ≡ most_accounts → None ≡ named words
 too_many names words rest e h k =
     let more : names ++ word_in rest ∷ words_of (behind_word_in rest) ≡ words = ap (λ ws. names ++ ws) (sym (words_more rest h)) ∙ e in
@@ -55,7 +55,7 @@ no_word : (line : List ℕ) → is_blank_line line ≡ true → word_in line ≡
 no_word [] h = refl
 no_word (b ∷ bs) h = let p = and_parts (is_space b) (is_blank_line bs) h in rw (first_word, p.0) (no_word bs p.1)
 
--- the names behind the word `accounts`, if there is one and none stands twice
+-- the names after the word `accounts`, if there is one and none stands twice
 abbrev pub judged : List (List ℕ) → Option (List (List ℕ))
 judged names = if nat_le 1 (length names) && are_distinct names then named names else None
 
@@ -82,13 +82,13 @@ judged_none : (ws : List (List ℕ)) (t : Bool) → named ws ≡ None → (if t 
 judged_none ws true e = e
 judged_none ws false e = refl
 
--- behind the word `accounts` stand no names, or too many
+-- after the word `accounts` stand no names, or too many
 pub accounts_none : (line : List ℕ) → bytes_eq (word_in line) (codes "accounts") ≡ true → named (words_of (behind_word_in line)) ≡ None → None ≡ accounts_in (words_of line)
 accounts_none line h e =
     let ws = words_of (behind_word_in line) in
     sym (accounts_are line (is_blank_line line) refl h ∙ judged_none ws (nat_le 1 (length ws) && are_distinct ws) e)
 
--- behind it stand names, which are accounts or not
+-- after it stand names, which are accounts or not
 pub accounts_some : (line : List ℕ) (names : List (List ℕ)) (t : Bool) → bytes_eq (word_in line) (codes "accounts") ≡ true → named (words_of (behind_word_in line)) ≡ Some names → (nat_le 1 (length names) && are_distinct names) ≡ t → (if t then Some names else None) ≡ accounts_in (words_of line)
 accounts_some line names t h e k =
     let same : words_of (behind_word_in line) ≡ names = named_is (words_of (behind_word_in line)) names e in

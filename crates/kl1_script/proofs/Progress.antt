@@ -7,7 +7,7 @@ use Rattle.kl1_model.specs.Record.{Record, Records, record_first, records_of}
 use Rattle.kl1_history.specs.Script.{written_for, written_from, written_records}
 use Rattle.kl1_script.specs.Scripts.{first_written}
 
--- records behind others
+-- records after others
 abbrev pub records_behind : List Record → Records → Records
 records_behind before rs = record { list = before ++ rs.list; is_truncated = rs.is_truncated }
 
@@ -57,7 +57,7 @@ pub told_all : (accounts : List (List ℕ)) (text rest told : List ℕ) (v : Boo
 told_all accounts text rest told v p e =
     ap (λ rs. told ++ (written_from accounts p.before rs.list ++ (if rs.is_truncated then written_line (codes "! truncated") else []))) (sym e) ∙ told_first accounts text rest told p
 
--- what was told is what is written for so many of the first records
+-- what was told is what is written for the records before
 pub told_some : (accounts : List (List ℕ)) (text rest told : List ℕ) → (p : Progress accounts text rest told) → told ≡ first_written (length p.before) (Some accounts) (records_of text).list
 told_some accounts text rest told p =
     p.written ∙ ap (written_from accounts []) (sym (ap (λ rs. take (length p.before) rs.list) p.records ∙ take-append_seam p.before (records_of rest).list))

@@ -10,12 +10,12 @@ use Rattle.kl1_lines.specs.Devices.{IsLeft, IsWhole, AppendsFront, PassesOn}
 use Rattle.kl1_lines.specs.declared.script_fault.ScriptFault.{ScriptFault}
 use Rattle.kl1_lines.specs.declared.script_fault.ScriptFault.TheVariants as faults
 
--- what is written for the first of these records, so many
+-- what is written for the first `n` of these records
 abbrev pub first_written : ℕ → Option (List (List ℕ)) → List Record → List ℕ
 first_written n None records = []
 first_written n (Some accounts) records = written_from accounts [] (take n records)
 
--- what is written for the first records of a script, so many
+-- what is written for the first `n` records of a script
 abbrev pub front_of : ℕ → List ℕ → List ℕ
 front_of n script = first_written n (accounts_in (words_of (line_in script))) (records_of (behind_feed script)).list
 
@@ -38,7 +38,7 @@ pub record BreaksOff (read : Option (List ℕ)) (old new : Option (List ℕ)) : 
   pub left : IsLeft read script
   pub written : AppendsFront old new (output script)
 
--- how a script that was read ends, of which this is the output, and this what is written for so many of its first records:
+-- how a script that was read ends, of which this is the output, and this what is written for any number of its first records:
 -- all is written, and no call failed; or memory was refused after some of them; or a write failed
 abbrev pub Ends : {T : Type 0} → Option (List ℕ) → Option (List ℕ) → ℕ → ℕ → List ℕ → (ℕ → List ℕ) → Result T ScriptFault → Type 0
 Ends old new f g all front (Ok x) = Appends old new all × (g ≡ f)

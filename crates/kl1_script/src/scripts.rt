@@ -25,7 +25,7 @@ use kl1_world::{AccountName, Rules, World};
 use std::alloc::Global;
 use std::sync::Wait;
 
-/// Runs a script: reads all of it, and writes its output. It may wait, where a code is put in.
+/// Runs a script: reads all of it, and writes its output. It may wait when a code is put in.
 pub fn run_script<H: Wait, R: Source, W: Sink>(
     rt: &H,
     alloc: Global,
@@ -152,8 +152,8 @@ fn answer_each<A: AtomSource + Drop, C: CodeSource + Drop, W: Sink>(
     }
 }
 
-/// Does the command of a record, and puts what is written for it after the bytes that wait, which are written where they
-/// are many, or where memory is refused.
+/// Does the command of a record, and puts what is written for it after the bytes that wait, which are written if they
+/// are many, or if memory is refused.
 fn answer_record<A: AtomSource + Drop, C: CodeSource + Drop, W: Sink>(
     alloc: Global,
     accounts: &[AccountName],
@@ -198,7 +198,7 @@ fn finish_all<W: Sink>(sink: &mut W, bytes: &[u8]) -> Result<(), ScriptFault>
     }
 }
 
-/// Writes the last bytes where memory was refused, and answers that, or that the write failed.
+/// Writes the last bytes if memory was refused, and answers that, or that the write failed.
 fn stop<W: Sink>(sink: &mut W, last: &[u8]) -> ScriptFault
     ensures { Stops (W.contents sink.old) (W.contents sink.new) (W.failures sink.old) (W.failures sink.new) last.now result }
 {

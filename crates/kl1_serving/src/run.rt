@@ -10,7 +10,7 @@ use std::net::{Net, TcpListener, TcpStream};
 use std::sync::Wait;
 use std::thread::Threads;
 
-/// The status where what was served can't be told.
+/// The status if what was served can't be told.
 const NOT_TOLD: u8 = 1;
 
 /// The sum of the numbers of all accounts.

@@ -59,7 +59,7 @@ pub kept_few : (source : Option ℕ) (kept : List ℕ) → IsKept source kept �
 kept_few None kept k = tt
 kept_few (Some n) kept k = k.2
 
--- a rest and more bytes go on as they would behind what is kept
+-- a rest and more bytes go on as they would after what is kept
 pub rest_goes_on : (source : Option ℕ) (kept piece : List ℕ) → IsFew source → cut_of (rest_of source kept ++ piece) ≡ going source (kept ++ piece)
 rest_goes_on None kept piece few = refl
 rest_goes_on (Some n) kept piece few = ap cut_of (append_assoc (codes "load " ++ decimal n) (10 ∷ kept) piece) ∙ cut_load n (kept ++ piece) few

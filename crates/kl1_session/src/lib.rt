@@ -12,7 +12,8 @@ mod texts;
 pub use input::Input;
 pub use session::Session;
 
-/// What a stream asks for, and its rest, don't depend on the pieces in which it comes.
+/// What a stream asks for, and its rest, don't depend on the pieces in which it comes. It does nothing: its contract is this
+/// law.
 pub fn cuts_anywhere()
     ensures two { CutsAnywhere }
     ensures many { CutsInPieces }

@@ -15,6 +15,6 @@ pub enum Kind {
     First,
     /// The status of a client, what it sends and what it shows, for commands and the replies to come.
     Client,
-    /// The same of one who asks for all pages.
+    /// The status of a client that asks for all pages, what it sends and what it shows, for commands and the replies to come.
     Pages,
 }

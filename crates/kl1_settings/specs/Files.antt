@@ -1,4 +1,4 @@
--- What the file of accounts is, where its bytes are known.
+-- What the file of accounts is, if its bytes are known.
 use Rattle.std.specs.Prelude.{◌≡◌, ℕ, List, ⊤, None, Some}
 use Rattle.std.specs.declared.option.Option.{Option}
 use Rattle.kl1_keys.specs.Files.{Entry, accounts_of}

@@ -33,7 +33,7 @@ pub fn are_all(numbers: &[u64], wanted: u64) -> bool {
     true
 }
 
-/// Puts a number of hundredths, or of all of 64 bits, where that is less.
+/// Puts a number of hundredths, or of all of 64 bits, if that is less.
 fn put_count(out: &mut Text, count: u128) {
     out.put_number(count.min(0xffff_ffff_ffff_ffff) as u64);
 }

@@ -64,7 +64,7 @@ ending_is s n raised still_now reply e told still is =
 no_bool : (X : Type 0) → false ≡ true → X
 no_bool X e = cc
 
--- no goal can step where none is first
+-- no goal can step if none is first
 pub none_chosen : {A : Type 0} (h : A → Chosen) (o : Option A) (p : Option Chosen) (b : Bool) → option_map h o ≡ p → is_some o ≡ not b → b ≡ is_none p
 none_chosen h None p true e is = ap is_none e
 none_chosen h None p false e is = no_bool _ is

@@ -37,12 +37,12 @@ count_free : (k n m : ℕ) (s : Kept) → (run_from k n s).kept ≡ (run_from k 
 count_free zero n m s = refl
 count_free (suc k) n m s = choice_free (first s.state) (run_from k) s n m (λ p q t. count_free k p q t)
 
--- where no goal can step, a run does nothing
+-- if no goal can step, a run does nothing
 pub quiet_stays : (k n : ℕ) (s : Kept) → first s.state ≡ None → (run_from k n s).kept ≡ s
 quiet_stays zero n s e = refl
 quiet_stays (suc k) n s e = ap (λ (o : Option Chosen). (run_choice (run_from k) s n o).kept) e
 
--- where the first step is refused, so it is
+-- if the first step is refused, so it is
 refused_stays : (k n : ℕ) (s : Kept) (c : Chosen) (r : Refusal) → first s.state ≡ Some c → (done s (reduce c.goal c.clause)).reply ≡ refused r → (run_from k n s).kept ≡ s
 refused_stays zero n s c r e told = refl
 refused_stays (suc k) n s c r e told =
@@ -72,7 +72,7 @@ choice_both : (o : Option Chosen) (s : Kept) (b n m : ℕ) (next earlier : Going
 choice_both None s b n m next earlier e h = sym (quiet_stays b m s e)
 choice_both (Some c) s b n m next earlier e h = on_both (done s (reduce c.goal c.clause)).reply s c b n m next earlier e refl h
 
--- a run of so many steps is a run of the first of them, and then one of the others
+-- a run of `c` steps is a run of the first `a` of them, and then one of the others
 pub runs_both : (a b c : ℕ) → c ≡ a + b → (n m : ℕ) (s : Kept) → (run_from c n s).kept ≡ (run_from b m (run_from a n s).kept).kept
 runs_both zero b c e n m s = let same : c ≡ b = omega arith in ap (λ k. (run_from k n s).kept) same ∙ count_free b n m s
 runs_both (suc a) b zero e n m s = absurd (omega arith)

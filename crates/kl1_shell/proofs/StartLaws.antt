@@ -16,7 +16,7 @@ use Rattle.kl1_shell.specs.declared.stop.Stop.{Stop}
 use Rattle.kl1_shell.specs.declared.stop.Stop.TheVariants as stop
 use Rattle.kl1_shell.specs.Works.{Loaded, all_loaded, loaded_from, worked, goal_refused, opened_in, refusal_told, run_on, started, start_on, worked_of, IsLoaded, IsStarted, IsWorked}
 
--- why a start was refused, where a reply may not say it
+-- why a start was refused, if a reply may not say it
 pub refusal_or : (o : Option Refusal) → refusal_told (option_map refusal_of o) ≡ refusal_of (unwrap_or o refusal.Syntax)
 refusal_or None = refl
 refusal_or (Some r) = refl

@@ -76,7 +76,7 @@ abbrev pub reports_by : Option Origin → List (List ℕ)
 reports_by None = []
 reports_by (Some o) = map cut_print (elements_of o.reports)
 
--- the reports of the shoen of a number
+-- the reports of shoen `n`
 unfoldable pub reports_in : State → ℕ → List (List ℕ)
 reports_in s n = if is_number n then reports_by (origin_at n s.shoens) else []
 
@@ -145,7 +145,7 @@ pub record Tells (wanted : Wanted) (s : State) (n : ℕ) (a : Answers) : Type 0 
   pub exceptions : a.exceptions.items ≡ exception_lines s n
   pub ending : a.ending ≡ ending_of s n (is_some_byte (exception_lines s n))
 
--- what is written to the first stream: the goal, whole where that is wanted, and the reports where they are wanted
+-- what is written to the first stream: the goal, whole if that is wanted, and the reports if they are wanted
 abbrev pub out_text : Wanted → State → ℕ → List ℕ
 out_text wanted s n = value_line wanted.whole s n ++ (if wanted.reports then report_lines s n else [])
 

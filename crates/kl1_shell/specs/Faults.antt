@@ -38,7 +38,7 @@ words_of answer_refused = codes "no such exception to answer"
 abbrev pub fault_line : List ℕ → Refusal → List ℕ
 fault_line name r = written_line (name ++ codes ":" ++ decimal (line_of r) ++ codes ": " ++ words_of r)
 
--- the refusal of what a text was read as, where it is no module
+-- the refusal of what a text was read as, if it is no module
 abbrev pub fault_by : Reading Module → Option Refusal
 fault_by (bad line) = Some (source line)
 fault_by (good m) = None
@@ -47,7 +47,7 @@ fault_by (good m) = None
 unfoldable pub fault_in : List ℕ → Option Refusal
 fault_in text = if nat_le (length text) most_source_bytes then fault_by (read_module text) else Some syntax
 
--- what is told of a file, where its source is refused
+-- what is told of a file, if its source is refused
 abbrev pub told_of : List ℕ → Option Refusal → List ℕ
 told_of name None = []
 told_of name (Some r) = fault_line name r

@@ -10,7 +10,7 @@ use Rattle.kl1_lines.specs.Devices.{AppendsFront}
 use Rattle.kl1_shell.specs.declared.stop.Stop.{Stop}
 use Rattle.kl1_shell.specs.declared.stop.Stop.TheVariants as stop
 
--- what is known of a stream: the bytes that it holds, where they are known, and how many of its calls have failed
+-- what is known of a stream: the bytes that it holds, if they are known, and how many of its calls have failed
 pub record Stream : Type 0 where
   pub bytes : Option (List ℕ)
   pub failures : ℕ

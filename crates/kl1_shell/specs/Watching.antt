@@ -4,7 +4,7 @@ use Rattle.kl1_model.specs.Event.{status, Reply, loaded, opened, sent, reduced, 
 use Rattle.kl1_model.specs.Asking.{answer}
 use Rattle.kl1_shell.specs.Works.{Worked, worked, source_refused, goal_refused}
 
--- the reductions that a shoen was charged, and how many goals are alive in it and below it, where a reply tells its status
+-- the reductions that a shoen was charged, and how many goals are alive in it and below it, if a reply tells its status
 abbrev pub progress_in : Reply → Option (ℕ × ℕ)
 progress_in (status_is c charged allowance alive) = Some (charged, alive)
 progress_in (loaded name) = None
@@ -30,7 +30,7 @@ progress_of (goal_refused r k) = None
 abbrev pub IsProgress : (ℕ → Worked) → ℕ → ℕ × ℕ → Type 0
 IsProgress works most p = (steps : ℕ) × (steps ≤ most) × (progress_of (works steps) ≡ Some p)
 
--- more was told of work while it went on, where it is known what was told: each time what the status tells after some of its steps
+-- more was told of work while it went on, if it is known what was told: each time what the status tells after some of its steps
 pub record Follows (works : ℕ → Worked) (most : ℕ) (old new : Option (List (ℕ × ℕ))) : Type 0 where
   pub told : List (ℕ × ℕ)
   pub each : All (IsProgress works most) told

@@ -68,12 +68,12 @@ run_on steps x (Some n) = worked n (run_from steps 0 x.kept).kept
 abbrev pub started : ℕ → Done → Worked
 started steps x = run_on steps x (opened_in x.reply)
 
--- starts a goal with an allowance and all priorities, and runs it, where all sources are loaded
+-- starts a goal with an allowance and all priorities, and runs it, if all sources are loaded
 abbrev pub start_on : Term → ℕ → ℕ → Loaded → Worked
 start_on goal allowance steps (all_loaded k) = started steps (done k (start allowance 0 most_priority goal))
 start_on goal allowance steps (load_refused place r k) = source_refused place r k
 
--- what the work comes to that loads these sources in order, starts a goal with an allowance, and does first steps, at most so many
+-- what the work comes to that loads these sources in order, starts a goal with an allowance, and does first steps, at most `steps`
 -- and until none can step
 unfoldable pub worked_of : Kept → List (List ℕ) → Term → ℕ → ℕ → Worked
 worked_of k texts goal allowance steps = start_on goal allowance steps (loaded_from 0 k texts)

@@ -13,7 +13,7 @@ use kl1_command::Host;
 use kl1_event::{Event, Refusal, Reply};
 use std::alloc::{AllocError, Global};
 
-/// Why a reply refuses, where it does.
+/// Why a reply refuses, if it does.
 pub(crate) fn refusal_in(reply: &Reply) -> Option<Refusal>
     ensures { option_map refusal_of result ≡ refusal_in (reply_of reply.now) }
 {

@@ -15,7 +15,7 @@ use std::alloc::AllocError;
 /// The most steps between two looks at what is told.
 const SLICE: u64 = 4_096;
 
-/// Does first steps, at most so many. After an `Err` some of them may be done.
+/// Does first steps, at most `steps`. After an `Err` some of them may be done.
 fn run_slice<H: Host>(host: &mut H, steps: u64) -> Result<(), AllocError>
     ensures does { OnOk result ((f : H.Reading) → H.fits host.new f → (run_from steps 0 (H.kept f host.old)).kept ≡ H.kept f host.new) }
     ensures before { (f : H.Reading) → H.fits host.new f → H.fits host.old f }
@@ -28,7 +28,7 @@ fn run_slice<H: Host>(host: &mut H, steps: u64) -> Result<(), AllocError>
     }
 }
 
-/// The reductions that a shoen was charged, and how many goals are alive in it and below it, where a reply tells its status.
+/// The reductions that a shoen was charged, and how many goals are alive in it and below it, if a reply tells its status.
 fn progress_in(reply: &Reply) -> Option<(u64, u64)>
     ensures { result ≡ progress_in (reply_of reply.now) }
 {
@@ -49,7 +49,7 @@ fn progress_in(reply: &Reply) -> Option<(u64, u64)>
     }
 }
 
-/// Tells what the shoen was charged, and how many goals are alive in it and below it, where that is due.
+/// Tells what the shoen was charged, and how many goals are alive in it and below it, if that is due.
 fn tell_progress<H: Host, T: Watch>(
     host: &mut H,
     shoen: ShoenNo,
@@ -73,7 +73,7 @@ fn tell_progress<H: Host, T: Watch>(
     }
 }
 
-/// Does first steps, one after another, at most so many and until none can step. After an `Err` some of them may be done.
+/// Does first steps, one after another, at most `steps` and until none can step. After an `Err` some of them may be done.
 pub(crate) fn run_watched<H: Host, T: Watch>(
     host: &mut H,
     shoen: ShoenNo,

@@ -10,8 +10,8 @@ use itoa::Buffer;
 use kl1_term::{Term, put_whole};
 use std::alloc::{AllocError, Global};
 
-/// Puts the script that loads the files, starts the goal with this allowance, runs so many steps, and asks for the value, and
-/// also for the first 64 reports where they are wanted, after the bytes. After an `Err` some of it may be there.
+/// Puts the script that loads the files, starts the goal with this allowance, runs `steps` steps, and asks for the value, and
+/// also for the first 64 reports if they are wanted, after the bytes. After an `Err` some of it may be there.
 pub fn put_script(
     alloc: Global,
     files: &[SourceFile],
@@ -72,7 +72,7 @@ fn put_goal(
     put_run(steps, out)
 }
 
-/// Puts the end of a line, and the line that runs so many steps, after the bytes. After an `Err` some of them may be there.
+/// Puts the end of a line, and the line that runs `steps` steps, after the bytes. After an `Err` some of them may be there.
 fn put_run(steps: u64, out: &mut Vec<u8>) -> Result<(), AllocError>
     ensures { OnOk result (out.new.items ≡ out.old.items ++ run_lines steps) }
 {
@@ -91,7 +91,7 @@ fn put_questions(with_reports: bool, out: &mut Vec<u8>) -> Result<(), AllocError
     Ok(())
 }
 
-/// Puts the line that asks for the first reports where they are wanted after the bytes. After an `Err` some of it may be there.
+/// Puts the line that asks for the first reports, if they are wanted, after the bytes. After an `Err` some of it may be there.
 fn put_reports_line(with_reports: bool, out: &mut Vec<u8>) -> Result<(), AllocError>
     ensures { OnOk result (out.new.items ≡ out.old.items ++ (if with_reports then written_line (codes "me reports 1 1") else [])) }
 {

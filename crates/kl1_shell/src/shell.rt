@@ -18,7 +18,7 @@ use kl1_command::Host;
 use kl1_lines::{DeviceFailed, Sink, finish, write_all};
 use std::alloc::Global;
 
-/// Writes the goal, and the reports where they are wanted.
+/// Writes the goal, and the reports if they are wanted.
 fn write_value<W: Sink>(answers: &Answers, wanted: Wanted, out: &mut W) -> Result<(), DeviceFailed>
     ensures ok { OnOk result (Appends (W.contents out.old) (W.contents out.new) (answers.now.value.items ++ (if wanted.reports then answers.now.reports.items else []))) }
     ensures kept { OnOk result (W.failures out.new ≡ W.failures out.old) }
@@ -32,7 +32,7 @@ fn write_value<W: Sink>(answers: &Answers, wanted: Wanted, out: &mut W) -> Resul
     finish(out, answers.reports.as_slice())
 }
 
-/// Does the work, and writes what is told of the goal's shoen: its value, whole where that is wanted, and its reports where they
+/// Does the work, and writes what is told of the goal's shoen: its value, whole if that is wanted, and its reports if they
 /// are wanted, to the first stream, and its exceptions to the second.
 pub fn run<H: Host, T: Watch, W: Sink, E: Sink>(
     alloc: Global,

@@ -5,7 +5,7 @@ ghost use Rattle.std.specs.declared.option.Option.{Option};
 
 /// What is told of a run while it goes on.
 pub trait Watch {
-    // What it was told, where that is known: each time the reductions, and the goals alive.
+    // What it was told, if that is known: each time the reductions, and the goals alive.
     ghost told: { Self → Option (List (ℕ × ℕ)) };
 
     /// Whether something is to be told now.

@@ -64,7 +64,7 @@ changed_case : {N : Type 0} (n : ℕ) (f : Shoen N → Shoen N) (s : Shoen N) (s
 changed_case n f s ss true e g = absurd (none-some s (sym e))
 changed_case n f s ss false e g = ap (λ xs. s ∷ xs) (g e)
 
--- where no shoen has a number, none is changed
+-- if no shoen has a number, none is changed
 pub changed_none : {N : Type 0} (n : ℕ) (f : Shoen N → Shoen N) (ss : List (Shoen N)) → find (has_number n) ss ≡ None → changed n f ss ≡ ss
 changed_none n f [] e = refl
 changed_none n f (s ∷ ss) e = changed_case n f s ss (s.number == n) e (changed_none n f ss)

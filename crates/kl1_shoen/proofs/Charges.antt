@@ -11,7 +11,7 @@ use Rattle.kl1_shoen.specs.Shoens.{AreNumbered, AreLower, AreCharged, parents_in
 use Rattle.kl1_shoen.proofs.Numbered.{numbered_push}
 use Rattle.kl1_shoen.proofs.Paths.{zero_off_path, path_among}
 
--- nobody was charged where there are no shoens
+-- nobody was charged if there are no shoens
 pub charged_none : {N : Type 0} (ss : List (Shoen N)) (cs ws : List ℕ) → ss ≡ [] → cs ≡ [] → ws ≡ [] → AreCharged ss cs ws
 charged_none {N = N} ss cs ws e f g =
     let none : List (Shoen N) = [] in
@@ -22,7 +22,7 @@ pub length_parents : {N : Type 0} (ss : List (Shoen N)) → length (parents_in s
 length_parents [] = refl
 length_parents (s ∷ ss) = ap suc (length_parents ss)
 
--- charges stay where numbers and parents do
+-- charges stay if numbers and parents do
 pub charged_with : {N : Type 0} (ss ts : List (Shoen N)) (cs ws : List ℕ) → AreCharged ss cs ws → AreNumbered 0 ts → parents_in ts ≡ parents_in ss → AreCharged ts cs ws
 charged_with ss ts cs ws a n e =
     let len : length ss ≡ length ts = sym (length_parents ss) ∙ ap length (sym e) ∙ length_parents ts in
@@ -51,7 +51,7 @@ lower_after b p (q ∷ qs) lower few (suc k) =
     let l = lower_after (suc b) p qs (λ j. let m = lower (suc j) in omega (arith, m)) (omega (arith, few)) k in
     omega (arith, l)
 
--- parents are lower still where a shoen is opened
+-- parents are lower still if a shoen is opened
 pub lower_open : {N : Type 0} (ss : List (Shoen N)) (s : Shoen N) → AreLower ss → s.parent ≤ length ss → AreLower (ss ++ s ∷ [])
 lower_open ss s lower few =
     let len = length_parents ss in

@@ -13,7 +13,7 @@ use Rattle.kl1_ancestors.proofs.Charges.{length_set}
 use Rattle.kl1_shoen.proofs.Charges.{length_more, zero_more, lower_open, get_beyond}
 use Rattle.kl1_shoen.proofs.Changing.{parents_put}
 
--- nobody is counted where there are no shoens
+-- nobody is counted if there are no shoens
 pub counted_none : {N : Type 0} (ss : List (Shoen N)) (cs : List ℕ) → ss ≡ [] → cs ≡ [] → AreCounted ss cs
 counted_none {N = N} ss cs e f =
     let none : List (Shoen N) = [] in
@@ -32,7 +32,7 @@ dead_uncounted : (b : Bool) → ◌≡◌ {A = ℕ} (if b && false then 1 else 0
 dead_uncounted true = refl
 dead_uncounted false = refl
 
--- a shoen that is opened counts for its parent, where it lives
+-- a shoen that is opened counts for its parent, if it lives
 pub counted_open : {N : Type 0} (ss : List (Shoen N)) (cs ds : List ℕ) (s : Shoen N) → AreCounted ss cs → s.parent ≤ length ss → length ds ≡ length (cs ++ 0 ∷ []) →
     ((n : ℕ) → get_or ds n 0 + counted_under n s.parent Aborted ≡ get_or (cs ++ 0 ∷ []) n 0 + counted_under n s.parent s.life) → AreCounted (ss ++ s ∷ []) ds
 counted_open ss cs ds s a few len e = record {
@@ -97,7 +97,7 @@ count_some p (x ∷ xs) lt = by_case (p x) (count_by p xs) (list_any p xs) (let 
     by_case true n c l f = refl
     by_case false n c l f = f (omega (arith, l))
 
--- where none is counted, no child lives
+-- if none is counted, no child lives
 pub any_none : {N : Type 0} (ss : List (Shoen N)) (cs : List ℕ) (n : ℕ) → AreCounted ss cs → get_or cs n 0 ≡ 0 → false ≡ list_any (is_living_child_of n) ss
 any_none ss cs n a e = sym (count_none (is_living_child_of n) ss (sym (a.counted n) ∙ e))
 
@@ -105,7 +105,7 @@ any_none ss cs n a e = sym (count_none (is_living_child_of n) ss (sym (a.counted
 pub any_beyond : {N : Type 0} (ss : List (Shoen N)) (cs : List ℕ) (n : ℕ) → AreCounted ss cs → length cs ≤ n → false ≡ list_any (is_living_child_of n) ss
 any_beyond ss cs n a le = any_none ss cs n a (get_beyond cs n le)
 
--- where one is counted, a child lives
+-- if one is counted, a child lives
 pub any_some : {N : Type 0} (ss : List (Shoen N)) (cs : List ℕ) (n : ℕ) → AreCounted ss cs → 0 < get_or cs n 0 → true ≡ list_any (is_living_child_of n) ss
 any_some ss cs n a lt = sym (count_some (is_living_child_of n) ss (let e = a.counted n in omega (arith, e, lt)))
 

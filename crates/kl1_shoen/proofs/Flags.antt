@@ -12,7 +12,7 @@ use Rattle.kl1_ancestors.proofs.Flags.{path_at, flag_is, flag_more}
 none_blocks : {N : Type 0} (ss : List (Shoen N)) (work : List ℕ) → is_enabled_at ss work 0 ≡ true
 none_blocks ss work = ap (λ ns. not (list_any (is_blocking_at ss work) ns)) (path_zero 0 ss refl)
 
--- a shoen at a place holds goals back where that of its number does
+-- a shoen at a place holds goals back if that with its number does
 blocking_here : {N : Type 0} (ss : List (Shoen N)) (work : List ℕ) (i : ℕ) (x : Shoen N) → AreNumbered 0 ss → i < length ss → x ≡ get_or ss i x → is_blocking_in ss work x ≡ is_blocking_at ss work x.number
 blocking_here {N = N} ss work i x a lt is =
     let n : x.number ≡ suc i = numbered_get 0 i ss x a lt is ∙ omega arith in

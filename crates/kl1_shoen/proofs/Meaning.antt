@@ -54,12 +54,12 @@ found_first : {N : Type 0} (f : N → List ℕ) (h : Held N) (n : ℕ) (s : Shoe
 found_first f h n s ss true e = refl
 found_first f h n s ss false e = e
 
--- the definitions' shoen of a number is that which is found
+-- the definitions' shoen `n` is that which is found
 pub shoen_at_is : {N : Type 0} (f : N → List ℕ) (h : Held N) (n : ℕ) (ss : List (Shoen N)) → shoen_at n (map (shoen_of f h) ss) ≡ option_map (shoen_of f h) (find (has_number n) ss)
 shoen_at_is f h n [] = refl
 shoen_at_is f h n (s ∷ ss) = found_first f h n s ss (s.number == n) (shoen_at_is f h n ss)
 
--- a test of the shoen of a number, where it comes to the same of each
+-- a test of a shoen by its number, if it comes to the same of each
 pub tested_is : {N : Type 0} (f : N → List ℕ) (h : Held N) (ss : List (Shoen N)) (hs : List model.Shoen) (p : model.Shoen → Bool) (q : Shoen N → Bool) (n : ℕ) → hs ≡ map (shoen_of f h) ss → ((x : Shoen N) → p (shoen_of f h x) ≡ q x) →
     unwrap_or (option_map p (shoen_at n hs)) false ≡ unwrap_or (option_map q (shoen_in n ss)) false
 tested_is {N = N} f h ss hs p q n e same =
@@ -102,7 +102,7 @@ changed_if : {N : Type 0} (f : N → List ℕ) (h : Held N) (c : Bool) (x : Shoe
 changed_if f h true x y z e = e
 changed_if f h false x y z e = refl
 
--- a change of the definitions' shoen of a number, where it comes to the same of each
+-- a change of the definitions' shoen `n`, if it comes to the same of each
 pub changed_is : {N : Type 0} (f : N → List ℕ) (h : Held N) (n : ℕ) (change : model.Shoen → model.Shoen) (make : Shoen N → Shoen N) → ((x : Shoen N) → change (shoen_of f h x) ≡ shoen_of f h (make x)) → (ss : List (Shoen N)) →
     map (λ k. if k.number == n then change k else k) (map (shoen_of f h) ss) ≡ map (shoen_of f h) (changed n make ss)
 changed_is f h n change make e [] = refl

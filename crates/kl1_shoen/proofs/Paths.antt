@@ -11,7 +11,7 @@ use Rattle.kl1_ancestors.specs.declared.shoen.Shoen.{Shoen}
 use Rattle.kl1_shoen.specs.Shoens.{has_number, AreNumbered, AreLower, path_in}
 use Rattle.kl1_ancestors.proofs.Paths.{path_zero, parent_below, path_parent}
 
--- the parent that is found, 0 where there is no shoen
+-- the parent that is found, 0 if there is no shoen
 abbrev parent_found : {N : Type 0} → Option (Shoen N) → ℕ
 parent_found {N = N} o = unwrap_or (option_map (λ (h : Shoen N). h.parent) o) 0
 
@@ -25,7 +25,7 @@ pub lent_path : {N : Type 0} (n : ℕ) (ss : List (Shoen N)) (o : Option (Bor (S
 lent_path n ss None a lower e lt = tt
 lent_path n ss (Some s) a lower e lt = path_parent n s.now.parent ss a lower (ap (λ o. parent_found o) e) lt
 
--- where no shoen is lent the path ends
+-- if no shoen is lent the path ends
 pub lent_end : {N : Type 0} (n : ℕ) (ss : List (Shoen N)) (o : Option (Bor (Shoen N))) → AreNumbered 0 ss → AreLower ss → option_copied o ≡ find (has_number n) ss → 0 < n → o ≡ None → path_in ss n ≡ n ∷ []
 lent_end {N = N} n ss o a lower e lt z =
     path_parent n 0 ss a lower (ap (λ (b : Option (Bor (Shoen N))). parent_found (option_copied b)) (sym z) ∙ ap (λ o. parent_found o) e) lt
@@ -40,7 +40,7 @@ zero_off_path parents (suc m) (suc n) =
     ap (λ b. b || is_among 0 (path_within m parents (get_or parents n 0))) (ne_eqb 0 (suc n) (λ e. omega (arith, e)))
     ∙ zero_off_path parents m (get_or parents n 0)
 
--- a path among known shoens doesn't change where more are opened
+-- a path among known shoens doesn't change if more are opened
 pub path_among : (ps qs : List ℕ) → ParentsAreLower ps → (m n : ℕ) → n ≤ length ps → path_within m (ps ++ qs) n ≡ path_within m ps n
 unfolding path_within
 path_among ps qs lower zero n few = refl

@@ -33,7 +33,7 @@ pub record IsOriginIn {N : Type 0} (h : Held N) (o : Origin N) : Type 0 where
   pub reports : IsIn h o.reports
   pub control : IsIn h o.control
 
--- the same, where the console keeps something
+-- the cells of what the console keeps are of a store, if it keeps something
 abbrev pub IsKeptIn : {N : Type 0} → Held N → Option (Origin N) → Type 0
 IsKeptIn h None = Unit {0}
 IsKeptIn h (Some o) = IsOriginIn h o

@@ -17,7 +17,7 @@ pub record Tree (N : Type 0) : Type 0 where
   pub kept_work : List ℕ
   pub room : ℕ
 
--- the shoen of a number
+-- shoen `n`
 abbrev pub shoen_in : {N : Type 0} → ℕ → List (Shoen N) → Option (Shoen N)
 shoen_in n shoens = find (has_number n) shoens
 
@@ -33,7 +33,7 @@ is_exhausted_in shoens work h = nat_le h.allowance (charged_in shoens work h.num
 abbrev pub is_blocking_in : {N : Type 0} → List (Shoen N) → List ℕ → Shoen N → Bool
 is_blocking_in shoens work h = h.is_stopped || not (is_living h.life) || is_exhausted_in shoens work h
 
--- the same of the shoen of a number
+-- whether shoen `n` holds back the goals in it and below it
 abbrev pub is_blocking_at : {N : Type 0} → List (Shoen N) → List ℕ → ℕ → Bool
 is_blocking_at shoens work n = unwrap_or (option_map (is_blocking_in shoens work) (shoen_in n shoens)) false
 
@@ -41,11 +41,11 @@ is_blocking_at shoens work n = unwrap_or (option_map (is_blocking_in shoens work
 abbrev pub is_enabled_at : {N : Type 0} → List (Shoen N) → List ℕ → ℕ → Bool
 is_enabled_at shoens work n = not (list_any (is_blocking_at shoens work) (path_in shoens n))
 
--- whether the shoen of a number was charged just what it may be
+-- whether shoen `n` was charged just what it may be
 abbrev pub has_reached_in : {N : Type 0} → List (Shoen N) → List ℕ → ℕ → Bool
 has_reached_in shoens work n = unwrap_or (option_map (λ h. h.allowance == charged_in shoens work n) (shoen_in n shoens)) false
 
--- whether the shoen of a number lives
+-- whether shoen `n` lives
 abbrev pub lives_in : {N : Type 0} → List (Shoen N) → ℕ → Bool
 lives_in shoens n = unwrap_or (option_map (λ h. is_living h.life) (shoen_in n shoens)) false
 
@@ -53,11 +53,11 @@ lives_in shoens n = unwrap_or (option_map (λ h. is_living h.life) (shoen_in n s
 abbrev pub is_living_child_of : {N : Type 0} → ℕ → Shoen N → Bool
 is_living_child_of n h = h.parent == n && is_living h.life
 
--- shoens, that of a number changed
+-- shoens, shoen `n` changed
 abbrev pub changed : {N : Type 0} → ℕ → (Shoen N → Shoen N) → List (Shoen N) → List (Shoen N)
 changed n f shoens = map (λ h. if has_number n h then f h else h) shoens
 
--- a shoen after an abort of one on whose path it may be: it is ended, where it lives
+-- a shoen after an abort of one on whose path it may be: it is ended, if it lives
 abbrev pub aborted_below_in : {N : Type 0} → List (Shoen N) → ℕ → Shoen N → Shoen N
 aborted_below_in shoens n h = if is_living h.life && is_on_path_in shoens n h.number then record h { life = Aborted } else h
 
@@ -69,7 +69,7 @@ pub record AreCharged {N : Type 0} (shoens : List (Shoen N)) (charges work : Lis
   pub count : length charges ≡ length shoens
   pub charged : (k : ℕ) → get_or charges k 0 ≡ charged_in shoens work (suc k)
 
--- of a shoen of this parent and life, 1 where it is a living child of that of a number
+-- of a shoen of this parent and life, 1 if it is a living child of shoen `n`
 abbrev pub counted_under : ℕ → ℕ → Life → ℕ
 counted_under n parent life = if parent == n && is_living life then 1 else 0
 

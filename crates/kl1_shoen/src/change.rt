@@ -23,7 +23,7 @@ pub enum Change<N> {
     Breaks,
     /// It is stopped, or not.
     Stopped(bool),
-    /// It may be charged so many reductions more, up to the greatest allowance.
+    /// It may be charged this many reductions more, up to the greatest allowance.
     Allows(u64),
     /// It has this life.
     Ends(Life),

@@ -102,16 +102,17 @@ impl<N: NameValue> ShoenTree<N> {
         self.charges.push(0);
     }
 
-    /// The shoen of a number, lent.
+    /// Shoen `number`, lent.
     pub fn lend(&self, number: u64) -> Option<&Shoen<N>>
         ensures value { option_copied result ≡ find (has_number number) self.now.shoens }
         ensures number { IfSome result (λ shoen. shoen.now.number ≡ number) }
     {
+        // Only for the proof: the shoens are numbered in order.
         let _numbered = self.len();
         lent(self.shoens.items(), number)
     }
 
-    /// The shoen of a number, lent as a step of a path, which goes on with its parent; the path ends where no shoen has the number.
+    /// Shoen `number`, lent as a step of a path, which goes on with its parent; the path ends if no shoen has the number.
     pub fn climb(&self, number: u64) -> Option<&Shoen<N>>
         requires { 0 < number }
         ensures value { option_copied result ≡ find (has_number number) self.now.shoens }
@@ -120,11 +121,12 @@ impl<N: NameValue> ShoenTree<N> {
         ensures path { IfSome result (λ shoen. path_in self.now.shoens number ≡ number ∷ path_in self.now.shoens shoen.now.parent) }
         ensures end { result ≡ None → path_in self.now.shoens number ≡ number ∷ [] }
     {
+        // Only for the proof: parents have lower numbers.
         let _lower = self.len();
         climbed(self.shoens.items(), number)
     }
 
-    /// The step of a path at the shoen of a number, with whether the shoen lives.
+    /// The step of a path at shoen `number`, with whether the shoen lives.
     pub fn living_step(&self, number: u64) -> Step
         requires { 0 < number }
         ensures below { result.up < number }
@@ -143,14 +145,14 @@ impl<N: NameValue> ShoenTree<N> {
         }
     }
 
-    /// What the console keeps of the shoen of a number.
+    /// What the console keeps of shoen `number`.
     pub fn origin_at(&self, number: u64) -> Option<Origin<N>>
         ensures { result ≡ option_and_then (λ shoen. shoen.origin) (find (has_number number) self.now.shoens) }
     {
         self.lend(number)?.origin
     }
 
-    /// Whether the shoen of a number lives.
+    /// Whether shoen `number` lives.
     pub fn lives(&self, number: u64) -> bool
         ensures { result ≡ lives_in self.now.shoens number }
     {
@@ -160,19 +162,20 @@ impl<N: NameValue> ShoenTree<N> {
         is_living(shoen.life)
     }
 
-    /// The number of the parent of the shoen of a number; 0 where the console started it, and where no shoen has the number.
+    /// The number of the parent of shoen `number`; 0 if the console started it, and if no shoen has the number.
     pub fn parent(&self, number: u64) -> u64
         ensures value { result ≡ unwrap_or (option_map (λ h. h.parent) (find (has_number number) self.now.shoens)) 0 }
         ensures below { 0 < number → result < number }
         ensures path { 0 < number → path_in self.now.shoens number ≡ number ∷ path_in self.now.shoens result }
         ensures end { number ≡ 0 → path_in self.now.shoens number ≡ [] }
     {
+        // Only for the proof: parents have lower numbers.
         let _lower = self.len();
         parent_of(self.shoens.items(), number)
     }
 }
 
-/// The shoen of a number, lent as a step of a path, as `climb`.
+/// Shoen `number`, lent as a step of a path, as `climb`.
 fn climbed<N: NameValue>(shoens: &[Shoen<N>], number: u64) -> Option<&Shoen<N>>
     requires numbered { AreNumbered 0 shoens.now }
     requires lower { AreLower shoens.now }

@@ -33,7 +33,7 @@ impl Names<Adding> for More {
     ghost numbers = { λ adding. adding.shoen ∷ adding.work };
 }
 
-/// The same numbers as a list of reductions has.
+/// The name of reductions that have the numbers of a list of reductions.
 struct Same;
 
 impl Names<Work> for Same {
@@ -48,7 +48,7 @@ impl Work {
         Work { tag: Tag::empty() }
     }
 
-    /// The same reductions once more.
+    /// A copy of these reductions.
     pub fn same(&self) -> Work
         ensures { result ≡ self.now }
     {

@@ -163,7 +163,7 @@ pub nothing_waits : {N : Type 0} (f : N → List ℕ) (h : Held N) → waiting f
 unfolding waiting
 nothing_waits f h = refl
 
--- ---- the same, where the list has a name of its own
+-- ---- what is popped from a list that has a name of its own
 
 popped : {N : Type 0} (h : Held N) (before ps : List Frame) (p : Frame) → ArePairs h before → before ≡ ps ++ p ∷ [] → ArePairs h ps × IsPair h p
 popped h before ps p pairs e = let P : List Frame → Type 0 = λ l. ArePairs h l in ArePairs-pop h ps p (subst P e pairs)

@@ -64,7 +64,7 @@ same_members start longer ws s each v =
     forth (inl a) = let E : List ℕ → Type 0 = λ k. IsOf v k in absurd (subst E s a)
     forth (inr a) = a
 
--- two cells that were compared, beginning with no variables, where those that were found are put behind others
+-- two cells that were compared, beginning with no variables, and those that were found are put after others
 pub alike_from : {N : Type 0} (built : BuiltIn → N) (h : Held N) (x y : Cell N) (start longer before after : List ℕ) → start ≡ [] → after ≡ before ++ longer → (AreUnbound h start → AreUnbound h longer) →
     ((f : N → List ℕ) → Reads built f → Compared f h x y start longer) → AreAlike built h x y before after
 alike_from {N = N} built h x y start longer before after s added unbound compared =

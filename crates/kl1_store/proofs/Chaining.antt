@@ -18,7 +18,7 @@ newest_place-front v ls ms (suc n) le =
     ap (λ (l : Link). if l.variable == v then suc n else newest_place v (ls ++ ms) n) (get_or_append_left ls ms no_link n (omega arith))
     ∙ ap (λ m. if (get_or ls n no_link).variable == v then suc n else m) (newest_place-front v ls ms n (omega arith))
 
--- where the newest of the first so many stands
+-- where the newest of the first `n` stands
 pub record Stands (v : ℕ) (ls : List Link) (n : ℕ) : Type 0 where
   pub within : newest_place v ls n ≤ n
   pub there : (m : ℕ) → newest_place v ls n ≡ suc m → (get_or ls m no_link).variable ≡ v
@@ -74,7 +74,7 @@ chained_on heads ls l c lt b = record { heads = λ v. head v (cases_eq l.variabl
         let Q : Link → Type 0 = λ k. k.before ≡ newest_place k.variable (ls ++ l ∷ []) i in
         subst Q (sym (get_or_append_left ls (l ∷ []) no_link i lt)) (c.before i lt ∙ sym (newest_place-front (get_or ls i no_link).variable ls (l ∷ []) i (omega arith)))
 
--- the same of a link that was made of its parts
+-- links stay chained with one more, which was made of its parts
 pub hung_on : (heads : List ℕ) (ls ms : List Link) (number v before count : ℕ) → AreChained heads ls → v < length heads → before ≡ get_or heads v 0 → count ≡ length ls → ms ≡ ls ++ record { number = number; variable = v; before = before } ∷ [] →
     AreChained (set heads v (count + 1)) ms
 hung_on heads ls ms number v before count c lt b e q =
@@ -122,7 +122,7 @@ hanging_on-push v [] k = sym (append-nil (if k.variable == v then k.number ∷ [
 hanging_on-push v (j ∷ ks) k =
     ap (λ l. l ++ (if j.variable == v then j.number ∷ [] else [])) (hanging_on-push v ks k) ∙ append_assoc (if k.variable == v then k.number ∷ [] else []) (hanging_on v ks) (if j.variable == v then j.number ∷ [] else [])
 
--- what hangs on a variable among the first so many links
+-- what hangs on a variable among the first `n` links
 abbrev pub hanging_to : ℕ → List Link → ℕ → List ℕ
 hanging_to v ls n = hanging_on v (hooks_in (take n ls))
 

@@ -97,7 +97,7 @@ kept_constant {N = N} h new v x ls (Ok y) u a c ok err =
 kept_constant {N = N} h new v x ls (Err y) u a c ok err =
     let P : Held N → Type 0 = λ k. AreLevels k ls in (subst P (sym err) a, ap (λ (k : Held N). k.variables) err)
 
--- where a variable took a constant, that is what unification does
+-- if a variable took a constant, that is what unification does
 pub took_constant : {N X E : Type 0} (built : BuiltIn → N) (h old new : Held N) (v : ℕ) (x : Cell N) (r : Result X E) → h ≡ old → is_bound v old.bindings ≡ false → IsConstant x →
     OnOk r (new ≡ with_binding h v x) → OnOk r (UnifiesAs built old new (Variable v) x Bound)
 took_constant {N = N} built h old new v x (Ok y) e u c ok =

@@ -23,7 +23,7 @@ pub in_module-replaced : {N : Type 0} (f : N → List ℕ) (m : Option N) (rs : 
 in_module-replaced f m [] t = refl
 in_module-replaced f m (r ∷ rs) t = ap (replaced rs) (in_module-replace f m r.number r.by t) ∙ in_module-replaced f m rs (replace r.number r.by t)
 
--- where each cell means what it meant, so does what is to be reduced
+-- if each cell means what it meant, so does what is to be reduced
 pub qualified_kept : {N : Type 0} (f : N → List ℕ) (old new : Held N) (q : Qualified N) → ((x : Cell N) → IsIn old x → term_of f new x ≡ term_of f old x) → IsIn old q.cell → qualified_term f new q ≡ qualified_term f old q
 qualified_kept f old new q kept h = ap (in_module f q.module_name) (kept q.cell h)
 

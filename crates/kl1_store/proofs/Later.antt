@@ -22,7 +22,7 @@ unfolding replacements_from
 replacements_from-append f ts rs [] rest = refl
 replacements_from-append f ts rs (b ∷ bs) rest = replacements_from-append f ts (rs ++ replacement_of f ts rs b ∷ []) bs rest
 
--- replacements behind others, of the variables of these bindings
+-- replacements after others, of the variables of these bindings
 record AreBehind {N : Type 0} (f : N → List ℕ) (ts : List Term) (rs : List Replacement) (bs : List (Binding N)) : Type 0 where
   later : List Replacement
   numbers : map (λ r. r.number) later ≡ map (λ b. b.variable) bs

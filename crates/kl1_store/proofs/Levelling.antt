@@ -31,7 +31,7 @@ pub record StandsAt {N : Type 0} (h : Held N) (vs ss : ℕ → ℕ) (n : ℕ) (x
   pub means : (f : N → List ℕ) → term_of f h cell ≡ term_of f h x
   pub lies : LiesAt vs ss n cell
 
--- a cell that a variable was bound to, where lower variables stand for something
+-- a cell that a variable was bound to, if lower variables stand for something
 onwards : {N : Type 0} (h : Held N) (vs ss : ℕ → ℕ) (n w : ℕ) (x y : Cell N) → IsIn h y → IsLower w y → ((f : N → List ℕ) → term_of f h y ≡ term_of f h x) → LiesAt vs ss n y →
     ((u : ℕ) → u < w → suc u ≤ h.variables → n ≤ vs u → StandsAt h vs ss n (Variable u)) → StandsAt h vs ss n x
 onwards h vs ss n w x (Variable u) inside lower means lies rest =
@@ -212,7 +212,7 @@ lies_kept n m k vs ss (Structure s) inside lies = omega (arith, get_or-take m ss
 past_kept : (n : ℕ) (vs : List ℕ) (v : ℕ) → n ≤ v → level_at (take n vs) v ≡ 0
 past_kept n vs v le = get_or_past (take n vs) v 0 (omega (arith, length-take n vs))
 
--- the levels of what was there, where the first of the lists are kept
+-- the levels of what was there, if the first of the lists are kept
 pub levels-taken : {N : Type 0} (h now : Held N) (ls kept : Levels) → IsFormed h → Grown h now → AreLevels now ls →
     kept.variables.items ≡ take h.variables ls.variables.items → kept.structures.items ≡ take (length h.structures) ls.structures.items → AreLevels h kept
 levels-taken {N = N} h now ls kept p grown a e1 e2 = record {

@@ -139,7 +139,7 @@ set_rises vs ws v l le set u = at (cases_eq u v)
 same_rises : (vs ws : List ℕ) → ws ≡ vs → (u : ℕ) → level_at vs u ≤ level_at ws u
 same_rises vs ws e u = omega (arith, ap (λ l. level_at l u) e)
 
--- a variable, with what it was bound to on the list, or itself where it is unbound
+-- a variable, with what it was bound to on the list, or itself if it is unbound
 pub variable_lifted : {N : Type 0} (h : Held N) (v l : ℕ) (old new : Levels) (ts us : List (Task N)) → level_at old.variables.items v ≤ l → SetsLevel old.variables.items new.variables.items v l → new.structures.items ≡ old.structures.items →
     AreTasks h (ts ++ us) → Fits (level_at new.variables.items) (level_at new.structures.items) (ts ++ us) l (found v h.bindings) →
     ((f : N → List ℕ) (w : ℕ) → is_in_tasks f h w us ≡ true → occurs w (term_of f h (Variable v)) ≡ true) →

@@ -113,7 +113,7 @@ IsInside-binding {N = N} slots nodes arguments bindings v x h inside known unbou
     slotted w (inr ne) le =
         get_or-set_other slots v w x (Variable w) (λ e. ne (sym e)) ∙ h.slotted w le ∙ sym (found-push_other w bindings (record { variable = v; value = x }) ne)
 
--- the same, where the contents have a name of their own
+-- contents stay inside with one binding more, also under a name of their own
 pub bound_at : {N : Type 0} (slots : List (Cell N)) (nodes : List (Node N)) (arguments : List (Cell N)) (bindings after : List (Binding N)) (v : ℕ) (x : Cell N) (h : Held N) →
     IsInside slots nodes arguments bindings → held_in slots nodes arguments bindings ≡ h → after ≡ bindings ++ record { variable = v; value = x } ∷ [] →
     suc v ≤ h.variables → IsIn h x → is_bound v h.bindings ≡ false → IsLower v x → ((f : N → List ℕ) → occurs v (term_of f h x) ≡ false) →

@@ -102,7 +102,7 @@ frees_lists z slots nodes arguments bindings z' slots' nodes' arguments' binding
 pub list_spent : (n m n' m' l l' : ℕ) → n ≡ l → n' ≡ l' → n ≤ m → m ≤ m' → l + (m - n) ≤ l' + (m' - n')
 list_spent n m n' m' l l' e e' p q = let s = spare n m n' m' p q in omega (arith, s, e, e')
 
--- ---- room for variables, where cells and hooks have it
+-- ---- room for variables, if cells and hooks have it
 
 pub frees_kept : {N : Type 0} (old new : Stored N) (k l : Hung) → FreesRoom old.held old.room new.held new.room → old.held.variables ≤ k.covered → k.covered ≤ k.memory → l.memory ≡ k.memory → new.held.variables ≤ old.held.variables →
     FreesRoom (kept_in old k).held (kept_in old k).room (kept_in new l).held (kept_in new l).room

@@ -40,7 +40,7 @@ bound_too n (x ∷ bs) b h = first (x.variable == n) (is_bound n bs) (is_bound n
     first true q r e f = refl
     first false q r e f = f e
 
--- a test that stays where it holds
+-- a test that stays if it holds
 one_less : (p q : Bool) → (p ≡ true → q ≡ true) → one_unless q ≤ one_unless p
 one_less true q f = let P : Bool → Type 0 = λ c. one_unless c ≤ 0 in subst P (sym (f refl)) (omega arith)
 one_less false true f = omega arith
@@ -281,7 +281,7 @@ pub one_cycle : {N : Type 0} (built : BuiltIn → N) (h new : Held N) (l r x y :
 one_cycle built h new l r x y v z one takes b = λ f reads.
     one_decides f h l r x y one ∙ ap (after solve solve) (takes.leads f [] ∙ bound_fails v (term_of f h z) [] (b.1 f))
 
--- what the binding comes to, where it is made and where it isn't
+-- what the binding comes to, if it is made and if it isn't
 pub one_taken : {N : Type 0} (built : BuiltIn → N) (h new : Held N) (l r x y : Cell N) (v : ℕ) (z : Cell N) (b : Bool) → OneEquation h l r x y → Takes h x y v z → BindsAs h new v z b →
     SettlesAs built h new (λ f. equation_of f h l r) b
 one_taken built h new l r x y v z true one takes p = (one_binds built h new l r x y v z one takes p).0

@@ -20,7 +20,7 @@ popped m old new (Some x) e h =
 popped m [] new None e h = record { first = refl; rest = ap reverse (e ∙ append-nil new) }
 popped m (x ∷ xs) new None e h = absurd (false≢true (h (omega arith)))
 
--- one more of the first so many
+-- one more of the first elements of a list
 pub moved_one : {A : Type 0} (before : List A) (m : A) (left : ℕ) (xs ys : List A) (x : A) → 0 < left → first_or m xs ≡ x → but_first xs ≡ ys → (before ++ x ∷ []) ++ firsts m (left - 1) ys ≡ before ++ firsts m left xs
 moved_one before m zero xs ys x h p q = absurd (omega (arith, h))
 moved_one before m (suc k) xs ys x h p q =
@@ -69,12 +69,12 @@ pub others_within : {N : Type 0} (vs ss n : ℕ) (xs : List (Cell N)) → AreWit
 others_within vs ss zero xs p = p
 others_within vs ss (suc n) xs p = others_within vs ss n (but_first xs) (rest_within vs ss xs p)
 
--- there are so many of the first so many
+-- `firsts m n` gives `n` elements
 pub length-firsts : {A : Type 0} (m : A) (n : ℕ) (xs : List A) → length (firsts m n xs) ≡ n
 length-firsts m zero xs = refl
 length-firsts m (suc n) xs = ap suc (length-firsts m n (but_first xs))
 
--- the first so many cells of a stack are of its store
+-- the first `n` cells of a stack are of its store
 pub top_within : {N : Type 0} (h : Held N) (m : Cell N) (n : ℕ) (stack : List (Cell N)) → AreIn h stack → IsIn h m → AreIn h (firsts m n (reverse stack))
 top_within h m n stack inside there = firsts_within h.variables (length h.structures) m n (reverse stack) there (AreWithin-reverse h.variables (length h.structures) stack inside)
 
@@ -90,7 +90,7 @@ others_all zero (x ∷ xs) ys e = absurd (omega (arith, e))
 others_all (suc n) [] ys e = absurd (omega (arith, e))
 others_all (suc n) (x ∷ xs) ys e = others_all n xs ys (omega (arith, e))
 
--- the top of a stack from its end, where it has so many
+-- the top `n` elements of a stack, if `from` are below them
 pub top_reversed : {A : Type 0} (m : A) (n from : ℕ) (stack : List A) → from + n ≡ length stack → (reverse (drop from stack) ≡ firsts m n (reverse stack)) × (reverse (take from stack) ≡ others n (reverse stack))
 top_reversed m n from stack e =
     let whole : reverse stack ≡ reverse (drop from stack) ++ reverse (take from stack) = ap reverse (sym (take-append-drop from stack)) ∙ reverse-append (take from stack) (drop from stack) in

@@ -17,7 +17,7 @@ walked_unbound {N = N} h x v e inside walked =
     let below : suc v ≤ h.variables = subst I e inside in
     record { within = omega (arith, below); unbound = subst W e walked }
 
--- that variable behind others
+-- that variable after others
 pub one_pushed : {N : Type 0} (h : Held N) (x : Cell N) (v : ℕ) (old new : List ℕ) → x ≡ Variable v → IsIn h x → IsWalked h x → new ≡ old ++ v ∷ [] → AreUnbound h old → AreUnbound h new
 one_pushed {N = N} h x v old new e inside walked pushed unbound =
     let P : List ℕ → Type 0 = λ l. AreUnbound h l in

@@ -17,6 +17,6 @@ IsPlain v (Structure s) = ⊥
 abbrev pub IsFree : {N : Type 0} → Held N → ℕ → Cell N → Type 0
 IsFree h v x = (f : _) → occurs v (term_of f h x) ≡ false
 
--- a variable is in none of the first so many cells' terms
+-- a variable is in none of the first `n` cells' terms
 abbrev pub AreFree : {N : Type 0} → Held N → ℕ → List (Cell N) → ℕ → Type 0
 AreFree {N = N} h v xs n = (i : ℕ) (x : Cell N) → i < n → slice_get xs i ≡ Some x → IsFree h v x

@@ -15,7 +15,7 @@ hooks_in ls = map hook_in ls
 abbrev pub no_link : Link
 no_link = record { number = 0; variable = 0; before = 0 }
 
--- the place, counted from 1, of the newest link on a variable among the first so many; 0 where there is none
+-- the place, counted from 1, of the newest link on a variable among the first `n`; 0 if there is none
 abbrev pub newest_place : ℕ → List Link → ℕ → ℕ
 newest_place v ls zero = 0
 newest_place v ls (suc n) = if (get_or ls n no_link).variable == v then suc n else newest_place v ls n

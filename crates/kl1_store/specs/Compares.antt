@@ -44,7 +44,7 @@ pub record Compares {N : Type 0} (built : BuiltIn → N) (h : Held N) (x y : Cel
   pub less : equations_size (waiting unread h [] now) + length now ≤ size (term_of unread h x) + (equations_size (waiting unread h [] before) + length before)
   pub either : LooksDone built h x y before now waits longer ⊎ LooksOpen h x y before now waits longer
 
--- two cells were looked at, or they clash, where the answer is no
+-- two cells were looked at, or they clash, if the answer is no
 abbrev pub ComparesAs : {N : Type 0} → (BuiltIn → N) → Held N → Cell N → Cell N → List Frame → List Frame → List ℕ → List ℕ → Bool → Type 0
 ComparesAs built h x y before now waits longer true = Compares built h x y before now waits longer
 ComparesAs built h x y before now waits longer false = (f : _) → Reads built f → clash (term_of f h x) (term_of f h y) ≡ true
@@ -54,7 +54,7 @@ pub record Compared {N : Type 0} (f : N → List ℕ) (h : Held N) (x y : Cell N
   pub clash : clash (term_of f h x) (term_of f h y) ≡ false
   pub awaited : (v : ℕ) → IsOf v longer ↔ (IsOf v waits ⊎ IsOf v (awaited (term_of f h x) (term_of f h y)))
 
--- two cells were compared to the end, or they clash, where the answer is no
+-- two cells were compared to the end, or they clash, if the answer is no
 abbrev pub ComparedAs : {N : Type 0} → (BuiltIn → N) → Held N → Cell N → Cell N → List ℕ → List ℕ → Bool → Type 0
 ComparedAs built h x y waits longer true = (f : _) → Reads built f → Compared f h x y waits longer
 ComparedAs built h x y waits longer false = (f : _) → Reads built f → clash (term_of f h x) (term_of f h y) ≡ true

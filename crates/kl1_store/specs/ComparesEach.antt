@@ -19,7 +19,7 @@ pub record ComparedWith {N : Type 0} (f : N → List ℕ) (h : Held N) (x : Cell
   pub clash : clashes_with_some (term_of f h x) (term_list f h ys) ≡ false
   pub awaited : (v : ℕ) → IsOf v longer ↔ (IsOf v waits ⊎ IsOf v (awaited_with (term_of f h x) (term_list f h ys)))
 
--- a cell was compared with all of these, or it clashes with one of them, where the answer is no
+-- a cell was compared with all of these, or it clashes with one of them, if the answer is no
 abbrev pub ComparedWithAs : {N : Type 0} → (BuiltIn → N) → Held N → Cell N → List (Cell N) → List ℕ → List ℕ → Bool → Type 0
 ComparedWithAs built h x ys waits longer true = (f : _) → Reads built f → ComparedWith f h x ys waits longer
 ComparedWithAs built h x ys waits longer false = (f : _) → Reads built f → clashes_with_some (term_of f h x) (term_list f h ys) ≡ true
@@ -29,7 +29,7 @@ pub record ComparedEach {N : Type 0} (f : N → List ℕ) (h : Held N) (xs : Lis
   pub clash : some_clash (term_list f h xs) ≡ false
   pub awaited : (v : ℕ) → IsOf v longer ↔ (IsOf v waits ⊎ IsOf v (awaited_by (term_list f h xs)))
 
--- each two of these were compared, or two of them clash, where the answer is no
+-- each two of these were compared, or two of them clash, if the answer is no
 abbrev pub ComparedEachAs : {N : Type 0} → (BuiltIn → N) → Held N → List (Cell N) → List ℕ → List ℕ → Bool → Type 0
 ComparedEachAs built h xs waits longer true = (f : _) → Reads built f → ComparedEach f h xs waits longer
 ComparedEachAs built h xs waits longer false = (f : _) → Reads built f → some_clash (term_list f h xs) ≡ true

@@ -29,7 +29,7 @@ is_among l r pairs = list_any (pointwise nat_eq (l ∷ r ∷ [])) pairs
 abbrev pub EachDone : (ℕ → Term) → List ℕ → List (List ℕ) → Type 0
 EachDone S waits pairs = (l r : ℕ) → is_among l r pairs ≡ true → IsDone waits (S l) (S r)
 
--- the same of a store's structures, however names are read
+-- the terms of each pair of a store's structures don't clash, and wait for variables among these, however names are read
 abbrev pub AreDone : {N : Type 0} → (BuiltIn → N) → Held N → List ℕ → List (List ℕ) → Type 0
 AreDone {N = N} built h waits ps = (f : N → List ℕ) → Reads built f → EachDone (structure_term f h) waits ps
 

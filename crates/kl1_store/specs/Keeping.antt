@@ -6,7 +6,7 @@ use Rattle.kl1_store.specs.Hooks.{Kept}
 use Rattle.kl1_store.specs.Chains.{Hung}
 use Rattle.kl1_store.specs.Levels.{AreLevels}
 
--- what the cells and the hooks keep: there is room for a variable where both have it
+-- what the cells and the hooks keep: there is room for a variable if both have it
 abbrev pub kept_in : {N : Type 0} → Stored N → Hung → Kept N
 kept_in s k =
     record {

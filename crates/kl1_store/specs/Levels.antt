@@ -7,7 +7,7 @@ use Rattle.kl1_store.specs.declared.levels.Levels.{Levels}
 use Rattle.kl1_store.specs.Held.{Held, found, arguments_of}
 use Rattle.kl1_store.specs.Meaning.{term_of}
 
--- the level of a number; those beyond the end of the list lie at 0
+-- the level at `n`; those beyond the end of the list lie at 0
 abbrev pub level_at : List ℕ → ℕ → ℕ
 level_at ls n = get_or ls n 0
 
@@ -34,7 +34,7 @@ pub record SetsLevel (old new : List ℕ) (number level : ℕ) : Type 0 where
   pub others : (n : ℕ) → (n ≡ number → ⊥) → level_at new n ≡ level_at old n
   pub fit : (k : ℕ) → length old ≤ k → suc number ≤ k → length new ≤ k
 
--- whether a variable is in a term; where it isn't, the term lies above it
+-- whether a variable is in a term; if it isn't, the term lies above it
 abbrev pub FindsAs : {N : Type 0} → Held N → Levels → ℕ → Cell N → Bool → Type 0
 FindsAs h ls v x true = (f : _) → occurs v (term_of f h x) ≡ true
 FindsAs h ls v x false = ((f : _) → occurs v (term_of f h x) ≡ false) × LiesAt (level_at ls.variables.items) (level_at ls.structures.items) (level_at ls.variables.items v) x

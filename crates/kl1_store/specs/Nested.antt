@@ -10,7 +10,7 @@ use Rattle.kl1_store.specs.declared.next.Next.TheVariants.{Finished, Never, Bind
 use Rattle.kl1_store.specs.Held.{Held, arguments_of}
 use Rattle.kl1_store.specs.Meaning.{term_of, terms_of}
 
--- the first so many arguments are related, side by side
+-- the first `n` arguments are related, side by side
 abbrev pub Alike : (Term → Term → Type 0) → ℕ → Terms → Terms → Type 0
 Alike R zero ts us = Unit {0}
 Alike R (suc n) none us = ⊥
@@ -31,7 +31,7 @@ Under R S P t u [] = R t u
 Under R S P t u (p ∷ []) = (t ≡ S p.left) × (u ≡ S p.right) × Alike R p.next (P p.left) (P p.right)
 Under R S P t u (p ∷ q ∷ ps) = (t ≡ S p.left) × (u ≡ S p.right) × ((a : Term) × ((b : Term) × (LooksAt R (P p.left) (P p.right) p.next a b × Under R S P a b (q ∷ ps))))
 
--- the same, where the innermost arguments are still to be related
+-- two terms are related as `Under` says, but for the innermost arguments, which are still to be related
 abbrev pub Expects : (Term → Term → Type 0) → (ℕ → Term) → (ℕ → Terms) → Term → Term → List Frame → Term → Term → Type 0
 Expects R S P t u [] x y = (t ≡ x) × (u ≡ y)
 Expects R S P t u (p ∷ ps) x y = (t ≡ S p.left) × (u ≡ S p.right) × ((a : Term) × ((b : Term) × (LooksAt R (P p.left) (P p.right) p.next a b × Expects R S P a b ps x y)))
@@ -54,13 +54,13 @@ pub record IsNested {N : Type 0} (h : Held N) (ps : List Frame) : Type 0 where
   pub right : Cell N
   pub under : (f : N → List ℕ) → Under Equal (structure_term f h) (argument_terms f h) (term_of f h left) (term_of f h right) ps
 
--- the same, where two cells are still to be made equal
+-- two cells were made equal as far as pairs were looked at, but for two that are still to be made equal
 pub record IsExpecting {N : Type 0} (h : Held N) (ps : List Frame) (x y : Cell N) : Type 0 where
   pub left : Cell N
   pub right : Cell N
   pub expects : (f : N → List ℕ) → Expects Equal (structure_term f h) (argument_terms f h) (term_of f h left) (term_of f h right) ps (term_of f h x) (term_of f h y)
 
--- what waits where a binding is asked for
+-- what waits if a binding is asked for
 abbrev pub ExpectsNext : {N : Type 0} → Held N → List Frame → Next N → Type 0
 ExpectsNext h ps Finished = Unit {0}
 ExpectsNext h ps Never = Unit {0}

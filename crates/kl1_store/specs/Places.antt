@@ -3,7 +3,7 @@ use Rattle.std.specs.Prelude.{◌≡◌, ℕ, ◌+◌, ◌≤◌, ◌<◌, ◌^�
 use Rattle.kl1_store.specs.declared.cell.Cell.{Cell}
 use Rattle.kl1_store.specs.Held.{Shape, Held, arguments_of}
 
--- the arguments of structures, those of one behind those of another
+-- the arguments of structures, those of one after those of another
 abbrev pub arguments_among : {N : Type 0} → List (Shape N) → List (Cell N)
 arguments_among [] = []
 arguments_among (s ∷ ss) = s.arguments ++ arguments_among ss

@@ -12,14 +12,14 @@ pub record Renames {N : Type 0} (from to : List N) (g : N → N) : Type 0 where
   pub each : (i : ℕ) (n : N) → slice_get from i ≡ Some n → slice_get to i ≡ Some (g n)
   pub others : (n : N) → ((i : ℕ) → slice_get from i ≡ Some n → ⊥) → g n ≡ n
 
--- a cell, with another name where it is an atom
+-- a cell, with another name if it is an atom
 abbrev pub cell_renamed : {N M : Type 0} → (N → M) → Cell N → Cell M
 cell_renamed g (Variable v) = Variable v
 cell_renamed g (Integer i) = Integer i
 cell_renamed g (Atom a) = Atom (g a)
 cell_renamed g (Structure s) = Structure s
 
--- a structure, with another name, and with other names where its arguments are atoms
+-- a structure, with another name, and with other names if its arguments are atoms
 abbrev pub shape_renamed : {N M : Type 0} → (N → M) → Shape N → Shape M
 shape_renamed g s = record { name = g s.name; arguments = map (cell_renamed g) s.arguments }
 
@@ -27,7 +27,7 @@ shape_renamed g s = record { name = g s.name; arguments = map (cell_renamed g) s
 abbrev pub node_renamed : {N M : Type 0} → (N → M) → Node N → Node M
 node_renamed g n = record { name = g n.name; start = n.start; count = n.count }
 
--- a binding, with another name where it is to an atom
+-- a binding, with another name if it is to an atom
 abbrev pub binding_renamed : {N M : Type 0} → (N → M) → Binding N → Binding M
 binding_renamed g b = record { variable = b.variable; value = cell_renamed g b.value }
 

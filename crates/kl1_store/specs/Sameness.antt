@@ -31,7 +31,7 @@ pub record AreAlike {N : Type 0} (built : BuiltIn → N) (h : Held N) (x y : Cel
   pub clash : (f : N → List ℕ) → Reads built f → clash (term_of f h x) (term_of f h y) ≡ false
   pub awaited : (f : N → List ℕ) → Reads built f → (v : ℕ) → Contains named v ↔ Contains (awaited (term_of f h x) (term_of f h y)) v
 
--- two cells don't clash, or they do, where the answer is no, and nothing is added then
+-- two cells don't clash, or they do, if the answer is no, and nothing is added then
 abbrev pub AlikeAs : {N : Type 0} → (BuiltIn → N) → Held N → Cell N → Cell N → List ℕ → List ℕ → Bool → Type 0
 AlikeAs built h x y before after true = AreAlike built h x y before after
 AlikeAs built h x y before after false = (after ≡ before) × ((f : _) → Reads built f → clash (term_of f h x) (term_of f h y) ≡ true)

@@ -20,7 +20,7 @@ pub record FitsNext {N : Type 0} (vs : ℕ) (ss : List (Shape N)) (before : List
   pub lower : IsLower b.variable b.value
   pub free : (f : N → List ℕ) → occurs b.variable (replaced (replacements_from f (shapes_from f [] ss) [] before) (mean f (shapes_from f [] ss) b.value)) ≡ false
 
--- bindings behind others, each of which fits behind those before it
+-- bindings after others, each of which fits after those before it
 abbrev pub Bound : {N : Type 0} → ℕ → List (Shape N) → List (Binding N) → List (Binding N) → Type 0
 Bound vs ss before [] = Unit {0}
 Bound vs ss before (b ∷ bs) = FitsNext vs ss before b × Bound vs ss (before ++ b ∷ []) bs

@@ -22,7 +22,7 @@ abbrev pub UnifiesAs : {N : Type 0} → (BuiltIn → N) → Held N → Held N �
 UnifiesAs built old new x y Bound = ForEachReading built (λ f. IsSolved f old new x y) × Grown old new × (new.variables ≡ old.variables)
 UnifiesAs built old new x y Clash = ForEachReading built (λ f. solve (equation_of f old x y) ≡ None) × (new ≡ old)
 
--- what unification comes to where nothing is taken back: after a clash what was bound so far is still bound
+-- what unification comes to if nothing is taken back: after a clash what was bound so far is still bound
 abbrev pub SettlesTo : {N : Type 0} → (BuiltIn → N) → Held N → Held N → Cell N → Cell N → Unified → Type 0
 SettlesTo built old new x y Bound = UnifiesAs built old new x y Bound
 SettlesTo built old new x y Clash = ForEachReading built (λ f. solve (equation_of f old x y) ≡ None)

@@ -78,6 +78,7 @@ pub fn advance<N: NameValue>(
     ensures expects { IfOk result (ExpectsNext cells.now.held frames.new.items) }
     ensures merged { IfOk result (λ next. AreMerged cells.now.held merges.new) }
 {
+    // Only for the proof: what the cells hold is formed.
     let _ = cells.mark();
     while let Some(frame) = frames.pop() {
         if frame.next >= frame.count {

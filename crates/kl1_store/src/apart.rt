@@ -58,6 +58,7 @@ pub fn is_apart<N: NameValue>(
     requires levels { AreLevels cells.now.held levels.now }
     ensures { IsTrue result → FindsAs cells.now.held levels.now variable value false }
 {
+    // Only for the proof: what the cells hold is formed.
     let _ = cells.mark();
     match value {
         Cell::Variable(other) => {
@@ -70,7 +71,7 @@ pub fn is_apart<N: NameValue>(
     }
 }
 
-/// The same of a structure: it lies above the variable, or beside it with few plain arguments.
+/// Whether a structure is apart from a variable: it lies above it, or beside it with few plain arguments.
 fn is_apart_from<N: NameValue>(
     cells: &Cells<N>,
     levels: &Levels,
@@ -81,6 +82,7 @@ fn is_apart_from<N: NameValue>(
     requires levels { AreLevels cells.now.held levels.now }
     ensures { IsTrue result → FindsAs cells.now.held levels.now variable (Structure structure) false }
 {
+    // Only for the proof: what the cells hold is formed.
     let _ = cells.mark();
     let own = level_of(&levels.variables, variable);
     let there = level_of(&levels.structures, structure);

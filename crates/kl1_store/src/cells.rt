@@ -147,7 +147,7 @@ impl<N: NameValue> Cells<N> {
         Ok(number as u32)
     }
 
-    /// A new structure of so many arguments, which are moved from the top of a stack, the first from the very top; where none is
+    /// A new structure of `count` arguments, which are moved from the top of a stack, the first from the very top; if none is
     /// left, `missing` stands for it. After an error the stack is as before.
     pub fn build_top(
         &mut self,
@@ -183,7 +183,7 @@ impl<N: NameValue> Cells<N> {
         Ok(number as u32)
     }
 
-    /// Makes room for so many more variables, structures, arguments and bindings.
+    /// Makes room for `variables` variables, `structures` structures, `arguments` arguments and `bindings` bindings more.
     pub fn reserve(
         &mut self,
         variables: usize,
@@ -355,7 +355,7 @@ impl<N: NameValue> Cells<N> {
     }
 }
 
-/// Moves so many cells from the top of a stack behind those of a list with room for them; where none is left, `missing` stands
+/// Moves `count` cells from the top of a stack to the end of a list with room for them; if none is left, `missing` stands
 /// for it.
 fn move_top<N: NameValue>(
     stack: &mut Vec<Cell<N>>,
@@ -379,7 +379,7 @@ fn move_top<N: NameValue>(
     stack.truncate(from);
 }
 
-/// Puts cells behind those of a list with room for them, the last of them first.
+/// Puts cells after those of a list with room for them, the last of them first.
 fn put_reversed<N: NameValue>(list: &mut Vec<Cell<N>>, cells: &[Cell<N>])
     requires room { length list.old.items + length cells.now ≤ vec_capacity list.old }
     ensures items { list.new.items ≡ list.old.items ++ reverse cells.now }
@@ -392,7 +392,7 @@ fn put_reversed<N: NameValue>(list: &mut Vec<Cell<N>>, cells: &[Cell<N>])
     }
 }
 
-/// The same, one cell after another.
+/// Moves `count` cells as `move_top` does, one after another.
 fn move_or_fill<N: NameValue>(
     stack: &mut Vec<Cell<N>>,
     list: &mut Vec<Cell<N>>,

@@ -27,7 +27,7 @@ fn wait_for(waits: &mut Vec<u32>, variable: u32) -> Result<bool, AllocError>
     Ok(true)
 }
 
-/// Looks at two cells that stand for themselves: false where they clash at once.
+/// Looks at two cells that stand for themselves: false if they clash at once.
 fn compare_sides<N: NameValue>(
     cells: &Cells<N>,
     frames: &mut Vec<Frame>,
@@ -82,7 +82,7 @@ fn is_known<N: Copy>(pairs: &HashSet<[u32; 2]>, left: Cell<N>, right: Cell<N>) -
     false
 }
 
-/// Compares two cells: false where they clash; `waits` gets the variables for which they wait, and `frames` is scratch.
+/// Compares two cells: false if they clash; `waits` gets the variables for which they wait, and `frames` is scratch.
 pub fn compare<N: NameValue>(
     cells: &Cells<N>,
     frames: &mut Vec<Frame>,
@@ -96,6 +96,7 @@ pub fn compare<N: NameValue>(
     ensures compared { IfOk result (ComparedAs N.built cells.now.held left right waits.old.items waits.new.items) }
     ensures unbound { OnOk result (AreUnbound cells.now.held waits.old.items → AreUnbound cells.now.held waits.new.items) }
 {
+    // Only for the proof: what the cells hold is formed.
     let _ = cells.mark();
     frames.clear();
     // The structures, by number, that were compared. To empty a set that was large would cost what it once held.

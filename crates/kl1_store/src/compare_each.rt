@@ -12,7 +12,7 @@ use crate::frame::Frame;
 use kl1_text::NameValue;
 use std::alloc::{AllocError, Global};
 
-/// Compares a cell with each of others: false where it clashes with one.
+/// Compares a cell with each of others: false if it clashes with one.
 fn compare_with<N: NameValue>(
     cells: &Cells<N>,
     frames: &mut Vec<Frame>,
@@ -37,7 +37,7 @@ fn compare_with<N: NameValue>(
     Ok(true)
 }
 
-/// Compares each two of some cells: false where two clash.
+/// Compares each two of some cells: false if two clash.
 pub fn compare_each<N: NameValue>(
     cells: &Cells<N>,
     frames: &mut Vec<Frame>,

@@ -62,7 +62,7 @@ impl Hooks {
         Ok(())
     }
 
-    /// Makes memory serve for so many more heads.
+    /// Makes memory serve for `more` heads more.
     pub fn reserve_heads(&mut self, more: usize) -> Result<(), AllocError>
         ensures serves { OnOk result (self.new.covered + more ≤ self.new.memory) }
         ensures memory { self.old.memory ≤ self.new.memory }
@@ -73,7 +73,7 @@ impl Hooks {
         self.heads.reserve(more)
     }
 
-    /// Makes room for so many more hooks.
+    /// Makes room for `hooks` hooks more.
     pub fn reserve(&mut self, hooks: usize) -> Result<(), AllocError>
         ensures room { OnOk result (hooks ≤ self.new.room) }
         ensures hooks { self.new.hooks ≡ self.old.hooks }
@@ -136,7 +136,7 @@ impl Hooks {
         tell_chain(&self.links, head_of(&self.heads, variable), told, variable)
     }
 
-    /// Keeps so many hooks, the oldest, and takes the others off.
+    /// Keeps `count` hooks, the oldest, and takes the others off.
     pub fn keep(&mut self, count: usize)
         ensures serves { self.old.covered ≤ self.old.memory }
         ensures hooks { self.new.hooks ≡ take count self.old.hooks }
@@ -148,7 +148,7 @@ impl Hooks {
     }
 }
 
-/// The place of the newest hook on a variable, 0 where there is none.
+/// The place of the newest hook on a variable, 0 if there is none.
 #[inline]
 fn head_of(heads: &Vec<u32>, variable: u32) -> u32
     ensures { result ≡ get_or heads.now.items variable 0 }
@@ -189,7 +189,7 @@ fn tell_chain(
     Ok(())
 }
 
-/// Takes all links but so many off their chains.
+/// Takes all links but the first `keep` off their chains.
 fn unlink(heads: &mut Vec<u32>, links: &mut Vec<Link>, keep: usize)
     requires { AreChained heads.old.items links.old.items }
     ensures chained { AreChained heads.new.items links.new.items }

@@ -13,7 +13,7 @@ pub struct Levels {
 }
 
 impl Levels {
-    /// Keeps the levels of so many variables and structures, and puts the others back to 0.
+    /// Keeps the levels of `variables` variables and `structures` structures, and puts the others back to 0.
     pub fn keep(&mut self, variables: usize, structures: usize)
         ensures variables { self.new.variables.items ≡ take variables self.old.variables.items }
         ensures structures { self.new.structures.items ≡ take structures self.old.structures.items }
@@ -23,7 +23,7 @@ impl Levels {
     }
 }
 
-/// The level of a number.
+/// The level at `number`, 0 beyond the end of the list.
 #[inline]
 pub fn level_of(levels: &Vec<u64>, number: u32) -> u64
     ensures { result ≡ level_at levels.now.items number }

@@ -9,7 +9,7 @@ use crate::merge::Merge;
 use std::alloc::{AllocError, Global};
 use std::marker::Model;
 
-/// Structures by number, in one class where they were found to be equal.
+/// Structures by number, in one class if they were found to be equal.
 #[derive(Drop)]
 pub struct Merges {
     parents: Vec<u32>,

@@ -31,6 +31,7 @@ pub fn occurs_in_term<N: NameValue>(
     ensures found { IfOk result (FindsAs cells.now.held levels.new variable value) }
     ensures levels { AreLevels cells.now.held levels.new }
 {
+    // Only for the proof: what the cells hold is formed.
     let _ = cells.mark();
     if is_apart(cells, levels, variable, value) {
         return Ok(false);

@@ -128,7 +128,7 @@ impl<N: NameValue> Store<N> {
         self.cells.build_pair(name, first, second)
     }
 
-    /// A new structure of so many arguments, which are moved from the top of a stack, the first from the very top; where none is
+    /// A new structure of `count` arguments, which are moved from the top of a stack, the first from the very top; if none is
     /// left, `missing` stands for it: its number. After an error the stack is as before.
     pub fn build_top(
         &mut self,
@@ -214,6 +214,7 @@ impl<N: NameValue> Store<N> {
         ensures hooks { self.new.hooks ≡ self.old.hooks }
         ensures hook_room { self.new.hook_room ≡ self.old.hook_room }
     {
+        // Only for the proof: what the cells hold is formed.
         let _ = self.cells.mark();
         if unify_cells(
             &mut self.cells,
@@ -255,8 +256,8 @@ impl<N: NameValue> Store<N> {
         Ok(Same::Wait(waits))
     }
 
-    /// Whether two cells may mean the same term: false where they clash. Else `waits` gets the variables that this waits for behind
-    /// its own, and none where they mean the same term already.
+    /// Whether two cells may mean the same term: false if they clash. Else `waits` gets the variables that this waits for, after
+    /// those in it, and none if they mean the same term already.
     pub fn may_be_same(
         &self,
         left: Cell<N>,
@@ -283,7 +284,8 @@ impl<N: NameValue> Store<N> {
         Ok(true)
     }
 
-    /// Makes room for so many more variables, structures, arguments and bindings: these can't be refused then.
+    /// Makes room for `variables` variables, `structures` structures, `arguments` arguments and `bindings` bindings more:
+    /// these can't be refused then.
     pub fn reserve(
         &mut self,
         variables: usize,
@@ -302,7 +304,7 @@ impl<N: NameValue> Store<N> {
             .reserve(variables, structures, arguments, bindings)
     }
 
-    /// Makes room for so many more hooks: to hang these can't be refused then.
+    /// Makes room for `hooks` hooks more: to hang these can't be refused then.
     pub fn reserve_hooks(&mut self, hooks: usize) -> Result<(), AllocError>
         ensures hook_room { OnOk result (hooks ≤ self.new.hook_room) }
         ensures same { self.new.held ≡ self.old.held }

@@ -21,7 +21,7 @@ pub enum Answer<N: NameValue> {
     Dropped,
     Yes,
     No,
-    /// So many variables are named that are waited for.
+    /// How many variables are named that are waited for.
     Wait(usize),
     /// A cell.
     Is(Cell<N>),

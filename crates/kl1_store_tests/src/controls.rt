@@ -51,7 +51,7 @@ fn put<N: NameValue>(
     }
 }
 
-/// What stands at the front of a control stream: a message; or no message, with what follows it where it is an element.
+/// What stands at the front of a control stream: a message; or no message, with what follows it if it is an element.
 fn read<N: NameValue>(store: &Store<N>, cell: Cell<N>) -> Answer<N> {
     if !store.holds(cell) {
         return Answer::Nothing;
@@ -88,7 +88,7 @@ fn first<N: NameValue>(store: &Store<N>, cell: Cell<N>) -> Answer<N> {
     }
 }
 
-/// What is left of a list after so many elements.
+/// What is left of a list after `count` elements.
 fn skip<N: NameValue>(store: &Store<N>, cell: Cell<N>, count: Cell<N>) -> Answer<N> {
     if !store.holds(cell) {
         return Answer::Nothing;

@@ -17,7 +17,7 @@ fn place_of(text: &[u8], end: u32) -> u32 {
     }
 }
 
-/// The number that a cell is: 0, where it is none.
+/// The number that a cell is: 0, if it is none.
 pub fn size_of<N: NameValue>(cell: Cell<N>) -> usize {
     match cell {
         Cell::Integer(number) => number.max(0) as usize,

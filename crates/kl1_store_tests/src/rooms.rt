@@ -51,7 +51,7 @@ fn hang<N: NameValue>(store: &mut Store<N>, variable: u32) -> Result<Answer<N>, 
     }
 }
 
-/// Makes room for so many variables, structures and arguments.
+/// Makes room for `variables` variables, `structures` structures and `arguments` arguments.
 fn reserve<N: NameValue>(
     store: &mut Store<N>,
     variables: usize,

@@ -5,7 +5,7 @@ use crate::operands::small_of;
 use kl1_store::{Cell, Head, Store};
 use kl1_text::NameValue;
 
-/// What a cell stands for: itself, where it is of no store.
+/// What a cell stands for: itself, if it is of no store.
 pub fn walk<N: NameValue>(store: &Store<N>, cell: Cell<N>) -> Cell<N> {
     if !store.holds(cell) {
         return cell;
@@ -35,7 +35,7 @@ pub fn argument<N: NameValue>(store: &Store<N>, structure: u32, index: u32) -> O
     Some(store.argument(structure, index))
 }
 
-/// The key of a structure, its first argument: 0, where that is no integer.
+/// The key of a structure, its first argument: 0, if that is no integer.
 pub fn key_of<N: NameValue>(store: &Store<N>, structure: u32) -> i64 {
     match argument(store, structure, 0) {
         Some(Cell::Integer(key)) => key,

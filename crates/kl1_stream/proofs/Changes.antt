@@ -18,7 +18,7 @@ use Rattle.kl1_stream.specs.declared.told.Told.TheVariants.{Dropped, Broken, Sen
 use Rattle.kl1_stream.specs.Reports.{Breaks, ToldAs}
 use Rattle.kl1_stream.specs.Messages.{IsNoVariable, PutAs}
 
--- a state whose shoen of a number has the tail that a cell means, and whose variables are those of a store
+-- a state whose shoen `n` has the tail that a cell means, and whose variables are those of a store
 pub record IsStateOf {N : Type 0} (f : N → List ℕ) (old : Held N) (tail : Cell N) (is_broken is_last : Bool) (n : ℕ) (s : State) : Type 0 where
   pub shoen : Shoen
   pub there : shoen_at n s.shoens ≡ Some shoen
@@ -105,6 +105,6 @@ no_end n m (integer i) s e = refl
 no_end n m (atom a) s e = refl
 no_end n m (structure g ts) s e = refl
 
--- where the end of the stream is no variable, nothing is put
+-- if the end of the stream is no variable, nothing is put
 pub puts_nothing : {N : Type 0} (built : BuiltIn → N) (f : N → List ℕ) (old new : Held N) (tail : Cell N) (m : Message) (n : ℕ) (s : State) → Reads built f → PutAs built old new tail m None → sent_on n m (term_of f old tail) s ≡ s
 puts_nothing built f old new tail m n s reads d = no_end n m (term_of f old tail) s (d f reads).1

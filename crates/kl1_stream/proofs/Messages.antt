@@ -188,7 +188,7 @@ never_sent {N = N} built h mid full now v m s next name w p lt u i a b c d told 
       grown_message built h now m (subst G (sym t.1) (Grown-same (with_message built h m))),
     )
 
--- where memory is refused, the store has grown by the new variable, or by that and the list cell
+-- if memory is refused, the store has grown by the new variable, or by that and the list cell
 pub grown_next : {N : Type 0} (h mid new : Held N) → mid ≡ with_variable h → new ≡ mid → Grown h new
 grown_next {N = N} h mid new e f =
     let P : Held N → Type 0 = λ k. Grown h k in

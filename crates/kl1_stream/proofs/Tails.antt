@@ -56,7 +56,7 @@ has_cycle built h k tail v m is_broken is_last w u e s = record {
   breaks = λ f reads. let P : Term → Type 0 = λ t. Breaks is_last t (term_of f h m) in subst P (sym (term_of-unbound f h v u) ∙ e f) (ap (λ b. b || is_last) (s.1 f reads));
 }
 
--- where the last report was made, any message breaks a stream
+-- if the last report was made, any message breaks a stream
 breaks_last : (t m : Term) → Breaks true t m
 breaks_last (variable v) m = or_true (occurs v m)
   where

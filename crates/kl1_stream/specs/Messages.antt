@@ -24,7 +24,7 @@ pub record IsPut {N : Type 0} (f : N → List ℕ) (old new : Held N) (v : ℕ) 
   pub tail : term_of f new (Variable next) ≡ variable next
   pub means : (x : Cell N) → IsIn old x → term_of f new x ≡ replace v (cell (message_term message) (variable next)) (term_of f old x)
 
--- a message was put at the end of a stream, in place of the variable of a number: the next variable is new, and no other
+-- a message was put at the end of a stream, in place of the variable `number`: the next variable is new, and no other
 pub record HasPut {N : Type 0} (built : BuiltIn → N) (old new : Held N) (tail : Cell N) (message : Message) (next : ℕ) : Type 0 where
   pub number : ℕ
   pub tail_is : (f : N → List ℕ) → term_of f old tail ≡ variable number
@@ -39,7 +39,7 @@ IsNoVariable (integer i) = Unit {0}
 IsNoVariable (atom a) = Unit {0}
 IsNoVariable (structure f ts) = Unit {0}
 
--- what became of a message: where the end of the stream is no variable, nothing is new
+-- what became of a message: if the end of the stream is no variable, nothing is new
 abbrev pub PutAs : {N : Type 0} → (BuiltIn → N) → Held N → Held N → Cell N → Message → Option ℕ → Type 0
 PutAs built old new tail message None = (f : _) → Reads built f → (new ≡ old) × IsNoVariable (term_of f old tail)
 PutAs built old new tail message (Some next) = HasPut built old new tail message next

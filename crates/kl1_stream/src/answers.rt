@@ -19,6 +19,7 @@ fn unanswered<N: NameValue>(store: &Store<N>, report: Cell<N>) -> Option<u32>
     ensures unbound { IfSome result (IsUnbound store.now.held) }
     ensures variable { (f : N → List ℕ) → Reads N.built f → unanswered (term_of f store.now.held report) ≡ result }
 {
+    // Only for the proof: what the store holds is formed.
     let _formed = store.mark();
     let Cell::Structure(structure) = store.walk(report) else {
         return None;
@@ -33,7 +34,7 @@ fn unanswered<N: NameValue>(store: &Store<N>, report: Cell<N>) -> Option<u32>
     store.walk(store.argument(structure, 2)).variable()
 }
 
-/// The variable for which a substitute waits by the report of a number, the first being 1, of those on a stream, if one does.
+/// The variable for which a substitute waits by report `report`, the first being 1, of those on a stream, if one does.
 pub fn unanswered_at<N: NameValue>(store: &Store<N>, reports: Cell<N>, report: u64) -> Option<u32>
     requires reports { IsIn store.now.held reports }
     requires report { 0 < report }

@@ -23,6 +23,7 @@ fn message_cell<N: NameValue>(store: &mut Store<N>, message: Message) -> Result<
     ensures hooks { store.new.hooks ≡ store.old.hooks }
     ensures hook_room { store.new.hook_room ≡ store.old.hook_room }
 {
+    // Only for the proof: what the store holds is formed.
     let _formed = store.mark();
     match message {
         Message::Stop => Ok(Cell::Atom(N::of(BuiltIn::Stop))),
@@ -36,8 +37,8 @@ fn message_cell<N: NameValue>(store: &mut Store<N>, message: Message) -> Result<
     }
 }
 
-/// Puts a message at the end of a control stream, and gives the number of the variable that is the stream's end then; nothing where
-/// the stream's end is no variable. What `allow` adds is less than 2 to the power of 63. Where memory is refused, the store may have
+/// Puts a message at the end of a control stream, and gives the number of the variable that is the stream's end then; nothing if
+/// the stream's end is no variable. What `allow` adds is less than 2 to the power of 63. If memory is refused, the store may have
 /// grown.
 pub fn send_message<N: NameValue>(
     store: &mut Store<N>,
@@ -52,6 +53,7 @@ pub fn send_message<N: NameValue>(
     ensures hooks { store.new.hooks ≡ store.old.hooks }
     ensures hook_room { store.old.hook_room ≤ store.new.hook_room }
 {
+    // Only for the proof: what the store holds is formed.
     let _formed = store.mark();
     match store.walk(tail) {
         Cell::Variable(variable) => {

@@ -12,7 +12,7 @@ use kl1_model::BuiltIn;
 use kl1_store::{Cell, Store};
 use kl1_text::NameValue;
 
-/// The first element of a list and the rest after it, where the cell is a list cell.
+/// The first element of a list and the rest after it, if the cell is a list cell.
 pub fn next_element<N: NameValue>(store: &Store<N>, cell: Cell<N>) -> Option<(Cell<N>, Cell<N>)>
     requires { IsIn store.now.held cell }
     ensures { MatchOption result (HasNoElement N.built store.now.held cell) (HasElement N.built store.now.held cell) }
@@ -32,7 +32,7 @@ pub fn next_element<N: NameValue>(store: &Store<N>, cell: Cell<N>) -> Option<(Ce
     }
 }
 
-/// What is left of a list after so many elements; where it has no more than these, what follows its last element.
+/// What is left of a list after `skip` elements; if it has no more than these, what follows its last element.
 pub fn nth_cell<N: NameValue>(store: &Store<N>, cell: Cell<N>, skip: u64) -> Cell<N>
     requires { IsIn store.now.held cell }
     ensures inside { IsIn store.now.held result }

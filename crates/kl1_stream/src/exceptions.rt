@@ -26,6 +26,7 @@ pub fn exception_of<N: NameValue>(
     ensures hooks { store.new.hooks ≡ store.old.hooks }
     ensures hook_room { store.new.hook_room ≡ store.old.hook_room }
 {
+    // Only for the proof: what the store holds is formed.
     let _formed = store.mark();
     let name = N::of(BuiltIn::Exception);
     let structure = store.build_pair(name, Cell::Atom(N::of(kind)), goal)?;
@@ -47,6 +48,7 @@ pub fn exception_with<N: NameValue>(
     ensures hooks { store.new.hooks ≡ store.old.hooks }
     ensures hook_room { store.new.hook_room ≡ store.old.hook_room }
 {
+    // Only for the proof: what the store holds is formed.
     let _formed = store.mark();
     let name = N::of(BuiltIn::Exception);
     let structure = store.build(name, &[Cell::Atom(N::of(kind)), goal, new])?;

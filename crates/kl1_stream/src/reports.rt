@@ -13,8 +13,8 @@ use kl1_store::{Cell, Store};
 use kl1_text::NameValue;
 use std::alloc::AllocError;
 
-/// Puts a message at the end of a report stream, if that can be: where the account has made its last report (`is_last`), a stream
-/// that isn't broken breaks. Where memory is refused, the store may have grown.
+/// Puts a message at the end of a report stream, if that can be: if the account has made its last report (`is_last`), a stream
+/// that isn't broken breaks. If memory is refused, the store may have grown.
 #[tactic(auto, using(crate::proofs::Tails::has_sent))]
 pub fn append_report<N: NameValue>(
     store: &mut Store<N>,
@@ -37,6 +37,7 @@ pub fn append_report<N: NameValue>(
     if is_last {
         return Ok(Told::Broken);
     }
+    // Only for the proof: what the store holds is formed.
     let _formed = store.mark();
     match store.walk(tail) {
         Cell::Variable(variable) => match send(store, variable, message)? {
@@ -67,6 +68,7 @@ pub fn close_report<N: NameValue>(
     if is_broken {
         return Ok(());
     }
+    // Only for the proof: what the store holds is formed.
     let _formed = store.mark();
     match store.walk(tail) {
         Cell::Variable(variable) => end(store, variable),

@@ -14,7 +14,7 @@ use kl1_unify::unify;
 use std::alloc::AllocError;
 
 /// Puts a list cell of a message and a new variable where an unbound variable stands, and gives the new variable's number;
-/// nothing where the unbound variable is in the message. Where memory is refused, the store may have grown.
+/// nothing if the unbound variable is in the message. If memory is refused, the store may have grown.
 pub(crate) fn send<N: NameValue>(
     store: &mut Store<N>,
     variable: u32,

@@ -29,6 +29,7 @@ pub(crate) fn top_of<N: NameValue>(store: &Store<N>, cell: Cell<N>) -> Top<N>
     ensures inside { TopIn store.now.held result }
     ensures top { (f : N → List ℕ) → HasTop f store.now.held (term_of f store.now.held cell) result }
 {
+    // Only for the proof: what the store holds is formed.
     let _ = store.mark();
     match store.walk(cell) {
         Cell::Variable(variable) => Top::Variable(variable),

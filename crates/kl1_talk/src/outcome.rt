@@ -4,16 +4,16 @@ ghost use Rattle.std.specs.Prelude.{◌≡◌, IfOk, IsErr, true, if◌then◌el
 
 use crate::fault::Fault;
 
-/// The status where each reply was none of a refusal.
+/// The status if each reply was none of a refusal.
 pub const ALL_WELL: u8 = 0;
 
-/// The status where a reply was a refusal.
+/// The status if a reply was a refusal.
 pub const REFUSED: u8 = 1;
 
-/// The status where the words of the program, the account's name or its key are no good.
+/// The status if the words of the program, the account's name or its key are no good.
 pub const BAD_WORDS: u8 = 2;
 
-/// The status where the talk ended before its commands did, and where a file could not be loaded.
+/// The status if the talk ended before its commands did, and if a file could not be loaded.
 pub const TROUBLE: u8 = 3;
 
 /// How a talk ended that came to its end.

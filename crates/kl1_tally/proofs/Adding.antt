@@ -52,7 +52,7 @@ took_share all old left share v w views took is own events steps joint =
           omega arith;
     }
 
--- a number that counts where two others are the same
+-- a number that counts if two others are the same
 in_here : (k a n : ℕ) → k ≡ a → cond (a == k) n 0 ≡ n
 in_here k a n e = grind (arith, nat_tests)
 
@@ -183,7 +183,7 @@ found f (x ∷ xs) more = elim (lt_or_le 0 (f x)) [
   | inr none ↦ (let s = sum_by-cons f x xs in let r = found f xs (omega arith) in (suc r.0, r.1, r.2, r.3))
 ]
 
--- where a number counts, two others are the same
+-- if a number counts, two others are the same
 same_of : (k a : ℕ) → 0 < same k a → a ≡ k
 same_of k a more = elim (cases_eq a k) [ inl is ↦ is | inr not ↦ absurd (let z = same_else k a not in omega arith) ]
 

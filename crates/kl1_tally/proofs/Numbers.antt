@@ -14,7 +14,7 @@ same_here k n e = grind (arith, nat_tests)
 pub same_else : (k n : ℕ) → n ≢ k → same k n ≡ 0
 same_else k n d = grind (arith, nat_tests)
 
--- a number is as often in a list as in its first place and behind it
+-- a number is as often in a list as in its first place and after it
 pub cut_sum : (f : ℕ → ℕ) (ns : List ℕ) → sum_by f (take 1 ns) + sum_by f (drop 1 ns) ≡ sum_by f ns
 cut_sum f [] = refl
 cut_sum f (n ∷ ns) = omega (arith, sum_by-cons f n ns, sum_by-cons f n [])

@@ -22,11 +22,11 @@ pub record TookShares (all left : List Share) (v : View) : Type 0 where
   pub events : (k : ℕ) → k < MOST_ACCOUNTS → events_at k v.amount + sum_by (λ (share : Share). slice_index share.events k) left ≡ sum_by (λ (share : Share). slice_index share.events k) all
   pub steps : (k : ℕ) → k < MOST_ACCOUNTS → steps_at k v.amount + sum_by (λ (share : Share). slice_index share.steps k) left ≡ sum_by (λ (share : Share). slice_index share.steps k) all
 
--- the events that a book has of an account: none where it is another account's
+-- the events that a book has of an account: none if it is another account's
 abbrev pub events_in : ℕ → Book → ℕ
 events_in k b = cond (b.account == k) b.events 0
 
--- the steps that a book has of an account: none where it is another account's
+-- the steps that a book has of an account: none if it is another account's
 abbrev pub steps_in : ℕ → Book → ℕ
 steps_in k b = cond (b.account == k) b.steps 0
 

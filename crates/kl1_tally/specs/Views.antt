@@ -29,7 +29,7 @@ joint_view v w = view_of (v.parts + w.parts) (v.names ++ w.names) (v.book ++ w.b
 abbrev pub spent_view : View
 spent_view = view_of 0 [] [] []
 
--- a view may be cut in two: what stands in its book is of its first account, and where nothing is left but that book, nothing was counted
+-- a view may be cut in two: what stands in its book is of its first account, and if nothing is left but that book, nothing was counted
 pub record CanPart (v : View) : Type 0 where
   pub some : 0 < v.parts
   pub own : (k : ℕ) → times k (take 1 v.names) ≡ 0 → events_at k v.book ≡ 0

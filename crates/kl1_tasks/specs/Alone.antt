@@ -19,7 +19,7 @@ seen_if contents failures None = record { bytes = None; failures = 0 }
 seen_if contents failures (Some s) = seen contents failures s
 
 -- what the work comes to that loads these sources in an account in which nothing has happened, starts a goal with an allowance, and
--- does first steps, at most so many
+-- does first steps, at most `steps`
 abbrev pub alone_of : List (List ℕ) → Term → ℕ → ℕ → Worked
 alone_of texts goal allowance steps = worked_of (fresh_kept Two account_name) texts goal allowance steps
 

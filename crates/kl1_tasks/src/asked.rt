@@ -22,7 +22,7 @@ pub enum Task {
 /// What the words ask for.
 #[derive(Drop)]
 pub struct Asked<'a> {
-    /// The names of the files, and behind them the goal, unless the files are checked.
+    /// The names of the files, and after them the goal, unless the files are checked.
     pub words: Vec<&'a str>,
     /// What is to be done with the files.
     pub task: Task,

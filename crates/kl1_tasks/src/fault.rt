@@ -5,7 +5,7 @@ use std::io;
 use std::io::Write;
 use std::process::ExitCode;
 
-/// The status where words, files, sources or the goal are bad, and where memory is refused or a write fails.
+/// The status if words, files, sources or the goal are bad, and if memory is refused or a write fails.
 pub const BAD: u8 = 2;
 
 /// Why a task can't be done.

@@ -7,7 +7,7 @@ use std::fs::File;
 use std::io;
 use std::io::Read;
 
-/// Reads a file, or so many of its bytes that it is too long.
+/// Reads a file, at most one byte more than a source may have.
 fn read_text(rt: &HostRuntime, name: &str) -> io::Result<Vec<u8>> {
     let mut text = Vec::new(rt.alloc());
     File::open(rt, name)?

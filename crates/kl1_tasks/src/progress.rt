@@ -16,7 +16,7 @@ const BETWEEN_LINES: u128 = 200;
 #[derive(Drop)]
 pub struct Progress<'r> {
     rt: &'r HostRuntime,
-    /// When the run began, where a line is wanted and the clock told.
+    /// When the run began, if a line is wanted and the clock told.
     start: Option<Instant>,
     /// The milliseconds from then on after which the next line is due.
     next: u128,
@@ -42,7 +42,7 @@ impl<'r> Progress<'r> {
         }
     }
 
-    /// Takes the line away, where there is one.
+    /// Takes the line away, if there is one.
     pub fn clear(&mut self) {
         if self.is_shown {
             let _ = eprint!(self.rt; "\r\x1b[K");

@@ -3,7 +3,7 @@
 use kl1_shell::Ending;
 use std::io;
 
-/// Tells how a shoen stands where it didn't terminate, and answers the program's status.
+/// Tells how a shoen stands if it didn't terminate, and answers the program's status.
 pub fn tell_ending<R: Eprint>(rt: &R, ending: Ending) -> io::Result<u8> {
     match ending {
         Ending::Terminated => Ok(0),

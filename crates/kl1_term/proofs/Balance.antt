@@ -43,7 +43,7 @@ left_step node cs (suc w) later h step =
     let is : later ≡ count_of_code (code_of node) + w = omega (arith, step some, count_is node) in
     ap (left_after cs) is ∙ h
 
--- where no term is to come, nothing is to be printed
+-- if no term is to come, nothing is to be printed
 pub nothing_left : (mode : Mode) (fs : List Frame) (ts : List Term) → waits_in mode fs ≡ 0 → text_in mode fs ts ≡ []
 nothing_left Whole fs ts h = absurd (omega arith)
 nothing_left Rest fs ts h = absurd (omega arith)

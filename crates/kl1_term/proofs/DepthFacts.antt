@@ -144,7 +144,7 @@ low_in (inr (inr p) ∷ cs) =
     let d = low_structure p.0 p.1 (suc (length cs)) (depths_in cs) some (low_in cs) in
     (d.0, d.1, low_more (suc (length cs)) (suc (suc (length cs))) (depths_behind p.1 (depths_in cs)) (omega arith) (low_rest (suc (length cs)) p.1 (depths_in cs) (low_in cs)))
 
--- the depths on a stack of those of nodes behind a place are low
+-- the depths on a stack of those of nodes after a place are low
 pub low_at : (nodes : List Node) (at : ℕ) (ds : List Depth) → ds ≡ depths_in (map code_of (drop at nodes)) → length nodes < 2 ^ 63 → AreLow (2 ^ 63) ds
 low_at nodes at ds e small =
     let count : length (map code_of (drop at nodes)) ≤ length nodes = simp (length-map, length-drop) (omega arith) in

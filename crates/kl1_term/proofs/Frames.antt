@@ -7,7 +7,7 @@ use Rattle.kl1_term.specs.Printing.{behind_text}
 use Rattle.kl1_term.specs.declared.frame.Frame.{Frame}
 use Rattle.kl1_term.specs.declared.frame.Frame.TheVariants.{Arguments}
 
--- the next argument stands behind a comma
+-- the next argument stands after a comma
 pub next_argument : (n : ℕ) (fs : List Frame) (ts : List Term) → 0 < n → codes "," ++ ((printed (first_term ts)).whole ++ behind_text (Arguments (n - 1) ∷ fs) (behind_first ts)) ≡ behind_text (Arguments n ∷ fs) ts
 next_argument zero fs ts h = absurd (omega arith)
 next_argument (suc n) fs ts h = let e : suc n - 1 ≡ n = omega arith in rw e (simp append_assoc)

@@ -23,7 +23,7 @@ not_two n = ne_eqb (suc (suc (suc n))) 2 (λ e. omega (arith, e))
 pub many_call : (f : List ℕ) (n : ℕ) → opening_of f (suc (suc (suc n))) ≡ Call
 many_call f n = rw (not_two n)
 
--- whether a structure may stand behind the colon is seen from its opening
+-- whether a structure may stand after the colon is seen from its opening
 pub two_behind : (b c : Bool) → (b ≡ true → c ≡ false) → is_behind_by (if b then Cell else if c then Colon else Call) ≡ not c
 two_behind true c h = rw (h refl)
 two_behind false true h = refl
@@ -82,7 +82,7 @@ opens_colon f (suc zero) h = cc
 opens_colon f (suc (suc zero)) h = ((bytes_eq-Decides f (codes ":")).0 (two_colon f h), refl)
 opens_colon f (suc (suc (suc n))) h = let e : opening_of f (suc (suc (suc n))) ≡ Call = many_call f n in cc
 
--- behind a list's elements, a structure that is no cell stands after a bar
+-- after a list's elements, a structure that is no cell follows a bar
 pub two_bar : (b c x y : Bool) (f : List ℕ) (p q : Printed) → b ≡ false → printed_pair (if b then Pair else if (c && x) && y then Qualified else Plain) f p q ≡ plain ((printed_pair (if b then Pair else if (c && x) && y then Qualified else Plain) f p q).whole)
 two_bar true c x y f p q h = cc
 two_bar false true true true f p q h = refl

@@ -9,7 +9,7 @@ use Rattle.kl1_term.specs.Printing.{text_in}
 use Rattle.kl1_term.specs.declared.node.Node.{Node}
 use Rattle.kl1_term.specs.declared.mode.Mode.TheVariants.{Whole}
 
--- the nodes of a term, printed with nothing behind them, are its text
+-- the nodes of a term, printed with nothing after them, are its text
 pub prints : (t : Term) (nodes : List Node) (most : Option ℕ) → map code_of nodes ≡ nodes_of t → limited most (text_in Whole [] (with_nodes nodes [])) ≡ limited most (print t)
 prints t nodes most e =
     ap (λ (cs : List NodeCode). limited most (text_in Whole [] (read_nodes cs []))) e

@@ -18,7 +18,7 @@ is_term nodes t e = e ∙ ap nodes_of (sym (term_is nodes t e))
 pub one_term : (nodes : List Node) → (t : Term) × (map code_of nodes ≡ nodes_of t) → IsTerm nodes
 one_term nodes is = is_term nodes is.0 is.1
 
--- one term's nodes behind the others, and then those of the other terms
+-- one term's nodes after the others, and then those of the other terms
 pub next_nodes : (nodes more_nodes : List Node) (t : Term) (ts : List Term) → map code_of more_nodes ≡ nodes_of t → map code_of (nodes ++ more_nodes) ++ nodes_of_all (terms_of ts) ≡ map code_of nodes ++ nodes_of_all (terms_of (t ∷ ts))
 next_nodes nodes more_nodes t ts e = rw (map-append code_of nodes more_nodes) (rw e (append_assoc (map code_of nodes) (nodes_of t) (nodes_of_all (terms_of ts))))
 

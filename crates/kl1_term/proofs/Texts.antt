@@ -91,7 +91,7 @@ alone_by false a other h = refl
 pub atom_alone : (a : List ℕ) → (printed_atom a).whole ≡ atom_text a
 atom_alone a = alone_by (bytes_eq a (codes "[]")) a (name_text a) (λ e. (bytes_eq-Decides a (codes "[]")).0 e)
 
--- what stands behind the colon
+-- what stands after the colon
 pub atom_colon : (y : Bool) (a : List ℕ) (q : Printed) (k : List ℕ) → y ≡ true → (printed_pair (if y then Qualified else Plain) (codes ":") (printed (atom a)) q).whole ++ k ≡ atom_text a ++ (codes ":" ++ (q.whole ++ k))
 atom_colon true a q k h = ap (λ (x : List ℕ). x ++ codes ":" ++ q.whole ++ k) (atom_alone a) ∙ simp append_assoc
 atom_colon false a q k h = cc

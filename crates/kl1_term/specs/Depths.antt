@@ -13,32 +13,32 @@ depth_of d = record { whole = d.whole; rest = d.rest }
 abbrev pub depths_on : List Kept → List Depth
 depths_on stack = map depth_of (reverse stack)
 
--- the first of depths; where there is none, that of a variable
+-- the first of depths; if there is none, that of a variable
 abbrev pub first_depth : List Depth → Depth
 first_depth [] = flat 1
 first_depth (d ∷ ds) = d
 
--- the depths behind the first
+-- the depths after the first
 abbrev pub behind_depth : List Depth → List Depth
 behind_depth [] = []
 behind_depth (d ∷ ds) = ds
 
--- the greatest of the first so many depths, 0 of none
+-- the greatest of the first `n` depths, 0 of none
 abbrev pub deepest_of : ℕ → List Depth → ℕ
 deepest_of zero ds = 0
 deepest_of (suc n) ds = max (first_depth ds).whole (deepest_of n (behind_depth ds))
 
--- the depths behind the first so many
+-- the depths after the first `n`
 abbrev pub depths_behind : ℕ → List Depth → List Depth
 depths_behind zero ds = ds
 depths_behind (suc n) ds = depths_behind n (behind_depth ds)
 
--- the depth of a structure of so many arguments, whose depths are the first
+-- the depth of a structure of `n` arguments, whose depths are the first
 abbrev pub structure_depth : List ℕ → ℕ → List Depth → Depth
 structure_depth f (suc (suc zero)) ds = pair_depth f (first_depth ds) (first_depth (behind_depth ds))
 structure_depth f n ds = flat (suc (deepest_of n ds))
 
--- the depths of the terms that begin with a node, where these are the depths of those behind it
+-- the depths of the terms that begin with a node, if these are the depths of those after it
 abbrev pub with_depth : NodeCode → List Depth → List Depth
 with_depth (inl x) ds = flat 1 ∷ ds
 with_depth (inr (inl a)) ds = flat 1 ∷ ds
@@ -49,7 +49,7 @@ abbrev pub depths_in : List NodeCode → List Depth
 depths_in [] = []
 depths_in (c ∷ cs) = with_depth c (depths_in cs)
 
--- depths of at most so many
+-- depths of at most `most`
 abbrev pub AreLow : ℕ → List Depth → Type 0
 AreLow most [] = Unit {0}
 AreLow most (d ∷ ds) = (d.whole ≤ most) × (d.rest ≤ most) × AreLow most ds

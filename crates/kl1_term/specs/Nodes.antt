@@ -13,7 +13,7 @@ code_of (Integer i) = inl (inr i)
 code_of (Atom a) = inr (inl a)
 code_of (Structure f n) = inr (inr (f, n))
 
--- how many terms of those behind it belong to a node
+-- how many terms of those after it belong to a node
 abbrev pub count_in : Node → ℕ
 count_in (Variable n) = 0
 count_in (Integer i) = 0
@@ -28,13 +28,13 @@ with_node node ts = read_node (code_of node) ts
 abbrev pub with_nodes : List Node → List Term → List Term
 with_nodes nodes ts = read_nodes (map code_of nodes) ts
 
--- how many terms of those behind it belong to a node
+-- how many terms of those after it belong to a node
 abbrev pub count_of_code : NodeCode → ℕ
 count_of_code (inl x) = 0
 count_of_code (inr (inl a)) = 0
 count_of_code (inr (inr p)) = p.1
 
--- how many terms are still to come after nodes, where so many were to come before; 1 where more nodes come than that
+-- how many terms are still to come after nodes, if `w` were to come before; 1 if more nodes come than that
 abbrev pub left_after : List NodeCode → ℕ → ℕ
 left_after [] w = w
 left_after (c ∷ cs) zero = 1

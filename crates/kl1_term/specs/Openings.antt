@@ -7,7 +7,7 @@ use Rattle.kl1_term.specs.declared.opening.Opening.TheVariants.{Cell, Colon, Cal
 use Rattle.kl1_term.specs.declared.opening.RestForm.{RestForm}
 use Rattle.kl1_term.specs.declared.opening.RestForm.TheVariants.{End, Element, Bar}
 
--- how the text of a structure of a name and so many arguments begins
+-- how the text of a structure with name `f` and `n` arguments begins
 abbrev pub opening_of : List ℕ → ℕ → Opening
 opening_of f n = if n == 2 then (if bytes_eq f (codes ".") then Cell else if bytes_eq f (codes ":") then Colon else Call) else Call
 
@@ -24,7 +24,7 @@ rest_form_of (Integer i) = Bar
 rest_form_of (Atom a) = if bytes_eq a (codes "[]") then End else Bar
 rest_form_of (Structure f n) = rest_by (opening_of f n)
 
--- whether a structure may stand behind the colon
+-- whether a structure may stand after the colon
 abbrev pub is_behind_by : Opening → Bool
 is_behind_by Cell = true
 is_behind_by Colon = false

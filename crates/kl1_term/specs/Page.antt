@@ -3,7 +3,7 @@ use Rattle.std.specs.Prelude.{ℕ, nat_lt, Bool, false, List, ◌++◌, length, 
 use Rattle.kl1_model.specs.Print.{cut_text}
 use Rattle.kl1_term.specs.declared.page.Page.{Page}
 
--- a text cut after so many bytes, where there is such a number
+-- a text cut after `most` bytes, if there is such a number
 abbrev pub limited : Option ℕ → List ℕ → List ℕ
 limited None text = text
 limited (Some most) text = cut_text most text
@@ -12,7 +12,7 @@ limited (Some most) text = cut_text most text
 abbrev pub page_text : Page → List ℕ → List ℕ
 page_text p rest = limited p.most (p.bytes.items ++ rest)
 
--- whether so many bytes are more than a text is to have
+-- whether `n` bytes are more than a text is to have
 abbrev pub is_longer : Option ℕ → ℕ → Bool
 is_longer None n = false
 is_longer (Some most) n = nat_lt most n

@@ -10,12 +10,12 @@ use Rattle.kl1_term.specs.declared.frame.Frame.TheVariants.{Arguments, Tail, Bra
 use Rattle.kl1_term.specs.declared.printer.Printer.{Printer}
 use Rattle.kl1_term.specs.Page.{page_text}
 
--- the texts of so many terms, each after a comma
+-- the texts of `n` terms, each after a comma
 abbrev pub after_commas : ℕ → List Term → List ℕ
 after_commas zero ts = []
 after_commas (suc n) ts = codes "," ++ ((printed (first_term ts)).whole ++ after_commas n (behind_first ts))
 
--- the text behind a term, of these terms
+-- the text after a term, of these terms
 abbrev pub behind_text : List Frame → List Term → List ℕ
 behind_text [] ts = []
 behind_text (Arguments n ∷ fs) ts = after_commas n ts ++ (codes ")" ++ behind_text fs (behind n ts))
@@ -57,7 +57,7 @@ waits_in Done fs = 0
 abbrev pub waits_of : Printer → ℕ
 waits_of p = waits_in p.mode (reverse p.frames.items)
 
--- the text that a printer has made, where nothing more comes
+-- the text that a printer has made, if nothing more comes
 abbrev pub written : Printer → List ℕ
 written p = page_text p.page []
 

@@ -10,7 +10,7 @@ variables_in (inl (inl n) ∷ cs) = n ∷ variables_in cs
 variables_in (inl (inr i) ∷ cs) = variables_in cs
 variables_in (inr x ∷ cs) = variables_in cs
 
--- the greatest number of a variable of nodes, 0 where there is none
+-- the greatest number of a variable of nodes, 0 if there is none
 abbrev pub highest_in : List NodeCode → ℕ
 highest_in [] = 0
 highest_in (inl (inl n) ∷ cs) = max n (highest_in cs)

@@ -64,7 +64,7 @@ fn take_structure(stack: &mut Vec<Depth>, name: AtomText, count: usize) -> Depth
     Depth::flat(deepest + 1)
 }
 
-/// Takes the depths of so many terms; gives the greatest, 0 where there is none.
+/// Takes the depths of `count` terms; gives the greatest, 0 if there is none.
 fn take_deepest(stack: &mut Vec<Depth>, count: usize) -> u64
     ensures deepest { result ≡ deepest_of count (depths_on stack.old.items) }
     ensures others { depths_on stack.new.items ≡ depths_behind count (depths_on stack.old.items) }
@@ -78,7 +78,7 @@ fn take_deepest(stack: &mut Vec<Depth>, count: usize) -> u64
     deepest
 }
 
-/// Takes the depth of the first term, or that of a variable where there is none.
+/// Takes the depth of the first term, or that of a variable if there is none.
 fn take_depth(stack: &mut Vec<Depth>) -> Depth
     ensures first { depth_of result ≡ first_depth (depths_on stack.old.items) }
     ensures others { depths_on stack.new.items ≡ behind_depth (depths_on stack.old.items) }

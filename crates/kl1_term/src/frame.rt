@@ -1,9 +1,9 @@
-// What is to be printed behind a term.
+// What is to be printed after a term.
 
-/// What is to be printed behind the term that is being printed.
+/// What is to be printed after the term that is being printed.
 #[derive(Clone, Copy)]
 pub(crate) enum Frame {
-    /// So many more arguments, each after a comma, and then `)`.
+    /// The number of further arguments, each after a comma, and then `)`.
     Arguments(usize),
     /// The rest of a list, whose element the term is.
     Tail,

@@ -1,4 +1,4 @@
-//! Terms as values, and their text: whole, and cut after so many bytes.
+//! Terms as values, and their text: whole, and cut after a number of bytes.
 #![tactic(auto)]
 
 mod depth;

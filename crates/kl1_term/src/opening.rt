@@ -29,7 +29,7 @@ pub(crate) enum RestForm {
     End,
     /// Another element.
     Element,
-    /// The last tail, behind a bar.
+    /// The last tail, after a bar.
     Bar,
 }
 
@@ -84,7 +84,7 @@ pub(crate) fn find_atom(node: &Node) -> Option<AtomText>
     }
 }
 
-/// Whether a term may stand behind the colon.
+/// Whether a term may stand after the colon.
 #[tactic(auto, using(crate::proofs::Openings::behind_by_opening))]
 pub(crate) fn stands_behind_colon(node: &Node) -> bool
     ensures { (ts : List TermSpec) → result ≡ is_behind_colon (first_term (with_node node.now ts)) }

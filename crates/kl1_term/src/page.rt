@@ -1,11 +1,11 @@
-// A text that is cut where it grows too long.
+// A text that is cut if it grows too long.
 
 ghost use Rattle.std.specs.Prelude.{◌≡◌, ℕ, List, [], ◌++◌, OnOk, IfOk, IsTrue};
 ghost use Rattle.kl1_term.specs.Page.{page_text, limited, is_over};
 
 use std::alloc::{AllocError, Global};
 
-/// The front of a text that is to be cut after `most` bytes, where that is given. What is put behind more than that is left out.
+/// The front of a text that is to be cut after `most` bytes, if that is given. What is put after more than that is left out.
 #[derive(Drop)]
 pub(crate) struct Page {
     pub(crate) bytes: Vec<u8>,
@@ -35,7 +35,7 @@ impl Page {
         }
     }
 
-    /// Puts bytes behind the others.
+    /// Puts bytes after the others.
     #[tactic(auto, using(crate::proofs::Pages::whole_yet))]
     pub(crate) fn put(&mut self, bytes: &[u8]) -> Result<(), AllocError>
         ensures { OnOk result ((rest : List ℕ) → page_text self.new rest ≡ page_text self.old (bytes.now ++ rest)) }

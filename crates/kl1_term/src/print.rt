@@ -15,14 +15,14 @@ pub fn print_whole(alloc: Global, term: &Term) -> Result<Vec<u8>, AllocError>
     print_within(alloc, term, None)
 }
 
-/// The text of a term, cut after so many bytes, with three dots where it is longer.
+/// The text of a term, cut after `most` bytes, with three dots if it is longer.
 pub fn print_cut(alloc: Global, term: &Term, most: usize) -> Result<Vec<u8>, AllocError>
     ensures { IfOk result (λ text. text.items ≡ cut_text most (print term.now)) }
 {
     print_within(alloc, term, Some(most))
 }
 
-/// Puts the text of a term behind the bytes.
+/// Puts the text of a term after the bytes.
 pub fn put_whole(alloc: Global, out: &mut Vec<u8>, term: &Term) -> Result<(), AllocError>
     ensures ok { OnOk result (out.new.items ≡ out.old.items ++ print term.now) }
     ensures err { OnErr result (out.new.items ≡ out.old.items) }
@@ -31,7 +31,7 @@ pub fn put_whole(alloc: Global, out: &mut Vec<u8>, term: &Term) -> Result<(), Al
     out.extend_from_slice(&text)
 }
 
-/// The text of a term, cut where there is a number of bytes for it.
+/// The text of a term, cut if there is a number of bytes for it.
 #[tactic(auto, using(crate::proofs::Prints::prints))]
 fn print_within(alloc: Global, term: &Term, most: Option<usize>) -> Result<Vec<u8>, AllocError>
     ensures { IfOk result (λ text. text.items ≡ limited most (print term.now)) }

@@ -31,7 +31,7 @@ pub struct Printer {
 }
 
 impl Printer {
-    /// Nothing printed yet. The text is cut after `most` bytes, where that is given.
+    /// Nothing printed yet. The text is cut after `most` bytes, if that is given.
     pub fn new(alloc: Global, most: Option<usize>) -> Self
         ensures text { (ts : List TermSpec) → text_of result ts ≡ limited most (text_in Whole [] ts) }
         ensures waits { waits_of result ≡ 1 }
@@ -114,7 +114,7 @@ impl Printer {
         }
     }
 
-    /// Prints a node as its term stands behind the elements of a list.
+    /// Prints a node as its term stands after the elements of a list.
     #[tactic(auto, using(crate::proofs::Texts::rest_ends, crate::proofs::Texts::rest_goes_on, crate::proofs::Texts::rest_behind_bar))]
     fn put_rest(&mut self, node: Node) -> Result<(), AllocError>
         ensures text { OnOk result ((ts : List TermSpec) → text_of self.new ts ≡ page_text self.old.page (text_in Rest (reverse self.old.frames.items) (with_node node ts))) }
@@ -142,7 +142,7 @@ impl Printer {
         }
     }
 
-    /// Prints a node as its term stands behind a colon, if the two are printed so.
+    /// Prints a node as its term stands after a colon, if the two are printed so.
     #[tactic(auto, using(crate::proofs::Texts::behind_colon, crate::proofs::Texts::behind_comma))]
     fn put_behind_colon(&mut self, name: AtomText, node: Node) -> Result<(), AllocError>
         ensures text { OnOk result ((ts : List TermSpec) → text_of self.new ts ≡ page_text self.old.page (text_in (Behind name) (reverse self.old.frames.items) (with_node node ts))) }
@@ -156,7 +156,7 @@ impl Printer {
         self.put_above(b",", Frame::Arguments(0), node)
     }
 
-    /// Puts bytes, and prints a node as its term stands alone, with this behind it.
+    /// Puts bytes, and prints a node as its term stands alone, with this after it.
     fn put_above(&mut self, text: &[u8], frame: Frame, node: Node) -> Result<(), AllocError>
         ensures text { OnOk result ((ts : List TermSpec) → text_of self.new ts ≡ page_text self.old.page (text.now ++ text_in Whole (frame ∷ reverse self.old.frames.items) (with_node node ts))) }
         ensures waits { OnOk result (waits_of self.new ≡ count_in node + waits_behind (frame ∷ reverse self.old.frames.items)) }
@@ -205,7 +205,7 @@ impl Printer {
         self.enter(b"(", Frame::Arguments(count - 1))
     }
 
-    /// Puts bytes, and begins a term with this behind it.
+    /// Puts bytes, and begins a term with this after it.
     fn enter(&mut self, text: &[u8], frame: Frame) -> Result<(), AllocError>
         ensures text { OnOk result ((ts : List TermSpec) → text_of self.new ts ≡ page_text self.old.page (text.now ++ text_in Whole (frame ∷ reverse self.old.frames.items) ts)) }
         ensures waits { OnOk result (waits_of self.new ≡ waits_in Whole (frame ∷ reverse self.old.frames.items)) }
@@ -225,7 +225,7 @@ impl Printer {
         self.complete()
     }
 
-    /// Ends a term: what stands behind it up to the next term.
+    /// Ends a term: what stands after it up to the next term.
     fn complete(&mut self) -> Result<(), AllocError>
         ensures text { OnOk result ((ts : List TermSpec) → text_of self.new ts ≡ page_text self.old.page (behind_text (reverse self.old.frames.items) ts)) }
         ensures waits { OnOk result (waits_of self.new ≡ waits_behind (reverse self.old.frames.items)) }
@@ -245,7 +245,7 @@ impl Printer {
         Ok(())
     }
 
-    /// Goes on to the next of so many arguments.
+    /// Goes on to the next of `count` arguments.
     #[tactic(auto, using(crate::proofs::Frames::next_argument))]
     fn next_argument(&mut self, count: usize) -> Result<(), AllocError>
         requires { 0 < count }

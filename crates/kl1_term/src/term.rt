@@ -34,7 +34,7 @@ impl Model for Term {
 }
 
 impl Term {
-    /// The variable of a number.
+    /// The variable with number `number`.
     pub fn variable(alloc: Global, number: u64) -> Result<Self, AllocError>
         ensures { IfOk result (λ t. t ≡ variable number) }
     {
@@ -88,7 +88,7 @@ impl Term {
         Ok(Term::of_nodes(nodes))
     }
 
-    /// The list of elements with a tail behind them.
+    /// The list of elements with a tail after them.
     pub fn list(alloc: Global, elements: &[Term], tail: &Term) -> Result<Self, AllocError>
         ensures { IfOk result (λ t. t ≡ cells (terms_of elements.now) tail.now) }
     {
@@ -109,7 +109,7 @@ impl Clone for Term {
     }
 }
 
-/// Puts the nodes of each term behind the others.
+/// Puts the nodes of each term after the others.
 #[tactic(auto, using(crate::proofs::Rows::next_nodes))]
 fn put_each(nodes: &mut Vec<Node>, terms: &[Term]) -> Result<(), AllocError>
     ensures { OnOk result (map code_of nodes.new.items ≡ map code_of nodes.old.items ++ nodes_of_all (terms_of terms.now)) }
@@ -122,7 +122,7 @@ fn put_each(nodes: &mut Vec<Node>, terms: &[Term]) -> Result<(), AllocError>
     Ok(())
 }
 
-/// Puts behind the others, for each term, the node of a list cell and the nodes of the term.
+/// Puts after the others, for each term, the node of a list cell and the nodes of the term.
 #[tactic(auto, using(crate::proofs::Rows::next_cell))]
 fn put_cells(nodes: &mut Vec<Node>, terms: &[Term]) -> Result<(), AllocError>
     ensures { OnOk result (map code_of nodes.new.items ≡ map code_of nodes.old.items ++ cell_nodes (terms_of terms.now)) }

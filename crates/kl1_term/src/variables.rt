@@ -10,7 +10,7 @@ use crate::node::Node;
 use crate::term::Term;
 
 impl Term {
-    /// The greatest number of a variable in the term, 0 where it has none.
+    /// The greatest number of a variable in the term, 0 if it has none.
     #[tactic(auto, using(crate::proofs::VariableFacts::highest_is))]
     pub fn highest(&self) -> u64
         ensures { result ≡ highest self.now }
@@ -27,7 +27,7 @@ impl Term {
     }
 }
 
-/// The greatest number of a variable in terms, 0 where they have none.
+/// The greatest number of a variable in terms, 0 if they have none.
 pub fn highest_among(terms: &[Term]) -> u64
     ensures { result ≡ highest_of_all (terms_of terms.now) }
 {
@@ -38,7 +38,7 @@ pub fn highest_among(terms: &[Term]) -> u64
     most
 }
 
-/// The greatest number of a variable among nodes, 0 where there is none.
+/// The greatest number of a variable among nodes, 0 if there is none.
 #[tactic(auto, using(crate::proofs::VariableFacts::next_highest))]
 fn find_highest(nodes: &[Node]) -> u64
     ensures { result ≡ highest_in (map code_of nodes.now) }

@@ -46,7 +46,7 @@ fn are_narrow(nodes: &[Node]) -> bool
     true
 }
 
-/// Whether a node has 1 to 8 arguments where it is a structure's.
+/// Whether a node has 1 to 8 arguments if it is a structure's.
 fn is_narrow(node: &Node) -> bool
     ensures { result ≡ is_narrow_node (code_of node.now) }
 {

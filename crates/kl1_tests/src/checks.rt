@@ -8,7 +8,7 @@ use std::rt::Clock;
 use std::sync::Wait;
 use std::thread::Threads;
 
-/// Puts a line on each check behind a report.
+/// Puts a line on each check after a report.
 pub fn put_checks<R: Threads + Wait + Clock + Sync>(rt: &R, out: &mut Text) {
     kl1_sharing_tests::put_checks(rt, out);
     kl1_goals_tests::put_checks(rt, out);

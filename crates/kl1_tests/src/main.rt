@@ -20,7 +20,7 @@ use std::rt::Clock;
 use std::sync::Wait;
 use std::thread::Threads;
 
-/// The line with which rows end behind which checks follow.
+/// The line with which rows end, and after which checks follow.
 const CHECKS: &[u8] = b"== checks\n";
 
 /// Rows, of which some are tried on accounts, with the handle by which a script may wait.
@@ -40,7 +40,7 @@ impl<H: Wait> OverAccounts for Rows<'_, H> {
     }
 }
 
-/// Puts the report on rows, and the line on each check behind it where the rows end with the heading of checks.
+/// Puts the report on rows, and the line on each check after it if the rows end with the heading of checks.
 fn put_tried<R: Threads + Wait + Clock + Sync>(rt: &R, out: &mut Text, text: &[u8]) {
     match text.strip_suffix(CHECKS) {
         None => put_over(&Rows { rt, text }, out),
@@ -51,7 +51,7 @@ fn put_tried<R: Threads + Wait + Clock + Sync>(rt: &R, out: &mut Text, text: &[u
     }
 }
 
-/// Puts the report on rows and checks, or what is measured, where the word for that and a line feed stand for rows.
+/// Puts the report on rows and checks, or what is measured, if the word for that and a line feed stand for rows.
 fn put_all<R: Threads + Wait + Clock + Sync>(rt: &R, out: &mut Text, rows: &[u8]) {
     match measure_of(rows) {
         None => put_tried(rt, out, rows),
@@ -59,7 +59,7 @@ fn put_all<R: Threads + Wait + Clock + Sync>(rt: &R, out: &mut Text, rows: &[u8]
     }
 }
 
-/// Tries the rows of its input; where that is the word for a measure and a line feed, the program measures.
+/// Tries the rows of its input; if that is the word for a measure and a line feed, the program measures.
 fn main(rt: HostRuntime) -> io::Result<()> {
     let mut rows = Vec::new(rt.alloc());
     rt.stdin().read_to_end(&mut rows)?;

@@ -19,11 +19,11 @@ pub enum Part {
     Tree,
     /// An account.
     One,
-    /// An account, to which an event is done again where memory was refused.
+    /// An account, to which an event is done again if memory was refused.
     Again,
     /// A load over the shared table of names, which is done again while memory is refused.
     Published,
-    /// Events of many accounts, together by at most so many calls and each alone.
+    /// Events of many accounts, together by at most this many calls and each alone.
     World(u8),
     /// Journals and their texts.
     Journal,

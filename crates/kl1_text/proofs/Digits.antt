@@ -19,7 +19,7 @@ bounded_number most digits = if nat_le (number_of digits) most then Some (number
 too_large : (most : ℕ) (digits : List ℕ) → most < number_of digits → None ≡ bounded_number most digits
 too_large most digits h = rw (lt-leb (number_of digits) most h)
 
--- digits write too much where those up to the next one do
+-- digits write too much if those up to the next one do
 pub too_many : (most : ℕ) (digits : List ℕ) (n : ℕ) (rest : List ℕ) → number_from n rest ≡ number_of digits → 0 < length rest → most < 10 * n + (get_or rest 0 0 - 48) → None ≡ bounded_number most digits
 too_many most digits n [] e h k = absurd (omega arith)
 too_many most digits n (b ∷ bs) e h k =

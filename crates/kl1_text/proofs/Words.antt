@@ -15,7 +15,7 @@ use Rattle.kl1_text.specs.Words.{number_of, bytes_in, words_of, bytes_of}
 pub name_byte_bounds : (b : ℕ) → is_name_byte b ≡ true → (32 ≤ b) × (b ≤ 126)
 name_byte_bounds b h = let p = and_parts _ _ h in (leb-true 32 b p.0, leb-true b 126 p.1)
 
--- the lowest byte of a number and what is above it
+-- the lowest byte, and what is above it
 low_byte : (b r : ℕ) → b < 256 → ((b + 256 * r) % 256 ≡ b) × ((b + 256 * r) / 256 ≡ r)
 low_byte b r small = (omega arith, omega arith)
 
@@ -37,7 +37,7 @@ names-drop zero bs h = h
 names-drop (suc n) [] h = h
 names-drop (suc n) (b ∷ bs) h = names-drop n bs (and_parts _ _ h).1
 
--- eight bytes and those behind them
+-- eight bytes and those after them
 eight_more : (n : ℕ) (bs : List ℕ) → take 8 bs ++ take (8 * n) (drop 8 bs) ≡ take (8 * suc n) bs
 eight_more n bs = rw (mul-suc 8 n, add_comm (8 * n) 8) (sym (take-add 8 (8 * n) bs))
 
@@ -62,14 +62,14 @@ unfolding number_of
 number_of_none zero bs e = refl
 number_of_none (suc n) bs e = absurd (omega arith)
 
--- where no byte is left
+-- if no byte is left
 pub number_of_end : (n : ℕ) (bs : List ℕ) → length bs < 1 → number_of n bs ≡ 0
 unfolding number_of
 number_of_end zero bs e = refl
 number_of_end (suc n) [] e = refl
 number_of_end (suc n) (b ∷ bs) e = absurd (omega arith)
 
--- the first byte and those behind it
+-- the first byte and those after it
 pub number_of_step : (n : ℕ) (bs : List ℕ) → 0 < n → 0 < length bs → number_of n bs ≡ get_or bs 0 0 + 256 * number_of (n - 1) (drop 1 bs)
 unfolding number_of
 number_of_step zero bs h l = absurd (omega arith)
@@ -89,7 +89,7 @@ eight_fit n r few below =
     let most : 256 ^ n ≤ 256 ^ 8 = pow-le-pow_right (lit< tt) few in
     omega arith
 
--- names are one where the words that hold them are
+-- names are one if the words that hold them are
 pub same_names : (xs ys : List ℕ) (r : Bool) → IsTrue (is_text xs) → IsTrue (is_text ys) → r ≡ bytes_eq (words_of 8 xs) (words_of 8 ys) → Decides r (xs ≡ ys)
 same_names xs ys r hx hy e =
     let same : Decides (bytes_eq (words_of 8 xs) (words_of 8 ys)) (words_of 8 xs ≡ words_of 8 ys) = bytes_eq-Decides (words_of 8 xs) (words_of 8 ys) in (
@@ -101,13 +101,13 @@ same_names xs ys r hx hy e =
 pub same_bytes : (xs ys : List ℕ) (r : Bool) → Decides r (xs ≡ ys) → r ≡ bytes_eq xs ys
 same_bytes xs ys r h = one_answer r (bytes_eq xs ys) h (bytes_eq-Decides xs ys)
 
--- the bytes of a number, where none is left
+-- no bytes, if none is left
 pub bytes_in_none : (n w : ℕ) → n ≡ 0 → bytes_in n w ≡ []
 unfolding bytes_in
 bytes_in_none zero w e = refl
 bytes_in_none (suc n) w e = absurd (omega arith)
 
--- where the lowest byte is zero
+-- if the lowest byte is zero
 pub bytes_in_zero : (n w : ℕ) → w % 256 ≡ 0 → bytes_in n w ≡ []
 unfolding bytes_in
 bytes_in_zero zero w e = refl
@@ -124,7 +124,7 @@ pub bytes_of_none : (i : ℕ) (ws : List ℕ) → length ws ≤ i → bytes_of (
 unfolding bytes_of
 bytes_of_none i ws h = rw (drop_all i ws h) refl
 
--- the bytes of a word and of those behind it
+-- the bytes of a word and of those after it
 pub bytes_of_step : (i : ℕ) (ws : List ℕ) → i < length ws → bytes_of (drop i ws) ≡ bytes_in 8 (get_or ws i 0) ++ bytes_of (drop (i + 1) ws)
 unfolding bytes_of
 bytes_of_step i ws h = rw (drop-cons ws i 0, add-one) refl

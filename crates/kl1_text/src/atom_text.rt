@@ -58,7 +58,7 @@ impl AtomText {
         }
     }
 
-    /// The name of these bytes, where they are one.
+    /// The name of these bytes, if they are one.
     pub fn read(bytes: &[u8]) -> Option<Self>
         ensures value { IfSome result (λ name. name ≡ bytes.now) }
         ensures variant { is_some result ≡ is_text bytes.now }
@@ -122,7 +122,7 @@ impl AtomText {
         let _words = &self.words;
     }
 
-    /// The built-in name that this is, where it is one.
+    /// The built-in name that this is, if it is one.
     pub fn built_in(&self) -> Option<BuiltIn>
         ensures { result ≡ built_in_of self.now }
     {
@@ -144,7 +144,7 @@ impl AtomText {
         Vec::from_slice(alloc, self.unpacked().as_slice())
     }
 
-    /// The name as it is printed where it names a structure.
+    /// The name as it is printed if it names a structure.
     pub fn printed_as_name(&self) -> ShortBytes
         ensures { result ≡ name_text self.now }
     {
@@ -156,7 +156,7 @@ impl AtomText {
         }
     }
 
-    /// The name as it is printed where it stands alone.
+    /// The name as it is printed if it stands alone.
     pub fn printed_as_atom(&self) -> ShortBytes
         ensures { result ≡ atom_text self.now }
     {

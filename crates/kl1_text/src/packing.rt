@@ -68,7 +68,7 @@ fn number_of(bytes: &[u8], count: usize) -> u64
     }
 }
 
-/// The bytes behind the first eight.
+/// The bytes after the first eight.
 fn behind(bytes: &[u8]) -> &[u8]
     requires { IsTrue (list_all is_name_byte bytes.now) }
     ensures value { result.now ≡ drop 8 bytes.now }

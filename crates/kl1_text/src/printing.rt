@@ -11,7 +11,7 @@ use crate::short_bytes::ShortBytes;
 use itoa::Buffer;
 use std::alloc::AllocError;
 
-/// Puts a number in decimal behind the bytes.
+/// Puts a number in decimal after the bytes.
 pub fn put_int(out: &mut Vec<u8>, number: i64) -> Result<(), AllocError>
     ensures ok { OnOk result (out.new.items ≡ out.old.items ++ signed_decimal number) }
     ensures err { OnErr result (out.new.items ≡ out.old.items) }
@@ -20,7 +20,7 @@ pub fn put_int(out: &mut Vec<u8>, number: i64) -> Result<(), AllocError>
     out.extend_from_slice(buffer.format(number).as_bytes())
 }
 
-/// Puts the name of a structure, as it is printed, behind the bytes.
+/// Puts the name of a structure, as it is printed, after the bytes.
 pub fn put_name(out: &mut Vec<u8>, name: &AtomText) -> Result<(), AllocError>
     ensures ok { OnOk result (out.new.items ≡ out.old.items ++ name_text name.now) }
     ensures err { OnErr result (out.new.items ≡ out.old.items) }
@@ -28,7 +28,7 @@ pub fn put_name(out: &mut Vec<u8>, name: &AtomText) -> Result<(), AllocError>
     out.extend_from_slice(name.printed_as_name().as_slice())
 }
 
-/// Puts an atom, as it is printed, behind the bytes.
+/// Puts an atom, as it is printed, after the bytes.
 pub fn put_atom(out: &mut Vec<u8>, name: &AtomText) -> Result<(), AllocError>
     ensures ok { OnOk result (out.new.items ≡ out.old.items ++ atom_text name.now) }
     ensures err { OnErr result (out.new.items ≡ out.old.items) }

@@ -48,7 +48,7 @@ impl ShortBytes {
         &self.bytes[..self.length]
     }
 
-    /// Puts a byte behind the others.
+    /// Puts a byte after the others.
     pub fn push(&mut self, byte: u8)
         requires { length self.old < 128 }
         ensures { self.new ≡ self.old ++ byte ∷ [] }
@@ -57,7 +57,7 @@ impl ShortBytes {
         self.length += 1;
     }
 
-    /// Puts behind the others the bytes of a number: `count` of them, or up to the first zero.
+    /// Puts bytes of `number` after the others: `count` of them, or up to the first zero.
     pub(crate) fn put_number(&mut self, number: u64, count: usize)
         requires { length self.old + count ≤ 128 }
         ensures value { self.new ≡ self.old ++ bytes_in count number }
@@ -70,7 +70,7 @@ impl ShortBytes {
         self.put_number(number / 256, count - 1);
     }
 
-    /// Puts bytes behind the others, each quote twice.
+    /// Puts bytes after the others, each quote twice.
     pub(crate) fn put_doubled(&mut self, bytes: &[u8])
         requires { length self.old + 2 * length bytes.now ≤ 128 }
         ensures value { self.new ≡ self.old ++ doubled bytes.now }

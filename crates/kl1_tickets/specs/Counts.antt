@@ -28,7 +28,7 @@ pub record Moved (account e s p t : ℕ) (old new : Counts) : Type 0 where
 abbrev pub Acts : ℕ → ℕ → ℕ → Counts → Counts → Type 0
 Acts account e s old new = (p : ℕ) × (p ≤ 1) × Moved account e s p 0 old new
 
--- of no account were so many tickets taken that one more can't be counted
+-- one more ticket of each account can be counted as taken
 abbrev pub CanTake : Counts → Type 0
 CanTake s = (k : ℕ) → k < MOST_ACCOUNTS → slice_index s.takes k < 2 ^ 63
 

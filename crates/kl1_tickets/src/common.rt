@@ -20,7 +20,7 @@ use std::sync::{Mutex, Wait};
 pub struct Common<K: Naming> {
     pub(crate) tally: Tally,
     pub(crate) queue: Queue,
-    /// Padded, since the words beside it are read in each step and it is written where workers fall asleep.
+    /// Padded, since the words beside it are read in each step and it is written when workers fall asleep.
     pub(crate) bell: CachePadded<Bell>,
     pub(crate) is_closed: AtomicBool,
     pub(crate) rest: Mutex<Rest<K>>,

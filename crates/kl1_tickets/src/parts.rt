@@ -76,7 +76,7 @@ impl Parts {
         })
     }
 
-    /// The same parts by the names of a type.
+    /// Opens these parts, with their names in the type `K`.
     pub fn open<K: Naming>(self, alloc: Global) -> Result<Opened<K>, AllocError>
         requires { (self.tally ≡ K.tally) × (self.queue ≡ K.queue) × (self.accounts ≡ K.accounts) × (self.shares ≡ K.shares) }
         ensures books { IfOk result (λ opened. opened.books.items ≡ map (new_book K.tally) (up_from 0 K.accounts)) }

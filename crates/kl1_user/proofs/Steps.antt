@@ -11,11 +11,11 @@ use Rattle.kl1_effects.specs.Account.{Account, state_of}
 use Rattle.kl1_effects.specs.Fitting.{Reading, Fits}
 use Rattle.kl1_event.specs.Views.{reply_of, reduced_or}
 
--- an event did this to an account, where it was answered
+-- an event did this to an account, if it was answered
 abbrev pub DoesTo : {E : Type 0} → Result Reply E → Account → model.Event → Account → Type 0
 DoesTo r old event new = IfOk r (λ reply. (f : Reading) → Fits new.names f → step (state_of f old) event ≡ record { state = state_of f new; reply = reply_of reply })
 
--- the same of the account and the event under other names
+-- an event did this to an account, said of the account and the event under other names
 pub does_same : {E : Type 0} (r : Result Reply E) (old other new : Account) (event by : model.Event) → other ≡ old → event ≡ by → DoesTo r other event new → DoesTo r old by new
 does_same {E} r old other new event by was is h =
     let P : Account → Type 0 = λ a. DoesTo {E = E} r a event new in
@@ -29,7 +29,7 @@ asks_same {E} r old other event by was is h =
     let Q : model.Event → Type 0 = λ e. DoesTo {E = E} r old e old in
     subst Q is (subst P was h)
 
--- the same of an event that leaves the names, told for the readings that fit them before
+-- an event that leaves the names did this, said under other names, and told for the readings that fit them before
 pub leaves_names : {E : Type 0} (r : Result Reply E) (old other new : Account) (event by : model.Event) → other ≡ old → event ≡ by → new.names ≡ other.names →
     IfOk r (λ reply. (f : Reading) → Fits other.names f → step (state_of f other) event ≡ record { state = state_of f new; reply = reply_of reply }) →
     DoesTo r old by new

@@ -165,7 +165,7 @@ impl<A: AtomSource, C: CodeSource> UserState<A, C> {
         }
     }
 
-    /// The goal of the shoen of a number, as started, with what is bound now, without the cut of a reply; `None` where the
+    /// The goal of shoen `number`, as started, with what is bound now, without the cut of a reply; `None` if the
     /// console started no shoen of this number.
     pub fn whole_value(
         &self,
@@ -182,7 +182,7 @@ impl<A: AtomSource, C: CodeSource> UserState<A, C> {
         self.account.whole_value(names, seat, number)
     }
 
-    /// Reduces a goal by a clause, or says why it is refused: what `apply` does where the event is a reduction, and its reply.
+    /// Reduces a goal by a clause, or says why it is refused: what `apply` does if the event is a reduction, and its reply.
     pub fn reduce(
         &mut self,
         names: &mut A,
@@ -229,7 +229,7 @@ impl<A: AtomSource, C: CodeSource> UserState<A, C> {
     }
 }
 
-/// The reply to a reduction that is refused for this reason, or done where there is none.
+/// The reply to a reduction that is refused for this reason, or done if there is none.
 fn reply_to(refused: Option<Refusal>) -> Reply
     ensures { reply_of result ≡ reduced_or refused }
 {

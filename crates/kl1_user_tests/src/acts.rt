@@ -1,4 +1,4 @@
-// Acts of rows: a word, and words behind it.
+// Acts of rows: a word, and words after it.
 //
 // | Act | What is done |
 // |---|---|
@@ -165,7 +165,7 @@ fn is_stepped(user: &mut Player) -> bool {
     }
 }
 
-/// Whether so many first steps can be done as is wanted, at most those of a text.
+/// Whether as many first steps can be done as is wanted, at most those of a text.
 pub fn is_run_right(user: &mut Player, words: &[u8], wanted: &[u8]) -> bool {
     let most = number_of(words);
     for steps in 0..most {

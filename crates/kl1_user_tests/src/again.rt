@@ -1,11 +1,11 @@
-// Events that are done again where memory was refused.
+// Events that are done again if memory was refused.
 //
 // | Act | What is done |
 // |---|---|
 // | `first` | nothing; the answer is the first goal with its clause, as `2 by 1`, or `quiet` |
-// | `instead ACT~OTHER` | the act, and where it is refused memory the other one in its place; the answers stand so too |
-// | `journal N M` | the page of the journal, once more where memory is refused |
-// | any other | the act, and where it is refused memory the same once more, if the account answers as before |
+// | `instead ACT~OTHER` | the act, and if it is refused memory the other one in its place; the answers stand so too |
+// | `journal N M` | the page of the journal, once more if memory is refused |
+// | any other | the act, and if it is refused memory the same once more, if the account answers as before |
 
 use crate::acts::{event_of, is_page};
 use crate::answers::{condition_word, is_answered, is_first, is_reply};
@@ -71,7 +71,7 @@ fn put_shoens(user: &mut Player, out: &mut Text) -> Result<(), AllocError> {
     Ok(())
 }
 
-/// What an account answers, where memory is not refused.
+/// What an account answers, if memory is not refused.
 fn seen_once(alloc: Global, user: &mut Player) -> Option<Seen> {
     let mut shown = Text::new(alloc);
     put_shown(&mut shown, &Reply::Listed(user.journal(1, u64::MAX).ok()?));
@@ -86,7 +86,7 @@ fn seen_once(alloc: Global, user: &mut Player) -> Option<Seen> {
     })
 }
 
-/// What an account answers, at the second try where memory is refused at the first.
+/// What an account answers, at the second try if memory is refused at the first.
 fn seen_again(alloc: Global, user: &mut Player) -> Option<Seen> {
     match seen_once(alloc, user) {
         None => seen_once(alloc, user),
@@ -115,7 +115,7 @@ fn is_as_before(alloc: Global, user: &mut Player, before: &Seen) -> bool {
         && before.shown.as_slice() == now.shown.as_slice()
 }
 
-/// The event that an act is, at the second try where memory is refused at the first.
+/// The event that an act is, at the second try if memory is refused at the first.
 fn event_again(alloc: Global, user: &Player, act: &[u8]) -> Option<Event> {
     let (word, words) = cut(act, b' ');
     match event_of(alloc, user, word, words) {
@@ -124,7 +124,7 @@ fn event_again(alloc: Global, user: &Player, act: &[u8]) -> Option<Event> {
     }
 }
 
-/// Whether an account that answered all else like this answers an event so, once more where memory was refused and it answers as
+/// Whether an account that answered all else like this answers an event so, once more if memory was refused and it answers as
 /// before then.
 fn is_answered_again(
     alloc: Global,
@@ -139,7 +139,7 @@ fn is_answered_again(
     }
 }
 
-/// Whether an account answers an event so, once more where memory was refused and it answers all else as before then.
+/// Whether an account answers an event so, once more if memory was refused and it answers all else as before then.
 fn is_event_done(alloc: Global, user: &mut Player, event: &Event, wanted: &[u8]) -> bool {
     match seen_again(alloc, user) {
         Some(before) => is_answered_again(alloc, user, &before, event, wanted),
@@ -147,7 +147,7 @@ fn is_event_done(alloc: Global, user: &mut Player, event: &Event, wanted: &[u8])
     }
 }
 
-/// Whether an account answers an act so, once more where memory was refused and it answers all else as before then.
+/// Whether an account answers an act so, once more if memory was refused and it answers all else as before then.
 fn is_done(alloc: Global, user: &mut Player, act: &[u8], wanted: &[u8]) -> bool {
     match event_again(alloc, user, act) {
         Some(event) => is_event_done(alloc, user, &event, wanted),
@@ -155,7 +155,7 @@ fn is_done(alloc: Global, user: &mut Player, act: &[u8], wanted: &[u8]) -> bool 
     }
 }
 
-/// Whether an account answers an event so; nothing where it was refused memory.
+/// Whether an account answers an event so; nothing if it was refused memory.
 fn is_answered_at_once(user: &mut Player, event: &Event, wanted: &[u8]) -> Option<bool> {
     match user.apply(event) {
         Ok(reply) => Some(is_reply(&reply, wanted)),
@@ -163,7 +163,7 @@ fn is_answered_at_once(user: &mut Player, event: &Event, wanted: &[u8]) -> Optio
     }
 }
 
-/// Whether an account answers the first of two acts so, or where memory is refused the other one in its place.
+/// Whether an account answers the first of two acts so, or if memory is refused the other one in its place.
 fn is_done_instead(alloc: Global, user: &mut Player, acts: &[u8], wanted: &[u8]) -> bool {
     let (act, other) = cut(acts, b'~');
     let (wanted, other_wanted) = cut(wanted, b'~');
@@ -177,7 +177,7 @@ fn is_done_instead(alloc: Global, user: &mut Player, acts: &[u8], wanted: &[u8])
     }
 }
 
-/// Whether an act comes to what is wanted, also where memory is refused once.
+/// Whether an act comes to what is wanted, also if memory is refused once.
 pub fn is_right_again(alloc: Global, user: &mut Player, act: &[u8], wanted: &[u8]) -> bool {
     let (word, words) = cut(act, b' ');
     match word {

@@ -94,7 +94,7 @@ fn is_status(word: &[u8], numbers: &[u64], wanted: &[u8]) -> bool {
     left.is_empty()
 }
 
-/// Whether a text has the number of some lines, and these lines, each behind a line feed.
+/// Whether a text has the number of some lines, and these lines, each after a line feed.
 pub fn are_listed(lines: &[Vec<u8>], wanted: &[u8]) -> bool {
     let (first, behind) = cut(wanted, b'\n');
     let mut left = behind;

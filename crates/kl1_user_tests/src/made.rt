@@ -5,7 +5,7 @@ use kl1_term::Term;
 use kl1_text::AtomText;
 use std::alloc::Global;
 
-/// A variable of the number behind `_`, or else an atom.
+/// A variable of the number after `_`, or else an atom.
 fn leaf(alloc: Global, word: &[u8]) -> Option<Term> {
     match word {
         [b'_', digits @ ..] => Term::variable(alloc, number_of(digits)).ok(),
@@ -13,7 +13,7 @@ fn leaf(alloc: Global, word: &[u8]) -> Option<Term> {
     }
 }
 
-/// A structure in a structure, so many of them, with a leaf inside.
+/// A structure in a structure, `levels` of them, with a leaf inside.
 fn nested(alloc: Global, levels: u64, word: &[u8]) -> Option<Term> {
     let name = AtomText::of(b"f");
     let mut term = leaf(alloc, word)?;
@@ -23,7 +23,7 @@ fn nested(alloc: Global, levels: u64, word: &[u8]) -> Option<Term> {
     Some(term)
 }
 
-/// The goal of words `LEFT LEVELS RIGHT`: that the left leaf is the right one in so many structures; without a left word, the
+/// The goal of words `LEFT LEVELS RIGHT`: that the left leaf is the right one in LEVELS structures; without a left word, the
 /// right side alone.
 pub fn made_goal(alloc: Global, words: &[u8]) -> Option<Term> {
     let (left, behind) = cut(words, b' ');

@@ -5,7 +5,7 @@ use kl1_rows::Text;
 
 /// What is put by accounts.
 pub trait OverAccounts {
-    /// Puts it behind what stands there.
+    /// Puts it after what stands there.
     fn put(&self, out: &mut Text, accounts: &mut Accounts);
 }
 

@@ -53,7 +53,7 @@ impl Player {
         Ok(Player { world, count })
     }
 
-    /// Puts one account in which nothing has happened, alice, behind other players.
+    /// Puts one account in which nothing has happened, alice, after other players.
     pub fn put_fresh(alloc: Global, players: &mut Vec<Self>) -> Result<(), AllocError> {
         let Some(name) = AccountName::read(b"alice") else {
             return Err(AllocError);

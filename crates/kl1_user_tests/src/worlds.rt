@@ -66,7 +66,7 @@ fn put_replies(out: &mut Text, names: &[AccountName], events: &[Deed], replies: 
     }
 }
 
-/// Does events to accounts that are together, and puts their replies: by at most so many calls, each of which does those before which
+/// Does events to accounts that are together, and puts their replies: by at most `calls` calls, each of which does those before which
 /// the one before it stops for want of memory.
 fn put_together(
     out: &mut Text,
@@ -117,7 +117,7 @@ fn each_alone(alloc: Global, names: &[AccountName]) -> Option<Vec<Player>> {
     Some(alone)
 }
 
-/// Whether a script's accounts answer so, together by at most so many calls and each alone; nothing if memory is refused elsewhere than
+/// Whether a script's accounts answer so, together by at most `calls` calls and each alone; nothing if memory is refused elsewhere than
 /// in an event.
 fn is_right_once(alloc: Global, calls: u8, script: &[u8], wanted: &[u8]) -> Option<bool> {
     let (line, records) = split_line(script);
@@ -136,7 +136,7 @@ fn is_right_once(alloc: Global, calls: u8, script: &[u8], wanted: &[u8]) -> Opti
     Some(together.bytes.as_slice() == wanted && apart.bytes.as_slice() == wanted)
 }
 
-/// Whether a script's accounts answer so, together by at most so many calls and each alone, also if memory is refused once, outside the
+/// Whether a script's accounts answer so, together by at most `calls` calls and each alone, also if memory is refused once, outside the
 /// calls if there is one alone. The first line has their names, parted by a space each, and each record is an event.
 pub fn is_world_right(alloc: Global, calls: u8, script: &[u8], wanted: &[u8]) -> bool {
     match is_right_once(alloc, calls, script, wanted) {

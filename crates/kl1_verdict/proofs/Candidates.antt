@@ -65,7 +65,7 @@ sections_drop (suc n) (c ∷ cs) = sections_drop n cs
 same_first : {A : Type 0} {x y : A} {xs ys : List A} → x ∷ xs ≡ y ∷ ys → x ≡ y
 same_first e = cc
 
--- in a run of one section the candidate of a number is its clause, where that accepts
+-- in a run of one section the candidate with a number is its clause, if that accepts
 run_within : (j k n s : ℕ) (cs rest : List Clause) (c : Clause) (ts : Terms) → drop k cs ≡ c ∷ rest → ((i : ℕ) → i ≤ k → get_or (sections cs) i 0 ≡ s) → j ≡ n + k → numbered j (candidates_within s n cs ts) ≡ first_of (candidate_by j c (places_of c ts) (verdict c ts))
 run_within j zero n s [] rest c ts e run is = absurd (cc)
 run_within j (suc k) n s [] rest c ts e run is = absurd (cc)
@@ -114,7 +114,7 @@ run_from j (suc k) n s (d ∷ ds) rest c ts e run is =
         ∙ ap (λ x. numbered j (candidates_within x n (d ∷ ds) ts)) here
         ∙ run_within j (suc k) n s (d ∷ ds) rest c ts e run is
 
--- behind a clause of another section there is none
+-- after a clause of another section there is none
 section_ends : (j k e n s : ℕ) (cs : List Clause) (ts : Terms) → e ≤ k → e < length cs → (get_or (sections cs) e 0 ≡ s → ⊥) → j ≡ n + k → numbered j (candidates_within s n cs ts) ≡ None
 section_ends j k e n s [] ts le lt other is = refl
 section_ends j k zero n s (d ∷ ds) ts le lt other is =
@@ -139,7 +139,7 @@ section_there (suc k) [] rest c e = absurd (cc)
 section_there zero (d ∷ ds) rest c e = ap (λ (x : Clause). x.section) (same_first e)
 section_there (suc k) (d ∷ ds) rest c e = section_there k ds rest c e
 
--- the section of a clause behind others, by those that are left
+-- the section of a clause after others, by those that are left
 section_behind : (names : List (List ℕ)) (clauses : List CompiledClause) (cs : List Clause) (start i : ℕ) → AreCompiled names clauses cs → get_or (sections (drop start cs)) i 0 ≡ section_at clauses (start + i)
 section_behind names clauses cs start i a =
     ap (λ l. get_or l i 0) (sections_drop start cs) ∙ get_or-drop start (sections cs) i 0 ∙ ap (λ l. get_or l (start + i) 0) (sym (sections_same names clauses cs a))

@@ -37,7 +37,7 @@ clause_in names [] place x a lt = absurd (omega arith)
 clause_in names (c ∷ cs) zero x a lt = a.0
 clause_in names (c ∷ cs) (suc place) x a lt = clause_in names cs place x a.1 (omega arith)
 
--- the clause that a compiled one at a place is, and those behind it
+-- the clause that a compiled one at a place is, and those after it
 pub record IsThere (names : List (List ℕ)) (compiled : CompiledClause) (ds : List Clause) (place : ℕ) : Type 0 where
   pub clause : Clause
   pub left : drop place ds ≡ clause ∷ drop (suc place) ds
@@ -57,7 +57,7 @@ as_many names (c ∷ cs) (d ∷ ds) a = ap suc (as_many names cs ds a.1)
 
 -- ---- the clauses that are left
 
--- the answer of the clauses that are left, where one before them waits in a section, or none does
+-- the answer of the clauses that are left, by whether one before them waits in a section
 abbrev pub least_left : Option ℕ → ℕ → List Clause → Terms → Option ℕ
 least_left None n cs ts = least_from n cs ts
 least_left (Some section) n cs ts = least_within section n cs ts
@@ -74,7 +74,7 @@ pub record IsLeftOf (cs : List Clause) (ts : Terms) (named : List ℕ) (tried : 
   pub same : AreSame named defined
   pub awaited : awaited_by_clauses cs ts ≡ defined ++ awaited_left waiting (drop tried cs) ts
 
--- the same of compiled clauses, for each reading of the names
+-- the compiled clauses from a place on give the answer of all, for each reading of the names
 pub record ChoosesFrom {N : Type 0} (built : BuiltIn → N) (names : List N) (clauses : List CompiledClause) (h : Held N) (goal : Cell N) (before now : List ℕ) (tried : ℕ) (waiting : Option ℕ) : Type 0 where
   pub within : tried ≤ length clauses
   pub named : List ℕ
@@ -248,7 +248,7 @@ suspended_there built names clauses h goal before now next tried waiting x place
 
 -- ---- the end of the search
 
--- what was named is what is waited for, where nothing is left to wait for
+-- what was named is what is waited for, if nothing is left to wait for
 all_named : (cs : List Clause) (ts : Terms) (named : List ℕ) (tried : ℕ) (waiting : Option ℕ) (l : IsLeftOf cs ts named tried waiting) → awaited_left waiting (drop tried cs) ts ≡ [] → AreSame named (awaited_by_clauses cs ts)
 all_named cs ts named tried waiting l none =
     let S : List ℕ → Type 0 = λ ws. AreSame named ws in

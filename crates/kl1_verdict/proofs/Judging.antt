@@ -46,7 +46,7 @@ matched f h places named Accepts m fits own g = let W : Outcome → Type 0 = λ 
 matched f h places named Rejects m fits own g = absurd (cc)
 matched f h places named Suspends m fits own g = let W : Outcome → Type 0 = λ o. WaitsFor named o in record { waits = subst W (sym g.0) (same_as_itself named); places_are = g.1 }
 
--- where a verdict rejects
+-- if a verdict rejects
 pub rejected_there : {N : Type 0} (built : BuiltIn → N) (names : List N) (compiled : CompiledClause) (h : Held N) (goal : Cell N) (places : List (Place N)) (before after : List ℕ) (given : Verdict) → is_rejection given ≡ true →
     IsTried built names compiled h goal places before after given → IsTried built names compiled h goal places before after Rejects
 rejected_there built names compiled h goal places before after Accepts e t = absurd (cc)

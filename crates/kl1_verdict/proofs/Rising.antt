@@ -1,4 +1,4 @@
--- No variable has two places where they stand in order of its numbers.
+-- No variable has two places, if places stand in order of the numbers of their variables.
 use Rattle.std.proofs.Common.{◌≡◌, ℕ, ◌-◌, ◌<◌, ◌≤◌, ◌==◌, true, List, [], ◌∷◌, length, get_or, take, drop, refl, sym, ap, ◌∙◌, subst, arith, append-nil}
 use Rattle.std.proofs.lemmas.List.{take_all}
 use Rattle.std.proofs.lemmas.Bool.{cond-false, ne_eqb}

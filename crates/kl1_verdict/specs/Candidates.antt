@@ -22,7 +22,7 @@ section_at cs place = get_or (map (λ c. c.section) cs) place 0
 abbrev pub IsRun : List CompiledClause → ℕ → ℕ → Type 0
 IsRun cs start place = (i : ℕ) → start ≤ i → i ≤ place → section_at cs i ≡ section_at cs place
 
--- the candidate of a number
+-- the candidate numbered `number`
 abbrev pub numbered : ℕ → List Candidate → Option Candidate
 numbered number ks = find (λ k. k.number == number) ks
 
@@ -33,7 +33,7 @@ pub record IsTaken {N : Type 0} (f : N → List ℕ) (h : Held N) (clauses : Lis
   pub at : drop place cs ≡ clause ∷ others
   pub found : numbered (suc place) (candidates_from 1 cs ts) ≡ Some (record { number = suc place; clause = clause; places = replacements_of f h places })
 
--- that, or there is no such candidate, where the answer is no
+-- that, or there is no such candidate, if the answer is no
 abbrev pub TakenAs : {N : Type 0} → (N → List ℕ) → Held N → List CompiledClause → List (List ℕ) → List Clause → Terms → ℕ → List (Place N) → Bool → Type 0
 TakenAs f h clauses names cs ts place places true = IsTaken f h clauses names cs ts place places
 TakenAs f h clauses names cs ts place places false = numbered (suc place) (candidates_from 1 cs ts) ≡ None
@@ -43,19 +43,19 @@ pub record Takes {N : Type 0} (built : BuiltIn → N) (names : List N) (clauses 
   pub inside : answer ≡ true → AreThere h places
   pub taken : (f : N → List ℕ) → Reads built f → (cs : List Clause) → AreCompiled (map f names) clauses cs → TakenAs f h clauses (map f names) cs (arguments_of_goal (term_of f h goal)) place places answer
 
--- so many clauses reject, and the candidates are those from there on
+-- the first `count` clauses reject, and the candidates are those from there on
 abbrev pub AllReject : {N : Type 0} → (BuiltIn → N) → List N → List CompiledClause → Held N → Cell N → ℕ → Type 0
 AllReject {N = N} built names clauses h goal count = (f : N → List ℕ) → Reads built f → (cs : List Clause) → AreCompiled (map f names) clauses cs →
     candidates_from 1 cs (arguments_of_goal (term_of f h goal)) ≡ candidates_from (suc count) (drop count cs) (arguments_of_goal (term_of f h goal))
 
--- one of so many doesn't, and the candidates are those of its section
+-- one of the first `count` doesn't, and the candidates are those of its section
 pub record OneDoesNot {N : Type 0} (built : BuiltIn → N) (names : List N) (clauses : List CompiledClause) (h : Held N) (goal : Cell N) (count : ℕ) : Type 0 where
   pub at : ℕ
   pub below : at < count
   pub within : (f : N → List ℕ) → Reads built f → (cs : List Clause) → AreCompiled (map f names) clauses cs →
       candidates_from 1 cs (arguments_of_goal (term_of f h goal)) ≡ candidates_within (section_at clauses at) (suc at) (drop at cs) (arguments_of_goal (term_of f h goal))
 
--- whether so many clauses reject
+-- whether the first `count` clauses reject
 abbrev pub RejectAs : {N : Type 0} → (BuiltIn → N) → List N → List CompiledClause → Held N → Cell N → ℕ → Bool → Type 0
 RejectAs built names clauses h goal count true = AllReject built names clauses h goal count
 RejectAs built names clauses h goal count false = OneDoesNot built names clauses h goal count

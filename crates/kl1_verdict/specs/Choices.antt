@@ -14,7 +14,7 @@ use Rattle.kl1_match.specs.Instances.{IsClause}
 use Rattle.kl1_match.specs.Waiting.{AreUnbound, AreSame}
 use Rattle.kl1_match.specs.Verdicts.{arguments_of_goal}
 
--- compiled clauses are some clauses, where their code has so many names
+-- compiled clauses are some clauses, if their code has as many names as these
 abbrev pub AreClauses : {N : Type 0} → List N → List CompiledClause → Type 0
 AreClauses names [] = Unit {0}
 AreClauses names (c ∷ cs) = IsClause names c × AreClauses names cs
@@ -32,12 +32,12 @@ pub record IsChoice {N : Type 0} (built : BuiltIn → N) (names : List N) (claus
   pub awaited : after ≡ before ++ named
   pub chooses : (f : N → List ℕ) → Reads built f → (cs : List Clause) → AreCompiled (map f names) clauses cs → Chooses cs (arguments_of_goal (term_of f h goal)) named choice
 
--- whether a clause of this section stands behind the section of the first clause that waits, if one does
+-- whether a clause of this section stands after the section of the first clause that waits, if one does
 abbrev pub is_past : Option ℕ → ℕ → Bool
 is_past None section = false
 is_past (Some waiting) section = not (section == waiting)
 
--- what is answered where no clause is left: that the goal fails, or that it waits
+-- what is answered if no clause is left: that the goal fails, or that it waits
 abbrev pub without_clause : Option ℕ → Option ℕ
 without_clause None = Some 0
 without_clause (Some waiting) = None

@@ -11,8 +11,8 @@ use kl1_store::{SameScratch, Store};
 use kl1_text::NameValue;
 use std::alloc::AllocError;
 
-/// Whether two places may be alike: false where they are of one variable, and their terms clash. Else `awaited` gets the variables
-/// that this waits for behind its own.
+/// Whether two places may be alike: false if they are of one variable, and their terms clash. Else `awaited` gets the variables
+/// that this waits for, after those in it.
 #[inline]
 fn compare_two<N: NameValue>(
     store: &Store<N>,
@@ -31,7 +31,7 @@ fn compare_two<N: NameValue>(
     store.may_be_same(left.cell, right.cell, same, awaited)
 }
 
-/// The same of one place beside others.
+/// Whether one place may be alike with each of others, as `compare_two` tells.
 fn compare_one<N: NameValue>(
     store: &Store<N>,
     place: Place<N>,
@@ -71,7 +71,7 @@ pub(crate) fn are_rising<N: NameValue>(places: &[Place<N>]) -> bool
     true
 }
 
-/// The same of each two places.
+/// Whether each two places may be alike, as `compare_two` tells.
 pub(crate) fn compare_each<N: NameValue>(
     store: &Store<N>,
     places: &[Place<N>],

@@ -19,7 +19,7 @@ pub(crate) fn nth(clauses: &[CompiledClause], place: usize) -> &CompiledClause
     &clauses[place]
 }
 
-/// Whether a clause of this section stands behind the section of the first clause that waits, if one does.
+/// Whether a clause of this section stands after the section of the first clause that waits, if one does.
 #[inline]
 fn is_past(waiting: Option<u64>, section: u64) -> bool
     ensures { result ≡ is_past waiting section }
@@ -30,7 +30,7 @@ fn is_past(waiting: Option<u64>, section: u64) -> bool
     }
 }
 
-/// What is answered where no clause is left: that the goal fails, or that it waits.
+/// What is answered if no clause is left: that the goal fails, or that it waits.
 #[inline]
 fn without_clause(waiting: Option<u64>) -> Option<u64>
     ensures { result ≡ without_clause waiting }
@@ -41,10 +41,10 @@ fn without_clause(waiting: Option<u64>) -> Option<u64>
     }
 }
 
-/// The least number of a clause that accepts a goal, from 1, or 0 where each rejects it or there is none, or nothing where
+/// The least number of a clause that accepts a goal, from 1, or 0 if each rejects it or there is none, or nothing if
 /// none accepts and some wait: a clause that waits ends the search with its section. `awaited` gets the variables that the
-/// clauses before the one that accepts wait for behind its own.
-/// Where memory is refused, nothing is said of what it got.
+/// clauses before the one that accepts wait for, after those in it.
+/// If memory is refused, nothing is said of what it got.
 #[inline(always)]
 pub fn choose<N: NameValue>(
     store: &Store<N>,

@@ -41,7 +41,7 @@ fn start_of(clauses: &[CompiledClause], place: usize) -> usize
     start
 }
 
-/// Whether the first so many clauses reject a goal.
+/// Whether the first `count` clauses reject a goal.
 fn reject<N: NameValue>(
     store: &Store<N>,
     names: &[N],

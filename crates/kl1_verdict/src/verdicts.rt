@@ -19,9 +19,9 @@ use kl1_store::{Cell, SameScratch, Store};
 use kl1_text::NameValue;
 use std::alloc::AllocError;
 
-/// The verdict of a clause on a goal, where the names of the clause's code are these. `places` gets the terms at
-/// the places of the head's variables, in order, where the clause accepts; otherwise nothing is said of it. `awaited` gets the
-/// variables that the verdict waits for behind its own. Where memory is refused, nothing is said of what it got.
+/// The verdict of a clause on a goal, if the names of the clause's code are these. `places` gets the terms at
+/// the places of the head's variables, in order, if the clause accepts; otherwise nothing is said of it. `awaited` gets the
+/// variables that the verdict waits for, after those in it. If memory is refused, nothing is said of what it got.
 pub fn verdict_on<N: NameValue>(
     store: &Store<N>,
     names: &[N],
@@ -48,7 +48,8 @@ pub fn verdict_on<N: NameValue>(
     )
 }
 
-/// The same, over parts of scratch; where nothing is to be kept, nothing is said of `places`.
+/// The verdict of a clause on a goal as `verdict_on` gives it, over parts of scratch; if nothing is to be kept, nothing is said of
+/// `places`.
 #[inline(always)]
 pub(crate) fn judge<N: NameValue, const KEEP: bool>(
     store: &Store<N>,
@@ -97,7 +98,7 @@ fn run_row<N: NameValue>(
 }
 
 /// What comes of a clause beside its match: passive equality of each two places of a variable that were reached, and its tests, one
-/// after another. False where something clashes; else `awaited` gets the variables that it waits for behind its own.
+/// after another. False if something clashes; else `awaited` gets the variables that it waits for, after those in it.
 #[inline(never)]
 fn compare_and_run<N: NameValue>(
     store: &Store<N>,
@@ -117,7 +118,8 @@ fn compare_and_run<N: NameValue>(
     run_row(store, names, row, places, tests, same, awaited)
 }
 
-/// The same; where each variable stands once, in order, nothing is compared, and one comparison of two integers needs no list.
+/// What comes of a clause beside its match, as `compare_and_run` gives it; if each variable stands once, in order, nothing is
+/// compared, and one comparison of two integers needs no list.
 #[inline]
 fn may_go_on<N: NameValue>(
     store: &Store<N>,

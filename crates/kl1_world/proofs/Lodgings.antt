@@ -69,7 +69,7 @@ set_same [] n = refl
 set_same (a ∷ us) zero = refl
 set_same (a ∷ us) (suc n) = ap (λ bs. a ∷ bs) (set_same us n)
 
--- nothing at all, where the account stays
+-- nothing at all, if the account stays
 pub changed_none : {S : Type 0} (xs : List (S × Held)) (us : List Held) (n : ℕ) (x y : S × Held) → accounts_of xs ≡ us → slice_get xs n ≡ Some x → y.1 ≡ x.1 → accounts_of (slice_set xs n y) ≡ us
 changed_none xs us n x y e at same =
     map-set (λ x. x.1) xs n y ∙ ap (slice_set (accounts_of xs) n) (same ∙ sym (account_at xs n x at)) ∙ set_same (accounts_of xs) n ∙ e

@@ -36,7 +36,7 @@ as_many_but old new n e = sym (length-set new n nobody) ∙ ap length e ∙ leng
 pub same_but : (old new : List Held) (n u : ℕ) → all_but n new ≡ all_but n old → (u ≡ n → ⊥) → account_in new u ≡ account_in old u
 same_but old new n u e apart = sym (get_or-set_other new n u nobody nobody apart) ∙ ap (λ us. account_in us u) e ∙ get_or-set_other old n u nobody nobody apart
 
--- what was said of the account of a number, said of the one to which commands are done
+-- what was said of account `n`, said of the one to which commands are done
 pub hosted : (P : Held → Held → Type 0) (old new : List Held × ℕ) (n : ℕ) → n ≡ old.1 → new.1 ≡ old.1 → P (account_in old.0 n) (account_in new.0 n) → P (account_in old.0 old.1) (account_in new.0 new.1)
 hosted P old new n is kept h = subst (λ m. P (account_in old.0 old.1) (account_in new.0 m)) (sym kept) (subst (λ m. P (account_in old.0 m) (account_in new.0 m)) is h)
 

@@ -11,7 +11,7 @@ use Rattle.kl1_event.specs.Views.{event_of, reply_of}
 use Rattle.kl1_journal.specs.Keeping.{Reading, Fits}
 use Rattle.kl1_journal.specs.Keeping.{Held, nobody, kept_of}
 
--- the account of a number, with its journal
+-- account `u`, with its journal
 abbrev pub account_in : List Held → ℕ → Held
 account_in accounts u = get_or accounts u nobody
 

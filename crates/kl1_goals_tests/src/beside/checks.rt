@@ -49,7 +49,7 @@ fn is_seen(alloc: Global, looks: Looks, wanted: &[u8]) -> bool {
     !seen.has_failed & (seen.bytes.as_slice() == wanted)
 }
 
-/// Puts a line on each check behind a report.
+/// Puts a line on each check after a report.
 pub fn put_checks_beside(out: &mut Text) {
     for (name, looks, wanted) in CHECKS {
         let is_right = is_seen(out.alloc, looks, wanted);

@@ -19,7 +19,7 @@ fn name(number: u64) -> CellName {
     CellName { number }
 }
 
-/// A code, with these numbers for its names, where there are so many.
+/// A code, with these numbers for its names, if there are as many.
 fn numbered(
     alloc: Global,
     codes: &PlainCodes,
@@ -33,7 +33,7 @@ fn numbered(
     Loaded::new(alloc, codes, code, row)
 }
 
-/// The code of a source, with these numbers for its names, where there are so many.
+/// The code of a source, with these numbers for its names, if there are as many.
 fn loaded_of(
     alloc: Global,
     codes: &mut PlainCodes,
@@ -46,7 +46,7 @@ fn loaded_of(
     }
 }
 
-/// Puts a module behind others, where it is none of these.
+/// Puts a module after others, if it is none of these.
 fn put_module(
     modules: &mut Modules<PlainCodes>,
     loaded: Loaded<PlainCodes>,
@@ -59,7 +59,7 @@ fn put_module(
     Ok(())
 }
 
-/// Loads a source with these numbers for its names behind other modules.
+/// Loads a source with these numbers for its names after other modules.
 fn load(
     seen: &mut Text,
     codes: &mut PlainCodes,
@@ -88,8 +88,8 @@ fn load_both(seen: &mut Text, codes: &mut PlainCodes, modules: &mut Modules<Plai
     load(seen, codes, modules, SECOND, &[name(75), name(71)]);
 }
 
-/// Puts how many variables the head of each clause of a predicate has, and behind a colon the numbers of its code's names;
-/// `none` where no predicate was found.
+/// Puts how many variables the head of each clause of a predicate has, and after a colon the numbers of its code's names;
+/// `none` if no predicate was found.
 fn put_found(seen: &mut Text, found: Option<Predicate<'_, CellName>>) {
     match found {
         None => seen.put(b" none"),
@@ -126,7 +126,7 @@ fn put_find(
     );
 }
 
-/// Predicates by module, name and number of arguments; and where there is no such module, name or number.
+/// Predicates by module, name and number of arguments; and what is found if there is no such module, name or number.
 pub fn see_finds(seen: &mut Text) {
     let mut codes = PlainCodes::new(seen.alloc);
     let mut loaded = Modules::new(seen.alloc);
@@ -174,7 +174,7 @@ pub fn see_order(seen: &mut Text) {
     }
 }
 
-/// Puts a predicate of modules with a draft beside them, where that is none of these.
+/// Puts a predicate of modules with a draft beside them, if that is none of these.
 fn put_beside(
     seen: &mut Text,
     codes: &PlainCodes,
@@ -228,7 +228,7 @@ pub fn see_draft(seen: &mut Text) {
     see_beside(seen, &mut codes, &modules);
 }
 
-/// Puts other numbers in place of those of a module, where there are so many.
+/// Puts other numbers in place of those of a module, if there are as many.
 fn renumber(
     seen: &mut Text,
     codes: &PlainCodes,

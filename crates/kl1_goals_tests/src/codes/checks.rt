@@ -16,7 +16,7 @@ const MODULES: &[u8] = b" k 2: k g h a b; o 2: o p a; app 2: app; k 2: k g h a b
 /// What is told of bad sources, with a good one between them.
 const FAULTS: &[u8] = b" 2; o 2: o p a; 1; 3; 2; o 2: o p a;";
 
-/// Whether a source of codes tells of modules what it has to, at the second try where memory is refused at the first.
+/// Whether a source of codes tells of modules what it has to, at the second try if memory is refused at the first.
 fn tells_modules<C: CodeSource>(alloc: Global, codes: &mut C) -> bool {
     let mut seen = Text::new(alloc);
     see_modules(&mut seen, codes);
@@ -27,7 +27,7 @@ fn tells_modules<C: CodeSource>(alloc: Global, codes: &mut C) -> bool {
     !seen.has_failed & (seen.bytes.as_slice() == MODULES)
 }
 
-/// The same of bad sources.
+/// Whether a source of codes tells of bad sources what it has to, at the second try if memory is refused at the first.
 fn tells_faults<C: CodeSource>(alloc: Global, codes: &mut C) -> bool {
     let mut seen = Text::new(alloc);
     see_faults(&mut seen, codes);
@@ -55,7 +55,7 @@ fn a_table_tells_of_faults<R: Wait>(rt: &R, alloc: Global) -> Result<bool, Alloc
     Ok(tells_faults(alloc, &mut SharedCodes { table: &table, rt }))
 }
 
-/// Puts a line on each check of plain codes behind a report.
+/// Puts a line on each check of plain codes after a report.
 fn put_plain_checks(out: &mut Text) {
     let alloc = out.alloc;
     let mut plain = PlainCodes::new(alloc);
@@ -67,7 +67,7 @@ fn put_plain_checks(out: &mut Text) {
     put_check(out, b"codes plain_codes_find_a_source_again", done);
 }
 
-/// Puts a line on each check of codes behind a report.
+/// Puts a line on each check of codes after a report.
 pub fn put_code_checks<R: Threads + Wait + Sync>(rt: &R, out: &mut Text) {
     put_plain_checks(out);
     let alloc = out.alloc;

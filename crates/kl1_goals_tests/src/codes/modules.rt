@@ -26,7 +26,7 @@ pub fn numbered(alloc: Global, number: u64) -> Text {
     source
 }
 
-/// The source of a module of so many clauses that differs by a number alone.
+/// The source of a module of `count` clauses that differs by a number alone.
 pub fn with_clauses(alloc: Global, number: u64, count: u64) -> Text {
     let mut source = numbered(alloc, number);
     for clause in 1..count {

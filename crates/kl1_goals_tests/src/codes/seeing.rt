@@ -8,7 +8,7 @@ use kl1_codes::CodeSource;
 use kl1_rows::Text;
 use kl1_text::put_atom;
 
-/// A reference to the code of a source, at the second try where memory is refused at the first.
+/// A reference to the code of a source, at the second try if memory is refused at the first.
 pub fn found<C: CodeSource>(codes: &mut C, source: &[u8]) -> Result<C::Ref, CodeFault>
     ensures of { IfOk result (λ r. C.has codes.new (C.place r)) }
     ensures same { (p : ℕ × ℕ) → C.has codes.old p ↔ C.has codes.new p }
@@ -19,7 +19,7 @@ pub fn found<C: CodeSource>(codes: &mut C, source: &[u8]) -> Result<C::Ref, Code
     }
 }
 
-/// Puts the name of a code, the number of its clauses, and its names behind a colon.
+/// Puts the name of a code, the number of its clauses, and its names after a colon.
 fn put_code(seen: &mut Text, code: &Code) {
     seen.put(b" ");
     let done = put_atom(&mut seen.bytes, &code.module_name());

@@ -10,7 +10,7 @@ use std::thread::{Threads, join};
 /// How many sources are put in: more than there are hints for one of them.
 const MANY: u64 = 100;
 
-/// A table whose hints are this word, at the second try where memory is refused at the first.
+/// A table whose hints are this word, at the second try if memory is refused at the first.
 pub fn table_with(alloc: Global, word: u64) -> Result<CodeTable, AllocError> {
     match CodeTable::with_hints(alloc, word) {
         Err(_refused) => CodeTable::with_hints(alloc, word),
@@ -36,7 +36,7 @@ fn stay_in_place<R: Wait>(rt: &R, alloc: Global, word: u64) -> Result<bool, Allo
     Ok((app == again) & (o == other) & (app != o))
 }
 
-/// The same for each word from 0 to 63.
+/// Whether such a table keeps two sources at two places, for each word from 0 to 63.
 pub fn each_word_stays_in_place<R: Wait>(rt: &R, alloc: Global) -> Result<bool, AllocError> {
     for word in 0..64 {
         if !stay_in_place(rt, alloc, word)? {

@@ -11,7 +11,7 @@ use std::sync::Wait;
 /// How many sources are put in.
 const SOURCES: u64 = 200;
 
-/// The sources of modules of so many clauses.
+/// The sources of modules of `clauses` clauses.
 fn sources_of(alloc: Global, clauses: u64) -> Result<Vec<Text>, AllocError> {
     let mut sources = Vec::new(alloc);
     for number in 0..SOURCES {
@@ -29,7 +29,7 @@ fn time_of<R: Wait + Clock>(rt: &R, table: &CodeTable, sources: &[Text]) -> u128
     nanoseconds_since(rt, start)
 }
 
-/// Puts a number, or that of all of 64 bits, where that is less.
+/// Puts a number, or that of all of 64 bits, if that is less.
 fn put_count(out: &mut Text, count: u128) {
     out.put_number(count.min(0xffff_ffff_ffff_ffff) as u64);
 }
@@ -40,7 +40,7 @@ fn put_each(out: &mut Text, time: u128) {
     out.put(b" ns ");
 }
 
-/// Puts how long the first look-ups of sources of so many clauses take, how long the second ones, and how many
+/// Puts how long the first look-ups of sources of `clauses` clauses take, how long the second ones, and how many
 /// times as long the first are.
 fn put_time<R: Wait + Clock>(rt: &R, out: &mut Text, clauses: u64) -> Result<(), AllocError> {
     let table = table_with(out.alloc, 0)?;

@@ -7,7 +7,7 @@ use crate::ready::goals::{
 use crate::ready::queue::{places_come_in_order, the_greatest_priority_then_the_least_place};
 use kl1_rows::{Text, put_check};
 
-/// Puts a line on each check behind a report.
+/// Puts a line on each check after a report.
 pub fn put_ready_checks(out: &mut Text) {
     let alloc = out.alloc;
     let done = the_greatest_priority_then_the_least_place(alloc);

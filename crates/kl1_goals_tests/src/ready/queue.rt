@@ -54,7 +54,7 @@ pub fn the_greatest_priority_then_the_least_place(alloc: Global) -> Result<bool,
     Ok(none & has_five & taken & cleared)
 }
 
-/// So many places more, each with its last digit as its priority.
+/// The places from `from` to `to` more, each with its last digit as its priority.
 fn extend_to(queue: &mut ReadyQueue, from: u16, to: u16)
     requires order { from ≤ to }
     requires room { to ≤ queue.old.room + from }
@@ -64,7 +64,7 @@ fn extend_to(queue: &mut ReadyQueue, from: u16, to: u16)
     }
 }
 
-/// Whether 100 places, each with its last digit as its priority, come in order, where room was made for them twice.
+/// Whether 100 places, each with its last digit as its priority, come in order, after room was made for them twice.
 pub fn places_come_in_order(alloc: Global) -> Result<bool, AllocError> {
     let mut queue = ReadyQueue::new(alloc);
     queue.reserve(3)?;

@@ -36,7 +36,7 @@ fn living(number: u64, parent: u64, allowance: u64) -> Shoen<AtomNo>
     }
 }
 
-/// Opens a shoen below that of a number, which has to be there.
+/// Opens a shoen below shoen `parent`, which has to be there.
 fn open(tree: &mut ShoenTree<AtomNo>, parent: u64, allowance: u64) -> Result<(), AllocError>
     ensures work { tree.new.work ≡ tree.old.work }
     ensures kept_work { tree.new.kept_work ≡ tree.old.kept_work }
@@ -51,7 +51,7 @@ fn open(tree: &mut ShoenTree<AtomNo>, parent: u64, allowance: u64) -> Result<(),
     Ok(())
 }
 
-/// Charges a reduction that was done in the shoen of a number, which has to be there.
+/// Charges a reduction that was done in shoen `number`, which has to be there.
 fn charge(tree: &mut ShoenTree<AtomNo>, number: u64) -> Result<(), AllocError>
     requires few { length tree.old.work + 1 < 2 ^ 63 }
     ensures work { length tree.new.work ≤ length tree.old.work + 1 }
@@ -66,7 +66,7 @@ fn charge(tree: &mut ShoenTree<AtomNo>, number: u64) -> Result<(), AllocError>
     tree.charge(number)
 }
 
-/// Changes the shoen of a number, by an act that does so.
+/// Changes a shoen, by an act that does so.
 fn change(tree: &mut ShoenTree<AtomNo>, act: Act) -> Result<(), AllocError>
     ensures work { tree.new.work ≡ tree.old.work }
     ensures kept_work { tree.new.kept_work ≡ tree.old.kept_work }
@@ -88,7 +88,7 @@ fn change(tree: &mut ShoenTree<AtomNo>, act: Act) -> Result<(), AllocError>
     }
 }
 
-/// Whether an act changes the shoen of a number, and no charges.
+/// Whether an act changes a shoen, and no charges.
 fn is_change(word: Word) -> bool {
     matches!(
         word,

@@ -51,7 +51,7 @@ fn put_shoen(told: &mut Text, shoen: &Shoen<AtomNo>, origin: Option<Origin<AtomN
     told.put(if shoen.is_broken { b"b" } else { b"" });
 }
 
-/// Puts the shoen of a number, or `none`.
+/// Puts shoen `number`, or `none`.
 fn put_found(told: &mut Text, tree: &ShoenTree<AtomNo>, number: u64) {
     match tree.lend(number) {
         None => told.put(b"none"),
@@ -67,7 +67,7 @@ fn put_enabled(told: &mut Text, tree: &ShoenTree<AtomNo>) {
     put_flags(told, flags.as_slice());
 }
 
-/// Puts whether each shoen is below that of a number.
+/// Puts whether each shoen is below shoen `number`.
 fn put_below(told: &mut Text, tree: &ShoenTree<AtomNo>, number: u64) {
     let mut flags = Vec::new(told.alloc);
     let done = tree.below(number, &mut flags);
@@ -94,7 +94,7 @@ fn put_asked(told: &mut Text, tree: &ShoenTree<AtomNo>, act: Act) {
     }
 }
 
-/// Puts what an act asks of a tree, after a space where something stands before it.
+/// Puts what an act asks of a tree, after a space if something stands before it.
 pub fn put_seen(told: &mut Text, tree: &ShoenTree<AtomNo>, act: Act) {
     if !told.bytes.is_empty() {
         told.put(b" ");

@@ -101,7 +101,7 @@ fn word_of(name: &[u8]) -> Word {
     Word::Unknown
 }
 
-/// One act: a word, and two numbers, 0 where they don't stand there.
+/// One act: a word, and two numbers, 0 if they don't stand there.
 #[derive(Clone, Copy)]
 pub struct Act {
     pub word: Word,

@@ -5,7 +5,7 @@ use kl1_store::{Cell, Store, Unified};
 use kl1_text::AtomNo;
 use std::alloc::AllocError;
 
-/// A new structure of the name of a number. Arguments of another store are refused.
+/// A new structure, whose name has this number. Arguments of another store are refused.
 fn structure(
     store: &mut Store<AtomNo>,
     number: u32,

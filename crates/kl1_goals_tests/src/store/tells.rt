@@ -48,7 +48,7 @@ fn is_right(alloc: Global, by: By, work: Work) -> bool {
     matches!(done, Ok(true))
 }
 
-/// The nanoseconds that work takes, the least of so many rounds.
+/// The nanoseconds that work takes, the least of `rounds` rounds.
 fn least_time<R: Clock>(rt: &R, alloc: Global, by: By, work: Work, rounds: u32) -> u128 {
     let mut least = u128::MAX;
     for _ in 0..rounds {
@@ -59,7 +59,7 @@ fn least_time<R: Clock>(rt: &R, alloc: Global, by: By, work: Work, rounds: u32) 
     least
 }
 
-/// Puts a line on each small work that is done both ways behind a report.
+/// Puts a line on each small work that is done both ways after a report.
 pub fn put_store_checks(out: &mut Text) {
     for (name, work) in SMALL {
         let by_store = is_right(out.alloc, By::Store, work);

@@ -25,6 +25,6 @@ pub trait Terms {
     /// What a part stands for.
     fn walk(&self, part: Self::Part) -> Self::Part;
 
-    /// What stands at the side of a node of a search tree where a key belongs; nothing where the part is no node.
+    /// What stands at the side of a node of a search tree where a key belongs; nothing if the part is no node.
     fn side(&self, node: Self::Part, key: i64) -> Option<Self::Part>;
 }

@@ -20,7 +20,7 @@ pub fn is_done<T: Terms>(terms: &mut T, work: Work) -> Result<bool, AllocError> 
     }
 }
 
-/// Unifies two lists of so many elements, one of variables and one of integers.
+/// Unifies two lists of `count` elements, one of variables and one of integers.
 fn lists<T: Terms>(terms: &mut T, count: u32) -> Result<bool, AllocError> {
     let mut left = T::integer(0);
     let mut right = left;
@@ -32,7 +32,7 @@ fn lists<T: Terms>(terms: &mut T, count: u32) -> Result<bool, AllocError> {
     terms.unify(left, right)
 }
 
-/// A term f(t, t) of so many levels, and `bottom` at its end.
+/// A term f(t, t) of `levels` levels, and `bottom` at its end.
 fn tower<T: Terms>(terms: &mut T, bottom: T::Part, levels: u32) -> Result<T::Part, AllocError> {
     let mut top = bottom;
     for _ in 0..levels {
@@ -41,7 +41,7 @@ fn tower<T: Terms>(terms: &mut T, bottom: T::Part, levels: u32) -> Result<T::Par
     Ok(top)
 }
 
-/// Unifies two terms f(t, t) of so many levels, one with a variable at its end.
+/// Unifies two terms f(t, t) of `levels` levels, one with a variable at its end.
 fn towers<T: Terms>(terms: &mut T, levels: u32) -> Result<bool, AllocError> {
     let x = terms.fresh()?;
     let left = tower(terms, x, levels)?;
@@ -68,7 +68,7 @@ fn grow<T: Terms>(terms: &mut T, root: T::Part, key: i64) -> Result<bool, AllocE
     terms.unify(place, node)
 }
 
-/// Grows a search tree of so many keys, each hung on a variable.
+/// Grows a search tree of `count` keys, each hung on a variable.
 fn tree<T: Terms>(terms: &mut T, count: u32) -> Result<bool, AllocError> {
     let root = terms.fresh()?;
     let mut key: i64 = 1;

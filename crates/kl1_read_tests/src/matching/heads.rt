@@ -84,7 +84,7 @@ fn cell_of_code(
     put_by_code(store, code, goal, &mut scratch)
 }
 
-/// The same, with room for what is to be put.
+/// Puts the cell of a goal in a store by the goal's code, with room for what is to be put.
 fn put_by_code(
     store: &mut Store<AtomText>,
     code: &GoalCode,
@@ -101,7 +101,7 @@ fn put_by_code(
     Ok(put_goal(store, code.names(), row, scratch))
 }
 
-/// Puts the verdict of the first clause of a code on the goal behind the colon of a goal in a new store, and what belongs to a
+/// Puts the verdict of the first clause of a code on the goal after the colon of a goal in a new store, and what belongs to a
 /// clause that accepts.
 pub fn put_verdict(
     answer: &mut Text,
@@ -166,7 +166,7 @@ fn put_told(
     put_tried(answer, kind, store, names, clause, call, &mut trial)
 }
 
-/// The same, with a trial for what is tried.
+/// Puts what a clause says of a goal, with a trial for what is tried.
 fn put_tried(
     answer: &mut Text,
     kind: Kind,
@@ -225,7 +225,7 @@ pub fn put_numbers(answer: &mut Text, numbers: &[u32]) {
     }
 }
 
-/// The goal behind the colon of a goal, in a store.
+/// The goal after the colon of a goal, in a store.
 fn called(
     answer: &mut Text,
     kind: Kind,
@@ -300,7 +300,7 @@ fn first_of(code: &Code) -> Option<&CompiledClause>
     }
 }
 
-/// The goal behind the colon of a goal.
+/// The goal after the colon of a goal.
 pub fn behind_colon<N: NameValue>(store: &Store<N>, goal: Cell<N>) -> Option<Cell<N>>
     ensures { IfSome result (IsIn store.now.held) }
 {

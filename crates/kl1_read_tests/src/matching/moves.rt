@@ -18,7 +18,7 @@ use kl1_term::Term;
 use kl1_text::{AtomText, NameValue, put_atom};
 use std::alloc::AllocError;
 
-/// Puts what each argument of the goal behind the colon of a goal can do, as a goal, in a new store.
+/// Puts what each argument of the goal after the colon of a goal can do, as a goal, in a new store.
 pub fn put_moves(answer: &mut Text, store: &mut Store<AtomText>, code: &Code, text: &[u8]) {
     match read_goal(answer.alloc, text) {
         Ok(goal) => {
@@ -29,7 +29,7 @@ pub fn put_moves(answer: &mut Text, store: &mut Store<AtomText>, code: &Code, te
     }
 }
 
-/// Puts what each argument of the goal behind the colon of a goal can do, in a new store.
+/// Puts what each argument of the goal after the colon of a goal can do, in a new store.
 fn put_each(
     answer: &mut Text,
     store: &mut Store<AtomText>,
@@ -75,7 +75,7 @@ fn put_kind(answer: &mut Text, kind: &Kind<AtomText>) {
     answer.put(word);
 }
 
-/// What kind of goal a cell is, where it is one of the store.
+/// What kind of goal a cell is, if it is one of the store.
 fn kind_in<N: NameValue>(store: &Store<N>, goal: Cell<N>) -> Option<Kind<N>>
     ensures { IfSome result (KindIn store.now.held) }
 {
@@ -182,7 +182,7 @@ fn put_opened(
     put_cells(answer, store, &[Cell::Structure(structure)])
 }
 
-/// Puts what a goal of a kind does by the clause of a number: the clause and the goals of its body, the terms that it unifies,
+/// Puts what a goal of a kind does by clause `clause`: the clause and the goals of its body, the terms that it unifies,
 /// the name that it uses, the shoen that it opens, the kind of the exception that it raises, or a word.
 fn put_done(
     answer: &mut Text,

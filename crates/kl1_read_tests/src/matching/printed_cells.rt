@@ -8,7 +8,7 @@ use kl1_store::{Cell, Qualified, Store};
 use kl1_text::{AtomText, NameValue, put_atom, put_int};
 use std::alloc::AllocError;
 
-/// What a cell is bound to, where it is one of the store.
+/// What a cell is bound to, if it is one of the store.
 pub fn walked<N: NameValue>(store: &Store<N>, cell: Cell<N>) -> Option<Cell<N>>
     ensures { IfSome result (IsIn store.now.held) }
 {
@@ -18,7 +18,7 @@ pub fn walked<N: NameValue>(store: &Store<N>, cell: Cell<N>) -> Option<Cell<N>>
     Some(store.walk(cell))
 }
 
-/// Puts terms, each part of them behind a space, and each structure before its arguments.
+/// Puts terms, each part of them after a space, and each structure before its arguments.
 pub fn put_cells(
     answer: &mut Text,
     store: &Store<AtomText>,
@@ -36,7 +36,7 @@ pub fn put_cells(
     Ok(())
 }
 
-/// Puts goals in the same way, each that is in a module behind the name `:` and that of the module.
+/// Puts goals in the same way, each that is in a module after the name `:` and that of the module.
 pub fn put_goals(
     answer: &mut Text,
     store: &Store<AtomText>,

@@ -85,7 +85,7 @@ fn agree_at_once<R: Threads + Sync>(
     is_one_row & agree & all_agree
 }
 
-/// Whether two threads and all seats agree on 500 names in a new table of so many accounts.
+/// Whether two threads and all seats agree on 500 names in a new table of `accounts` accounts.
 pub fn agree_in<R: Threads + Sync>(
     rt: &R,
     alloc: Global,
@@ -123,7 +123,7 @@ fn agree_on_what_is_known(table: &AtomTable, alice: &mut AtomSeat, bob: &mut Ato
     built_in & !early & late & !other & (number.number == 64 + 1024) & (its.number == 64 + 1024)
 }
 
-/// The same in a new table.
+/// Whether two seats of a new table agree on the built-in names and on no other, and on a name that one looks up from then on.
 pub fn agree_on_what_one_knows(alloc: Global) -> Result<bool, AllocError> {
     let (table, mut seats) = AtomTable::new(alloc, 2)?;
     let mut bob = next_seat(&table, &mut seats);

@@ -14,7 +14,7 @@ use kl1_text::AtomText;
 use std::rt::Clock;
 use std::thread::Threads;
 
-/// Puts a line on each check behind a report.
+/// Puts a line on each check after a report.
 pub fn put_atom_checks<R: Threads + Clock + Sync>(rt: &R, out: &mut Text) {
     match names(out.alloc, 1024) {
         Ok(names) => put_each(rt, out, names.as_slice()),

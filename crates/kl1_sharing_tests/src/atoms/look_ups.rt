@@ -29,7 +29,7 @@ fn learn(table: &AtomTable, mut seat: AtomSeat, texts: &[AtomText]) -> AtomSeat
     seat
 }
 
-/// The last of some seats, so many, each of which has looked each name up once.
+/// The last `count` of some seats, each of which has looked each name up once.
 fn next_seats(
     table: &AtomTable,
     seats: &mut Vec<AtomSeat>,
@@ -50,7 +50,7 @@ fn next_seats(
     Ok(next)
 }
 
-/// Looks names that a seat knows up, each so many times, and sums their numbers.
+/// Looks names that a seat knows up, each `rounds` times, and sums their numbers.
 fn found(table: &AtomTable, mut seat: AtomSeat, texts: &[AtomText], rounds: usize) -> u64
     requires of { IsSharedSeat table.now.table.shared.table_id seat.badge.table_id table.now.accounts (face_in seat.badge.views) seat.account }
     requires known { KnowsFirst (face_in seat.badge.views).knows texts.now (length texts.now) }
@@ -65,7 +65,7 @@ fn found(table: &AtomTable, mut seat: AtomSeat, texts: &[AtomText], rounds: usiz
     sum
 }
 
-/// What numbers are that are all the same, or 0 where they differ.
+/// What numbers are that are all the same, or 0 if they differ.
 fn common(numbers: &[u64]) -> u64 {
     match numbers {
         [first, ..] if are_all(numbers, *first) => *first,
@@ -73,7 +73,7 @@ fn common(numbers: &[u64]) -> u64 {
     }
 }
 
-/// The sum of the numbers that each of so many threads finds, all at once, or 0 where they differ; and the nanoseconds that they
+/// The sum of the numbers that each thread finds, all at once, or 0 if they differ; and the nanoseconds that they
 /// take.
 pub fn found_by<R: Threads + Clock + Sync>(
     rt: &R,

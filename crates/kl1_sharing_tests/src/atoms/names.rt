@@ -6,14 +6,14 @@ use kl1_atoms::AtomTable;
 use kl1_text::AtomText;
 use std::alloc::{AllocError, Global};
 
-/// The digit of a number at the place of a value.
+/// The digit of `number` at the place of `value`.
 fn digit(number: u32, value: u32) -> u8
     requires { 0 < value }
 {
     b'0' + (number / value % 10) as u8
 }
 
-/// The name of a number below 1,000,000.
+/// The name of `number`, which is below 1,000,000.
 fn name_of(number: u32) -> AtomText {
     let bytes = [
         b'a',
@@ -27,7 +27,7 @@ fn name_of(number: u32) -> AtomText {
     AtomText::read(&bytes).unwrap_or(AtomText::of(b"a"))
 }
 
-/// So many names, those of the numbers from 0.
+/// `count` names, those of the numbers from 0.
 pub fn names(alloc: Global, count: u32) -> Result<Vec<AtomText>, AllocError>
     ensures { IfOk result (λ names. vec_len names ≡ count) }
 {

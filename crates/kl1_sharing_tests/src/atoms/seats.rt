@@ -18,6 +18,7 @@ pub fn next_seat(table: &AtomTable, seats: &mut Vec<AtomSeat>) -> AtomSeat
     ensures nothing { (face_in result.badge.views).knows ≡ [] }
     ensures account { result.account ≡ vec_len seats.new }
 {
+    // Only contracts speak of the table.
     let _ = table;
     let Some(seat) = seats.pop() else {
         unreachable!()
@@ -35,6 +36,7 @@ pub fn next_plain_seat(table: &PlainTable, seats: &mut Vec<PlainSeat>) -> PlainS
     ensures nothing { result.known.items ≡ [] }
     ensures account { result.account ≡ vec_len seats.new }
 {
+    // Only contracts speak of the table.
     let _ = table;
     let Some(seat) = seats.pop() else {
         unreachable!()

@@ -94,7 +94,7 @@ pub fn own_entries_are_counted(alloc: Global) -> Result<bool, AllocError> {
     Ok(none & one & (first.number == again.number))
 }
 
-/// Whether a seat of a plain table that is given so many names finds them again.
+/// Whether a seat of a plain table that is given `names` finds them again.
 pub fn a_full_plain_seat_finds(alloc: Global, names: &[AtomText]) -> Result<bool, AllocError>
     requires { length names.now ≤ 1024 }
 {
@@ -103,7 +103,7 @@ pub fn a_full_plain_seat_finds(alloc: Global, names: &[AtomText]) -> Result<bool
     Ok(are_found_again(&mut table, &mut seat, names, 64 + 1024))
 }
 
-/// Whether the one seat of a shared table that is given so many names finds them again.
+/// Whether the one seat of a shared table that is given `names` finds them again.
 pub fn a_full_seat_finds(alloc: Global, names: &[AtomText]) -> Result<bool, AllocError>
     requires { length names.now ≤ 1024 }
 {

@@ -14,7 +14,7 @@ const RUNS: usize = 40;
 /// How many times each name is looked up in a run by each thread.
 const ROUNDS: usize = 100;
 
-/// The least times of so many runs and one more.
+/// The least times of `runs` runs and one more.
 fn least<R: Threads + Clock + Sync>(
     rt: &R,
     alloc: Global,

@@ -31,7 +31,7 @@ impl Looks {
     }
 }
 
-/// The times of one run over names, each looked up so many times by each thread.
+/// The times of one run over names, each looked up `rounds` times by each thread.
 pub fn times_of_run<R: Threads + Clock + Sync>(
     rt: &R,
     alloc: Global,

@@ -6,7 +6,7 @@ use kl1_rows::{Text, put_check};
 use std::rt::Clock;
 use std::thread::Threads;
 
-/// Puts a line on each check behind a report.
+/// Puts a line on each check after a report.
 pub fn put_tally_checks<R: Threads + Clock + Sync>(rt: &R, out: &mut Text) {
     let alloc = out.alloc;
     let done = threads_come_to_the_sums(rt, alloc);

@@ -13,6 +13,7 @@ pub fn next_book(tally: &Tally, books: &mut Vec<BookSeat>) -> BookSeat
     ensures fewer { vec_len books.new + 1 ≡ vec_len books.old }
     ensures of { result.tally ≡ tally.now.id }
 {
+    // Only contracts speak of the tally.
     let _ = tally;
     let Some(book) = books.pop() else {
         unreachable!()
@@ -28,6 +29,7 @@ pub fn next_share(tally: &Tally, shares: &mut Vec<ShareSeat>) -> ShareSeat
     ensures fewer { vec_len shares.new + 1 ≡ vec_len shares.old }
     ensures of { result.tally ≡ tally.now.id }
 {
+    // Only contracts speak of the tally.
     let _ = tally;
     let Some(share) = shares.pop() else {
         unreachable!()
@@ -35,19 +37,20 @@ pub fn next_share(tally: &Tally, shares: &mut Vec<ShareSeat>) -> ShareSeat
     share
 }
 
-/// Puts a book of a tally behind others.
+/// Puts a book of a tally after others.
 pub fn give_book(tally: &Tally, books: &mut Vec<BookSeat>, book: BookSeat) -> Result<(), AllocError>
     requires all { All (λ book. book.tally ≡ tally.now.id) books.old.items }
     requires of { book.tally ≡ tally.now.id }
     ensures all { OnOk result (All (λ book. book.tally ≡ tally.now.id) books.new.items) }
     ensures more { OnOk result (vec_len books.new ≡ vec_len books.old + 1) }
 {
+    // Only contracts speak of the tally.
     let _ = tally;
     books.push(book)?;
     Ok(())
 }
 
-/// Puts a share of a tally behind others.
+/// Puts a share of a tally after others.
 pub fn give_share(
     tally: &Tally,
     shares: &mut Vec<ShareSeat>,
@@ -58,12 +61,13 @@ pub fn give_share(
     ensures all { OnOk result (All (λ share. share.tally ≡ tally.now.id) shares.new.items) }
     ensures more { OnOk result (vec_len shares.new ≡ vec_len shares.old + 1) }
 {
+    // Only contracts speak of the tally.
     let _ = tally;
     shares.push(share)?;
     Ok(())
 }
 
-/// Counts so many events of a book's account; every second is a step, from the first on.
+/// Counts `events` events of a book's account; every second is a step, from the first on.
 pub fn count(tally: &Tally, book: &mut BookSeat, share: &mut ShareSeat, events: u32)
     requires book { book.old.tally ≡ tally.now.id }
     requires share { share.old.tally ≡ tally.now.id }

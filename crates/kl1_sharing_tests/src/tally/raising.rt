@@ -11,7 +11,7 @@ use std::rt::Clock;
 use std::sync::atomic::{AtomicU64, Ordering};
 use std::thread::{Threads, map_indices, map_vec};
 
-/// So many pairs of the last books and shares of a tally.
+/// `count` pairs of the last books and shares of a tally.
 fn next_pairs(
     tally: &Tally,
     books: &mut Vec<BookSeat>,
@@ -33,7 +33,7 @@ fn next_pairs(
     Ok(pairs)
 }
 
-/// Counts so many events in a book and a share, and answers what the book then tells.
+/// Counts `events` events in a book and a share, and answers what the book then tells.
 fn raised(tally: &Tally, seats: (BookSeat, ShareSeat), events: usize) -> u64
     requires book { seats.0.tally ≡ tally.now.id }
     requires share { seats.1.tally ≡ tally.now.id }
@@ -47,7 +47,7 @@ fn raised(tally: &Tally, seats: (BookSeat, ShareSeat), events: usize) -> u64
     book.events()
 }
 
-/// Whether each of so many threads counts so many events, all at once, and the nanoseconds that they take.
+/// Whether each of `count` threads counts `events` events, all at once, and the nanoseconds that they take.
 pub fn raised_by<R: Threads + Clock + Sync>(
     rt: &R,
     tally: &Tally,
@@ -70,14 +70,14 @@ pub fn raised_by<R: Threads + Clock + Sync>(
     Ok((are_all(told.as_slice(), events as u64), time))
 }
 
-/// Adds 1 to a number so many times.
+/// Adds 1 to `sum`, `times` times.
 fn add(sum: &AtomicU64, times: usize) {
     for _time in 0..times {
         sum.fetch_add(1, Ordering::SeqCst);
     }
 }
 
-/// The nanoseconds that so many threads take which all add 1 to a number so many times at once.
+/// The nanoseconds that `count` threads take which all add 1 to `sum` at once, `times` times each.
 pub fn added_by<R: Threads + Clock + Sync>(
     rt: &R,
     alloc: Global,

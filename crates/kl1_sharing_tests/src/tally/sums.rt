@@ -7,7 +7,7 @@ use kl1_tally::{Amounts, BookSeat, MOST_ACCOUNTS, ShareSeat, Tally};
 use std::alloc::{AllocError, Global};
 use std::thread::{Threads, join};
 
-/// A thread's part where it has two books: it counts in each.
+/// A thread's part if it has two books: it counts in each.
 fn count_two(
     tally: &Tally,
     seats: (BookSeat, BookSeat, ShareSeat),
@@ -22,7 +22,7 @@ fn count_two(
     (first, second, share)
 }
 
-/// A thread's part where it has one book.
+/// A thread's part if it has one book.
 fn count_one(tally: &Tally, seats: (BookSeat, ShareSeat), events: u32) -> (BookSeat, ShareSeat)
     requires of { (seats.0.tally ≡ tally.now.id) × (seats.1.tally ≡ tally.now.id) }
     ensures of { (result.0.tally ≡ tally.now.id) × (result.1.tally ≡ tally.now.id) }
@@ -52,7 +52,7 @@ fn count_by_two<R: Threads + Sync>(
     )
 }
 
-/// Puts three books and two shares behind others.
+/// Puts three books and two shares after others.
 fn give_all(
     tally: &Tally,
     books: &mut Vec<BookSeat>,
@@ -174,7 +174,7 @@ fn count_each(
     Ok(())
 }
 
-/// Whether amounts are, for each of so many accounts, its number and one more, with every second a step, and nothing of others.
+/// Whether amounts are, for each of `accounts` accounts, its number and one more, with every second a step, and nothing of others.
 fn are_numbers(amounts: Amounts, accounts: usize) -> bool {
     for account in 0..MOST_ACCOUNTS {
         let number = account as u64;
@@ -190,7 +190,7 @@ fn are_numbers(amounts: Amounts, accounts: usize) -> bool {
     true
 }
 
-/// Whether a tally of so many accounts comes to what one share counted beside another that counted nothing.
+/// Whether a tally of `accounts` accounts comes to what one share counted beside another that counted nothing.
 pub fn come_to_the_numbers(alloc: Global, accounts: usize) -> Result<bool, AllocError>
     requires { accounts ≤ 16 }
 {

@@ -13,7 +13,7 @@ const RUNS: usize = 20;
 /// How many events each thread counts in a run.
 const EVENTS: usize = 1_000_000;
 
-/// The least times of so many runs and one more, of the tally and of the sum.
+/// The least times of `runs` runs and one more, of the tally and of the sum.
 fn least<R: Threads + Clock + Sync>(
     rt: &R,
     alloc: Global,
@@ -29,7 +29,7 @@ fn least<R: Threads + Clock + Sync>(
     Ok((tally, sum))
 }
 
-/// Puts whether all that was counted is there, behind a text.
+/// Puts whether all that was counted is there, after a text.
 fn put_counted(out: &mut Text, before: &[u8], tally: Times, sum: Times) {
     out.put(before);
     put_whether(out, b": tally ", tally.is_right, b", ");

@@ -10,7 +10,7 @@ use std::rt::Clock;
 use std::sync::atomic::{AtomicU64, Ordering};
 use std::thread::Threads;
 
-/// The times of so many additions to one number by each thread.
+/// The times of `times` additions to one number by each thread.
 pub fn times_of_sum<R: Threads + Clock + Sync>(
     rt: &R,
     alloc: Global,
@@ -28,7 +28,7 @@ pub fn times_of_sum<R: Threads + Clock + Sync>(
     })
 }
 
-/// The times of so many events counted by each thread in a new tally.
+/// The times of `events` events counted by each thread in a new tally.
 pub fn times_of_tally<R: Threads + Clock + Sync>(
     rt: &R,
     alloc: Global,
@@ -38,7 +38,7 @@ pub fn times_of_tally<R: Threads + Clock + Sync>(
     times_in(rt, &tally, &mut books, &mut shares, events)
 }
 
-/// The times of so many events counted by each thread, each with its own account.
+/// The times of `events` events counted by each thread, each with its own account.
 fn times_in<R: Threads + Clock + Sync>(
     rt: &R,
     tally: &Tally,

@@ -30,7 +30,7 @@ fn are(told: &Totals, steps: u64, puts: u128, takes: u128, left: u128) -> bool {
     true
 }
 
-/// Puts a line on each check behind a report.
+/// Puts a line on each check after a report.
 pub fn put_ticket_checks<R: Threads + Wait + Clock + Sync>(rt: &R, out: &mut Text) {
     let worked = worked(rt, out.alloc);
     let met = match &worked {

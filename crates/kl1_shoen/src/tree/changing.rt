@@ -17,7 +17,7 @@ use kl1_text::NameValue;
 use std::alloc::AllocError;
 
 impl<N: NameValue> ShoenTree<N> {
-    /// Changes the shoen of a number, if there is one.
+    /// Changes shoen `number`, if there is one.
     fn change(&mut self, number: u64, change: Change<N>) -> Result<(), AllocError>
         ensures ok { OnOk result (self.new ≡ record self.old { shoens = changed number (changed_by change) self.old.shoens }) }
         ensures err { OnErr result (self.new ≡ self.old) }
@@ -66,7 +66,7 @@ impl<N: NameValue> ShoenTree<N> {
         self.change(number, Change::Stopped(is_stopped))
     }
 
-    /// Raises a shoen's allowance by so many reductions, up to the greatest there is.
+    /// Raises a shoen's allowance by `extra` reductions, up to the greatest there is.
     pub fn allow(&mut self, number: u64, extra: u64) -> Result<(), AllocError>
         ensures ok { OnOk result (self.new ≡ record self.old { shoens = changed number (λ h. record h { allowance = min (h.allowance + extra) most_allowance }) self.old.shoens }) }
         ensures err { OnErr result (self.new ≡ self.old) }
@@ -92,7 +92,7 @@ impl<N: NameValue> ShoenTree<N> {
     }
 }
 
-/// Changes the shoen of a number, if there is one.
+/// Changes shoen `number`, if there is one.
 fn change_one<N: NameValue>(
     shoens: &mut CountedShoens<N>,
     number: u64,
@@ -138,7 +138,7 @@ fn abort_all<N: NameValue>(
     Ok(())
 }
 
-/// Ends the shoen at a place as aborted, where it lives and is the one that is aborted, or below that.
+/// Ends the shoen at a place as aborted, if it lives and is the one that is aborted, or below that.
 #[tactic(auto, using(crate::proofs::Counting::got_any, crate::proofs::Counting::put_itself))]
 fn abort_at<N: NameValue>(
     shoens: &mut CountedShoens<N>,

@@ -24,7 +24,7 @@ impl<N: NameValue> ShoenTree<N> {
         Ok(())
     }
 
-    /// What the shoen of a number was charged, in reductions; 0 where no shoen has the number.
+    /// What shoen `number` was charged, in reductions; 0 if no shoen has the number.
     pub fn charged(&self, number: u64) -> u64
         ensures { result ≡ charged_in self.now.shoens self.now.work number }
     {
@@ -39,7 +39,7 @@ impl<N: NameValue> ShoenTree<N> {
         0
     }
 
-    /// Whether the shoen of a number was charged just what it may be.
+    /// Whether shoen `number` was charged just what it may be.
     pub fn has_reached(&self, number: u64) -> bool
         ensures { result ≡ has_reached_in self.now.shoens self.now.work number }
     {
@@ -49,7 +49,7 @@ impl<N: NameValue> ShoenTree<N> {
         shoen.allowance == self.charged(number)
     }
 
-    /// The step of a path at the shoen of a number, with whether the shoen was charged just what it may be.
+    /// The step of a path at shoen `number`, with whether the shoen was charged just what it may be.
     pub fn reached_step(&self, number: u64) -> Step
         requires { 0 < number }
         ensures below { result.up < number }
@@ -102,6 +102,7 @@ impl<N: NameValue> ShoenTree<N> {
     pub fn flags(&self, out: &mut Vec<bool>) -> Result<(), AllocError>
         ensures { OnOk result (out.new.items ≡ map (λ h. is_enabled_at self.now.shoens self.now.work h.number) self.now.shoens) }
     {
+        // Only for the proof: parents have lower numbers.
         let _lower = self.len();
         out.clear();
         for shoen in self.shoens.items() {

@@ -10,7 +10,7 @@ use kl1_text::NameValue;
 use std::alloc::AllocError;
 
 impl<N: NameValue> ShoenTree<N> {
-    /// How deep a shoen is: 1 where the console started it, and 0 at the number 0.
+    /// How deep a shoen is: 1 if the console started it, and 0 at the number 0.
     pub fn depth(&self, number: u64) -> u64
         ensures value { result ≡ length (path_in self.now.shoens number) }
     {
@@ -30,6 +30,7 @@ impl<N: NameValue> ShoenTree<N> {
     pub fn is_on_path(&self, ancestor: u64, number: u64) -> bool
         ensures { result ≡ is_on_path_in self.now.shoens ancestor number }
     {
+        // Only for the proof: parents have lower numbers.
         let _lower = self.len();
         is_on_path_of(self.shoens.items(), ancestor, number)
     }
@@ -41,10 +42,11 @@ impl<N: NameValue> ShoenTree<N> {
         self.shoens.has_living_child(number)
     }
 
-    /// Whether each shoen is that of a number, or below it, in order of number.
+    /// Whether each shoen is shoen `number`, or below it, in order of number.
     pub fn below(&self, number: u64, out: &mut Vec<bool>) -> Result<(), AllocError>
         ensures { OnOk result (out.new.items ≡ map (λ h. is_on_path_in self.now.shoens number h.number) self.now.shoens) }
     {
+        // Only for the proof: parents have lower numbers.
         let _lower = self.len();
         tell_below(self.shoens.items(), number, out)
     }

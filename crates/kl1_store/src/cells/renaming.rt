@@ -11,7 +11,7 @@ use crate::mark::Mark;
 use crate::node::Node;
 use kl1_text::NameValue;
 
-/// The name that takes the place of one: what stands at its place among others, where it is one of these, and else itself.
+/// The name that takes the place of one: what stands at its place among others, if it is one of these, and else itself.
 fn renamed<N: NameValue>(from: &[N], to: &[N], name: N) -> N
     requires { length from.now ≤ length to.now }
     ensures { (g : N → N) → Renames from.now to.now g → result ≡ g name }

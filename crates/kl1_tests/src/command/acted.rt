@@ -112,7 +112,7 @@ fn put_performed(told: &mut Text, performed: &Performed) {
     }
 }
 
-/// Puts what the command of a line does to letters, and behind a bar those that are left.
+/// Puts what the command of a line does to letters, and after a bar those that are left.
 fn put_acted(told: &mut Text, line: &[u8], letters: &[u8]) {
     let mut host = Letters {
         alloc: told.alloc,

@@ -24,7 +24,7 @@ fn put_goal(told: &mut Text, goal: &Term) {
     told.note(done);
 }
 
-/// Puts the message that is sent to the shoen of a number.
+/// Puts the message that is sent to shoen `shoen`.
 fn put_message(told: &mut Text, shoen: u64, message: Message) {
     match message {
         Message::Stop => put_told(told, b"sends stop", &[shoen]),

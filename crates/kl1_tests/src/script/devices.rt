@@ -11,7 +11,7 @@ fn counts_of(source: &Counted<Faulty<&[u8]>>) -> [u64; 2] {
     [source.failures, source.inner.inner.len() as u64]
 }
 
-/// Whether this is told of reading a text to its end, from a stream that gives at most so many bytes a call, and one of whose
+/// Whether this is told of reading a text to its end, from a stream that gives at most a number of bytes a call, and one of whose
 /// calls fails: the two numbers, the cause and the text, parted by a space each.
 pub fn is_read(alloc: Global, act: &[u8], wanted: &[u8]) -> bool {
     let (most, rest) = cut(act, b' ');
@@ -34,7 +34,7 @@ fn fails<S: Sink>(sink: &mut S, text: &[u8]) -> bool {
     write_all(sink, text).is_err() || sink.flush().is_err()
 }
 
-/// Whether this is told of writing a text, and seeing that it goes on its way, to a stream that takes at most so many bytes a
+/// Whether this is told of writing a text, and seeing that it goes on its way, to a stream that takes at most a number of bytes a
 /// call, and one of whose calls fails: the two numbers, the cause and the text, parted by a space each.
 pub fn is_written(alloc: Global, act: &[u8], wanted: &[u8]) -> bool {
     let (most, rest) = cut(act, b' ');

@@ -3,11 +3,11 @@
 /// What the rows of a group ask for.
 #[derive(Clone, Copy)]
 pub enum Kind {
-    /// A text is cut behind its first line.
+    /// A text is cut after its first line.
     Line,
-    /// A line is cut behind its name.
+    /// A line is cut after its name.
     Name,
-    /// A line is cut behind its first word.
+    /// A line is cut after its first word.
     Word,
     /// Whether a line has blanks alone.
     Blank,

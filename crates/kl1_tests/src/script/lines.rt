@@ -5,13 +5,13 @@ use kl1_lines::{
 };
 use kl1_rows::{cut, is_counted};
 
-/// Whether a text is cut into the two that stand before and behind the first bar of what is wanted.
+/// Whether a text is cut into the two that stand before and after the first bar of what is wanted.
 fn is_cut(pieces: (&[u8], &[u8]), wanted: &[u8]) -> bool {
     let (front, behind) = cut(wanted, b'|');
     pieces.0 == front && pieces.1 == behind
 }
 
-/// Whether this line, and what is behind it, is in front of a text.
+/// Whether this line, and what is after it, is in front of a text.
 pub fn is_line(text: &[u8], wanted: &[u8]) -> bool {
     is_cut(split_line(text), wanted)
 }
@@ -48,7 +48,7 @@ pub fn is_number(word: &[u8], wanted: &[u8]) -> bool {
     is_found(number_in(word), wanted)
 }
 
-/// Whether a line is a good load of so many bytes, or `none`.
+/// Whether a line is a good load of as many bytes as is wanted, or `none`.
 pub fn is_source(line: &[u8], wanted: &[u8]) -> bool {
     is_found(source_bytes_in(line), wanted)
 }

@@ -4,7 +4,7 @@ use crate::script::told::is_told;
 use kl1_lines::{NextRecord, Record, Request, is_same, next_record};
 use kl1_rows::cut;
 
-/// Whether the next record of a script is what is wanted: its name, what it asks for and what is behind it, parted by
+/// Whether the next record of a script is what is wanted: its name, what it asks for and what is after it, parted by
 /// semicolons, or `end`, or `truncated`.
 pub fn is_record(script: &[u8], wanted: &[u8]) -> bool {
     match next_record(script) {

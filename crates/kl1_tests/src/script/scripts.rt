@@ -9,7 +9,7 @@ use kl1_script::{Counted, run_script};
 use std::alloc::Global;
 use std::sync::Wait;
 
-/// Whether this is told, and this written, where a text is run or replayed between streams that give and take at most so many bytes a
+/// Whether this is told, and this written, if a text is run or replayed between streams that give and take at most `most` bytes a
 /// call, and the reads and the writes of these numbers fail, counted from 1.
 fn is_between<H: Wait>(
     rt: &H,

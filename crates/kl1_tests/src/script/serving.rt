@@ -71,7 +71,7 @@ fn are_right_over<R: Wait>(rt: &R, alloc: Global, word: u64) -> Result<bool, All
     }
 }
 
-/// The same for each word from 0 to 63.
+/// Whether two accounts answer what they have to, for each such word from 0 to 63.
 pub fn two_accounts_answer_over_each_word<R: Wait>(
     rt: &R,
     alloc: Global,
@@ -91,7 +91,7 @@ fn is_put_in_if_loaded<R: Wait>(rt: &R, alloc: Global) -> Result<bool, AllocErro
     Ok(is_right && table.find(LOADED).is_some() && table.find(REFUSED).is_none())
 }
 
-/// The same, at the second try where memory is refused at the first.
+/// Whether a refused load puts no code in, at the second try if memory is refused at the first.
 pub fn refused_load_puts_no_code_in<R: Wait>(rt: &R, alloc: Global) -> Result<bool, AllocError> {
     match is_put_in_if_loaded(rt, alloc) {
         Ok(true) => Ok(true),

@@ -4,7 +4,7 @@ use kl1_lines::is_same;
 use std::io;
 use std::io::{ErrorKind, Read, Write};
 
-/// A stream that gives or takes at most so many bytes a call, and one of whose calls fails.
+/// A stream that gives or takes at most `most` bytes a call, and one of whose calls fails.
 #[derive(Drop)]
 pub struct Faulty<T> {
     /// The stream.

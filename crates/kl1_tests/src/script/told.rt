@@ -32,7 +32,7 @@ pub fn are_told(told: &[u8], word: &[u8], numbers: &[u64]) -> bool {
     first == word && are_numbers(rest, numbers)
 }
 
-/// Whether this is wanted: a word and numbers, parted by a space each, and behind a bar a text. Without a bar the text is
+/// Whether this is wanted: a word and numbers, parted by a space each, and after a bar a text. Without a bar the text is
 /// empty.
 pub fn is_told(wanted: &[u8], word: &[u8], numbers: &[u64], text: &[u8]) -> bool {
     let (told, behind) = cut(wanted, b'|');

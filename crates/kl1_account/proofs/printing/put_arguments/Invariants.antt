@@ -2,7 +2,7 @@ use Rattle.std.proofs.Common.{◌≡◌, ◌≤◌, ◌++◌, length, reverse, d
 use Rattle.kl1_store.specs.Held.{arguments_of}
 use Rattle.kl1_account.proofs.printing.put_arguments.Given as goal
 
--- the arguments behind those that are left are put
+-- the arguments after those that are left are put
 abbrev pub invariant-loop-left : goal.invariant-loop-left
 invariant-loop-left l =
     (l.left ≤ length (arguments_of l.store.held l.structure))

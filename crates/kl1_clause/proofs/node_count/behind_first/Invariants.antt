@@ -1,4 +1,4 @@
--- what is behind the terms that are left is what is behind the first
+-- what is after the terms that are left is what is after the first
 use Rattle.std.proofs.Common.{◌≡◌, ◌<◌, ◌^◌, map, length}
 use Rattle.kl1_term.specs.Nodes.{code_of}
 use Rattle.kl1_clause.specs.NodeCounts.{behind_terms}

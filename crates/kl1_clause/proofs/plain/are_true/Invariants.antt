@@ -1,4 +1,4 @@
--- where the tests left are `true`, all are
+-- if the tests left are `true`, all are
 use Rattle.std.proofs.Common.{length}
 use Rattle.kl1_clause.specs.Plain.{AreTrue}
 use Rattle.kl1_clause.proofs.plain.are_true.Given as goal

@@ -1,4 +1,4 @@
--- the variables left rise exactly where all do
+-- the variables left rise exactly if all do
 use Rattle.std.proofs.Common.{◌≡◌, length}
 use Rattle.kl1_clause.specs.Plain.{is_rising}
 use Rattle.kl1_clause.proofs.plain.is_rising.Given as goal

@@ -3,7 +3,7 @@ use Rattle.kl1_match.proofs.Built.{IsBuilt}
 use Rattle.kl1_match.proofs.Rooms.{RoomLeft}
 use Rattle.kl1_match.proofs.instances.put_row.Given as goal
 
--- what is behind the instructions that are left is built, nothing hangs anew or is bound, and no more room was used
+-- what is after the instructions that are left is built, nothing hangs anew or is bound, and no more room was used
 abbrev pub invariant-loop-left : goal.invariant-loop-left
 invariant-loop-left g l =
     IsBuilt g.N.NameValue.built l.names l.initial.store.held l.store.held l.variables l.row l.left l.stack.items

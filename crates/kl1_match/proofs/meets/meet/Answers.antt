@@ -13,7 +13,7 @@ use Rattle.kl1_match.proofs.Beside.{met_unbound, integer_meets, atom_meets, stru
 use Rattle.kl1_match.proofs.Trying.{keeps_of}
 use Rattle.kl1_match.proofs.meets.meet.Goals as goal
 
--- the first of the cells, and those behind it
+-- the first of the cells, and those after it
 first_left : {N : Type 0} (h : Held N) (span after : Span) (behind : List Span) (x : Cell N) → span_cells h span ≡ x ∷ span_cells h after → cells_left h span behind ≡ x ∷ cells_left h after behind
 first_left h span after behind x e = ap (λ l. l ++ cells_behind h behind) e
 

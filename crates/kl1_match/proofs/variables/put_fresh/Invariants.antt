@@ -3,7 +3,7 @@ use Rattle.std.specs.Vec.{vec_capacity}
 use Rattle.kl1_match.proofs.Places.{AreFresh}
 use Rattle.kl1_match.proofs.variables.put_fresh.Given as goal
 
--- the variables that are left come behind those that were put, nothing hangs anew, and there is room
+-- the variables that are left come after those that were put, nothing hangs anew, and there is room
 abbrev pub invariant-loop-left : goal.invariant-loop-left
 invariant-loop-left g l =
     AreFresh l.initial.store.held l.store.held l.initial.cells.items l.cells.items l.count l.left

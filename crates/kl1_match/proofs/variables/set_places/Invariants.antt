@@ -3,7 +3,7 @@ use Rattle.std.specs.Vec.{vec_capacity}
 use Rattle.kl1_match.proofs.Places.{AreSet}
 use Rattle.kl1_match.proofs.variables.set_places.Given as goal
 
--- the places behind those that are left are set
+-- the places after those that are left are set
 abbrev pub invariant-loop-left : goal.invariant-loop-left
 invariant-loop-left g l =
     AreSet l.initial.cells.items l.cells.items l.places l.left

@@ -4,7 +4,7 @@ use Rattle.kl1_read.specs.Items.{items_among, items_left}
 use Rattle.kl1_model.specs.ReadLaws.{tokens_at}
 use Rattle.kl1_read.proofs.item.next_item.Given as goal
 
--- what is left, behind the tokens so far, has the items of the whole
+-- what is left, after the tokens so far, has the items of the whole
 abbrev pub invariant-items : goal.invariant-items
 invariant-items l =
     record {

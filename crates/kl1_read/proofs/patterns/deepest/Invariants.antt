@@ -3,7 +3,7 @@ use Rattle.kl1_model.specs.Term.{terms_of}
 use Rattle.kl1_model.specs.Meaning.{deepest, are_narrow}
 use Rattle.kl1_read.proofs.patterns.deepest.Given as goal
 
--- the deepest so far, with those that are left, is the deepest of all, and what is left is narrow where all are
+-- the deepest so far, with those that are left, is the deepest of all, and what is left is narrow if all are
 abbrev pub invariant-loop-piece : goal.invariant-loop-piece
 invariant-loop-piece l =
     record {

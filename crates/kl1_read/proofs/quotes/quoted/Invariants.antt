@@ -4,7 +4,7 @@ use Rattle.kl1_model.specs.Text.{is_name_byte}
 use Rattle.kl1_model.specs.Token.{quoted_from}
 use Rattle.kl1_read.proofs.quotes.quoted.Given as goal
 
--- what is left, behind the text so far, is read as the whole; the text so far is a name
+-- what is left, after the text so far, is read as the whole; the text so far is a name
 abbrev pub invariant-text : goal.invariant-text
 invariant-text l =
     record {

@@ -2,7 +2,7 @@ use Rattle.std.proofs.Common.{◌≡◌, ◌≤◌, drop, length, map, reverse}
 use Rattle.kl1_read.specs.SmallNodes.{node_of}
 use Rattle.kl1_read.proofs.small_node.turned.Given as goal
 
--- the nodes so far are those behind the first `count`, from the last one on
+-- the nodes so far are those after the first `count`, from the last one on
 abbrev pub invariant-loop-count : goal.invariant-loop-count
 invariant-loop-count l =
     record {

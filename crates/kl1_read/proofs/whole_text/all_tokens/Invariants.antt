@@ -4,7 +4,7 @@ use Rattle.kl1_read.specs.Views.{kept_token}
 use Rattle.kl1_read.specs.WholeTexts.{whole_from, whole_of}
 use Rattle.kl1_read.proofs.whole_text.all_tokens.Given as goal
 
--- what is left, behind the tokens so far, is the whole
+-- what is left, after the tokens so far, is the whole
 abbrev pub invariant-tokens : goal.invariant-tokens
 invariant-tokens l =
     record {

@@ -3,7 +3,7 @@ use Rattle.std.specs.Vec.{vec_capacity}
 use Rattle.kl1_store.specs.Tops.{firsts, others}
 use Rattle.kl1_store.proofs.cells.move_or_fill.Given as goal
 
--- what is moved and what is to be moved are the first so many, and what will be left are the others
+-- what is moved and what is to be moved are the first `count`, and what will be left are the others
 abbrev pub invariant-loop-left : goal.invariant-loop-left
 invariant-loop-left g l =
     (l.list.items ++ firsts l.missing l.left (reverse l.stack.items) ≡ l.initial.list.items ++ firsts l.initial.missing l.initial.count (reverse l.initial.stack.items))

@@ -1,4 +1,4 @@
--- the variables left are numbered behind those seen exactly where all are numbered
+-- the variables left are numbered after those seen exactly if all are numbered
 use Rattle.std.proofs.Common.{◌≡◌, map, length}
 use Rattle.kl1_model.specs.Meaning.{numbered_after}
 use Rattle.kl1_term.specs.Nodes.{code_of}

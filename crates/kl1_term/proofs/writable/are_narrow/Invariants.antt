@@ -1,4 +1,4 @@
--- the nodes left are narrow exactly where all are
+-- the nodes left are narrow exactly if all are
 use Rattle.std.proofs.Common.{◌≡◌, map, length}
 use Rattle.std.specs.List.{list_all}
 use Rattle.kl1_term.specs.Nodes.{code_of}

@@ -11,7 +11,7 @@ use Rattle.kl1_clause.proofs.goal_code.GoalCode.compile.Goals.{In_ok-put_nodes}
 abbrev fields : In_ok-put_nodes → Inside
 fields c = record { names = c.put_nodes.new.names; row = c.put_nodes.new.row; nodes = c.goal_nodes-nodes.result }
 
--- the goal's nodes were put to no names, behind no row
+-- the goal's nodes were put to no names, after no row
 is_put : (c : In_ok-put_nodes) → Puts [] (fields c).names [] (fields c).row.items (nodes_of c.args.goal.now)
 is_put c =
     subst (λ (ns : List (List ℕ)). Puts ns (fields c).names [] (fields c).row.items (nodes_of c.args.goal.now)) c.new-names.ensures

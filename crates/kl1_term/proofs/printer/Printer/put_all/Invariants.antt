@@ -1,4 +1,4 @@
--- the nodes left make the same text, and where all would leave nothing to come, these do
+-- the nodes left make the same text, and if all would leave nothing to come, these do
 use Rattle.std.proofs.Common.{◌≡◌, List, map, length}
 use Rattle.kl1_model.specs.Term.{Term}
 use Rattle.kl1_term.specs.Nodes.{code_of, with_nodes, left_after}
