@@ -222,27 +222,30 @@ placed_substitute g kind t s =
     let b : Alike s u = record { nodes = refl; duties = refl; modules = refl; last = refl; entries = refl; work = refl } in
     placed_after g (substitutes (variable new)) s (report g.shoen told u) refl (alike_both s u (report g.shoen told u) b (alike_report g.shoen told u))
 
--- a fact that holds after whatever leaves nodes and duties, and also after that and a goal in the place of this one, holds after an
--- exception of this one
-module _ (P : State → Type 0) (g : Goal) (s : State) (alike : (t : State) → Alike s t → P t) (placed : (t : State) → Placed g.shoen s t → P t) where
-  by_report : (c : Bool) (t u : State) → P t → P u → P (if c then t else u)
-  by_report true t u p q = p
-  by_report false t u p q = q
+-- a fact holds after whatever leaves nodes and duties, and after that and a goal in the place of this one
+pub record Lasts (P : State → Type 0) (g : Goal) (s : State) : Type 0 where
+  pub alike : (t : State) → Alike s t → P t
+  pub placed : (t : State) → Placed g.shoen s t → P t
 
-  pub by_raised : (kind : List ℕ) (t : Term) → P (raised g kind t s)
-  by_raised kind t =
-      by_report (has_substitutes s.rules && is_reported g.shoen (exception kind t) s) (substituted_by g kind t s) (report g.shoen (exception kind t) s)
-      (placed (substituted_by g kind t s) (placed_substitute g kind t s)) (alike (report g.shoen (exception kind t) s) (alike_report g.shoen (exception kind t) s))
+by_report : (P : State → Type 0) (c : Bool) (t u : State) → P t → P u → P (if c then t else u)
+by_report P true t u p q = p
+by_report P false t u p q = q
 
-  -- after a unification for it
-  pub by_unified : (t : Term) (o : Option (List Replacement)) → P (unified g t o s)
-  by_unified t None = by_raised failure t
-  by_unified t (Some rs) = alike (replace_all rs s) (alike_all rs s)
+-- so it holds after an exception of this goal
+pub by_raised : (P : State → Type 0) (g : Goal) (kind : List ℕ) (t : Term) (s : State) → Lasts P g s → P (raised g kind t s)
+by_raised P g kind t s k =
+    by_report P (has_substitutes s.rules && is_reported g.shoen (exception kind t) s) (substituted_by g kind t s) (report g.shoen (exception kind t) s)
+    (k.placed (substituted_by g kind t s) (placed_substitute g kind t s)) (k.alike (report g.shoen (exception kind t) s) (alike_report g.shoen (exception kind t) s))
 
-  -- and after an effect that keeps to a limit, if it holds after the effect where the limit isn't passed
-  pub by_limit : (c : Bool) (t : Term) (u : State) → (c ≡ true → P u) → P (or_exhaustion c g t u s)
-  by_limit true t u f = f refl
-  by_limit false t u f = by_raised exhaustion t
+-- and after a unification for it
+pub by_unified : (P : State → Type 0) (g : Goal) (t : Term) (o : Option (List Replacement)) (s : State) → Lasts P g s → P (unified g t o s)
+by_unified P g t None s k = by_raised P g failure t s k
+by_unified P g t (Some rs) s k = k.alike (replace_all rs s) (alike_all rs s)
+
+-- and after an effect that keeps to a limit, if it holds after the effect
+pub by_limit : (P : State → Type 0) (c : Bool) (g : Goal) (t : Term) (u s : State) → (c ≡ true → P u) → Lasts P g s → P (or_exhaustion c g t u s)
+by_limit P true g t u s f k = f refl
+by_limit P false g t u s f k = by_raised P g exhaustion t s k
 
 -- ---- who is due, by nodes and duties
 

@@ -23,7 +23,7 @@ use Rattle.kl1_model.specs.Sending.{sent_on}
 use Rattle.kl1_laws.specs.Reached.{reached}
 use Rattle.kl1_laws.specs.GoalLaws.{GoalsAreFew}
 use Rattle.kl1_laws.proofs.Reaching.{Keeping, holds_reached}
-use Rattle.kl1_laws.proofs.Alike.{Duty, duty_of, duties_of, duties_append, next_duty, Placed, placed_after, by_raised, by_unified, by_limit, alike_same, alike_open, begun, begun_shoen, alike_start, alike_sent, alike_answered}
+use Rattle.kl1_laws.proofs.Alike.{Duty, duty_of, duties_of, duties_append, next_duty, Lasts, placed_after, by_raised, by_unified, by_limit, alike_same, alike_open, begun, begun_shoen, alike_start, alike_sent, alike_answered}
 use Rattle.kl1_laws.proofs.Duties.{Of, of_alike, of_placed, filtered, of_gone, of_settle, of_settle_charged, of_heard}
 
 -- how many goals are no monitors, by their duties
@@ -188,24 +188,26 @@ placed_counted n last ds room counted =
     record { few = omega (arith, room, a, one); rising = rises_more 0 ds (next_duty last n ∷ []) last (suc last) counted.rising (next, top) }
 
 -- a goal in the place of one that was removed counts as that did
-put_counted : (n : ℕ) (s t : State) → alive_in (duties_of s.goals) + 1 ≤ most_goals → Of AreCounted s → Placed n s t → Of AreCounted t
-put_counted n s t room a k = of_placed AreCounted n s t k (placed_counted n s.last_goal (duties_of s.goals) room a)
+lasts_counted : (g : Goal) (s : State) → alive_in (duties_of s.goals) + 1 ≤ most_goals → Of AreCounted s → Lasts (Of AreCounted) g s
+lasts_counted g s room a = record {
+  alike = λ t k. of_alike AreCounted s t k a;
+  placed = λ t k. of_placed AreCounted g.shoen s t k (placed_counted g.shoen s.last_goal (duties_of s.goals) room a);
+}
 
 moved_counted : (g : Goal) (t : Term) (m : Move) (s : State) → alive_in (duties_of s.goals) + 1 ≤ most_goals → Of AreCounted s → Of AreCounted (moved g t m s)
-moved_counted g t (commits k) s e a =
-    by_limit (Of AreCounted) g s (λ u k. of_alike AreCounted s u k a) (λ u k. put_counted g.shoen s u e a k) (has_room_for s k.clause) t (committed g k s) (λ room. commit_counted g k s room a)
-moved_counted g t (raises kind) s e a = by_raised (Of AreCounted) g s (λ u k. of_alike AreCounted s u k a) (λ u k. put_counted g.shoen s u e a k) kind t
-moved_counted g t (unifies x y) s e a = by_unified (Of AreCounted) g s (λ u k. of_alike AreCounted s u k a) (λ u k. put_counted g.shoen s u e a k) t (solve (equation x y))
+moved_counted g t (commits k) s e a = by_limit (Of AreCounted) (has_room_for s k.clause) g t (committed g k s) s (λ room. commit_counted g k s room a) (lasts_counted g s e a)
+moved_counted g t (raises kind) s e a = by_raised (Of AreCounted) g kind t s (lasts_counted g s e a)
+moved_counted g t (unifies x y) s e a = by_unified (Of AreCounted) g t (solve (equation x y)) s (lasts_counted g s e a)
 moved_counted g t (names text x) s e a =
-    let v = record s { names = with_name s.names text } in
-    by_limit (Of AreCounted) g s (λ u k. of_alike AreCounted s u k a) (λ u k. put_counted g.shoen s u e a k) (nat_le (length (with_name s.names text)) most_names) t (named_by g t text x s)
-    (λ _. by_unified (Of AreCounted) g v (λ u k. of_alike AreCounted v u k a) (λ u k. put_counted g.shoen v u e a k) t (solve (equation x (atom text))))
+    let u = record s { names = with_name s.names text } in
+    by_limit (Of AreCounted) (nat_le (length (with_name s.names text)) most_names) g t (named_by g t text x s) s
+    (λ _. by_unified (Of AreCounted) g t (solve (equation x (atom text))) u (lasts_counted g u e a)) (lasts_counted g s e a)
 moved_counted g t (opens o) s e a =
     let h = child_shoen s g.shoen o in
-    by_limit (Of AreCounted) g s (λ u k. of_alike AreCounted s u k a) (λ u k. put_counted g.shoen s u e a k) (has_room_for_child s g.shoen) t (open_child s g.shoen o)
-    (λ _. of_alike AreCounted (with_shoen h o.goal s) (open_child s g.shoen o) (alike_open h o.goal s) (open_counted h o.goal s e a))
+    by_limit (Of AreCounted) (has_room_for_child s g.shoen) g t (open_child s g.shoen o) s
+    (λ _. of_alike AreCounted (with_shoen h o.goal s) (open_child s g.shoen o) (alike_open h o.goal s) (open_counted h o.goal s e a)) (lasts_counted g s e a)
 moved_counted g t goes s e a = a
-moved_counted g t gives_way s e a = put_counted g.shoen s (replaced_by g (reduces t) s) e a (placed_after g (reduces t) s s refl (alike_same s))
+moved_counted g t gives_way s e a = (lasts_counted g s e a).placed (replaced_by g (reduces t) s) (placed_after g (reduces t) s s refl (alike_same s))
 
 pub acted_counted : (g : Goal) (t : Term) (m : Move) (s : State) → goal_at g.number s.goals ≡ Some g → is_monitor g.task ≡ false → Of AreCounted s → Of AreCounted (acted g (moves t m) s)
 acted_counted g t m s there plain a =
