@@ -6,7 +6,7 @@ use Rattle.kl1_model.specs.declared.message.Message.TheVariants.{Stop, Start, Ab
 use Rattle.kl1_model.specs.Control.{Control, awaits_message, tells, tells_other, ends, breaks_off}
 use Rattle.kl1_model.specs.State.{Goal, State, shoen_at, without_goal}
 use Rattle.kl1_model.specs.Tree.{path, is_on_path}
-use Rattle.kl1_model.specs.Report.{report, report_each, exception, illegal_input, exhausted_report, terminated_report, aborted_report}
+use Rattle.kl1_model.specs.Report.{report_each, exception, illegal_input, exhausted_report, terminated_report, aborted_report}
 use Rattle.kl1_model.specs.Ending.{ended_at, ending_of, without_monitor, terminate, terminate_each, settle, reached_of, settle_charged, ended_below, abort}
 use Rattle.kl1_model.specs.Reduction.{obeyed, with_control, heard}
 use Rattle.kl1_laws.proofs.Alike.{Duty, duty_of, duties_of, next_duty, Alike, Placed, alike_report, alike_report_each, alike_closing, alike_stopped, alike_resumed}
