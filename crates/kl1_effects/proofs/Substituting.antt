@@ -7,7 +7,7 @@ use Rattle.std.proofs.lemmas.List.{map-append, take_all}
 use Rattle.kl1_model.specs.declared.rules.Rules.{Rules}
 use Rattle.kl1_model.specs.declared.rules.Rules.TheVariants.{One, Two}
 use Rattle.kl1_model.specs.declared.built_in.BuiltIn.{BuiltIn}
-use Rattle.kl1_model.specs.Limits.{most_reports}
+use Rattle.kl1_model.specs.Limits.{most_reports, monitor_priority}
 use Rattle.kl1_model.specs.Text.{text_of}
 use Rattle.kl1_model.specs.Term.{Term, variable, integer, atom, structure, occurs}
 use Rattle.kl1_model.specs.State as model
@@ -30,6 +30,7 @@ use Rattle.kl1_stream.specs.Exceptions.{IsException, IsExceptionWith}
 use Rattle.kl1_goals.specs.declared.task.Task.{Task}
 use Rattle.kl1_goals.specs.declared.task.Task.TheVariants.{Reduces, Substitutes}
 use Rattle.kl1_goals.specs.declared.goal.Goal.{Goal}
+use Rattle.kl1_goals.specs.Lists.{is_monitor_task}
 use Rattle.kl1_ancestors.specs.declared.shoen.Shoen.{Shoen}
 use Rattle.kl1_shoen.specs.Shoens.{Tree, has_number}
 use Rattle.kl1_modules.specs.Numbered.{Numbered}
@@ -41,11 +42,13 @@ use Rattle.kl1_effects.specs.Kept.{IsTaskIn, IsOwned, AreShoensIn}
 use Rattle.kl1_effects.specs.Drafts.{goals_left, made_of, DraftsAll, HasBegun, one_for}
 use Rattle.kl1_effects.specs.Late.{is_variable, is_tail_of, IsNoTail, KeepsFree}
 use Rattle.kl1_effects.specs.Reports.{IsTold, IsDropped}
+use Rattle.kl1_effects.specs.Leaving.{Comes, AreMet}
 use Rattle.kl1_effects.specs.Works.{Made, worked, IsMadeIn, Knows, Turns}
 use Rattle.kl1_effects.proofs.States.{Agree, found_in, found_shoen_in}
 use Rattle.kl1_effects.proofs.Works.{read_as, rereads, grown_made, turns_then, turns_as}
 use Rattle.kl1_effects.proofs.Goals.{goals_in_append, owned_append}
 use Rattle.kl1_effects.proofs.Joining.{left_more}
+use Rattle.kl1_effects.proofs.Arriving.{comes_none, met_none, comes_one, met_one}
 use Rattle.kl1_effects.proofs.LateFree.{off_none, no_higher}
 use Rattle.kl1_effects.proofs.Reported.{dropped_is, unmade_turns}
 use Rattle.kl1_effects.proofs.Streams.{grown_turns}
@@ -330,3 +333,33 @@ whole_turns ms h mid k w v goal kind cell x g e i next =
 -- a draft that has begun still has after a report
 pub told_begun : (d e : Draft) → e ≡ record d { reports = e.reports } → HasBegun d → HasBegun e
 told_begun d e is b = let P : Draft → Type 0 = λ x. HasBegun x in subst P (sym is) (record { aborted = b.aborted; ended = b.ended; removed = b.removed })
+
+-- after a report alone none comes
+pub comes_told : (k : Held CellName) (n count : ℕ) (d e : Draft) → e ≡ record d { reports = e.reports } → d.added.items ≡ [] → Comes k n count d e
+comes_told k n count d e is none = let last : e.last_goal ≡ d.last_goal = ap (λ (x : Draft). x.last_goal) is in comes_none k n count d e (ap (λ (x : Draft). x.added.items) is ∙ none) (omega (arith, last))
+
+pub met_told : (d e : Draft) → e ≡ record d { reports = e.reports } → d.added.items ≡ [] → AreMet e.added.items
+met_told d e is none = met_none e (ap (λ (x : Draft). x.added.items) is ∙ none)
+
+-- a substitute comes in the place of a goal, after a report
+pub comes_substitute : (k : Held CellName) (n count : ℕ) (d e x : Draft) (g : Goal CellName) (task : Task CellName) → HasBegun d → e ≡ record d { reports = e.reports } → x ≡ record e { added = x.added; last_goal = x.last_goal } → d.added.items ≡ [] → count ≡ n →
+    x.added.items ≡ e.added.items ++ one_for e.last_goal g task → x.last_goal ≡ suc e.last_goal → IsOwned n g → g.priority ≤ monitor_priority → is_monitor_task task ≡ false → IsTaskIn k task → Comes k n count d x
+comes_substitute k n count d e x g task begun first second none same added last own level other inside =
+    let low = own.low in
+    let high = own.high in
+    let last_is : e.last_goal ≡ d.last_goal = ap (λ (y : Draft). y.last_goal) first in
+    let is : x.added.items ≡ one_for d.last_goal g task = added ∙ ap (λ (gs : List (Goal CellName)). gs ++ one_for e.last_goal g task) (ap (λ (y : Draft). y.added.items) first ∙ none) ∙ ap (λ m. one_for m g task) last_is in
+    comes_one k n count d x g task begun (ap (λ (y : Draft). y.removed) second ∙ ap (λ (y : Draft). y.removed) first) (ap (λ (y : Draft). y.aborted.items) second ∙ ap (λ (y : Draft). y.aborted.items) first)
+    (ap (λ (y : Draft). y.ended.items) second ∙ ap (λ (y : Draft). y.ended.items) first) is (last ∙ ap suc last_is) low (omega (arith, high, same)) level other inside
+
+pub met_substitute : (d e x : Draft) (g : Goal CellName) (task : Task CellName) → e ≡ record d { reports = e.reports } → d.added.items ≡ [] → x.added.items ≡ e.added.items ++ one_for e.last_goal g task → is_monitor_task task ≡ false → AreMet x.added.items
+met_substitute d e x g task first none added other =
+    met_one x e.last_goal g task (added ∙ ap (λ (gs : List (Goal CellName)). gs ++ one_for e.last_goal g task) (ap (λ (y : Draft). y.added.items) first ∙ none)) other
+
+-- drafts of which only what comes is another, after one of which only the count of reports is
+pub substitute_rest : (d e x : Draft) → e ≡ record d { reports = e.reports } → x ≡ record e { added = x.added; last_goal = x.last_goal } → x ≡ record d { reports = x.reports; added = x.added; last_goal = x.last_goal }
+substitute_rest d e x p q =
+    let same : x.reports ≡ e.reports = ap (λ (y : Draft). y.reports) q in
+    q
+    ∙ ap (λ (y : Draft). let z : Draft = record y { added = x.added; last_goal = x.last_goal } in z) p
+    ∙ ap (λ n. let z : Draft = record d { reports = n; added = x.added; last_goal = x.last_goal } in z) (sym same)
