@@ -177,11 +177,33 @@ pub record IsAsked (h mid : Held CellName) (kind : BuiltIn) (term message : Cell
   pub grown : Grown (with_variable h) mid
   pub exception : IsExceptionWith built (with_variable h) mid kind term (Variable h.variables) message
 
+-- what is after a new variable and an exception with it
+pub asked : (h next mid : Held CellName) (kind : BuiltIn) (term message : Cell CellName) (v : ℕ) → IsFormed h → IsIn h term → (v ≡ h.variables) × (next ≡ with_variable h) → Grown next mid → IsExceptionWith built next mid kind term (Variable v) message → IsAsked h mid kind term message
+asked h next mid kind term message v p i fresh g e =
+    let G : Held CellName → Type 0 = λ x. Grown x mid in
+    let E : Held CellName → Type 0 = λ x. IsExceptionWith built x mid kind term (Variable v) message in
+    let V : ℕ → Type 0 = λ n. IsExceptionWith built (with_variable h) mid kind term (Variable n) message in
+    record { formed = p; inside = i; grown = subst G fresh.1 g; exception = subst V fresh.0 (subst E fresh.1 e) }
+
 in_next : (h : Held CellName) (x : Cell CellName) → IsIn h x → IsIn (with_variable h) x
 in_next h (Variable v) i = omega arith
 in_next h (Structure s) i = i
 in_next h (Integer n) i = tt
 in_next h (Atom a) i = tt
+
+-- a cell that was there is there after a new variable
+pub next_still : (h next : Held CellName) (v : ℕ) (x : Cell CellName) → (v ≡ h.variables) × (next ≡ with_variable h) → IsIn h x → IsIn next x
+next_still h next v x fresh i = let P : Held CellName → Type 0 = λ y. IsIn y x in subst P (sym fresh.1) (in_next h x i)
+
+-- and so is the variable
+pub next_there : (h next : Held CellName) (v : ℕ) → (v ≡ h.variables) × (next ≡ with_variable h) → IsIn next (Variable v)
+next_there h next v fresh =
+    let P : Held CellName → Type 0 = λ y. IsIn y (Variable v) in
+    let e = fresh.0 in
+    subst P (sym fresh.1) (omega (arith, e))
+
+pub next_grown : (h next : Held CellName) (v : ℕ) → (v ≡ h.variables) × (next ≡ with_variable h) → Grown h next
+next_grown h next v fresh = let P : Held CellName → Type 0 = λ y. Grown h y in subst P (sym fresh.1) (Grown-variable h)
 
 asked_agree : (h mid : Held CellName) (kind : BuiltIn) (term message : Cell CellName) → IsAsked h mid kind term message → (f : Reading) → Agree h (meaning f mid) (meaning f h)
 asked_agree h mid kind term message a f x i = a.exception.others f x (in_next h x i) ∙ term_of-variable f h x
@@ -194,6 +216,13 @@ asked_means h mid kind term message a f reads =
 
 pub asked_grown : (h mid : Held CellName) (kind : BuiltIn) (term message : Cell CellName) → IsAsked h mid kind term message → Grown h mid
 asked_grown h mid kind term message a = Grown-trans h (with_variable h) mid (Grown-variable h) a.grown
+
+-- the new variable is of each store that is later
+pub new_in : (h mid k : Held CellName) (kind : BuiltIn) (term message : Cell CellName) → IsAsked h mid kind term message → Grown mid k → IsIn k (Variable h.variables)
+new_in h mid k kind term message a g =
+    let more : mid.variables ≡ h.variables + 1 = a.exception.variables in
+    let le = g.variables in
+    omega (arith, more, le)
 
 -- the new variable stays unbound while the exception is reported
 pub new_stays : (h mid k : Held CellName) (kind : BuiltIn) (term message : Cell CellName) (ss : List (Shoen CellName)) (n : ℕ) → IsAsked h mid kind term message → AreShoensIn h ss → KeepsFree n ss mid k → (f : Reading) → Reads built f →
@@ -214,6 +243,12 @@ told_here h mid k kind term message t d n made a i told f reads s goals names =
     ∙ ap (λ (p : Option model.Shoen). is_reported_of p M d.reports) (sym (found_in (meaning f mid) n t.shoens))
     ∙ ap (λ (m : Term). is_reported_of (model.shoen_at n (map (shoen_with (meaning f mid)) t.shoens)) m d.reports) (sym (asked_means h mid kind term message a f reads))
     ∙ sym (told.is f reads s goals)
+
+-- ---- drafts after reports
+
+-- a draft that has begun still has after a report
+pub told_begun : (d e : Draft) → e ≡ record d { reports = e.reports } → HasBegun d → HasBegun e
+told_begun d e is b = let P : Draft → Type 0 = λ x. HasBegun x in subst P (sym is) (record { aborted = b.aborted; ended = b.ended; removed = b.removed })
 
 -- ---- exceptions by the rules
 
@@ -297,6 +332,18 @@ drafts_substituted h mid k t u d e x goal kind term message two a shoens told fr
     (new_stays h mid k kind term message t.shoens goal.shoen a shoens free f knows.reads))
     all
 
+-- with what the code has for the substitute: a goal with the variable's number
+pub drafts_asked : (h mid k : Held CellName) (t u : Tree CellName) (d e x : Draft) (goal : Goal CellName) (kind : BuiltIn) (term message : Cell CellName) (v : ℕ) (made : Bool) → d.rules ≡ Two → HasBegun d → IsOwned (length t.shoens) goal → IsAsked h mid kind term message → AreShoensIn h t.shoens → v ≡ h.variables →
+    made ≡ true → IsTold goal.shoen message mid k t.shoens d made → KeepsFree goal.shoen t.shoens mid k → DraftsAll (λ f. report goal.shoen (meaning f mid message)) mid k t u d e → Grown mid k → length u.shoens ≡ length t.shoens → e ≡ record d { reports = e.reports } →
+    x.added.items ≡ e.added.items ++ one_for e.last_goal goal (Substitutes (Variable v)) → x.last_goal ≡ suc e.last_goal → x ≡ record e { added = x.added; last_goal = x.last_goal } →
+    DraftsAll (λ f. raised (goal_with (meaning f h) goal) (text_of kind) (meaning f h term)) h k t u d x
+drafts_asked h mid k t u d e x goal kind term message v made two begun own a shoens number so told free reporting g count first added last is =
+    let N : ℕ → Type 0 = λ n. x.added.items ≡ e.added.items ++ one_for e.last_goal goal (Substitutes (Variable n)) in
+    let T : Bool → Type 0 = λ b. IsTold goal.shoen message mid k t.shoens d b in
+    let O : ℕ → Type 0 = λ n. IsOwned n goal in
+    drafts_substituted h mid k t u d e x goal kind term message two a shoens (subst T so told) free reporting
+    (drafts_replaced k u e x goal (Substitutes (Variable h.variables)) (told_begun d e first begun) (new_in h mid k kind term message a g) (subst O (sym count) own) (subst N number added) last is)
+
 -- going back to a mark from before the new variable, after a report that wasn't made, leaves the store as it was, and what a report
 -- without the variable leaves of the rest
 pub drafts_unsubstituted : (h mid k : Held CellName) (t u : Tree CellName) (d e : Draft) (goal : Goal CellName) (kind : BuiltIn) (term message : Cell CellName) → d.rules ≡ Two → IsAsked h mid kind term message → AreShoensIn h t.shoens →
@@ -317,6 +364,14 @@ has_grown old new grown hooks = record { held = grown; hooks = ap (take (length 
 pub can_go_back : (old new : Kept CellName) (mark : Point) → mark ≡ point_of old → IsFormed old.held → Grown old.held new.held → new.hooks ≡ old.hooks → (k : Kept CellName) × ((mark ≡ point_of k) × (IsFormed k.held × HasGrown k new))
 can_go_back old new mark is formed grown hooks = (old, (is, (formed, has_grown old new grown hooks)))
 
+-- and is then as it was
+pub went_back : (old new back : Kept CellName) (mark : Point) → ((k : Kept CellName) → mark ≡ point_of k → HasGrown k new → back.held ≡ k.held) → mark ≡ point_of old → Grown old.held new.held → new.hooks ≡ old.hooks → back.held ≡ old.held
+went_back old new back mark held is grown hooks = held old is (has_grown old new grown hooks)
+
+-- a store after a new variable, and after what has come since
+pub grown_since : (h next mid k : Held CellName) (v : ℕ) → (v ≡ h.variables) × (next ≡ with_variable h) → Grown next mid → Grown mid k → Grown h k
+grown_since h next mid k v fresh g more = Grown-trans h mid k (Grown-trans h next mid (next_grown h next v fresh) g) more
+
 -- ---- goals that were made whole
 
 -- an exception of a goal that was made whole before
@@ -328,11 +383,7 @@ whole_turns ms h mid k w v goal kind cell x g e i next =
     (λ f knows s. ap (λ t. raised (goal_with (meaning f h) goal) kind t (worked f s h w)) (sym (e.means f knows.reads)))
     (turns_then ms (λ f s. s) (λ f. raised (goal_with (meaning f mid) goal) kind (meaning f mid x)) h mid k w w v first (next first.inside))
 
--- ---- drafts after reports
-
--- a draft that has begun still has after a report
-pub told_begun : (d e : Draft) → e ≡ record d { reports = e.reports } → HasBegun d → HasBegun e
-told_begun d e is b = let P : Draft → Type 0 = λ x. HasBegun x in subst P (sym is) (record { aborted = b.aborted; ended = b.ended; removed = b.removed })
+-- ---- what comes
 
 -- after a report alone none comes
 pub comes_told : (k : Held CellName) (n count : ℕ) (d e : Draft) → e ≡ record d { reports = e.reports } → d.added.items ≡ [] → Comes k n count d e
@@ -363,3 +414,6 @@ substitute_rest d e x p q =
     q
     ∙ ap (λ (y : Draft). let z : Draft = record y { added = x.added; last_goal = x.last_goal } in z) p
     ∙ ap (λ n. let z : Draft = record d { reports = n; added = x.added; last_goal = x.last_goal } in z) (sym same)
+
+pub told_rest : (d e : Draft) → e ≡ record d { reports = e.reports } → e ≡ record d { reports = e.reports; added = e.added; last_goal = e.last_goal }
+told_rest d e is = is ∙ sym (ap (λ (y : Draft). let z : Draft = record d { reports = e.reports; added = y.added; last_goal = y.last_goal } in z) is)
