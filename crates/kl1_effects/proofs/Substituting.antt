@@ -175,7 +175,7 @@ pub record IsAsked (h mid : Held CellName) (kind : BuiltIn) (term message : Cell
   pub formed : IsFormed h
   pub inside : IsIn h term
   pub grown : Grown (with_variable h) mid
-  pub exception : IsExceptionWith built (with_variable h) mid kind term (Variable h.variables) message
+  pub asks : IsExceptionWith built (with_variable h) mid kind term (Variable h.variables) message
 
 -- what is after a new variable and an exception with it
 pub asked : (h next mid : Held CellName) (kind : BuiltIn) (term message : Cell CellName) (v : ℕ) → IsFormed h → IsIn h term → (v ≡ h.variables) × (next ≡ with_variable h) → Grown next mid → IsExceptionWith built next mid kind term (Variable v) message → IsAsked h mid kind term message
@@ -183,7 +183,7 @@ asked h next mid kind term message v p i fresh g e =
     let G : Held CellName → Type 0 = λ x. Grown x mid in
     let E : Held CellName → Type 0 = λ x. IsExceptionWith built x mid kind term (Variable v) message in
     let V : ℕ → Type 0 = λ n. IsExceptionWith built (with_variable h) mid kind term (Variable n) message in
-    record { formed = p; inside = i; grown = subst G fresh.1 g; exception = subst V fresh.0 (subst E fresh.1 e) }
+    record { formed = p; inside = i; grown = subst G fresh.1 g; asks = subst V fresh.0 (subst E fresh.1 e) }
 
 in_next : (h : Held CellName) (x : Cell CellName) → IsIn h x → IsIn (with_variable h) x
 in_next h (Variable v) i = omega arith
@@ -206,11 +206,11 @@ pub next_grown : (h next : Held CellName) (v : ℕ) → (v ≡ h.variables) × (
 next_grown h next v fresh = let P : Held CellName → Type 0 = λ y. Grown h y in subst P (sym fresh.1) (Grown-variable h)
 
 asked_agree : (h mid : Held CellName) (kind : BuiltIn) (term message : Cell CellName) → IsAsked h mid kind term message → (f : Reading) → Agree h (meaning f mid) (meaning f h)
-asked_agree h mid kind term message a f x i = a.exception.others f x (in_next h x i) ∙ term_of-variable f h x
+asked_agree h mid kind term message a f x i = a.asks.others f x (in_next h x i) ∙ term_of-variable f h x
 
 asked_means : (h mid : Held CellName) (kind : BuiltIn) (term message : Cell CellName) → IsAsked h mid kind term message → (f : Reading) → Reads built f → meaning f mid message ≡ exception_with (text_of kind) (meaning f h term) (variable h.variables)
 asked_means h mid kind term message a f reads =
-    a.exception.means f reads
+    a.asks.means f reads
     ∙ ap (λ (t : Term). exception_with (text_of kind) t (meaning f (with_variable h) (Variable h.variables))) (term_of-variable f h term)
     ∙ ap (λ (t : Term). exception_with (text_of kind) (meaning f h term) t) (new_means f h a.formed)
 
@@ -220,7 +220,7 @@ asked_grown h mid kind term message a = Grown-trans h (with_variable h) mid (Gro
 -- the new variable is of each store that is later
 pub new_in : (h mid k : Held CellName) (kind : BuiltIn) (term message : Cell CellName) → IsAsked h mid kind term message → Grown mid k → IsIn k (Variable h.variables)
 new_in h mid k kind term message a g =
-    let more : mid.variables ≡ h.variables + 1 = a.exception.variables in
+    let more : mid.variables ≡ h.variables + 1 = a.asks.variables in
     let le = g.variables in
     omega (arith, more, le)
 
@@ -228,9 +228,9 @@ new_in h mid k kind term message a g =
 pub new_stays : (h mid k : Held CellName) (kind : BuiltIn) (term message : Cell CellName) (ss : List (Shoen CellName)) (n : ℕ) → IsAsked h mid kind term message → AreShoensIn h ss → KeepsFree n ss mid k → (f : Reading) → Reads built f →
     meaning f k (Variable h.variables) ≡ variable h.variables
 new_stays h mid k kind term message ss n a i free f reads =
-    let more : mid.variables ≡ h.variables + 1 = a.exception.variables in
+    let more : mid.variables ≡ h.variables + 1 = a.asks.variables in
     free h.variables (omega (arith, more)) (new_no_tail h mid ss n a.formed i (asked_agree h mid kind term message a)) f reads
-    (a.exception.others f (Variable h.variables) (omega arith) ∙ new_means f h a.formed)
+    (a.asks.others f (Variable h.variables) (omega arith) ∙ new_means f h a.formed)
 
 -- whether the exception is reported is told of the exception without the variable
 pub told_here : (h mid k : Held CellName) (kind : BuiltIn) (term message : Cell CellName) (t : Tree CellName) (d : Draft) (n : ℕ) (made : Bool) → IsAsked h mid kind term message → AreShoensIn h t.shoens → IsTold n message mid k t.shoens d made →
@@ -283,8 +283,9 @@ new_turns ms h w i = record {
   inside = grown_made h (with_variable h) w (Grown-variable h) i;
   states = λ f knows s.
       let some = i.some in
+      let last : suc (h.variables - 1) ≡ (h.variables + 1) - 1 = omega arith in
       rereads s (meaning f h) (meaning f (with_variable h)) (suc (h.variables - 1)) h w (λ x j. sym (term_of-variable f h x)) i
-      ∙ ap (λ n. read_as s (meaning f (with_variable h)) n w) (omega arith);
+      ∙ ap (λ n. read_as s (meaning f (with_variable h)) n w) last;
 }
 
 -- what becomes of a state whose goal gets a substitute for this term, with this message and this last variable
@@ -322,7 +323,7 @@ drafts_substituted h mid k t u d e x goal kind term message two a shoens told fr
     let tells : Reading → State → State = λ f. report goal.shoen (meaning f mid message) in
     let stands : Reading → State → State = λ f. replaced_by (goal_with (meaning f k) goal) (task_with (meaning f k) (Substitutes (Variable h.variables))) in
     let first = new_turns ms h w i in
-    let second = grown_turns ms (with_variable h) mid w a.grown a.exception.variables a.exception.others first.inside in
+    let second = grown_turns ms (with_variable h) mid w a.grown a.asks.variables a.asks.others first.inside in
     let both = turns_then ms new (λ f s. s) h (with_variable h) mid w w w first second in
     let third = reporting ms goals names both.inside in
     let so_far = turns_then ms new tells h mid k w w v both third in
@@ -358,7 +359,7 @@ drafts_unsubstituted h mid k t u d e goal kind term message two a shoens told dr
 
 -- a store that has only grown, by no hook, still has all that it had
 pub has_grown : (old new : Kept CellName) → Grown old.held new.held → new.hooks ≡ old.hooks → HasGrown old new
-has_grown old new grown hooks = record { held = grown; hooks = ap (take (length old.hooks)) hooks ∙ take_all old.hooks (length old.hooks) (omega arith) }
+has_grown old new grown hooks = record { held = grown; hooks = ap (take (length old.hooks)) hooks ∙ take_all (length old.hooks) old.hooks (omega arith) }
 
 -- so it can go back to its mark
 pub can_go_back : (old new : Kept CellName) (mark : Point) → mark ≡ point_of old → IsFormed old.held → Grown old.held new.held → new.hooks ≡ old.hooks → (k : Kept CellName) × ((mark ≡ point_of k) × (IsFormed k.held × HasGrown k new))
