@@ -14,7 +14,7 @@ use Rattle.kl1_effects.specs.Reports.{IsTold}
 use Rattle.kl1_effects.proofs.States.{shoens_grown}
 use Rattle.kl1_effects.proofs.Frames.{on_ok_both}
 use Rattle.kl1_effects.proofs.Reported.{dropped_in}
-use Rattle.kl1_effects.proofs.Substituting.{asked, asked_grown, next_still, next_there, next_grown, new_in, drafts_asked, drafts_unsubstituted, grown_since, can_go_back, has_grown, went_back, comes_told, met_told, comes_substitute, told_rest}
+use Rattle.kl1_effects.proofs.Substituting.{asked, next_still, next_there, next_grown, new_in, drafts_asked, drafts_unsubstituted, grown_since, can_go_back, has_grown, went_back, comes_told, met_told, comes_substitute, told_rest}
 use Rattle.kl1_effects.proofs.reporting.raise_with_substitute.Goals as goal
 
 pub exception_with-requires-clause-goal : goal.exception_with-requires-clause-goal
