@@ -41,6 +41,8 @@ pub mod StartSettled
 pub mod ControlsKept
 pub mod Effected
 pub mod Exchanged
+pub mod Exchanging
+pub mod Spares
 pub mod Respelled
 pub mod Named
 pub mod ReducedKept

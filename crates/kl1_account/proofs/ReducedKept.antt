@@ -27,6 +27,7 @@ use Rattle.kl1_effects.specs.Drafts.{goals_left, names_with, made_of}
 use Rattle.kl1_effects.specs.Installing.{IsBegun, goals_after}
 use Rattle.kl1_effects.specs.Settled.{AreSettled}
 use Rattle.kl1_account.specs.Keeping.{IsKept}
+use Rattle.kl1_account.specs.Exchanging.{exchanged}
 use Rattle.kl1_account.specs.Waking.{KeepControls}
 use Rattle.kl1_account.specs.Finishing.{SameFlags, Finishes}
 use Rattle.kl1_effects.specs.Leaving.{Leaves}
@@ -38,7 +39,7 @@ use Rattle.kl1_effects.proofs.States.{goals_grown}
 use Rattle.kl1_account.proofs.Restood.{each_is}
 use Rattle.kl1_account.proofs.StartKept.{owned_more, up_to_more}
 use Rattle.kl1_account.proofs.Finished.{known_after, next_owned}
-use Rattle.kl1_account.proofs.Exchanged.{exchanged, with_spare, spare_texts, spare_fits, spare_reads, exchanged_fits, settled_alike}
+use Rattle.kl1_account.proofs.Exchanged.{with_spare, spare_texts, spare_fits, spare_reads, exchanged_fits, settled_alike}
 use Rattle.kl1_account.proofs.Respelled.{variables_respelled, goals_respelled, shoens_respelled, spare_again}
 
 -- a reduction of an account was drafted: the draft began, effects have left a tree and another draft, the numbers of more goals may have
@@ -52,7 +53,7 @@ pub record IsDrafted (a : Account) (n c : ℕ) (old mid new : Kept CellName) (t 
   pub grown : Grown old.held mid.held
   pub hooks : mid.hooks ≡ old.hooks
   pub same : new.held ≡ mid.held
-  pub begun : IsBegun removed a.last_goal a.variables a.nodes a.reports start
+  pub begun : IsBegun removed a.rules a.last_goal a.variables a.nodes a.reports start
   pub leaves : Leaves number mid.held t u reached start effected
   pub shoens_in : AreShoensIn mid.held u.shoens
   pub effect : IsEffect a n c mid.held u effected
