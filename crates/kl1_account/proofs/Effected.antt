@@ -69,7 +69,7 @@ pub fits_knows : (a : Account) (hooks : List Hook) (known : ℕ) (f : Reading) �
 fits_knows a hooks known f kept fits = record { reads = fits.reads; rows = kept.rows f fits }
 
 -- what a draft that has begun makes of an account has the cells of its store
-pub begun_inside : (a : Account) (hooks : List Hook) (known removed : ℕ) (t : Tree CellName) (d : Draft) → IsKept a hooks known → t.shoens ≡ a.shoens → t.work ≡ a.work → IsBegun removed a.last_goal a.variables a.nodes a.reports d → IsMadeIn a.held (made_of a.goals (texts_of a.names) t d)
+pub begun_inside : (a : Account) (hooks : List Hook) (known removed : ℕ) (t : Tree CellName) (d : Draft) → IsKept a hooks known → t.shoens ≡ a.shoens → t.work ≡ a.work → IsBegun removed a.rules a.last_goal a.variables a.nodes a.reports d → IsMadeIn a.held (made_of a.goals (texts_of a.names) t d)
 begun_inside a hooks known removed t d kept shoens work begun =
     let P : Made → Type 0 = λ w. IsMadeIn a.held w in
     let first : IsMadeIn a.held (made_first a removed) = record {
@@ -157,7 +157,7 @@ names_read a hooks known n c g x p places text made.Goes ms more number name kep
 -- what a goal does is the effect of its reduction
 pub does_effect : (a : Account) (hooks : List Hook) (known n c : ℕ) (g : Goal CellName) (x : Qualified CellName) (p : Predicate CellName) (places : List (Place CellName)) (text : List ℕ) (made : Move CellName) (mid : Held CellName) (t u : Tree CellName) (start d : Draft) →
     IsKept a hooks known → IsSteppable a.goals n c g → g.number ≡ n → g.task ≡ Reduces x → IsMade a.held a.modules a.entries x c p places text made → IsFormed a.held → MoveIn a.held p places text (Some made) →
-    t.shoens ≡ a.shoens → t.work ≡ a.work → IsBegun g.number a.last_goal a.variables a.nodes a.reports start →
+    t.shoens ≡ a.shoens → t.work ≡ a.work → IsBegun g.number a.rules a.last_goal a.variables a.nodes a.reports start →
     Does p made places text g x a.goals a.names a.held mid t u start d → d.name ≡ name_for made a.names text → IsEffect a n c mid u d
 does_effect a hooks known n c g x p places text made mid t u start d kept is number task makes formed inside shoens work begun does name more last published f fits =
     let ms = a.modules ++ as_modules more in
@@ -181,7 +181,7 @@ does_effect a hooks known n c g x p places text made mid t u start d kept is num
 
 -- what a monitor reads is the effect of its reduction
 pub heard_effect : (a : Account) (hooks : List Hook) (known n c : ℕ) (g : Goal CellName) (k : Control CellName) (mid : Held CellName) (t u : Tree CellName) (start d : Draft) →
-    IsKept a hooks known → IsSteppable a.goals n c g → g.task ≡ Monitor → HeardAs a.held a.shoens a.entries g c k → t.shoens ≡ a.shoens → t.work ≡ a.work → IsBegun 0 a.last_goal a.variables a.nodes a.reports start →
+    IsKept a hooks known → IsSteppable a.goals n c g → g.task ≡ Monitor → HeardAs a.held a.shoens a.entries g c k → t.shoens ≡ a.shoens → t.work ≡ a.work → IsBegun 0 a.rules a.last_goal a.variables a.nodes a.reports start →
     Reads g.shoen k a.goals (texts_of a.names) a.held mid t u start d → d.name ≡ None → d.spelled ≡ None → IsEffect a n c mid u d
 heard_effect a hooks known n c g k mid t u start d kept is task hears shoens work begun reads unnamed unspelled more last published f fits =
     let knows : Knows a.modules f = fits_knows a hooks known f kept (published.named.fits f fits) in

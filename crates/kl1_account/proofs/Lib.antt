@@ -43,6 +43,7 @@ pub mod Effected
 pub mod Exchanged
 pub mod Exchanging
 pub mod Spares
+pub mod Answered
 pub mod Respelled
 pub mod Named
 pub mod ReducedKept

@@ -86,7 +86,7 @@ one_less n from (x ∷ gs) g up e is = by_case (x.number == n) refl e (λ f. one
     by_case false q f k = counted (p x) (k f)
 
 -- if a draft has begun that removes a goal which is no monitor, one less acts
-pub alive_left : (n last variables nodes reports alive : ℕ) (d : Draft) (gs : List (Goal CellName)) (g : Goal CellName) (x : Qualified CellName) → IsBegun n last variables nodes reports d → AreInOrder gs → find (has_number n) gs ≡ Some g → g.task ≡ Reduces x →
+pub alive_left : (n : ℕ) (rules : Rules) (last variables nodes reports alive : ℕ) (d : Draft) (gs : List (Goal CellName)) (g : Goal CellName) (x : Qualified CellName) → IsBegun n rules last variables nodes reports d → AreInOrder gs → find (has_number n) gs ≡ Some g → g.task ≡ Reduces x →
     alive ≡ count_by (λ k. not (is_monitor k)) gs → alive ≡ suc (count_by (λ k. not (is_monitor k)) (goals_left (gs ++ d.added.items) d))
 alive_left n last variables nodes reports alive d gs g x begun order found task is =
     let p : Goal CellName → Bool = λ k. not (is_monitor k) in
@@ -179,7 +179,7 @@ is_new h p places text move.GivesWay known i = tt
 -- what a monitor reads is drafted as it is to be
 pub heard_reduces : (a : Account) (n c known : ℕ) (g : Goal CellName) (k : Control CellName) (mark : Point) (old mid new : Kept CellName) (t u : Tree CellName) (table : Tabled CellName) (reached : List ℕ) (start effected told finished : Draft) →
     IsKept a old.hooks known → IsSteppable a.goals n c g → g.task ≡ Monitor → HeardAs a.held a.shoens a.entries g c k → a.entries < most_entries → AreSingle a.goals →
-    old.held ≡ a.held → t.shoens ≡ a.shoens → t.work ≡ a.work → mark ≡ point_of old → IsFormed old.held → IsBegun 0 a.last_goal a.variables a.nodes a.reports start →
+    old.held ≡ a.held → t.shoens ≡ a.shoens → t.work ≡ a.work → mark ≡ point_of old → IsFormed old.held → IsBegun 0 a.rules a.last_goal a.variables a.nodes a.reports start →
     Reads g.shoen k a.goals (texts_of a.names) a.held mid.held t u start effected → AreShoensIn mid.held u.shoens → Leaves g.shoen mid.held t u [] start effected → IsHeard start effected → Grown old.held mid.held → mid.hooks ≡ old.hooks →
     told ≡ record effected { told = told.told } → told.told.items ≡ effected.told.items ++ n ∷ [] → Finishes a.modules mark mid new u a.goals table reached told finished → new.held ≡ mid.held → table.shoens ≡ known → IsReduced a n c new u table finished
 heard_reduces a n c known g k mark old mid new t u table reached start effected told finished kept is task hears room single held shoens work at formed begun reads inside leaves rest grown hooks tells pushed finishes same count =
@@ -219,7 +219,7 @@ heard_reduces a n c known g k mark old mid new t u table reached start effected 
 -- what a goal does is drafted as it is to be
 pub does_reduces : (a : Account) (c known : ℕ) (g : Goal CellName) (x : Qualified CellName) (p : Predicate CellName) (places : List (Place CellName)) (text : List ℕ) (made : Move CellName) (mark : Point) (old mid new : Kept CellName) (t u : Tree CellName) (table : Tabled CellName) (reached : List ℕ) (start effected finished : Draft) →
     IsKept a old.hooks known → IsSteppable a.goals g.number c g → g.task ≡ Reduces x → IsMade a.held a.modules a.entries x c p places text made → MoveIn a.held p places text (Some made) →
-    old.held ≡ a.held → t.shoens ≡ a.shoens → t.work ≡ a.work → mark ≡ point_of old → IsFormed a.held → IsBegun g.number a.last_goal a.variables a.nodes a.reports start →
+    old.held ≡ a.held → t.shoens ≡ a.shoens → t.work ≡ a.work → mark ≡ point_of old → IsFormed a.held → IsBegun g.number a.rules a.last_goal a.variables a.nodes a.reports start →
     Does p made places text g x a.goals a.names a.held mid.held t u start effected → AreShoensIn mid.held u.shoens → Leaves 0 mid.held t u reached start effected → effected.name ≡ name_for made a.names text →
     IsSpelledIn effected.spelled mid.held → IsSparedIn effected.spelled mid.held → HasName effected.spelled effected.name → Grown old.held mid.held → mid.hooks ≡ old.hooks →
     Finishes a.modules mark mid new u a.goals table reached effected finished → new.held ≡ mid.held → table.shoens ≡ known → IsReduced a g.number c new u table finished
@@ -253,8 +253,9 @@ does_reduces a c known g x p places text made mark old mid new t u table reached
     })
 
 -- a draft that has begun with what an account has, once it removes goal `n`
-pub begun_for : (n : ℕ) (d : Draft) → IsBegun 0 d.last_goal d.variables d.nodes d.reports d → IsBegun n d.last_goal d.variables d.nodes d.reports (record d { removed = n })
+pub begun_for : (n : ℕ) (d : Draft) → IsBegun 0 d.rules d.last_goal d.variables d.nodes d.reports d → IsBegun n d.rules d.last_goal d.variables d.nodes d.reports (record d { removed = n })
 begun_for n d b = record {
+  rules_are = refl;
   removed_is = refl;
   aborted = b.aborted;
   ended = b.ended;

@@ -1,7 +1,7 @@
 -- A reading of names, some of which are new, by the spare numbers of these.
-use Rattle.std.proofs.Common.{◌≡◌, ℕ, zero, suc, ◌+◌, ◌<◌, ◌≤◌, ◌==◌, ◌^◌, Bool, true, false, if◌then◌else◌, List, [], ◌∷◌, length, map, get_or, Option, Some, None, bytes_eq, refl, sym, ap, ap₂, ◌∙◌, subst, inl, inr, arith}
+use Rattle.std.proofs.Common.{◌≡◌, ℕ, zero, suc, ◌+◌, ◌<◌, ◌≤◌, ◌==◌, ◌^◌, ◌⊎◌, Bool, true, false, if◌then◌else◌, List, [], ◌∷◌, length, map, get_or, Option, Some, None, bytes_eq, refl, sym, ap, ap₂, ◌∙◌, subst, inl, inr, arith}
 use Rattle.std.specs.List.{AllByRecursion}
-use Rattle.std.proofs.lemmas.Bool.{cases_Bool, eqb-true, eqb-false, eq-eqb, ne_eqb}
+use Rattle.std.proofs.lemmas.Bool.{cases_lt, eq-eqb, ne_eqb}
 use Rattle.std.proofs.lemmas.Option.{slice_get_past}
 use Rattle.kl1_model.specs.declared.built_in.BuiltIn.{BuiltIn}
 use Rattle.kl1_model.specs.Text.{text_of, built_ins}
@@ -33,7 +33,7 @@ no_text_above ks n small le = rw (no_built_in n le) (none_above ks n small le)
 
 -- a number that each reading reads as a text has 32 bits
 number_small : (ks : List Known) (c : CellName) (t : List ℕ) → AreNames ks → AreSmall ks → ((f : Reading) → Fits ks f → f c ≡ t) → c.number < 2 ^ 32
-number_small ks c t names small reads = by_order (cases_le (2 ^ 32) c.number)
+number_small ks c t names small reads = by_order (cases_lt c.number (2 ^ 32))
   where
     other : (m : ℕ) → m < 32 → 2 ^ 32 ≤ c.number → m ∷ c.number ∷ [] ≡ t
     other m low le = sym (ap (text_or_mark m c.number) (no_text_above ks c.number small le)) ∙ reads (marked_reading m ks) (marked_fits m ks low names)
@@ -41,9 +41,9 @@ number_small ks c t names small reads = by_order (cases_le (2 ^ 32) c.number)
     apart : 1 ∷ c.number ∷ [] ≡ 2 ∷ c.number ∷ [] → ⊥
     apart e = let first : 1 ≡ 2 = cc in omega (arith, first)
 
-    by_order : (2 ^ 32 ≤ c.number) ⊎ (c.number < 2 ^ 32) → c.number < 2 ^ 32
-    by_order (inl le) = absurd (apart (other 1 (omega arith) le ∙ sym (other 2 (omega arith) le)))
-    by_order (inr lt) = lt
+    by_order : (c.number < 2 ^ 32) ⊎ (2 ^ 32 ≤ c.number) → c.number < 2 ^ 32
+    by_order (inl lt) = lt
+    by_order (inr le) = absurd (apart (other 1 (omega arith) le ∙ sym (other 2 (omega arith) le)))
 
 -- each of these numbers has 32 bits
 abbrev pub AreShort : List CellName → Type 0
