@@ -127,6 +127,7 @@ refused_step a b z n c old new t u r hooks known view back k i f fits =
 -- a draft has begun with what it has
 pub begun_same : (n : ℕ) (rules : Rules) (last variables nodes reports : ℕ) (d : Draft) → IsBegun n rules last variables nodes reports d → IsBegun n d.rules d.last_goal d.variables d.nodes d.reports d
 begun_same n rules last variables nodes reports d b = record {
+  rules_are = refl;
   removed_is = b.removed_is;
   aborted = b.aborted;
   ended = b.ended;
