@@ -36,7 +36,7 @@ use Rattle.kl1_effects.specs.Installing.{IsBegun}
 use Rattle.kl1_effects.specs.Settled.{IsEnabled}
 use Rattle.kl1_account.specs.Waking.{is_among, KeepControls}
 use Rattle.kl1_effects.specs.Outlines.{KeepsOthers}
-use Rattle.kl1_effects.specs.Leaving.{Leaves, IsHeard}
+use Rattle.kl1_effects.specs.Leaving.{Leaves, IsActed, IsHeard}
 use Rattle.kl1_account.specs.Finishing.{Finishes}
 use Rattle.kl1_account.specs.Keeping.{IsKept}
 use Rattle.kl1_acts.specs.Acting.{Reads}
@@ -213,6 +213,7 @@ heard_reduces a n c known g k mark old mid new t u table reached start effected 
       grown = grown;
       hooks = hooks;
       same = same;
+      rules = ap (λ (d : Draft). d.rules) rest ∙ begun.rules_are;
       begun = begun;
       leaves = record { comes = leaves.comes; more = leaves.more; one_opens = leaves.one_opens; work = leaves.work; controls = leaves.controls; flags = λ s e r. leaves.flags s e refl };
       shoens_in = inside;
@@ -232,9 +233,9 @@ pub does_reduces : (a : Account) (c known : ℕ) (g : Goal CellName) (x : Qualif
     IsKept a old.hooks known → IsSteppable a.goals g.number c g → IsToMake a.held a.modules a.entries g.task x c p places text made → MoveIn a.held p places text (Some made) →
     old.held ≡ a.held → t.shoens ≡ a.shoens → t.work ≡ a.work → mark ≡ point_of old → IsFormed a.held → IsBegun g.number a.rules a.last_goal a.variables a.nodes a.reports start →
     Does p made places text g x a.goals a.names a.held mid.held t u start effected → AreShoensIn mid.held u.shoens → Leaves 0 mid.held t u reached start effected → effected.name ≡ name_for made a.names text →
-    IsSpelledIn effected.spelled mid.held → IsSparedIn effected.spelled mid.held → HasName effected.spelled effected.name → Grown old.held mid.held → mid.hooks ≡ old.hooks →
+    IsSpelledIn effected.spelled mid.held → IsSparedIn effected.spelled mid.held → HasName effected.spelled effected.name → IsActed start effected → Grown old.held mid.held → mid.hooks ≡ old.hooks →
     Finishes a.modules mark mid new u a.goals table reached effected finished → new.held ≡ mid.held → table.shoens ≡ known → IsReduced a g.number c new u table finished
-does_reduces a c known g x p places text made mark old mid new t u table reached start effected finished kept is makes within held shoens work at formed begun does inside leaves name spelled spared has grown hooks finishes same count =
+does_reduces a c known g x p places text made mark old mid new t u table reached start effected finished kept is makes within held shoens work at formed begun does inside leaves name spelled spared has rest grown hooks finishes same count =
     let K : ℕ → Type 0 = λ m. IsKept a old.hooks m in
     let N : Option (List ℕ) → Type 0 = λ o. IsNewName a.names o in
     let H : Held CellName → Type 0 = λ h. IsFormed h in
@@ -249,6 +250,7 @@ does_reduces a c known g x p places text made mark old mid new t u table reached
       grown = grown;
       hooks = hooks;
       same = same;
+      rules = ap (λ (d : Draft). d.rules) rest ∙ begun.rules_are;
       begun = begun;
       leaves = leaves;
       shoens_in = inside;

@@ -95,6 +95,6 @@ returns-clause-ok g c =
     does_reduces a c.args.clause c.args.goals.now.shoens c.args.goal c.args.cell c.args.predicate (taken_places c.args.trial.now) c.args.trial.now.text c.args.made c.mark-mark.result c.args.store.now c.do_or_spell.new.store c.finish.new.store c.args.shoens.now c.do_or_spell.new.shoens c.finish.new.goals c.do_or_spell.new.walk.reached.items e c.do_or_spell.new.draft c.finish.new.draft
     (c.requires.kept own) c.requires.steppable c.requires.makes c.requires.inside
     refl refl refl c.mark-mark.ensures.point c.mark-mark.ensures.formed (begun_for c.args.goal.number n c.requires.begun)
-    d.does d.shoens d.leaves d.name d.spelled d.spared d.has d.grown d.hooks
+    d.does d.shoens d.leaves d.name d.spelled d.spared d.has d.rest d.grown d.hooks
     finishes f.held f.count)
     f.finishes
