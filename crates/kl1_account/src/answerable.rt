@@ -40,6 +40,7 @@ fn has_substitutes(rules: Rules) -> bool
 }
 
 /// Puts the rest of the line of a journal for an answer after its first word. After an error some of it may be there.
+#[tactic(auto, using(crate::proofs::StartLines::answer_is))]
 fn put_answer(
     alloc: Global,
     line: &mut Vec<u8>,
