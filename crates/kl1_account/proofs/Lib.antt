@@ -44,6 +44,8 @@ pub mod Exchanged
 pub mod Exchanging
 pub mod Spares
 pub mod Answered
+pub mod AnswerSteps
+pub mod AnswerKept
 pub mod Respelled
 pub mod Named
 pub mod ReducedKept
