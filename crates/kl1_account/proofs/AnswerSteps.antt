@@ -255,3 +255,13 @@ refused_by rules h ss names c n report goal o r is a = let P : Answering → Typ
 
 pub answerable_by : (rules : Rules) (h : Held CellName) (ss : List (Shoen CellName)) (names : List Known) (c : Counted) (n report : ℕ) (goal code : Term) (v : ℕ) (o : Answering) → o ≡ Coded code v → AnswersAs rules h ss names c n report goal o → IsAnswerable rules h ss names c n report goal code v
 answerable_by rules h ss names c n report goal code v o is a = let P : Answering → Type 0 = λ z. AnswersAs rules h ss names c n report goal z in subst P is a
+
+-- whether names are few, by the names of a code
+pub few_code : (names : List Known) (goal code : Term) (texts : List (List ℕ)) (b : Bool) → texts ≡ with_names [] (names_of code) → code ≡ goal → nat_lt most_names (length (with_texts (texts_of names) texts)) ≡ b → nat_lt most_names (length (with_texts (texts_of names) (with_names [] (names_of goal)))) ≡ b
+few_code names goal code texts b is same e =
+    let N : List (List ℕ) → Type 0 = λ ts. nat_lt most_names (length (with_texts (texts_of names) ts)) ≡ b in
+    subst N (is ∙ ap (λ (x : Term). with_names [] (names_of x)) same) e
+
+-- whether there is room, by what was counted of a goal
+pub room_code : (c : Counted) (goal : Term) (variables nodes : ℕ) (b : Bool) → variables ≡ highest goal → nodes ≡ structures_of goal → has_room_to_answer_beside c variables nodes ≡ b → has_room_to_answer_beside c (highest goal) (structures_of goal) ≡ b
+room_code c goal variables nodes b v k e = sym (ap₂ (has_room_to_answer_beside c) v k) ∙ e

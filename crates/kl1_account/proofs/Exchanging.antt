@@ -2,7 +2,7 @@
 use Rattle.std.proofs.Common.{◌≡◌, ℕ, zero, suc, ◌+◌, ◌<◌, ◌≤◌, ◌==◌, ◌^◌, Bool, true, false, if◌then◌else◌, List, [], ◌∷◌, ◌++◌, length, map, take, drop, get_or, refl, sym, ap, ap₂, ◌∙◌, subst, inl, inr, arith}
 use Rattle.std.specs.Prelude.{Option, Some, None, slice_get, option_map}
 use Rattle.std.proofs.lemmas.Bool.{cases_Bool, eqb-true, eqb-false, eq-eqb}
-use Rattle.std.proofs.lemmas.List.{length-map, drop_more, drop_all}
+use Rattle.std.proofs.lemmas.List.{length-map, length-take, take_all, drop_more, drop_all}
 use Rattle.kl1_model.specs.Term.{Term, atom}
 use Rattle.kl1_model.specs.State as model
 use Rattle.kl1_text.specs.declared.cell_name.CellName.{CellName}
@@ -25,6 +25,7 @@ use Rattle.kl1_effects.specs.Fitting.{Reading}
 use Rattle.kl1_effects.specs.Account.{meaning}
 use Rattle.kl1_effects.specs.Kept.{IsTaskIn, AreGoalsIn, IsOriginIn, IsShoenIn, AreShoensIn}
 use Rattle.kl1_account.specs.Exchanging.{swapped, exchanged, held_with_two, held_exchanged, read_with_two, read_exchanged, IsSpared, AreSpared}
+use Rattle.kl1_effects.proofs.KnownTexts.{next_take}
 use Rattle.kl1_account.proofs.Exchanged.{same_name, swap_first, swap_second, swap_other}
 
 -- ---- names that are changed everywhere
@@ -191,3 +192,16 @@ spared_one names place t o c e found = inl (sym e ∙ ap (option_map (λ (x : Ce
 
 pub spared_new : (names : List Known) (place : ℕ) (t : List ℕ) (o : Option CellName) (c : CellName) → option_map (λ (x : CellName). x.number) o ≡ number_by names t → o ≡ None → c.number ≡ 2 ^ 32 + place → IsSpared names place t c
 spared_new names place t o c e none is = inr (sym e ∙ ap (option_map (λ (x : CellName). x.number)) none, is)
+
+-- a turn of a loop over the names
+pub spared_next : (names : List Known) (texts : List (List ℕ)) (i place : ℕ) (row now : List CellName) (t : List ℕ) (c : CellName) → i < length texts → t ≡ get_or texts i t → place ≡ i → now ≡ row ++ c ∷ [] → IsSpared names place t c → AreSpared names 0 (take i texts) row → AreSpared names 0 (take (i + 1) texts) now
+spared_next names texts i place row now t c within is at pushed one all =
+    let P : ℕ → Type 0 = λ n. IsSpared names n t c in
+    let T : List (List ℕ) → Type 0 = λ ts. AreSpared names 0 ts (row ++ c ∷ []) in
+    let N : List CellName → Type 0 = λ cs. AreSpared names 0 (take (i + 1) texts) cs in
+    let long : place ≡ 0 + length (take i texts) = omega (arith, at, within, length-take i texts) in
+    subst N (sym pushed) (subst T (sym (next_take texts i t within is)) (spared_push names 0 (take i texts) row t c all (subst P long one)))
+
+-- all of them
+pub spared_all : (names : List Known) (texts : List (List ℕ)) (i : ℕ) (row : List CellName) → length texts ≤ i → AreSpared names 0 (take i texts) row → AreSpared names 0 texts row
+spared_all names texts i row le a = let T : List (List ℕ) → Type 0 = λ ts. AreSpared names 0 ts row in subst T (take_all i texts le) a

@@ -1,6 +1,6 @@
 // Spare numbers that stand for names which are new, and numbers that take their places.
 
-ghost use Rattle.std.specs.Prelude.{◌≡◌, [], length, OnOk};
+ghost use Rattle.std.specs.Prelude.{◌≡◌, ◌+◌, [], length, IfOk, OnOk};
 ghost use Rattle.kl1_account.specs.Exchanging.{IsSpared, AreSpared, held_with_two, held_exchanged};
 
 use kl1_effects::AccountNames;
@@ -27,12 +27,20 @@ pub(crate) fn spare_row(
     requires { row.old.items ≡ [] }
     ensures { OnOk result (AreSpared names.now.names 0 texts.now row.new.items) }
 {
-    let mut place: u32 = 0;
+    let mut place = 0;
     for text in texts {
-        row.push(number_or_spare(names, text, place))?;
-        place = place.checked_add(1).ok_or(AllocError)?;
+        let number = number_or_spare(names, text, place);
+        row.push(number)?;
+        place = next_place(place)?;
     }
     Ok(())
+}
+
+/// The place after one. Places that run out are refused as for want of memory.
+fn next_place(place: u32) -> Result<u32, AllocError>
+    ensures { IfOk result (λ next. next ≡ place + 1) }
+{
+    place.checked_add(1).ok_or(AllocError)
 }
 
 /// Lets two numbers stand for one another wherever they stand in a store, without memory. What hangs on variables stays.
