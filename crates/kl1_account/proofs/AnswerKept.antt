@@ -1,5 +1,5 @@
 -- An account after an answer.
-use Rattle.std.proofs.Common.{◌≡◌, ℕ, suc, ◌+◌, ◌-◌, ◌<◌, ◌≤◌, true, List, [], ◌∷◌, ◌++◌, length, map, refl, sym, ap, ap₂, ◌∙◌, arith, subst}
+use Rattle.std.proofs.Common.{◌≡◌, ℕ, suc, ◌+◌, ◌-◌, ◌<◌, ◌≤◌, true, false, List, [], ◌∷◌, ◌++◌, length, map, refl, sym, ap, ap₂, ◌∙◌, arith, subst}
 use Rattle.std.specs.Prelude.{nat_le, Option, Some, None, option_map, codes}
 use Rattle.std.specs.List.{AllByRecursion}
 use Rattle.kl1_model.specs.Limits.{most_entries, most_variables, most_nodes}
@@ -9,11 +9,14 @@ use Rattle.kl1_model.specs.Meaning.{highest, is_numbered}
 use Rattle.kl1_model.specs.Nodes.{structures_of}
 use Rattle.kl1_model.specs.State as model
 use Rattle.kl1_model.specs.State.{State, replace_in_state, names_of, with_names}
-use Rattle.kl1_model.specs.Event.{answer, sent, with_entry, Stepped}
+use Rattle.kl1_model.specs.Event.{answer, sent, refuse, with_entry, Stepped}
 use Rattle.kl1_model.specs.Answering.{answered}
 use Rattle.kl1_model.specs.Opening.{with_next_variables}
 use Rattle.kl1_model.specs.Step.{step}
+use Rattle.kl1_text.specs.Reading.{Reads}
 use Rattle.kl1_text.specs.declared.cell_name.CellName.{CellName}
+use Rattle.kl1_event.specs.declared.refusal.Refusal.{Refusal}
+use Rattle.kl1_event.specs.Views.{refusal_of}
 use Rattle.kl1_atoms.specs.declared.known.Known.{Known}
 use Rattle.kl1_atoms.specs.Names.{AreNames}
 use Rattle.kl1_clause.specs.NameList.{with_texts, IsNameList}
@@ -29,22 +32,22 @@ use Rattle.kl1_goals.specs.declared.goal.Goal.{Goal}
 use Rattle.kl1_ancestors.specs.declared.shoen.Origin.{Origin}
 use Rattle.kl1_ancestors.specs.declared.shoen.Shoen.{Shoen}
 use Rattle.kl1_effects.specs.declared.draft.Draft.{Draft}
-use Rattle.kl1_effects.specs.Fitting.{Reading, Fits}
+use Rattle.kl1_effects.specs.Fitting.{Reading, Fits, built}
 use Rattle.kl1_effects.specs.Account.{Account, Means, meaning, task_with, goal_with, origin_with, shoen_with, state_with, state_of, told_in, aim_with, texts_of}
 use Rattle.kl1_effects.specs.Kept.{IsTaskIn, IsOwned}
 use Rattle.kl1_effects.specs.Naming.{AreSmall, AreNumbersOf}
-use Rattle.kl1_effects.specs.Drafts.{restood}
-use Rattle.kl1_effects.specs.Installing.{goals_after}
+use Rattle.kl1_effects.specs.Drafts.{goals_left, restood}
+use Rattle.kl1_effects.specs.Installing.{IsBegun, AreNext, goals_after, IsFitting}
 use Rattle.kl1_effects.specs.Settled.{IsEnabled, AreSettled}
 use Rattle.kl1_account.specs.declared.counted.Counted.{Counted}
 use Rattle.kl1_account.specs.Keeping.{IsKept}
 use Rattle.kl1_account.specs.Starting.{HasNames}
 use Rattle.kl1_account.specs.Exchanging.{held_exchanged, read_exchanged}
-use Rattle.kl1_account.specs.Answering.{has_room_to_answer_beside, IsAnswerable, IsAnswered}
+use Rattle.kl1_account.specs.Answering.{has_room_to_answer_beside, RefusesAnswer, IsAnswerable, IsAnswered}
 use Rattle.kl1_effects.proofs.States.{Agree, same_state, replaced_state, goals_grown, shoens_grown}
 use Rattle.kl1_account.proofs.Restood.{restood_holds, restood_read}
 use Rattle.kl1_account.proofs.StartSteps.{names_used}
-use Rattle.kl1_account.proofs.Sent.{knows_of}
+use Rattle.kl1_account.proofs.Sent.{knows_of, leaves_all}
 use Rattle.kl1_account.proofs.Exchanged.{settled_alike}
 use Rattle.kl1_account.proofs.Exchanging.{exchanged_means, exchanged_variables, exchanged_goals, exchanged_shoens}
 use Rattle.kl1_account.proofs.Spares.{ReadsSpares, AreOnce, names_once, numbers_short, reads_spares}
@@ -288,3 +291,60 @@ variables_within c variables nodes e = leb-true (c.variables + variables) most_v
 
 pub nodes_within : (c : Counted) (variables nodes : ℕ) → has_room_to_answer_beside c variables nodes ≡ true → c.nodes + nodes ≤ most_nodes
 nodes_within c variables nodes e = leb-true (c.nodes + nodes) most_nodes (and_parts (nat_le (c.variables + variables) most_variables) (nat_le (c.nodes + nodes) most_nodes) e).1
+
+-- ---- by what a draft is
+
+-- a draft that begins with an account's counts, and in which only what was told and what changes is more
+module _ (a : Account) (variables nodes : ℕ) (begun d : Draft) (is : IsBegun 0 a.rules a.last_goal variables nodes a.reports begun) (rest : d ≡ record begun { told = d.told; changes = d.changes }) where
+  added_none : d.added.items ≡ []
+  added_none = ap (λ (z : Draft). z.added.items) rest ∙ is.added
+
+  pub draft_leaves : AllByRecursion (λ g. 0 < g.number) a.goals → goals_after a.goals d ≡ restood d.changes.items a.goals
+  draft_leaves first =
+      leaves_all d (ap (λ (z : Draft). z.removed) rest ∙ is.removed_is) (ap (λ (z : Draft). z.aborted.items) rest ∙ is.aborted) (ap (λ (z : Draft). z.ended.items) rest ∙ is.ended) added_none (ap (λ (z : Draft). z.shifts) rest ∙ is.shifts) a.goals first
+
+  pub draft_fits : (goals : List (Goal CellName)) (shoens room shoen_room : ℕ) → IsFitting goals shoens room shoen_room false d
+  draft_fits goals shoens room shoen_room =
+      let none = added_none in
+      let long : length d.added.items ≡ 0 = ap (λ (gs : List (Goal CellName)). length gs) none in
+      let N : List (Goal CellName) → Type 0 = λ gs. AreNext (restood d.changes.items (goals_left goals d)) shoens gs in
+      record { enough = omega (arith, long); opening = λ e. absurd (cc); next = subst N (sym none) tt }
+
+  pub draft_variables : d.variables ≡ variables
+  draft_variables = ap (λ (z : Draft). z.variables) rest ∙ is.variables_are
+
+  pub draft_nodes : d.nodes ≡ nodes
+  draft_nodes = ap (λ (z : Draft). z.nodes) rest ∙ is.nodes_are
+
+-- all that is known of an answer when its names are published
+pub is_put : (a : Account) (n report v : ℕ) (goal code : Term) (counted : Counted) (spares numbers : List CellName) (texts : List (List ℕ)) (known more : List Known) (old new : Kept CellName) (variables nodes : ℕ) (begun d : Draft) →
+    a.held ≡ old.held → IsAnswerable a.rules a.held a.shoens a.names counted n report goal code v → IsAnswered a.modules a.names code spares v old new a.goals a.shoens d.changes.items → Grown old.held new.held →
+    texts ≡ with_names [] (names_of code) → IsNameList texts → known ≡ a.names → texts_of more ≡ with_texts (texts_of known) texts → AreNumbersOf more texts numbers → ((f : Reading) → Fits more f → Fits known f) → AreNames more → AreSmall more →
+    IsBegun 0 a.rules a.last_goal variables nodes a.reports begun → d ≡ record begun { told = d.told; changes = d.changes } → variables ≡ a.variables + highest goal → nodes ≡ a.nodes + structures_of goal → IsPut a n report v goal code counted spares numbers more old new d
+is_put a n report v goal code counted spares numbers texts known more old new variables nodes begun d held may answered grown are list same names numbers_are fits one small is rest vs ns =
+    let A : Term → Type 0 = λ t. IsAnswered a.modules a.names t spares v old new a.goals a.shoens d.changes.items in
+    let texts_are : texts ≡ with_names [] (names_of goal) = are ∙ ap (λ (t : Term). with_names [] (names_of t)) may.code_is in
+    let N : List (List ℕ) → Type 0 = λ ts. AreNumbersOf more ts numbers in
+    let L : List (List ℕ) → Type 0 = λ ts. IsNameList ts in
+    let F : List Known → Type 0 = λ ks. (f : Reading) → Fits more f → Fits ks f in
+    record {
+      held = held;
+      may = may;
+      answered = subst A may.code_is answered;
+      grown = grown;
+      texts = names ∙ ap₂ (λ (ks : List Known) (ts : List (List ℕ)). with_texts (texts_of ks) ts) same texts_are;
+      numbers_are = subst N texts_are numbers_are;
+      fits = subst F same fits;
+      names = one;
+      small = small;
+      list = subst L texts_are list;
+      variables = draft_variables a variables nodes begun d is rest ∙ vs;
+      nodes = draft_nodes a variables nodes begun d is rest ∙ ns;
+    }
+
+-- an account refuses an answer as was found by its names and what is counted
+pub refused_answer : (a b : Account) (c : Counted) (n report : ℕ) (goal : Term) (r : Refusal) → a ≡ b → RefusesAnswer a.rules a.held a.shoens a.names c n report goal r → ((f : Reading) → HasNames (state_of f a) a.names c) →
+    (f : Reading) → Reads built f → step (state_of f b) (answer n report goal) ≡ refuse (state_of f b) (refusal_of r)
+refused_answer a b c n report goal r view refuses at f reads =
+    let P : Account → Type 0 = λ z. step (state_of f z) (answer n report goal) ≡ refuse (state_of f z) (refusal_of r) in
+    subst P view (refuses f reads (record (state_of f a) { goals = []; shoens = []; last_variable = 0 }) a.goals refl (at f))

@@ -265,3 +265,11 @@ few_code names goal code texts b is same e =
 -- whether there is room, by what was counted of a goal
 pub room_code : (c : Counted) (goal : Term) (variables nodes : ℕ) (b : Bool) → variables ≡ highest goal → nodes ≡ structures_of goal → has_room_to_answer_beside c variables nodes ≡ b → has_room_to_answer_beside c (highest goal) (structures_of goal) ≡ b
 room_code c goal variables nodes b v k e = sym (ap₂ (has_room_to_answer_beside c) v k) ∙ e
+
+-- names are few enough to be published, if the names of a goal are
+pub few_published : (names known : List Known) (goal code : Term) (texts : List (List ℕ)) → code ≡ goal → texts ≡ with_names [] (names_of code) → known ≡ names → nat_lt most_names (length (with_texts (texts_of names) (with_names [] (names_of goal)))) ≡ false → length (with_texts (texts_of known) texts) ≤ most_names
+few_published names known goal code texts same is kept few =
+    let e : length (with_texts (texts_of known) texts) ≡ length (with_texts (texts_of names) (with_names [] (names_of goal))) =
+    ap₂ (λ (ks : List Known) (ts : List (List ℕ)). length (with_texts (texts_of ks) ts)) kept (is ∙ ap (λ (x : Term). with_names [] (names_of x)) same) in
+    let le = ltb-false most_names (length (with_texts (texts_of names) (with_names [] (names_of goal)))) few in
+    omega (arith, e, le)

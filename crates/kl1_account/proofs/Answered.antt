@@ -139,6 +139,12 @@ becomes_goal f h k v x t Clash reads is s z = absurd (not_none (one_by v t) (sym
 
 -- ---- all of it
 
+-- a store that has grown by a goal, and in which variables are bound then
+pub bound_grown : (old one ready two mid : Held CellName) → Grown old one → ready ≡ one → Grown ready two → OnlyBound two mid → Grown old mid
+bound_grown old one ready two mid first same more only =
+    let R : Held CellName → Type 0 = λ h. Grown old h in
+    Grown-trans old two mid (Grown-trans old ready two (subst R (sym same) first) more) (Grown-bound two mid only)
+
 -- an answer is drafted
 pub is_answered : (ms : List Numbered) (known : List Known) (goal : Term) (spares sliced : List CellName) (row : List Instruction) (cells were : List (Cell CellName)) (v count : ℕ) (x : Cell CellName) (u : Unified) (mark : Point) (old : Kept CellName) (one ready two : Held CellName) (mid new : Kept CellName) (goals : List (Goal CellName)) (ss : List (Shoen CellName)) (was changes : List Change) →
     mark ≡ point_of old → IsFormed old.held → 0 < old.held.variables → AreGoalsIn old.held goals → AreInOrder goals → AllByRecursion (λ g. 0 < g.number) goals → AreShoensIn old.held ss → IsUnbound old.held v → is_goal goal ≡ true → IsTrue (is_numbered goal) → count ≡ highest goal → was ≡ [] →
@@ -150,8 +156,7 @@ pub is_answered : (ms : List Numbered) (known : List Known) (goal : Term) (spare
 is_answered ms known goal spares sliced row cells were v count x u mark old one ready two mid new goals ss was changes marked formed some inside order first shoens_in unbound is numbered many none spared row_is slice first_is grown vars ready_is cells_are builds more same settles only hooks wakes held =
     let last = old.held.variables - 1 in
     let t = with_next_variables last goal in
-    let R : Held CellName → Type 0 = λ h. Grown old.held h in
-    let up : Grown old.held mid.held = Grown-trans old.held two mid.held (Grown-trans old.held ready two (subst R (sym ready_is) grown) more) (Grown-bound two mid.held only) in
+    let up : Grown old.held mid.held = bound_grown old.held one ready two mid.held grown ready_is more only in
     let bound : two.bindings ≡ old.held.bindings = same ∙ ap (λ (h : Held CellName). h.bindings) ready_is ∙ ap (λ (h : Held CellName). h.bindings) first_is in
     let free : is_bound v two.bindings ≡ false = ap (is_bound v) bound ∙ unbound.unbound in
     let within = unbound.within in

@@ -64,13 +64,14 @@ pub(crate) fn draft_answer<C: CodeSource>(
     ensures grown { HasGrown store.old store.new }
 {
     let texts = code.names();
+    let row = code.row();
     names.reserve(texts.len())?;
     numbers.reserve(texts.len())?;
     spare_row(names, texts, spares)?;
     let mark = store.mark();
     put_goal_variables(store, count, scratch)?;
-    reserve_goal(store, code.row(), scratch)?;
-    let cell = put_goal(store, spares.as_slice(), code.row(), scratch);
-    store.unify_cells(Cell::Variable(variable), cell)?;
+    reserve_goal(store, row, scratch)?;
+    let cell = put_goal(store, spares.as_slice(), row, scratch);
+    let _unified = store.unify_cells(Cell::Variable(variable), cell)?;
     wake_bound(store, goals, shoens, modules, trial, draft, mark)
 }
