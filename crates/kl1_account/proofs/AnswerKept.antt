@@ -49,7 +49,7 @@ use Rattle.kl1_account.proofs.Restood.{restood_holds, restood_read}
 use Rattle.kl1_account.proofs.StartSteps.{names_used}
 use Rattle.kl1_account.proofs.Sent.{knows_of, leaves_all}
 use Rattle.kl1_account.proofs.Exchanged.{settled_alike}
-use Rattle.kl1_account.proofs.Exchanging.{exchanged_means, exchanged_variables, exchanged_goals, exchanged_shoens}
+use Rattle.kl1_account.proofs.Exchanges.{exchanged_means, exchanged_variables, exchanged_goals, exchanged_shoens}
 use Rattle.kl1_account.proofs.Spares.{ReadsSpares, AreOnce, names_once, numbers_short, reads_spares}
 use Rattle.kl1_account.proofs.AnswerSteps.{step_answerable}
 

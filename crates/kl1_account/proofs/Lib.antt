@@ -41,7 +41,7 @@ pub mod StartSettled
 pub mod ControlsKept
 pub mod Effected
 pub mod Exchanged
-pub mod Exchanging
+pub mod Exchanges
 pub mod Spares
 pub mod Answered
 pub mod AnswerSteps

@@ -9,7 +9,7 @@ use Rattle.kl1_match.specs.GoalCells.{goal_variables}
 use Rattle.kl1_account.specs.Exchanging.{AreSpared}
 use Rattle.kl1_effects.proofs.States.{goals_grown, shoens_grown}
 use Rattle.kl1_account.proofs.StartChecks.{goal_below, goal_named}
-use Rattle.kl1_account.proofs.Exchanging.{spared_count}
+use Rattle.kl1_account.proofs.Exchanges.{spared_count}
 use Rattle.kl1_account.proofs.Answered.{bound_grown, is_answered}
 use Rattle.kl1_account.proofs.answering.draft_answer.Goals as goal
 

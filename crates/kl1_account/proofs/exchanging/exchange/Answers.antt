@@ -1,6 +1,6 @@
 use Rattle.std.proofs.Common.{◌≡◌, ◌∙◌, refl}
 use Rattle.kl1_account.specs.Exchanging.{held_exchanged}
-use Rattle.kl1_account.proofs.Exchanging.{exchanged_next, exchanged_done}
+use Rattle.kl1_account.proofs.Exchanges.{exchanged_next, exchanged_done}
 use Rattle.kl1_account.proofs.exchanging.exchange.Goals as goal
 
 pub loop-place-preserved : goal.loop-place-preserved

@@ -1,6 +1,6 @@
 use Rattle.std.proofs.Common.{◌∙◌, refl, arith}
 use Rattle.kl1_account.specs.Exchanging.{swapped}
-use Rattle.kl1_account.proofs.Exchanging.{swap_renames, from_beginning, with_one, with_two}
+use Rattle.kl1_account.proofs.Exchanges.{swap_renames, from_beginning, with_one, with_two}
 use Rattle.kl1_account.proofs.exchanging.exchange_two.Goals as goal
 
 pub returns-then-spare-eq-number-clause-held : goal.returns-then-spare-eq-number-clause-held

@@ -1,4 +1,4 @@
-use Rattle.kl1_account.proofs.Exchanging.{spared_one, spared_new}
+use Rattle.kl1_account.proofs.Exchanges.{spared_one, spared_new}
 use Rattle.kl1_account.proofs.exchanging.number_or_spare.Goals as goal
 
 pub returns-in-Some : goal.returns-in-Some

@@ -1,5 +1,5 @@
 use Rattle.std.proofs.Common.{◌≡◌, ◌+◌, arith, ap, ◌∙◌}
-use Rattle.kl1_account.proofs.Exchanging.{spared_next, spared_all}
+use Rattle.kl1_account.proofs.Exchanges.{spared_next, spared_all}
 use Rattle.kl1_account.proofs.exchanging.spare_row.Goals as goal
 
 pub loop-text-preserved : goal.loop-text-preserved

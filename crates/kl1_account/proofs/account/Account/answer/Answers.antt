@@ -11,7 +11,7 @@ use Rattle.kl1_account.specs.Accounts.{kept_in}
 use Rattle.kl1_account.specs.Starting.{HasNames}
 use Rattle.kl1_account.specs.Exchanging.{held_exchanged, AreSpared}
 use Rattle.kl1_account.proofs.AnswerSteps.{right_goal, right_numbered, refused_by, answerable_by, few_published}
-use Rattle.kl1_account.proofs.Exchanging.{spared_count}
+use Rattle.kl1_account.proofs.Exchanges.{spared_count}
 use Rattle.kl1_account.proofs.AnswerKept.{is_put, draft_leaves, draft_fits, answer_kept, answer_step, refused_answer, variables_within, nodes_within}
 use Rattle.kl1_account.proofs.account.Account.answer.Goals as goal
 
