@@ -2,11 +2,11 @@
 use Rattle.std.proofs.Common.{◌≡◌, ℕ, suc, ◌+◌, ◌-◌, ◌<◌, ◌≤◌, true, false, List, [], ◌∷◌, ◌++◌, length, map, refl, sym, ap, ap₂, ◌∙◌, arith, subst}
 use Rattle.std.specs.Prelude.{nat_le, Option, Some, None, option_map, codes}
 use Rattle.std.specs.List.{AllByRecursion}
-use Rattle.kl1_model.specs.Limits.{most_entries, most_variables, most_nodes}
+use Rattle.kl1_model.specs.Limits.{most_variables, most_nodes}
 use Rattle.std.proofs.lemmas.Bool.{and_parts, leb-true}
 use Rattle.kl1_model.specs.Term as term
 use Rattle.kl1_model.specs.Term.{Term, structure, replace}
-use Rattle.kl1_model.specs.Meaning.{highest, is_numbered}
+use Rattle.kl1_model.specs.Meaning.{highest}
 use Rattle.kl1_model.specs.Nodes.{structures_of}
 use Rattle.kl1_model.specs.State as model
 use Rattle.kl1_model.specs.State.{State, replace_in_state, names_of, with_names}
@@ -23,7 +23,6 @@ use Rattle.kl1_atoms.specs.Names.{AreNames}
 use Rattle.kl1_clause.specs.NameList.{with_texts, IsNameList}
 use Rattle.kl1_store.specs.declared.cell.Cell.{Cell}
 use Rattle.kl1_store.specs.declared.cell.Cell.TheVariants.{Atom}
-use Rattle.kl1_store.specs.declared.qualified.Qualified.{Qualified}
 use Rattle.kl1_store.specs.Held.{Held, IsIn}
 use Rattle.kl1_store.specs.Hooks.{Hook, Kept}
 use Rattle.kl1_store.specs.Sound.{Grown}
@@ -45,13 +44,13 @@ use Rattle.kl1_account.specs.Keeping.{IsKept}
 use Rattle.kl1_account.specs.Starting.{HasNames}
 use Rattle.kl1_account.specs.Exchanging.{held_exchanged, read_exchanged}
 use Rattle.kl1_account.specs.Answering.{has_room_to_answer_beside, RefusesAnswer, IsAnswerable, IsAnswered}
-use Rattle.kl1_effects.proofs.States.{Agree, same_state, replaced_state, goals_grown, shoens_grown}
+use Rattle.kl1_effects.proofs.States.{same_state, replaced_state, goals_grown, shoens_grown}
 use Rattle.kl1_account.proofs.Restood.{restood_holds, restood_read}
 use Rattle.kl1_account.proofs.StartSteps.{names_used}
 use Rattle.kl1_account.proofs.Sent.{knows_of, leaves_all}
 use Rattle.kl1_account.proofs.Exchanged.{settled_alike}
 use Rattle.kl1_account.proofs.Exchanges.{exchanged_means, exchanged_variables, exchanged_goals, exchanged_shoens}
-use Rattle.kl1_account.proofs.Spares.{ReadsSpares, AreOnce, names_once, numbers_short, reads_spares}
+use Rattle.kl1_account.proofs.Spares.{ReadsSpares, names_once, numbers_short, reads_spares}
 use Rattle.kl1_account.proofs.AnswerSteps.{step_answerable}
 
 -- ---- what two ways of reading have the same, two others have

@@ -1,5 +1,5 @@
 -- What refuses an answer, and the step of one that nothing refuses.
-use Rattle.std.proofs.Common.{◌≡◌, ℕ, ◌+◌, ◌-◌, ◌<◌, ◌≤◌, ◌&&◌, Bool, true, false, if◌then◌else◌, List, [], length, map, refl, sym, ap, ap₂, ◌∙◌, arith, subst}
+use Rattle.std.proofs.Common.{◌≡◌, ℕ, ◌+◌, ◌-◌, ◌<◌, ◌≤◌, ◌&&◌, Bool, true, false, if◌then◌else◌, List, [], length, refl, sym, ap, ap₂, ◌∙◌, arith, subst}
 use Rattle.std.specs.Prelude.{nat_lt, nat_le, Option, Some, None, option_map, option_and_then, unwrap_or}
 use Rattle.std.proofs.lemmas.Bool.{and_parts, ltb-true, ltb-false, leb-true, lt-leb, le-leb, le-ltb, lt-ltb}
 use Rattle.kl1_model.specs.declared.rules.Rules.{Rules}
@@ -12,7 +12,7 @@ use Rattle.kl1_model.specs.Meaning.{highest, is_writable, is_numbered}
 use Rattle.kl1_model.specs.Nodes.{structures_of}
 use Rattle.kl1_model.specs.State as model
 use Rattle.kl1_model.specs.State.{State, has_substitutes, shoen_at, is_living, names_of, with_names}
-use Rattle.kl1_model.specs.Event.{Stepped, answer, sent, refuse, recorded, named, limited, syntax, no_shoen, shoen_ended, answer_refused, too_many_names, limit_passed, journal_full, with_entry, is_number, most_entries, most_names, most_line_bytes}
+use Rattle.kl1_model.specs.Event.{Stepped, answer, sent, refuse, recorded, named, limited, syntax, no_shoen, shoen_ended, too_many_names, journal_full, with_entry, is_number, most_entries, most_names, most_line_bytes}
 use Rattle.kl1_model.specs.Answering.{answer_line, may_answer, has_room_to_answer, unanswered_at, answered, answer_by, answer_in, answer_to}
 use Rattle.kl1_model.specs.Step.{step}
 use Rattle.kl1_text.specs.Reading.{Reads}
@@ -23,7 +23,6 @@ use Rattle.kl1_store.specs.Held.{Held}
 use Rattle.kl1_store.specs.Unbound.{IsUnbound}
 use Rattle.kl1_event.specs.declared.refusal.Refusal.{Refusal}
 use Rattle.kl1_event.specs.declared.refusal.Refusal.TheVariants.{Syntax, NoShoen, Ended, Names, Limit, Journal, Answer}
-use Rattle.kl1_event.specs.Views.{refusal_of}
 use Rattle.kl1_goals.specs.declared.goal.Goal.{Goal}
 use Rattle.kl1_ancestors.specs.declared.shoen.Origin.{Origin}
 use Rattle.kl1_ancestors.specs.declared.shoen.Shoen.{Shoen}

@@ -1,6 +1,6 @@
 -- An answer that is drafted.
-use Rattle.std.proofs.Common.{◌≡◌, ℕ, zero, suc, ◌+◌, ◌-◌, ◌<◌, ◌≤◌, ◌&&◌, ◌||◌, Bool, true, false, if◌then◌else◌, List, [], ◌∷◌, ◌++◌, length, map, drop, refl, sym, ap, ap₂, ◌∙◌, arith, subst, max}
-use Rattle.std.specs.Prelude.{nat_le, Option, Some, None, IsTrue}
+use Rattle.std.proofs.Common.{◌≡◌, ℕ, suc, ◌+◌, ◌-◌, ◌<◌, ◌≤◌, ◌&&◌, ◌||◌, Bool, true, false, if◌then◌else◌, List, [], ◌∷◌, ◌++◌, drop, refl, sym, ap, ◌∙◌, arith, subst, max}
+use Rattle.std.specs.Prelude.{nat_le, Some, None, IsTrue}
 use Rattle.std.specs.List.{AllByRecursion}
 use Rattle.std.proofs.lemmas.Bool.{and_parts, leb-true, ne_eqb, or_from}
 use Rattle.kl1_model.specs.Term.{Term, variable, integer, atom, structure, Terms, none, more, occurs, occurs_in, replace, Replacement, replaced, each_substituted}
@@ -21,7 +21,7 @@ use Rattle.kl1_store.specs.declared.unified.Unified.TheVariants.{Bound, Clash}
 use Rattle.kl1_store.specs.Held.{Held, is_bound, IsIn}
 use Rattle.kl1_store.specs.Hooks.{Kept, told_by, point_of}
 use Rattle.kl1_store.specs.Sound.{IsFormed, Grown}
-use Rattle.kl1_store.specs.Unification.{SettlesTo, UnifiesAs, IsSolved}
+use Rattle.kl1_store.specs.Unification.{SettlesTo, IsSolved}
 use Rattle.kl1_store.specs.Unifies.{OnlyBound, equation_of}
 use Rattle.kl1_store.specs.Unbound.{IsUnbound}
 use Rattle.kl1_store.proofs.Grows.{Grown-trans}

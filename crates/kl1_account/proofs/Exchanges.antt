@@ -4,7 +4,7 @@ use Rattle.std.specs.Prelude.{Option, Some, None, slice_get, option_map}
 use Rattle.std.proofs.lemmas.Bool.{eq-eqb, ne_eqb}
 use Rattle.std.proofs.lemmas.Option.{slice_get_past}
 use Rattle.std.proofs.lemmas.List.{length-map, length-take, take_all, drop_more, drop_all}
-use Rattle.kl1_model.specs.Term.{Term, atom}
+use Rattle.kl1_model.specs.Term.{atom}
 use Rattle.kl1_text.specs.declared.cell_name.CellName.{CellName}
 use Rattle.kl1_atoms.specs.declared.known.Known.{Known}
 use Rattle.kl1_atoms.specs.Names.{number_by}
@@ -23,7 +23,7 @@ use Rattle.kl1_ancestors.specs.declared.shoen.Origin.{Origin}
 use Rattle.kl1_ancestors.specs.declared.shoen.Shoen.{Shoen}
 use Rattle.kl1_effects.specs.Fitting.{Reading}
 use Rattle.kl1_effects.specs.Account.{meaning}
-use Rattle.kl1_effects.specs.Kept.{IsTaskIn, AreGoalsIn, IsOriginIn, IsShoenIn, AreShoensIn}
+use Rattle.kl1_effects.specs.Kept.{IsTaskIn, AreGoalsIn, IsOriginIn, AreShoensIn}
 use Rattle.kl1_account.specs.Exchanging.{swapped, exchanged, held_with_two, held_exchanged, read_with_two, read_exchanged, IsSpared, AreSpared}
 use Rattle.kl1_effects.proofs.KnownTexts.{next_take}
 use Rattle.kl1_account.proofs.Exchanged.{same_name, swap_first, swap_second, swap_other}

@@ -1,5 +1,5 @@
 -- A reading of names, some of which are new, by the spare numbers of these.
-use Rattle.std.proofs.Common.{◌≡◌, ℕ, zero, suc, ◌+◌, ◌<◌, ◌≤◌, ◌==◌, ◌^◌, ◌⊎◌, Bool, true, false, if◌then◌else◌, List, [], ◌∷◌, length, map, get_or, Option, Some, None, bytes_eq, refl, sym, ap, ap₂, ◌∙◌, subst, inl, inr, arith}
+use Rattle.std.proofs.Common.{◌≡◌, ℕ, suc, ◌+◌, ◌<◌, ◌≤◌, ◌==◌, ◌^◌, ◌⊎◌, Bool, true, false, if◌then◌else◌, List, [], ◌∷◌, length, map, get_or, Some, None, refl, sym, ap, ap₂, ◌∙◌, subst, inl, inr, arith}
 use Rattle.std.specs.List.{AllByRecursion}
 use Rattle.std.proofs.lemmas.Bool.{cases_lt, eq-eqb, ne_eqb}
 use Rattle.std.proofs.lemmas.Option.{slice_get_past}
@@ -15,7 +15,7 @@ use Rattle.kl1_effects.specs.Fitting.{Reading, Fits, built, marked_reading, mark
 use Rattle.kl1_effects.specs.Naming.{AreSmall, AreNumbersOf}
 use Rattle.kl1_effects.proofs.KnownNames.{not_known}
 use Rattle.kl1_account.specs.Exchanging.{swapped, exchanged, read_with_two, read_exchanged, IsSpared, AreSpared}
-use Rattle.kl1_account.proofs.Exchanged.{same_name, swap_first, swap_second, swap_other, swap_back, small_by}
+use Rattle.kl1_account.proofs.Exchanged.{same_name, swap_first, swap_other, swap_back, small_by}
 
 -- ---- numbers of names have 32 bits
 

@@ -1,4 +1,4 @@
-use Rattle.std.proofs.Common.{◌∙◌, refl, arith}
+use Rattle.std.proofs.Common.{◌∙◌, refl}
 use Rattle.kl1_account.specs.Exchanging.{swapped}
 use Rattle.kl1_account.proofs.Exchanges.{swap_renames, from_beginning, with_one, with_two}
 use Rattle.kl1_account.proofs.exchanging.exchange_two.Goals as goal
