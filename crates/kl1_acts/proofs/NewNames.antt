@@ -136,9 +136,9 @@ variable_solved v text = refl
 becomes : (goal : Goal CellName) (t : Means) (x b : Term) (v : ℕ) (text : List ℕ) (s : State) → nat_le (length (with_name s.names text)) most_names ≡ true → b ≡ variable v →
     moved (goal_with t goal) x (names text b) s ≡ replace_in_state v (atom text) (with_text text s)
 becomes goal t x b v text s keeps is =
-    ap (λ c. or_exhaustion c goal.shoen x (named_by goal.shoen x text b s) s) keeps
-    ∙ ap (λ (r : Term). unified goal.shoen x (solve (equation r (atom text))) (with_text text s)) is
-    ∙ ap (λ o. unified goal.shoen x o (with_text text s)) (variable_solved v text)
+    ap (λ c. or_exhaustion c (goal_with t goal) x (named_by (goal_with t goal) x text b s) s) keeps
+    ∙ ap (λ (r : Term). unified (goal_with t goal) x (solve (equation r (atom text))) (with_text text s)) is
+    ∙ ap (λ o. unified (goal_with t goal) x o (with_text text s)) (variable_solved v text)
 
 -- if a variable is bound to a number that is read as a text, it is replaced by this text
 bound_state : (f : Reading) (s : State) (h : Held CellName) (w : Made) (v : ℕ) (n : CellName) (text : List ℕ) → f n ≡ text → IsMadeIn h w → replace_in_state v (atom text) (worked f s h w) ≡ worked f s (with_binding h v (Atom n)) w

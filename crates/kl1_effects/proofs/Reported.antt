@@ -119,7 +119,7 @@ dropped_torn t u d n sh e whole is = record {
 
 -- one that is made leaves more
 pub dropped_never : {A : Type 0} → true ≡ false → A
-dropped_never e = cc
+dropped_never e = absurd (cc)
 
 -- what is made by a report of shoen `n`, which may be there, that isn't made
 abbrev pub with_unheard : ℕ → Option (Shoen CellName) → Made → Made
@@ -146,10 +146,10 @@ pub dropped_in : (h : Held CellName) (t u : Tree CellName) (d e : Draft) (n : �
 dropped_in h t u d e n p i = let P : List (Shoen CellName) → Type 0 = λ ss. AreShoensIn h ss in subst P (sym p.shoens) (unheard_in h t.shoens n (find (has_number n) t.shoens) i)
 
 -- a report that isn't made, on a stream that is broken or is not
-stream_state : (s : State) (t : Means) (last : ℕ) (w : Made) (n : ℕ) (sh : Shoen CellName) (m : Term) (b : Bool) → sh.is_broken ≡ b → (not b && is_reported_at m (t sh.tail) w.reports) ≡ false →
+stream_state : (s : State) (t : Means) (last : ℕ) (w : Made) (n : ℕ) (sh : Shoen CellName) (m : Term) (b : Bool) → (not b && is_reported_at m (t sh.tail) w.reports) ≡ false →
     (if b then read_as s t last w else reported_at n m (t sh.tail) (read_as s t last w)) ≡ read_as s t last (record w { shoens = if b then w.shoens else changed n torn w.shoens })
-stream_state s t last w n sh m true e unmade = refl
-stream_state s t last w n sh m false e unmade =
+stream_state s t last w n sh m true unmade = refl
+stream_state s t last w n sh m false unmade =
     broken_by n (t sh.tail) m (read_as s t last w) (none_breaks m (t sh.tail) w.reports unmade)
     ∙ changes s t last w n torn (λ x. record x { is_broken = true }) (λ x. refl)
 
@@ -157,7 +157,7 @@ stream_state s t last w n sh m false e unmade =
 unmade_state : (s : State) (t : Means) (last : ℕ) (w : Made) (n : ℕ) (m : Term) (o : Option (Shoen CellName)) → is_reported_of (option_map (shoen_with t) o) m w.reports ≡ false →
     report_of (option_map (shoen_with t) o) n m (read_as s t last w) ≡ read_as s t last (with_unheard n o w)
 unmade_state s t last w n m None unmade = refl
-unmade_state s t last w n m (Some sh) unmade = stream_state s t last w n sh m sh.is_broken refl unmade
+unmade_state s t last w n m (Some sh) unmade = stream_state s t last w n sh m sh.is_broken unmade
 
 -- a report that isn't made turns the state as the definitions' does
 pub unmade_turns : (ms : List Numbered) (h : Held CellName) (w : Made) (n : ℕ) (m : Reading → Term) → IsMadeIn h w → ((f : Reading) → Knows ms f → (s : State) → is_reported n (m f) (worked f s h w) ≡ false) →

@@ -175,7 +175,15 @@ pub record IsAsked (h mid : Held CellName) (kind : BuiltIn) (term message : Cell
   pub formed : IsFormed h
   pub inside : IsIn h term
   pub grown : Grown (with_variable h) mid
-  pub exception : IsExceptionWith built (with_variable h) mid kind term (Variable h.variables) message
+  pub asks : IsExceptionWith built (with_variable h) mid kind term (Variable h.variables) message
+
+-- what is after a new variable and an exception with it
+pub asked : (h next mid : Held CellName) (kind : BuiltIn) (term message : Cell CellName) (v : ℕ) → IsFormed h → IsIn h term → (v ≡ h.variables) × (next ≡ with_variable h) → Grown next mid → IsExceptionWith built next mid kind term (Variable v) message → IsAsked h mid kind term message
+asked h next mid kind term message v p i fresh g e =
+    let G : Held CellName → Type 0 = λ x. Grown x mid in
+    let E : Held CellName → Type 0 = λ x. IsExceptionWith built x mid kind term (Variable v) message in
+    let V : ℕ → Type 0 = λ n. IsExceptionWith built (with_variable h) mid kind term (Variable n) message in
+    record { formed = p; inside = i; grown = subst G fresh.1 g; asks = subst V fresh.0 (subst E fresh.1 e) }
 
 in_next : (h : Held CellName) (x : Cell CellName) → IsIn h x → IsIn (with_variable h) x
 in_next h (Variable v) i = omega arith
@@ -183,25 +191,46 @@ in_next h (Structure s) i = i
 in_next h (Integer n) i = tt
 in_next h (Atom a) i = tt
 
+-- a cell that was there is there after a new variable
+pub next_still : (h next : Held CellName) (v : ℕ) (x : Cell CellName) → (v ≡ h.variables) × (next ≡ with_variable h) → IsIn h x → IsIn next x
+next_still h next v x fresh i = let P : Held CellName → Type 0 = λ y. IsIn y x in subst P (sym fresh.1) (in_next h x i)
+
+-- and so is the variable
+pub next_there : (h next : Held CellName) (v : ℕ) → (v ≡ h.variables) × (next ≡ with_variable h) → IsIn next (Variable v)
+next_there h next v fresh =
+    let P : Held CellName → Type 0 = λ y. IsIn y (Variable v) in
+    let e = fresh.0 in
+    subst P (sym fresh.1) (omega (arith, e))
+
+pub next_grown : (h next : Held CellName) (v : ℕ) → (v ≡ h.variables) × (next ≡ with_variable h) → Grown h next
+next_grown h next v fresh = let P : Held CellName → Type 0 = λ y. Grown h y in subst P (sym fresh.1) (Grown-variable h)
+
 asked_agree : (h mid : Held CellName) (kind : BuiltIn) (term message : Cell CellName) → IsAsked h mid kind term message → (f : Reading) → Agree h (meaning f mid) (meaning f h)
-asked_agree h mid kind term message a f x i = a.exception.others f x (in_next h x i) ∙ term_of-variable f h x
+asked_agree h mid kind term message a f x i = a.asks.others f x (in_next h x i) ∙ term_of-variable f h x
 
 asked_means : (h mid : Held CellName) (kind : BuiltIn) (term message : Cell CellName) → IsAsked h mid kind term message → (f : Reading) → Reads built f → meaning f mid message ≡ exception_with (text_of kind) (meaning f h term) (variable h.variables)
 asked_means h mid kind term message a f reads =
-    a.exception.means f reads
+    a.asks.means f reads
     ∙ ap (λ (t : Term). exception_with (text_of kind) t (meaning f (with_variable h) (Variable h.variables))) (term_of-variable f h term)
     ∙ ap (λ (t : Term). exception_with (text_of kind) (meaning f h term) t) (new_means f h a.formed)
 
 pub asked_grown : (h mid : Held CellName) (kind : BuiltIn) (term message : Cell CellName) → IsAsked h mid kind term message → Grown h mid
 asked_grown h mid kind term message a = Grown-trans h (with_variable h) mid (Grown-variable h) a.grown
 
+-- the new variable is of each store that is later
+pub new_in : (h mid k : Held CellName) (kind : BuiltIn) (term message : Cell CellName) → IsAsked h mid kind term message → Grown mid k → IsIn k (Variable h.variables)
+new_in h mid k kind term message a g =
+    let more : mid.variables ≡ h.variables + 1 = a.asks.variables in
+    let le = g.variables in
+    omega (arith, more, le)
+
 -- the new variable stays unbound while the exception is reported
 pub new_stays : (h mid k : Held CellName) (kind : BuiltIn) (term message : Cell CellName) (ss : List (Shoen CellName)) (n : ℕ) → IsAsked h mid kind term message → AreShoensIn h ss → KeepsFree n ss mid k → (f : Reading) → Reads built f →
     meaning f k (Variable h.variables) ≡ variable h.variables
 new_stays h mid k kind term message ss n a i free f reads =
-    let more : mid.variables ≡ h.variables + 1 = a.exception.variables in
+    let more : mid.variables ≡ h.variables + 1 = a.asks.variables in
     free h.variables (omega (arith, more)) (new_no_tail h mid ss n a.formed i (asked_agree h mid kind term message a)) f reads
-    (a.exception.others f (Variable h.variables) (omega arith) ∙ new_means f h a.formed)
+    (a.asks.others f (Variable h.variables) (omega arith) ∙ new_means f h a.formed)
 
 -- whether the exception is reported is told of the exception without the variable
 pub told_here : (h mid k : Held CellName) (kind : BuiltIn) (term message : Cell CellName) (t : Tree CellName) (d : Draft) (n : ℕ) (made : Bool) → IsAsked h mid kind term message → AreShoensIn h t.shoens → IsTold n message mid k t.shoens d made →
@@ -214,6 +243,12 @@ told_here h mid k kind term message t d n made a i told f reads s goals names =
     ∙ ap (λ (p : Option model.Shoen). is_reported_of p M d.reports) (sym (found_in (meaning f mid) n t.shoens))
     ∙ ap (λ (m : Term). is_reported_of (model.shoen_at n (map (shoen_with (meaning f mid)) t.shoens)) m d.reports) (sym (asked_means h mid kind term message a f reads))
     ∙ sym (told.is f reads s goals)
+
+-- ---- drafts after reports
+
+-- a draft that has begun still has after a report
+pub told_begun : (d e : Draft) → e ≡ record d { reports = e.reports } → HasBegun d → HasBegun e
+told_begun d e is b = let P : Draft → Type 0 = λ x. HasBegun x in subst P (sym is) (record { aborted = b.aborted; ended = b.ended; removed = b.removed })
 
 -- ---- exceptions by the rules
 
@@ -248,8 +283,9 @@ new_turns ms h w i = record {
   inside = grown_made h (with_variable h) w (Grown-variable h) i;
   states = λ f knows s.
       let some = i.some in
+      let last : suc (h.variables - 1) ≡ (h.variables + 1) - 1 = omega arith in
       rereads s (meaning f h) (meaning f (with_variable h)) (suc (h.variables - 1)) h w (λ x j. sym (term_of-variable f h x)) i
-      ∙ ap (λ n. read_as s (meaning f (with_variable h)) n w) (omega arith);
+      ∙ ap (λ n. read_as s (meaning f (with_variable h)) n w) last;
 }
 
 -- what becomes of a state whose goal gets a substitute for this term, with this message and this last variable
@@ -287,7 +323,7 @@ drafts_substituted h mid k t u d e x goal kind term message two a shoens told fr
     let tells : Reading → State → State = λ f. report goal.shoen (meaning f mid message) in
     let stands : Reading → State → State = λ f. replaced_by (goal_with (meaning f k) goal) (task_with (meaning f k) (Substitutes (Variable h.variables))) in
     let first = new_turns ms h w i in
-    let second = grown_turns ms (with_variable h) mid w a.grown a.exception.variables a.exception.others first.inside in
+    let second = grown_turns ms (with_variable h) mid w a.grown a.asks.variables a.asks.others first.inside in
     let both = turns_then ms new (λ f s. s) h (with_variable h) mid w w w first second in
     let third = reporting ms goals names both.inside in
     let so_far = turns_then ms new tells h mid k w w v both third in
@@ -296,6 +332,18 @@ drafts_substituted h mid k t u d e x goal kind term message two a shoens told fr
     (λ f knows s. substituted_state f h mid k w goal kind term message s two i.some (told_here h mid k kind term message t d goal.shoen true a shoens told f knows.reads s goals names) (asked_means h mid kind term message a f knows.reads)
     (new_stays h mid k kind term message t.shoens goal.shoen a shoens free f knows.reads))
     all
+
+-- with what the code has for the substitute: a goal with the variable's number
+pub drafts_asked : (h mid k : Held CellName) (t u : Tree CellName) (d e x : Draft) (goal : Goal CellName) (kind : BuiltIn) (term message : Cell CellName) (v : ℕ) (made : Bool) → d.rules ≡ Two → HasBegun d → IsOwned (length t.shoens) goal → IsAsked h mid kind term message → AreShoensIn h t.shoens → v ≡ h.variables →
+    made ≡ true → IsTold goal.shoen message mid k t.shoens d made → KeepsFree goal.shoen t.shoens mid k → DraftsAll (λ f. report goal.shoen (meaning f mid message)) mid k t u d e → Grown mid k → length u.shoens ≡ length t.shoens → e ≡ record d { reports = e.reports } →
+    x.added.items ≡ e.added.items ++ one_for e.last_goal goal (Substitutes (Variable v)) → x.last_goal ≡ suc e.last_goal → x ≡ record e { added = x.added; last_goal = x.last_goal } →
+    DraftsAll (λ f. raised (goal_with (meaning f h) goal) (text_of kind) (meaning f h term)) h k t u d x
+drafts_asked h mid k t u d e x goal kind term message v made two begun own a shoens number so told free reporting g count first added last is =
+    let N : ℕ → Type 0 = λ n. x.added.items ≡ e.added.items ++ one_for e.last_goal goal (Substitutes (Variable n)) in
+    let T : Bool → Type 0 = λ b. IsTold goal.shoen message mid k t.shoens d b in
+    let O : ℕ → Type 0 = λ n. IsOwned n goal in
+    drafts_substituted h mid k t u d e x goal kind term message two a shoens (subst T so told) free reporting
+    (drafts_replaced k u e x goal (Substitutes (Variable h.variables)) (told_begun d e first begun) (new_in h mid k kind term message a g) (subst O (sym count) own) (subst N number added) last is)
 
 -- going back to a mark from before the new variable, after a report that wasn't made, leaves the store as it was, and what a report
 -- without the variable leaves of the rest
@@ -311,11 +359,19 @@ drafts_unsubstituted h mid k t u d e goal kind term message two a shoens told dr
 
 -- a store that has only grown, by no hook, still has all that it had
 pub has_grown : (old new : Kept CellName) → Grown old.held new.held → new.hooks ≡ old.hooks → HasGrown old new
-has_grown old new grown hooks = record { held = grown; hooks = ap (take (length old.hooks)) hooks ∙ take_all old.hooks (length old.hooks) (omega arith) }
+has_grown old new grown hooks = record { held = grown; hooks = ap (take (length old.hooks)) hooks ∙ take_all (length old.hooks) old.hooks (omega arith) }
 
 -- so it can go back to its mark
 pub can_go_back : (old new : Kept CellName) (mark : Point) → mark ≡ point_of old → IsFormed old.held → Grown old.held new.held → new.hooks ≡ old.hooks → (k : Kept CellName) × ((mark ≡ point_of k) × (IsFormed k.held × HasGrown k new))
 can_go_back old new mark is formed grown hooks = (old, (is, (formed, has_grown old new grown hooks)))
+
+-- and is then as it was
+pub went_back : (old new back : Kept CellName) (mark : Point) → ((k : Kept CellName) → mark ≡ point_of k → HasGrown k new → back.held ≡ k.held) → mark ≡ point_of old → Grown old.held new.held → new.hooks ≡ old.hooks → back.held ≡ old.held
+went_back old new back mark held is grown hooks = held old is (has_grown old new grown hooks)
+
+-- a store after a new variable, and after what has come since
+pub grown_since : (h next mid k : Held CellName) (v : ℕ) → (v ≡ h.variables) × (next ≡ with_variable h) → Grown next mid → Grown mid k → Grown h k
+grown_since h next mid k v fresh g more = Grown-trans h mid k (Grown-trans h next mid (next_grown h next v fresh) g) more
 
 -- ---- goals that were made whole
 
@@ -328,11 +384,7 @@ whole_turns ms h mid k w v goal kind cell x g e i next =
     (λ f knows s. ap (λ t. raised (goal_with (meaning f h) goal) kind t (worked f s h w)) (sym (e.means f knows.reads)))
     (turns_then ms (λ f s. s) (λ f. raised (goal_with (meaning f mid) goal) kind (meaning f mid x)) h mid k w w v first (next first.inside))
 
--- ---- drafts after reports
-
--- a draft that has begun still has after a report
-pub told_begun : (d e : Draft) → e ≡ record d { reports = e.reports } → HasBegun d → HasBegun e
-told_begun d e is b = let P : Draft → Type 0 = λ x. HasBegun x in subst P (sym is) (record { aborted = b.aborted; ended = b.ended; removed = b.removed })
+-- ---- what comes
 
 -- after a report alone none comes
 pub comes_told : (k : Held CellName) (n count : ℕ) (d e : Draft) → e ≡ record d { reports = e.reports } → d.added.items ≡ [] → Comes k n count d e
@@ -363,3 +415,6 @@ substitute_rest d e x p q =
     q
     ∙ ap (λ (y : Draft). let z : Draft = record y { added = x.added; last_goal = x.last_goal } in z) p
     ∙ ap (λ n. let z : Draft = record d { reports = n; added = x.added; last_goal = x.last_goal } in z) (sym same)
+
+pub told_rest : (d e : Draft) → e ≡ record d { reports = e.reports } → e ≡ record d { reports = e.reports; added = e.added; last_goal = e.last_goal }
+told_rest d e is = is ∙ sym (ap (λ (y : Draft). let z : Draft = record d { reports = e.reports; added = y.added; last_goal = y.last_goal } in z) is)

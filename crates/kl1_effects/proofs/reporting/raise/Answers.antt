@@ -1,9 +1,9 @@
-use Rattle.std.proofs.Common.{length, refl}
+use Rattle.std.proofs.Common.{length}
 use Rattle.std.proofs.lemmas.Result.{on_ok_weaker}
 use Rattle.kl1_model.specs.Text.{text_of}
 use Rattle.kl1_effects.specs.Drafts.{made_of}
 use Rattle.kl1_effects.proofs.States.{shoens_grown}
-use Rattle.kl1_effects.proofs.Substituting.{whole_turns, plain_turns, comes_told, met_told}
+use Rattle.kl1_effects.proofs.Substituting.{whole_turns, plain_turns, comes_told, met_told, told_rest}
 use Rattle.kl1_effects.proofs.reporting.raise.Goals as goal
 
 pub raise_whole-requires-clause-shoens : goal.raise_whole-requires-clause-shoens
@@ -33,6 +33,9 @@ returns-in-One-clause-comes c =
 
 pub returns-in-One-clause-met : goal.returns-in-One-clause-met
 returns-in-One-clause-met c = on_ok_weaker c.raise_whole.result (λ ok. met_told c.args.draft.now c.raise_whole.new.draft c.raise_whole.ensures.rest c.requires.empty) c.raise_whole.ensures.ok
+
+pub returns-in-One-clause-rest : goal.returns-in-One-clause-rest
+returns-in-One-clause-rest c = told_rest c.args.draft.now c.raise_whole.new.draft c.raise_whole.ensures.rest
 
 pub returns-in-Two-clause-ok : goal.returns-in-Two-clause-ok
 returns-in-Two-clause-ok c =
