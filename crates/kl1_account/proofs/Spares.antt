@@ -78,9 +78,10 @@ other_by t (u ∷ us) h = (h 0 (omega arith), other_by t us (λ i lt e. h (suc i
 
 once_by : (ts : List (List ℕ)) → ((i j : ℕ) → i < length ts → j < length ts → get_or ts i [] ≡ get_or ts j [] → i ≡ j) → AreOnce ts
 once_by [] h = tt
-once_by (t ∷ ts) h =
-    (other_by t ts (λ i lt e. let same = h (suc i) 0 (omega (arith, lt)) (omega arith) e in omega (arith, same)),
-    once_by ts (λ i j a b e. let same = h (suc i) (suc j) (omega (arith, a)) (omega (arith, b)) e in omega (arith, same)))
+once_by (t ∷ ts) h = (
+  other_by t ts (λ i lt e. let same = h (suc i) 0 (omega (arith, lt)) (omega arith) e in omega (arith, same)),
+  once_by ts (λ i j a b e. let same = h (suc i) (suc j) (omega (arith, a)) (omega (arith, b)) e in omega (arith, same)),
+)
 
 pub names_once : (ts : List (List ℕ)) → IsNameList ts → AreOnce ts
 names_once ts list = once_by ts (λ i j a b e. list.once i j a b e)
