@@ -138,7 +138,7 @@ pub record IsPut (a : Account) (n report v : ℕ) (goal code : Term) (counted : 
 
 module _ (a : Account) (hooks : List Hook) (known n report v : ℕ) (goal code : Term) (counted : Counted) (spares numbers : List CellName) (more : List Known) (old new : Kept CellName) (d : Draft) (k : IsKept a hooks known) (p : IsPut a n report v goal code counted spares numbers more old new d) where
   -- the reading by the spare numbers
-  by_spares : Reading → Reading
+  abbrev by_spares : Reading → Reading
   by_spares f = read_exchanged spares numbers f
 
   spared : (f : Reading) → Fits more f → ReadsSpares a.names (with_names [] (names_of goal)) spares (by_spares f)

@@ -117,10 +117,10 @@ solve_one v (structure f ts) n = front_solves (highest_among (one_equation v (st
 
 -- an equation of an unbound variable and a cell of a goal has one solution
 solves_goal : (f : Reading) (h : Held CellName) (v : ℕ) (x : Cell CellName) (t : Term) → is_bound v h.bindings ≡ false → meaning f h x ≡ t → IsNoVariable t → occurs v t ≡ false → solve (equation_of f h (Variable v) x) ≡ Some (one_by v t)
-solves_goal f h v x t unbound means no free =
+solves_goal f h v x t unbound means plain free =
     ap (λ l. let q : Equation = record { left = l; right = meaning f h x } in solve (q ∷ [])) (term_of-unbound f h v unbound)
     ∙ ap (λ r. let q : Equation = record { left = variable v; right = r } in solve (q ∷ [])) means
-    ∙ solve_one v t no
+    ∙ solve_one v t plain
     ∙ ap (λ b. if b then None else Some (one_by v t)) free
 
 replacements_are : (a b : List Replacement) → Some a ≡ Some b → a ≡ b

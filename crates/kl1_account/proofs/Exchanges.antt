@@ -90,7 +90,7 @@ two_structures a b h = by_case (a.number == b.number)
   where
     by_case : (c : Bool) → length (if c then h else held_renamed (swapped a b) h).structures ≡ length h.structures
     by_case true = refl
-    by_case false = length-map (shape_renamed (swapped a b)) h.structures
+    by_case false = length-map h.structures (shape_renamed (swapped a b))
 
 pub exchanged_variables : (ss ns : List CellName) (h : Held CellName) → (held_exchanged ss ns h).variables ≡ h.variables
 exchanged_variables [] ns h = refl

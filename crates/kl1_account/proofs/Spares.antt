@@ -38,12 +38,13 @@ number_small ks c t names small reads = by_order (cases_lt c.number (2 ^ 32))
     other : (m : ℕ) → m < 32 → 2 ^ 32 ≤ c.number → m ∷ c.number ∷ [] ≡ t
     other m low le = sym (ap (text_or_mark m c.number) (no_text_above ks c.number small le)) ∙ reads (marked_reading m ks) (marked_fits m ks low names)
 
-    apart : 1 ∷ c.number ∷ [] ≡ 2 ∷ c.number ∷ [] → ⊥
-    apart e = let first : 1 ≡ 2 = cc in omega (arith, first)
+    -- texts that begin with two marks are two
+    apart : (m k : ℕ) → m ∷ c.number ∷ [] ≡ k ∷ c.number ∷ [] → m ≡ k
+    apart m k e = cc
 
     by_order : (c.number < 2 ^ 32) ⊎ (2 ^ 32 ≤ c.number) → c.number < 2 ^ 32
     by_order (inl lt) = lt
-    by_order (inr le) = absurd (apart (other 1 (omega arith) le ∙ sym (other 2 (omega arith) le)))
+    by_order (inr le) = let same = apart 1 2 (other 1 (omega arith) le ∙ sym (other 2 (omega arith) le)) in omega (arith, same)
 
 -- each of these numbers has 32 bits
 abbrev pub AreShort : List CellName → Type 0
@@ -167,13 +168,11 @@ reads_spares names f place [] [] ns small fits a e low once = record { fits = fi
 reads_spares names f place [] (s ∷ ss) ns small fits a e low once = absurd a
 reads_spares names f place (t ∷ ts) [] ns small fits a e low once = absurd a
 reads_spares names f place (t ∷ ts) (s ∷ ss) [] small fits a e low once = absurd (cc)
-reads_spares names f place (t ∷ ts) (s ∷ ss) (n ∷ ns) small fits a e low once = by_name a.0
+reads_spares names f place (t ∷ ts) (s ∷ ss) (n ∷ ns) small fits a e low once =
+    by_name a.0 (reads_spares names f (suc place) ts ss ns small fits a.1 (rest_of (f n) t (map f ns) ts e) low.1 once.1)
   where
     here : f n ≡ t
     here = first_of (f n) t (map f ns) ts e
-
-    later : ReadsSpares names ts ss (read_exchanged ss ns f)
-    later = reads_spares names f (suc place) ts ss ns small fits a.1 (rest_of (f n) t (map f ns) ts e) low.1 once.1
 
     g : Reading
     g = read_exchanged ss ns f
@@ -181,8 +180,8 @@ reads_spares names f place (t ∷ ts) (s ∷ ss) (n ∷ ns) small fits a e low o
     F : Bool → Reading
     F c = if c then g else exchanged s n g
 
-    by_name : IsSpared names place t s → ReadsSpares names (t ∷ ts) (s ∷ ss) (read_with_two s n g)
-    by_name (inl known) =
+    by_name : IsSpared names place t s → ReadsSpares names ts ss g → ReadsSpares names (t ∷ ts) (s ∷ ss) (read_with_two s n g)
+    by_name (inl known) later =
         let own : f s ≡ t = ap f (same_name s (record { number = s.number }) refl) ∙ fits.texts t s.number known in
         let same : s ≡ n = fits.reads.once s n (own ∙ sym here) in
         let one : (s.number == n.number) ≡ true = eq-eqb s.number n.number (ap (λ (c : CellName). c.number) same) in
@@ -191,7 +190,7 @@ reads_spares names f place (t ∷ ts) (s ∷ ss) (n ∷ ns) small fits a e low o
           fits = later.fits;
           reads = ap₂ (λ (x : List ℕ) (xs : List (List ℕ)). x ∷ xs) (ap g (same_name s (record { number = s.number }) refl) ∙ later.fits.texts t s.number known) later.reads;
         })
-    by_name (inr new) =
+    by_name (inr new) later =
         let short = low.0 in
         let is = new.1 in
         let two : (s.number == n.number) ≡ false = ne_eqb s.number n.number (λ q. omega (arith, short, is, q)) in
