@@ -154,6 +154,9 @@ pub fn is_world_right(
 ) -> bool {
     match is_right_once(alloc, rules, calls, script, wanted) {
         Some(is_right) => is_right,
-        None => matches!(is_right_once(alloc, rules, calls, script, wanted), Some(true)),
+        None => matches!(
+            is_right_once(alloc, rules, calls, script, wanted),
+            Some(true)
+        ),
     }
 }
