@@ -2,10 +2,11 @@
 use Rattle.std.proofs.Common.{◌≡◌, ℕ, suc, ◌+◌, ◌-◌, ◌<◌, ◌≤◌, true, false, List, [], ◌∷◌, ◌++◌, length, map, refl, sym, ap, ap₂, ◌∙◌, arith, subst}
 use Rattle.std.specs.Prelude.{nat_le, Option, Some, None, option_map, codes}
 use Rattle.std.specs.List.{AllByRecursion}
-use Rattle.kl1_model.specs.Limits.{most_entries, most_variables, most_nodes}
+use Rattle.kl1_model.specs.Limits.{most_variables, most_nodes}
 use Rattle.std.proofs.lemmas.Bool.{and_parts, leb-true}
-use Rattle.kl1_model.specs.Term.{Term, structure, none, more, replace}
-use Rattle.kl1_model.specs.Meaning.{highest, is_numbered}
+use Rattle.kl1_model.specs.Term as term
+use Rattle.kl1_model.specs.Term.{Term, structure, replace}
+use Rattle.kl1_model.specs.Meaning.{highest}
 use Rattle.kl1_model.specs.Nodes.{structures_of}
 use Rattle.kl1_model.specs.State as model
 use Rattle.kl1_model.specs.State.{State, replace_in_state, names_of, with_names}
@@ -22,7 +23,6 @@ use Rattle.kl1_atoms.specs.Names.{AreNames}
 use Rattle.kl1_clause.specs.NameList.{with_texts, IsNameList}
 use Rattle.kl1_store.specs.declared.cell.Cell.{Cell}
 use Rattle.kl1_store.specs.declared.cell.Cell.TheVariants.{Atom}
-use Rattle.kl1_store.specs.declared.qualified.Qualified.{Qualified}
 use Rattle.kl1_store.specs.Held.{Held, IsIn}
 use Rattle.kl1_store.specs.Hooks.{Hook, Kept}
 use Rattle.kl1_store.specs.Sound.{Grown}
@@ -44,13 +44,13 @@ use Rattle.kl1_account.specs.Keeping.{IsKept}
 use Rattle.kl1_account.specs.Starting.{HasNames}
 use Rattle.kl1_account.specs.Exchanging.{held_exchanged, read_exchanged}
 use Rattle.kl1_account.specs.Answering.{has_room_to_answer_beside, RefusesAnswer, IsAnswerable, IsAnswered}
-use Rattle.kl1_effects.proofs.States.{Agree, same_state, replaced_state, goals_grown, shoens_grown}
+use Rattle.kl1_effects.proofs.States.{same_state, replaced_state, goals_grown, shoens_grown}
 use Rattle.kl1_account.proofs.Restood.{restood_holds, restood_read}
 use Rattle.kl1_account.proofs.StartSteps.{names_used}
 use Rattle.kl1_account.proofs.Sent.{knows_of, leaves_all}
 use Rattle.kl1_account.proofs.Exchanged.{settled_alike}
 use Rattle.kl1_account.proofs.Exchanges.{exchanged_means, exchanged_variables, exchanged_goals, exchanged_shoens}
-use Rattle.kl1_account.proofs.Spares.{ReadsSpares, AreOnce, names_once, numbers_short, reads_spares}
+use Rattle.kl1_account.proofs.Spares.{ReadsSpares, names_once, numbers_short, reads_spares}
 use Rattle.kl1_account.proofs.AnswerSteps.{step_answerable}
 
 -- ---- what two ways of reading have the same, two others have
@@ -66,16 +66,16 @@ carried_task t u v w c (Reduces q) e = ap model.reduces (by_module q.module_name
     aim_is : (a b : Term) → model.reduces a ≡ model.reduces b → a ≡ b
     aim_is a b p = cc
 
-    first : (a b d f : Term) → structure (codes ":") (more a (more b none)) ≡ structure (codes ":") (more d (more f none)) → a ≡ d
+    first : (a b d f : Term) → structure (codes ":") (term.more a (term.more b term.none)) ≡ structure (codes ":") (term.more d (term.more f term.none)) → a ≡ d
     first a b d f p = cc
 
-    second : (a b d f : Term) → structure (codes ":") (more a (more b none)) ≡ structure (codes ":") (more d (more f none)) → b ≡ f
+    second : (a b d f : Term) → structure (codes ":") (term.more a (term.more b term.none)) ≡ structure (codes ":") (term.more d (term.more f term.none)) → b ≡ f
     second a b d f p = cc
 
     by_module : (m : Option CellName) → told_in t m (t q.cell) ≡ told_in u m (u q.cell) → told_in v m (v q.cell) ≡ told_in w m (w q.cell)
     by_module None p = c q.cell p
     by_module (Some m) p =
-        ap₂ (λ a b. structure (codes ":") (more a (more b none)))
+        ap₂ (λ a b. structure (codes ":") (term.more a (term.more b term.none)))
         (c (Atom m) (first (t (Atom m)) (t q.cell) (u (Atom m)) (u q.cell) p))
         (c q.cell (second (t (Atom m)) (t q.cell) (u (Atom m)) (u q.cell) p))
 carried_task t u v w c (Substitutes x) e = ap model.substitutes (c x (term_is (t x) (u x) e))
@@ -125,7 +125,7 @@ with_answer a h names d = record a { held = h; goals = restood d.changes.items a
 pub record IsPut (a : Account) (n report v : ℕ) (goal code : Term) (counted : Counted) (spares numbers : List CellName) (more : List Known) (old new : Kept CellName) (d : Draft) : Type 0 where
   pub held : a.held ≡ old.held
   pub may : IsAnswerable a.rules a.held a.shoens a.names counted n report goal code v
-  pub answered : IsAnswered a.modules a.names goal spares v old new a.goals a.shoens d.changes.items
+  pub drafted : IsAnswered a.modules a.names goal spares v old new a.goals a.shoens d.changes.items
   pub grown : Grown old.held new.held
   pub texts : texts_of more ≡ with_texts (texts_of a.names) (with_names [] (names_of goal))
   pub numbers_are : AreNumbersOf more (with_names [] (names_of goal)) numbers
@@ -137,39 +137,35 @@ pub record IsPut (a : Account) (n report v : ℕ) (goal code : Term) (counted : 
   pub nodes : d.nodes ≡ a.nodes + structures_of goal
 
 module _ (a : Account) (hooks : List Hook) (known n report v : ℕ) (goal code : Term) (counted : Counted) (spares numbers : List CellName) (more : List Known) (old new : Kept CellName) (d : Draft) (k : IsKept a hooks known) (p : IsPut a n report v goal code counted spares numbers more old new d) where
-  -- what the store holds then
-  last : Held CellName
-  last = held_exchanged spares numbers new.held
-
   -- the reading by the spare numbers
-  by_spares : Reading → Reading
+  abbrev by_spares : Reading → Reading
   by_spares f = read_exchanged spares numbers f
 
   spared : (f : Reading) → Fits more f → ReadsSpares a.names (with_names [] (names_of goal)) spares (by_spares f)
   spared f fits =
-      reads_spares a.names f 0 (with_names [] (names_of goal)) spares numbers k.small (p.fits f fits) p.answered.spared (p.numbers_are f fits)
+      reads_spares a.names f 0 (with_names [] (names_of goal)) spares numbers k.small (p.fits f fits) p.drafted.spared (p.numbers_are f fits)
       (numbers_short more (with_names [] (names_of goal)) numbers p.names p.small p.numbers_are) (names_once (with_names [] (names_of goal)) p.list)
 
   -- both read the account as the same
   both : (f : Reading) → Fits more f → state_of f a ≡ state_of (by_spares f) a
   both f fits = k.named f (by_spares f) (p.fits f fits) (spared f fits).fits
 
-  carries : (f : Reading) → Carries (meaning f a.held) (meaning (by_spares f) a.held) (meaning f last) (meaning (by_spares f) new.held)
+  carries : (f : Reading) → Carries (meaning f a.held) (meaning (by_spares f) a.held) (meaning f (held_exchanged spares numbers new.held)) (meaning (by_spares f) new.held)
   carries f x e = exchanged_means f spares numbers a.held new.held x e
 
   -- a draft with spare numbers read by them is what was exchanged
-  goals_read : (f : Reading) → Fits more f → map (goal_with (meaning f last)) a.goals ≡ map (goal_with (meaning (by_spares f) new.held)) a.goals
-  goals_read f fits = carried_goals (meaning f a.held) (meaning (by_spares f) a.held) (meaning f last) (meaning (by_spares f) new.held) (carries f) a.goals (ap (λ (s : State). s.goals) (both f fits))
+  goals_read : (f : Reading) → Fits more f → map (goal_with (meaning f (held_exchanged spares numbers new.held))) a.goals ≡ map (goal_with (meaning (by_spares f) new.held)) a.goals
+  goals_read f fits = carried_goals (meaning f a.held) (meaning (by_spares f) a.held) (meaning f (held_exchanged spares numbers new.held)) (meaning (by_spares f) new.held) (carries f) a.goals (ap (λ (s : State). s.goals) (both f fits))
 
-  shoens_read : (f : Reading) → Fits more f → map (shoen_with (meaning f last)) a.shoens ≡ map (shoen_with (meaning (by_spares f) new.held)) a.shoens
-  shoens_read f fits = carried_shoens (meaning f a.held) (meaning (by_spares f) a.held) (meaning f last) (meaning (by_spares f) new.held) (carries f) a.shoens (ap (λ (s : State). s.shoens) (both f fits))
+  shoens_read : (f : Reading) → Fits more f → map (shoen_with (meaning f (held_exchanged spares numbers new.held))) a.shoens ≡ map (shoen_with (meaning (by_spares f) new.held)) a.shoens
+  shoens_read f fits = carried_shoens (meaning f a.held) (meaning (by_spares f) a.held) (meaning f (held_exchanged spares numbers new.held)) (meaning (by_spares f) new.held) (carries f) a.shoens (ap (λ (s : State). s.shoens) (both f fits))
 
   -- ---- the step
 
-  top : last.variables - 1 ≡ (a.held.variables - 1) + highest goal
+  top : (held_exchanged spares numbers new.held).variables - 1 ≡ (a.held.variables - 1) + highest goal
   top =
       let x = exchanged_variables spares numbers new.held in
-      let y = p.answered.variables in
+      let y = p.drafted.variables in
       let z = ap (λ (h : Held CellName). h.variables) p.held in
       let some = k.some in
       omega (arith, x, y, z, some)
@@ -181,11 +177,11 @@ module _ (a : Account) (hooks : List Hook) (known n report v : ℕ) (goal code :
       let rs = spared f fits in
       let t = with_next_variables (a.held.variables - 1) goal in
       let M : Held CellName → Type 0 = λ h. (x : Cell CellName) → IsIn h x → meaning g new.held x ≡ replace v (with_next_variables (h.variables - 1) goal) (meaning g h x) in
-      let means : M a.held = subst M (sym p.held) (p.answered.means g rs.fits.reads rs.reads) in
+      let means : M a.held = subst M (sym p.held) (p.drafted.means g rs.fits.reads rs.reads) in
       replaced_state s v t (meaning g a.held) (a.held.variables - 1) a.goals a.shoens
       ∙ same_state s a.held (λ x. replace v t (meaning g a.held x)) (meaning g new.held) (a.held.variables - 1) a.goals a.shoens (λ x i. sym (means x i)) k.goals k.shoens
 
-  answered_state : (f : Reading) → Fits more f → with_entry (answered v goal (state_of f a)) ≡ state_of f (with_answer a last more d)
+  answered_state : (f : Reading) → Fits more f → with_entry (answered v goal (state_of f a)) ≡ state_of f (with_answer a (held_exchanged spares numbers new.held) more d)
   answered_state f fits =
       let g = by_spares f in
       let base : State = record (state_of f a) { goals = []; shoens = []; last_variable = 0 } in
@@ -196,19 +192,19 @@ module _ (a : Account) (hooks : List Hook) (known n report v : ℕ) (goal code :
       ap (λ (z : State). with_entry (answered v goal z)) (both f fits)
       ∙ ap₂ R (ap (λ (z : State). z.goals) read) (ap (λ (z : State). z.shoens) read)
       ∙ ap₂ R (sym (goals_read f fits)) (sym (shoens_read f fits))
-      ∙ ap (λ (gs : List model.Goal). R gs (map (shoen_with (meaning f last)) a.shoens)) (sym (restood_read (meaning f last) d.changes.items a.goals))
-      ∙ same (map (goal_with (meaning f last)) (restood d.changes.items a.goals)) (map (shoen_with (meaning f last)) a.shoens) names
+      ∙ ap (λ (gs : List model.Goal). R gs (map (shoen_with (meaning f (held_exchanged spares numbers new.held))) a.shoens)) (sym (restood_read (meaning f (held_exchanged spares numbers new.held)) d.changes.items a.goals))
+      ∙ same (map (goal_with (meaning f (held_exchanged spares numbers new.held))) (restood d.changes.items a.goals)) (map (shoen_with (meaning f (held_exchanged spares numbers new.held))) a.shoens) names
     where
       same : (gs : List model.Goal) (ss : List model.Shoen) → with_names (texts_of a.names) (names_of goal) ≡ texts_of more →
           (let z : State = record (state_of f a) { goals = gs; shoens = ss; names = with_names (texts_of a.names) (names_of goal); last_variable = (a.held.variables - 1) + highest goal; variables = a.variables + highest goal; nodes = a.nodes + structures_of goal; entries = suc a.entries } in z)
-          ≡ record (state_of f (with_answer a last more d)) { goals = gs; shoens = ss }
+          ≡ record (state_of f (with_answer a (held_exchanged spares numbers new.held) more d)) { goals = gs; shoens = ss }
       same gs ss names =
           let T : List (List ℕ) → ℕ → ℕ → ℕ → State = λ ns l i j. record (state_of f a) { goals = gs; shoens = ss; names = ns; last_variable = l; variables = i; nodes = j; entries = suc a.entries } in
           ap (λ (ns : List (List ℕ)). T ns ((a.held.variables - 1) + highest goal) (a.variables + highest goal) (a.nodes + structures_of goal)) names
           ∙ ap (λ l. T (texts_of more) l (a.variables + highest goal) (a.nodes + structures_of goal)) (sym top)
-          ∙ ap₂ (λ i j. T (texts_of more) (last.variables - 1) i j) (sym p.variables) (sym p.nodes)
+          ∙ ap₂ (λ i j. T (texts_of more) ((held_exchanged spares numbers new.held).variables - 1) i j) (sym p.variables) (sym p.nodes)
 
-  answer_steps : (f : Reading) → HasNames (state_of f a) a.names counted → Fits more f → step (state_of f a) (answer n report goal) ≡ record { state = state_of f (with_answer a last more d); reply = sent }
+  answer_steps : (f : Reading) → HasNames (state_of f a) a.names counted → Fits more f → step (state_of f a) (answer n report goal) ≡ record { state = state_of f (with_answer a (held_exchanged spares numbers new.held) more d); reply = sent }
   answer_steps f at fits =
       let base : State = record (state_of f a) { goals = []; shoens = []; last_variable = 0 } in
       step_answerable a.rules a.held a.shoens a.names counted n report goal code v p.may f (p.fits f fits).reads base a.goals refl at
@@ -216,7 +212,7 @@ module _ (a : Account) (hooks : List Hook) (known n report v : ℕ) (goal code :
 
   -- ---- what always holds
 
-  pub answer_keeps : ((f : Reading) → HasNames (state_of f a) a.names counted) → hooks ≡ old.hooks → IsKept (with_answer a last more d) new.hooks known
+  pub answer_keeps : ((f : Reading) → HasNames (state_of f a) a.names counted) → hooks ≡ old.hooks → IsKept (with_answer a (held_exchanged spares numbers new.held) more d) new.hooks known
   answer_keeps at hung =
       let cs = d.changes.items in
       let up : Grown a.held new.held = let G : Held CellName → Type 0 = λ h. Grown h new.held in subst G (sym p.held) p.grown in
@@ -224,7 +220,7 @@ module _ (a : Account) (hooks : List Hook) (known n report v : ℕ) (goal code :
       let entries = (at (λ c. [])).entries_are in
       record {
         some = let x = k.some in let y = up.variables in let e = exchanged_variables spares numbers new.held in omega (arith, x, y, e);
-        goals = restood_holds (λ g. IsTaskIn last g.task) (λ g o q. q) cs a.goals (exchanged_goals spares numbers new.held a.goals (goals_grown a.held new.held up a.goals k.goals));
+        goals = restood_holds (λ g. IsTaskIn (held_exchanged spares numbers new.held) g.task) (λ g o q. q) cs a.goals (exchanged_goals spares numbers new.held a.goals (goals_grown a.held new.held up a.goals k.goals));
         owned = restood_holds (IsOwned (length a.shoens)) (λ g o q. record { low = q.low; high = q.high }) cs a.goals k.owned;
         shoens = exchanged_shoens spares numbers new.held a.shoens (shoens_grown a.held new.held up a.shoens k.shoens);
         count = k.count;
@@ -237,10 +233,10 @@ module _ (a : Account) (hooks : List Hook) (known n report v : ℕ) (goal code :
             let own = (spared f fits).fits in
             let H : Held CellName → Type 0 = λ h. AreSettled g old.hooks h a.modules a.shoens a.goals in
             let K : List Hook → Type 0 = λ hs. AreSettled g hs a.held a.modules a.shoens a.goals in
-            let drafted = p.answered.settles g (knows_of a hooks known k g own) (subst H p.held (subst K hung (k.settled g own))) in
-            let goals_same : map (goal_with (meaning g new.held)) (restood cs a.goals) ≡ map (goal_with (meaning f last)) (restood cs a.goals) =
-            restood_read (meaning g new.held) cs a.goals ∙ sym (goals_read f fits) ∙ sym (restood_read (meaning f last) cs a.goals) in
-            settled_alike g f new.hooks new.held last a.modules a.shoens (restood cs a.goals) (sym (shoens_read f fits)) goals_same drafted;
+            let drafted = p.drafted.settles g (knows_of a hooks known k g own) (subst H p.held (subst K hung (k.settled g own))) in
+            let goals_same : map (goal_with (meaning g new.held)) (restood cs a.goals) ≡ map (goal_with (meaning f (held_exchanged spares numbers new.held))) (restood cs a.goals) =
+            restood_read (meaning g new.held) cs a.goals ∙ sym (goals_read f fits) ∙ sym (restood_read (meaning f (held_exchanged spares numbers new.held)) cs a.goals) in
+            settled_alike g f new.hooks new.held (held_exchanged spares numbers new.held) a.modules a.shoens (restood cs a.goals) (sym (shoens_read f fits)) goals_same drafted;
         enabled = restood_holds (IsEnabled a.shoens a.work) (λ g o q. q) cs a.goals k.enabled;
         rows = λ f fits. k.rows f (p.fits f fits);
         named = λ f g one two.
@@ -305,10 +301,9 @@ module _ (a : Account) (variables nodes : ℕ) (begun d : Draft) (is : IsBegun 0
 
   pub draft_fits : (goals : List (Goal CellName)) (shoens room shoen_room : ℕ) → IsFitting goals shoens room shoen_room false d
   draft_fits goals shoens room shoen_room =
-      let none = added_none in
-      let long : length d.added.items ≡ 0 = ap (λ (gs : List (Goal CellName)). length gs) none in
+      let long : length d.added.items ≡ 0 = ap (λ (gs : List (Goal CellName)). length gs) added_none in
       let N : List (Goal CellName) → Type 0 = λ gs. AreNext (restood d.changes.items (goals_left goals d)) shoens gs in
-      record { enough = omega (arith, long); opening = λ e. absurd (cc); next = subst N (sym none) tt }
+      record { enough = omega (arith, long); opening = λ e. absurd (cc); next = subst N (sym added_none) tt }
 
   pub draft_variables : d.variables ≡ variables
   draft_variables = ap (λ (z : Draft). z.variables) rest ∙ is.variables_are
@@ -330,7 +325,7 @@ is_put a n report v goal code counted spares numbers texts known more old new va
     record {
       held = held;
       may = may;
-      answered = subst A may.code_is answered;
+      drafted = subst A may.code_is answered;
       grown = grown;
       texts = names ∙ ap₂ (λ (ks : List Known) (ts : List (List ℕ)). with_texts (texts_of ks) ts) same texts_are;
       numbers_are = subst N texts_are numbers_are;

@@ -1,5 +1,5 @@
 -- What refuses an answer, and the step of one that nothing refuses.
-use Rattle.std.proofs.Common.{◌≡◌, ℕ, ◌+◌, ◌-◌, ◌<◌, ◌≤◌, ◌&&◌, Bool, true, false, if◌then◌else◌, List, [], length, map, refl, sym, ap, ap₂, ◌∙◌, arith, subst}
+use Rattle.std.proofs.Common.{◌≡◌, ℕ, ◌+◌, ◌-◌, ◌<◌, ◌≤◌, ◌&&◌, Bool, true, false, if◌then◌else◌, List, [], length, refl, sym, ap, ap₂, ◌∙◌, arith, subst}
 use Rattle.std.specs.Prelude.{nat_lt, nat_le, Option, Some, None, option_map, option_and_then, unwrap_or}
 use Rattle.std.proofs.lemmas.Bool.{and_parts, ltb-true, ltb-false, leb-true, lt-leb, le-leb, le-ltb, lt-ltb}
 use Rattle.kl1_model.specs.declared.rules.Rules.{Rules}
@@ -12,7 +12,7 @@ use Rattle.kl1_model.specs.Meaning.{highest, is_writable, is_numbered}
 use Rattle.kl1_model.specs.Nodes.{structures_of}
 use Rattle.kl1_model.specs.State as model
 use Rattle.kl1_model.specs.State.{State, has_substitutes, shoen_at, is_living, names_of, with_names}
-use Rattle.kl1_model.specs.Event.{Stepped, answer, sent, refuse, recorded, named, limited, syntax, no_shoen, shoen_ended, answer_refused, too_many_names, limit_passed, journal_full, with_entry, is_number, most_entries, most_names, most_line_bytes}
+use Rattle.kl1_model.specs.Event.{Stepped, answer, sent, refuse, recorded, named, limited, syntax, no_shoen, shoen_ended, too_many_names, journal_full, with_entry, is_number, most_entries, most_names, most_line_bytes}
 use Rattle.kl1_model.specs.Answering.{answer_line, may_answer, has_room_to_answer, unanswered_at, answered, answer_by, answer_in, answer_to}
 use Rattle.kl1_model.specs.Step.{step}
 use Rattle.kl1_text.specs.Reading.{Reads}
@@ -23,7 +23,6 @@ use Rattle.kl1_store.specs.Held.{Held}
 use Rattle.kl1_store.specs.Unbound.{IsUnbound}
 use Rattle.kl1_event.specs.declared.refusal.Refusal.{Refusal}
 use Rattle.kl1_event.specs.declared.refusal.Refusal.TheVariants.{Syntax, NoShoen, Ended, Names, Limit, Journal, Answer}
-use Rattle.kl1_event.specs.Views.{refusal_of}
 use Rattle.kl1_goals.specs.declared.goal.Goal.{Goal}
 use Rattle.kl1_ancestors.specs.declared.shoen.Origin.{Origin}
 use Rattle.kl1_ancestors.specs.declared.shoen.Shoen.{Shoen}
@@ -120,29 +119,25 @@ after_names s report goal reports b few room =
 -- ---- refusals
 
 module _ (rules : Rules) (h : Held CellName) (ss : List (Shoen CellName)) (names : List Known) (c : Counted) (n report : ℕ) (goal : Term) where
-  -- whether the rules know answers, and this is one
-  abbrev right : Bool
-  right = has_substitutes rules && may_answer n report goal
-
-  knows_rules : (s : State) (b : Bool) → s.rules ≡ rules → right ≡ b → (has_substitutes s.rules && may_answer n report goal) ≡ b
+  knows_rules : (s : State) (b : Bool) → s.rules ≡ rules → (has_substitutes rules && may_answer n report goal) ≡ b → (has_substitutes s.rules && may_answer n report goal) ≡ b
   knows_rules s b same e = ap (λ (r : Rules). has_substitutes r && may_answer n report goal) same ∙ e
 
-  pub refused_wrong : right ≡ false → RefusesAnswer rules h ss names c n report goal Syntax
+  pub refused_wrong : (has_substitutes rules && may_answer n report goal) ≡ false → RefusesAnswer rules h ss names c n report goal Syntax
   refused_wrong wrong f reads s goals same at = answer_wrong (with_kept f s h goals ss) n report goal (knows_rules s false same wrong)
 
-  pub refused_nowhere : right ≡ true → kept_at n ss ≡ None → RefusesAnswer rules h ss names c n report goal NoShoen
+  pub refused_nowhere : (has_substitutes rules && may_answer n report goal) ≡ true → kept_at n ss ≡ None → RefusesAnswer rules h ss names c n report goal NoShoen
   refused_nowhere is none f reads s goals same at = answer_none s (meaning f h) (h.variables - 1) goals ss n report goal (knows_rules s true same is) none
 
-  pub refused_ended : (o : Origin CellName) → right ≡ true → kept_at n ss ≡ Some o → lives_in ss n ≡ false → RefusesAnswer rules h ss names c n report goal Ended
+  pub refused_ended : (o : Origin CellName) → (has_substitutes rules && may_answer n report goal) ≡ true → kept_at n ss ≡ Some o → lives_in ss n ≡ false → RefusesAnswer rules h ss names c n report goal Ended
   refused_ended o is some lives f reads s goals same at = answer_some s (meaning f h) (h.variables - 1) goals ss n report goal o false (knows_rules s true same is) some lives
 
-  pub refused_crowd : (o : Origin CellName) → right ≡ true → kept_at n ss ≡ Some o → lives_in ss n ≡ true → nat_lt most_names (length (with_texts (texts_of names) (with_names [] (names_of goal)))) ≡ true → RefusesAnswer rules h ss names c n report goal Names
+  pub refused_crowd : (o : Origin CellName) → (has_substitutes rules && may_answer n report goal) ≡ true → kept_at n ss ≡ Some o → lives_in ss n ≡ true → nat_lt most_names (length (with_texts (texts_of names) (with_names [] (names_of goal)))) ≡ true → RefusesAnswer rules h ss names c n report goal Names
   refused_crowd o is some lives many f reads s goals same at =
       let S = with_kept f s h goals ss in
       answer_some s (meaning f h) (h.variables - 1) goals ss n report goal o true (knows_rules s true same is) some lives
       ∙ after_crowd S report goal (meaning f h o.reports) (few_in S names c goal true at many)
 
-  pub refused_limit : (o : Origin CellName) → right ≡ true → kept_at n ss ≡ Some o → lives_in ss n ≡ true → nat_lt most_names (length (with_texts (texts_of names) (with_names [] (names_of goal)))) ≡ false → has_room_to_answer_beside c (highest goal) (structures_of goal) ≡ false →
+  pub refused_limit : (o : Origin CellName) → (has_substitutes rules && may_answer n report goal) ≡ true → kept_at n ss ≡ Some o → lives_in ss n ≡ true → nat_lt most_names (length (with_texts (texts_of names) (with_names [] (names_of goal)))) ≡ false → has_room_to_answer_beside c (highest goal) (structures_of goal) ≡ false →
       RefusesAnswer rules h ss names c n report goal Limit
   refused_limit o is some lives few keeps f reads s goals same at =
       let S = with_kept f s h goals ss in
@@ -150,7 +145,7 @@ module _ (rules : Rules) (h : Held CellName) (ss : List (Shoen CellName)) (names
       ∙ after_names S report goal (meaning f h o.reports) false (few_in S names c goal false at few) (room_in S names c goal at ∙ keeps)
 
   -- what comes of an answer that keeps to the limits
-  within : (o : Origin CellName) → right ≡ true → kept_at n ss ≡ Some o → lives_in ss n ≡ true → nat_lt most_names (length (with_texts (texts_of names) (with_names [] (names_of goal)))) ≡ false → has_room_to_answer_beside c (highest goal) (structures_of goal) ≡ true →
+  within : (o : Origin CellName) → (has_substitutes rules && may_answer n report goal) ≡ true → kept_at n ss ≡ Some o → lives_in ss n ≡ true → nat_lt most_names (length (with_texts (texts_of names) (with_names [] (names_of goal)))) ≡ false → has_room_to_answer_beside c (highest goal) (structures_of goal) ≡ true →
       (f : Reading) (s : State) (goals : List (Goal CellName)) → s.rules ≡ rules → HasNames (with_kept f s h goals ss) names c →
       step (with_kept f s h goals ss) (answer n report goal) ≡ recorded (with_kept f s h goals ss) (answer_by (with_kept f s h goals ss) goal (unanswered_at (meaning f h o.reports) report))
   within o is some lives few keeps f s goals same at =
@@ -158,7 +153,7 @@ module _ (rules : Rules) (h : Held CellName) (ss : List (Shoen CellName)) (names
       answer_some s (meaning f h) (h.variables - 1) goals ss n report goal o true (knows_rules s true same is) some lives
       ∙ after_names S report goal (meaning f h o.reports) true (few_in S names c goal false at few) (room_in S names c goal at ∙ keeps)
 
-  pub refused_full : (o : Origin CellName) → right ≡ true → kept_at n ss ≡ Some o → lives_in ss n ≡ true → nat_lt most_names (length (with_texts (texts_of names) (with_names [] (names_of goal)))) ≡ false → has_room_to_answer_beside c (highest goal) (structures_of goal) ≡ true → most_entries ≤ c.entries →
+  pub refused_full : (o : Origin CellName) → (has_substitutes rules && may_answer n report goal) ≡ true → kept_at n ss ≡ Some o → lives_in ss n ≡ true → nat_lt most_names (length (with_texts (texts_of names) (with_names [] (names_of goal)))) ≡ false → has_room_to_answer_beside c (highest goal) (structures_of goal) ≡ true → most_entries ≤ c.entries →
       RefusesAnswer rules h ss names c n report goal Journal
   refused_full o is some lives few keeps full f reads s goals same at =
       let S = with_kept f s h goals ss in
@@ -166,7 +161,7 @@ module _ (rules : Rules) (h : Held CellName) (ss : List (Shoen CellName)) (names
       within o is some lives few keeps f s goals same at
       ∙ ap (λ b. if b then answer_by S goal (unanswered_at (meaning f h o.reports) report) else refuse S journal_full) (le-ltb S.entries most_entries (omega (arith, full, e)))
 
-  pub refused_answered : (o : Origin CellName) → right ≡ true → kept_at n ss ≡ Some o → lives_in ss n ≡ true → nat_lt most_names (length (with_texts (texts_of names) (with_names [] (names_of goal)))) ≡ false → has_room_to_answer_beside c (highest goal) (structures_of goal) ≡ true → c.entries < most_entries →
+  pub refused_answered : (o : Origin CellName) → (has_substitutes rules && may_answer n report goal) ≡ true → kept_at n ss ≡ Some o → lives_in ss n ≡ true → nat_lt most_names (length (with_texts (texts_of names) (with_names [] (names_of goal)))) ≡ false → has_room_to_answer_beside c (highest goal) (structures_of goal) ≡ true → c.entries < most_entries →
       ((f : Reading) → Reads built f → unanswered_at (meaning f h o.reports) report ≡ None) → RefusesAnswer rules h ss names c n report goal Answer
   refused_answered o is some lives few keeps room none f reads s goals same at =
       let S = with_kept f s h goals ss in
@@ -177,7 +172,7 @@ module _ (rules : Rules) (h : Held CellName) (ss : List (Shoen CellName)) (names
 
   -- ---- an answer that is given
 
-  pub answerable : (o : Origin CellName) (code : Term) (v : ℕ) → right ≡ true → kept_at n ss ≡ Some o → lives_in ss n ≡ true → nat_lt most_names (length (with_texts (texts_of names) (with_names [] (names_of goal)))) ≡ false → has_room_to_answer_beside c (highest goal) (structures_of goal) ≡ true → c.entries < most_entries →
+  pub answerable : (o : Origin CellName) (code : Term) (v : ℕ) → (has_substitutes rules && may_answer n report goal) ≡ true → kept_at n ss ≡ Some o → lives_in ss n ≡ true → nat_lt most_names (length (with_texts (texts_of names) (with_names [] (names_of goal)))) ≡ false → has_room_to_answer_beside c (highest goal) (structures_of goal) ≡ true → c.entries < most_entries →
       code ≡ goal → IsUnbound h v → ((f : Reading) → Reads built f → unanswered_at (meaning f h o.reports) report ≡ Some v) → IsAnswerable rules h ss names c n report goal code v
   answerable o code v is some lives few keeps room code_is unbound waits =
       let both = and_parts (has_substitutes rules) (may_answer n report goal) is in
@@ -214,7 +209,7 @@ module _ (rules : Rules) (h : Held CellName) (ss : List (Shoen CellName)) (names
       let S = with_kept f s h goals ss in
       let e = at.entries_are in
       let room = may.room in
-      let is : right ≡ true = ap₂ (λ x y. x && y) may.substitutes may.may in
+      let is : (has_substitutes rules && may_answer n report goal) ≡ true = ap₂ (λ x y. x && y) may.substitutes may.may in
       let some : kept_at n ss ≡ Some may.origin = ap (option_and_then (λ (z : Shoen CellName). z.origin)) may.found ∙ may.kept in
       let lives : lives_in ss n ≡ true = ap (λ (p : Option (Shoen CellName)). unwrap_or (option_map (λ z. is_living z.life) p) false) may.found ∙ ap is_living may.lives in
       within may.origin is some lives may.few may.keeps f s goals same at

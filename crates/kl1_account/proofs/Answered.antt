@@ -1,6 +1,6 @@
 -- An answer that is drafted.
-use Rattle.std.proofs.Common.{◌≡◌, ℕ, zero, suc, ◌+◌, ◌-◌, ◌<◌, ◌≤◌, ◌&&◌, ◌||◌, Bool, true, false, if◌then◌else◌, List, [], ◌∷◌, ◌++◌, length, map, drop, refl, sym, ap, ap₂, ◌∙◌, arith, subst, max}
-use Rattle.std.specs.Prelude.{nat_le, Option, Some, None, IsTrue}
+use Rattle.std.proofs.Common.{◌≡◌, ℕ, suc, ◌+◌, ◌-◌, ◌<◌, ◌≤◌, ◌&&◌, ◌||◌, Bool, true, false, if◌then◌else◌, List, [], ◌∷◌, ◌++◌, drop, refl, sym, ap, ◌∙◌, arith, subst, max}
+use Rattle.std.specs.Prelude.{nat_le, Some, None, IsTrue}
 use Rattle.std.specs.List.{AllByRecursion}
 use Rattle.std.proofs.lemmas.Bool.{and_parts, leb-true, ne_eqb, or_from}
 use Rattle.kl1_model.specs.Term.{Term, variable, integer, atom, structure, Terms, none, more, occurs, occurs_in, replace, Replacement, replaced, each_substituted}
@@ -21,7 +21,7 @@ use Rattle.kl1_store.specs.declared.unified.Unified.TheVariants.{Bound, Clash}
 use Rattle.kl1_store.specs.Held.{Held, is_bound, IsIn}
 use Rattle.kl1_store.specs.Hooks.{Kept, told_by, point_of}
 use Rattle.kl1_store.specs.Sound.{IsFormed, Grown}
-use Rattle.kl1_store.specs.Unification.{SettlesTo, UnifiesAs, IsSolved}
+use Rattle.kl1_store.specs.Unification.{SettlesTo, IsSolved}
 use Rattle.kl1_store.specs.Unifies.{OnlyBound, equation_of}
 use Rattle.kl1_store.specs.Unbound.{IsUnbound}
 use Rattle.kl1_store.proofs.Grows.{Grown-trans}
@@ -117,10 +117,10 @@ solve_one v (structure f ts) n = front_solves (highest_among (one_equation v (st
 
 -- an equation of an unbound variable and a cell of a goal has one solution
 solves_goal : (f : Reading) (h : Held CellName) (v : ℕ) (x : Cell CellName) (t : Term) → is_bound v h.bindings ≡ false → meaning f h x ≡ t → IsNoVariable t → occurs v t ≡ false → solve (equation_of f h (Variable v) x) ≡ Some (one_by v t)
-solves_goal f h v x t unbound means no free =
+solves_goal f h v x t unbound means plain free =
     ap (λ l. let q : Equation = record { left = l; right = meaning f h x } in solve (q ∷ [])) (term_of-unbound f h v unbound)
     ∙ ap (λ r. let q : Equation = record { left = variable v; right = r } in solve (q ∷ [])) means
-    ∙ solve_one v t no
+    ∙ solve_one v t plain
     ∙ ap (λ b. if b then None else Some (one_by v t)) free
 
 replacements_are : (a b : List Replacement) → Some a ≡ Some b → a ≡ b
@@ -141,9 +141,9 @@ becomes_goal f h k v x t Clash reads is s z = absurd (not_none (one_by v t) (sym
 
 -- a store that has grown by a goal, and in which variables are bound then
 pub bound_grown : (old one ready two mid : Held CellName) → Grown old one → ready ≡ one → Grown ready two → OnlyBound two mid → Grown old mid
-bound_grown old one ready two mid first same more only =
+bound_grown old one ready two mid first same next only =
     let R : Held CellName → Type 0 = λ h. Grown old h in
-    Grown-trans old two mid (Grown-trans old ready two (subst R (sym same) first) more) (Grown-bound two mid only)
+    Grown-trans old two mid (Grown-trans old ready two (subst R (sym same) first) next) (Grown-bound two mid only)
 
 -- an answer is drafted
 pub is_answered : (ms : List Numbered) (known : List Known) (goal : Term) (spares sliced : List CellName) (row : List Instruction) (cells were : List (Cell CellName)) (v count : ℕ) (x : Cell CellName) (u : Unified) (mark : Point) (old : Kept CellName) (one ready two : Held CellName) (mid new : Kept CellName) (goals : List (Goal CellName)) (ss : List (Shoen CellName)) (was changes : List Change) →
@@ -153,10 +153,10 @@ pub is_answered : (ms : List Numbered) (known : List Known) (goal : Term) (spare
     SettlesTo built two mid.held (Variable v) x u → OnlyBound two mid.held → mid.hooks ≡ old.hooks →
     WakesTold ms ss mid.held mid.hooks new.hooks goals 0 (told_by (drop mark.sizes.bindings mid.held.bindings) mid.hooks) was changes → new.held ≡ mid.held →
     IsAnswered ms known goal spares v old new goals ss changes
-is_answered ms known goal spares sliced row cells were v count x u mark old one ready two mid new goals ss was changes marked formed some inside order first shoens_in unbound is numbered many none spared row_is slice first_is grown vars ready_is cells_are builds more same settles only hooks wakes held =
+is_answered ms known goal spares sliced row cells were v count x u mark old one ready two mid new goals ss was changes marked formed some inside order first shoens_in unbound is numbered many unchanged spared row_is slice first_is grown vars ready_is cells_are builds next same settles only hooks wakes held =
     let last = old.held.variables - 1 in
     let t = with_next_variables last goal in
-    let up : Grown old.held mid.held = bound_grown old.held one ready two mid.held grown ready_is more only in
+    let up : Grown old.held mid.held = bound_grown old.held one ready two mid.held grown ready_is next only in
     let bound : two.bindings ≡ old.held.bindings = same ∙ ap (λ (h : Held CellName). h.bindings) ready_is ∙ ap (λ (h : Held CellName). h.bindings) first_is in
     let free : is_bound v two.bindings ≡ false = ap (is_bound v) bound ∙ unbound.unbound in
     let within = unbound.within in
@@ -173,11 +173,11 @@ is_answered ms known goal spares sliced row cells were v count x u mark old one 
           let V : ℕ → Type 0 = λ n. AreGoalVariables one last n cells in
           let vs = subst V many vars in
           let goal_is : meaning f two x ≡ t = (b.built_is f reads goal (subst T (sym texts) row_is)).next numbered last vs.next vs.free in
-          let absent : occurs v t ≡ false = absent_before last v goal (omega (arith, within)) (from_one 0 (variables_of goal) numbered_is) in
+          let absent : occurs v t ≡ false = absent_before last v goal (omega (arith, within)) (from_one 0 (variables_of goal) numbered) in
           let solved = solves_goal f two v x t free goal_is (goal_no_variable last goal is) absent in
           let old_in : IsIn one z = in_grown old.held one grown z i in
           ap (λ (h : Held CellName). meaning f h z) held
           ∙ becomes_goal f two mid.held v x t u reads solved settles z
           ∙ ap (replace v t) (b.kept f reads z old_in ∙ ap (λ (h : Held CellName). meaning f h z) first_is ∙ kept_with f old.held count z);
-      settles = woken ms ss ss mark old mid new goals was changes marked formed up hooks inside order first shoens_in refl none wakes held;
+      settles = woken ms ss ss mark old mid new goals was changes marked formed up hooks inside order first shoens_in refl unchanged wakes held;
     }

@@ -3,7 +3,6 @@ use Rattle.std.proofs.Common.{◌≡◌, ℕ, ◌<◌, List, [], ◌∷◌, leng
 use Rattle.std.specs.Prelude.{Option, Some, None, slice_get}
 use Rattle.kl1_model.specs.Limits.{most_entries}
 use Rattle.kl1_model.specs.Text.{text_of}
-use Rattle.kl1_model.specs.Term.{Term}
 use Rattle.kl1_model.specs.Reduction as model
 use Rattle.kl1_model.specs.Waits.{move_by}
 use Rattle.kl1_text.specs.Reading.{Reads}

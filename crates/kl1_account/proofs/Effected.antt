@@ -27,7 +27,7 @@ use Rattle.kl1_moves.specs.declared.moves.Move.{Move}
 use Rattle.kl1_moves.specs.declared.moves.Move.TheVariants as made
 use Rattle.kl1_moves.specs.Moves.{IsMove, MoveIn}
 use Rattle.kl1_goals.specs.declared.task.Task.{Task}
-use Rattle.kl1_goals.specs.declared.task.Task.TheVariants.{Monitor, Reduces}
+use Rattle.kl1_goals.specs.declared.task.Task.TheVariants.{Monitor}
 use Rattle.kl1_goals.specs.declared.goal.Goal.{Goal}
 use Rattle.kl1_goals.specs.Lists.{has_number, is_other}
 use Rattle.kl1_shoen.specs.Shoens.{Tree}
@@ -36,7 +36,7 @@ use Rattle.kl1_modules.specs.Finding.{contents}
 use Rattle.kl1_effects.specs.declared.draft.Draft.{Draft}
 use Rattle.kl1_effects.specs.declared.draft.Spelled.{Spelled}
 use Rattle.kl1_effects.specs.Fitting.{Reading, Fits}
-use Rattle.kl1_effects.specs.Account.{Account, Means, meaning, task_with, goal_with, aim, aim_with, state_of, texts_of}
+use Rattle.kl1_effects.specs.Account.{Account, Means, meaning, task_with, goal_with, aim, state_of, texts_of}
 use Rattle.kl1_effects.specs.Kept.{IsTaskIn, IsOwned}
 use Rattle.kl1_effects.specs.Works.{Made, IsMadeIn, Knows, worked}
 use Rattle.kl1_effects.specs.Calling.{keeps_names, name_of}

@@ -1,10 +1,10 @@
 -- Numbers and spare numbers that stand for one another, and how cells are read then.
 use Rattle.std.proofs.Common.{◌≡◌, ℕ, zero, suc, ◌+◌, ◌<◌, ◌≤◌, ◌==◌, ◌^◌, Bool, true, false, if◌then◌else◌, List, [], ◌∷◌, ◌++◌, length, map, take, drop, get_or, refl, sym, ap, ap₂, ◌∙◌, subst, inl, inr, arith}
 use Rattle.std.specs.Prelude.{Option, Some, None, slice_get, option_map}
-use Rattle.std.proofs.lemmas.Bool.{cases_Bool, eqb-true, eqb-false, eq-eqb}
+use Rattle.std.proofs.lemmas.Bool.{eq-eqb, ne_eqb}
+use Rattle.std.proofs.lemmas.Option.{slice_get_past}
 use Rattle.std.proofs.lemmas.List.{length-map, length-take, take_all, drop_more, drop_all}
-use Rattle.kl1_model.specs.Term.{Term, atom}
-use Rattle.kl1_model.specs.State as model
+use Rattle.kl1_model.specs.Term.{atom}
 use Rattle.kl1_text.specs.declared.cell_name.CellName.{CellName}
 use Rattle.kl1_atoms.specs.declared.known.Known.{Known}
 use Rattle.kl1_atoms.specs.Names.{number_by}
@@ -23,7 +23,7 @@ use Rattle.kl1_ancestors.specs.declared.shoen.Origin.{Origin}
 use Rattle.kl1_ancestors.specs.declared.shoen.Shoen.{Shoen}
 use Rattle.kl1_effects.specs.Fitting.{Reading}
 use Rattle.kl1_effects.specs.Account.{meaning}
-use Rattle.kl1_effects.specs.Kept.{IsTaskIn, AreGoalsIn, IsOriginIn, IsShoenIn, AreShoensIn}
+use Rattle.kl1_effects.specs.Kept.{IsTaskIn, AreGoalsIn, IsOriginIn, AreShoensIn}
 use Rattle.kl1_account.specs.Exchanging.{swapped, exchanged, held_with_two, held_exchanged, read_with_two, read_exchanged, IsSpared, AreSpared}
 use Rattle.kl1_effects.proofs.KnownTexts.{next_take}
 use Rattle.kl1_account.proofs.Exchanged.{same_name, swap_first, swap_second, swap_other}
@@ -43,7 +43,10 @@ swap_renames a b = record {
     at : (i : ℕ) (n : CellName) → slice_get (a ∷ b ∷ []) i ≡ Some n → slice_get (b ∷ a ∷ []) i ≡ Some (swapped a b n)
     at zero n e = ap Some (sym (swap_first a b n (ap (λ (c : CellName). c.number) (sym (is a n e)))))
     at (suc zero) n e = ap Some (sym (swap_second a b n (ap (λ (c : CellName). c.number) (sym (is b n e)))))
-    at (suc (suc i)) n e = absurd (cc)
+    at (suc (suc i)) n e =
+        let past : slice_get (a ∷ b ∷ []) (suc (suc i)) ≡ None = slice_get_past (a ∷ b ∷ []) (suc (suc i)) (omega arith) in
+        let none : None ≡ Some n = sym past ∙ e in
+        absurd (cc)
 
 -- other names since the beginning are other names everywhere
 pub from_beginning : (g : CellName → CellName) (mark : Mark) (h : Held CellName) → mark.structures ≡ 0 → mark.bindings ≡ 0 → renamed_since g mark h ≡ held_renamed g h
@@ -57,8 +60,8 @@ pub with_one : (a b : CellName) (h : Held CellName) → a.number ≡ b.number �
 with_one a b h e = sym (ap (λ c. if c then h else held_renamed (swapped a b) h) (eq-eqb a.number b.number e))
 
 -- two numbers that are two
-pub with_two : (a b : CellName) (h k : Held CellName) → (a.number == b.number) ≡ false → k ≡ held_renamed (swapped a b) h → k ≡ held_with_two a b h
-with_two a b h k ne e = e ∙ sym (ap (λ c. if c then h else held_renamed (swapped a b) h) ne)
+pub with_two : (a b : CellName) (h k : Held CellName) → (a.number ≡ b.number → ⊥) → k ≡ held_renamed (swapped a b) h → k ≡ held_with_two a b h
+with_two a b h k ne e = e ∙ sym (ap (λ c. if c then h else held_renamed (swapped a b) h) (ne_eqb a.number b.number ne))
 
 -- ---- turns of a loop
 
@@ -87,7 +90,7 @@ two_structures a b h = by_case (a.number == b.number)
   where
     by_case : (c : Bool) → length (if c then h else held_renamed (swapped a b) h).structures ≡ length h.structures
     by_case true = refl
-    by_case false = length-map (shape_renamed (swapped a b)) h.structures
+    by_case false = length-map h.structures (shape_renamed (swapped a b))
 
 pub exchanged_variables : (ss ns : List CellName) (h : Held CellName) → (held_exchanged ss ns h).variables ≡ h.variables
 exchanged_variables [] ns h = refl

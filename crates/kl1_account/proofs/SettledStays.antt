@@ -119,7 +119,6 @@ by_task f hooks old new modules before after g (Reduces x) e formed grown i insi
     let is : aim f new x ≡ substituted (values_of l.replacements) t = aim_later f old new x l i ∙ replaced_is l.replacements t in
     let stays = term_stays (contents modules) (values_of l.replacements) t (leaves_hung l.replacements hooks g.number (awaited_by_term (contents modules) t) hung (subst N (sym l.numbers) free)) in
     (ap (term_clause (contents modules)) is ∙ stays.0, ap (awaited_by_term (contents modules)) is ∙ stays.1)
-
 by_task f hooks old new modules before after g (Substitutes x) e formed grown i inside same free hung =
     let l = is_later f old new formed grown in
     let N : List ℕ → Type 0 = λ ns. HangsOnNone hooks g.number ns in

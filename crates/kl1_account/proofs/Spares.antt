@@ -1,5 +1,5 @@
 -- A reading of names, some of which are new, by the spare numbers of these.
-use Rattle.std.proofs.Common.{◌≡◌, ℕ, zero, suc, ◌+◌, ◌<◌, ◌≤◌, ◌==◌, ◌^◌, ◌⊎◌, Bool, true, false, if◌then◌else◌, List, [], ◌∷◌, length, map, get_or, Option, Some, None, bytes_eq, refl, sym, ap, ap₂, ◌∙◌, subst, inl, inr, arith}
+use Rattle.std.proofs.Common.{◌≡◌, ℕ, suc, ◌+◌, ◌<◌, ◌≤◌, ◌==◌, ◌^◌, ◌⊎◌, Bool, true, false, if◌then◌else◌, List, [], ◌∷◌, length, map, get_or, Some, None, refl, sym, ap, ap₂, ◌∙◌, subst, inl, inr, arith}
 use Rattle.std.specs.List.{AllByRecursion}
 use Rattle.std.proofs.lemmas.Bool.{cases_lt, eq-eqb, ne_eqb}
 use Rattle.std.proofs.lemmas.Option.{slice_get_past}
@@ -15,7 +15,7 @@ use Rattle.kl1_effects.specs.Fitting.{Reading, Fits, built, marked_reading, mark
 use Rattle.kl1_effects.specs.Naming.{AreSmall, AreNumbersOf}
 use Rattle.kl1_effects.proofs.KnownNames.{not_known}
 use Rattle.kl1_account.specs.Exchanging.{swapped, exchanged, read_with_two, read_exchanged, IsSpared, AreSpared}
-use Rattle.kl1_account.proofs.Exchanged.{same_name, swap_first, swap_second, swap_other, swap_back, small_by}
+use Rattle.kl1_account.proofs.Exchanged.{same_name, swap_first, swap_other, swap_back, small_by}
 
 -- ---- numbers of names have 32 bits
 
@@ -38,12 +38,13 @@ number_small ks c t names small reads = by_order (cases_lt c.number (2 ^ 32))
     other : (m : ℕ) → m < 32 → 2 ^ 32 ≤ c.number → m ∷ c.number ∷ [] ≡ t
     other m low le = sym (ap (text_or_mark m c.number) (no_text_above ks c.number small le)) ∙ reads (marked_reading m ks) (marked_fits m ks low names)
 
-    apart : 1 ∷ c.number ∷ [] ≡ 2 ∷ c.number ∷ [] → ⊥
-    apart e = let first : 1 ≡ 2 = cc in omega (arith, first)
+    -- texts that begin with two marks are two
+    apart : (m k : ℕ) → m ∷ c.number ∷ [] ≡ k ∷ c.number ∷ [] → m ≡ k
+    apart m k e = cc
 
     by_order : (c.number < 2 ^ 32) ⊎ (2 ^ 32 ≤ c.number) → c.number < 2 ^ 32
     by_order (inl lt) = lt
-    by_order (inr le) = absurd (apart (other 1 (omega arith) le ∙ sym (other 2 (omega arith) le)))
+    by_order (inr le) = let same = apart 1 2 (other 1 (omega arith) le ∙ sym (other 2 (omega arith) le)) in omega (arith, same)
 
 -- each of these numbers has 32 bits
 abbrev pub AreShort : List CellName → Type 0
@@ -78,9 +79,10 @@ other_by t (u ∷ us) h = (h 0 (omega arith), other_by t us (λ i lt e. h (suc i
 
 once_by : (ts : List (List ℕ)) → ((i j : ℕ) → i < length ts → j < length ts → get_or ts i [] ≡ get_or ts j [] → i ≡ j) → AreOnce ts
 once_by [] h = tt
-once_by (t ∷ ts) h =
-    (other_by t ts (λ i lt e. let same = h (suc i) 0 (omega (arith, lt)) (omega arith) e in omega (arith, same)),
-    once_by ts (λ i j a b e. let same = h (suc i) (suc j) (omega (arith, a)) (omega (arith, b)) e in omega (arith, same)))
+once_by (t ∷ ts) h = (
+  other_by t ts (λ i lt e. let same = h (suc i) 0 (omega (arith, lt)) (omega arith) e in omega (arith, same)),
+  once_by ts (λ i j a b e. let same = h (suc i) (suc j) (omega (arith, a)) (omega (arith, b)) e in omega (arith, same)),
+)
 
 pub names_once : (ts : List (List ℕ)) → IsNameList ts → AreOnce ts
 names_once ts list = once_by ts (λ i j a b e. list.once i j a b e)
@@ -166,13 +168,11 @@ reads_spares names f place [] [] ns small fits a e low once = record { fits = fi
 reads_spares names f place [] (s ∷ ss) ns small fits a e low once = absurd a
 reads_spares names f place (t ∷ ts) [] ns small fits a e low once = absurd a
 reads_spares names f place (t ∷ ts) (s ∷ ss) [] small fits a e low once = absurd (cc)
-reads_spares names f place (t ∷ ts) (s ∷ ss) (n ∷ ns) small fits a e low once = by_name a.0
+reads_spares names f place (t ∷ ts) (s ∷ ss) (n ∷ ns) small fits a e low once =
+    by_name a.0 (reads_spares names f (suc place) ts ss ns small fits a.1 (rest_of (f n) t (map f ns) ts e) low.1 once.1)
   where
     here : f n ≡ t
     here = first_of (f n) t (map f ns) ts e
-
-    later : ReadsSpares names ts ss (read_exchanged ss ns f)
-    later = reads_spares names f (suc place) ts ss ns small fits a.1 (rest_of (f n) t (map f ns) ts e) low.1 once.1
 
     g : Reading
     g = read_exchanged ss ns f
@@ -180,8 +180,8 @@ reads_spares names f place (t ∷ ts) (s ∷ ss) (n ∷ ns) small fits a e low o
     F : Bool → Reading
     F c = if c then g else exchanged s n g
 
-    by_name : IsSpared names place t s → ReadsSpares names (t ∷ ts) (s ∷ ss) (read_with_two s n g)
-    by_name (inl known) =
+    by_name : IsSpared names place t s → ReadsSpares names ts ss g → ReadsSpares names (t ∷ ts) (s ∷ ss) (read_with_two s n g)
+    by_name (inl known) later =
         let own : f s ≡ t = ap f (same_name s (record { number = s.number }) refl) ∙ fits.texts t s.number known in
         let same : s ≡ n = fits.reads.once s n (own ∙ sym here) in
         let one : (s.number == n.number) ≡ true = eq-eqb s.number n.number (ap (λ (c : CellName). c.number) same) in
@@ -190,7 +190,7 @@ reads_spares names f place (t ∷ ts) (s ∷ ss) (n ∷ ns) small fits a e low o
           fits = later.fits;
           reads = ap₂ (λ (x : List ℕ) (xs : List (List ℕ)). x ∷ xs) (ap g (same_name s (record { number = s.number }) refl) ∙ later.fits.texts t s.number known) later.reads;
         })
-    by_name (inr new) =
+    by_name (inr new) later =
         let short = low.0 in
         let is = new.1 in
         let two : (s.number == n.number) ≡ false = ne_eqb s.number n.number (λ q. omega (arith, short, is, q)) in

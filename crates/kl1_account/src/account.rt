@@ -457,11 +457,7 @@ impl<C: CodeSource> Account<C> {
             code.names(),
             &mut self.numbers,
         );
-        exchange(
-            &mut self.store,
-            spares.as_slice(),
-            self.numbers.as_slice(),
-        );
+        exchange(&mut self.store, spares.as_slice(), self.numbers.as_slice());
         install(&mut self.goals, &self.draft, false);
         self.variables = self.draft.variables;
         self.nodes = self.draft.nodes;

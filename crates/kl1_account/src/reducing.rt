@@ -344,8 +344,8 @@ fn draft_move<C: CodeSource>(
         Ok(made) => made,
     };
     draft_made(
-        store, goals, shoens, modules, names, trial, draft, walk, entries, goal, cell, clause, kind,
-        predicate, made,
+        store, goals, shoens, modules, names, trial, draft, walk, entries, goal, cell, clause,
+        kind, predicate, made,
     )?;
     Ok(None)
 }

@@ -408,13 +408,6 @@ pub met_substitute : (d e x : Draft) (g : Goal CellName) (task : Task CellName) 
 met_substitute d e x g task first none added other =
     met_one x e.last_goal g task (added ∙ ap (λ (gs : List (Goal CellName)). gs ++ one_for e.last_goal g task) (ap (λ (y : Draft). y.added.items) first ∙ none)) other
 
--- drafts of which only what comes is another, after one of which only the count of reports is
-pub substitute_rest : (d e x : Draft) → e ≡ record d { reports = e.reports } → x ≡ record e { added = x.added; last_goal = x.last_goal } → x ≡ record d { reports = x.reports; added = x.added; last_goal = x.last_goal }
-substitute_rest d e x p q =
-    let same : x.reports ≡ e.reports = ap (λ (y : Draft). y.reports) q in
-    q
-    ∙ ap (λ (y : Draft). let z : Draft = record y { added = x.added; last_goal = x.last_goal } in z) p
-    ∙ ap (λ n. let z : Draft = record d { reports = n; added = x.added; last_goal = x.last_goal } in z) (sym same)
-
+-- after a report alone nothing else is another
 pub told_rest : (d e : Draft) → e ≡ record d { reports = e.reports } → e ≡ record d { reports = e.reports; added = e.added; last_goal = e.last_goal }
 told_rest d e is = is ∙ sym (ap (λ (y : Draft). let z : Draft = record d { reports = e.reports; added = y.added; last_goal = y.last_goal } in z) is)

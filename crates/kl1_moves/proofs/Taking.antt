@@ -206,7 +206,7 @@ awaited_parts : (modules : List Module) (t : Term) (hs bs : List ℕ) (o : Optio
 awaited_parts modules t hs bs o a b c =
     ap (λ vs. vs ++ awaited_by_call modules (call_of t) ++ awaited_by_built_in t) a ∙ ap (λ q. hs ++ awaited_by_call modules q ++ awaited_by_built_in t) b ∙ ap (λ vs. hs ++ awaited_by_call modules o ++ vs) c
 
-pub same_by : (vs awaited : List ℕ) → awaited ≡ vs → AreSame awaited vs
+same_by : (vs awaited : List ℕ) → awaited ≡ vs → AreSame awaited vs
 same_by vs awaited e = subst (λ (ws : List ℕ). AreSame ws vs) (sym e) (same_as_itself vs)
 
 pub call_stands : {N : Type 0} (f : N → List ℕ) (h : Held N) (modules : List Module) (t : Term) (c : Call N) (goal : Cell N) (named awaited : List ℕ) (choice : Option ℕ) → IsCall f h t c → goal ≡ cell_of c → awaited ≡ [] ++ named → Chooses (clauses_of modules (call_at f h c)) (arguments_of_goal (term_of f h goal)) named choice → StandsAs modules t awaited choice

@@ -69,9 +69,6 @@ returns-in-Bound-clause-stays c = stays_same c.args.shoens.now
 
 -- ---- what comes
 
-pub raise-in_default-requires-clause-begun : goal.raise-in_default-requires-clause-begun
-raise-in_default-requires-clause-begun c = record { aborted = c.requires.begun.aborted; ended = c.requires.begun.ended; removed = c.requires.begun.removed }
-
 pub returns-in_default-clause-comes : goal.returns-in_default-clause-comes
 returns-in_default-clause-comes c =
     let d = c.args.draft.now in

@@ -1,5 +1,4 @@
 use Rattle.std.proofs.Common.{◌≡◌, ℕ, Bool, length, refl, sym, ◌∙◌, subst}
-use Rattle.std.proofs.lemmas.Result.{on_ok_weaker}
 use Rattle.kl1_model.specs.Text.{text_of}
 use Rattle.kl1_model.specs.Reduction.{raised}
 use Rattle.kl1_text.specs.declared.cell_name.CellName.{CellName}
@@ -15,7 +14,7 @@ use Rattle.kl1_effects.specs.Reports.{IsTold}
 use Rattle.kl1_effects.proofs.States.{shoens_grown}
 use Rattle.kl1_effects.proofs.Frames.{on_ok_both}
 use Rattle.kl1_effects.proofs.Reported.{dropped_in}
-use Rattle.kl1_effects.proofs.Substituting.{asked, asked_grown, next_still, next_there, next_grown, new_in, drafts_asked, drafts_unsubstituted, grown_since, can_go_back, has_grown, went_back, comes_told, met_told, comes_substitute, met_substitute, told_rest, substitute_rest}
+use Rattle.kl1_effects.proofs.Substituting.{asked, next_still, next_there, next_grown, new_in, drafts_asked, drafts_unsubstituted, grown_since, can_go_back, has_grown, went_back, comes_told, met_told, comes_substitute, told_rest}
 use Rattle.kl1_effects.proofs.reporting.raise_with_substitute.Goals as goal
 
 pub exception_with-requires-clause-goal : goal.exception_with-requires-clause-goal
@@ -33,8 +32,8 @@ tell-requires-clause-shoens c =
 
 -- ---- a report that is made
 
-pub returns-then-tell-clause-ok : goal.returns-then-tell-clause-ok
-returns-then-tell-clause-ok c =
+pub returns-then-branch-clause-ok : goal.returns-then-branch-clause-ok
+returns-then-branch-clause-ok c =
     let h = c.args.store.now.held in
     let mid = c.exception_with.new.store.held in
     let e = c.tell.new in
@@ -44,11 +43,11 @@ returns-then-tell-clause-ok c =
     let a = asked h c.fresh.new.self.held mid c.args.kind c.args.term message _ c.mark-mark.ensures.formed c.requires.term fresh c.in_ok-message.ensures.grown c.in_ok-message.ensures.exception in
     on_ok_both c.replace_goal.result
     (λ added last. drafts_asked h mid e.store.held c.args.shoens.now e.shoens c.args.draft.now e.draft c.replace_goal.new.draft c.args.goal c.args.kind c.args.term message _ _ c.requires.rules c.requires.begun c.requires.owned a c.requires.shoens fresh.0
-    c.if-tell.true told.told told.keeps told.ok told.grown told.count told.rest added last c.replace_goal.ensures.rest)
+    c.if-branch.true told.told told.keeps told.ok told.grown told.count told.rest added last c.replace_goal.ensures.rest)
     c.replace_goal.ensures.added c.replace_goal.ensures.last
 
-pub returns-then-tell-clause-comes : goal.returns-then-tell-clause-comes
-returns-then-tell-clause-comes c =
+pub returns-then-branch-clause-comes : goal.returns-then-branch-clause-comes
+returns-then-branch-clause-comes c =
     let h = c.args.store.now.held in
     let mid = c.exception_with.new.store.held in
     let e = c.tell.new in
@@ -61,25 +60,6 @@ returns-then-tell-clause-comes c =
     (λ added last. comes_substitute e.store.held (length c.args.shoens.now.shoens) (length e.shoens.shoens) c.args.draft.now e.draft c.replace_goal.new.draft c.args.goal (Substitutes (Variable _)) c.requires.begun told.rest c.replace_goal.ensures.rest c.requires.empty told.count added last
     c.requires.owned c.requires.level refl (subst I (sym fresh.0) (new_in h mid e.store.held c.args.kind c.args.term message a told.grown)))
     c.replace_goal.ensures.added c.replace_goal.ensures.last
-
-pub returns-then-tell-clause-met : goal.returns-then-tell-clause-met
-returns-then-tell-clause-met c =
-    on_ok_weaker c.replace_goal.result (λ added. met_substitute c.args.draft.now c.tell.new.draft c.replace_goal.new.draft c.args.goal (Substitutes (Variable _)) c.in_ok-tell.ensures.rest c.requires.empty added refl) c.replace_goal.ensures.added
-
-pub returns-then-tell-clause-shoens : goal.returns-then-tell-clause-shoens
-returns-then-tell-clause-shoens c = on_ok_weaker c.replace_goal.result (λ added. c.in_ok-tell.ensures.shoens) c.replace_goal.ensures.added
-
-pub returns-then-tell-clause-stays : goal.returns-then-tell-clause-stays
-returns-then-tell-clause-stays c = on_ok_weaker c.replace_goal.result (λ added. c.in_ok-tell.ensures.stays) c.replace_goal.ensures.added
-
-pub returns-then-tell-clause-count : goal.returns-then-tell-clause-count
-returns-then-tell-clause-count c = on_ok_weaker c.replace_goal.result (λ added. c.in_ok-tell.ensures.count) c.replace_goal.ensures.added
-
-pub returns-then-tell-clause-rest : goal.returns-then-tell-clause-rest
-returns-then-tell-clause-rest c = substitute_rest c.args.draft.now c.tell.new.draft c.replace_goal.new.draft c.in_ok-tell.ensures.rest c.replace_goal.ensures.rest
-
-pub returns-then-tell-clause-grown : goal.returns-then-tell-clause-grown
-returns-then-tell-clause-grown c = grown_since c.args.store.now.held c.fresh.new.self.held c.exception_with.new.store.held c.tell.new.store.held _ c.in_ok-fresh.ensures.ok c.in_ok-message.ensures.grown c.in_ok-tell.ensures.grown
 
 -- ---- a report that isn't
 
@@ -104,7 +84,7 @@ returns-clause-ok c =
     let D : Held CellName → Type 0 = λ x. DraftsAll (λ f. raised (goal_with (meaning f h) c.args.goal) (text_of c.args.kind) (meaning f h c.args.term)) h x c.args.shoens.now e.shoens c.args.draft.now e.draft in
     let T : Bool → Type 0 = λ b. IsTold c.args.goal.shoen message mid e.store.held c.args.shoens.now.shoens c.args.draft.now b in
     subst D (sym (went_back c.args.store.now e.store c.back.new.self c.mark-mark.result c.back.ensures.held c.mark-mark.ensures.point (grown_since h c.fresh.new.self.held mid e.store.held _ c.in_ok-fresh.ensures.ok c.in_ok-message.ensures.grown told.grown) (told.hooks ∙ c.in_ok-message.ensures.hooks ∙ c.in_ok-fresh.ensures.hooks)))
-    (drafts_unsubstituted h mid e.store.held c.args.shoens.now e.shoens c.args.draft.now e.draft c.args.goal c.args.kind c.args.term message c.requires.rules a c.requires.shoens (subst T c.if-tell.false told.told) (told.dropped c.if-tell.false))
+    (drafts_unsubstituted h mid e.store.held c.args.shoens.now e.shoens c.args.draft.now e.draft c.args.goal c.args.kind c.args.term message c.requires.rules a c.requires.shoens (subst T c.if-branch.false told.told) (told.dropped c.if-branch.false))
 
 pub returns-clause-shoens : goal.returns-clause-shoens
 returns-clause-shoens c =
@@ -114,7 +94,7 @@ returns-clause-shoens c =
     let told = c.in_ok-tell.ensures in
     let A : Held CellName → Type 0 = λ x. AreShoensIn x e.shoens.shoens in
     subst A (sym (went_back c.args.store.now e.store c.back.new.self c.mark-mark.result c.back.ensures.held c.mark-mark.ensures.point (grown_since h c.fresh.new.self.held mid e.store.held _ c.in_ok-fresh.ensures.ok c.in_ok-message.ensures.grown told.grown) (told.hooks ∙ c.in_ok-message.ensures.hooks ∙ c.in_ok-fresh.ensures.hooks)))
-    (dropped_in h c.args.shoens.now e.shoens c.args.draft.now e.draft c.args.goal.shoen (told.dropped c.if-tell.false) c.requires.shoens)
+    (dropped_in h c.args.shoens.now e.shoens c.args.draft.now e.draft c.args.goal.shoen (told.dropped c.if-branch.false) c.requires.shoens)
 
 pub returns-clause-grown : goal.returns-clause-grown
 returns-clause-grown c =
@@ -146,3 +126,14 @@ returns-clause-rest c =
     let d = c.args.draft.now in
     let e = c.tell.new.draft in
     told_rest d e c.in_ok-tell.ensures.rest
+
+-- ---- if memory is refused
+
+pub returns-in_err-message-clause-grown : goal.returns-in_err-message-clause-grown
+returns-in_err-message-clause-grown c =
+    let h = c.args.store.now.held in
+    let next = c.fresh.new.self.held in
+    Grown-trans h next c.exception_with.new.store.held (next_grown h next _ c.in_ok-fresh.ensures.ok) c.exception_with.ensures.grown
+
+pub returns-in_err-tell-clause-grown : goal.returns-in_err-tell-clause-grown
+returns-in_err-tell-clause-grown c = grown_since c.args.store.now.held c.fresh.new.self.held c.exception_with.new.store.held c.tell.new.store.held _ c.in_ok-fresh.ensures.ok c.in_ok-message.ensures.grown c.tell.ensures.grown
