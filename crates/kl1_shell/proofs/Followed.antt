@@ -5,7 +5,7 @@ use Rattle.std.proofs.lemmas.List.Elements.{All-nil, All-cons, All-append}
 use Rattle.kl1_model.specs.Limits.{most_priority}
 use Rattle.kl1_model.specs.Term.{Term}
 use Rattle.kl1_model.specs.Event.{start, status, Reply}
-use Rattle.kl1_model.specs.Asking.{answer}
+use Rattle.kl1_model.specs.Asking.{reply_to}
 use Rattle.kl1_history.specs.Journal.{Kept, Done, done}
 use Rattle.kl1_history.specs.Command.{run_from}
 use Rattle.kl1_shell.specs.Works.{all_loaded, loaded_from, Worked, worked, opened_in, started, start_on, worked_of}
@@ -26,7 +26,7 @@ pub follows_none : (works : ℕ → Worked) (most : ℕ) (a b : Option (List (�
 follows_none works most a b same = record { told = []; each = All-nil (IsProgress works most); grows = same ∙ none_told a }
 
 -- the status was told once
-pub told_once : (n : ℕ) (k : Kept) (reply : Reply) (p : ℕ × ℕ) (a b c : Option (List (ℕ × ℕ))) → (answer k.state (status n)).reply ≡ reply → progress_in reply ≡ Some p → b ≡ a → c ≡ option_map (λ before. before ++ p ∷ []) b → Follows (λ steps. worked n k) 0 a c
+pub told_once : (n : ℕ) (k : Kept) (reply : Reply) (p : ℕ × ℕ) (a b c : Option (List (ℕ × ℕ))) → (reply_to k.state (status n)).reply ≡ reply → progress_in reply ≡ Some p → b ≡ a → c ≡ option_map (λ before. before ++ p ∷ []) b → Follows (λ steps. worked n k) 0 a c
 told_once n k reply p a b c answered is same grows =
     let P : ℕ × ℕ → Type 0 = IsProgress (λ steps. worked n k) 0 in
     let few : 0 ≤ 0 = omega arith in
