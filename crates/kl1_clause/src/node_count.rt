@@ -33,6 +33,7 @@ pub(crate) fn goal_nodes(goal: &Term) -> u64
 }
 
 /// How many structures a term has, itself among them.
+#[tactic(auto, using(crate::proofs::NodeCounts::term_counted))]
 pub fn structures_of(term: &Term) -> u64
     ensures { result ≡ structures_of term.now }
 {

@@ -5,6 +5,7 @@ use Rattle.kl1_model.specs.Text.{is_text, text_of}
 use Rattle.kl1_model.specs.Term.{Term}
 use Rattle.kl1_model.specs.Module.{Clause, Module}
 use Rattle.kl1_model.specs.Match.{clauses_of, Candidate, candidates_from}
+use Rattle.kl1_model.specs.Reduction as model
 use Rattle.kl1_model.specs.Reduction.{commits, raises, unifies, names, opens, goes, gives_way}
 use Rattle.kl1_model.specs.code.Waits.{move_by, least_clause}
 use Rattle.kl1_store.specs.Held.{Held, IsIn, arguments_of}
@@ -92,18 +93,22 @@ CommitsAs f h c p cs number places (Some move.Goes) = ⊥
 CommitsAs f h c p cs number places (Some move.GivesWay) = ⊥
 
 -- the move is a candidate, whose clause stands at a place
-pub record CommitsTo {N : Type 0} (f : N → List ℕ) (h : Held N) (modules : List Module) (t : Term) (number : ℕ) (p : Predicate N) (place : ℕ) (places : List (Place N)) : Type 0 where
+pub record CommitsTo {N : Type 0} (f : N → List ℕ) (h : Held N) (m : Option model.Move) (p : Predicate N) (place : ℕ) (places : List (Place N)) : Type 0 where
   pub candidate : Candidate
-  pub moves : move_by modules t number ≡ Some (commits candidate)
+  pub moves : m ≡ Some (commits candidate)
   pub is : IsCandidate f h p place places candidate
+
+-- a move of the definitions, or none, is this one told of cells, and a text is what it names
+abbrev pub IsMove : {N : Type 0} → (N → List ℕ) → Held N → Option model.Move → Predicate N → List (Place N) → List ℕ → Option (Move N) → Type 0
+IsMove f h m p places text None = m ≡ None
+IsMove f h m p places text (Some (move.Commits place)) = CommitsTo f h m p place places
+IsMove f h m p places text (Some (move.Raises b)) = m ≡ Some (raises (text_of b))
+IsMove f h m p places text (Some (move.Unifies a b)) = m ≡ Some (unifies (term_of f h a) (term_of f h b))
+IsMove f h m p places text (Some (move.Names a)) = m ≡ Some (names text (term_of f h a))
+IsMove {N = N} f h m p places text (Some (move.Opens s)) = (o : ExecuteArguments N) → IsOrder h s o → m ≡ Some (opens (order_at f h o))
+IsMove f h m p places text (Some move.Goes) = m ≡ Some goes
+IsMove f h m p places text (Some move.GivesWay) = m ≡ Some gives_way
 
 -- what a goal can do by the clause numbered `number` is this move, and a text is what it names
 abbrev pub MovesAs : {N : Type 0} → (N → List ℕ) → Held N → List Module → Term → ℕ → Predicate N → List (Place N) → List ℕ → Option (Move N) → Type 0
-MovesAs f h modules t number p places text None = move_by modules t number ≡ None
-MovesAs f h modules t number p places text (Some (move.Commits place)) = CommitsTo f h modules t number p place places
-MovesAs f h modules t number p places text (Some (move.Raises b)) = move_by modules t number ≡ Some (raises (text_of b))
-MovesAs f h modules t number p places text (Some (move.Unifies a b)) = move_by modules t number ≡ Some (unifies (term_of f h a) (term_of f h b))
-MovesAs f h modules t number p places text (Some (move.Names a)) = move_by modules t number ≡ Some (names text (term_of f h a))
-MovesAs {N = N} f h modules t number p places text (Some (move.Opens s)) = (o : ExecuteArguments N) → IsOrder h s o → move_by modules t number ≡ Some (opens (order_at f h o))
-MovesAs f h modules t number p places text (Some move.Goes) = move_by modules t number ≡ Some goes
-MovesAs f h modules t number p places text (Some move.GivesWay) = move_by modules t number ≡ Some gives_way
+MovesAs f h modules t number p places text found = IsMove f h (move_by modules t number) p places text found

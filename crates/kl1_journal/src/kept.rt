@@ -53,7 +53,8 @@ impl<A: AtomSource, C: CodeSource> Model for Kept<A, C> {
 }
 
 impl<A: AtomSource, C: CodeSource> Kept<A, C> {
-    /// An account of this name, which keeps to these rules, in which nothing has happened, with a seat that knows the built-in names alone.
+    /// An account of this name, which keeps to these rules, in which nothing has happened, with a seat that knows the built-in
+    /// names alone.
     pub fn new(
         alloc: Global,
         name: AccountName,

@@ -13,13 +13,14 @@ use Rattle.kl1_model.specs.Meaning.{nil, cell}
 use Rattle.kl1_model.specs.Unify.{mgu}
 use Rattle.kl1_model.specs.Module.{is_among}
 use Rattle.kl1_model.specs.Control.{Control, awaits_message, tells, tells_other, ends, breaks_off}
-use Rattle.kl1_model.specs.State.{Goal, Shoen, State, shoen_at, replace_in_shoen, replace_in_state, replace_all, change_shoen, without_goal, with_name, is_monitor, is_living}
+use Rattle.kl1_model.specs.State.{Goal, Shoen, State, has_substitutes, shoen_at, replace_in_shoen, replace_in_state, replace_all, change_shoen, without_goal, with_name, is_monitor, is_living}
 use Rattle.kl1_model.specs.Tree.{parents_of, path_within, path, is_on_path, charged_of, charge, is_enabled}
 use Rattle.kl1_model.specs.Event.{with_entry}
-use Rattle.kl1_model.specs.Report.{broken_at, reported_at, report_of, report, report_each, closed_at, close_of, close, exception, failure, illegal_input, exhaustion, started_report, exhausted_report, stopped_report, resumed_report, terminated_report, aborted_report}
+use Rattle.kl1_model.specs.Report.{broken_at, reported_at, report_of, report, is_reported, report_each, closed_at, close_of, close, exception, exception_with, failure, illegal_input, exhaustion, started_report, exhausted_report, stopped_report, resumed_report, terminated_report, aborted_report}
 use Rattle.kl1_model.specs.Ending.{ended_at, ending_of, without_monitor, terminate, terminate_each, settle, newly_exhausted, after_reduction, aborted_below, ended_below, abort}
 use Rattle.kl1_model.specs.Opening.{with_shoen, open_shoen, with_next_variables, start_goal, has_room_for_child, child_shoen, open_child}
-use Rattle.kl1_model.specs.Reduction.{Move, commits, raises, unifies, names, opens, goes, moves, reads, has_room_for, committed, unified, equation, or_exhaustion, moved, stopped_of, resumed_of, allowed_more, obeyed, with_control, heard, acted}
+use Rattle.kl1_model.specs.Reduction.{Move, commits, raises, unifies, names, opens, goes, gives_way, moves, reads, has_room_for, committed, substituted_by, raised, unified, equation, or_exhaustion, named_by, moved, stopped_of, resumed_of, allowed_more, obeyed, with_control, heard, acted}
+use Rattle.kl1_model.specs.Answering.{answered}
 use Rattle.kl1_model.specs.Sending.{with_control_tail, sent_on}
 use Rattle.kl1_model.specs.laws.TreeLaws.{AreNumbered, ParentsAreLower, IsTree}
 use Rattle.kl1_model.proofs.TreeKeeps.{kept_tree}
@@ -28,7 +29,7 @@ use Rattle.kl1_model_laws.specs.Reached.{reached}
 use Rattle.kl1_model_laws.specs.AllowanceLaws.{NoneIsChargedMore}
 use Rattle.kl1_model_laws.proofs.Allowances.{found_number, enabled_has_allowance}
 use Rattle.kl1_model_laws.proofs.Reaching.{Keeping, holds_reached}
-use Rattle.kl1_model_laws.proofs.Alike.{Node, nodes_of, Alike, begun, begun_shoen, alike_start, alike_sent}
+use Rattle.kl1_model_laws.proofs.Alike.{Node, nodes_of, Alike, begun, begun_shoen, alike_start, alike_sent, alike_answered}
 use Rattle.kl1_model_laws.proofs.Modules.{move_has, reading_has}
 use Rattle.kl1_model_laws.proofs.Each.{all_map, all_append, all_weaker, found_shoen}
 
@@ -156,13 +157,20 @@ cap_heard b most n (tells_other m rest) s a = cap_report b n (exception illegal_
 cap_heard b most n ends s a = a
 cap_heard b most n (breaks_off t) s a = cap_report b n (exception illegal_input t) (without_monitor n s) a
 
-cap_unified : (b : ℕ → ℕ) (n : ℕ) (goal : Term) (o : Option (List Replacement)) (s : State) → Cap b s → Cap b (unified n goal o s)
-cap_unified b n goal None s a = cap_report b n (exception failure goal) s a
-cap_unified b n goal (Some rs) s a = cap_all b rs s a
+-- a substitute leaves the shoens as the report does
+cap_raised : (b : ℕ → ℕ) (g : Goal) (kind : List ℕ) (t : Term) (s : State) → Cap b s → Cap b (raised g kind t s)
+cap_raised b g kind t s a =
+    let new = suc s.last_variable in
+    cap_if (has_substitutes s.rules && is_reported g.shoen (exception kind t) s) b (substituted_by g kind t s) (report g.shoen (exception kind t) s)
+    (cap_report b g.shoen (exception_with kind t (variable new)) (record s { last_variable = new }) a) (cap_report b g.shoen (exception kind t) s a)
 
-cap_or : (c : Bool) (b : ℕ → ℕ) (n : ℕ) (goal : Term) (t s : State) → Cap b t → Cap b s → Cap b (or_exhaustion c n goal t s)
-cap_or true b n goal t s p q = p
-cap_or false b n goal t s p q = cap_report b n (exception exhaustion goal) s q
+cap_unified : (b : ℕ → ℕ) (g : Goal) (t : Term) (o : Option (List Replacement)) (s : State) → Cap b s → Cap b (unified g t o s)
+cap_unified b g t None s a = cap_raised b g failure t s a
+cap_unified b g t (Some rs) s a = cap_all b rs s a
+
+cap_or : (c : Bool) (b : ℕ → ℕ) (g : Goal) (t : Term) (u s : State) → Cap b u → Cap b s → Cap b (or_exhaustion c g t u s)
+cap_or true b g t u s p q = p
+cap_or false b g t u s p q = cap_raised b g exhaustion t s q
 
 -- a shoen that opens has been charged nothing
 cap_open : (b : ℕ → ℕ) (h : Shoen) (goal : Term) (s : State) → b h.number ≡ 0 → Cap b s → Cap b (open_shoen h goal s)
@@ -175,14 +183,15 @@ cap_open b h goal s e a =
     cap_if (h.allowance == 0) b (report h.number exhausted_report u) u (cap_report b h.number exhausted_report u q) q
 
 cap_moved : (b : ℕ → ℕ) (g : Goal) (t : Term) (m : Move) (s : State) → b (suc s.last_shoen) ≡ 0 → Cap b s → Cap b (moved g t m s)
-cap_moved b g t (commits k) s e a = cap_or (has_room_for s k.clause) b g.shoen t (committed g k s) s a a
-cap_moved b g t (raises kind) s e a = cap_report b g.shoen (exception kind t) s a
-cap_moved b g t (unifies x y) s e a = cap_unified b g.shoen t (mgu (equation x y)) s a
+cap_moved b g t (commits k) s e a = cap_or (has_room_for s k.clause) b g t (committed g k s) s a a
+cap_moved b g t (raises kind) s e a = cap_raised b g kind t s a
+cap_moved b g t (unifies x y) s e a = cap_unified b g t (mgu (equation x y)) s a
 cap_moved b g t (names text x) s e a =
     let u = record s { names = with_name s.names text } in
-    cap_or (nat_le (length (with_name s.names text)) most_names) b g.shoen t (unified g.shoen t (mgu (equation x (atom text))) u) s (cap_unified b g.shoen t (mgu (equation x (atom text))) u a) a
-cap_moved b g t (opens o) s e a = cap_or (has_room_for_child s g.shoen) b g.shoen t (open_child s g.shoen o) s (cap_open b (child_shoen s g.shoen o) o.goal s e a) a
+    cap_or (nat_le (length (with_name s.names text)) most_names) b g t (named_by g t text x s) s (cap_unified b g t (mgu (equation x (atom text))) u a) a
+cap_moved b g t (opens o) s e a = cap_or (has_room_for_child s g.shoen) b g t (open_child s g.shoen o) s (cap_open b (child_shoen s g.shoen o) o.goal s e a) a
 cap_moved b g t goes s e a = a
+cap_moved b g t gives_way s e a = a
 
 -- ---- who was charged
 
@@ -348,6 +357,18 @@ sent_within s n m t free w =
       entries = omega (arith, same, room);
     }
 
+answered_within : (s : State) (v : ℕ) (t : Term) → nat_lt s.entries most_entries ≡ true → IsWithin s → IsWithin (with_entry (answered v t s))
+answered_within s v t free w =
+    let end = answered v t s in
+    let alike = alike_answered v t s in
+    let room = ltb-true s.entries most_entries free in
+    let before = w.worked in
+    record {
+      capped = all_weaker (λ k. charged_of s k.number ≤ k.allowance) (λ k. charged_of end k.number ≤ k.allowance) (λ k p. let x = charged_alike s end k.number alike in omega (arith, x, p)) end.shoens (replaced (charged_of s) v (with_next_variables s.last_variable t) s w.capped);
+      worked = omega (arith, before);
+      entries = omega (arith, room);
+    }
+
 keeping : Keeping IsWithin
 keeping = record {
   fresh = λ rules name names sessions. record { capped = tt; worked = omega arith; entries = omega arith };
@@ -356,6 +377,8 @@ keeping = record {
   starts = λ s allowance low high t tree may room free w. start_within s allowance low high t tree free w;
   sends = λ s n m h o tree there is free w. sent_within s n m o.control free w;
   moving = λ s n clause g t m tree there task is enabled free w. moving_within s n g t m tree (found_within s.last_shoen n s.goals g there tree.owners) (ap is_monitor task) enabled free w;
+  substituting = λ s n g t m tree there task is enabled free w. moving_within s n g t m tree (found_within s.last_shoen n s.goals g there tree.owners) (ap is_monitor task) enabled free w;
+  answers = λ s n number v t h o tree there origin may room is free w. answered_within s v t free w;
   reading = λ s n g h c tree there found is free w. reading_within s g c free w;
 }
 

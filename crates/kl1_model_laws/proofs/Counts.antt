@@ -13,18 +13,18 @@ use Rattle.kl1_model.specs.Module.{BodyGoal, goals_of}
 use Rattle.kl1_model.specs.Match.{Candidate}
 use Rattle.kl1_model.specs.Unify.{mgu}
 use Rattle.kl1_model.specs.Instance.{body_variable, body_instance, body_priorities, fresh_variables}
-use Rattle.kl1_model.specs.State.{Goal, Shoen, State, goal_at, shoen_at, with_name, without_goal, is_monitor}
+use Rattle.kl1_model.specs.State.{reduces, Goal, Shoen, State, goal_at, shoen_at, with_name, without_goal, is_monitor}
 use Rattle.kl1_model.specs.Tree.{charge, goals_alive}
 use Rattle.kl1_model.specs.Event.{Event, with_entry}
-use Rattle.kl1_model.specs.Report.{exception}
 use Rattle.kl1_model.specs.Opening.{opening_goals, with_shoen, with_next_variables, start_goal, has_room_to_start, has_room_for_child, child_shoen, open_child}
-use Rattle.kl1_model.specs.Reduction.{Move, commits, raises, unifies, names, opens, goes, moves, priority_of, goals_from, has_room_for, committed, unified, equation, moved, heard, acted}
+use Rattle.kl1_model.specs.Reduction.{Move, commits, raises, unifies, names, opens, goes, gives_way, moves, priority_of, goals_from, has_room_for, committed, replaced_by, equation, named_by, moved, heard, acted}
+use Rattle.kl1_model.specs.Answering.{answered}
 use Rattle.kl1_model.specs.Sending.{sent_on}
 use Rattle.kl1_model_laws.specs.Reached.{reached}
 use Rattle.kl1_model_laws.specs.GoalLaws.{GoalsAreFew}
 use Rattle.kl1_model_laws.proofs.Reaching.{Keeping, holds_reached}
-use Rattle.kl1_model_laws.proofs.Alike.{Duty, duty_of, duties_of, alike_report, alike_unified, alike_open, begun, begun_shoen, alike_start, alike_sent}
-use Rattle.kl1_model_laws.proofs.Duties.{Of, of_alike, filtered, of_gone, of_settle, of_settle_charged, of_heard, of_or}
+use Rattle.kl1_model_laws.proofs.Alike.{Duty, duty_of, duties_of, duties_append, next_duty, Lasts, placed_after, by_raised, by_unified, by_limit, alike_same, alike_open, begun, begun_shoen, alike_start, alike_sent, alike_answered}
+use Rattle.kl1_model_laws.proofs.Duties.{Of, of_alike, of_placed, filtered, of_gone, of_settle, of_settle_charged, of_heard}
 
 -- how many goals are no monitors, by their duties
 abbrev pub alive_in : List Duty → ℕ
@@ -148,10 +148,6 @@ mapped_length : {A B : Type 0} (f : A → B) (xs : List A) → length (map f xs)
 mapped_length f [] = refl
 mapped_length f (x ∷ xs) = ap suc (mapped_length f xs)
 
-pub duties_append : (gs hs : List Goal) → duties_of (gs ++ hs) ≡ duties_of gs ++ duties_of hs
-duties_append [] hs = refl
-duties_append (g ∷ gs) hs = ap (λ (ds : List Duty). duty_of g ∷ ds) (duties_append gs hs)
-
 commit_counted : (g : Goal) (k : Candidate) (s : State) → has_room_for s k.clause ≡ true → Of AreCounted s → Of AreCounted (committed g k s)
 commit_counted g k s room counted =
     let body = body_instance k.clause k.places s.last_variable in
@@ -183,18 +179,35 @@ open_counted h goal s room counted =
       rising = rises_more 0 (duties_of s.goals) (duties_of new) s.last_goal (suc (suc s.last_goal)) counted.rising (first, (next, top));
     })
 
+placed_counted : (n last : ℕ) (ds : List Duty) → alive_in ds + 1 ≤ most_goals → AreCounted ds last → AreCounted (ds ++ next_duty last n ∷ []) (suc last)
+placed_counted n last ds room counted =
+    let a = alive_append ds (next_duty last n ∷ []) in
+    let one : alive_in (next_duty last n ∷ []) ≤ 1 = alive_most (next_duty last n ∷ []) in
+    let next : last < suc last = omega arith in
+    let top : suc last ≤ suc last = omega arith in
+    record { few = omega (arith, room, a, one); rising = rises_more 0 ds (next_duty last n ∷ []) last (suc last) counted.rising (next, top) }
+
+-- a goal in the place of one that was removed counts as that did
+lasts_counted : (g : Goal) (s : State) → alive_in (duties_of s.goals) + 1 ≤ most_goals → Of AreCounted s → Lasts (Of AreCounted) g s
+lasts_counted g s room a = record {
+  alike = λ t k. of_alike AreCounted s t k a;
+  placed = λ t k. of_placed AreCounted g.shoen s t k (placed_counted g.shoen s.last_goal (duties_of s.goals) room a);
+}
+
 moved_counted : (g : Goal) (t : Term) (m : Move) (s : State) → alive_in (duties_of s.goals) + 1 ≤ most_goals → Of AreCounted s → Of AreCounted (moved g t m s)
-moved_counted g t (commits k) s e a = of_or AreCounted (has_room_for s k.clause) g.shoen t (committed g k s) s (λ room. commit_counted g k s room a) a
-moved_counted g t (raises kind) s e a = of_alike AreCounted s (moved g t (raises kind) s) (alike_report g.shoen (exception kind t) s) a
-moved_counted g t (unifies x y) s e a = of_alike AreCounted s (moved g t (unifies x y) s) (alike_unified g.shoen t (mgu (equation x y)) s) a
+moved_counted g t (commits k) s e a = by_limit (Of AreCounted) (has_room_for s k.clause) g t (committed g k s) s (λ room. commit_counted g k s room a) (lasts_counted g s e a)
+moved_counted g t (raises kind) s e a = by_raised (Of AreCounted) g kind t s (lasts_counted g s e a)
+moved_counted g t (unifies x y) s e a = by_unified (Of AreCounted) g t (mgu (equation x y)) s (lasts_counted g s e a)
 moved_counted g t (names text x) s e a =
     let u = record s { names = with_name s.names text } in
-    let v = unified g.shoen t (mgu (equation x (atom text))) u in
-    of_or AreCounted (nat_le (length (with_name s.names text)) most_names) g.shoen t v s (λ _. of_alike AreCounted u v (alike_unified g.shoen t (mgu (equation x (atom text))) u) a) a
+    by_limit (Of AreCounted) (nat_le (length (with_name s.names text)) most_names) g t (named_by g t text x s) s
+    (λ _. by_unified (Of AreCounted) g t (mgu (equation x (atom text))) u (lasts_counted g u e a)) (lasts_counted g s e a)
 moved_counted g t (opens o) s e a =
     let h = child_shoen s g.shoen o in
-    of_or AreCounted (has_room_for_child s g.shoen) g.shoen t (open_child s g.shoen o) s (λ _. of_alike AreCounted (with_shoen h o.goal s) (open_child s g.shoen o) (alike_open h o.goal s) (open_counted h o.goal s e a)) a
+    by_limit (Of AreCounted) (has_room_for_child s g.shoen) g t (open_child s g.shoen o) s
+    (λ _. of_alike AreCounted (with_shoen h o.goal s) (open_child s g.shoen o) (alike_open h o.goal s) (open_counted h o.goal s e a)) (lasts_counted g s e a)
 moved_counted g t goes s e a = a
+moved_counted g t gives_way s e a = (lasts_counted g s e a).placed (replaced_by g (reduces t) s) (placed_after g (reduces t) s s refl (alike_same s))
 
 pub acted_counted : (g : Goal) (t : Term) (m : Move) (s : State) → goal_at g.number s.goals ≡ Some g → is_monitor g.task ≡ false → Of AreCounted s → Of AreCounted (acted g (moves t m) s)
 acted_counted g t m s there plain a =
@@ -227,6 +240,8 @@ keeping = record {
   starts = λ s allowance low high t tree may room free a. start_counted s allowance low high t room a;
   sends = λ s n m h o tree there is free a. of_alike AreCounted s (sent_on n m o.control s) (alike_sent n m o.control s) a;
   moving = λ s n clause g t m tree there task is enabled free a. acted_counted g t m (with_entry s) (found_goal n s.goals g there) (ap is_monitor task) a;
+  substituting = λ s n g t m tree there task is enabled free a. acted_counted g t m (with_entry s) (found_goal n s.goals g there) (ap is_monitor task) a;
+  answers = λ s n number v t h o tree there origin may room is free a. of_alike AreCounted s (answered v t s) (alike_answered v t s) a;
   reading = λ s n g h c tree there found is free a. of_settle AreCounted counted_fewer g.shoen (heard g.shoen c (with_entry s)) (of_heard AreCounted counted_fewer g.shoen c (with_entry s) a);
 }
 

@@ -12,9 +12,9 @@ use kl1_pool_tickets::Parts;
 use std::alloc::{AllocError, Global};
 use std::marker::Model;
 
-/// The names of accounts in which nothing has happened, with the rules that they keep to and their seats in a table of names; a tally and a queue of tickets for them;
-/// and that table and a table of codes, lent. Contracts see which tables, which tally and which queue they are, and the numbers of
-/// accounts and shares.
+/// The names of accounts in which nothing has happened, with the rules that they keep to and their seats in a table of names; a
+/// tally and a queue of tickets for them; and that table and a table of codes, lent. Contracts see which tables, which tally and
+/// which queue they are, and the numbers of accounts and shares.
 #[derive(Drop)]
 pub struct PoolParts<'t> {
     pub(crate) table: &'t AtomTable,
@@ -42,8 +42,8 @@ impl<'t> Model for PoolParts<'t> {
 }
 
 impl<'t> PoolParts<'t> {
-    /// Accounts of these names, 1 to 16 of them, which keep to these rules, in which nothing has happened, each with a seat of its own that knows the built-in
-    /// names alone; and a tally and a queue for them and for `shares` shares.
+    /// Accounts of these names, 1 to 16 of them, which keep to these rules, in which nothing has happened, each with a seat of its
+    /// own that knows the built-in names alone; and a tally and a queue for them and for `shares` shares.
     pub fn new(
         alloc: Global,
         table: &'t AtomTable,

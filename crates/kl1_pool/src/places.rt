@@ -22,8 +22,9 @@ fn last_of<T>(list: &mut Vec<T>) -> T
     last
 }
 
-/// An account for each book, in the order of the books, with the name and the seat at its place, which keeps to these rules. It is generic in what accounts are
-/// made as since those that are made already are dropped if memory is refused, and a drop is proved for any type that can be dropped.
+/// An account for each book, in the order of the books, with the name and the seat at its place, which keeps to these rules. It is
+/// generic in what accounts are made as since those that are made already are dropped if memory is refused, and a drop is proved for
+/// any type that can be dropped.
 pub(crate) fn places_of<C: Fresh>(
     alloc: Global,
     mut names: Vec<AccountName>,

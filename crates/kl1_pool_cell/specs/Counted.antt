@@ -32,7 +32,7 @@ pub record IsCounted (p : Past) (j : Journal) (b : Book) : Type 0 where
 abbrev pub with_more : Book → ℕ → ℕ → Book
 with_more b e s = record { tally = b.tally; account = b.account; events = b.events + e; steps = b.steps + s }
 
--- how many events a reply tells: one of a load, a start, a message and a reduction, and those of a run
+-- how many events a reply tells: one of a load, a start, a message, an answer and a reduction, and those of a run
 abbrev pub events_by : model.Reply → ℕ
 events_by (model.loaded name) = 1
 events_by (model.opened n) = 1

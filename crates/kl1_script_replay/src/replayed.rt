@@ -43,8 +43,8 @@ impl<A: AtomSource + Drop, C: CodeSource + Drop> Model for Replayed<A, C> {
 }
 
 impl<A: AtomSource + Drop, C: CodeSource + Drop> Replayed<A, C> {
-    /// The account, which keeps to these rules, from which a journal of these names and this number of open sessions is replayed, with a seat that knows the built-in
-    /// names alone.
+    /// The account, which keeps to these rules, from which a journal of these names and this number of open sessions is replayed,
+    /// with a seat that knows the built-in names alone.
     pub(crate) fn new(
         alloc: Global,
         rules: Rules,

@@ -136,8 +136,7 @@ fn answer_shared<H: Wait, W: Sink>(
 }
 
 /// Writes what is written for the entries whose lines a text has, in a journal of these rules, these names and this number of open
-/// sessions, over any
-/// table of names and a seat that knows the built-in names alone, and any source of codes.
+/// sessions, over any table of names and a seat that knows the built-in names alone, and any source of codes.
 pub fn replay_over<A: AtomSource + Drop, C: CodeSource + Drop, W: Sink>(
     alloc: Global,
     names: A,

@@ -20,7 +20,7 @@ pub record IsAt {N : Type 0} (h : Held N) (cell : Cell N) (s : ℕ) (name : N) :
   pub named : slice_get h.structures s ≡ Some (record { name = name; arguments = arguments_of h s })
   pub means : (f : N → List ℕ) → term_of f h (Structure s) ≡ term_of f h cell
 
-at_structure : {N : Type 0} (f : N → List ℕ) (h : Held N) (cell : Cell N) (s : ℕ) (name : N) → IsAt h cell s name → term_of f h cell ≡ structure (f name) (terms_of f h (arguments_of h s))
+pub at_structure : {N : Type 0} (f : N → List ℕ) (h : Held N) (cell : Cell N) (s : ℕ) (name : N) → IsAt h cell s name → term_of f h cell ≡ structure (f name) (terms_of f h (arguments_of h s))
 at_structure f h cell s name at = sym (at.means f) ∙ term_of-Structure f h s name at.formed at.named
 
 one_cell : {N : Type 0} (f : N → List ℕ) (h : Held N) (xs : List (Cell N)) (x : Cell N) → length xs ≡ 1 → slice_get xs 0 ≡ Some x → terms_of f h xs ≡ more (term_of f h x) none

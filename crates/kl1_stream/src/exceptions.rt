@@ -51,6 +51,6 @@ pub fn exception_with<N: NameValue>(
     // Only for the proof: what the store holds is formed.
     let _formed = store.mark();
     let name = N::of(BuiltIn::Exception);
-    let structure = store.build(name, &[Cell::Atom(N::of(kind)), goal, new])?;
+    let structure = store.build_three(name, Cell::Atom(N::of(kind)), goal, new)?;
     Ok(Cell::Structure(structure))
 }

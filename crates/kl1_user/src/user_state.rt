@@ -61,8 +61,8 @@ impl<A: AtomSource, C: CodeSource> UserState<A, C> {
         })
     }
 
-    /// An account of this name, which keeps to these rules, in which nothing has happened but that it has used `texts`, and that `sessions` sessions are open. The
-    /// seat knows no name before it and these after it; if memory is refused, it knows none.
+    /// An account of this name, which keeps to these rules, in which nothing has happened but that it has used `texts`, and that
+    /// `sessions` sessions are open. The seat knows no name before it and these after it; if memory is refused, it knows none.
     pub fn with_names(
         alloc: Global,
         name: AccountName,

@@ -222,9 +222,9 @@ nodes_within c variables nodes e =
 pub is_start : (a b : Account) (mid : Held CellName) (texts : List (List ℕ)) (row : List Instruction) (numbers sliced : List CellName) (count : ℕ) (cells : List (Cell CellName)) (awaited : List ℕ) (o : Opening) (allowance low high : ℕ) (goal code : Term) (gs : List (Goal CellName)) (ss : List (Shoen CellName)) (work : List ℕ) (nodes : ℕ) →
     IsFormed a.held → IsDrafted a.modules a.names texts row count allowance a.reports a.held mid cells awaited o → Grown a.held mid → IsPlaced sliced row cells mid b.held gs b.goals ss b.shoens b.work a.last_goal allowance low high o → gs ≡ a.goals → ss ≡ a.shoens → sliced ≡ numbers → Grown mid b.held →
     code ≡ goal → texts ≡ with_names [] (names_of code) → IsRowOf (with_names [] (names_of code)) row (nodes_of code) → IsTrue (is_numbered goal) → count ≡ highest goal → texts_of b.names ≡ with_texts (texts_of a.names) texts → AreNumbersOf b.names texts numbers → ((f : Reading) → Fits b.names f → Fits a.names f) →
-    b.own_name ≡ a.own_name → b.sessions ≡ a.sessions → b.modules ≡ a.modules → b.work ≡ work → work ≡ a.work → b.last_goal ≡ suc (suc a.last_goal) → b.variables ≡ a.variables + (count + 2) → nodes ≡ goal_nodes code → b.nodes ≡ a.nodes + nodes → b.reports ≡ o.streams.made → b.entries ≡ a.entries + 1 →
+    b.own_name ≡ a.own_name → b.rules ≡ a.rules → b.sessions ≡ a.sessions → b.modules ≡ a.modules → b.work ≡ work → work ≡ a.work → b.last_goal ≡ suc (suc a.last_goal) → b.variables ≡ a.variables + (count + 2) → nodes ≡ goal_nodes code → b.nodes ≡ a.nodes + nodes → b.reports ≡ o.streams.made → b.entries ≡ a.entries + 1 →
     IsStart a b mid texts row numbers count cells awaited o allowance low high goal
-is_start a b mid texts row numbers sliced count cells awaited o allowance low high goal code gs ss work nodes formed d grown p e f h up same t is numbered many names are fits own sessions modules worked was last variables counted all reports entries =
+is_start a b mid texts row numbers sliced count cells awaited o allowance low high goal code gs ss work nodes formed d grown p e f h up same t is numbered many names are fits own rules sessions modules worked was last variables counted all reports entries =
     let P : List (Goal CellName) → Type 0 = λ x. IsPlaced sliced row cells mid b.held x b.goals ss b.shoens b.work a.last_goal allowance low high o in
     let Q : List (Shoen CellName) → Type 0 = λ x. IsPlaced sliced row cells mid b.held a.goals b.goals x b.shoens b.work a.last_goal allowance low high o in
     let R : List CellName → Type 0 = λ x. IsPlaced x row cells mid b.held a.goals b.goals a.shoens b.shoens b.work a.last_goal allowance low high o in
@@ -243,6 +243,7 @@ is_start a b mid texts row numbers sliced count cells awaited o allowance low hi
       numbers_are = are;
       fits = fits;
       own = own;
+      rules = rules;
       sessions = sessions;
       modules = modules;
       work = worked ∙ was;

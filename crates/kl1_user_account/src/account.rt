@@ -20,6 +20,7 @@ use crate::answerable::{Answering, code_of_answer};
 use crate::answering::draft_answer;
 use crate::asking::{modules_of, reports_of, status_of};
 use crate::counted::Counted;
+use crate::exchanging::exchange;
 use crate::installing::{begin_draft, install};
 use crate::limits::is_number;
 use crate::loading::{Loading, draft_module, install_module, prepare};
@@ -393,7 +394,7 @@ impl<C: CodeSource> Account<C> {
         requires placed { ArePlaced (C.has codes.now) self.old.modules }
         ensures step { IfOk result (λ reply. (f : Reading) → Fits self.new.names f → step (state_of f self.old) (answer_event number report goal.now) ≡ record { state = state_of f self.new; reply = reply_of reply }) }
         ensures err { OnErr result (self.new ≡ self.old) }
-        ensures keeps { Keeps A.is_of A.place A.knows names.old names.new seat.old seat.new }
+        ensures keeps { Keeps A.is_of A.place A.knows A.published names.old names.new seat.old seat.new }
         ensures knows { A.knows seat.new ≡ self.new.names }
         ensures modules { self.new.modules ≡ self.old.modules }
     {
@@ -456,8 +457,7 @@ impl<C: CodeSource> Account<C> {
             code.names(),
             &mut self.numbers,
         );
-        self.store
-            .rename(mark, spares.as_slice(), self.numbers.as_slice());
+        exchange(&mut self.store, spares.as_slice(), self.numbers.as_slice());
         install(&mut self.goals, &self.draft, false);
         self.variables = self.draft.variables;
         self.nodes = self.draft.nodes;

@@ -1,6 +1,6 @@
 // What may be answered.
 
-ghost use Rattle.std.specs.Prelude.{◌≡◌, ◌++◌, codes, ◌&&◌, IfOk, OnOk};
+ghost use Rattle.std.specs.Prelude.{◌≡◌, codes, nat_le, IfOk, OnOk};
 ghost use Rattle.kl1_model.specs.State.{has_substitutes};
 ghost use Rattle.kl1_model.specs.Answering.{answer_line, may_answer};
 ghost use Rattle.kl1_user_effects.specs.Kept.{AreShoensIn};
@@ -40,6 +40,7 @@ fn has_substitutes(rules: Rules) -> bool
 }
 
 /// Puts the rest of the line of a journal for an answer after its first word. After an error some of it may be there.
+#[tactic(auto, using(crate::proofs::StartLines::answer_is))]
 fn put_answer(
     alloc: Global,
     line: &mut Vec<u8>,
@@ -55,11 +56,18 @@ fn put_answer(
     put_whole(alloc, line, goal)
 }
 
+/// Whether a report has this number: the first is 1.
+fn is_report(report: u64) -> bool
+    ensures { result ≡ nat_le 1 report }
+{
+    1 <= report
+}
+
 /// Whether an answer has numbers in range, and a goal that can be written in a line of a journal and read back.
 fn may_answer(alloc: Global, number: u64, report: u64, goal: &Term) -> Result<bool, AllocError>
     ensures { IfOk result (λ may. may ≡ may_answer number report goal.now) }
 {
-    if !are_numbers(number, report) || report < 1 || !is_goal(goal) {
+    if !are_numbers(number, report) || !is_report(report) || !is_goal(goal) {
         return Ok(false);
     }
     if !goal.is_writable(alloc)? || !goal.is_numbered() {
@@ -86,7 +94,10 @@ pub(crate) fn code_of_answer(
     requires shoens { AreShoensIn store.now.held shoens.now.shoens }
     ensures { IfOk result (AnswersAs rules store.now.held shoens.now.shoens names.now.names counted number report goal.now) }
 {
-    if !has_substitutes(rules) || !may_answer(alloc, number, report, goal)? {
+    if !has_substitutes(rules) {
+        return Ok(Answering::Refused(Refusal::Syntax));
+    }
+    if !may_answer(alloc, number, report, goal)? {
         return Ok(Answering::Refused(Refusal::Syntax));
     }
     let Some(origin) = shoens.origin_at(number) else {

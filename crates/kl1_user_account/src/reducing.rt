@@ -9,14 +9,15 @@ ghost use Rattle.kl1_stream.specs.Controls.{ControlIn};
 ghost use Rattle.kl1_codes_modules.specs.Finding.{contents};
 ghost use Rattle.kl1_model.specs.Term.{Term};
 ghost use Rattle.kl1_text.specs.declared.cell_name.CellName.{CellName};
-ghost use Rattle.kl1_store.specs.Held.{Held};
+ghost use Rattle.kl1_store.specs.Held.{Held, IsIn};
 ghost use Rattle.kl1_store.specs.Hooks.{HasGrown};
 ghost use Rattle.kl1_goals.specs.declared.task.Task.TheVariants.{Monitor, Reduces, Substitutes};
 ghost use Rattle.kl1_user_effects.specs.Fitting.{Reading};
 ghost use Rattle.kl1_user_effects.specs.Account.{aim};
 ghost use Rattle.kl1_user_effects.specs.Kept.{AreShoensIn};
 ghost use Rattle.kl1_user_effects.specs.Works.{Knows};
-ghost use Rattle.kl1_user_account.specs.Reducing.{HasRow, RefusesAmong, IsSteppable, is_read, NotHeard, HeardAs, NotMade, IsMade, account_at, ReducesAs};
+ghost use Rattle.kl1_user_account.specs.Looking.{Serves};
+ghost use Rattle.kl1_user_account.specs.Reducing.{HasRow, RefusesAmong, IsSteppable, is_read, NotHeard, HeardAs, NotMade, IsMade, IsToMake, account_at, IsReduced, ReducesAs};
 ghost use Rattle.kl1_user_account.specs.Keeping.{IsKept};
 ghost use Rattle.kl1_user_effects.specs.Drafts.{CanGoBack};
 ghost use Rattle.kl1_user_effects.specs.Installing.{IsBegun};
@@ -192,8 +193,8 @@ fn draft_reading<C: CodeSource>(
     Ok(None)
 }
 
-/// Drafts a move of a goal, which may step, and which a draft removes, for a cell. The predicate of goals of its kind is known. The draft
-/// has begun with what the account has.
+/// Drafts a move that a goal for a cell, which may step, is to make by clause `clause`, for an account with `entries` entries in its
+/// journal. The predicate of goals of a kind is known. The draft has begun with what the account has.
 #[inline(always)]
 fn draft_made<C: CodeSource>(
     store: &mut Store<CellName>,
@@ -204,12 +205,31 @@ fn draft_made<C: CodeSource>(
     trial: &mut Trial<CellName>,
     draft: &mut Draft,
     walk: &mut Walk,
+    entries: u64,
     goal: Goal<CellName>,
     cell: Qualified<CellName>,
+    clause: u64,
     kind: Kind<CellName>,
     predicate: Predicate<'_, CellName>,
     made: Move<CellName>,
-) -> Result<(), AllocError> {
+) -> Result<(), AllocError>
+    requires steppable { IsSteppable goals.old.goals goal.number clause goal }
+    requires level { goal.priority ≤ monitor_priority }
+    requires begun { IsBegun 0 draft.old.rules draft.old.last_goal draft.old.variables draft.old.nodes draft.old.reports draft.old }
+    requires kept { (own : List ℕ × ℕ) → IsKept (account_at own draft.old.rules store.old.held goals.old.goals shoens.old modules.now.loaded names.old.names draft.old.last_goal draft.old.variables draft.old.nodes draft.old.reports entries) store.old.hooks goals.old.shoens }
+    requires cell { IsIn store.old.held cell.cell }
+    requires some { AreSome predicate.names.now predicate.clauses.now }
+    requires serves { Serves modules.now.loaded kind predicate }
+    requires makes { IsToMake store.old.held modules.now.loaded entries goal.task cell clause predicate.entry (taken_places trial.old) trial.old.text made }
+    requires inside { MoveIn store.old.held predicate.entry (taken_places trial.old) trial.old.text (Some made) }
+    ensures ok { OnOk result ((own : List ℕ × ℕ) → IsReduced (account_at own draft.old.rules store.old.held goals.old.goals shoens.old modules.now.loaded names.old.names draft.old.last_goal draft.old.variables draft.old.nodes draft.old.reports entries) goal.number clause store.new shoens.new goals.new draft.new) }
+    ensures back { CanGoBack shoens.old shoens.new }
+    ensures grown { HasGrown store.old store.new }
+    ensures goals { goals.new.goals ≡ goals.old.goals }
+    ensures shoens { goals.new.shoens ≡ goals.old.shoens }
+    ensures names { names.new.names ≡ names.old.names }
+    ensures room { OnOk result (HasRoomFor names.new.room draft.new.name) }
+{
     // Only for the proof: the goals are in order of number.
     let _ordered = goals.shoens();
     // Only for the proof: reductions were done in shoens that are there.
@@ -274,8 +294,10 @@ fn draft_substitute<C: CodeSource>(
         trial,
         draft,
         walk,
+        entries,
         goal,
         cell,
+        clause,
         Kind::Nothing,
         predicate,
         made,
@@ -322,7 +344,8 @@ fn draft_move<C: CodeSource>(
         Ok(made) => made,
     };
     draft_made(
-        store, goals, shoens, modules, names, trial, draft, walk, goal, cell, kind, predicate, made,
+        store, goals, shoens, modules, names, trial, draft, walk, entries, goal, cell, clause,
+        kind, predicate, made,
     )?;
     Ok(None)
 }

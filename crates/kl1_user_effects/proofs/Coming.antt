@@ -8,12 +8,13 @@ use Rattle.kl1_text.specs.declared.cell_name.CellName.{CellName}
 use Rattle.kl1_store.specs.declared.cell.Cell.{Cell}
 use Rattle.kl1_store.specs.declared.qualified.Qualified.{Qualified}
 use Rattle.kl1_goals.specs.declared.goal.Goal.{Goal}
-use Rattle.kl1_goals.specs.Lists.{is_other, is_monitor, is_monitor_of, is_goal_of, is_flagged}
+use Rattle.kl1_goals.specs.declared.task.Task.{Task}
+use Rattle.kl1_goals.specs.Lists.{is_other, is_monitor, is_monitor_task, is_monitor_of, is_goal_of, is_flagged}
 use Rattle.kl1_goals.specs.Tables.{AreBefore}
 use Rattle.kl1_shoen_paths.specs.declared.shoen.Shoen.{Shoen}
 use Rattle.kl1_user_effects.specs.declared.draft.Draft.{Draft}
 use Rattle.kl1_user_effects.specs.Kept.{AreOwned, AreUpTo}
-use Rattle.kl1_user_effects.specs.Drafts.{without_monitors, goals_left, goals_for, two_for}
+use Rattle.kl1_user_effects.specs.Drafts.{without_monitors, goals_left, goals_for, one_for, two_for}
 use Rattle.kl1_user_effects.specs.Walks.{ends_in, ending_in, terminated}
 use Rattle.kl1_user_effects.specs.Installing.{AreNext}
 use Rattle.kl1_shoen.specs.Shoens.{changed, lives_in, is_living_child_of}
@@ -34,6 +35,13 @@ next_for last shoen count (p ∷ ps) (x ∷ xs) goals up low high all = (
   record { number = before_next last goals up; low = low; high = high; priority = all.0; monitor = λ m. absurd (cc) },
   next_for (suc last) shoen count ps xs (goals ++ _ ∷ []) (up_to_append (suc last) goals (_ ∷ []) (up_to_more last (suc last) goals (omega arith) up) (omega arith, tt)) low high all.1,
 )
+
+differs : (b : Bool) → b ≡ true → b ≡ false → ⊥
+differs b e f = cc
+
+-- a goal of another task that takes a goal's place, and is no monitor's, comes after those of an account
+pub next_one : (last count : ℕ) (g : Goal CellName) (task : Task CellName) (goals : List (Goal CellName)) → AreUpTo last goals → 0 < g.shoen → g.shoen ≤ count → g.priority ≤ monitor_priority → is_monitor_task task ≡ false → AreNext goals count (one_for last g task)
+next_one last count g task goals up low high level other = (record { number = before_next last goals up; low = low; high = high; priority = level; monitor = λ m. absurd (differs (is_monitor_task task) m other) }, tt)
 
 -- goals of other shoens are no monitors of this one
 no_monitors : (known n : ℕ) (gs : List (Goal CellName)) → known < n → AreOwned known gs → list_any (is_monitor_of n) gs ≡ false

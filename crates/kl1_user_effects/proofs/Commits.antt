@@ -13,8 +13,8 @@ use Rattle.kl1_model.specs.Nodes.{goals_nodes}
 use Rattle.kl1_model.specs.State as model
 use Rattle.kl1_model.specs.State.{State, shoen_at, without_goal}
 use Rattle.kl1_model.specs.Opening.{clipped}
-use Rattle.kl1_model.specs.Reduction.{priority_of, goals_from, has_room_for, commits, or_exhaustion, committed, moved}
-use Rattle.kl1_model.specs.Report.{report, exception, exhaustion}
+use Rattle.kl1_model.specs.Reduction.{priority_of, goals_from, has_room_for, commits, or_exhaustion, committed, raised, moved}
+use Rattle.kl1_model.specs.Report.{exhaustion}
 use Rattle.kl1_text.specs.declared.cell_name.CellName.{CellName}
 use Rattle.kl1_store.specs.declared.qualified.Qualified.{Qualified}
 use Rattle.kl1_store.specs.Held.{Held}
@@ -180,15 +180,15 @@ pub drafts_exhausted : (p : Predicate CellName) (place : ℕ) (places : List (Pl
     alive ≡ count_by (λ g. not (is_monitor g)) (goals_left (goals ++ d.added.items) d) →
     ((f : Reading) (c : Candidate) → IsCandidate f h p place places c → (count ≡ length c.clause.body) × ((fresh ≡ fresh_variables c.clause) × (nodes ≡ goals_nodes (goals_of c.clause.body)))) →
     (nat_le (alive + count) most_goals && nat_le (d.variables + fresh) most_variables && nat_le (d.nodes + nodes) most_nodes) ≡ false →
-    DraftsAll (λ f. report goal.shoen (exception exhaustion (aim f h x))) h k t u d e → Commits p place places goal x goals h k t u d e
-drafts_exhausted p place places goal x goals h k t u d e alive count fresh nodes there needs full raised ms c candidate names i =
+    DraftsAll (λ f. raised (goal_with (meaning f h) goal) exhaustion (aim f h x)) h k t u d e → Commits p place places goal x goals h k t u d e
+drafts_exhausted p place places goal x goals h k t u d e alive count fresh nodes there needs full raises ms c candidate names i =
     let w = made_of goals names t d in
-    turns_as ms (λ f. report goal.shoen (exception exhaustion (aim f h x))) (λ f. moved (goal_with (meaning f h) goal) (aim f h x) (commits (c f))) h k w (made_of goals names u e)
+    turns_as ms (λ f. raised (goal_with (meaning f h) goal) exhaustion (aim f h x)) (λ f. moved (goal_with (meaning f h) goal) (aim f h x) (commits (c f))) h k w (made_of goals names u e)
     (λ f knows s.
     let n = needs f (c f) (candidate f knows) in
     let S = worked f s h w in
-    ap (λ b. or_exhaustion b goal.shoen (aim f h x) (committed (goal_with (meaning f h) goal) (c f) S) S) (room_read f s h w (c f).clause alive count fresh nodes there n.0 n.1.0 n.1.1 ∙ full))
-    (raised ms goals names i)
+    ap (λ b. or_exhaustion b (goal_with (meaning f h) goal) (aim f h x) (committed (goal_with (meaning f h) goal) (c f) S) S) (room_read f s h w (c f).clause alive count fresh nodes there n.0 n.1.0 n.1.1 ∙ full))
+    (raises ms goals names i)
 
 -- a draft whose goal has committed
 pub drafts_committed : (p : Predicate CellName) (place : ℕ) (places : List (Place CellName)) (goal : Goal CellName) (x : Qualified CellName) (goals : List (Goal CellName)) (h k : Held CellName) (t : Tree CellName) (d e : Draft) (alive count fresh nodes : ℕ) (sh : Shoen CellName) (ps : List (Option ℕ)) (cells : List (Qualified CellName)) →
@@ -218,7 +218,7 @@ drafts_committed p place places goal x goals h k t d e alive count fresh nodes s
     (λ f knows s.
     let n = needs f (c f) (candidate f knows) in
     let S = worked f s h w in
-    ap (λ y. or_exhaustion y goal.shoen (aim f h x) (committed (goal_with (meaning f h) goal) (c f) S) S) (room_read f s h w (c f).clause alive count fresh nodes there n.0 n.1.0 n.1.1 ∙ room))
+    ap (λ y. or_exhaustion y (goal_with (meaning f h) goal) (aim f h x) (committed (goal_with (meaning f h) goal) (c f) S) S) (room_read f s h w (c f).clause alive count fresh nodes there n.0 n.1.0 n.1.1 ∙ room))
     (subst T same
     (commit_turns ms h k w goal (Some sh) ps fresh nodes cells c i g found own inside (λ f knows. priorities f (c f) (candidate f knows)) (λ f knows. (needs f (c f) (candidate f knows)).1.0) (λ f knows. (needs f (c f) (candidate f knows)).1.1)
     (λ f knows. body f knows.reads (c f) (candidate f knows))))

@@ -44,7 +44,7 @@ turns_none ms f h a i e = record { inside = i; states = e }
 
 -- a state but for its goals, its shoens and its last variable
 abbrev pub base : State → Made → State
-base s w = record s { work = w.work; names = w.names; last_goal = w.last_goal; last_shoen = length w.shoens; variables = w.variables; nodes = w.nodes; reports = w.reports }
+base s w = record s { rules = w.rules; work = w.work; names = w.names; last_goal = w.last_goal; last_shoen = length w.shoens; variables = w.variables; nodes = w.nodes; reports = w.reports }
 
 -- the state that is worked on, by how cells are read
 abbrev pub read_as : State → Means → ℕ → Made → State
@@ -88,7 +88,8 @@ rereads s t u last h w a i = same_state (base s w) h t u last w.goals w.shoens a
 
 -- ---- reports
 
-broken_by : (n : ℕ) (t m : Term) (s : State) → Breaks (not (nat_lt s.reports most_reports)) t m → reported_at n m t s ≡ broken_at n s
+-- a report that breaks the stream
+pub broken_by : (n : ℕ) (t m : Term) (s : State) → Breaks (not (nat_lt s.reports most_reports)) t m → reported_at n m t s ≡ broken_at n s
 broken_by n (variable v) m s e =
     ap (λ b. if b then broken_at n s else change_shoen n (λ h. record h { tail = variable (suc s.last_variable) }) (record (replace_in_state v (cell m (variable (suc s.last_variable))) s) { last_variable = suc s.last_variable; reports = suc s.reports })) e
 broken_by n (integer i) m s e = refl

@@ -1,6 +1,6 @@
 // Reports, exceptions and the ends of report streams.
 
-ghost use Rattle.std.specs.Prelude.{◌≡◌, ◌≤◌, ◌++◌, [], suc, length, IfOk, OnOk};
+ghost use Rattle.std.specs.Prelude.{◌≡◌, ◌≤◌, ◌++◌, [], false, suc, length, IfOk, OnOk};
 ghost use Rattle.kl1_model.specs.Limits.{monitor_priority};
 ghost use Rattle.kl1_model.specs.declared.rules.Rules.TheVariants.{Two};
 ghost use Rattle.kl1_model.specs.Unify.{mgu};
@@ -15,7 +15,7 @@ ghost use Rattle.kl1_user_effects.specs.Wholes.{IsWhole};
 ghost use Rattle.kl1_user_effects.specs.Kept.{IsOwned, AreShoensIn};
 ghost use Rattle.kl1_user_effects.specs.declared.draft.Draft.{Draft};
 ghost use Rattle.kl1_user_effects.specs.Drafts.{DraftsAll, HasBegun, CanGoBack, one_for};
-ghost use Rattle.kl1_user_effects.specs.Reports.{IsTold};
+ghost use Rattle.kl1_user_effects.specs.Reports.{IsTold, IsDropped};
 ghost use Rattle.kl1_user_effects.specs.Leaving.{Comes, AreMet};
 ghost use Rattle.kl1_user_effects.specs.Frames.{Stays};
 ghost use Rattle.kl1_user_effects.specs.Late.{KeepsFree};
@@ -43,6 +43,7 @@ fn tell(
     requires shoens { AreShoensIn store.old.held shoens.old.shoens }
     ensures ok { OnOk result (DraftsAll (λ f. report number (meaning f store.old.held message)) store.old.held store.new.held shoens.old shoens.new draft.old draft.new) }
     ensures told { IfOk result (IsTold number message store.old.held store.new.held shoens.old.shoens draft.old) }
+    ensures dropped { IfOk result (λ made. made ≡ false → IsDropped number shoens.old shoens.new draft.old draft.new) }
     ensures shoens { OnOk result (AreShoensIn store.new.held shoens.new.shoens) }
     ensures back { CanGoBack shoens.old shoens.new }
     ensures stays { OnOk result (Stays shoens.old shoens.new) }
@@ -205,6 +206,7 @@ fn raise_with_substitute(
     requires rules { draft.old.rules ≡ Two }
     requires begun { HasBegun draft.old }
     requires empty { draft.old.added.items ≡ [] }
+    requires level { goal.priority ≤ monitor_priority }
     ensures ok { OnOk result (DraftsAll (λ f. raised (goal_with (meaning f store.old.held) goal) (text_of kind) (meaning f store.old.held term)) store.old.held store.new.held shoens.old shoens.new draft.old draft.new) }
     ensures comes { OnOk result (Comes store.new.held (length shoens.old.shoens) (length shoens.new.shoens) draft.old draft.new) }
     ensures met { OnOk result (AreMet draft.new.added.items) }

@@ -11,7 +11,6 @@ use Rattle.kl1_model.specs.Tree.{charge}
 use Rattle.kl1_model.specs.Ending.{after_reduction}
 use Rattle.kl1_model.specs.Reduction as model
 use Rattle.kl1_model.specs.Reduction.{moved, equation, names, or_exhaustion, named_by, unified}
-use Rattle.kl1_model.specs.code.Waits.{move_by}
 use Rattle.kl1_text.specs.Reading.{Reads}
 use Rattle.kl1_text.specs.declared.cell_name.CellName.{CellName}
 use Rattle.kl1_atoms.specs.declared.known.Known.{Known}
@@ -118,11 +117,11 @@ reads_move move.GivesWay ms h known text k s r = tt
 -- a move by which no variable becomes a name does what it does without names that are new
 pub does_acts : (p : Predicate CellName) (made : Move CellName) (places : List (Place CellName)) (text : List ℕ) (goal : Goal CellName) (x : Qualified CellName) (goals : List (Goal CellName)) (known : List Known) (h k : Held CellName) (t u : Tree CellName) (d e : Draft) →
     SpellsNone made h known text → e.spelled ≡ None → Acts p made places text goal x goals known h k t u d e → Does p made places text goal x goals known h k t u d e
-does_acts p made places text goal x goals known h k t u d e spells unspelled acts ms modules clause m n last reads respells as_found found =
+does_acts p made places text goal x goals known h k t u d e spells unspelled acts ms m n last reads respells as_found =
     let R : Option Spelled → Type 0 = λ o. Respells o n k last in
     let same : last ≡ k = subst R unspelled respells in
     let D : Held CellName → Type 0 = λ l. Drafts ms (λ f s. after_reduction goal.shoen (moved (goal_with (meaning f h) goal) (aim f h x) (m f) (charge goal.shoen s))) h l goals (texts_of known) t u d e in
-    subst D (sym same) (acts ms modules clause m (reads_move made ms h known text n spells reads) as_found found)
+    subst D (sym same) (acts ms m (reads_move made ms h known text n spells reads) as_found)
 
 -- ---- a variable that becomes a name
 
@@ -137,9 +136,9 @@ variable_solved v text = refl
 becomes : (goal : Goal CellName) (t : Means) (x b : Term) (v : ℕ) (text : List ℕ) (s : State) → nat_le (length (with_name s.names text)) most_names ≡ true → b ≡ variable v →
     moved (goal_with t goal) x (names text b) s ≡ replace_in_state v (atom text) (with_text text s)
 becomes goal t x b v text s keeps is =
-    ap (λ c. or_exhaustion c goal.shoen x (named_by goal.shoen x text b s) s) keeps
-    ∙ ap (λ (r : Term). unified goal.shoen x (mgu (equation r (atom text))) (with_text text s)) is
-    ∙ ap (λ o. unified goal.shoen x o (with_text text s)) (variable_solved v text)
+    ap (λ c. or_exhaustion c (goal_with t goal) x (named_by (goal_with t goal) x text b s) s) keeps
+    ∙ ap (λ (r : Term). unified (goal_with t goal) x (mgu (equation r (atom text))) (with_text text s)) is
+    ∙ ap (λ o. unified (goal_with t goal) x o (with_text text s)) (variable_solved v text)
 
 -- if a variable is bound to a number that is read as a text, it is replaced by this text
 bound_state : (f : Reading) (s : State) (h : Held CellName) (w : Made) (v : ℕ) (n : CellName) (text : List ℕ) → f n ≡ text → IsMadeIn h w → replace_in_state v (atom text) (worked f s h w) ≡ worked f s (with_binding h v (Atom n)) w
@@ -170,7 +169,7 @@ spelled_state f s h before w z goal x a m v text n move_is is keeps within reads
 -- a name that is spelled is what the move does
 does_names : (p : Predicate CellName) (places : List (Place CellName)) (text : List ℕ) (a : Cell CellName) (v : ℕ) (goal : Goal CellName) (x : Qualified CellName) (goals : List (Goal CellName)) (known : List Known) (h k : Held CellName) (t u : Tree CellName) (d e : Draft) →
     IsSpelling h known text a v → d.name ≡ None → Spells goal.shoen text v goals known h k t u d e → Does p (move.Names a) places text goal x goals known h k t u d e
-does_names p places text a v goal x goals known h k t u d e by unnamed s ms modules clause m n last reads respells as_found found i =
+does_names p places text a v goal x goals known h k t u d e by unnamed s ms m n last reads respells as_found i =
     let w = made_of goals (texts_of known) t d in
     let z = made_of goals (texts_of known) u e in
     let bound = with_binding s.held v (Atom n) in
@@ -184,7 +183,7 @@ does_names p places text a v goal x goals known h k t u d e by unnamed s ms modu
       inside = grown_made s.held bound z (Grown-binding s.held v (Atom n)) late.inside;
       states = λ f knows state.
           spelled_state f state h s.held w z goal (aim f h x) (meaning f h a) (m f) v text n
-          (found_is (m f) (names text (meaning f h a)) (move_by modules (aim f h x) clause) (found f knows) (as_found f knows)) (by.means f)
+          (found_is (m f) (names text (meaning f h a)) (Some (m f)) refl (as_found f knows)) (by.means f)
           (ap (λ (ns : List (List ℕ)). nat_le (length (with_name ns text)) most_names) names_are ∙ by.keeps) by.within
           (reads_number f h known text a n by.new by.keeps (reads f knows)) late.inside (late.states f knows state);
     } in

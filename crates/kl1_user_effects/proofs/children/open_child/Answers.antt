@@ -7,9 +7,8 @@ use Rattle.kl1_user_effects.proofs.TreesIn.{never_absent}
 use Rattle.kl1_user_effects.proofs.Joining.{drafts_full, child_of, drafts_child, one_order}
 use Rattle.std.proofs.Common.{◌≤◌}
 use Rattle.kl1_model.specs.Limits.{monitor_priority}
-use Rattle.kl1_user_effects.specs.declared.draft.Draft.{Draft}
 use Rattle.kl1_user_effects.proofs.States.{found_shoen_in}
-use Rattle.kl1_user_effects.proofs.Arriving.{clipped_low, comes_none, met_none}
+use Rattle.kl1_user_effects.proofs.Arriving.{clipped_low}
 use Rattle.kl1_user_effects.proofs.children.open_child.Goals as goal
 
 pub returns-then-not-may_open-clause-ok : goal.returns-then-not-may_open-clause-ok
@@ -43,16 +42,6 @@ returns-clause-ok c =
     c.open_shoen.ensures.ok
 
 -- ---- what comes
-
-pub returns-then-not-may_open-clause-comes : goal.returns-then-not-may_open-clause-comes
-returns-then-not-may_open-clause-comes c =
-    let d = c.args.draft.now in
-    let e = c.raise.new.draft in
-    let last : e.last_goal ≡ d.last_goal = ap (λ (x : Draft). x.last_goal) c.raise.ensures.rest in
-    on_ok_weaker c.raise.result (λ ok. comes_none c.raise.new.store.held (length c.args.shoens.now.shoens) (length c.raise.new.shoens.shoens) d e (ap (λ (x : Draft). x.added.items) c.raise.ensures.rest ∙ c.requires.empty) (omega (arith, last))) c.raise.ensures.ok
-
-pub returns-then-not-may_open-clause-met : goal.returns-then-not-may_open-clause-met
-returns-then-not-may_open-clause-met c = on_ok_weaker c.raise.result (λ ok. met_none c.raise.new.draft (ap (λ (x : Draft). x.added.items) c.raise.ensures.rest ∙ c.requires.empty)) c.raise.ensures.ok
 
 pub returns-then-not-may_open-clause-one_opens : goal.returns-then-not-may_open-clause-one_opens
 returns-then-not-may_open-clause-one_opens c = on_ok_weaker c.raise.result (λ same. omega (arith, same)) c.raise.ensures.count

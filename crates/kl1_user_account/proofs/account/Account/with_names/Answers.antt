@@ -15,4 +15,4 @@ publish-requires-clause-few g c =
 pub returns-clause-fresh : goal.returns-clause-fresh
 returns-clause-fresh g c = λ f.
     ap (state_of f) c.blank.ensures
-    ∙ ap (λ (ts : List (List ℕ)). fresh_with c.args.name ts c.args.sessions) (c.publish.ensures.texts ∙ put_to_none c.reserve.new.self.names c.args.texts.now (c.reserve.ensures.names ∙ c.new-known.ensures) c.requires.list)
+    ∙ ap (λ (ts : List (List ℕ)). fresh_with c.args.rules c.args.name ts c.args.sessions) (c.publish.ensures.texts ∙ put_to_none c.reserve.new.self.names c.args.texts.now (c.reserve.ensures.names ∙ c.new-known.ensures) c.requires.list)
