@@ -2,7 +2,7 @@
 use Rattle.std.proofs.Common.{◌≡◌, ℕ, suc, ◌-◌, ◌<◌, nat_lt, Bool, true, false, if◌then◌else◌, List, refl, sym, ap, ◌∙◌, subst, inl, inr}
 use Rattle.std.specs.Prelude.{◌⊎◌, Option, Some, None}
 use Rattle.std.proofs.lemmas.Bool.{ltb-true}
-use Rattle.kl1_model.specs.Limits.{most_sessions}
+use Rattle.kl1_model.specs.declared.limits.TheConstants.{MOST_SESSIONS}
 use Rattle.kl1_model.specs.State.{State}
 use Rattle.kl1_model.specs.Event as model
 use Rattle.kl1_model.specs.Event.{Transition, refuse, sessions_refused}
@@ -43,7 +43,7 @@ logout_is false s j same a = cc
 -- a session that is opened or closed
 session_is : (s : State) (j : Journal) (e : model.Event) → (e ≡ model.login) ⊎ (e ≡ model.logout) → j.sessions ≡ s.sessions → is_refused (step s e).reply ≡ false → with_event j e (step s e).state ≡ sessions_after j (step s e).reply
 session_is s j e (inl is) same a =
-    subst (λ d. is_refused (step s d).reply ≡ false → with_event j d (step s d).state ≡ sessions_after j (step s d).reply) (sym is) (login_is (nat_lt s.sessions most_sessions) s j same) a
+    subst (λ d. is_refused (step s d).reply ≡ false → with_event j d (step s d).state ≡ sessions_after j (step s d).reply) (sym is) (login_is (nat_lt s.sessions MOST_SESSIONS) s j same) a
 session_is s j e (inr is) same a =
     subst (λ d. is_refused (step s d).reply ≡ false → with_event j d (step s d).state ≡ sessions_after j (step s d).reply) (sym is) (logout_is (nat_lt 0 s.sessions) s j same) a
 
@@ -66,8 +66,8 @@ pub noted_is : (s : State) (names : List (List ℕ)) (j : Journal) (e : model.Ev
     noted j e (step s e) ≡ (if is_refused (step s e).reply then j else changed j d (step s e).reply)
 noted_is s names j e d h used ruled same = noted_by (is_refused (step s e).reply) s names j e d h used ruled same refl
 
-login_fits : (c : Bool) (s : State) (j : Journal) → nat_lt s.sessions most_sessions ≡ c → j.sessions ≡ s.sessions → ReplyFits j (if c then record { state = record s { sessions = suc s.sessions }; reply = model.welcome s.own_name } else refuse s sessions_refused).reply
-login_fits true s j e same = subst (λ n. n < most_sessions) (sym same) (ltb-true s.sessions most_sessions e)
+login_fits : (c : Bool) (s : State) (j : Journal) → nat_lt s.sessions MOST_SESSIONS ≡ c → j.sessions ≡ s.sessions → ReplyFits j (if c then record { state = record s { sessions = suc s.sessions }; reply = model.welcome s.own_name } else refuse s sessions_refused).reply
+login_fits true s j e same = subst (λ n. n < MOST_SESSIONS) (sym same) (ltb-true s.sessions MOST_SESSIONS e)
 login_fits false s j e same = tt
 
 logout_fits : (c : Bool) (s : State) (j : Journal) → nat_lt 0 s.sessions ≡ c → j.sessions ≡ s.sessions → ReplyFits j (if c then record { state = record s { sessions = s.sessions - 1 }; reply = model.bye } else refuse s sessions_refused).reply
@@ -75,7 +75,7 @@ logout_fits true s j e same = subst (λ n. 0 < n) (sym same) (ltb-true 0 s.sessi
 logout_fits false s j e same = tt
 
 session_fits : (s : State) (j : Journal) (e : model.Event) → (e ≡ model.login) ⊎ (e ≡ model.logout) → j.sessions ≡ s.sessions → ReplyFits j (step s e).reply
-session_fits s j e (inl is) same = subst (λ d. ReplyFits j (step s d).reply) (sym is) (login_fits (nat_lt s.sessions most_sessions) s j refl same)
+session_fits s j e (inl is) same = subst (λ d. ReplyFits j (step s d).reply) (sym is) (login_fits (nat_lt s.sessions MOST_SESSIONS) s j refl same)
 session_fits s j e (inr is) same = subst (λ d. ReplyFits j (step s d).reply) (sym is) (logout_fits (nat_lt 0 s.sessions) s j refl same)
 
 -- a reply fits the change of its event

@@ -1,6 +1,6 @@
 -- What an event changes in a journal.
 use Rattle.std.specs.Prelude.{⊤, ◌≡◌, ℕ, suc, ◌-◌, ◌<◌, ◌⊎◌, List, IfSome}
-use Rattle.kl1_model.specs.Limits.{most_sessions}
+use Rattle.kl1_model.specs.declared.limits.TheConstants.{MOST_SESSIONS}
 use Rattle.kl1_model.specs.Event as model
 use Rattle.kl1_model_history.specs.Journal.{Journal, new_journal}
 use Rattle.kl1_journal_entries.specs.Lined.{Rows, lined_entry, with_prepared}
@@ -40,7 +40,7 @@ HasRoom rows (change.Anew new) = ⊤
 
 -- a reply fits how many sessions are open
 abbrev pub ReplyFits : Journal → model.Reply → Type 0
-ReplyFits j (model.welcome name) = j.sessions < most_sessions
+ReplyFits j (model.welcome name) = j.sessions < MOST_SESSIONS
 ReplyFits j model.bye = 0 < j.sessions
 ReplyFits j _ = ⊤
 

@@ -6,7 +6,7 @@ use Rattle.std.specs.declared.vec.Vec.{Vec}
 use Rattle.std.specs.declared.alloc.Global.{Global}
 use Rattle.std.proofs.lemmas.List.{length-append}
 use Rattle.std.proofs.lemmas.Bool.{and_from, and_parts, lt-ltb, ltb-true, leb-true}
-use Rattle.kl1_model.specs.Limits.{number_limit, most_line_bytes}
+use Rattle.kl1_model.specs.declared.limits.TheConstants.{NUMBER_LIMIT, MOST_LINE_BYTES}
 use Rattle.kl1_model.specs.Term.{Term}
 use Rattle.kl1_model.specs.Print.{print}
 use Rattle.kl1_model.specs.Goal.{is_goal}
@@ -34,7 +34,7 @@ kept_line (w ∷ ws) (suc k) less sound = kept_line ws k (omega (arith, less)) s
 
 -- a message to a shoen whose number has 32 bits
 small_number : (n : ℕ) → n < 2 ^ 32 → is_number n && true ≡ true
-small_number n small = and_from (is_number n) true (lt-ltb n number_limit (omega (arith, small))) refl
+small_number n small = and_from (is_number n) true (lt-ltb n NUMBER_LIMIT (omega (arith, small))) refl
 
 -- what stands at a place has a line
 slot_line : (ws : List Whole) (s : Slot) → IsPlace (length ws) s → AllByRecursion IsSound ws → HasLine (entry_at ws s)
@@ -56,7 +56,7 @@ bytes_fit (x ∷ xs) fit = (omega (arith, fit 0), bytes_fit xs (λ i. fit (suc i
 
 -- a source whose line isn't too long
 pub load_line : (text : List ℕ) → is_lined (loads text) ≡ true → AreBytes text → HasLine (loads text)
-load_line text lined bytes = (bytes, omega (arith, leb-true (5 + 2 * length text) most_line_bytes lined, length_hex text))
+load_line text lined bytes = (bytes, omega (arith, leb-true (5 + 2 * length text) MOST_LINE_BYTES lined, length_hex text))
 
 -- how long the line of a start is
 pub start_length : (allowance low high : ℕ) (t : Term) → length (start_line allowance low high t) ≡ 9 + length (decimal allowance) + length (decimal low) + length (decimal high) + length (print t)
@@ -68,13 +68,13 @@ start_length allowance low high t = parts (decimal allowance) (decimal low) (dec
 -- a start that is lined has a line
 start_line_here : (allowance low high : ℕ) (t : Term) → is_lined (starts allowance low high t) ≡ true → HasLine (starts allowance low high t)
 start_line_here allowance low high t lined =
-    let a = and_parts (is_number allowance && is_number low && is_number high && is_goal t && is_writable t && is_numbered t) (nat_le (length (start_line allowance low high t)) most_line_bytes) lined in
+    let a = and_parts (is_number allowance && is_number low && is_number high && is_goal t && is_writable t && is_numbered t) (nat_le (length (start_line allowance low high t)) MOST_LINE_BYTES) lined in
     let b = and_parts (is_number allowance && is_number low && is_number high && is_goal t && is_writable t) (is_numbered t) a.0 in
     let c = and_parts (is_number allowance && is_number low && is_number high && is_goal t) (is_writable t) b.0 in
     let d = and_parts (is_number allowance && is_number low && is_number high) (is_goal t) c.0 in
     let e = and_parts (is_number allowance && is_number low) (is_number high) d.0 in
     let f = and_parts (is_number allowance) (is_number low) e.0 in
-    (ltb-true allowance number_limit f.0, ltb-true low number_limit f.1, ltb-true high number_limit e.1, d.1, c.1, b.1, leb-true (length (start_line allowance low high t)) most_line_bytes a.1)
+    (ltb-true allowance NUMBER_LIMIT f.0, ltb-true low NUMBER_LIMIT f.1, ltb-true high NUMBER_LIMIT e.1, d.1, c.1, b.1, leb-true (length (start_line allowance low high t)) MOST_LINE_BYTES a.1)
 
 -- the goal that the print of a lined start's goal is
 pub start_back : (allowance low high : ℕ) (t : Term) (text : List ℕ) → text ≡ print t → is_lined (starts allowance low high t) ≡ true → goal_in text ≡ t
@@ -110,12 +110,12 @@ answer_length n report t = parts (decimal n) (decimal report) (print t)
 -- an answer that is lined has a line
 answer_line_here : (n report : ℕ) (t : Term) → is_lined (answers n report t) ≡ true → HasLine (answers n report t)
 answer_line_here n report t lined =
-    let a = and_parts (is_number n && is_number report && is_goal t && is_writable t && is_numbered t) (nat_le (length (answer_line n report t)) most_line_bytes) lined in
+    let a = and_parts (is_number n && is_number report && is_goal t && is_writable t && is_numbered t) (nat_le (length (answer_line n report t)) MOST_LINE_BYTES) lined in
     let b = and_parts (is_number n && is_number report && is_goal t && is_writable t) (is_numbered t) a.0 in
     let c = and_parts (is_number n && is_number report && is_goal t) (is_writable t) b.0 in
     let d = and_parts (is_number n && is_number report) (is_goal t) c.0 in
     let e = and_parts (is_number n) (is_number report) d.0 in
-    (ltb-true n number_limit e.0, ltb-true report number_limit e.1, d.1, c.1, b.1, leb-true (length (answer_line n report t)) most_line_bytes a.1)
+    (ltb-true n NUMBER_LIMIT e.0, ltb-true report NUMBER_LIMIT e.1, d.1, c.1, b.1, leb-true (length (answer_line n report t)) MOST_LINE_BYTES a.1)
 
 -- the goal that the print of a lined answer's goal is
 pub answer_back : (n report : ℕ) (t : Term) (text : List ℕ) → text ≡ print t → is_lined (answers n report t) ≡ true → goal_in text ≡ t

@@ -1,7 +1,7 @@
 -- What the row of a journal means.
 use Rattle.std.specs.Prelude.{◌≡◌, ℕ, ◌<◌, ◌≤◌, ◌^◌, List, [], length, slice_get, Option, Some, None}
 use Rattle.std.specs.List.{AllByRecursion}
-use Rattle.kl1_model.specs.Limits.{most_sessions}
+use Rattle.kl1_model.specs.declared.limits.TheConstants.{MOST_SESSIONS}
 use Rattle.kl1_model.specs.declared.message.Message.TheVariants.{Stop, Start, Abort}
 use Rattle.kl1_model.specs.Term.{Term, atom}
 use Rattle.kl1_model.specs.Print.{print}
@@ -80,7 +80,7 @@ IsSoundForm (form.Long w) = IsSound w
 
 -- what holds of the parts of each journal
 pub record IsHeld (sessions : ℕ) (names : List (List ℕ)) (slots : List Slot) (wholes : List Whole) : Type 0 where
-  pub few_sessions : sessions ≤ most_sessions
+  pub few_sessions : sessions ≤ MOST_SESSIONS
   pub are_names : AreNames names
   pub places : AllByRecursion (IsPlace (length wholes)) slots
   pub sound : AllByRecursion IsSound wholes

@@ -1,7 +1,7 @@
 // The first line of a journal's text.
 
 ghost use Rattle.std.specs.Prelude.{◌≡◌, ◌+◌, ◌≤◌, ◌++◌, length, bytes_eq, option_map, IfSome};
-ghost use Rattle.kl1_model.specs.Limits.{most_sessions, most_names};
+ghost use Rattle.kl1_model.specs.declared.limits.TheConstants.{MOST_SESSIONS, MOST_NAMES};
 ghost use Rattle.kl1_model_history.specs.JournalText.{version, first_line, rules_of, heading_in};
 ghost use Rattle.kl1_journal_entries.specs.Reading.{heading_view};
 
@@ -72,8 +72,8 @@ fn is_first_line(line: &[u8], rules: Rules, sessions: u64, names: u64) -> bool
 /// What a line says as the first line of a journal, if it is one.
 pub fn heading_of(line: &[u8]) -> Option<Heading>
     ensures value { option_map heading_view result ≡ heading_in line.now }
-    ensures sessions { IfSome result (λ h. h.sessions ≤ most_sessions) }
-    ensures names { IfSome result (λ h. h.names ≤ most_names) }
+    ensures sessions { IfSome result (λ h. h.sessions ≤ MOST_SESSIONS) }
+    ensures names { IfSome result (λ h. h.names ≤ MOST_NAMES) }
 {
     let (_, behind) = split_name(line);
     let (number, rest) = split_name(behind);

@@ -1,7 +1,7 @@
 // The journal of an account.
 
 ghost use Rattle.std.specs.Prelude.{◌≡◌, ◌<◌, ◌≤◌, [], IfOk, OnOk, IfSome};
-ghost use Rattle.kl1_model.specs.Limits.{most_sessions};
+ghost use Rattle.kl1_model.specs.declared.limits.TheConstants.{MOST_SESSIONS};
 ghost use Rattle.kl1_model_history.specs.Journal.{new_journal};
 ghost use Rattle.kl1_model_history.specs.laws.TextLaws.{AreNames, IsWritten};
 ghost use Rattle.kl1_journal_entries.specs.Lined.{with_prepared};
@@ -65,7 +65,7 @@ impl Journal {
         sessions: u64,
     ) -> Result<Self, AllocError>
         requires names { AreNames names.now }
-        requires sessions { sessions ≤ most_sessions }
+        requires sessions { sessions ≤ MOST_SESSIONS }
         ensures { IfOk result (λ j. j.journal ≡ new_journal rules names.now sessions) }
     {
         let names = Vec::from_slice(alloc, names)?;
@@ -110,7 +110,7 @@ impl Journal {
 
     /// Sets how many sessions are open.
     pub fn set_sessions(&mut self, sessions: u64)
-        requires { sessions ≤ most_sessions }
+        requires { sessions ≤ MOST_SESSIONS }
         ensures journal { self.new.journal ≡ record self.old.journal { sessions = sessions } }
         ensures room { self.new.room ≡ self.old.room }
     {

@@ -2,7 +2,8 @@
 
 ghost use Rattle.std.specs.Prelude.{◌≡◌, ◌≤◌, ◌+◌, nat_le, length, decimal, is_some, option_map, IfOk, IsOk, None};
 ghost use Rattle.kl1_model.specs.Print.{print};
-ghost use Rattle.kl1_model.specs.Event.{is_number, most_line_bytes};
+ghost use Rattle.kl1_model.specs.Event.{is_number};
+ghost use Rattle.kl1_model.specs.declared.limits.TheConstants.{MOST_LINE_BYTES};
 ghost use Rattle.kl1_model.specs.Sending.{may_send};
 ghost use Rattle.kl1_model_history.specs.Journal.{loads, starts, sends, steps, answers};
 ghost use Rattle.kl1_model_history.specs.JournalText.{entry_line};
@@ -163,7 +164,7 @@ fn digits(number: u64) -> usize
 
 /// Whether the line of a start whose goal's print has `bytes` bytes isn't too long.
 fn fits_line(allowance: u64, low: u64, high: u64, bytes: usize) -> bool
-    ensures { result ≡ nat_le (9 + length (decimal allowance) + length (decimal low) + length (decimal high) + bytes) most_line_bytes }
+    ensures { result ≡ nat_le (9 + length (decimal allowance) + length (decimal low) + length (decimal high) + bytes) MOST_LINE_BYTES }
 {
     bytes <= MOST_LINE_BYTES
         && 9 + digits(allowance) + digits(low) + digits(high) + bytes <= MOST_LINE_BYTES
@@ -266,7 +267,7 @@ pub fn step_for(goal: u64, clause: u64) -> Prepared
 
 /// Whether the line of an answer whose goal's print has `bytes` bytes isn't too long.
 fn fits_answer(shoen: u64, report: u64, bytes: usize) -> bool
-    ensures { result ≡ nat_le (9 + length (decimal shoen) + length (decimal report) + bytes) most_line_bytes }
+    ensures { result ≡ nat_le (9 + length (decimal shoen) + length (decimal report) + bytes) MOST_LINE_BYTES }
 {
     bytes <= MOST_LINE_BYTES && 9 + digits(shoen) + digits(report) + bytes <= MOST_LINE_BYTES
 }

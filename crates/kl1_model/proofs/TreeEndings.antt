@@ -3,7 +3,7 @@ use Rattle.std.proofs.Common.{◌≡◌, ℕ, suc, ◌==◌, ◌||◌, not, ◌&
 use Rattle.std.specs.Prelude.{nat_lt, map, Option, Some, None}
 use Rattle.std.specs.List.{AllByRecursion}
 use Rattle.std.proofs.lemmas.Bool.{and_parts}
-use Rattle.kl1_model.specs.Limits.{most_reports}
+use Rattle.kl1_model.specs.declared.limits.TheConstants.{MOST_REPORTS}
 use Rattle.kl1_model.specs.declared.life.Life.{Life}
 use Rattle.kl1_model.specs.declared.life.Life.TheVariants.{Terminated, Aborted}
 use Rattle.kl1_model.specs.Term.{Term, variable, integer, atom, structure, occurs}
@@ -93,7 +93,7 @@ reported_leaves n m (variable v) s =
     let bound = record (replace_in_state v (cell m (variable next)) s) { last_variable = next; reports = suc s.reports } in
     let k = leaves_replace v (cell m (variable next)) s in
     let b : Leaves s bound = record { marks = k.marks; goals = k.goals; posts = k.posts } in
-    leaves_if (occurs v m || not (nat_lt s.reports most_reports)) s (broken_at n s) (change_shoen n (λ h. record h { tail = variable next }) bound) (leaves_broken n s)
+    leaves_if (occurs v m || not (nat_lt s.reports MOST_REPORTS)) s (broken_at n s) (change_shoen n (λ h. record h { tail = variable next }) bound) (leaves_broken n s)
     (leaves_both s bound (change_shoen n (λ h. record h { tail = variable next }) bound) b (leaves_change n (λ h. record h { tail = variable next }) bound (λ h. refl)))
 reported_leaves n m (integer i) s = leaves_broken n s
 reported_leaves n m (atom a) s = leaves_broken n s

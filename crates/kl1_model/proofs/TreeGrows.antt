@@ -7,7 +7,7 @@ use Rattle.std.proofs.lemmas.Bool.{false≢true, eqb-true}
 use Rattle.std.proofs.lemmas.List.{get_or_append_left, append-nil}
 use Rattle.std.proofs.lemmas.List.Sums.{sum_by-cons}
 use Rattle.std.proofs.lemmas.Option.{none-some, same_Some}
-use Rattle.kl1_model.specs.Limits.{most_names}
+use Rattle.kl1_model.specs.declared.limits.TheConstants.{MOST_NAMES}
 use Rattle.kl1_model.specs.Term.{Term, variable, atom, Replacement}
 use Rattle.kl1_model.specs.Unify.{mgu}
 use Rattle.kl1_model.specs.Module.{is_among}
@@ -249,7 +249,7 @@ move_follows g t (unifies a b) s = unified_follows g t (mgu (equation a b)) s s 
 move_follows g t (names text a) s =
     let u = record s { names = with_name s.names text } in
     let k : Keeps s u = record { parents = refl; work = refl; last = refl; owners = λ n w. w; numbered = λ n w. w } in
-    follows_or (nat_le (length (with_name s.names text)) most_names) g t s (unified g t (mgu (equation a (atom text))) u) (unified_follows g t (mgu (equation a (atom text))) s u k)
+    follows_or (nat_le (length (with_name s.names text)) MOST_NAMES) g t s (unified g t (mgu (equation a (atom text))) u) (unified_follows g t (mgu (equation a (atom text))) s u k)
 move_follows g t (opens o) s =
     follows_or (has_room_for_child s g.shoen) g t s (open_child s g.shoen o) (opening_follows g.shoen (child_shoen s g.shoen o) o.goal s refl (λ few. few))
 move_follows g t goes s = follows_kept g.shoen s s (keeps_same s)

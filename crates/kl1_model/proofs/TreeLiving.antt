@@ -4,7 +4,7 @@ use Rattle.std.specs.Prelude.{nat_lt, nat_le, length, Option, Some, None, is_som
 use Rattle.std.specs.List.{AllByRecursion}
 use Rattle.std.proofs.lemmas.Bool.{false≢true, eq-eqb, ne_eqb}
 use Rattle.std.proofs.lemmas.Option.{none-some, same_Some}
-use Rattle.kl1_model.specs.Limits.{most_names, most_modules, most_sessions}
+use Rattle.kl1_model.specs.declared.limits.TheConstants.{MOST_NAMES, MOST_MODULES, MOST_SESSIONS, MOST_SOURCE_BYTES, MOST_ENTRIES}
 use Rattle.kl1_model.specs.declared.message.Message.{Message}
 use Rattle.kl1_model.specs.declared.message.Message.TheVariants.{Stop, Start, Abort, Allow}
 use Rattle.kl1_model.specs.Term.{Term, variable, integer, atom, structure, Replacement}
@@ -16,7 +16,7 @@ use Rattle.kl1_model.specs.Match.{Candidate, module_of}
 use Rattle.kl1_model.specs.State.{Task, reduces, substitutes, Goal, Origin, Shoen, State, has_substitutes, goal_at, shoen_at, names_of, names_of_module, with_name, with_names, replace_in_state, replace_all, change_shoen, without_goal, is_living}
 use Rattle.kl1_model.specs.Tree.{parents_of, charge}
 use Rattle.kl1_model.specs.Control.{Control, awaits_message, tells, tells_other, ends, breaks_off, message_term, message_nodes}
-use Rattle.kl1_model.specs.Event.{exists, shoen_ended, syntax, too_many_names, limit_passed, journal_full, sessions_refused, Query, value, status, reports, modules, is_quiet, Event, load, start, control, reduce, read, login, logout, reset, answer, loaded, opened, sent, reduced, welcome, bye, Transition, refuse, is_number, most_source_bytes, most_entries, with_entry, recorded, named, limited}
+use Rattle.kl1_model.specs.Event.{exists, shoen_ended, syntax, too_many_names, limit_passed, journal_full, sessions_refused, Query, value, status, reports, modules, is_quiet, Event, load, start, control, reduce, read, login, logout, reset, answer, loaded, opened, sent, reduced, welcome, bye, Transition, refuse, is_number, with_entry, recorded, named, limited}
 use Rattle.kl1_model.specs.Report.{report, is_reported, exception, exception_with, failure, illegal_input, exhaustion, started_report, exhausted_report, stopped_report, resumed_report}
 use Rattle.kl1_model.specs.Ending.{without_monitor}
 use Rattle.kl1_model.specs.Opening.{may_start, has_room_to_start, opening_goals, with_shoen, open_shoen, with_next_variables, started_shoen, start_goal, has_room_for_child, child_shoen, open_child}
@@ -159,7 +159,7 @@ moved_posted g t (raises kind) s l tree a = raised_posted g kind t s l a
 moved_posted g t (unifies x y) s l tree a = unified_posted g t (mgu (equation x y)) s l a
 moved_posted g t (names text x) s l tree a =
     let u = record s { names = with_name s.names text } in
-    posted_or (nat_le (length (with_name s.names text)) most_names) g t (unified g t (mgu (equation x (atom text))) u) s (unified_posted g t (mgu (equation x (atom text))) u l a) l a
+    posted_or (nat_le (length (with_name s.names text)) MOST_NAMES) g t (unified g t (mgu (equation x (atom text))) u) s (unified_posted g t (mgu (equation x (atom text))) u l a) l a
 moved_posted g t (opens o) s l tree a =
     posted_or (has_room_for_child s g.shoen) g t (open_child s g.shoen o) s (open_posted (child_shoen s g.shoen o) o.goal s refl refl tree a) l a
 moved_posted g t goes s l tree a = a
@@ -196,7 +196,7 @@ reduced_posts : (s : State) (g : Goal) (o : Option Action) → lives_in (marks_o
 reduced_posts s g None l few tree a = a
 reduced_posts s g (Some x) l few tree a =
     let k : Keeps s (with_entry s) = record { parents = refl; work = refl; last = refl; owners = λ n b. b; numbered = λ n b. b } in
-    posts_if (nat_lt s.entries most_entries) (record { state = acted g x (with_entry s); reply = reduced }) (refuse s journal_full) (acted_posted g x (with_entry s) l few (kept_tree s (with_entry s) k tree) a) a
+    posts_if (nat_lt s.entries MOST_ENTRIES) (record { state = acted g x (with_entry s); reply = reduced }) (refuse s journal_full) (acted_posted g x (with_entry s) l few (kept_tree s (with_entry s) k tree) a) a
 
 goal_posts : (s : State) (goal clause : ℕ) (o : Option Goal) → goal_at goal s.goals ≡ o → IsTree s → IsPosted s → Posts (reduce_goal s clause o)
 goal_posts s goal clause None e tree a = a
@@ -208,10 +208,10 @@ load_posts s (bad line) a = a
 load_posts s (good m) a =
     let x : Transition = record { state = with_entry (with_module s m); reply = loaded m.name } in
     let b = recorded s x in
-    let c = limited s (nat_lt (length s.modules) most_modules) b in
+    let c = limited s (nat_lt (length s.modules) MOST_MODULES) b in
     posts_if (is_some (module_of s.modules m.name)) (refuse s exists) (named s (with_names s.names (names_of_module m)) c) a
-    (posts_if (nat_le (length (with_names s.names (names_of_module m))) most_names) c (refuse s too_many_names)
-    (posts_if (nat_lt (length s.modules) most_modules) b (refuse s limit_passed) (posts_if (nat_lt s.entries most_entries) x (refuse s journal_full) a a) a) a)
+    (posts_if (nat_le (length (with_names s.names (names_of_module m))) MOST_NAMES) c (refuse s too_many_names)
+    (posts_if (nat_lt (length s.modules) MOST_MODULES) b (refuse s limit_passed) (posts_if (nat_lt s.entries MOST_ENTRIES) x (refuse s journal_full) a a) a) a)
 
 started_posted : (s : State) (allowance low high : ℕ) (t : Term) → IsTree s → IsPosted s → IsPosted (start_goal s allowance low high t)
 started_posted s allowance low high t tree a =
@@ -228,8 +228,8 @@ start_posts s allowance low high t tree a =
     let b = recorded s x in
     let c = limited s (has_room_to_start s t) b in
     posts_if (may_start allowance low high t) (named s (with_names s.names (names_of t)) c) (refuse s syntax)
-    (posts_if (nat_le (length (with_names s.names (names_of t))) most_names) c (refuse s too_many_names)
-    (posts_if (has_room_to_start s t) b (refuse s limit_passed) (posts_if (nat_lt s.entries most_entries) x (refuse s journal_full) (started_posted s allowance low high t tree a) a) a) a) a
+    (posts_if (nat_le (length (with_names s.names (names_of t))) MOST_NAMES) c (refuse s too_many_names)
+    (posts_if (has_room_to_start s t) b (refuse s limit_passed) (posts_if (nat_lt s.entries MOST_ENTRIES) x (refuse s journal_full) (started_posted s allowance low high t tree a) a) a) a) a
 
 sent_leaves : (n : ℕ) (m : Message) (t : Term) (s : State) → Leaves s (sent_on n m t s)
 sent_leaves n m (variable v) s =
@@ -249,7 +249,7 @@ send_by_posts s n m h (Some o) a =
     let x : Transition = record { state = with_entry (sent_on n m o.control s); reply = sent } in
     let b = recorded s x in
     posts_if (is_living h.life) (limited s (has_room_to_send s m) b) (refuse s shoen_ended)
-    (posts_if (has_room_to_send s m) b (refuse s limit_passed) (posts_if (nat_lt s.entries most_entries) x (refuse s journal_full) (posted_left s (sent_on n m o.control s) (sent_leaves n m o.control s) a) a) a) a
+    (posts_if (has_room_to_send s m) b (refuse s limit_passed) (posts_if (nat_lt s.entries MOST_ENTRIES) x (refuse s journal_full) (posted_left s (sent_on n m o.control s) (sent_leaves n m o.control s) a) a) a) a
 
 send_posts : (s : State) (n : ℕ) (m : Message) (o : Option Shoen) → IsPosted s → Posts (send_to s n m o)
 send_posts s n m None a = a
@@ -290,20 +290,20 @@ answer_in_posts s report t h (Some o) a =
     let b = recorded s x in
     let c = limited s (has_room_to_answer s t) b in
     posts_if (is_living h.life) (named s (with_names s.names (names_of t)) c) (refuse s shoen_ended)
-    (posts_if (nat_le (length (with_names s.names (names_of t))) most_names) c (refuse s too_many_names)
-    (posts_if (has_room_to_answer s t) b (refuse s limit_passed) (posts_if (nat_lt s.entries most_entries) x (refuse s journal_full) (answer_by_posts s t (unanswered_at o.reports report) a) a) a) a) a
+    (posts_if (nat_le (length (with_names s.names (names_of t))) MOST_NAMES) c (refuse s too_many_names)
+    (posts_if (has_room_to_answer s t) b (refuse s limit_passed) (posts_if (nat_lt s.entries MOST_ENTRIES) x (refuse s journal_full) (answer_by_posts s t (unanswered_at o.reports report) a) a) a) a) a
 
 answer_to_posts : (s : State) (report : ℕ) (t : Term) (o : Option Shoen) → IsPosted s → Posts (answer_to s report t o)
 answer_to_posts s report t None a = a
 answer_to_posts s report t (Some h) a = answer_in_posts s report t h h.origin a
 
 step_posts : (s : State) (e : Event) → IsTree s → IsPosted s → Posts (step s e)
-step_posts s (load text) tree a = posts_if (nat_le (length text) most_source_bytes) (load_module s (read_module text)) (refuse s syntax) (load_posts s (read_module text) a) a
+step_posts s (load text) tree a = posts_if (nat_le (length text) MOST_SOURCE_BYTES) (load_module s (read_module text)) (refuse s syntax) (load_posts s (read_module text) a) a
 step_posts s (start allowance low high t) tree a = start_posts s allowance low high t tree a
 step_posts s (control n m) tree a = posts_if (may_send n m) (send_to s n m (shoen_at n s.shoens)) (refuse s syntax) (send_posts s n m (shoen_at n s.shoens) a) a
 step_posts s (reduce goal clause) tree a = posts_if (is_number goal && is_number clause) (reduce_goal s clause (goal_at goal s.goals)) (refuse s syntax) (goal_posts s goal clause (goal_at goal s.goals) refl tree a) a
 step_posts s (read q) tree a = query_posts s q a
-step_posts s login tree a = posts_if (nat_lt s.sessions most_sessions) (record { state = record s { sessions = suc s.sessions }; reply = welcome s.own_name }) (refuse s sessions_refused) a a
+step_posts s login tree a = posts_if (nat_lt s.sessions MOST_SESSIONS) (record { state = record s { sessions = suc s.sessions }; reply = welcome s.own_name }) (refuse s sessions_refused) a a
 step_posts s logout tree a = posts_if (nat_lt 0 s.sessions) (record { state = record s { sessions = s.sessions - 1 }; reply = bye }) (refuse s sessions_refused) a a
 step_posts s reset tree a = tt
 step_posts s (answer n report t) tree a = posts_if (has_substitutes s.rules && may_answer n report t) (answer_to s report t (shoen_at n s.shoens)) (refuse s syntax) (answer_to_posts s report t (shoen_at n s.shoens) a) a

@@ -4,7 +4,7 @@ use Rattle.std.proofs.lemmas.Bool.{false≢true}
 use Rattle.std.specs.Prelude.{nat_lt, nat_le, length, Option, Some, None, option_map, is_some}
 use Rattle.std.proofs.lemmas.Option.{none-some, same_Some}
 use Rattle.kl1_model.specs.declared.message.Message.{Message}
-use Rattle.kl1_model.specs.Limits.{most_modules, most_sessions}
+use Rattle.kl1_model.specs.declared.limits.TheConstants.{MOST_MODULES, MOST_SESSIONS, MOST_SOURCE_BYTES, MOST_NAMES, MOST_ENTRIES}
 use Rattle.kl1_model.specs.Term.{Term, variable, integer, atom, structure}
 use Rattle.kl1_model.specs.Meaning.{cell, highest}
 use Rattle.kl1_model.specs.Nodes.{goal_nodes}
@@ -14,7 +14,7 @@ use Rattle.kl1_model.specs.Look.{goal_look}
 use Rattle.kl1_model.specs.State.{Task, monitor, reduces, substitutes, Goal, Origin, Shoen, State, has_substitutes, fresh_with, goal_at, shoen_at, names_of, names_of_module, with_names, replace_in_state, change_shoen, is_monitor, is_living}
 use Rattle.kl1_model.specs.Tree.{is_on_path, charged_of, is_enabled}
 use Rattle.kl1_model.specs.Control.{Control, awaits_message, tells, tells_other, ends, breaks_off, control_of, message_term, message_nodes}
-use Rattle.kl1_model.specs.Event.{Refusal, syntax, source, exists, no_shoen, shoen_ended, step_refused, too_many_names, limit_passed, journal_full, sessions_refused, answer_refused, Query, value, status, reports, modules, is_quiet, load, start, control, reduce, read, login, logout, reset, answer, Reply, loaded, opened, sent, reduced, welcome, bye, Transition, refuse, is_number, most_source_bytes, most_names, most_entries, with_entry, recorded, named, limited}
+use Rattle.kl1_model.specs.Event.{Refusal, syntax, source, exists, no_shoen, shoen_ended, step_refused, too_many_names, limit_passed, journal_full, sessions_refused, answer_refused, Query, value, status, reports, modules, is_quiet, load, start, control, reduce, read, login, logout, reset, answer, Reply, loaded, opened, sent, reduced, welcome, bye, Transition, refuse, is_number, with_entry, recorded, named, limited}
 use Rattle.kl1_model.specs.Reduction.{Move, Action, moves, reads, term_move, substitute_move, read_action, monitor_action, task_action, action_of, acted, reduced_by, reduce_goal}
 use Rattle.kl1_model.specs.Opening.{may_start, has_room_to_start, with_next_variables, started_shoen, start_goal}
 use Rattle.kl1_model.specs.Sending.{may_send, has_room_to_send, with_control_tail, sent_on, send_by, send_to}
@@ -59,12 +59,12 @@ comes_load s (bad line) = comes_refused s (source line)
 comes_load s (good m) =
     let x : Transition = record { state = with_entry (with_module s m); reply = loaded m.name } in
     let a = recorded s x in
-    let b = limited s (nat_lt (length s.modules) most_modules) a in
+    let b = limited s (nat_lt (length s.modules) MOST_MODULES) a in
     let c = named s (with_names s.names (names_of_module m)) b in
     comes_if (is_some (module_of s.modules m.name)) s (refuse s exists) c (comes_refused s exists)
-    (comes_or (nat_le (length (with_names s.names (names_of_module m))) most_names) s b too_many_names
-    (comes_or (nat_lt (length s.modules) most_modules) s a limit_passed
-    (comes_or (nat_lt s.entries most_entries) s x journal_full (comes_loaded s m))))
+    (comes_or (nat_le (length (with_names s.names (names_of_module m))) MOST_NAMES) s b too_many_names
+    (comes_or (nat_lt (length s.modules) MOST_MODULES) s a limit_passed
+    (comes_or (nat_lt s.entries MOST_ENTRIES) s x journal_full (comes_loaded s m))))
 
 start_follows : (s : State) (allowance low high : ℕ) (t : Term) → Follows 0 s (start_goal s allowance low high t)
 start_follows s allowance low high t =
@@ -89,9 +89,9 @@ comes_start s allowance low high t =
     let b = limited s (has_room_to_start s t) a in
     let c = named s (with_names s.names (names_of t)) b in
     comes_or (may_start allowance low high t) s c syntax
-    (comes_or (nat_le (length (with_names s.names (names_of t))) most_names) s b too_many_names
+    (comes_or (nat_le (length (with_names s.names (names_of t))) MOST_NAMES) s b too_many_names
     (comes_or (has_room_to_start s t) s a limit_passed
-    (comes_or (nat_lt s.entries most_entries) s x journal_full (comes_started s allowance low high t))))
+    (comes_or (nat_lt s.entries MOST_ENTRIES) s x journal_full (comes_started s allowance low high t))))
 
 sent_keeps : (n : ℕ) (m : Message) (t : Term) (s : State) → Keeps s (sent_on n m t s)
 sent_keeps n m (variable v) s =
@@ -117,7 +117,7 @@ comes_send_by s n m h (Some o) =
     let x : Transition = record { state = with_entry (sent_on n m o.control s); reply = sent } in
     let a = recorded s x in
     comes_or (is_living h.life) s (limited s (has_room_to_send s m) a) shoen_ended
-    (comes_or (has_room_to_send s m) s a limit_passed (comes_or (nat_lt s.entries most_entries) s x journal_full (comes_sent s n m o.control)))
+    (comes_or (has_room_to_send s m) s a limit_passed (comes_or (nat_lt s.entries MOST_ENTRIES) s x journal_full (comes_sent s n m o.control)))
 
 comes_send : (s : State) (n : ℕ) (m : Message) (o : Option Shoen) → Comes s (send_to s n m o)
 comes_send s n m None = comes_refused s no_shoen
@@ -161,9 +161,9 @@ comes_answer_in s report t h (Some o) =
     let a = recorded s x in
     let b = limited s (has_room_to_answer s t) a in
     comes_or (is_living h.life) s (named s (with_names s.names (names_of t)) b) shoen_ended
-    (comes_or (nat_le (length (with_names s.names (names_of t))) most_names) s b too_many_names
+    (comes_or (nat_le (length (with_names s.names (names_of t))) MOST_NAMES) s b too_many_names
     (comes_or (has_room_to_answer s t) s a limit_passed
-    (comes_or (nat_lt s.entries most_entries) s x journal_full (comes_answer_by s t (unanswered_at o.reports report)))))
+    (comes_or (nat_lt s.entries MOST_ENTRIES) s x journal_full (comes_answer_by s t (unanswered_at o.reports report)))))
 
 comes_answer_to : (s : State) (report : ℕ) (t : Term) (o : Option Shoen) → Comes s (answer_to s report t o)
 comes_answer_to s report t None = comes_refused s no_shoen
@@ -231,7 +231,7 @@ reduces_by s g clause None e = reduces_refused s g step_refused
 reduces_by s g clause (Some (moves t m)) e =
     let x : Transition = record { state = acted g (moves t m) (with_entry s); reply = reduced } in
     let k = with_entry_keeps s in
-    reduces_or (nat_lt s.entries most_entries) s g x journal_full (record {
+    reduces_or (nat_lt s.entries MOST_ENTRIES) s g x journal_full (record {
       tree = λ tree few. (acted_move g t m (with_entry s) few (kept_tree s (with_entry s) k tree)).0;
       kept = λ r. absurd (false≢true r);
       charges = λ tree few h r a. (acted_move g t m (with_entry s) few (kept_tree s (with_entry s) k tree)).1 a;
@@ -241,7 +241,7 @@ reduces_by s g clause (Some (reads c)) e =
     let t = acted g (reads c) (with_entry s) in
     let x : Transition = record { state = t; reply = reduced } in
     let k = keeps_both s (with_entry s) t (with_entry_keeps s) (acted_reading g c (with_entry s)) in
-    reduces_or (nat_lt s.entries most_entries) s g x journal_full (record {
+    reduces_or (nat_lt s.entries MOST_ENTRIES) s g x journal_full (record {
       tree = λ tree few. kept_tree s t k tree;
       kept = λ r. absurd (false≢true r);
       charges = λ tree few h r a. absurd (task_reads s g.shoen g.task clause c (some_if (is_enabled s g) (task_action s g.shoen g.task clause) (reads c) e) h);
@@ -280,7 +280,7 @@ reduction_kept s goal clause (Some g) e r = (reduces_goal s goal clause g e).kep
 -- ---- all events
 
 comes_load_event : (s : State) (text : List ℕ) → Comes s (step s (load text))
-comes_load_event s text = comes_or (nat_le (length text) most_source_bytes) s (load_module s (read_module text)) syntax (comes_load s (read_module text))
+comes_load_event s text = comes_or (nat_le (length text) MOST_SOURCE_BYTES) s (load_module s (read_module text)) syntax (comes_load s (read_module text))
 
 comes_control : (s : State) (n : ℕ) (m : Message) → Comes s (step s (control n m))
 comes_control s n m = comes_or (may_send n m) s (send_to s n m (shoen_at n s.shoens)) syntax (comes_send s n m (shoen_at n s.shoens))
@@ -293,7 +293,7 @@ comes_with s n r e = record {
 }
 
 comes_login : (s : State) → Comes s (log_in s)
-comes_login s = comes_or (nat_lt s.sessions most_sessions) s (record { state = record s { sessions = suc s.sessions }; reply = welcome s.own_name }) sessions_refused (comes_with s (suc s.sessions) (welcome s.own_name) refl)
+comes_login s = comes_or (nat_lt s.sessions MOST_SESSIONS) s (record { state = record s { sessions = suc s.sessions }; reply = welcome s.own_name }) sessions_refused (comes_with s (suc s.sessions) (welcome s.own_name) refl)
 
 comes_logout : (s : State) → Comes s (log_out s)
 comes_logout s = comes_or (nat_lt 0 s.sessions) s (record { state = record s { sessions = s.sessions - 1 }; reply = bye }) sessions_refused (comes_with s (s.sessions - 1) bye refl)

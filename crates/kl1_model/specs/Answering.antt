@@ -1,13 +1,13 @@
 -- Answers from the console to exceptions.
 use Rattle.std.specs.Prelude.{ℕ, ◌+◌, ◌-◌, nat_le, ◌&&◌, Bool, if◌then◌else◌, List, ◌++◌, length, slice_get, codes, bytes_eq, decimal, Option, Some, None, option_and_then}
-use Rattle.kl1_model.specs.Limits.{most_variables, most_nodes}
+use Rattle.kl1_model.specs.declared.limits.TheConstants.{MOST_VARIABLES, MOST_NODES, MOST_LINE_BYTES}
 use Rattle.kl1_model.specs.Term.{Term, variable, structure, none, more}
 use Rattle.kl1_model.specs.Print.{print}
 use Rattle.kl1_model.specs.Goal.{is_goal}
 use Rattle.kl1_model.specs.Meaning.{highest, is_writable, is_numbered}
 use Rattle.kl1_model.specs.Nodes.{structures_of}
 use Rattle.kl1_model.specs.State.{Origin, Shoen, State, replace_in_state, is_living, names_of, with_names}
-use Rattle.kl1_model.specs.Event.{no_shoen, shoen_ended, answer_refused, sent, Transition, refuse, is_number, most_line_bytes, with_entry, recorded, named, limited}
+use Rattle.kl1_model.specs.Event.{no_shoen, shoen_ended, answer_refused, sent, Transition, refuse, is_number, with_entry, recorded, named, limited}
 use Rattle.kl1_model.specs.Opening.{with_next_variables}
 use Rattle.kl1_model.specs.Asking.{elements_of}
 
@@ -19,11 +19,11 @@ answer_line n report t = codes "answer " ++ decimal n ++ codes " " ++ decimal re
 abbrev pub may_answer : ℕ → ℕ → Term → Bool
 may_answer n report t =
     is_number n && is_number report && nat_le 1 report
-    && is_goal t && is_writable t && is_numbered t && nat_le (length (answer_line n report t)) most_line_bytes
+    && is_goal t && is_writable t && is_numbered t && nat_le (length (answer_line n report t)) MOST_LINE_BYTES
 
 -- whether an answer stays within the limits on variables and structures: all its structures count
 abbrev pub has_room_to_answer : State → Term → Bool
-has_room_to_answer s t = nat_le (s.variables + highest t) most_variables && nat_le (s.nodes + structures_of t) most_nodes
+has_room_to_answer s t = nat_le (s.variables + highest t) MOST_VARIABLES && nat_le (s.nodes + structures_of t) MOST_NODES
 
 -- the variable that a substitute waits for by a report, if it does
 abbrev pub unanswered : Term → Option ℕ

@@ -1,6 +1,6 @@
 -- What is asked of an account, and the answers.
 use Rattle.std.specs.Prelude.{ℕ, ◌-◌, nat_le, ◌&&◌, if◌then◌else◌, List, [], ◌∷◌, ◌++◌, length, map, take, drop, codes, bytes_eq, decimal, Option, Some, None, option_and_then}
-use Rattle.kl1_model.specs.Limits.{most_listed}
+use Rattle.kl1_model.specs.declared.limits.TheConstants.{MOST_LISTED}
 use Rattle.kl1_model.specs.declared.life.Life.{Life}
 use Rattle.kl1_model.specs.declared.life.Life.TheVariants.{Living, Terminated, Aborted}
 use Rattle.kl1_model.specs.declared.condition.Condition.{Condition}
@@ -51,7 +51,7 @@ abbrev mutual
 -- for a shoen that the console started: its reports from number `from` on, counted from 1, each printed and cut; at most 64
 abbrev pub reports_of : State → ℕ → Option Origin → Transition
 reports_of s from None = refuse s no_shoen
-reports_of s from (Some o) = record { state = s; reply = listed (map cut_print (take most_listed (drop (from - 1) (elements_of o.reports)))) }
+reports_of s from (Some o) = record { state = s; reply = listed (map cut_print (take MOST_LISTED (drop (from - 1) (elements_of o.reports)))) }
 
 -- a module with how many bytes its source has, and how many clauses
 abbrev pub module_line : Module → List ℕ

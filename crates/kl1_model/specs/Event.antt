@@ -1,7 +1,6 @@
 -- Events, replies and refusals.
 use Rattle.std.specs.Prelude.{ℕ, suc, nat_le, nat_lt, ◌&&◌, Bool, if◌then◌else◌, List, length}
-pub use Rattle.kl1_model.specs.Limits.{most_source_bytes, most_entries, most_line_bytes, most_priority, most_names}
-use Rattle.kl1_model.specs.Limits.{number_limit}
+use Rattle.kl1_model.specs.declared.limits.TheConstants.{MOST_SOURCE_BYTES, MOST_ENTRIES, MOST_LINE_BYTES, MOST_PRIORITY, MOST_NAMES, NUMBER_LIMIT}
 use Rattle.kl1_model.specs.declared.message.Message.{Message}
 use Rattle.kl1_model.specs.declared.condition.Condition.{Condition}
 use Rattle.kl1_model.specs.Term.{Term}
@@ -73,7 +72,7 @@ refuse s r = record { state = s; reply = refused r }
 
 -- a number that a command may have: below 2 ^ 63
 abbrev pub is_number : ℕ → Bool
-is_number n = nat_lt n number_limit
+is_number n = nat_lt n NUMBER_LIMIT
 
 -- one entry more is counted
 abbrev pub with_entry : State → State
@@ -81,11 +80,11 @@ with_entry s = record s { entries = suc s.entries }
 
 -- a change that is an entry of the journal: refused if the journal is full
 abbrev pub recorded : State → Transition → Transition
-recorded s after = if nat_lt s.entries most_entries then after else refuse s journal_full
+recorded s after = if nat_lt s.entries MOST_ENTRIES then after else refuse s journal_full
 
 -- a change after which these names are used: refused if they are too many
 abbrev pub named : State → List (List ℕ) → Transition → Transition
-named s names after = if nat_le (length names) most_names then after else refuse s too_many_names
+named s names after = if nat_le (length names) MOST_NAMES then after else refuse s too_many_names
 
 -- a change that keeps to the limits of an account, as a test tells: refused if it doesn't
 abbrev pub limited : State → Bool → Transition → Transition
@@ -93,4 +92,4 @@ limited s keeps after = if keeps then after else refuse s limit_passed
 
 -- whether priorities from low to high are a range
 abbrev pub is_range : ℕ → ℕ → Bool
-is_range low high = nat_le low high && nat_le high most_priority
+is_range low high = nat_le low high && nat_le high MOST_PRIORITY

@@ -1,4 +1,3 @@
-pub mod Limits
 pub mod Text
 pub mod Name
 pub mod Term

@@ -1,6 +1,6 @@
 -- Reductions: what a goal can do, and what comes of it.
 use Rattle.std.specs.Prelude.{ℕ, suc, ◌+◌, ◌==◌, nat_le, min, ◌&&◌, Bool, true, false, if◌then◌else◌, List, [], ◌∷◌, ◌++◌, length, map, find, codes, bytes_eq, Option, Some, None, option_map}
-use Rattle.kl1_model.specs.Limits.{most_goals, most_variables, most_nodes, most_names, most_allowance}
+use Rattle.kl1_model.specs.declared.limits.TheConstants.{MOST_GOALS, MOST_VARIABLES, MOST_NODES, MOST_NAMES, MOST_ALLOWANCE, MOST_SPELLED}
 use Rattle.kl1_model.specs.Term.{Term, variable, integer, atom, structure, none, more, Replacement}
 use Rattle.kl1_model.specs.declared.number.Number.{Number}
 use Rattle.kl1_model.specs.declared.number.Number.TheVariants.{Value, Overflow, ZeroDivisor}
@@ -13,7 +13,7 @@ use Rattle.kl1_model.specs.Nodes.{goals_nodes}
 use Rattle.kl1_model.specs.Module.{Clause, goals_of, Module}
 use Rattle.kl1_model.specs.Match.{Call, call_of, Candidate, candidates_of, fails}
 use Rattle.kl1_model.specs.Instance.{body_instance, body_priorities, fresh_variables}
-use Rattle.kl1_model.specs.Look.{Spelling, spelled, awaits_code, misspelled, spelling, most_spelled, Look, right, waits_on, wrong, goal_look, ExecuteArguments, arguments_look}
+use Rattle.kl1_model.specs.Look.{Spelling, spelled, awaits_code, misspelled, spelling, Look, right, waits_on, wrong, goal_look, ExecuteArguments, arguments_look}
 use Rattle.kl1_model.specs.Control.{Control, awaits_message, tells, tells_other, ends, breaks_off, control_of}
 use Rattle.kl1_model.specs.State.{Task, monitor, reduces, substitutes, Goal, Shoen, State, has_substitutes, shoen_at, replace_all, change_shoen, without_goal, with_name}
 use Rattle.kl1_model.specs.Tree.{goals_alive, charge, is_enabled}
@@ -96,7 +96,7 @@ abbrev pub pair_move : List ℕ → Term → Term → Option Move
 pair_move f a b =
     if bytes_eq f (codes "=") then Some (unifies a b)
     else if bytes_eq f (codes ":=") then assigned a (evaluated b)
-    else if bytes_eq f (codes "atom_from") then spells b (spelling most_spelled a)
+    else if bytes_eq f (codes "atom_from") then spells b (spelling MOST_SPELLED a)
     else if bytes_eq f (codes ":") then execute_move a b
     else None
 
@@ -165,8 +165,8 @@ goals_from last shoen (p ∷ ps) (t ∷ ts) = record { number = suc last; task =
 -- whether the body of a clause keeps to the limits on goals, variables and structures, in place of a goal that has been removed
 abbrev pub has_room_for : State → Clause → Bool
 has_room_for s c =
-    nat_le (goals_alive s + length c.body) most_goals && nat_le (s.variables + fresh_variables c) most_variables
-    && nat_le (s.nodes + goals_nodes (goals_of c.body)) most_nodes
+    nat_le (goals_alive s + length c.body) MOST_GOALS && nat_le (s.variables + fresh_variables c) MOST_VARIABLES
+    && nat_le (s.nodes + goals_nodes (goals_of c.body)) MOST_NODES
 
 -- a goal's place taken by the body of a clause
 abbrev pub committed : Goal → Candidate → State → State
@@ -224,7 +224,7 @@ abbrev pub moved : Goal → Term → Move → State → State
 moved g t (commits k) s = or_exhaustion (has_room_for s k.clause) g t (committed g k s) s
 moved g t (raises kind) s = raised g kind t s
 moved g t (unifies a b) s = unified g t (mgu (equation a b)) s
-moved g t (names text a) s = or_exhaustion (nat_le (length (with_name s.names text)) most_names) g t (named_by g t text a s) s
+moved g t (names text a) s = or_exhaustion (nat_le (length (with_name s.names text)) MOST_NAMES) g t (named_by g t text a s) s
 moved g t (opens o) s = or_exhaustion (has_room_for_child s g.shoen) g t (open_child s g.shoen o) s
 moved g t goes s = s
 moved g t gives_way s = replaced_by g (reduces t) s
@@ -243,7 +243,7 @@ resumed_of (Some h) n s = if h.is_stopped then report n resumed_report (change_s
 
 -- a shoen whose allowance grows by `extra`, up to the greatest there is
 abbrev pub allowed_more : ℕ → Shoen → Shoen
-allowed_more extra h = record h { allowance = min (h.allowance + extra) most_allowance }
+allowed_more extra h = record h { allowance = min (h.allowance + extra) MOST_ALLOWANCE }
 
 -- the effect of a message to a shoen
 abbrev pub obeyed : ℕ → Message → State → State

@@ -1,6 +1,6 @@
 -- Reports of a shoen, and the end of its report stream.
 use Rattle.std.specs.Prelude.{ℕ, suc, nat_lt, not, ◌&&◌, ◌||◌, Bool, true, false, if◌then◌else◌, List, [], ◌∷◌, codes, Option, Some, None}
-use Rattle.kl1_model.specs.Limits.{most_reports}
+use Rattle.kl1_model.specs.declared.limits.TheConstants.{MOST_REPORTS}
 use Rattle.kl1_model.specs.Term.{Term, variable, atom, structure, none, more, occurs}
 use Rattle.kl1_model.specs.Meaning.{pair, nil, cell}
 use Rattle.kl1_model.specs.State.{Shoen, State, shoen_at, replace_in_state, change_shoen}
@@ -15,7 +15,7 @@ broken_at n s = change_shoen n (λ h. record h { is_broken = true }) s
 abbrev pub reported_at : ℕ → Term → Term → State → State
 reported_at n message (variable v) s =
     let next = suc s.last_variable in
-    if occurs v message || not (nat_lt s.reports most_reports) then broken_at n s
+    if occurs v message || not (nat_lt s.reports MOST_REPORTS) then broken_at n s
     else change_shoen n (λ h. record h { tail = variable next }) (record (replace_in_state v (cell message (variable next)) s) { last_variable = next; reports = suc s.reports })
 reported_at n message t s = broken_at n s
 
@@ -30,7 +30,7 @@ report n message s = report_of (shoen_at n s.shoens) n message s
 
 -- whether a report is made on an unbroken stream with this tail by an account that has made this number of reports
 abbrev pub is_reported_at : Term → Term → ℕ → Bool
-is_reported_at message (variable v) made = not (occurs v message) && nat_lt made most_reports
+is_reported_at message (variable v) made = not (occurs v message) && nat_lt made MOST_REPORTS
 is_reported_at message t made = false
 
 -- whether a report of a shoen is made

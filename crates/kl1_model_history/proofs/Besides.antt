@@ -1,7 +1,7 @@
 -- What an event does is the same for whatever own name and sessions.
 use Rattle.std.proofs.Common.{◌≡◌, ℕ, suc, ◌+◌, ◌==◌, ◌||◌, not, ◌&&◌, Bool, true, false, if◌then◌else◌, List, [], ◌∷◌, refl, ap, ◌∙◌}
 use Rattle.std.specs.Prelude.{nat_lt, nat_le, length, Option, Some, None, is_some}
-use Rattle.kl1_model.specs.Limits.{most_reports, most_modules, most_names, most_entries, most_source_bytes}
+use Rattle.kl1_model.specs.declared.limits.TheConstants.{MOST_REPORTS, MOST_MODULES, MOST_NAMES, MOST_ENTRIES, MOST_SOURCE_BYTES}
 use Rattle.kl1_model.specs.declared.message.Message.{Message}
 use Rattle.kl1_model.specs.declared.message.Message.TheVariants.{Stop, Start, Abort, Allow}
 use Rattle.kl1_model.specs.Term.{Term, variable, integer, atom, structure, Replacement, occurs}
@@ -41,7 +41,7 @@ reported : (k : ℕ) (m t : Term) (name : List ℕ) (n : ℕ) (s : State) → re
 reported k m (variable v) name n s =
     let next = suc s.last_variable in
     let change : State → State = λ z. change_shoen k (λ h. record h { tail = variable next }) (record (replace_in_state v (cell m (variable next)) z) { last_variable = next; reports = suc z.reports }) in
-    either (occurs v m || not (nat_lt s.reports most_reports)) name n (broken_at k (beside name n s)) (change (beside name n s)) (broken_at k s) (change s) refl refl
+    either (occurs v m || not (nat_lt s.reports MOST_REPORTS)) name n (broken_at k (beside name n s)) (change (beside name n s)) (broken_at k s) (change s) refl refl
 reported k m (integer i) name n s = refl
 reported k m (atom a) name n s = refl
 reported k m (structure f ts) name n s = refl
@@ -134,7 +134,7 @@ moved_beside g t (commits k) name n s = exhausted_or (has_room_for s k.clause) g
 moved_beside g t (raises kind) name n s = raised_beside g kind t name n s
 moved_beside g t (unifies a b) name n s = unified_beside g t (mgu (equation a b)) name n s
 moved_beside g t (names text a) name n s =
-    exhausted_or (nat_le (length (with_name s.names text)) most_names) g t name n (named_by g t text a (beside name n s)) (named_by g t text a s) s
+    exhausted_or (nat_le (length (with_name s.names text)) MOST_NAMES) g t name n (named_by g t text a (beside name n s)) (named_by g t text a s) s
     (unified_beside g t (mgu (equation a (atom text))) name n (record s { names = with_name s.names text }))
 moved_beside g t (opens o) name n s =
     exhausted_or (has_room_for_child s g.shoen) g t name n (open_child (beside name n s) g.shoen o) (open_child s g.shoen o) s (open_beside (child_shoen s g.shoen o) o.goal name n s)
@@ -187,23 +187,23 @@ done : (name : List ℕ) (n : ℕ) (a t : State) (r : Reply) → a ≡ beside na
 done name n a t r e = ap (λ z. let x : Transition = record { state = z; reply = r } in x) e
 
 recorded_beside : (s : State) (a x : Transition) (name : List ℕ) (n : ℕ) → a ≡ stepped_beside name n x → recorded (beside name n s) a ≡ stepped_beside name n (recorded s x)
-recorded_beside s a x name n e = refused_or (nat_lt s.entries most_entries) journal_full name n a x s e
+recorded_beside s a x name n e = refused_or (nat_lt s.entries MOST_ENTRIES) journal_full name n a x s e
 
 load_beside : (r : Reading Module) (name : List ℕ) (n : ℕ) (s : State) → load_module (beside name n s) r ≡ stepped_beside name n (load_module s r)
 load_beside (bad line) name n s = refl
 load_beside (good m) name n s =
     let x : Transition = record { state = with_entry (with_module s m); reply = loaded m.name } in
     let y = recorded s x in
-    let z = if nat_lt (length s.modules) most_modules then y else refuse s limit_passed in
-    let w = if nat_le (length (with_names s.names (names_of_module m))) most_names then z else refuse s too_many_names in
+    let z = if nat_lt (length s.modules) MOST_MODULES then y else refuse s limit_passed in
+    let w = if nat_le (length (with_names s.names (names_of_module m))) MOST_NAMES then z else refuse s too_many_names in
     let b = beside name n s in
     let xb : Transition = record { state = with_entry (with_module b m); reply = loaded m.name } in
     let yb = recorded b xb in
-    let zb = if nat_lt (length s.modules) most_modules then yb else refuse b limit_passed in
-    let wb = if nat_le (length (with_names s.names (names_of_module m))) most_names then zb else refuse b too_many_names in
+    let zb = if nat_lt (length s.modules) MOST_MODULES then yb else refuse b limit_passed in
+    let wb = if nat_le (length (with_names s.names (names_of_module m))) MOST_NAMES then zb else refuse b too_many_names in
     either_stepped (is_some (module_of s.modules m.name)) name n (refuse b exists) wb (refuse s exists) w refl
-    (refused_or (nat_le (length (with_names s.names (names_of_module m))) most_names) too_many_names name n zb z s
-    (refused_or (nat_lt (length s.modules) most_modules) limit_passed name n yb y s (recorded_beside s xb x name n refl)))
+    (refused_or (nat_le (length (with_names s.names (names_of_module m))) MOST_NAMES) too_many_names name n zb z s
+    (refused_or (nat_lt (length s.modules) MOST_MODULES) limit_passed name n yb y s (recorded_beside s xb x name n refl)))
 
 start_beside : (allowance low high : ℕ) (t : Term) (name : List ℕ) (n : ℕ) (s : State) → start_goal (beside name n s) allowance low high t ≡ beside name n (start_goal s allowance low high t)
 start_beside allowance low high t name n s =
@@ -226,10 +226,10 @@ starting_beside allowance low high t name n s =
     let yb = recorded b xb in
     let z = if has_room_to_start s t then y else refuse s limit_passed in
     let zb = if has_room_to_start s t then yb else refuse b limit_passed in
-    let w = if nat_le (length (with_names s.names (names_of t))) most_names then z else refuse s too_many_names in
-    let wb = if nat_le (length (with_names s.names (names_of t))) most_names then zb else refuse b too_many_names in
+    let w = if nat_le (length (with_names s.names (names_of t))) MOST_NAMES then z else refuse s too_many_names in
+    let wb = if nat_le (length (with_names s.names (names_of t))) MOST_NAMES then zb else refuse b too_many_names in
     refused_or (may_start allowance low high t) syntax name n wb w s
-    (refused_or (nat_le (length (with_names s.names (names_of t))) most_names) too_many_names name n zb z s
+    (refused_or (nat_le (length (with_names s.names (names_of t))) MOST_NAMES) too_many_names name n zb z s
     (refused_or (has_room_to_start s t) limit_passed name n yb y s
     (recorded_beside s xb x name n (done name n (with_entry (start_goal b allowance low high t)) (with_entry (start_goal s allowance low high t)) (opened (suc s.last_shoen)) (ap with_entry (start_beside allowance low high t name n s))))))
 
@@ -276,10 +276,10 @@ answer_in_beside report t h (Some o) name n s =
     let yb = recorded b xb in
     let z = if has_room_to_answer s t then y else refuse s limit_passed in
     let zb = if has_room_to_answer s t then yb else refuse b limit_passed in
-    let w = if nat_le (length (with_names s.names (names_of t))) most_names then z else refuse s too_many_names in
-    let wb = if nat_le (length (with_names s.names (names_of t))) most_names then zb else refuse b too_many_names in
+    let w = if nat_le (length (with_names s.names (names_of t))) MOST_NAMES then z else refuse s too_many_names in
+    let wb = if nat_le (length (with_names s.names (names_of t))) MOST_NAMES then zb else refuse b too_many_names in
     refused_or (is_living h.life) shoen_ended name n wb w s
-    (refused_or (nat_le (length (with_names s.names (names_of t))) most_names) too_many_names name n zb z s
+    (refused_or (nat_le (length (with_names s.names (names_of t))) MOST_NAMES) too_many_names name n zb z s
     (refused_or (has_room_to_answer s t) limit_passed name n yb y s (recorded_beside s xb x name n (answer_by_beside t (unanswered_at o.reports report) name n s))))
 
 answer_beside : (report : ℕ) (t : Term) (o : Option Shoen) (name : List ℕ) (n : ℕ) (s : State) → answer_to (beside name n s) report t o ≡ stepped_beside name n (answer_to s report t o)
@@ -287,7 +287,7 @@ answer_beside report t None name n s = refl
 answer_beside report t (Some h) name n s = answer_in_beside report t h h.origin name n s
 
 pub stays_beside : StaysBeside
-stays_beside name n s (loads text) = refused_or (nat_le (length text) most_source_bytes) syntax name n (load_module (beside name n s) (read_module text)) (load_module s (read_module text)) s (load_beside (read_module text) name n s)
+stays_beside name n s (loads text) = refused_or (nat_le (length text) MOST_SOURCE_BYTES) syntax name n (load_module (beside name n s) (read_module text)) (load_module s (read_module text)) s (load_beside (read_module text) name n s)
 stays_beside name n s (starts allowance low high t) = starting_beside allowance low high t name n s
 stays_beside name n s (sends k m) = refused_or (may_send k m) syntax name n (send_to (beside name n s) k m (shoen_at k s.shoens)) (send_to s k m (shoen_at k s.shoens)) s (send_beside k m (shoen_at k s.shoens) name n s)
 stays_beside name n s (steps goal clause) = refused_or (is_number goal && is_number clause) syntax name n (reduce_goal (beside name n s) clause (goal_at goal s.goals)) (reduce_goal s clause (goal_at goal s.goals)) s (reduce_beside clause (goal_at goal s.goals) name n s)

@@ -2,7 +2,7 @@
 use Rattle.std.specs.Prelude.{◌≡◌, ℕ, suc, ◌==◌, nat_lt, nat_le, not, ◌&&◌, ◌||◌, Bool, true, false, if◌then◌else◌, List, [], ◌∷◌, length, Option, Some, None}
 use Rattle.std.proofs.Common.{refl, sym, ◌∙◌, subst}
 use Rattle.std.proofs.lemmas.Bool.{leb-true}
-use Rattle.kl1_model.specs.Limits.{most_reports, most_names}
+use Rattle.kl1_model.specs.declared.limits.TheConstants.{MOST_REPORTS, MOST_NAMES}
 use Rattle.kl1_model.specs.declared.message.Message.{Message}
 use Rattle.kl1_model.specs.declared.message.Message.TheVariants.{Stop, Start, Abort, Allow}
 use Rattle.kl1_model.specs.Text.{is_text}
@@ -37,7 +37,7 @@ reported : (k : ℕ) (m t : Term) (s : State) → Has s.names (reported_at k m t
 reported k m (variable v) s =
     let next = suc s.last_variable in
     let changed = change_shoen k (λ h. record h { tail = variable next }) (record (replace_in_state v (cell m (variable next)) s) { last_variable = next; reports = suc s.reports }) in
-    either (occurs v m || not (nat_lt s.reports most_reports)) s.names (broken_at k s) changed refl refl
+    either (occurs v m || not (nat_lt s.reports MOST_REPORTS)) s.names (broken_at k s) changed refl refl
 reported k m (integer i) s = refl
 reported k m (atom a) s = refl
 reported k m (structure f ts) s = refl
@@ -123,18 +123,18 @@ named_or true g t after s go h = go refl
 named_or false g t after s go h = same_names s (raised g exhaustion t s) (raised_has g exhaustion t s) h
 
 -- a name more, if there is room for it
-text_named : (g : Goal) (t : Term) (text : List ℕ) (a : Term) (s : State) → is_text text ≡ true → IsNamed s → nat_le (length (with_name s.names text)) most_names ≡ true → IsNamed (named_by g t text a s)
+text_named : (g : Goal) (t : Term) (text : List ℕ) (a : Term) (s : State) → is_text text ≡ true → IsNamed s → nat_le (length (with_name s.names text)) MOST_NAMES ≡ true → IsNamed (named_by g t text a s)
 text_named g t text a s fine h room =
     let u = record s { names = with_name s.names text } in
     let o = mgu (equation a (atom text)) in
-    let n : IsNamed u = record { few = leb-true (length (with_name s.names text)) most_names room; new = with_name_new s.names text h.new fine } in
+    let n : IsNamed u = record { few = leb-true (length (with_name s.names text)) MOST_NAMES room; new = with_name_new s.names text h.new fine } in
     same_names u (unified g t o u) (unified_has g t o u) n
 
 moved_named : (g : Goal) (t : Term) (m : Move) (s : State) → NamesText m → IsNamed s → IsNamed (moved g t m s)
 moved_named g t (commits k) s fine h = same_names s (moved g t (commits k) s) (exhausted_or (has_room_for s k.clause) g t (committed g k s) s refl) h
 moved_named g t (raises kind) s fine h = same_names s (moved g t (raises kind) s) (raised_has g kind t s) h
 moved_named g t (unifies a b) s fine h = same_names s (moved g t (unifies a b) s) (unified_has g t (mgu (equation a b)) s) h
-moved_named g t (names text a) s fine h = named_or (nat_le (length (with_name s.names text)) most_names) g t (named_by g t text a s) s (text_named g t text a s fine h) h
+moved_named g t (names text a) s fine h = named_or (nat_le (length (with_name s.names text)) MOST_NAMES) g t (named_by g t text a s) s (text_named g t text a s fine h) h
 moved_named g t (opens o) s fine h =
     same_names s (moved g t (opens o) s) (exhausted_or (has_room_for_child s g.shoen) g t (open_child s g.shoen o) s (open_has (child_shoen s g.shoen o) o.goal s)) h
 moved_named g t goes s fine h = h

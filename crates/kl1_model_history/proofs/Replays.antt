@@ -1,7 +1,7 @@
 -- An account is the replay of its journal.
 use Rattle.std.proofs.Common.{◌≡◌, ℕ, suc, ◌-◌, nat_lt, nat_le, ◌&&◌, Bool, true, false, if◌then◌else◌, List, [], ◌∷◌, ◌++◌, refl, sym, ap, ◌∙◌, subst}
 use Rattle.std.specs.Prelude.{Option, Some, None}
-use Rattle.kl1_model.specs.Limits.{most_sessions}
+use Rattle.kl1_model.specs.declared.limits.TheConstants.{MOST_SESSIONS}
 use Rattle.kl1_model.specs.State.{State, Shoen, Origin, fresh_with, shoen_at}
 use Rattle.kl1_model.specs.Event.{Event, load, start, control, reduce, read, login, logout, reset, answer, welcome, bye, sessions_refused, Query, value, status, reports, modules, is_quiet, Refusal, syntax, Transition, refuse, is_number}
 use Rattle.kl1_model.specs.Asking.{origin_at, value_of, status_of, reports_of}
@@ -68,7 +68,7 @@ names_stay s (start allowance low high t) = entry_named s (starts allowance low 
 names_stay s (control n m) = entry_named s (sends n m)
 names_stay s (reduce goal clause) = entry_named s (steps goal clause)
 names_stay s (read q) = ap (λ (z : State). z.own_name) (reading_stays s q)
-names_stay s login = named_or (nat_lt s.sessions most_sessions) s s sessions_refused (record { state = record s { sessions = suc s.sessions }; reply = welcome s.own_name }) refl
+names_stay s login = named_or (nat_lt s.sessions MOST_SESSIONS) s s sessions_refused (record { state = record s { sessions = suc s.sessions }; reply = welcome s.own_name }) refl
 names_stay s logout = named_or (nat_lt 0 s.sessions) s s sessions_refused (record { state = record s { sessions = s.sessions - 1 }; reply = bye }) refl
 names_stay s reset = refl
 names_stay s (answer n report t) = entry_named s (answers n report t)
@@ -83,7 +83,7 @@ rules_stay s (start allowance low high t) = entry_rules s (starts allowance low 
 rules_stay s (control n m) = entry_rules s (sends n m)
 rules_stay s (reduce goal clause) = entry_rules s (steps goal clause)
 rules_stay s (read q) = ap (λ (z : State). z.rules) (reading_stays s q)
-rules_stay s login = ruled_or (nat_lt s.sessions most_sessions) s sessions_refused (record { state = record s { sessions = suc s.sessions }; reply = welcome s.own_name }) refl
+rules_stay s login = ruled_or (nat_lt s.sessions MOST_SESSIONS) s sessions_refused (record { state = record s { sessions = suc s.sessions }; reply = welcome s.own_name }) refl
 rules_stay s logout = ruled_or (nat_lt 0 s.sessions) s sessions_refused (record { state = record s { sessions = s.sessions - 1 }; reply = bye }) refl
 rules_stay s reset = refl
 rules_stay s (answer n report t) = entry_rules s (answers n report t)
@@ -117,7 +117,7 @@ accepted name j s (start allowance low high t) own a r = entry_more name j s (st
 accepted name j s (control n m) own a r = entry_more name j s (sends n m) r
 accepted name j s (reduce goal clause) own a r = entry_more name j s (steps goal clause) r
 accepted name j s (read q) own a r = record { is = r.is ∙ sym (reading_stays s q); rules = r.rules ∙ sym (ap (λ (z : State). z.rules) (reading_stays s q)); sessions = r.sessions ∙ sym (ap (λ (z : State). z.sessions) (reading_stays s q)) }
-accepted name j s login own a r = logged (nat_lt s.sessions most_sessions) s
+accepted name j s login own a r = logged (nat_lt s.sessions MOST_SESSIONS) s
   where
     logged : (c : Bool) (t : State) → (let x : Transition = if c then record { state = record s { sessions = suc s.sessions }; reply = welcome s.own_name } else refuse s sessions_refused in Replays name (record j { sessions = x.state.sessions }) x.state)
     logged true t = resized name j s (suc s.sessions) own r

@@ -1,7 +1,7 @@
 -- What is done to an account leaves the rules that it keeps to.
 use Rattle.std.specs.Prelude.{◌≡◌, ℕ, suc, ◌+◌, ◌==◌, nat_lt, nat_le, not, ◌&&◌, ◌||◌, Bool, true, false, if◌then◌else◌, List, [], ◌∷◌, length, Option, Some, None, is_some}
 use Rattle.std.proofs.Common.{refl, ◌∙◌}
-use Rattle.kl1_model.specs.Limits.{most_reports, most_modules, most_names, most_entries, most_source_bytes}
+use Rattle.kl1_model.specs.declared.limits.TheConstants.{MOST_REPORTS, MOST_MODULES, MOST_NAMES, MOST_ENTRIES, MOST_SOURCE_BYTES}
 use Rattle.kl1_model.specs.declared.message.Message.{Message}
 use Rattle.kl1_model.specs.declared.message.Message.TheVariants.{Stop, Start, Abort, Allow}
 use Rattle.kl1_model.specs.Term.{Term, variable, integer, atom, structure, Replacement, occurs}
@@ -39,7 +39,7 @@ reported : (k : ℕ) (m t : Term) (s : State) → Alike s (reported_at k m t s)
 reported k m (variable v) s =
     let next = suc s.last_variable in
     let changed = change_shoen k (λ h. record h { tail = variable next }) (record (replace_in_state v (cell m (variable next)) s) { last_variable = next; reports = suc s.reports }) in
-    either (occurs v m || not (nat_lt s.reports most_reports)) s (broken_at k s) changed refl refl
+    either (occurs v m || not (nat_lt s.reports MOST_REPORTS)) s (broken_at k s) changed refl refl
 reported k m (integer i) s = refl
 reported k m (atom a) s = refl
 reported k m (structure f ts) s = refl
@@ -116,7 +116,7 @@ moved_alike g t (commits k) s = exhausted_or (has_room_for s k.clause) g t (comm
 moved_alike g t (raises kind) s = raised_alike g kind t s
 moved_alike g t (unifies a b) s = unified_alike g t (mgu (equation a b)) s
 moved_alike g t (names text a) s =
-    exhausted_or (nat_le (length (with_name s.names text)) most_names) g t (named_by g t text a s) s (unified_alike g t (mgu (equation a (atom text))) (record s { names = with_name s.names text }))
+    exhausted_or (nat_le (length (with_name s.names text)) MOST_NAMES) g t (named_by g t text a s) s (unified_alike g t (mgu (equation a (atom text))) (record s { names = with_name s.names text }))
 moved_alike g t (opens o) s = exhausted_or (has_room_for_child s g.shoen) g t (open_child s g.shoen o) s (open_alike (child_shoen s g.shoen o) o.goal s)
 moved_alike g t goes s = refl
 moved_alike g t gives_way s = refl
@@ -173,16 +173,16 @@ may : (c : Bool) (s : State) (x : Transition) (r : Refusal) → Alike s x.state 
 may c s x r p = one_of c s x (refuse s r) p refl
 
 recorded_alike : (s : State) (x : Transition) → Alike s x.state → Alike s (recorded s x).state
-recorded_alike s x p = may (nat_lt s.entries most_entries) s x journal_full p
+recorded_alike s x p = may (nat_lt s.entries MOST_ENTRIES) s x journal_full p
 
 load_alike : (s : State) (r : Reading Module) → Alike s (load_module s r).state
 load_alike s (bad line) = refl
 load_alike s (good m) =
     let x : Transition = record { state = with_entry (with_module s m); reply = loaded m.name } in
-    let y = limited s (nat_lt (length s.modules) most_modules) (recorded s x) in
+    let y = limited s (nat_lt (length s.modules) MOST_MODULES) (recorded s x) in
     let names = with_names s.names (names_of_module m) in
     one_of (is_some (module_of s.modules m.name)) s (refuse s exists) (named s names y) refl
-    (may (nat_le (length names) most_names) s y too_many_names (may (nat_lt (length s.modules) most_modules) s (recorded s x) limit_passed (recorded_alike s x refl)))
+    (may (nat_le (length names) MOST_NAMES) s y too_many_names (may (nat_lt (length s.modules) MOST_MODULES) s (recorded s x) limit_passed (recorded_alike s x refl)))
 
 start_alike : (s : State) (allowance low high : ℕ) (t : Term) → Alike s (start_goal s allowance low high t)
 start_alike s allowance low high t =
@@ -202,7 +202,7 @@ starting_alike s allowance low high t =
     let y = limited s (has_room_to_start s t) (recorded s x) in
     let names = with_names s.names (names_of t) in
     may (may_start allowance low high t) s (named s names y) syntax
-    (may (nat_le (length names) most_names) s y too_many_names
+    (may (nat_le (length names) MOST_NAMES) s y too_many_names
     (may (has_room_to_start s t) s (recorded s x) limit_passed (recorded_alike s x (start_alike s allowance low high t))))
 
 send_by_alike : (s : State) (n : ℕ) (m : Message) (h : Shoen) (o : Option Origin) → Alike s (send_by s n m h o).state
@@ -235,7 +235,7 @@ answer_in_alike s report t h (Some o) =
     let y = limited s (has_room_to_answer s t) (recorded s x) in
     let names = with_names s.names (names_of t) in
     may (is_living h.life) s (named s names y) shoen_ended
-    (may (nat_le (length names) most_names) s y too_many_names
+    (may (nat_le (length names) MOST_NAMES) s y too_many_names
     (may (has_room_to_answer s t) s (recorded s x) limit_passed (recorded_alike s x (answer_by_alike s t (unanswered_at o.reports report)))))
 
 answer_alike : (s : State) (report : ℕ) (t : Term) (o : Option Shoen) → Alike s (answer_to s report t o).state
@@ -244,7 +244,7 @@ answer_alike s report t (Some h) = answer_in_alike s report t h h.origin
 
 -- what an entry does leaves them
 pub entry_rules : (s : State) (e : Entry) → (step s (event_in e)).state.rules ≡ s.rules
-entry_rules s (loads text) = may (nat_le (length text) most_source_bytes) s (load_module s (read_module text)) syntax (load_alike s (read_module text))
+entry_rules s (loads text) = may (nat_le (length text) MOST_SOURCE_BYTES) s (load_module s (read_module text)) syntax (load_alike s (read_module text))
 entry_rules s (starts allowance low high t) = starting_alike s allowance low high t
 entry_rules s (sends n m) = may (may_send n m) s (send_to s n m (shoen_at n s.shoens)) syntax (send_alike s n m (shoen_at n s.shoens))
 entry_rules s (steps goal clause) = may (is_number goal && is_number clause) s (reduce_goal s clause (goal_at goal s.goals)) syntax (reduce_alike s clause (goal_at goal s.goals))

@@ -6,12 +6,12 @@ use Rattle.std.proofs.lemmas.Bool.{and_parts, and_from, or_left, or_right, le-le
 use Rattle.std.proofs.lemmas.List.{append_assoc, length-append}
 use Rattle.std.proofs.lemmas.Option.{none-some, same_Some}
 use Rattle.std.proofs.lemmas.Slice.Eq.{bytes_eq-Decides}
-use Rattle.kl1_model.specs.Limits.{number_limit, most_line_bytes}
+use Rattle.kl1_model.specs.declared.limits.TheConstants.{NUMBER_LIMIT, MOST_LINE_BYTES, MOST_DEPTH}
 use Rattle.kl1_model.specs.declared.message.Message.{Message}
 use Rattle.kl1_model.specs.declared.message.Message.TheVariants.{Stop, Start, Abort, Allow}
 use Rattle.kl1_model.specs.Term.{Term}
 use Rattle.kl1_model.specs.Text.{is_name_byte}
-use Rattle.kl1_model.specs.Meaning.{most_depth, depth, is_narrow, is_writable, is_numbered, highest}
+use Rattle.kl1_model.specs.Meaning.{depth, is_narrow, is_writable, is_numbered, highest}
 use Rattle.kl1_model.specs.Goal.{is_goal}
 use Rattle.kl1_model.specs.Print.{print}
 use Rattle.kl1_model.specs.Token.{is_digit}
@@ -27,7 +27,7 @@ use Rattle.kl1_model_history.proofs.ReadBack.{printed_goals_read_back}
 use Rattle.kl1_model_history.proofs.ReadPlain.{prints_are_plain}
 use Rattle.kl1_model_history.proofs.Words.{few_digits, number_back, before_front, behind_front, decimal_no_space, highest_fits}
 
-two_back : (make : ℕ → ℕ → Entry) (a b : ℕ) → a < number_limit → b < number_limit → of_two make (decimal a ++ 32 ∷ decimal b) ≡ Some (make a b)
+two_back : (make : ℕ → ℕ → Entry) (a b : ℕ) → a < NUMBER_LIMIT → b < NUMBER_LIMIT → of_two make (decimal a ++ 32 ∷ decimal b) ≡ Some (make a b)
 two_back make a b p q =
     rw (before_front (decimal a) (decimal b) (decimal_no_space a p), behind_front (decimal a) (decimal b) (decimal_no_space a p), number_back a p, number_back b q) refl
 
@@ -60,9 +60,9 @@ hex_back (b ∷ bs) a = ap₂ (λ (x : ℕ) (xs : List ℕ). x ∷ xs) (byte_bac
 
 -- the facts of a start
 pub record Starts (allowance low high : ℕ) (t : Term) : Type 0 where
-  pub first : allowance < number_limit
-  pub second : low < number_limit
-  pub third : high < number_limit
+  pub first : allowance < NUMBER_LIMIT
+  pub second : low < NUMBER_LIMIT
+  pub third : high < NUMBER_LIMIT
   pub goal : is_goal t ≡ true
   pub printable : is_printable t ≡ true
   pub plain : list_all is_name_byte (print t) ≡ true
@@ -73,12 +73,12 @@ record Printable (t : Term) : Type 0 where
   plain : list_all is_name_byte (print t) ≡ true
 
 -- a goal that ends a line that isn't too long
-printable_here : (front : List ℕ) (t : Term) → is_writable t ≡ true → is_numbered t ≡ true → length (front ++ print t) ≤ most_line_bytes → Printable t
+printable_here : (front : List ℕ) (t : Term) → is_writable t ≡ true → is_numbered t ≡ true → length (front ++ print t) ≤ MOST_LINE_BYTES → Printable t
 printable_here front t writable numbered short =
-    let few : highest t < number_limit = omega (arith, highest_fits t numbered, length-append front (print t)) in
+    let few : highest t < NUMBER_LIMIT = omega (arith, highest_fits t numbered, length-append front (print t)) in
     record {
-      back = and_from (is_writable t && is_numbered t) (nat_lt (highest t) number_limit) (and_from (is_writable t) (is_numbered t) writable numbered) (lt-ltb (highest t) number_limit few);
-      plain = prints_are_plain t (and_parts (is_narrow t) (nat_le (depth t) most_depth) writable).0 few;
+      back = and_from (is_writable t && is_numbered t) (nat_lt (highest t) NUMBER_LIMIT) (and_from (is_writable t) (is_numbered t) writable numbered) (lt-ltb (highest t) NUMBER_LIMIT few);
+      plain = prints_are_plain t (and_parts (is_narrow t) (nat_le (depth t) MOST_DEPTH) writable).0 few;
     }
 
 -- what a start's line has before its goal
@@ -98,8 +98,8 @@ starts_here allowance low high t h = record {
 
 -- the facts of an answer
 pub record Answers (n report : ℕ) (t : Term) : Type 0 where
-  pub first : n < number_limit
-  pub second : report < number_limit
+  pub first : n < NUMBER_LIMIT
+  pub second : report < NUMBER_LIMIT
   pub goal : is_goal t ≡ true
   pub printable : is_printable t ≡ true
   pub plain : list_all is_name_byte (print t) ≡ true
@@ -164,12 +164,12 @@ two_parts : (a b : List ℕ) → a ++ 32 ∷ [] ++ b ≡ a ++ 32 ∷ b
 two_parts a b = append_assoc a (32 ∷ []) b
 
 -- the number of a message's shoen
-pub sent_number : (n : ℕ) (m : Message) → may_send n m ≡ true → n < number_limit
-sent_number n m h = ltb-true n number_limit (and_parts (is_number n) (is_message m) h).0
+pub sent_number : (n : ℕ) (m : Message) → may_send n m ≡ true → n < NUMBER_LIMIT
+sent_number n m h = ltb-true n NUMBER_LIMIT (and_parts (is_number n) (is_message m) h).0
 
 -- how much more a message allows
-pub sent_more : (n k : ℕ) → may_send n (Allow k) ≡ true → k < number_limit
-sent_more n k h = ltb-true k number_limit (and_parts (is_number n) (is_number k) h).1
+pub sent_more : (n k : ℕ) → may_send n (Allow k) ≡ true → k < NUMBER_LIMIT
+sent_more n k h = ltb-true k NUMBER_LIMIT (and_parts (is_number n) (is_number k) h).1
 
 -- the entry by the words of its line
 by_back : (e : Entry) → HasLine e → entry_by (before_space (entry_line e)) (behind_space (entry_line e)) ≡ Some e
@@ -187,11 +187,11 @@ pub length_hex : (bs : List ℕ) → length (hex_text bs) ≡ 2 * length bs
 length_hex [] = refl
 length_hex (b ∷ bs) = omega (arith, length_hex bs)
 
-length_two : (a b : ℕ) → a < number_limit → b < number_limit → length (decimal a ++ codes " " ++ decimal b) ≤ 39
+length_two : (a b : ℕ) → a < NUMBER_LIMIT → b < NUMBER_LIMIT → length (decimal a ++ codes " " ++ decimal b) ≤ 39
 length_two a b p q = omega (arith, length-append (decimal a ++ codes " ") (decimal b), length-append (decimal a) (codes " "), few_digits a p, few_digits b q)
 
 -- the line of an entry isn't too long
-fits : (e : Entry) → HasLine e → length (entry_line e) ≤ most_line_bytes
+fits : (e : Entry) → HasLine e → length (entry_line e) ≤ MOST_LINE_BYTES
 fits (loads text) h = h.1
 fits (starts allowance low high t) h = h.6
 fits (sends n Stop) h = omega (arith, few_digits n (sent_number n Stop h))
@@ -207,7 +207,7 @@ line_same e = rw ((bytes_eq-Decides (entry_line e) (entry_line e)).1 refl) refl
 pub entries_read_back : EntriesReadBack
 entries_read_back e h =
     let line = entry_line e in
-    ap (λ x. if◌then◌else◌ {A = Option Entry} x (option_and_then (if_line line) (entry_by (before_space line) (behind_space line))) None) (le-leb (length line) most_line_bytes (fits e h))
+    ap (λ x. if◌then◌else◌ {A = Option Entry} x (option_and_then (if_line line) (entry_by (before_space line) (behind_space line))) None) (le-leb (length line) MOST_LINE_BYTES (fits e h))
     ∙ ap (option_and_then (if_line line)) (by_back e h)
     ∙ line_same e
 
@@ -224,4 +224,4 @@ strict_short true line o f h = strict_by line o f h
 strict_short false line o f h = absurd (none-some f h)
 
 pub strict_lines_are_entries : StrictLinesAreEntries
-strict_lines_are_entries line e h = strict_short (nat_le (length line) most_line_bytes) line (entry_by (before_space line) (behind_space line)) e h
+strict_lines_are_entries line e h = strict_short (nat_le (length line) MOST_LINE_BYTES) line (entry_by (before_space line) (behind_space line)) e h

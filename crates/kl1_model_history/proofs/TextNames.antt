@@ -8,7 +8,7 @@ use Rattle.std.proofs.lemmas.Option.{none-some, same_Some}
 use Rattle.std.proofs.lemmas.Slice.Eq.{bytes_eq-Decides}
 use Rattle.kl1_model.specs.declared.rules.Rules.{Rules}
 use Rattle.kl1_model.specs.declared.rules.Rules.TheVariants.{One, Two}
-use Rattle.kl1_model.specs.Limits.{number_limit, most_names, most_sessions}
+use Rattle.kl1_model.specs.declared.limits.TheConstants.{NUMBER_LIMIT, MOST_NAMES, MOST_SESSIONS}
 use Rattle.kl1_model.specs.Text.{is_text}
 use Rattle.kl1_model.specs.Name.{is_small_letter, is_word_byte, is_bare, doubled, quoted, name_text}
 use Rattle.kl1_model.specs.Line.{before_space, behind_space, number_in}
@@ -70,11 +70,11 @@ heading_by : (line : List ℕ) (rules : Rules) (x y : Option ℕ) (m n : ℕ) �
 heading_by line rules x y m n p q = rw (p, q) refl
 
 -- a heading whose numbers are small
-heading_same : (rules : Rules) (m n : ℕ) → m ≤ most_sessions → n ≤ most_names → if_first_line (first_line rules m n) rules m n ≡ Some (record { rules = rules; sessions = m; names = n })
+heading_same : (rules : Rules) (m n : ℕ) → m ≤ MOST_SESSIONS → n ≤ MOST_NAMES → if_first_line (first_line rules m n) rules m n ≡ Some (record { rules = rules; sessions = m; names = n })
 heading_same rules m n p q =
     let line = first_line rules m n in
     ap (λ x. if◌then◌else◌ {A = Option Heading} x (Some (record { rules = rules; sessions = m; names = n })) None)
-    (and_from (nat_le m most_sessions && nat_le n most_names) (bytes_eq line line) (and_from (nat_le m most_sessions) (nat_le n most_names) (le-leb m most_sessions p) (le-leb n most_names q)) ((bytes_eq-Decides line line).1 refl))
+    (and_from (nat_le m MOST_SESSIONS && nat_le n MOST_NAMES) (bytes_eq line line) (and_from (nat_le m MOST_SESSIONS) (nat_le n MOST_NAMES) (le-leb m MOST_SESSIONS p) (le-leb n MOST_NAMES q)) ((bytes_eq-Decides line line).1 refl))
 
 -- the version of a journal, and what stands after it in the first line
 version_back : (rules : Rules) (rest : List ℕ) → (line : List ℕ) → line ≡ codes "journal " ++ version rules ++ 32 ∷ rest → (rules_of (before_space (behind_space line)) ≡ Some rules) × (behind_space (behind_space line) ≡ rest)
@@ -86,8 +86,8 @@ first_parts v m n = simp append_assoc refl
 
 pub headings_read_back : HeadingsReadBack
 headings_read_back rules m n p q =
-    let few : m < number_limit = omega arith in
-    let less : n < number_limit = omega arith in
+    let few : m < NUMBER_LIMIT = omega arith in
+    let less : n < NUMBER_LIMIT = omega arith in
     let rest = decimal m ++ 32 ∷ decimal n in
     let line = first_line rules m n in
     let both = version_back rules rest line (first_parts (version rules) (decimal m) (decimal n)) in
@@ -100,21 +100,21 @@ headings_read_back rules m n p q =
 
 -- what is known of a heading that was read
 abbrev IsHeading : List ℕ → Heading → Type 0
-IsHeading line h = (h.sessions ≤ most_sessions) × (h.names ≤ most_names) × (first_line h.rules h.sessions h.names ≡ line)
+IsHeading line h = (h.sessions ≤ MOST_SESSIONS) × (h.names ≤ MOST_NAMES) × (first_line h.rules h.sessions h.names ≡ line)
 
-heading_strict : (b : Bool) (line : List ℕ) (rules : Rules) (m n : ℕ) (h : Heading) → nat_le m most_sessions && nat_le n most_names && bytes_eq (first_line rules m n) line ≡ b →
+heading_strict : (b : Bool) (line : List ℕ) (rules : Rules) (m n : ℕ) (h : Heading) → nat_le m MOST_SESSIONS && nat_le n MOST_NAMES && bytes_eq (first_line rules m n) line ≡ b →
     if◌then◌else◌ {A = Option Heading} b (Some (record { rules = rules; sessions = m; names = n })) None ≡ Some h → IsHeading line h
 heading_strict true line rules m n h is e =
-    let all = and_parts (nat_le m most_sessions && nat_le n most_names) (bytes_eq (first_line rules m n) line) is in
-    let both = and_parts (nat_le m most_sessions) (nat_le n most_names) all.0 in
+    let all = and_parts (nat_le m MOST_SESSIONS && nat_le n MOST_NAMES) (bytes_eq (first_line rules m n) line) is in
+    let both = and_parts (nat_le m MOST_SESSIONS) (nat_le n MOST_NAMES) all.0 in
     let same = same_Some (record { rules = rules; sessions = m; names = n }) h e in
-    subst (IsHeading line) same (leb-true m most_sessions both.0, leb-true n most_names both.1, (bytes_eq-Decides (first_line rules m n) line).0 all.1)
+    subst (IsHeading line) same (leb-true m MOST_SESSIONS both.0, leb-true n MOST_NAMES both.1, (bytes_eq-Decides (first_line rules m n) line).0 all.1)
 heading_strict false line rules m n h is e = absurd (none-some h e)
 
 heading_from : (line : List ℕ) (rules : Rules) (x y : Option ℕ) (h : Heading) → option_and_then (λ sessions. option_and_then (λ names. if_first_line line rules sessions names) y) x ≡ Some h → IsHeading line h
 heading_from line rules None y h e = absurd (none-some h e)
 heading_from line rules (Some m) None h e = absurd (none-some h e)
-heading_from line rules (Some m) (Some n) h e = heading_strict (nat_le m most_sessions && nat_le n most_names && bytes_eq (first_line rules m n) line) line rules m n h refl e
+heading_from line rules (Some m) (Some n) h e = heading_strict (nat_le m MOST_SESSIONS && nat_le n MOST_NAMES && bytes_eq (first_line rules m n) line) line rules m n h refl e
 
 heading_of : (line rest : List ℕ) (o : Option Rules) (h : Heading) → option_and_then (heading_with line rest) o ≡ Some h → IsHeading line h
 heading_of line rest None h e = absurd (none-some h e)

@@ -7,7 +7,7 @@ use Rattle.std.proofs.lemmas.List.Folds.{list_all-append}
 use Rattle.std.proofs.lemmas.Slice.Eq.{bytes_eq-Decides}
 use Rattle.kl1_model.specs.declared.rules.Rules.{Rules}
 use Rattle.kl1_model.specs.declared.rules.Rules.TheVariants.{One, Two}
-use Rattle.kl1_model.specs.Limits.{number_limit}
+use Rattle.kl1_model.specs.declared.limits.TheConstants.{NUMBER_LIMIT}
 use Rattle.kl1_model.specs.declared.message.Message.TheVariants.{Stop, Start, Abort, Allow}
 use Rattle.kl1_model.specs.Text.{is_name_byte, is_text}
 use Rattle.kl1_model.specs.Name.{atom_text}
@@ -47,10 +47,10 @@ each_unbroken test none (b ∷ bs) h =
 plain_unbroken : (bs : List ℕ) → list_all is_name_byte bs ≡ true → IsUnbroken bs
 plain_unbroken bs h = each_unbroken is_name_byte name_byte_unbroken bs h
 
-decimal_unbroken : (n : ℕ) → n < number_limit → IsUnbroken (decimal n)
+decimal_unbroken : (n : ℕ) → n < NUMBER_LIMIT → IsUnbroken (decimal n)
 decimal_unbroken n small = each_unbroken is_digit digit_unbroken (decimal n) (decimal_writes n (omega arith)).digits
 
-two_unbroken : (a b : ℕ) → a < number_limit → b < number_limit → IsUnbroken (decimal a ++ codes " " ++ decimal b)
+two_unbroken : (a b : ℕ) → a < NUMBER_LIMIT → b < NUMBER_LIMIT → IsUnbroken (decimal a ++ codes " " ++ decimal b)
 two_unbroken a b p q =
     both_unbroken (decimal a ++ codes " ") (decimal b) (both_unbroken (decimal a) (codes " ") (decimal_unbroken a p) refl) (decimal_unbroken b q)
 
@@ -99,6 +99,6 @@ name_unbroken t h =
     plain_unbroken (atom_text t) (ap (list_all is_name_byte) (sym (atom_printed (bytes_eq t (codes "[]")) t refl)) ∙ prints_are_plain (atom t) h (omega arith))
 
 -- the first line has no line feed
-pub first_unbroken : (rules : Rules) (sessions names : ℕ) → sessions < number_limit → names < number_limit → IsUnbroken (first_line rules sessions names)
+pub first_unbroken : (rules : Rules) (sessions names : ℕ) → sessions < NUMBER_LIMIT → names < NUMBER_LIMIT → IsUnbroken (first_line rules sessions names)
 first_unbroken One sessions names p q = two_unbroken sessions names p q
 first_unbroken Two sessions names p q = two_unbroken sessions names p q

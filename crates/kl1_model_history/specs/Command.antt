@@ -6,7 +6,7 @@ use Rattle.kl1_model.specs.declared.condition.Condition.{Condition}
 use Rattle.kl1_model.specs.declared.condition.Condition.TheVariants.{Terminated, Aborted, Stopped, Exhausted, Running}
 use Rattle.kl1_model.specs.Term.{Term}
 use Rattle.kl1_model.specs.Name.{atom_text}
-use Rattle.kl1_model.specs.Limits.{most_command_bytes, most_listed, most_steps}
+use Rattle.kl1_model.specs.declared.limits.TheConstants.{MOST_COMMAND_BYTES, MOST_LISTED, MOST_STEPS}
 use Rattle.kl1_model.specs.Line.{word_in, behind_word_in, number_in, up_to, only_number, is_blank_line}
 use Rattle.kl1_model.specs.Module.{Reading, good, bad, read_goal}
 use Rattle.kl1_model.specs.Event.{Refusal, syntax, source, exists, no_shoen, shoen_ended, step_refused, too_many_names, limit_passed, journal_full, sessions_refused, answer_refused, value, status, reports, modules, is_quiet, Event, load, start, control, reduce, read, login, logout, reset, answer, Reply, loaded, opened, sent, reduced, ran, shown, status_is, listed, quiet_is, welcome, bye, was_reset, refused, is_range}
@@ -67,7 +67,7 @@ reports_command line = option_and_then (λ n. option_and_then (reports_from n) (
 
 -- a page of the journal from one line on, if that is at least 1, and with at least one line and not too many
 abbrev pub journal_from : ℕ → ℕ → Option Command
-journal_from from count = if nat_le 1 from && nat_le 1 count && nat_le count most_listed then Some (shows from count) else None
+journal_from from count = if nat_le 1 from && nat_le 1 count && nat_le count MOST_LISTED then Some (shows from count) else None
 
 -- a line's number, from 1, and how many lines at most, and nothing else
 abbrev pub journal_command : List ℕ → Option Command
@@ -123,7 +123,7 @@ abbrev pub command_by : Verb → List ℕ → Option Command
 command_by starts rest = start_command rest
 command_by (sends m) rest = send_command m rest
 command_by allows rest = allow_command rest
-command_by runs rest = option_map run (up_to most_steps (only_number rest))
+command_by runs rest = option_map run (up_to MOST_STEPS (only_number rest))
 command_by asks_value rest = option_map (λ n. does (read (value n))) (only_number rest)
 command_by asks_status rest = option_map (λ n. does (read (status n))) (only_number rest)
 command_by asks_reports rest = reports_command rest
@@ -139,7 +139,7 @@ command_by unknown rest = None
 
 -- the command that a line is, without its end, if it is one; a line that is too long is none, nor is a `load` line without its source
 abbrev pub parse : List ℕ → Option Command
-parse line = if nat_le (length line) most_command_bytes then command_by (verb_of (word_in line)) (behind_word_in line) else None
+parse line = if nat_le (length line) MOST_COMMAND_BYTES then command_by (verb_of (word_in line)) (behind_word_in line) else None
 
 -- the command that is asked for, if there is one
 abbrev pub command_of : Request → Option Command

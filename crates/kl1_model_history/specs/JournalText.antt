@@ -5,7 +5,7 @@ use Rattle.kl1_model.specs.declared.message.Message.{Message}
 use Rattle.kl1_model.specs.declared.message.Message.TheVariants.{Stop, Start, Abort, Allow}
 use Rattle.kl1_model.specs.declared.rules.Rules.{Rules}
 use Rattle.kl1_model.specs.declared.rules.Rules.TheVariants.{One, Two}
-use Rattle.kl1_model.specs.Limits.{most_line_bytes, most_names, most_sessions}
+use Rattle.kl1_model.specs.declared.limits.TheConstants.{MOST_LINE_BYTES, MOST_NAMES, MOST_SESSIONS}
 use Rattle.kl1_model.specs.Text.{is_text, is_built_in}
 use Rattle.kl1_model.specs.Term.{Term}
 use Rattle.kl1_model.specs.Name.{atom_text}
@@ -129,7 +129,7 @@ if_line line e = if bytes_eq (entry_line e) line then Some e else None
 
 -- the entry whose line this is, if there is one; a line of too many bytes is none
 abbrev pub entry_in : List ℕ → Option Entry
-entry_in line = if nat_le (length line) most_line_bytes then option_and_then (if_line line) (entry_by (before_space line) (behind_space line)) else None
+entry_in line = if nat_le (length line) MOST_LINE_BYTES then option_and_then (if_line line) (entry_by (before_space line) (behind_space line)) else None
 
 -- ---- the name that a line has, and the first line
 
@@ -165,7 +165,7 @@ pub record Heading : Type 0 where
 -- a heading, if its numbers are allowed and this is its line
 abbrev pub if_first_line : List ℕ → Rules → ℕ → ℕ → Option Heading
 if_first_line line rules sessions names =
-    if nat_le sessions most_sessions && nat_le names most_names && bytes_eq (first_line rules sessions names) line
+    if nat_le sessions MOST_SESSIONS && nat_le names MOST_NAMES && bytes_eq (first_line rules sessions names) line
     then Some (record { rules = rules; sessions = sessions; names = names })
     else None
 

@@ -2,7 +2,7 @@
 use Rattle.std.proofs.Common.{◌≡◌, ℕ, suc, ◌+◌, ◌==◌, ◌||◌, not, ◌&&◌, Bool, true, false, if◌then◌else◌, List, [], ◌∷◌, ◌++◌, refl, sym, ap, ap₂, ◌∙◌}
 use Rattle.std.specs.Prelude.{nat_lt, map, Option, Some, None, option_map, unwrap_or}
 use Rattle.std.specs.List.{list_any}
-use Rattle.kl1_model.specs.Limits.{most_reports}
+use Rattle.kl1_model.specs.declared.limits.TheConstants.{MOST_REPORTS}
 use Rattle.kl1_model.specs.declared.life.Life.{Life}
 use Rattle.kl1_model.specs.Term.{Term, variable, integer, atom, structure, Replacement, occurs}
 use Rattle.kl1_model.specs.Meaning.{nil, cell, highest}
@@ -100,7 +100,7 @@ reported_alike n m (variable v) s =
     let bound = record (replace_in_state v (cell m (variable next)) s) { last_variable = next; reports = suc s.reports } in
     let k = alike_replace v (cell m (variable next)) s in
     let b : Alike s bound = record { nodes = k.nodes; duties = k.duties; modules = refl; last = refl; entries = refl; work = refl } in
-    alike_if (occurs v m || not (nat_lt s.reports most_reports)) s (broken_at n s) (change_shoen n (λ h. record h { tail = variable next }) bound) (alike_broken n s)
+    alike_if (occurs v m || not (nat_lt s.reports MOST_REPORTS)) s (broken_at n s) (change_shoen n (λ h. record h { tail = variable next }) bound) (alike_broken n s)
     (alike_both s bound (change_shoen n (λ h. record h { tail = variable next }) bound) b (alike_change n (λ h. record h { tail = variable next }) bound (λ h. refl)))
 reported_alike n m (integer i) s = alike_broken n s
 reported_alike n m (atom a) s = alike_broken n s

@@ -5,7 +5,7 @@ use Rattle.std.proofs.lemmas.Bool.{and_parts, eqb-true, leb-true, ltb-true}
 use Rattle.std.proofs.lemmas.List.Sums.{sum_by-cons}
 use Rattle.std.proofs.lemmas.Option.{none-some, same_Some}
 use Rattle.kl1_model.specs.declared.rules.Rules.{Rules}
-use Rattle.kl1_model.specs.Limits.{most_goals, most_variables, most_nodes, most_shoens, most_names}
+use Rattle.kl1_model.specs.declared.limits.TheConstants.{MOST_GOALS, MOST_VARIABLES, MOST_NODES, MOST_SHOENS, MOST_NAMES}
 use Rattle.kl1_model.specs.Term.{Term, atom, substituted}
 use Rattle.kl1_model.specs.Meaning.{highest}
 use Rattle.kl1_model.specs.Nodes.{goal_nodes, goals_nodes}
@@ -89,7 +89,7 @@ rises_more b (d ∷ ds) es last top r q = (r.0, rises_more d.number ds es last t
 
 -- goals have rising numbers, and those alive are few
 pub record AreCounted (ds : List Duty) (last : ℕ) : Type 0 where
-  pub few : alive_in ds ≤ most_goals
+  pub few : alive_in ds ≤ MOST_GOALS
   pub rising : Rises 0 ds last
 
 pub counted_fewer : (p : Duty → Bool) (ds : List Duty) (last : ℕ) → AreCounted ds last → AreCounted (filter p ds) last
@@ -153,8 +153,8 @@ commit_counted g k s room counted =
     let body = body_instance k.clause k.places s.last_variable in
     let ps = map (priority_of (shoen_at g.shoen s.shoens) g.priority) (body_priorities k.clause) in
     let new = goals_from s.last_goal g.shoen ps body in
-    let parts = and_parts (nat_le (goals_alive s + length k.clause.body) most_goals && nat_le (s.variables + fresh_variables k.clause) most_variables) (nat_le (s.nodes + goals_nodes (goals_of k.clause.body)) most_nodes) room in
-    let fit = leb-true (goals_alive s + length k.clause.body) most_goals (and_parts (nat_le (goals_alive s + length k.clause.body) most_goals) (nat_le (s.variables + fresh_variables k.clause) most_variables) parts.0).0 in
+    let parts = and_parts (nat_le (goals_alive s + length k.clause.body) MOST_GOALS && nat_le (s.variables + fresh_variables k.clause) MOST_VARIABLES) (nat_le (s.nodes + goals_nodes (goals_of k.clause.body)) MOST_NODES) room in
+    let fit = leb-true (goals_alive s + length k.clause.body) MOST_GOALS (and_parts (nat_le (goals_alive s + length k.clause.body) MOST_GOALS) (nat_le (s.variables + fresh_variables k.clause) MOST_VARIABLES) parts.0).0 in
     let here = alive_is s in
     let a = alive_append (duties_of s.goals) (duties_of new) in
     let b = alive_most (duties_of new) in
@@ -166,7 +166,7 @@ commit_counted g k s room counted =
       rising = rises_more 0 (duties_of s.goals) (duties_of new) s.last_goal (s.last_goal + length body) counted.rising (from_rises s.last_goal g.shoen ps body);
     })
 
-open_counted : (h : Shoen) (goal : Term) (s : State) → alive_in (duties_of s.goals) + 1 ≤ most_goals → Of AreCounted s → Of AreCounted (with_shoen h goal s)
+open_counted : (h : Shoen) (goal : Term) (s : State) → alive_in (duties_of s.goals) + 1 ≤ MOST_GOALS → Of AreCounted s → Of AreCounted (with_shoen h goal s)
 open_counted h goal s room counted =
     let new = opening_goals s.last_goal h goal in
     let a = alive_append (duties_of s.goals) (duties_of new) in
@@ -179,7 +179,7 @@ open_counted h goal s room counted =
       rising = rises_more 0 (duties_of s.goals) (duties_of new) s.last_goal (suc (suc s.last_goal)) counted.rising (first, (next, top));
     })
 
-placed_counted : (n last : ℕ) (ds : List Duty) → alive_in ds + 1 ≤ most_goals → AreCounted ds last → AreCounted (ds ++ next_duty last n ∷ []) (suc last)
+placed_counted : (n last : ℕ) (ds : List Duty) → alive_in ds + 1 ≤ MOST_GOALS → AreCounted ds last → AreCounted (ds ++ next_duty last n ∷ []) (suc last)
 placed_counted n last ds room counted =
     let a = alive_append ds (next_duty last n ∷ []) in
     let one : alive_in (next_duty last n ∷ []) ≤ 1 = alive_most (next_duty last n ∷ []) in
@@ -188,19 +188,19 @@ placed_counted n last ds room counted =
     record { few = omega (arith, room, a, one); rising = rises_more 0 ds (next_duty last n ∷ []) last (suc last) counted.rising (next, top) }
 
 -- a goal in the place of one that was removed counts as that did
-lasts_counted : (g : Goal) (s : State) → alive_in (duties_of s.goals) + 1 ≤ most_goals → Of AreCounted s → Lasts (Of AreCounted) g s
+lasts_counted : (g : Goal) (s : State) → alive_in (duties_of s.goals) + 1 ≤ MOST_GOALS → Of AreCounted s → Lasts (Of AreCounted) g s
 lasts_counted g s room a = record {
   alike = λ t k. of_alike AreCounted s t k a;
   placed = λ t k. of_placed AreCounted g.shoen s t k (placed_counted g.shoen s.last_goal (duties_of s.goals) room a);
 }
 
-moved_counted : (g : Goal) (t : Term) (m : Move) (s : State) → alive_in (duties_of s.goals) + 1 ≤ most_goals → Of AreCounted s → Of AreCounted (moved g t m s)
+moved_counted : (g : Goal) (t : Term) (m : Move) (s : State) → alive_in (duties_of s.goals) + 1 ≤ MOST_GOALS → Of AreCounted s → Of AreCounted (moved g t m s)
 moved_counted g t (commits k) s e a = by_limit (Of AreCounted) (has_room_for s k.clause) g t (committed g k s) s (λ room. commit_counted g k s room a) (lasts_counted g s e a)
 moved_counted g t (raises kind) s e a = by_raised (Of AreCounted) g kind t s (lasts_counted g s e a)
 moved_counted g t (unifies x y) s e a = by_unified (Of AreCounted) g t (mgu (equation x y)) s (lasts_counted g s e a)
 moved_counted g t (names text x) s e a =
     let u = record s { names = with_name s.names text } in
-    by_limit (Of AreCounted) (nat_le (length (with_name s.names text)) most_names) g t (named_by g t text x s) s
+    by_limit (Of AreCounted) (nat_le (length (with_name s.names text)) MOST_NAMES) g t (named_by g t text x s) s
     (λ _. by_unified (Of AreCounted) g t (mgu (equation x (atom text))) u (lasts_counted g u e a)) (lasts_counted g s e a)
 moved_counted g t (opens o) s e a =
     let h = child_shoen s g.shoen o in
@@ -216,16 +216,16 @@ acted_counted g t m s there plain a =
     let c = filtered (λ d. not (d.number == g.number)) s.goals in
     let d = a.few in
     of_settle_charged AreCounted counted_fewer g.shoen (moved g t m worked) (moved_counted g t m worked
-    (subst (λ ds. alive_in ds + 1 ≤ most_goals) (sym c) (omega (arith, b, d))) (of_gone AreCounted counted_fewer g.number s a))
+    (subst (λ ds. alive_in ds + 1 ≤ MOST_GOALS) (sym c) (omega (arith, b, d))) (of_gone AreCounted counted_fewer g.number s a))
 
 pub start_counted : (s : State) (allowance low high : ℕ) (t : Term) → has_room_to_start s t ≡ true → Of AreCounted s → Of AreCounted (start_goal s allowance low high t)
 start_counted s allowance low high t room a =
     let h = begun_shoen s allowance low high t in
     let goal = with_next_variables s.last_variable t in
-    let x = and_parts (nat_lt (goals_alive s) most_goals && nat_le (s.variables + suc (suc (highest t))) most_variables && nat_le (s.nodes + goal_nodes t) most_nodes) (nat_lt s.last_shoen most_shoens) room in
-    let y = and_parts (nat_lt (goals_alive s) most_goals && nat_le (s.variables + suc (suc (highest t))) most_variables) (nat_le (s.nodes + goal_nodes t) most_nodes) x.0 in
-    let z = and_parts (nat_lt (goals_alive s) most_goals) (nat_le (s.variables + suc (suc (highest t))) most_variables) y.0 in
-    let few = ltb-true (goals_alive s) most_goals z.0 in
+    let x = and_parts (nat_lt (goals_alive s) MOST_GOALS && nat_le (s.variables + suc (suc (highest t))) MOST_VARIABLES && nat_le (s.nodes + goal_nodes t) MOST_NODES) (nat_lt s.last_shoen MOST_SHOENS) room in
+    let y = and_parts (nat_lt (goals_alive s) MOST_GOALS && nat_le (s.variables + suc (suc (highest t))) MOST_VARIABLES) (nat_le (s.nodes + goal_nodes t) MOST_NODES) x.0 in
+    let z = and_parts (nat_lt (goals_alive s) MOST_GOALS) (nat_le (s.variables + suc (suc (highest t))) MOST_VARIABLES) y.0 in
+    let few = ltb-true (goals_alive s) MOST_GOALS z.0 in
     let here = alive_is s in
     of_alike AreCounted (with_shoen h goal (begun s t)) (start_goal s allowance low high t) (alike_start s allowance low high t) (open_counted h goal (begun s t) (omega (arith, few, here)) a)
 

@@ -13,7 +13,8 @@ use Rattle.kl1_model.specs.Unify.{Equation, argument_equations, replace_in_all, 
 use Rattle.kl1_model.specs.Goal.{is_execute}
 use Rattle.kl1_model.specs.Module.{Clause, Module}
 use Rattle.kl1_model.specs.Match.{Answer, yes, no, wait, Match, with_answer, match_pattern, match_patterns, term_at, places_of, verdict, Call, call_of, clauses_of, is_no, Candidate, candidate_by, candidates_within, candidates_from, candidates_of, fails}
-use Rattle.kl1_model.specs.Look.{Spelling, spelled, awaits_code, misspelled, spelling, most_spelled, Look, right, waits_on, wrong, ExecuteArguments, arguments_look}
+use Rattle.kl1_model.specs.Look.{Spelling, spelled, awaits_code, misspelled, spelling, Look, right, waits_on, wrong, ExecuteArguments, arguments_look}
+use Rattle.kl1_model.specs.declared.limits.TheConstants.{MOST_SPELLED}
 use Rattle.kl1_model.specs.Reduction.{Move, commits, raises, unifies, names, opens, goes, gives_way, failure, call_move, becomes, assigned, spells, ordered, execute_arguments, order_move, execute_move, pair_move, built_in_move, term_move, substitute_move, equation}
 use Rattle.kl1_model.specs.Asking.{elements_of, elements_in}
 use Rattle.kl1_model.specs.Answering.{unanswered, unanswered_at}
@@ -295,11 +296,11 @@ in_execute P (structure f ts) b h = tt
 in_pair : (P : ℕ → Type 0) (f : List ℕ) (a b : Term) → Holds P a → Holds P b → MayMove P (pair_move f a b)
 in_pair P f a b g h =
     let last = if bytes_eq f (codes ":") then execute_move a b else None in
-    let third = if bytes_eq f (codes "atom_from") then spells b (spelling most_spelled a) else last in
+    let third = if bytes_eq f (codes "atom_from") then spells b (spelling MOST_SPELLED a) else last in
     let second = if bytes_eq f (codes ":=") then assigned a (evaluated b) else third in
     if_moves (bytes_eq f (codes "=")) P (Some (unifies a b)) second (g, h)
     (if_moves (bytes_eq f (codes ":=")) P (assigned a (evaluated b)) third (in_assigned P a (evaluated b) g)
-    (if_moves (bytes_eq f (codes "atom_from")) P (spells b (spelling most_spelled a)) last (in_spelled P b (spelling most_spelled a) h)
+    (if_moves (bytes_eq f (codes "atom_from")) P (spells b (spelling MOST_SPELLED a)) last (in_spelled P b (spelling MOST_SPELLED a) h)
     (if_moves (bytes_eq f (codes ":")) P (execute_move a b) None (in_execute P a b h) tt)))
 
 in_built_in : (P : ℕ → Type 0) (t : Term) → Holds P t → MayMove P (built_in_move t)

@@ -5,7 +5,7 @@ use Rattle.std.specs.List.{AllByRecursion}
 use Rattle.std.proofs.Math.Bool.{or-true}
 use Rattle.std.proofs.lemmas.Bool.{false≢true, eqb-true, eqb-false, eq-eqb, ne_eqb, cases_eq}
 use Rattle.std.proofs.lemmas.Option.{none-some, same_Some}
-use Rattle.kl1_model.specs.Limits.{most_names}
+use Rattle.kl1_model.specs.declared.limits.TheConstants.{MOST_NAMES}
 use Rattle.kl1_model.specs.declared.message.Message.TheVariants.{Stop, Start, Abort, Allow}
 use Rattle.kl1_model.specs.Term.{Term, variable, atom, Replacement}
 use Rattle.kl1_model.specs.Unify.{mgu}
@@ -161,7 +161,7 @@ moved_idle g t (raises kind) s idle = by_raised (IdleBut g.shoen) g kind t s (la
 moved_idle g t (unifies x y) s idle = by_unified (IdleBut g.shoen) g t (mgu (equation x y)) s (lasts_idle g s idle)
 moved_idle g t (names text x) s idle =
     let u = record s { names = with_name s.names text } in
-    by_limit (IdleBut g.shoen) (nat_le (length (with_name s.names text)) most_names) g t (named_by g t text x s) s
+    by_limit (IdleBut g.shoen) (nat_le (length (with_name s.names text)) MOST_NAMES) g t (named_by g t text x s) s
     (λ _. by_unified (IdleBut g.shoen) g t (mgu (equation x (atom text))) u (lasts_idle g u idle)) (lasts_idle g s idle)
 moved_idle g t (opens o) s idle =
     let h = child_shoen s g.shoen o in
@@ -217,7 +217,7 @@ moved_tree g t (unifies x y) s few tree = tree_unified g t (mgu (equation x y)) 
 moved_tree g t (names text x) s few tree =
     let u = record s { names = with_name s.names text } in
     let k : Keeps s u = record { parents = refl; work = refl; last = refl; owners = λ n w. w; numbered = λ n w. w } in
-    tree_or (nat_le (length (with_name s.names text)) most_names) g t (named_by g t text x s) s few (tree_unified g t (mgu (equation x (atom text))) u few (kept_tree s u k tree)) tree
+    tree_or (nat_le (length (with_name s.names text)) MOST_NAMES) g t (named_by g t text x s) s few (tree_unified g t (mgu (equation x (atom text))) u few (kept_tree s u k tree)) tree
 moved_tree g t (opens o) s few tree = tree_or (has_room_for_child s g.shoen) g t (open_child s g.shoen o) s few ((opening_follows g.shoen (child_shoen s g.shoen o) o.goal s refl (λ few. few)).tree few tree) tree
 moved_tree g t goes s few tree = tree
 moved_tree g t gives_way s few tree = tree_replaced g (reduces t) s s few (keeps_same s) tree

@@ -2,7 +2,7 @@
 use Rattle.std.proofs.Common.{◌≡◌, ℕ, Bool, true, false, if◌then◌else◌, List, [], ◌∷◌, ◌++◌, refl, sym, ◌∙◌, subst}
 use Rattle.std.specs.Prelude.{nat_le, filter, length, bytes_eq, Option, Some}
 use Rattle.std.specs.List.{AllByRecursion}
-use Rattle.kl1_model.specs.Limits.{most_names}
+use Rattle.kl1_model.specs.declared.limits.TheConstants.{MOST_NAMES}
 use Rattle.kl1_model.specs.declared.message.Message.{Message}
 use Rattle.kl1_model.specs.declared.message.Message.TheVariants.{Stop, Start, Abort, Allow}
 use Rattle.kl1_model.specs.Term.{Term, atom, count_of}
@@ -75,7 +75,7 @@ moved_has g t (raises kind) s = by_raised (Has s) g kind t s (lasts_has g s s (h
 moved_has g t (unifies a b) s = by_unified (Has s) g t (mgu (equation a b)) s (lasts_has g s s (has_same s))
 moved_has g t (names text a) s =
     let u = record s { names = with_name s.names text } in
-    by_limit (Has s) (nat_le (length (with_name s.names text)) most_names) g t (named_by g t text a s) s
+    by_limit (Has s) (nat_le (length (with_name s.names text)) MOST_NAMES) g t (named_by g t text a s) s
     (λ _. by_unified (Has s) g t (mgu (equation a (atom text))) u (lasts_has g s u (record { modules = refl; entries = refl; work = refl }))) (lasts_has g s s (has_same s))
 moved_has g t (opens o) s =
     let b = alike_open (child_shoen s g.shoen o) o.goal s in

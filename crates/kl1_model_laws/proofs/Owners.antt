@@ -3,7 +3,7 @@ use Rattle.std.proofs.Common.{◌≡◌, ◌≤◌, ◌<◌, ℕ, suc, ◌==◌,
 use Rattle.std.specs.Prelude.{nat_lt, map, filter, codes, Option, Some, None, option_map}
 use Rattle.std.specs.List.{AllByRecursion}
 use Rattle.std.proofs.lemmas.Bool.{eqb-true, ne_eqb}
-use Rattle.kl1_model.specs.Limits.{most_reports}
+use Rattle.kl1_model.specs.declared.limits.TheConstants.{MOST_REPORTS}
 use Rattle.kl1_model.specs.declared.life.Life.TheVariants.{Terminated, Aborted}
 use Rattle.kl1_model.specs.declared.message.Message.{Message}
 use Rattle.kl1_model.specs.declared.message.Message.TheVariants.{Stop, Start, Abort, Allow}
@@ -174,7 +174,7 @@ reported c n m (variable v) s f g a =
     let whole : IsFree c next by = (term_raised c s.last_variable next m (omega arith) f, (new, tt)) in
     let bound = record (replace_in_state v by s) { last_variable = next; reports = suc s.reports } in
     let b : Of c bound = own_replace c next v by s.goals s.shoens g.0 whole (own_higher c s.last_variable next s.goals s.shoens (omega arith) a) in
-    own_if (occurs v m || not (nat_lt s.reports most_reports)) c (broken_at n s) (change_shoen n (λ h. record h { tail = variable next }) bound) (own_broken c n s a)
+    own_if (occurs v m || not (nat_lt s.reports MOST_REPORTS)) c (broken_at n s) (change_shoen n (λ h. record h { tail = variable next }) bound) (own_broken c n s a)
     (changed c n (λ h. record h { tail = variable next }) bound (λ h p. record { tail = new; control = p.control }) b)
 reported c n m (integer i) s f g a = own_broken c n s a
 reported c n m (atom b) s f g a = own_broken c n s a
@@ -195,7 +195,7 @@ reported_last : (n : ℕ) (m t : Term) (s : State) → s.last_variable ≤ (repo
 reported_last n m (variable v) s =
     let next = suc s.last_variable in
     let bound = record (replace_in_state v (cell m (variable next)) s) { last_variable = next; reports = suc s.reports } in
-    last_if (occurs v m || not (nat_lt s.reports most_reports)) s.last_variable (broken_at n s) (change_shoen n (λ h. record h { tail = variable next }) bound) (omega arith) (omega arith)
+    last_if (occurs v m || not (nat_lt s.reports MOST_REPORTS)) s.last_variable (broken_at n s) (change_shoen n (λ h. record h { tail = variable next }) bound) (omega arith) (omega arith)
 reported_last n m (integer i) s = omega arith
 reported_last n m (atom b) s = omega arith
 reported_last n m (structure k ts) s = omega arith

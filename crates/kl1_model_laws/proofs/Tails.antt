@@ -4,7 +4,7 @@ use Rattle.std.specs.Prelude.{nat_le, map, length, Option, Some, None, option_ma
 use Rattle.std.specs.List.{AllByRecursion}
 use Rattle.std.proofs.lemmas.Bool.{and_parts, eqb-true, eqb-false, eq-eqb, ne_eqb, leb-false}
 use Rattle.std.proofs.Math.Nat.{le-max_left, le-max_right}
-use Rattle.kl1_model.specs.Limits.{most_names}
+use Rattle.kl1_model.specs.declared.limits.TheConstants.{MOST_NAMES, MOST_LINE_BYTES}
 use Rattle.kl1_model.specs.declared.message.Message.{Message}
 use Rattle.kl1_model.specs.Term.{Term, variable, atom, terms_of, replace, Replacement, substituted}
 use Rattle.kl1_model.specs.Meaning.{nil, cell, highest, highest_in, is_numbered, is_writable}
@@ -17,7 +17,7 @@ use Rattle.kl1_model.specs.Look.{goal_look}
 use Rattle.kl1_model.specs.Control.{message_term, Control, control_of}
 use Rattle.kl1_model.specs.State.{Task, monitor, reduces, substitutes, Goal, Origin, Shoen, State, has_substitutes, goal_at, shoen_at, replace_in_task, replace_in_goal, replace_in_origin, replace_in_shoen, without_goal, with_name}
 use Rattle.kl1_model.specs.Tree.{charge}
-use Rattle.kl1_model.specs.Event.{is_number, is_range, most_line_bytes, with_entry}
+use Rattle.kl1_model.specs.Event.{is_number, is_range, with_entry}
 use Rattle.kl1_model.specs.Report.{report, is_reported, exception, exception_with, failure, exhaustion, started_report, exhausted_report}
 use Rattle.kl1_model.specs.Opening.{start_line, may_start, opening_goals, with_shoen, open_shoen, with_next_variables, start_goal, has_room_for_child, child_shoen, open_child}
 use Rattle.kl1_model.specs.Reduction.{Move, commits, raises, unifies, names, opens, goes, gives_way, moves, reads, priority_of, goals_from, has_room_for, committed, replaced_by, substituted_by, raised, unified, equation, or_exhaustion, named_by, moved, heard, acted, term_move, substitute_move}
@@ -123,7 +123,7 @@ own_moved c g t (unifies x y) s f h a = own_unified c g t x y (mgu (equation x y
 own_moved c g t (names text x) s f h a =
     let u = record s { names = with_name s.names text } in
     let b : Of c u = record { goals = a.goals; shoens = a.shoens; above = a.above } in
-    own_or (nat_le (length (with_name s.names text)) most_names) c g t (named_by g t text x s) s f (own_unified c g t x (atom text) (mgu (equation x (atom text))) u refl f h tt b) a
+    own_or (nat_le (length (with_name s.names text)) MOST_NAMES) c g t (named_by g t text x s) s f (own_unified c g t x (atom text) (mgu (equation x (atom text))) u refl f h tt b) a
 own_moved c g t (opens o) s f h a =
     own_or (has_room_for_child s g.shoen) c g t (open_child s g.shoen o) s f (own_open c (child_shoen s g.shoen o) o.goal s (record { tail = h.2; control = h.1 }) h.0 a) a
 own_moved c g t goes s f h a = a
@@ -286,7 +286,7 @@ start_free c last n t numbered above =
 
 start_numbered : (allowance low high : ℕ) (t : Term) → may_start allowance low high t ≡ true → is_numbered t ≡ true
 start_numbered allowance low high t may =
-    let a = and_parts (is_number allowance && is_range low high && is_goal t && is_writable t && is_numbered t) (nat_le (length (start_line allowance low high t)) most_line_bytes) may in
+    let a = and_parts (is_number allowance && is_range low high && is_goal t && is_writable t && is_numbered t) (nat_le (length (start_line allowance low high t)) MOST_LINE_BYTES) may in
     (and_parts (is_number allowance && is_range low high && is_goal t && is_writable t) (is_numbered t) a.0).1
 
 own_start : (s : State) (allowance low high : ℕ) (t : Term) → may_start allowance low high t ≡ true → Tails s → Tails (start_goal s allowance low high t)
@@ -318,7 +318,7 @@ own_start s allowance low high t may p =
 
 answer_numbered : (n report : ℕ) (t : Term) → may_answer n report t ≡ true → is_numbered t ≡ true
 answer_numbered n report t may =
-    let a = and_parts (is_number n && is_number report && nat_le 1 report && is_goal t && is_writable t && is_numbered t) (nat_le (length (answer_line n report t)) most_line_bytes) may in
+    let a = and_parts (is_number n && is_number report && nat_le 1 report && is_goal t && is_writable t && is_numbered t) (nat_le (length (answer_line n report t)) MOST_LINE_BYTES) may in
     (and_parts (is_number n && is_number report && nat_le 1 report && is_goal t && is_writable t) (is_numbered t) a.0).1
 
 -- an answer's variables are new

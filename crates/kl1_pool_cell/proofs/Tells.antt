@@ -2,7 +2,7 @@
 use Rattle.std.proofs.Common.{◌≡◌, ℕ, suc, ◌+◌, ◌-◌, ◌<◌, ◌^◌, nat_le, nat_lt, ◌&&◌, Bool, true, false, if◌then◌else◌, List, [], ◌∷◌, ◌++◌, length, refl, ap, ◌∙◌, subst, arith}
 use Rattle.std.specs.Prelude.{Option, Some, None, is_some}
 use Rattle.std.proofs.lemmas.List.{length-append}
-use Rattle.kl1_model.specs.Limits.{most_modules, most_sessions, most_source_bytes, most_names, most_entries}
+use Rattle.kl1_model.specs.declared.limits.TheConstants.{MOST_MODULES, MOST_SESSIONS, MOST_SOURCE_BYTES, MOST_NAMES, MOST_ENTRIES}
 use Rattle.kl1_model.specs.Term.{Term}
 use Rattle.kl1_model.specs.declared.message.Message.{Message}
 use Rattle.kl1_model.specs.declared.rules.Rules.{Rules}
@@ -72,11 +72,11 @@ loaded_counts p j b text s (good m) h room =
     let done : Transition = record { state = with_entry (with_module s m); reply = model.loaded m.name } in
     let names = with_names s.names (names_of_module m) in
     let recorded_done = recorded s done in
-    let within = nat_lt (length s.modules) most_modules in
+    let within = nat_lt (length s.modules) MOST_MODULES in
     by_choice P (is_some (module_of s.modules m.name)) (refuse s model.exists) (named s names (limited s within recorded_done)) no
-    (by_choice P (nat_le (length names) most_names) (limited s within recorded_done) (refuse s model.too_many_names)
+    (by_choice P (nat_le (length names) MOST_NAMES) (limited s within recorded_done) (refuse s model.too_many_names)
     (by_choice P within recorded_done (refuse s model.limit_passed)
-    (by_choice P (nat_lt s.entries most_entries) done (refuse s model.journal_full) (one_more p j b (loads text) 0 refl h room, refl) no) no) no)
+    (by_choice P (nat_lt s.entries MOST_ENTRIES) done (refuse s model.journal_full) (one_more p j b (loads text) 0 refl h room, refl) no) no) no)
 
 started_counts : (p : Past) (j : Journal) (b : Book) (s : State) (allowance low high : ℕ) (t : Term) → IsCounted p j b → b.events < 2 ^ 63 → Counts p j b (model.start allowance low high t) (step s (model.start allowance low high t))
 started_counts p j b s allowance low high t h room =
@@ -86,9 +86,9 @@ started_counts p j b s allowance low high t h room =
     let names = with_names s.names (names_of t) in
     let within = has_room_to_start s t in
     by_choice P (may_start allowance low high t) (named s names (limited s within (recorded s done))) (refuse s model.syntax)
-    (by_choice P (nat_le (length names) most_names) (limited s within (recorded s done)) (refuse s model.too_many_names)
+    (by_choice P (nat_le (length names) MOST_NAMES) (limited s within (recorded s done)) (refuse s model.too_many_names)
     (by_choice P within (recorded s done) (refuse s model.limit_passed)
-    (by_choice P (nat_lt s.entries most_entries) done (refuse s model.journal_full) (one_more p j b (starts allowance low high t) 0 refl h room, refl) no) no) no) no
+    (by_choice P (nat_lt s.entries MOST_ENTRIES) done (refuse s model.journal_full) (one_more p j b (starts allowance low high t) 0 refl h room, refl) no) no) no) no
 
 sent_counts : (p : Past) (j : Journal) (b : Book) (s : State) (n : ℕ) (m : Message) (to : Shoen) (origin : Option Origin) → IsCounted p j b → b.events < 2 ^ 63 → Counts p j b (model.control n m) (send_by s n m to origin)
 sent_counts p j b s n m to None h room = (no_more p j b h, refl)
@@ -98,7 +98,7 @@ sent_counts p j b s n m to (Some o) h room =
     let done : Transition = record { state = with_entry (sent_on n m o.control s); reply = model.sent } in
     by_choice P (is_living to.life) (limited s (has_room_to_send s m) (recorded s done)) (refuse s model.shoen_ended)
     (by_choice P (has_room_to_send s m) (recorded s done) (refuse s model.limit_passed)
-    (by_choice P (nat_lt s.entries most_entries) done (refuse s model.journal_full) (one_more p j b (sends n m) 0 refl h room, refl) no) no) no
+    (by_choice P (nat_lt s.entries MOST_ENTRIES) done (refuse s model.journal_full) (one_more p j b (sends n m) 0 refl h room, refl) no) no) no
 
 told_counts : (p : Past) (j : Journal) (b : Book) (s : State) (n : ℕ) (m : Message) (to : Option Shoen) → IsCounted p j b → b.events < 2 ^ 63 → Counts p j b (model.control n m) (send_to s n m to)
 told_counts p j b s n m None h room = (no_more p j b h, refl)
@@ -117,9 +117,9 @@ answered_counts p j b s n report t to (Some o) h room =
     let names = with_names s.names (names_of t) in
     let within = has_room_to_answer s t in
     by_choice P (is_living to.life) (named s names (limited s within (recorded s done))) (refuse s model.shoen_ended)
-    (by_choice P (nat_le (length names) most_names) (limited s within (recorded s done)) (refuse s model.too_many_names)
+    (by_choice P (nat_le (length names) MOST_NAMES) (limited s within (recorded s done)) (refuse s model.too_many_names)
     (by_choice P within (recorded s done) (refuse s model.limit_passed)
-    (by_choice P (nat_lt s.entries most_entries) done (refuse s model.journal_full) (given_counts p j b s n report t (unanswered_at o.reports report) h room) no) no) no) no
+    (by_choice P (nat_lt s.entries MOST_ENTRIES) done (refuse s model.journal_full) (given_counts p j b s n report t (unanswered_at o.reports report) h room) no) no) no) no
 
 replied_counts : (p : Past) (j : Journal) (b : Book) (s : State) (n report : ℕ) (t : Term) (to : Option Shoen) → IsCounted p j b → b.events < 2 ^ 63 → Counts p j b (model.answer n report t) (answer_to s report t to)
 replied_counts p j b s n report t None h room = (no_more p j b h, refl)
@@ -128,7 +128,7 @@ replied_counts p j b s n report t (Some to) h room = answered_counts p j b s n r
 acted_counts : (p : Past) (j : Journal) (b : Book) (s : State) (goal clause : ℕ) (g : Goal) (a : Option Action) → IsCounted p j b → b.events < 2 ^ 63 → Counts p j b (model.reduce goal clause) (reduced_by s g a)
 acted_counts p j b s goal clause g None h room = (no_more p j b h, refl)
 acted_counts p j b s goal clause g (Some a) h room =
-    by_choice (Counts p j b (model.reduce goal clause)) (nat_lt s.entries most_entries) (record { state = acted g a (with_entry s); reply = model.reduced }) (refuse s model.journal_full) (one_more p j b (steps goal clause) 1 refl h room, refl) (no_more p j b h, refl)
+    by_choice (Counts p j b (model.reduce goal clause)) (nat_lt s.entries MOST_ENTRIES) (record { state = acted g a (with_entry s); reply = model.reduced }) (refuse s model.journal_full) (one_more p j b (steps goal clause) 1 refl h room, refl) (no_more p j b h, refl)
 
 reduced_counts : (p : Past) (j : Journal) (b : Book) (s : State) (goal clause : ℕ) (g : Option Goal) → IsCounted p j b → b.events < 2 ^ 63 → Counts p j b (model.reduce goal clause) (reduce_goal s clause g)
 reduced_counts p j b s goal clause None h room = (no_more p j b h, refl)
@@ -159,7 +159,7 @@ answer_counts p j b model.is_quiet s h = (no_more p j b h, refl)
 -- what a book tells after an event, if it has room
 pub step_counts : (p : Past) (j : Journal) (b : Book) (s : State) (e : model.Event) → IsCounted p j b → HasRoom b e → Counts p j b e (step s e)
 step_counts p j b s (model.load text) h room =
-    by_choice (Counts p j b (model.load text)) (nat_le (length text) most_source_bytes) (load_module s (read_module text)) (refuse s model.syntax) (loaded_counts p j b text s (read_module text) h (room refl)) (no_more p j b h, refl)
+    by_choice (Counts p j b (model.load text)) (nat_le (length text) MOST_SOURCE_BYTES) (load_module s (read_module text)) (refuse s model.syntax) (loaded_counts p j b text s (read_module text) h (room refl)) (no_more p j b h, refl)
 step_counts p j b s (model.start allowance low high t) h room = started_counts p j b s allowance low high t h (room refl)
 step_counts p j b s (model.control n m) h room =
     by_choice (Counts p j b (model.control n m)) (may_send n m) (send_to s n m (shoen_at n s.shoens)) (refuse s model.syntax) (told_counts p j b s n m (shoen_at n s.shoens) h (room refl)) (no_more p j b h, refl)
@@ -169,7 +169,7 @@ step_counts p j b s (model.reduce goal clause) h room =
     by_choice (Counts p j b (model.reduce goal clause)) (is_number goal && is_number clause) (reduce_goal s clause (goal_at goal s.goals)) (refuse s model.syntax) (reduced_counts p j b s goal clause (goal_at goal s.goals) h (room refl)) (no_more p j b h, refl)
 step_counts p j b s (model.read q) h room = answer_counts p j b q s h
 step_counts p j b s model.login h room =
-    by_choice (Counts p j b model.login) (nat_lt s.sessions most_sessions) (record { state = record s { sessions = suc s.sessions }; reply = model.welcome s.own_name }) (refuse s model.sessions_refused) (in_sessions p j b (suc s.sessions) h, refl) (no_more p j b h, refl)
+    by_choice (Counts p j b model.login) (nat_lt s.sessions MOST_SESSIONS) (record { state = record s { sessions = suc s.sessions }; reply = model.welcome s.own_name }) (refuse s model.sessions_refused) (in_sessions p j b (suc s.sessions) h, refl) (no_more p j b h, refl)
 step_counts p j b s model.logout h room =
     by_choice (Counts p j b model.logout) (nat_lt 0 s.sessions) (record { state = record s { sessions = s.sessions - 1 }; reply = model.bye }) (refuse s model.sessions_refused) (in_sessions p j b (s.sessions - 1) h, refl) (no_more p j b h, refl)
 step_counts p j b s model.reset h room = (begun_anew p j b s.rules s.names s.sessions h, refl)

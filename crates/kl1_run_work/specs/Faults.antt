@@ -1,6 +1,6 @@
 -- What is told of sources that are refused.
 use Rattle.std.specs.Prelude.{ℕ, nat_le, if◌then◌else◌, List, [], ◌∷◌, ◌++◌, length, codes, decimal, Option, Some, None}
-use Rattle.kl1_model.specs.Limits.{most_source_bytes}
+use Rattle.kl1_model.specs.declared.limits.TheConstants.{MOST_SOURCE_BYTES}
 use Rattle.kl1_model.specs.Module.{Module, Reading, good, bad, read_module}
 use Rattle.kl1_model.specs.Event.{Refusal, syntax, source, exists, no_shoen, shoen_ended, step_refused, too_many_names, limit_passed, journal_full, sessions_refused, answer_refused}
 use Rattle.kl1_model_history.specs.Command.{written_line}
@@ -45,7 +45,7 @@ fault_by (good m) = None
 
 -- why a text by itself is no module
 unfoldable pub fault_in : List ℕ → Option Refusal
-fault_in text = if nat_le (length text) most_source_bytes then fault_by (read_module text) else Some syntax
+fault_in text = if nat_le (length text) MOST_SOURCE_BYTES then fault_by (read_module text) else Some syntax
 
 -- what is told of a file, if its source is refused
 abbrev pub told_of : List ℕ → Option Refusal → List ℕ

@@ -1,7 +1,7 @@
 // The account that replays a journal, with its seat.
 
 ghost use Rattle.std.specs.Prelude.{◌≡◌, ◌≤◌, [], length, IfOk, OnErr};
-ghost use Rattle.kl1_model.specs.Limits.{most_names};
+ghost use Rattle.kl1_model.specs.declared.limits.TheConstants.{MOST_NAMES};
 ghost use Rattle.kl1_model.specs.State.{fresh_with};
 ghost use Rattle.kl1_model.specs.Step.{step};
 ghost use Rattle.kl1_model_history.specs.Replay.{replay_name};
@@ -57,7 +57,7 @@ impl<A: AtomSource + Drop, C: CodeSource + Drop> Replayed<A, C> {
         requires of { A.is_of names seat }
         requires nothing { A.knows seat ≡ [] }
         requires list { IsNameList texts.now }
-        requires few { length texts.now ≤ most_names }
+        requires few { length texts.now ≤ MOST_NAMES }
         ensures { IfOk result (λ replayed. (f : Reading) → state_of f replayed ≡ fresh_with rules replay_name texts.now sessions) }
     {
         let name = replay_name();

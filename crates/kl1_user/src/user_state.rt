@@ -1,7 +1,7 @@
 // One account over a table of names and a source of codes.
 
 ghost use Rattle.std.specs.Prelude.{◌≡◌, ◌↔◌, ◌≤◌, ℕ, [], length, IfOk, IsOk, OnErr, IsTrue, option_map};
-ghost use Rattle.kl1_model.specs.Limits.{most_names};
+ghost use Rattle.kl1_model.specs.declared.limits.TheConstants.{MOST_NAMES};
 ghost use Rattle.kl1_model.specs.State.{fresh, fresh_with};
 ghost use Rattle.kl1_model.specs.Event.{reduce as reduce_event, read};
 ghost use Rattle.kl1_model.specs.Step.{step};
@@ -75,7 +75,7 @@ impl<A: AtomSource, C: CodeSource> UserState<A, C> {
         requires of { A.is_of names.old seat.old }
         requires knows { A.knows seat.old ≡ [] }
         requires list { IsNameList texts.now }
-        requires few { length texts.now ≤ most_names }
+        requires few { length texts.now ≤ MOST_NAMES }
         ensures fresh { IfOk result (λ user. (f : Reading) → state_of f user ≡ fresh_with rules name texts.now sessions) }
         ensures knows { IfOk result (λ user. A.knows seat.new ≡ user.names) }
         ensures modules { IfOk result (λ user. user.modules ≡ []) }

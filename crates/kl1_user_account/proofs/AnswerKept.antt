@@ -2,7 +2,7 @@
 use Rattle.std.proofs.Common.{◌≡◌, ℕ, suc, ◌+◌, ◌-◌, ◌<◌, ◌≤◌, true, false, List, [], ◌∷◌, ◌++◌, length, map, refl, sym, ap, ap₂, ◌∙◌, arith, subst}
 use Rattle.std.specs.Prelude.{nat_le, Option, Some, None, option_map, codes}
 use Rattle.std.specs.List.{AllByRecursion}
-use Rattle.kl1_model.specs.Limits.{most_variables, most_nodes}
+use Rattle.kl1_model.specs.declared.limits.TheConstants.{MOST_VARIABLES, MOST_NODES}
 use Rattle.std.proofs.lemmas.Bool.{and_parts, leb-true}
 use Rattle.kl1_model.specs.Term as term
 use Rattle.kl1_model.specs.Term.{Term, structure, replace}
@@ -282,11 +282,11 @@ answer_step a b hooks known n report v goal code counted spares numbers more old
     ∙ ap R (sym (placed a h (held_exchanged spares numbers new.held) more d gs variables nodes entries is goals vs ns es))
 
 -- room for an answer is within what there may be
-pub variables_within : (c : Counted) (variables nodes : ℕ) → has_room_to_answer_beside c variables nodes ≡ true → c.variables + variables ≤ most_variables
-variables_within c variables nodes e = leb-true (c.variables + variables) most_variables (and_parts (nat_le (c.variables + variables) most_variables) (nat_le (c.nodes + nodes) most_nodes) e).0
+pub variables_within : (c : Counted) (variables nodes : ℕ) → has_room_to_answer_beside c variables nodes ≡ true → c.variables + variables ≤ MOST_VARIABLES
+variables_within c variables nodes e = leb-true (c.variables + variables) MOST_VARIABLES (and_parts (nat_le (c.variables + variables) MOST_VARIABLES) (nat_le (c.nodes + nodes) MOST_NODES) e).0
 
-pub nodes_within : (c : Counted) (variables nodes : ℕ) → has_room_to_answer_beside c variables nodes ≡ true → c.nodes + nodes ≤ most_nodes
-nodes_within c variables nodes e = leb-true (c.nodes + nodes) most_nodes (and_parts (nat_le (c.variables + variables) most_variables) (nat_le (c.nodes + nodes) most_nodes) e).1
+pub nodes_within : (c : Counted) (variables nodes : ℕ) → has_room_to_answer_beside c variables nodes ≡ true → c.nodes + nodes ≤ MOST_NODES
+nodes_within c variables nodes e = leb-true (c.nodes + nodes) MOST_NODES (and_parts (nat_le (c.variables + variables) MOST_VARIABLES) (nat_le (c.nodes + nodes) MOST_NODES) e).1
 
 -- ---- by what a draft is
 

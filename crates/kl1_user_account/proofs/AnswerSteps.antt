@@ -5,14 +5,14 @@ use Rattle.std.proofs.lemmas.Bool.{and_parts, ltb-true, ltb-false, leb-true, lt-
 use Rattle.kl1_model.specs.declared.rules.Rules.{Rules}
 use Rattle.kl1_model.specs.declared.life.Life.{Life}
 use Rattle.kl1_model.specs.declared.life.Life.TheVariants.{Living, Terminated, Aborted}
-use Rattle.kl1_model.specs.Limits.{most_variables, most_nodes}
+use Rattle.kl1_model.specs.declared.limits.TheConstants.{MOST_VARIABLES, MOST_NODES, MOST_ENTRIES, MOST_NAMES, MOST_LINE_BYTES}
 use Rattle.kl1_model.specs.Term.{Term}
 use Rattle.kl1_model.specs.Goal.{is_goal}
 use Rattle.kl1_model.specs.Meaning.{highest, is_writable, is_numbered}
 use Rattle.kl1_model.specs.Nodes.{structures_of}
 use Rattle.kl1_model.specs.State as model
 use Rattle.kl1_model.specs.State.{State, has_substitutes, shoen_at, is_living, names_of, with_names}
-use Rattle.kl1_model.specs.Event.{Transition, answer, sent, refuse, recorded, named, limited, syntax, no_shoen, shoen_ended, too_many_names, journal_full, with_entry, is_number, most_entries, most_names, most_line_bytes}
+use Rattle.kl1_model.specs.Event.{Transition, answer, sent, refuse, recorded, named, limited, syntax, no_shoen, shoen_ended, too_many_names, journal_full, with_entry, is_number}
 use Rattle.kl1_model.specs.Answering.{answer_line, may_answer, has_room_to_answer, unanswered_at, answered, answer_by, answer_in, answer_to}
 use Rattle.kl1_model.specs.Step.{step}
 use Rattle.kl1_text.specs.Reading.{Reads}
@@ -93,27 +93,27 @@ answer_some s t last goals ss n report goal o b e some lives = answer_right s t 
 -- room by what is counted of a state
 room_in : (s : State) (names : List Known) (c : Counted) (goal : Term) → HasNames s names c → has_room_to_answer s goal ≡ has_room_to_answer_beside c (highest goal) (structures_of goal)
 room_in s names c goal at =
-    ap₂ (λ x y. nat_le (x + highest goal) most_variables && nat_le (y + structures_of goal) most_nodes) at.variables_are at.nodes_are
+    ap₂ (λ x y. nat_le (x + highest goal) MOST_VARIABLES && nat_le (y + structures_of goal) MOST_NODES) at.variables_are at.nodes_are
 
 -- whether names are few, of a state
-few_in : (s : State) (names : List Known) (c : Counted) (goal : Term) (b : Bool) → HasNames s names c → nat_lt most_names (length (with_texts (texts_of names) (with_names [] (names_of goal)))) ≡ b → nat_lt most_names (length (with_names s.names (names_of goal))) ≡ b
+few_in : (s : State) (names : List Known) (c : Counted) (goal : Term) (b : Bool) → HasNames s names c → nat_lt MOST_NAMES (length (with_texts (texts_of names) (with_names [] (names_of goal)))) ≡ b → nat_lt MOST_NAMES (length (with_names s.names (names_of goal))) ≡ b
 few_in s names c goal b at e =
-    ap (λ (ns : List (List ℕ)). nat_lt most_names (length (with_names ns (names_of goal)))) at.names_are
-    ∙ ap (λ (ns : List (List ℕ)). nat_lt most_names (length ns)) (sym (names_used (texts_of names) (with_names [] (names_of goal)) goal refl))
+    ap (λ (ns : List (List ℕ)). nat_lt MOST_NAMES (length (with_names ns (names_of goal)))) at.names_are
+    ∙ ap (λ (ns : List (List ℕ)). nat_lt MOST_NAMES (length ns)) (sym (names_used (texts_of names) (with_names [] (names_of goal)) goal refl))
     ∙ e
 
 -- too many names
-after_crowd : (s : State) (report : ℕ) (goal reports : Term) → nat_lt most_names (length (with_names s.names (names_of goal))) ≡ true → after_life s report goal reports true ≡ refuse s too_many_names
+after_crowd : (s : State) (report : ℕ) (goal reports : Term) → nat_lt MOST_NAMES (length (with_names s.names (names_of goal))) ≡ true → after_life s report goal reports true ≡ refuse s too_many_names
 after_crowd s report goal reports many =
-    let lt = ltb-true most_names (length (with_names s.names (names_of goal))) many in
-    ap (λ b. if b then limited s (has_room_to_answer s goal) (recorded s (answer_by s goal (unanswered_at reports report))) else refuse s too_many_names) (lt-leb (length (with_names s.names (names_of goal))) most_names (omega (arith, lt)))
+    let lt = ltb-true MOST_NAMES (length (with_names s.names (names_of goal))) many in
+    ap (λ b. if b then limited s (has_room_to_answer s goal) (recorded s (answer_by s goal (unanswered_at reports report))) else refuse s too_many_names) (lt-leb (length (with_names s.names (names_of goal))) MOST_NAMES (omega (arith, lt)))
 
 -- few names, by whether there is room
-after_names : (s : State) (report : ℕ) (goal reports : Term) (b : Bool) → nat_lt most_names (length (with_names s.names (names_of goal))) ≡ false → has_room_to_answer s goal ≡ b →
+after_names : (s : State) (report : ℕ) (goal reports : Term) (b : Bool) → nat_lt MOST_NAMES (length (with_names s.names (names_of goal))) ≡ false → has_room_to_answer s goal ≡ b →
     after_life s report goal reports true ≡ limited s b (recorded s (answer_by s goal (unanswered_at reports report)))
 after_names s report goal reports b few room =
-    let le = ltb-false most_names (length (with_names s.names (names_of goal))) few in
-    ap (λ c. if c then limited s (has_room_to_answer s goal) (recorded s (answer_by s goal (unanswered_at reports report))) else refuse s too_many_names) (le-leb (length (with_names s.names (names_of goal))) most_names (omega (arith, le)))
+    let le = ltb-false MOST_NAMES (length (with_names s.names (names_of goal))) few in
+    ap (λ c. if c then limited s (has_room_to_answer s goal) (recorded s (answer_by s goal (unanswered_at reports report))) else refuse s too_many_names) (le-leb (length (with_names s.names (names_of goal))) MOST_NAMES (omega (arith, le)))
     ∙ ap (λ c. limited s c (recorded s (answer_by s goal (unanswered_at reports report)))) room
 
 -- ---- refusals
@@ -131,13 +131,13 @@ module _ (rules : Rules) (h : Held CellName) (ss : List (Shoen CellName)) (names
   pub refused_ended : (o : Origin CellName) → (has_substitutes rules && may_answer n report goal) ≡ true → kept_at n ss ≡ Some o → lives_in ss n ≡ false → RefusesAnswer rules h ss names c n report goal Ended
   refused_ended o is some lives f reads s goals same at = answer_some s (meaning f h) (h.variables - 1) goals ss n report goal o false (knows_rules s true same is) some lives
 
-  pub refused_crowd : (o : Origin CellName) → (has_substitutes rules && may_answer n report goal) ≡ true → kept_at n ss ≡ Some o → lives_in ss n ≡ true → nat_lt most_names (length (with_texts (texts_of names) (with_names [] (names_of goal)))) ≡ true → RefusesAnswer rules h ss names c n report goal Names
+  pub refused_crowd : (o : Origin CellName) → (has_substitutes rules && may_answer n report goal) ≡ true → kept_at n ss ≡ Some o → lives_in ss n ≡ true → nat_lt MOST_NAMES (length (with_texts (texts_of names) (with_names [] (names_of goal)))) ≡ true → RefusesAnswer rules h ss names c n report goal Names
   refused_crowd o is some lives many f reads s goals same at =
       let S = with_kept f s h goals ss in
       answer_some s (meaning f h) (h.variables - 1) goals ss n report goal o true (knows_rules s true same is) some lives
       ∙ after_crowd S report goal (meaning f h o.reports) (few_in S names c goal true at many)
 
-  pub refused_limit : (o : Origin CellName) → (has_substitutes rules && may_answer n report goal) ≡ true → kept_at n ss ≡ Some o → lives_in ss n ≡ true → nat_lt most_names (length (with_texts (texts_of names) (with_names [] (names_of goal)))) ≡ false → has_room_to_answer_beside c (highest goal) (structures_of goal) ≡ false →
+  pub refused_limit : (o : Origin CellName) → (has_substitutes rules && may_answer n report goal) ≡ true → kept_at n ss ≡ Some o → lives_in ss n ≡ true → nat_lt MOST_NAMES (length (with_texts (texts_of names) (with_names [] (names_of goal)))) ≡ false → has_room_to_answer_beside c (highest goal) (structures_of goal) ≡ false →
       RefusesAnswer rules h ss names c n report goal Limit
   refused_limit o is some lives few keeps f reads s goals same at =
       let S = with_kept f s h goals ss in
@@ -145,7 +145,7 @@ module _ (rules : Rules) (h : Held CellName) (ss : List (Shoen CellName)) (names
       ∙ after_names S report goal (meaning f h o.reports) false (few_in S names c goal false at few) (room_in S names c goal at ∙ keeps)
 
   -- what comes of an answer that keeps to the limits
-  within : (o : Origin CellName) → (has_substitutes rules && may_answer n report goal) ≡ true → kept_at n ss ≡ Some o → lives_in ss n ≡ true → nat_lt most_names (length (with_texts (texts_of names) (with_names [] (names_of goal)))) ≡ false → has_room_to_answer_beside c (highest goal) (structures_of goal) ≡ true →
+  within : (o : Origin CellName) → (has_substitutes rules && may_answer n report goal) ≡ true → kept_at n ss ≡ Some o → lives_in ss n ≡ true → nat_lt MOST_NAMES (length (with_texts (texts_of names) (with_names [] (names_of goal)))) ≡ false → has_room_to_answer_beside c (highest goal) (structures_of goal) ≡ true →
       (f : Reading) (s : State) (goals : List (Goal CellName)) → s.rules ≡ rules → HasNames (with_kept f s h goals ss) names c →
       step (with_kept f s h goals ss) (answer n report goal) ≡ recorded (with_kept f s h goals ss) (answer_by (with_kept f s h goals ss) goal (unanswered_at (meaning f h o.reports) report))
   within o is some lives few keeps f s goals same at =
@@ -153,26 +153,26 @@ module _ (rules : Rules) (h : Held CellName) (ss : List (Shoen CellName)) (names
       answer_some s (meaning f h) (h.variables - 1) goals ss n report goal o true (knows_rules s true same is) some lives
       ∙ after_names S report goal (meaning f h o.reports) true (few_in S names c goal false at few) (room_in S names c goal at ∙ keeps)
 
-  pub refused_full : (o : Origin CellName) → (has_substitutes rules && may_answer n report goal) ≡ true → kept_at n ss ≡ Some o → lives_in ss n ≡ true → nat_lt most_names (length (with_texts (texts_of names) (with_names [] (names_of goal)))) ≡ false → has_room_to_answer_beside c (highest goal) (structures_of goal) ≡ true → most_entries ≤ c.entries →
+  pub refused_full : (o : Origin CellName) → (has_substitutes rules && may_answer n report goal) ≡ true → kept_at n ss ≡ Some o → lives_in ss n ≡ true → nat_lt MOST_NAMES (length (with_texts (texts_of names) (with_names [] (names_of goal)))) ≡ false → has_room_to_answer_beside c (highest goal) (structures_of goal) ≡ true → MOST_ENTRIES ≤ c.entries →
       RefusesAnswer rules h ss names c n report goal Journal
   refused_full o is some lives few keeps full f reads s goals same at =
       let S = with_kept f s h goals ss in
       let e = at.entries_are in
       within o is some lives few keeps f s goals same at
-      ∙ ap (λ b. if b then answer_by S goal (unanswered_at (meaning f h o.reports) report) else refuse S journal_full) (le-ltb S.entries most_entries (omega (arith, full, e)))
+      ∙ ap (λ b. if b then answer_by S goal (unanswered_at (meaning f h o.reports) report) else refuse S journal_full) (le-ltb S.entries MOST_ENTRIES (omega (arith, full, e)))
 
-  pub refused_answered : (o : Origin CellName) → (has_substitutes rules && may_answer n report goal) ≡ true → kept_at n ss ≡ Some o → lives_in ss n ≡ true → nat_lt most_names (length (with_texts (texts_of names) (with_names [] (names_of goal)))) ≡ false → has_room_to_answer_beside c (highest goal) (structures_of goal) ≡ true → c.entries < most_entries →
+  pub refused_answered : (o : Origin CellName) → (has_substitutes rules && may_answer n report goal) ≡ true → kept_at n ss ≡ Some o → lives_in ss n ≡ true → nat_lt MOST_NAMES (length (with_texts (texts_of names) (with_names [] (names_of goal)))) ≡ false → has_room_to_answer_beside c (highest goal) (structures_of goal) ≡ true → c.entries < MOST_ENTRIES →
       ((f : Reading) → Reads built f → unanswered_at (meaning f h o.reports) report ≡ None) → RefusesAnswer rules h ss names c n report goal Answer
   refused_answered o is some lives few keeps room none f reads s goals same at =
       let S = with_kept f s h goals ss in
       let e = at.entries_are in
       within o is some lives few keeps f s goals same at
-      ∙ ap (λ b. if b then answer_by S goal (unanswered_at (meaning f h o.reports) report) else refuse S journal_full) (lt-ltb S.entries most_entries (omega (arith, room, e)))
+      ∙ ap (λ b. if b then answer_by S goal (unanswered_at (meaning f h o.reports) report) else refuse S journal_full) (lt-ltb S.entries MOST_ENTRIES (omega (arith, room, e)))
       ∙ ap (answer_by S goal) (none f reads)
 
   -- ---- an answer that is given
 
-  pub answerable : (o : Origin CellName) (code : Term) (v : ℕ) → (has_substitutes rules && may_answer n report goal) ≡ true → kept_at n ss ≡ Some o → lives_in ss n ≡ true → nat_lt most_names (length (with_texts (texts_of names) (with_names [] (names_of goal)))) ≡ false → has_room_to_answer_beside c (highest goal) (structures_of goal) ≡ true → c.entries < most_entries →
+  pub answerable : (o : Origin CellName) (code : Term) (v : ℕ) → (has_substitutes rules && may_answer n report goal) ≡ true → kept_at n ss ≡ Some o → lives_in ss n ≡ true → nat_lt MOST_NAMES (length (with_texts (texts_of names) (with_names [] (names_of goal)))) ≡ false → has_room_to_answer_beside c (highest goal) (structures_of goal) ≡ true → c.entries < MOST_ENTRIES →
       code ≡ goal → IsUnbound h v → ((f : Reading) → Reads built f → unanswered_at (meaning f h o.reports) report ≡ Some v) → IsAnswerable rules h ss names c n report goal code v
   answerable o code v is some lives few keeps room code_is unbound waits =
       let both = and_parts (has_substitutes rules) (may_answer n report goal) is in
@@ -213,7 +213,7 @@ module _ (rules : Rules) (h : Held CellName) (ss : List (Shoen CellName)) (names
       let some : kept_at n ss ≡ Some may.origin = ap (option_and_then (λ (z : Shoen CellName). z.origin)) may.found ∙ may.kept in
       let lives : lives_in ss n ≡ true = ap (λ (p : Option (Shoen CellName)). unwrap_or (option_map (λ z. is_living z.life) p) false) may.found ∙ ap is_living may.lives in
       within may.origin is some lives may.few may.keeps f s goals same at
-      ∙ ap (λ b. if b then answer_by S goal (unanswered_at (meaning f h may.origin.reports) report) else refuse S journal_full) (lt-ltb S.entries most_entries (omega (arith, room, e)))
+      ∙ ap (λ b. if b then answer_by S goal (unanswered_at (meaning f h may.origin.reports) report) else refuse S journal_full) (lt-ltb S.entries MOST_ENTRIES (omega (arith, room, e)))
       ∙ ap (answer_by S goal) (may.waits f reads)
 
 -- ---- what is known of an answer that is right
@@ -221,13 +221,13 @@ module _ (rules : Rules) (h : Held CellName) (ss : List (Shoen CellName)) (names
 pub right_numbered : (n report : ℕ) (goal : Term) → may_answer n report goal ≡ true → is_numbered goal ≡ true
 right_numbered n report goal m =
     let front = is_number n && is_number report && nat_le 1 report && is_goal goal && is_writable goal in
-    let p = and_parts (front && is_numbered goal) (nat_le (length (answer_line n report goal)) most_line_bytes) m in
+    let p = and_parts (front && is_numbered goal) (nat_le (length (answer_line n report goal)) MOST_LINE_BYTES) m in
     (and_parts front (is_numbered goal) p.0).1
 
 pub right_goal : (n report : ℕ) (goal : Term) → may_answer n report goal ≡ true → is_goal goal ≡ true
 right_goal n report goal m =
     let one = is_number n && is_number report && nat_le 1 report in
-    let p = and_parts (one && is_goal goal && is_writable goal && is_numbered goal) (nat_le (length (answer_line n report goal)) most_line_bytes) m in
+    let p = and_parts (one && is_goal goal && is_writable goal && is_numbered goal) (nat_le (length (answer_line n report goal)) MOST_LINE_BYTES) m in
     let q = and_parts (one && is_goal goal && is_writable goal) (is_numbered goal) p.0 in
     let r = and_parts (one && is_goal goal) (is_writable goal) q.0 in
     (and_parts one (is_goal goal) r.0).1
@@ -236,7 +236,7 @@ right_goal n report goal m =
 pub right_report : (n report : ℕ) (goal : Term) → may_answer n report goal ≡ true → 0 < report
 right_report n report goal m =
     let one = is_number n && is_number report in
-    let p = and_parts (one && nat_le 1 report && is_goal goal && is_writable goal && is_numbered goal) (nat_le (length (answer_line n report goal)) most_line_bytes) m in
+    let p = and_parts (one && nat_le 1 report && is_goal goal && is_writable goal && is_numbered goal) (nat_le (length (answer_line n report goal)) MOST_LINE_BYTES) m in
     let q = and_parts (one && nat_le 1 report && is_goal goal && is_writable goal) (is_numbered goal) p.0 in
     let r = and_parts (one && nat_le 1 report && is_goal goal) (is_writable goal) q.0 in
     let s = and_parts (one && nat_le 1 report) (is_goal goal) r.0 in
@@ -252,9 +252,9 @@ pub answerable_by : (rules : Rules) (h : Held CellName) (ss : List (Shoen CellNa
 answerable_by rules h ss names c n report goal code v o is a = let P : Answering → Type 0 = λ z. AnswersAs rules h ss names c n report goal z in subst P is a
 
 -- whether names are few, by the names of a code
-pub few_code : (names : List Known) (goal code : Term) (texts : List (List ℕ)) (b : Bool) → texts ≡ with_names [] (names_of code) → code ≡ goal → nat_lt most_names (length (with_texts (texts_of names) texts)) ≡ b → nat_lt most_names (length (with_texts (texts_of names) (with_names [] (names_of goal)))) ≡ b
+pub few_code : (names : List Known) (goal code : Term) (texts : List (List ℕ)) (b : Bool) → texts ≡ with_names [] (names_of code) → code ≡ goal → nat_lt MOST_NAMES (length (with_texts (texts_of names) texts)) ≡ b → nat_lt MOST_NAMES (length (with_texts (texts_of names) (with_names [] (names_of goal)))) ≡ b
 few_code names goal code texts b is same e =
-    let N : List (List ℕ) → Type 0 = λ ts. nat_lt most_names (length (with_texts (texts_of names) ts)) ≡ b in
+    let N : List (List ℕ) → Type 0 = λ ts. nat_lt MOST_NAMES (length (with_texts (texts_of names) ts)) ≡ b in
     subst N (is ∙ ap (λ (x : Term). with_names [] (names_of x)) same) e
 
 -- whether there is room, by what was counted of a goal
@@ -262,9 +262,9 @@ pub room_code : (c : Counted) (goal : Term) (variables nodes : ℕ) (b : Bool) �
 room_code c goal variables nodes b v k e = sym (ap₂ (has_room_to_answer_beside c) v k) ∙ e
 
 -- names are few enough to be published, if the names of a goal are
-pub few_published : (names known : List Known) (goal code : Term) (texts : List (List ℕ)) → code ≡ goal → texts ≡ with_names [] (names_of code) → known ≡ names → nat_lt most_names (length (with_texts (texts_of names) (with_names [] (names_of goal)))) ≡ false → length (with_texts (texts_of known) texts) ≤ most_names
+pub few_published : (names known : List Known) (goal code : Term) (texts : List (List ℕ)) → code ≡ goal → texts ≡ with_names [] (names_of code) → known ≡ names → nat_lt MOST_NAMES (length (with_texts (texts_of names) (with_names [] (names_of goal)))) ≡ false → length (with_texts (texts_of known) texts) ≤ MOST_NAMES
 few_published names known goal code texts same is kept few =
     let e : length (with_texts (texts_of known) texts) ≡ length (with_texts (texts_of names) (with_names [] (names_of goal))) =
     ap₂ (λ (ks : List Known) (ts : List (List ℕ)). length (with_texts (texts_of ks) ts)) kept (is ∙ ap (λ (x : Term). with_names [] (names_of x)) same) in
-    let le = ltb-false most_names (length (with_texts (texts_of names) (with_names [] (names_of goal)))) few in
+    let le = ltb-false MOST_NAMES (length (with_texts (texts_of names) (with_names [] (names_of goal)))) few in
     omega (arith, e, le)

@@ -1,7 +1,7 @@
 -- A move that is found is one of the definitions.
 use Rattle.std.proofs.Common.{◌≡◌, ℕ, ◌<◌, List, [], ◌∷◌, length, refl, sym, ap, ◌∙◌, arith, subst}
 use Rattle.std.specs.Prelude.{Option, Some, None, slice_get}
-use Rattle.kl1_model.specs.Limits.{most_entries}
+use Rattle.kl1_model.specs.declared.limits.TheConstants.{MOST_ENTRIES}
 use Rattle.kl1_model.specs.Text.{text_of}
 use Rattle.kl1_model.specs.Reduction as model
 use Rattle.kl1_model.specs.code.Waits.{move_by}
@@ -104,7 +104,7 @@ substitute_inside h o p places text made.GivesWay s = tt
 
 -- a substitute
 pub substitute_makes : (h : Held CellName) (ms : List Numbered) (entries : ℕ) (k : Task CellName) (y : Cell CellName) (c : ℕ) (p : Predicate CellName) (places : List (Place CellName)) (text : List ℕ) (o : Option (Move CellName)) (m : Move CellName) → k ≡ Substitutes y → o ≡ Some m →
-    ((f : Reading) → Reads built f → SubstituteMoves (meaning f h y) c o) → entries < most_entries → IsToMake h ms entries k (whole y) c p places text m
+    ((f : Reading) → Reads built f → SubstituteMoves (meaning f h y) c o) → entries < MOST_ENTRIES → IsToMake h ms entries k (whole y) c p places text m
 substitute_makes h ms entries k y c p places text o m is found moves room =
     let T : Task CellName → Type 0 = λ z. IsToMake h ms entries z (whole y) c p places text m in
     let one : (f : Reading) → Reads built f → SubstituteMoves (meaning f h y) c (Some m) = λ f reads. (let S : Option (Move CellName) → Type 0 = λ q. SubstituteMoves (meaning f h y) c q in subst S found (moves f reads)) in

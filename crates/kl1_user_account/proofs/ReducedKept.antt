@@ -2,7 +2,7 @@
 use Rattle.std.proofs.Common.{◌≡◌, ◌<◌, ◌≤◌, ℕ, false, List, [], ◌++◌, length, map, refl, sym, ap, ◌∙◌, subst, arith}
 use Rattle.std.specs.Prelude.{Option, Some, None}
 use Rattle.std.specs.List.{AllByRecursion}
-use Rattle.kl1_model.specs.Limits.{most_entries}
+use Rattle.kl1_model.specs.declared.limits.TheConstants.{MOST_ENTRIES}
 use Rattle.kl1_model.specs.declared.rules.Rules.{Rules}
 use Rattle.kl1_model.specs.State as model
 use Rattle.kl1_model.specs.State.{State}
@@ -65,7 +65,7 @@ pub record IsDrafted (a : Account) (n c : ℕ) (old mid new : Kept CellName) (t 
   pub has : HasName effected.spelled effected.name
   pub tells : told ≡ record effected { told = told.told }
   pub controls : KeepControls told.told.items a.shoens u.shoens a.goals
-  pub room : a.entries < most_entries
+  pub room : a.entries < MOST_ENTRIES
   pub finishes : Finishes a.modules (point_of old) mid new u a.goals table reached told finished
 
 -- what a draft makes of an account is the account with the finished draft in place, and with the names that it has then

@@ -4,7 +4,7 @@ use Rattle.std.specs.Prelude.{Option, Some, None, filter, find, count_by}
 use Rattle.std.specs.List.{AllByRecursion}
 use Rattle.std.proofs.lemmas.Bool.{ne_eqb}
 use Rattle.std.proofs.lemmas.List.Sums.{length-filter}
-use Rattle.kl1_model.specs.Limits.{most_entries}
+use Rattle.kl1_model.specs.declared.limits.TheConstants.{MOST_ENTRIES}
 use Rattle.kl1_model.specs.declared.rules.Rules.{Rules}
 use Rattle.kl1_text.specs.declared.cell_name.CellName.{CellName}
 use Rattle.kl1_atoms.specs.declared.known.Known.{Known}
@@ -189,7 +189,7 @@ is_new h p places text move.GivesWay known i = tt
 
 -- what a monitor reads is drafted as it is to be
 pub heard_reduces : (a : Account) (n c known : ℕ) (g : Goal CellName) (k : Control CellName) (mark : Point) (old mid new : Kept CellName) (t u : Tree CellName) (table : Tabled CellName) (reached : List ℕ) (start effected told finished : Draft) →
-    IsKept a old.hooks known → IsSteppable a.goals n c g → g.task ≡ Monitor → HeardAs a.held a.shoens a.entries g c k → a.entries < most_entries → AreSingle a.goals →
+    IsKept a old.hooks known → IsSteppable a.goals n c g → g.task ≡ Monitor → HeardAs a.held a.shoens a.entries g c k → a.entries < MOST_ENTRIES → AreSingle a.goals →
     old.held ≡ a.held → t.shoens ≡ a.shoens → t.work ≡ a.work → mark ≡ point_of old → IsFormed old.held → IsBegun 0 a.rules a.last_goal a.variables a.nodes a.reports start →
     Reads g.shoen k a.goals (texts_of a.names) a.held mid.held t u start effected → AreShoensIn mid.held u.shoens → Leaves g.shoen mid.held t u [] start effected → IsHeard start effected → Grown old.held mid.held → mid.hooks ≡ old.hooks →
     told ≡ record effected { told = told.told } → told.told.items ≡ effected.told.items ++ n ∷ [] → Finishes a.modules mark mid new u a.goals table reached told finished → new.held ≡ mid.held → table.shoens ≡ known → IsReduced a n c new u table finished

@@ -8,7 +8,7 @@ use Rattle.kl1_model.specs.Term.{Term}
 use Rattle.kl1_model.specs.code.TermCode.{nodes_of}
 use Rattle.kl1_model.specs.Meaning.{highest, is_numbered}
 use Rattle.kl1_model.specs.Nodes.{goal_nodes}
-use Rattle.kl1_model.specs.Limits.{monitor_priority, most_entries, most_goals, most_variables, most_nodes, most_shoens}
+use Rattle.kl1_model.specs.declared.limits.TheConstants.{MONITOR_PRIORITY, MOST_ENTRIES, MOST_GOALS, MOST_VARIABLES, MOST_NODES, MOST_SHOENS}
 use Rattle.kl1_model.specs.Control.{Control, awaits_message, control_of}
 use Rattle.kl1_model.specs.code.Waits.{term_clause, awaited_by_term}
 use Rattle.kl1_model.specs.State as model
@@ -129,8 +129,8 @@ front_new f k ss x v numbered e c unbound =
 
 -- ---- an account after a start
 
-pub started_kept : (a b : Account) (mid : Held CellName) (texts : List (List ℕ)) (row : List Instruction) (numbers : List CellName) (count : ℕ) (cells : List (Cell CellName)) (awaited : List ℕ) (o : Opening) (allowance low high : ℕ) (goal : Term) (hooks after : List Hook) (known next : ℕ) → IsKept a hooks known → AreNumbered 0 a.shoens → AreLower a.shoens → low ≤ monitor_priority → high ≤ monitor_priority →
-    IsStart a b mid texts row numbers count cells awaited o allowance low high goal → AreNames a.names → AreSmall b.names → a.entries < most_entries → after ≡ (hooks ++ hooks_on (o.streams.control ∷ []) (a.last_goal + 1)) ++ hooks_on awaited (a.last_goal + 2) → next ≡ suc known → IsKept b after next
+pub started_kept : (a b : Account) (mid : Held CellName) (texts : List (List ℕ)) (row : List Instruction) (numbers : List CellName) (count : ℕ) (cells : List (Cell CellName)) (awaited : List ℕ) (o : Opening) (allowance low high : ℕ) (goal : Term) (hooks after : List Hook) (known next : ℕ) → IsKept a hooks known → AreNumbered 0 a.shoens → AreLower a.shoens → low ≤ MONITOR_PRIORITY → high ≤ MONITOR_PRIORITY →
+    IsStart a b mid texts row numbers count cells awaited o allowance low high goal → AreNames a.names → AreSmall b.names → a.entries < MOST_ENTRIES → after ≡ (hooks ++ hooks_on (o.streams.control ∷ []) (a.last_goal + 1)) ++ hooks_on awaited (a.last_goal + 2) → next ≡ suc known → IsKept b after next
 started_kept a b mid texts row numbers count cells awaited o allowance low high goal hooks after known next k numbered lower below also_below s once small room hung counted =
     let firm : IsFirm a = record { some = k.some; goals = k.goals; shoens = k.shoens; numbered = numbered } in
     let firm_then = started_firm a b mid texts row numbers count cells awaited o allowance low high goal firm below also_below s in
@@ -206,16 +206,16 @@ refused_start a c allowance low high goal o r e s f at =
     subst S e s (state_of f a) at
 
 -- room for a goal is within what there may be
-pub variables_within : (c : Counted) (variables nodes : ℕ) → has_room_beside c variables nodes ≡ true → c.variables + suc (suc variables) ≤ most_variables
+pub variables_within : (c : Counted) (variables nodes : ℕ) → has_room_beside c variables nodes ≡ true → c.variables + suc (suc variables) ≤ MOST_VARIABLES
 variables_within c variables nodes e =
-    let p = and_parts (nat_lt c.goals most_goals && nat_le (c.variables + suc (suc variables)) most_variables && nat_le (c.nodes + nodes) most_nodes) (nat_lt c.shoens most_shoens) e in
-    let q = and_parts (nat_lt c.goals most_goals && nat_le (c.variables + suc (suc variables)) most_variables) (nat_le (c.nodes + nodes) most_nodes) p.0 in
-    leb-true (c.variables + suc (suc variables)) most_variables (and_parts (nat_lt c.goals most_goals) (nat_le (c.variables + suc (suc variables)) most_variables) q.0).1
+    let p = and_parts (nat_lt c.goals MOST_GOALS && nat_le (c.variables + suc (suc variables)) MOST_VARIABLES && nat_le (c.nodes + nodes) MOST_NODES) (nat_lt c.shoens MOST_SHOENS) e in
+    let q = and_parts (nat_lt c.goals MOST_GOALS && nat_le (c.variables + suc (suc variables)) MOST_VARIABLES) (nat_le (c.nodes + nodes) MOST_NODES) p.0 in
+    leb-true (c.variables + suc (suc variables)) MOST_VARIABLES (and_parts (nat_lt c.goals MOST_GOALS) (nat_le (c.variables + suc (suc variables)) MOST_VARIABLES) q.0).1
 
-pub nodes_within : (c : Counted) (variables nodes : ℕ) → has_room_beside c variables nodes ≡ true → c.nodes + nodes ≤ most_nodes
+pub nodes_within : (c : Counted) (variables nodes : ℕ) → has_room_beside c variables nodes ≡ true → c.nodes + nodes ≤ MOST_NODES
 nodes_within c variables nodes e =
-    let p = and_parts (nat_lt c.goals most_goals && nat_le (c.variables + suc (suc variables)) most_variables && nat_le (c.nodes + nodes) most_nodes) (nat_lt c.shoens most_shoens) e in
-    leb-true (c.nodes + nodes) most_nodes (and_parts (nat_lt c.goals most_goals && nat_le (c.variables + suc (suc variables)) most_variables) (nat_le (c.nodes + nodes) most_nodes) p.0).1
+    let p = and_parts (nat_lt c.goals MOST_GOALS && nat_le (c.variables + suc (suc variables)) MOST_VARIABLES && nat_le (c.nodes + nodes) MOST_NODES) (nat_lt c.shoens MOST_SHOENS) e in
+    leb-true (c.nodes + nodes) MOST_NODES (and_parts (nat_lt c.goals MOST_GOALS && nat_le (c.variables + suc (suc variables)) MOST_VARIABLES) (nat_le (c.nodes + nodes) MOST_NODES) p.0).1
 
 -- ---- the start of a draft that was put in place
 

@@ -3,7 +3,7 @@ use Rattle.std.proofs.Common.{◌≡◌, true, false, not, if◌then◌else◌, 
 use Rattle.std.specs.Prelude.{Some, None, Option, option_map, find}
 use Rattle.std.specs.List.{AllByRecursion}
 use Rattle.std.proofs.lemmas.Bool.{lt-ltb, le-ltb, eq-eqb, ne_eqb}
-use Rattle.kl1_model.specs.Limits.{most_entries}
+use Rattle.kl1_model.specs.declared.limits.TheConstants.{MOST_ENTRIES}
 use Rattle.kl1_model.specs.Term.{Term}
 use Rattle.kl1_model.specs.Look.{goal_look}
 use Rattle.kl1_model.specs.Control as model_control
@@ -97,22 +97,22 @@ pub steps_not : (f : Reading) (a : Account) (n c : ℕ) (g : Goal CellName) → 
 steps_not f a n c g is all e = steps_to f a n c g is all ∙ ap (reduced_by (state_of f a) (goal_with (meaning f a.held) g)) e
 
 -- an action is refused if the journal is full
-pub steps_full : (f : Reading) (a : Account) (n c : ℕ) (g : Goal CellName) (x : reduction.Action) → IsSteppable a.goals n c g → AreEnabled a.shoens a.work a.goals → task_action (state_of f a) g.shoen (task_with (meaning f a.held) g.task) c ≡ Some x → most_entries ≤ a.entries →
+pub steps_full : (f : Reading) (a : Account) (n c : ℕ) (g : Goal CellName) (x : reduction.Action) → IsSteppable a.goals n c g → AreEnabled a.shoens a.work a.goals → task_action (state_of f a) g.shoen (task_with (meaning f a.held) g.task) c ≡ Some x → MOST_ENTRIES ≤ a.entries →
     step (state_of f a) (reduce n c) ≡ refuse (state_of f a) journal_full
 steps_full f a n c g x is all e full =
     let s = state_of f a in
     let k = goal_with (meaning f a.held) g in
     steps_to f a n c g is all ∙ ap (reduced_by s k) e
-    ∙ ap (λ b. if b then record { state = acted k x (with_entry s); reply = reduced } else refuse s journal_full) (le-ltb a.entries most_entries full)
+    ∙ ap (λ b. if b then record { state = acted k x (with_entry s); reply = reduced } else refuse s journal_full) (le-ltb a.entries MOST_ENTRIES full)
 
 -- an action is done if there is room in the journal
-pub steps_on : (f : Reading) (a : Account) (n c : ℕ) (g : Goal CellName) (x : reduction.Action) → IsSteppable a.goals n c g → AreEnabled a.shoens a.work a.goals → task_action (state_of f a) g.shoen (task_with (meaning f a.held) g.task) c ≡ Some x → a.entries < most_entries →
+pub steps_on : (f : Reading) (a : Account) (n c : ℕ) (g : Goal CellName) (x : reduction.Action) → IsSteppable a.goals n c g → AreEnabled a.shoens a.work a.goals → task_action (state_of f a) g.shoen (task_with (meaning f a.held) g.task) c ≡ Some x → a.entries < MOST_ENTRIES →
     step (state_of f a) (reduce n c) ≡ record { state = acted (goal_with (meaning f a.held) g) x (with_entry (state_of f a)); reply = reduced }
 steps_on f a n c g x is all e room =
     let s = state_of f a in
     let k = goal_with (meaning f a.held) g in
     steps_to f a n c g is all ∙ ap (reduced_by s k) e
-    ∙ ap (λ b. if b then record { state = acted k x (with_entry s); reply = reduced } else refuse s journal_full) (lt-ltb a.entries most_entries room)
+    ∙ ap (λ b. if b then record { state = acted k x (with_entry s); reply = reduced } else refuse s journal_full) (lt-ltb a.entries MOST_ENTRIES room)
 
 -- ---- what a monitor can do
 

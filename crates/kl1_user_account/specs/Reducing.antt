@@ -1,7 +1,7 @@
 -- Reductions: which are refused, and what an account is after a draft is put in place.
 use Rattle.std.specs.Prelude.{◌≡◌, ℕ, suc, ◌+◌, ◌<◌, ◌≤◌, [], ◌&&◌, nat_lt, if◌then◌else◌, Bool, true, false, List, length, find, Option, Some, None}
 use Rattle.kl1_model.specs.declared.rules.Rules.{Rules}
-use Rattle.kl1_model.specs.Limits.{most_entries}
+use Rattle.kl1_model.specs.declared.limits.TheConstants.{MOST_ENTRIES}
 use Rattle.kl1_model.specs.Ending.{settle}
 use Rattle.kl1_model.specs.State as model_state
 use Rattle.kl1_model.specs.State.{monitor, reduces, substitutes}
@@ -105,7 +105,7 @@ move_at ms h x c f = move_or_go (move_by (contents ms) (aim f h x) c)
 pub record IsMade (h : Held CellName) (ms : List Numbered) (entries : ℕ) (x : Qualified CellName) (c : ℕ) (p : Predicate CellName) (places : List (Place CellName)) (text : List ℕ) (made : Move CellName) : Type 0 where
   pub moves : (f : Reading) → Knows ms f → MovesAs f h (contents ms) (aim f h x) c p places text (Some made)
   pub some : (f : Reading) → Knows ms f → move_by (contents ms) (aim f h x) c ≡ Some (move_at ms h x c f)
-  pub room : entries < most_entries
+  pub room : entries < MOST_ENTRIES
 
 -- what a task can do by clause `c`; a monitor makes no move
 abbrev pub task_move : List Module → model_state.Task → ℕ → Option model.Move
@@ -128,7 +128,7 @@ pub record IsToMake (h : Held CellName) (ms : List Numbered) (entries : ℕ) (k 
   pub task : IsTaskFor x k
   pub moves : (f : Reading) → Knows ms f → IsMove f h (task_move (contents ms) (task_with (meaning f h) k) c) p places text (Some made)
   pub some : (f : Reading) → Knows ms f → task_move (contents ms) (task_with (meaning f h) k) c ≡ Some (move_of_task ms h k c f)
-  pub room : entries < most_entries
+  pub room : entries < MOST_ENTRIES
 
 -- an account after a draft is put in place, if its store holds this and its shoens are those of a tree, with one entry more in its
 -- journal; names are those that it has then

@@ -1,7 +1,7 @@
 // Reductions that are drafted.
 
 ghost use Rattle.std.specs.Prelude.{◌≡◌, ◌<◌, ◌≤◌, ℕ, List, Some, None, IfOk, IfErr, OnOk, vec_capacity};
-ghost use Rattle.kl1_model.specs.Limits.{most_entries, monitor_priority};
+ghost use Rattle.kl1_model.specs.declared.limits.TheConstants.{MOST_ENTRIES, MONITOR_PRIORITY};
 ghost use Rattle.kl1_clause.specs.Predicates.{AreSome};
 ghost use Rattle.kl1_goals_moves.specs.Kinds.{IsKind, KindIn};
 ghost use Rattle.kl1_goals_moves.specs.Moves.{HasPredicate, MoveIn, taken_places};
@@ -50,7 +50,7 @@ fn steppable(
     ensures refused { IfErr result (RefusesAmong goals.now.goals number clause) }
     ensures found { IfOk result (IsSteppable goals.now.goals number clause) }
     ensures number { IfOk result (λ g. g.number ≡ number) }
-    ensures level { IfOk result (λ g. g.priority ≤ monitor_priority) }
+    ensures level { IfOk result (λ g. g.priority ≤ MONITOR_PRIORITY) }
 {
     if !are_numbers(number, clause) {
         return Err(Refusal::Syntax);
@@ -90,7 +90,7 @@ fn control_to_read(
     ensures refused { IfErr result (NotHeard store.now.held shoens.now.shoens entries goal clause) }
     ensures reads { IfOk result (HeardAs store.now.held shoens.now.shoens entries goal clause) }
     ensures inside { IfOk result (ControlIn store.now.held) }
-    ensures room { IfOk result (λ control. entries < most_entries) }
+    ensures room { IfOk result (λ control. entries < MOST_ENTRIES) }
 {
     if clause != 0 {
         return Err(Refusal::Step);
@@ -214,7 +214,7 @@ fn draft_made<C: CodeSource>(
     made: Move<CellName>,
 ) -> Result<(), AllocError>
     requires steppable { IsSteppable goals.old.goals goal.number clause goal }
-    requires level { goal.priority ≤ monitor_priority }
+    requires level { goal.priority ≤ MONITOR_PRIORITY }
     requires begun { IsBegun 0 draft.old.rules draft.old.last_goal draft.old.variables draft.old.nodes draft.old.reports draft.old }
     requires kept { (own : List ℕ × ℕ) → IsKept (account_at own draft.old.rules store.old.held goals.old.goals shoens.old modules.now.loaded names.old.names draft.old.last_goal draft.old.variables draft.old.nodes draft.old.reports entries) store.old.hooks goals.old.shoens }
     requires cell { IsIn store.old.held cell.cell }
@@ -263,7 +263,7 @@ fn draft_substitute<C: CodeSource>(
 ) -> Result<Option<Refusal>, AllocError>
     requires steppable { IsSteppable goals.old.goals goal.number clause goal }
     requires substitutes { goal.task ≡ Substitutes term }
-    requires level { goal.priority ≤ monitor_priority }
+    requires level { goal.priority ≤ MONITOR_PRIORITY }
     requires begun { IsBegun 0 draft.old.rules draft.old.last_goal draft.old.variables draft.old.nodes draft.old.reports draft.old }
     requires kept { (own : List ℕ × ℕ) → IsKept (account_at own draft.old.rules store.old.held goals.old.goals shoens.old modules.now.loaded names.old.names draft.old.last_goal draft.old.variables draft.old.nodes draft.old.reports entries) store.old.hooks goals.old.shoens }
     ensures ok { IfOk result (λ refused. (own : List ℕ × ℕ) → ReducesAs (account_at own draft.old.rules store.old.held goals.old.goals shoens.old modules.now.loaded names.old.names draft.old.last_goal draft.old.variables draft.old.nodes draft.old.reports entries) goal.number clause store.old store.new shoens.old shoens.new goals.new draft.new refused) }
@@ -324,7 +324,7 @@ fn draft_move<C: CodeSource>(
 ) -> Result<Option<Refusal>, AllocError>
     requires steppable { IsSteppable goals.old.goals goal.number clause goal }
     requires reduces { goal.task ≡ Reduces cell }
-    requires level { goal.priority ≤ monitor_priority }
+    requires level { goal.priority ≤ MONITOR_PRIORITY }
     requires begun { IsBegun 0 draft.old.rules draft.old.last_goal draft.old.variables draft.old.nodes draft.old.reports draft.old }
     requires kept { (own : List ℕ × ℕ) → IsKept (account_at own draft.old.rules store.old.held goals.old.goals shoens.old modules.now.loaded names.old.names draft.old.last_goal draft.old.variables draft.old.nodes draft.old.reports entries) store.old.hooks goals.old.shoens }
     ensures ok { IfOk result (λ refused. (own : List ℕ × ℕ) → ReducesAs (account_at own draft.old.rules store.old.held goals.old.goals shoens.old modules.now.loaded names.old.names draft.old.last_goal draft.old.variables draft.old.nodes draft.old.reports entries) goal.number clause store.old store.new shoens.old shoens.new goals.new draft.new refused) }

@@ -2,7 +2,7 @@
 
 ghost use Rattle.std.specs.Prelude.{◌≡◌, ◌+◌, ◌<◌, ◌≤◌, [], List, drop, IfOk, OnOk, IsTrue, MatchResult};
 ghost use Rattle.std.specs.List.{AllByRecursion};
-ghost use Rattle.kl1_model.specs.Limits.{most_variables, most_nodes, most_entries};
+ghost use Rattle.kl1_model.specs.declared.limits.TheConstants.{MOST_VARIABLES, MOST_NODES, MOST_ENTRIES};
 ghost use Rattle.kl1_model.specs.Control.{message_nodes};
 ghost use Rattle.kl1_model.specs.Sending.{is_message};
 ghost use Rattle.kl1_store.specs.Held.{IsIn};
@@ -105,8 +105,8 @@ fn put_message(
     requires tail { IsIn store.old.held tail }
     requires message { IsTrue (is_message message) }
     requires shoens { AreShoensIn store.old.held shoens.old.shoens }
-    requires variables { draft.old.variables < most_variables }
-    requires nodes { draft.old.nodes + message_nodes message ≤ most_nodes }
+    requires variables { draft.old.variables < MOST_VARIABLES }
+    requires nodes { draft.old.nodes + message_nodes message ≤ MOST_NODES }
     ensures puts { OnOk result (PutsOn number message tail store.old.held store.new.held shoens.old.shoens shoens.new.shoens draft.old draft.new) }
     ensures shoens { OnOk result (AreShoensIn store.new.held shoens.new.shoens) }
     ensures alike { OnOk result (AreAlike shoens.old.shoens shoens.new.shoens) }

@@ -2,7 +2,7 @@
 use Rattle.std.proofs.Common.{◌≡◌, ℕ, suc, ◌+◌, true, false, List, [], ◌∷◌, ◌++◌, length, refl, sym, ap, ◌∙◌, subst, arith}
 use Rattle.std.specs.Prelude.{nat_le, nat_lt, option_map, Option, Some, None}
 use Rattle.std.proofs.lemmas.List.{length-map, length_push}
-use Rattle.kl1_model.specs.Limits.{most_names}
+use Rattle.kl1_model.specs.declared.limits.TheConstants.{MOST_NAMES}
 use Rattle.kl1_model.specs.Term.{Term, atom, Replacement}
 use Rattle.kl1_model.specs.Unify.{mgu}
 use Rattle.kl1_model.specs.State.{State, with_name}
@@ -62,11 +62,11 @@ pub drafts_no_name : (h k : Held CellName) (t u : Tree CellName) (d e : Draft) (
 drafts_no_name h k t u d e goal text known a x none full p ms reads goals i =
     let w = made_of goals (texts_of known) t d in
     let names_are : w.names ≡ texts_of known = ap (names_with (texts_of known)) none in
-    turns_as ms (λ f. raised (goal_with (meaning f h) goal) exhaustion (aim f h x)) (λ f s. or_exhaustion (nat_le (length (with_name s.names text)) most_names) (goal_with (meaning f h) goal) (aim f h x) (named_by (goal_with (meaning f h) goal) (aim f h x) text (meaning f h a) s) s) h k w (made_of goals (texts_of known) u e)
+    turns_as ms (λ f. raised (goal_with (meaning f h) goal) exhaustion (aim f h x)) (λ f s. or_exhaustion (nat_le (length (with_name s.names text)) MOST_NAMES) (goal_with (meaning f h) goal) (aim f h x) (named_by (goal_with (meaning f h) goal) (aim f h x) text (meaning f h a) s) s) h k w (made_of goals (texts_of known) u e)
     (λ f knows s.
     let S = worked f s h w in
     ap (λ b. or_exhaustion b (goal_with (meaning f h) goal) (aim f h x) (named_by (goal_with (meaning f h) goal) (aim f h x) text (meaning f h a) S) S)
-    (ap (λ (ns : List (List ℕ)). nat_le (length (with_name ns text)) most_names) names_are ∙ full))
+    (ap (λ (ns : List (List ℕ)). nat_le (length (with_name ns text)) MOST_NAMES) names_are ∙ full))
     (p ms goals (texts_of known) i)
 
 -- a text that is used as a name, by which these names are left, and a term that is unified with it
@@ -84,11 +84,11 @@ drafts_name h k t u d c e goal text known a x o none room named is p ms reads go
     let same : made_of goals (texts_of known) t c ≡ v = ap (made_of goals (texts_of known) t) is in
     let P : Made → Type 0 = λ m. IsMadeIn h m → Turns ms U h k m end in
     let unifying : IsMadeIn h v → Turns ms U h k v end = subst P same (p ms reads goals (texts_of known)) in
-    turns_as ms (λ f s. U f (record s { names = with_name s.names text })) (λ f s. or_exhaustion (nat_le (length (with_name s.names text)) most_names) (goal_with (meaning f h) goal) (aim f h x) (named_by (goal_with (meaning f h) goal) (aim f h x) text (meaning f h a) s) s) h k w end
+    turns_as ms (λ f s. U f (record s { names = with_name s.names text })) (λ f s. or_exhaustion (nat_le (length (with_name s.names text)) MOST_NAMES) (goal_with (meaning f h) goal) (aim f h x) (named_by (goal_with (meaning f h) goal) (aim f h x) text (meaning f h a) s) s) h k w end
     (λ f knows s.
     let S = worked f s h w in
     ap (λ b. or_exhaustion b (goal_with (meaning f h) goal) (aim f h x) (named_by (goal_with (meaning f h) goal) (aim f h x) text (meaning f h a) S) S)
-    (ap (λ (ns : List (List ℕ)). nat_le (length (with_name ns text)) most_names) names_are ∙ room))
+    (ap (λ (ns : List (List ℕ)). nat_le (length (with_name ns text)) MOST_NAMES) names_are ∙ room))
     (turns_then ms (λ f s. record s { names = with_name s.names text }) U h h k w v end naming (unifying naming.inside))
 
 -- a name that is known is used, and a term unified with its number
@@ -125,7 +125,7 @@ pub room_known : (known : List Known) (text : List ℕ) (o : Option CellName) (v
 room_known known text o v len number is len_is =
     let e : number_by known text ≡ Some v.number = sym number ∙ ap (option_map (λ (c : CellName). c.number)) is in
     ap (λ n. nat_le n 1024) (len_is ∙ sym (length-map known (λ (k : Known). k.text)))
-    ∙ ap (λ (l : List (List ℕ)). nat_le (length l) most_names) (sym (known_named known text v.number e))
+    ∙ ap (λ (l : List (List ℕ)). nat_le (length l) MOST_NAMES) (sym (known_named known text v.number e))
 
 pub room_new : (known : List Known) (text : List ℕ) (o : Option CellName) (len : ℕ) → option_map (λ (c : CellName). c.number) o ≡ number_by known text → o ≡ None → len ≡ length known → nat_lt len 1024 ≡ keeps_names known text
 room_new known text o len number is len_is =
@@ -133,7 +133,7 @@ room_new known text o len number is len_is =
     below_next len
     ∙ ap (λ n. nat_le (n + 1) 1024) (len_is ∙ sym (length-map known (λ (k : Known). k.text)))
     ∙ ap (λ n. nat_le n 1024) (sym (length_push (texts_of known) text))
-    ∙ ap (λ (l : List (List ℕ)). nat_le (length l) most_names) (sym (new_named known text e))
+    ∙ ap (λ (l : List (List ℕ)). nat_le (length l) MOST_NAMES) (sym (new_named known text e))
   where
     below_next : (n : ℕ) → nat_lt n 1024 ≡ nat_le (n + 1) 1024
     below_next n = let e : suc n ≡ n + 1 = omega arith in ap (λ m. nat_le m 1024) e

@@ -3,7 +3,7 @@ use Rattle.std.proofs.Common.{◌≡◌, ℕ, suc, ◌≤◌, ◌==◌, ◌||◌
 use Rattle.std.specs.Prelude.{nat_lt, map, filter, codes, count_by, Option, Some, None, option_map, unwrap_or}
 use Rattle.std.specs.List.{list_any}
 use Rattle.std.proofs.lemmas.Bool.{ne_eqb}
-use Rattle.kl1_model.specs.Limits.{most_reports}
+use Rattle.kl1_model.specs.declared.limits.TheConstants.{MOST_REPORTS}
 use Rattle.kl1_model.specs.declared.life.Life.TheVariants.{Terminated}
 use Rattle.kl1_model.specs.Module.{is_among}
 use Rattle.kl1_model.specs.Term.{Term, variable, integer, atom, structure, Terms, none, more, occurs, replace, replace_each}
@@ -152,7 +152,7 @@ told_replaced n v a b (variable w) s le e =
     let sent : State → State = λ z. record z { last_variable = next; reports = suc s.reports } in
     let goes_on : Shoen → Shoen = λ h. record h { tail = variable next } in
     ap (λ c. reported_at n (atom b) (if c then atom a else variable w) (replace_in_state v (atom a) s)) e
-    ∙ state_if (occurs w (atom b) || not (nat_lt s.reports most_reports)) v (atom a)
+    ∙ state_if (occurs w (atom b) || not (nat_lt s.reports MOST_REPORTS)) v (atom a)
     (broken_at n s) (change_shoen n goes_on (sent (replace_in_state w by s)))
     (broken_at n (replace_in_state v (atom a) s)) (change_shoen n goes_on (sent (replace_in_state w by (replace_in_state v (atom a) s))))
     (sym (broken_replaced n v (atom a) s))
@@ -329,7 +329,7 @@ more_if false last s t a b = b
 reported_more : (n last : ℕ) (message tail : Term) (s : State) → last ≤ s.last_variable → last ≤ (reported_at n message tail s).last_variable
 reported_more n last message (variable w) s le =
     let next = suc s.last_variable in
-    more_if (occurs w message || not (nat_lt s.reports most_reports)) last (broken_at n s)
+    more_if (occurs w message || not (nat_lt s.reports MOST_REPORTS)) last (broken_at n s)
     (change_shoen n (λ h. record h { tail = variable next }) (record (replace_in_state w (cell message (variable next)) s) { last_variable = next; reports = suc s.reports })) le (omega (arith, le))
 reported_more n last message (integer i) s le = le
 reported_more n last message (atom a) s le = le

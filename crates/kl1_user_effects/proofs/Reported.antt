@@ -1,7 +1,7 @@
 -- Whether reports are made, and what comes of one that isn't.
 use Rattle.std.proofs.Common.{◌≡◌, ℕ, ◌-◌, not, ◌&&◌, ◌||◌, Bool, true, false, if◌then◌else◌, List, refl, sym, ap, ◌∙◌, subst}
 use Rattle.std.specs.Prelude.{nat_lt, find, Option, Some, None, option_map}
-use Rattle.kl1_model.specs.Limits.{most_reports}
+use Rattle.kl1_model.specs.declared.limits.TheConstants.{MOST_REPORTS}
 use Rattle.kl1_model.specs.Term.{Term, variable, integer, atom, structure, occurs}
 use Rattle.kl1_model.specs.State as model
 use Rattle.kl1_model.specs.State.{State}
@@ -43,15 +43,15 @@ both_so false true e f = refl
 both_so false false e f = sym f
 
 -- a message that breaks a stream isn't made
-breaks_none : (m t : Term) (made : ℕ) → Breaks (not (nat_lt made most_reports)) t m → is_reported_at m t made ≡ false
-breaks_none m (variable v) made e = not_both (occurs v m) (nat_lt made most_reports) e
+breaks_none : (m t : Term) (made : ℕ) → Breaks (not (nat_lt made MOST_REPORTS)) t m → is_reported_at m t made ≡ false
+breaks_none m (variable v) made e = not_both (occurs v m) (nat_lt made MOST_REPORTS) e
 breaks_none m (integer i) made e = refl
 breaks_none m (atom a) made e = refl
 breaks_none m (structure g ts) made e = refl
 
 -- one that isn't made on an unbroken stream breaks it
-none_breaks : (m t : Term) (made : ℕ) → is_reported_at m t made ≡ false → Breaks (not (nat_lt made most_reports)) t m
-none_breaks m (variable v) made e = one_of_both (occurs v m) (nat_lt made most_reports) e
+none_breaks : (m t : Term) (made : ℕ) → is_reported_at m t made ≡ false → Breaks (not (nat_lt made MOST_REPORTS)) t m
+none_breaks m (variable v) made e = one_of_both (occurs v m) (nat_lt made MOST_REPORTS) e
 none_breaks m (integer i) made e = tt
 none_breaks m (atom a) made e = tt
 none_breaks m (structure g ts) made e = tt
@@ -79,7 +79,7 @@ told_dropped h k ss d n x sh e broken = record {
 }
 
 -- a report on which the stream broke
-pub told_broken : (h k : Held CellName) (ss : List (Shoen CellName)) (d : Draft) (n : ℕ) (x : Cell CellName) (sh : Shoen CellName) → find (has_number n) ss ≡ Some sh → HasBroken built h k sh.tail sh.is_broken (not (nat_lt d.reports most_reports)) x → IsTold n x h k ss d false
+pub told_broken : (h k : Held CellName) (ss : List (Shoen CellName)) (d : Draft) (n : ℕ) (x : Cell CellName) (sh : Shoen CellName) → find (has_number n) ss ≡ Some sh → HasBroken built h k sh.tail sh.is_broken (not (nat_lt d.reports MOST_REPORTS)) x → IsTold n x h k ss d false
 told_broken h k ss d n x sh e b = record {
   is = λ f reads s goals.
       sym
@@ -89,14 +89,14 @@ told_broken h k ss d n x sh e b = record {
 }
 
 -- a report that was made
-pub told_sent : (h k : Held CellName) (ss : List (Shoen CellName)) (d : Draft) (n next : ℕ) (x : Cell CellName) (sh : Shoen CellName) → find (has_number n) ss ≡ Some sh → HasSent built h k sh.tail sh.is_broken (not (nat_lt d.reports most_reports)) x next → IsTold n x h k ss d true
+pub told_sent : (h k : Held CellName) (ss : List (Shoen CellName)) (d : Draft) (n next : ℕ) (x : Cell CellName) (sh : Shoen CellName) → find (has_number n) ss ≡ Some sh → HasSent built h k sh.tail sh.is_broken (not (nat_lt d.reports MOST_REPORTS)) x next → IsTold n x h k ss d true
 told_sent h k ss d n next x sh e b = record {
   is = λ f reads s goals.
       sym
       (told_by f h s goals ss d.reports n (meaning f h x) (Some sh) e
       ∙ ap (λ c. not c && is_reported_at (meaning f h x) (meaning f h sh.tail) d.reports) b.whole
       ∙ ap (λ (t : Term). is_reported_at (meaning f h x) t d.reports) (b.tail_is f)
-      ∙ both_so (occurs b.number (meaning f h x)) (nat_lt d.reports most_reports) (b.sent.each f reads).free b.more);
+      ∙ both_so (occurs b.number (meaning f h x)) (nat_lt d.reports MOST_REPORTS) (b.sent.each f reads).free b.more);
 }
 
 -- ---- what a report that isn't made leaves

@@ -7,7 +7,7 @@ use Rattle.std.proofs.lemmas.List.{map-append, take_all}
 use Rattle.kl1_model.specs.declared.rules.Rules.{Rules}
 use Rattle.kl1_model.specs.declared.rules.Rules.TheVariants.{One, Two}
 use Rattle.kl1_model.specs.declared.built_in.BuiltIn.{BuiltIn}
-use Rattle.kl1_model.specs.Limits.{most_reports, monitor_priority}
+use Rattle.kl1_model.specs.declared.limits.TheConstants.{MOST_REPORTS, MONITOR_PRIORITY}
 use Rattle.kl1_model.specs.Text.{text_of}
 use Rattle.kl1_model.specs.Term.{Term, variable, integer, atom, structure, occurs}
 use Rattle.kl1_model.specs.State as model
@@ -105,7 +105,7 @@ occurs_beside v w kind goal e = or_none (occurs v goal) (v == w) e
 
 -- such an exception is reported if the exception without the variable is
 reported_beside : (tail : Term) (kind : List ℕ) (goal : Term) (w made : ℕ) → ((v : ℕ) → tail ≡ variable v → (v == w) ≡ false) → is_reported_at (exception_with kind goal (variable w)) tail made ≡ is_reported_at (exception kind goal) tail made
-reported_beside (variable v) kind goal w made other = ap (λ b. not b && nat_lt made most_reports) (occurs_beside v w kind goal (other v refl))
+reported_beside (variable v) kind goal w made other = ap (λ b. not b && nat_lt made MOST_REPORTS) (occurs_beside v w kind goal (other v refl))
 reported_beside (integer i) kind goal w made other = refl
 reported_beside (atom a) kind goal w made other = refl
 reported_beside (structure g ts) kind goal w made other = refl
@@ -395,7 +395,7 @@ met_told d e is none = met_none e (ap (λ (x : Draft). x.added.items) is ∙ non
 
 -- a substitute comes in the place of a goal, after a report
 pub comes_substitute : (k : Held CellName) (n count : ℕ) (d e x : Draft) (g : Goal CellName) (task : Task CellName) → HasBegun d → e ≡ record d { reports = e.reports } → x ≡ record e { added = x.added; last_goal = x.last_goal } → d.added.items ≡ [] → count ≡ n →
-    x.added.items ≡ e.added.items ++ one_for e.last_goal g task → x.last_goal ≡ suc e.last_goal → IsOwned n g → g.priority ≤ monitor_priority → is_monitor_task task ≡ false → IsTaskIn k task → Comes k n count d x
+    x.added.items ≡ e.added.items ++ one_for e.last_goal g task → x.last_goal ≡ suc e.last_goal → IsOwned n g → g.priority ≤ MONITOR_PRIORITY → is_monitor_task task ≡ false → IsTaskIn k task → Comes k n count d x
 comes_substitute k n count d e x g task begun first second none same added last own level other inside =
     let low = own.low in
     let high = own.high in

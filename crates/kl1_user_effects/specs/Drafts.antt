@@ -1,6 +1,6 @@
 -- What a draft stands for.
 use Rattle.std.specs.Prelude.{◌≡◌, ℕ, suc, ◌≤◌, ◌==◌, not, Bool, true, false, if◌then◌else◌, List, [], ◌∷◌, ◌++◌, filter, map, Option, Some, None}
-use Rattle.kl1_model.specs.Limits.{monitor_priority}
+use Rattle.kl1_model.specs.declared.limits.TheConstants.{MONITOR_PRIORITY}
 use Rattle.kl1_model.specs.State.{State}
 use Rattle.kl1_text.specs.declared.cell_name.CellName.{CellName}
 use Rattle.kl1_store.specs.declared.cell.Cell.{Cell}
@@ -94,5 +94,5 @@ one_for last g task = record { number = suc last; task = task; shoen = g.shoen; 
 -- the monitor of a shoen that opens, with the number after the last, and its goal with the number after that
 abbrev pub two_for : ℕ → ℕ → ℕ → Cell CellName → List (Goal CellName)
 two_for last shoen high x =
-    record { number = suc last; task = Monitor; shoen = shoen; priority = monitor_priority; standing = None; is_enabled = true }
+    record { number = suc last; task = Monitor; shoen = shoen; priority = MONITOR_PRIORITY; standing = None; is_enabled = true }
     ∷ record { number = suc (suc last); task = Reduces (whole x); shoen = shoen; priority = high; standing = None; is_enabled = false } ∷ []

@@ -1,7 +1,7 @@
 // Moves of goals.
 
 ghost use Rattle.std.specs.Prelude.{◌≡◌, ◌<◌, ◌≤◌, ◌+◌, [], length, not, ◌++◌, Some, None, count_by, OnOk};
-ghost use Rattle.kl1_model.specs.Limits.{monitor_priority};
+ghost use Rattle.kl1_model.specs.declared.limits.TheConstants.{MONITOR_PRIORITY};
 ghost use Rattle.kl1_store.specs.Held.{IsIn};
 ghost use Rattle.kl1_store.specs.Sound.{Grown};
 ghost use Rattle.kl1_clause.specs.Predicates.{AreSome};
@@ -51,7 +51,7 @@ pub fn do_move(
     requires begun { HasBegun draft.old }
     requires none { draft.old.name ≡ None }
     requires empty { draft.old.added.items ≡ [] }
-    requires level { goal.priority ≤ monitor_priority }
+    requires level { goal.priority ≤ MONITOR_PRIORITY }
     requires alive { alive ≡ count_by (λ g. not (is_monitor g)) (goals_left (goals.now.goals ++ draft.old.added.items) draft.old) }
     ensures ok { OnOk result (Moves predicate.entry made (taken_places trial.old) trial.old.text goal cell goals.now.goals names.now.names store.old.held store.new.held shoens.old shoens.new draft.old draft.new) }
     ensures name { OnOk result (draft.new.name ≡ name_for made names.now.names trial.old.text) }

@@ -1,7 +1,7 @@
 // Reports, exceptions and the ends of report streams.
 
 ghost use Rattle.std.specs.Prelude.{◌≡◌, ◌≤◌, ◌++◌, [], false, suc, length, IfOk, OnOk};
-ghost use Rattle.kl1_model.specs.Limits.{monitor_priority};
+ghost use Rattle.kl1_model.specs.declared.limits.TheConstants.{MONITOR_PRIORITY};
 ghost use Rattle.kl1_model.specs.declared.rules.Rules.TheVariants.{Two};
 ghost use Rattle.kl1_model.specs.Unify.{mgu};
 ghost use Rattle.kl1_model.specs.Term.{atom};
@@ -206,7 +206,7 @@ fn raise_with_substitute(
     requires rules { draft.old.rules ≡ Two }
     requires begun { HasBegun draft.old }
     requires empty { draft.old.added.items ≡ [] }
-    requires level { goal.priority ≤ monitor_priority }
+    requires level { goal.priority ≤ MONITOR_PRIORITY }
     ensures ok { OnOk result (DraftsAll (λ f. raised (goal_with (meaning f store.old.held) goal) (text_of kind) (meaning f store.old.held term)) store.old.held store.new.held shoens.old shoens.new draft.old draft.new) }
     ensures comes { OnOk result (Comes store.new.held (length shoens.old.shoens) (length shoens.new.shoens) draft.old draft.new) }
     ensures met { OnOk result (AreMet draft.new.added.items) }
@@ -243,7 +243,7 @@ pub fn raise(
     requires owned { IsOwned (length shoens.old.shoens) goal }
     requires begun { HasBegun draft.old }
     requires empty { draft.old.added.items ≡ [] }
-    requires level { goal.priority ≤ monitor_priority }
+    requires level { goal.priority ≤ MONITOR_PRIORITY }
     ensures ok { OnOk result (DraftsAll (λ f. raised (goal_with (meaning f store.old.held) goal) (text_of kind) (aim f store.old.held cell)) store.old.held store.new.held shoens.old shoens.new draft.old draft.new) }
     ensures comes { OnOk result (Comes store.new.held (length shoens.old.shoens) (length shoens.new.shoens) draft.old draft.new) }
     ensures met { OnOk result (AreMet draft.new.added.items) }
@@ -302,7 +302,7 @@ pub fn unify(
     requires owned { IsOwned (length shoens.old.shoens) goal }
     requires begun { HasBegun draft.old }
     requires empty { draft.old.added.items ≡ [] }
-    requires level { goal.priority ≤ monitor_priority }
+    requires level { goal.priority ≤ MONITOR_PRIORITY }
     requires left { IsIn store.old.held left }
     requires right { IsIn store.old.held right }
     requires shoens { AreShoensIn store.old.held shoens.old.shoens }

@@ -2,7 +2,7 @@
 use Rattle.std.proofs.Common.{◌≡◌, ℕ, ◌<◌, ◌-◌, Bool, true, false, if◌then◌else◌, List, [], ◌∷◌, length, refl, sym, ap, ◌∙◌, subst, arith, ℤ}
 use Rattle.std.specs.Prelude.{Option, None, Some, option_map, is_some, nat_le, IsTrue, bytes_eq}
 use Rattle.std.proofs.lemmas.Slice.Eq.{bytes_eq-Decides}
-use Rattle.kl1_model.specs.Limits.{most_names}
+use Rattle.kl1_model.specs.declared.limits.TheConstants.{MOST_NAMES}
 use Rattle.kl1_model.specs.Text.{is_text}
 use Rattle.kl1_model.specs.Term.{Term, Terms, variable, integer, atom, structure, replace}
 use Rattle.kl1_model.specs.Unify.{Equation, walk, mgu_within, mgu, after, goes_on, fails, equations_size}
@@ -133,7 +133,7 @@ unfolding mgu_within walk
 variable_solved v text = refl
 
 -- a text is used as a name, which a variable becomes
-becomes : (goal : Goal CellName) (t : Means) (x b : Term) (v : ℕ) (text : List ℕ) (s : State) → nat_le (length (with_name s.names text)) most_names ≡ true → b ≡ variable v →
+becomes : (goal : Goal CellName) (t : Means) (x b : Term) (v : ℕ) (text : List ℕ) (s : State) → nat_le (length (with_name s.names text)) MOST_NAMES ≡ true → b ≡ variable v →
     moved (goal_with t goal) x (names text b) s ≡ replace_in_state v (atom text) (with_text text s)
 becomes goal t x b v text s keeps is =
     ap (λ c. or_exhaustion c (goal_with t goal) x (named_by (goal_with t goal) x text b s) s) keeps
@@ -155,7 +155,7 @@ reads_number f h known text a n new keeps r =
     (given keeps).0
 
 -- the step of a name that is spelled, for a reading
-spelled_state : (f : Reading) (s : State) (h before : Held CellName) (w z : Made) (goal : Goal CellName) (x a : Term) (m : model.Move) (v : ℕ) (text : List ℕ) (n : CellName) → m ≡ names text a → a ≡ variable v → nat_le (length (with_name w.names text)) most_names ≡ true → v < h.variables → f n ≡ text → IsMadeIn before z →
+spelled_state : (f : Reading) (s : State) (h before : Held CellName) (w z : Made) (goal : Goal CellName) (x a : Term) (m : model.Move) (v : ℕ) (text : List ℕ) (n : CellName) → m ≡ names text a → a ≡ variable v → nat_le (length (with_name w.names text)) MOST_NAMES ≡ true → v < h.variables → f n ≡ text → IsMadeIn before z →
     settle_charged_late v goal.shoen (with_text text (charge goal.shoen (worked f s h w))) ≡ worked f s before z →
     after_reduction goal.shoen (moved (goal_with (meaning f h) goal) x m (charge goal.shoen (worked f s h w))) ≡ worked f s (with_binding before v (Atom n)) z
 spelled_state f s h before w z goal x a m v text n move_is is keeps within reads i late =
@@ -184,7 +184,7 @@ does_names p places text a v goal x goals known h k t u d e by unnamed s ms m n 
       states = λ f knows state.
           spelled_state f state h s.held w z goal (aim f h x) (meaning f h a) (m f) v text n
           (found_is (m f) (names text (meaning f h a)) (Some (m f)) refl (as_found f knows)) (by.means f)
-          (ap (λ (ns : List (List ℕ)). nat_le (length (with_name ns text)) most_names) names_are ∙ by.keeps) by.within
+          (ap (λ (ns : List (List ℕ)). nat_le (length (with_name ns text)) MOST_NAMES) names_are ∙ by.keeps) by.within
           (reads_number f h known text a n by.new by.keeps (reads f knows)) late.inside (late.states f knows state);
     } in
     subst T (sym last_is) turns

@@ -6,7 +6,7 @@ use Rattle.kl1_user_effects.specs.Drafts.{DraftsAll}
 use Rattle.kl1_user_effects.proofs.TreesIn.{never_absent}
 use Rattle.kl1_user_effects.proofs.Joining.{drafts_full, child_of, drafts_child, one_order}
 use Rattle.std.proofs.Common.{◌≤◌}
-use Rattle.kl1_model.specs.Limits.{monitor_priority}
+use Rattle.kl1_model.specs.declared.limits.TheConstants.{MONITOR_PRIORITY}
 use Rattle.kl1_user_effects.proofs.States.{found_shoen_in}
 use Rattle.kl1_user_effects.proofs.Arriving.{clipped_low}
 use Rattle.kl1_user_effects.proofs.children.open_child.Goals as goal
@@ -53,7 +53,7 @@ pub open_shoen-requires-clause-shoen : goal.open_shoen-requires-clause-shoen
 open_shoen-requires-clause-shoen c =
     let parent = c.in-Some.parent in
     let found = found_shoen_in c.args.store.now.held c.args.goal.shoen c.args.shoens.now.shoens parent c.requires.shoens (sym c.lend.ensures.value ∙ (sym c.copied.ensures ∙ c.in-Some.is)) in
-    let L : ℕ → Type 0 = λ n. n ≤ monitor_priority in
+    let L : ℕ → Type 0 = λ n. n ≤ MONITOR_PRIORITY in
     let inside = c.order_at-order.ensures.inside in
     record {
       control = inside.control_in;
