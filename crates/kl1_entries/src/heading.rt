@@ -21,7 +21,8 @@ pub struct Heading {
 
 /// The version of a journal, by the rules of its account.
 pub(crate) fn version(rules: Rules) -> &'static [u8]
-    ensures { result.now ≡ version rules }
+    ensures value { result.now ≡ version rules }
+    ensures one { length result.now ≡ 1 }
 {
     match rules {
         Rules::One => b"1",
