@@ -58,7 +58,7 @@ unanswered_at-requires-clause-reports c =
     let h = c.args.store.now.held in
     let ss = c.args.shoens.now.shoens in
     let names = c.args.names.now.names in
-    (origin_in h c.args.number ss c.in-Some.origin c.requires (sym c.origin_at.ensures ∙ c.in-Some.is)).reports
+    (origin_in h c.args.number ss c.in-Some.origin c.requires.shoens (sym c.origin_at.ensures ∙ c.in-Some.is)).reports
 
 pub unanswered_at-requires-clause-report : goal.unanswered_at-requires-clause-report
 unanswered_at-requires-clause-report c =
