@@ -53,7 +53,6 @@ fn goal_of(
 {
     let GoalTerm { term, priority } = goal;
     // Only for the proof: a text can write it.
-    // Only for the proof: a text can write it.
     term.is_written();
     let term = term.into_term(alloc)?;
     if !may_have(priority, &term) {

@@ -133,7 +133,6 @@ fn join_operand(left: Option<(BuiltIn, Piece)>, operand: Piece) -> Result<Option
     match left {
         None => {
             // Only for the proof: a text can write it.
-            // Only for the proof: a text can write it.
             operand.is_written();
             Ok(Some(operand))
         }

@@ -74,7 +74,6 @@ fn term_as(alloc: Global, role: Role, piece: Piece) -> Result<Option<Term>, Allo
     ensures { IfOk result (λ term. term ≡ fit_as role piece) }
 {
     // Only for the proof: a text can write it.
-    // Only for the proof: a text can write it.
     piece.is_written();
     let term = piece.into_term(alloc)?;
     let stands = match role {
@@ -108,7 +107,6 @@ fn deepest(pieces: &[Piece]) -> u64
 {
     let mut most = 0;
     for piece in pieces {
-        // Only for the proof: a text can write it.
         // Only for the proof: a text can write it.
         piece.is_written();
         most = most.max(piece.depth());

@@ -181,7 +181,6 @@ fn step_last<'a>(
     ensures less { IfOk result (StepLess (length rest.now)) }
 {
     // Only for the proof: a text can write it.
-    // Only for the proof: a text can write it.
     piece.is_written();
     done.push(piece)?;
     match behind_mark(Mark::Comma, rest) {

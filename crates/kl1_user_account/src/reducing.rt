@@ -220,8 +220,8 @@ fn draft_made<C: CodeSource>(
     requires cell { IsIn store.old.held cell.cell }
     requires some { AreSome predicate.names.now predicate.clauses.now }
     requires serves { Serves modules.now.loaded kind predicate }
-    requires makes { IsToMake store.old.held modules.now.loaded entries goal.task cell clause predicate.entry (taken_places trial.old) trial.old.text made }
-    requires inside { MoveIn store.old.held predicate.entry (taken_places trial.old) trial.old.text (Some made) }
+    requires makes { IsToMake store.old.held modules.now.loaded entries goal.task cell clause predicate (taken_places trial.old) trial.old.text made }
+    requires inside { MoveIn store.old.held predicate (taken_places trial.old) trial.old.text (Some made) }
     ensures ok { OnOk result ((own : List ℕ × ℕ) → IsReduced (account_at own draft.old.rules store.old.held goals.old.goals shoens.old modules.now.loaded names.old.names draft.old.last_goal draft.old.variables draft.old.nodes draft.old.reports entries) goal.number clause store.new shoens.new goals.new draft.new) }
     ensures back { CanGoBack shoens.old shoens.new }
     ensures grown { HasGrown store.old store.new }

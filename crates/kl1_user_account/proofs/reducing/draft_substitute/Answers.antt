@@ -33,7 +33,7 @@ returns-in_default-clause-ok g c own =
           (task_does f a c.args.clause c.args.goal (whole c.args.term) None (subst T (sym c.requires.substitutes) refl) (waits_by f ms h k c.args.term c.args.clause c.substitute_move.result c.requires.substitutes c.in_default.is (c.substitute_move.ensures f knows.reads)));
     }
 
-pub returns-then-entries-ge-MOST_ENTRIES-clause-ok : goal.returns-then-clause-ok
+pub returns-then-entries-ge-MOST_ENTRIES-clause-ok : goal.returns-then-entries-ge-MOST_ENTRIES-clause-ok
 returns-then-entries-ge-MOST_ENTRIES-clause-ok g c own =
     let d = c.args.draft.now in
     let h = c.args.store.now.held in
