@@ -22,8 +22,8 @@ returns-in-Refused-clause-step g c =
     let at : (f : Reading) → HasNames (state_of f a) a.names c.counted-counted.result = λ f. (let H : Account → Type 0 = λ z. HasNames (state_of f z) z.names c.counted-counted.result in subst H (sym c.self.view_is) (c.counted-counted.ensures f)) in
     λ f fits. refused_answer a c.args.self.now c.counted-counted.result c.args.number c.args.report c.args.goal.now c.in-Refused.refusal c.self.view_is (refused_by u.rules u.store.held u.shoens.shoens u.names.names c.counted-counted.result c.args.number c.args.report c.args.goal.now c.in_ok-answering.answering c.in-Refused.refusal c.in-Refused.is c.in_ok-answering.ensures) at f fits.reads
 
-pub overflow_add-self : goal.overflow_add-self
-overflow_add-self g c =
+pub overflow_add-self-inside : goal.overflow_add-self-inside
+overflow_add-self-inside g c =
     let u = c.self.inside in
     let a = kept_in u in
     let at : (f : Reading) → HasNames (state_of f a) a.names c.counted-counted.result = λ f. (let H : Account → Type 0 = λ z. HasNames (state_of f z) z.names c.counted-counted.result in subst H (sym c.self.view_is) (c.counted-counted.ensures f)) in
@@ -33,8 +33,8 @@ overflow_add-self g c =
     let same : u.variables ≡ c.counted-counted.result.variables = (at (λ x. [])).variables_are in
     omega (arith, within, top, same)
 
-pub overflow_add-self-2 : goal.overflow_add-self-2
-overflow_add-self-2 g c =
+pub overflow_add-self-inside-2 : goal.overflow_add-self-inside-2
+overflow_add-self-inside-2 g c =
     let u = c.self.inside in
     let a = kept_in u in
     let at : (f : Reading) → HasNames (state_of f a) a.names c.counted-counted.result = λ f. (let H : Account → Type 0 = λ z. HasNames (state_of f z) z.names c.counted-counted.result in subst H (sym c.self.view_is) (c.counted-counted.ensures f)) in
@@ -44,8 +44,8 @@ overflow_add-self-2 g c =
     let same : u.nodes ≡ c.counted-counted.result.nodes = (at (λ x. [])).nodes_are in
     omega (arith, within, all, same)
 
-pub overflow_add-self-3 : goal.overflow_add-self-3
-overflow_add-self-3 g c =
+pub overflow_add-self : goal.overflow_add-self
+overflow_add-self g c =
     let u = c.self.inside in
     let a = kept_in u in
     let at : (f : Reading) → HasNames (state_of f a) a.names c.counted-counted.result = λ f. (let H : Account → Type 0 = λ z. HasNames (state_of f z) z.names c.counted-counted.result in subst H (sym c.self.view_is) (c.counted-counted.ensures f)) in
