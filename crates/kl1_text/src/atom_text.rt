@@ -11,12 +11,12 @@ ghost use Rattle.kl1_model.specs.Name.{name_text, atom_text};
 ghost use Rattle.kl1_model.specs.declared.built_in.BuiltIn.{BuiltIn};
 ghost use Rattle.kl1_model.specs.Limits.{most_name_bytes};
 ghost use Rattle.kl1_text.specs.BuiltIns.{built_in_of};
-ghost use Rattle.kl1_text.specs.Words.{words_of, bytes_of};
+ghost use Rattle.kl1_text.specs.Words.{name_words, words_of, bytes_of, words_to_end};
 
 use crate::built_ins::find_built_in;
 use crate::literals::bytes_of as literal;
 use crate::name_value::NameValue;
-use crate::packing::{is_text, words_of};
+use crate::packing::{FULL_WORD, WORDS, is_text, words_of};
 use crate::printing::{is_bare, quoted};
 use crate::short_bytes::ShortBytes;
 use kl1_model::BuiltIn;
@@ -24,25 +24,25 @@ use std::alloc::{AllocError, Global};
 use std::hash::{Hash, Hasher};
 use std::marker::Model;
 
-/// A name: at most 63 bytes of printable ASCII, the blank among them. The empty name is one.
+/// A name: at most 127 bytes of printable ASCII, the blank among them. The empty name is one.
 #[derive(Clone, Copy)]
 pub struct AtomText {
-    words: [u64; 8],
+    words: [u64; WORDS],
 }
 
 impl Model for AtomText {
     ghost use Rattle.std.specs.Prelude.{◌≡◌, ℕ, List, IsTrue};
     ghost use Rattle.std.proofs.Common.{ap, sym};
     ghost use Rattle.kl1_model.specs.Text.{is_text};
-    ghost use Rattle.kl1_text.specs.Words.{words_of, bytes_of};
+    ghost use Rattle.kl1_text.specs.Words.{name_words, words_of, bytes_of};
 
     ghost Value = { List ℕ };
 
     ghost view = { λ a. bytes_of a.words };
 
-    ghost invariant = { λ a. (a.words ≡ words_of 8 (bytes_of a.words)) × IsTrue (is_text (bytes_of a.words)) };
+    ghost invariant = { λ a. (a.words ≡ words_of name_words (bytes_of a.words)) × IsTrue (is_text (bytes_of a.words)) };
 
-    ghost inverse = { λ t. record { words = words_of 8 t } };
+    ghost inverse = { λ t. record { words = words_of name_words t } };
 
     ghost inverse_ok = { λ a h. ap (λ w. record { words = w }) (sym h.0) };
 }
@@ -74,8 +74,7 @@ impl AtomText {
         ensures iff { IsTrue result ↔ (self.now ≡ other.now) }
         ensures value { result ≡ bytes_eq self.now other.now }
     {
-        let words = &self.words;
-        *words == other.words
+        *self.words() == *other.words()
     }
 
     /// The name of a built-in.
@@ -93,22 +92,30 @@ impl AtomText {
         ensures text { IsTrue (is_text result) }
     {
         let mut out = ShortBytes::new();
-        for word in &self.words {
+        for word in self.words() {
             out.put_number(*word, 8);
         }
         out
     }
 
-    /// The eight words that hold the name.
-    pub fn words(&self) -> [u64; 8]
-        ensures { result ≡ words_of 8 self.now }
+    /// The words that hold the name, up to the one in which it ends: the first whose highest byte is zero.
+    pub fn words(&self) -> &[u64]
+        ensures value { result.now ≡ words_to_end self.now }
+        ensures few { length result.now ≤ name_words }
+        ensures name { IsTrue (is_text self.now) }
     {
-        self.words
+        let words = &self.words;
+        for count in 1..WORDS {
+            if words[count - 1] < FULL_WORD {
+                return &words[..count];
+            }
+        }
+        words
     }
 
-    /// The name that eight words hold.
-    pub fn of_words(words: [u64; 8]) -> Self
-        requires held { words ≡ words_of 8 (bytes_of words) }
+    /// The name that words hold.
+    pub fn of_words(words: [u64; WORDS]) -> Self
+        requires held { words ≡ words_of name_words (bytes_of words) }
         requires name { IsTrue (is_text (bytes_of words)) }
         ensures { result ≡ bytes_of words }
     {
@@ -195,12 +202,11 @@ impl Eq for AtomText {
 }
 
 impl Hash for AtomText {
-    ghost hash_input = { λ a. fed.slice fed.u64 (words_of 8 a) };
+    ghost hash_input = { λ a. fed.slice fed.u64 (words_to_end a) };
 
-    ghost respects_eq = { λ a b e. ap (λ t. fed.slice fed.u64 (words_of 8 t)) ((bytes_eq-Decides a b).0 e) };
+    ghost respects_eq = { λ a b e. ap (λ t. fed.slice fed.u64 (words_to_end t)) ((bytes_eq-Decides a b).0 e) };
 
     fn hash<H: Hasher>(&self, state: &mut H) {
-        let words = self.words();
-        words.hash(state);
+        self.words().hash(state);
     }
 }
