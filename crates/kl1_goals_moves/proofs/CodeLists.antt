@@ -3,6 +3,7 @@ use Rattle.std.proofs.Common.{◌≡◌, ℕ, zero, suc, ◌+◌, ◌-◌, ◌<�
 use Rattle.std.specs.Prelude.{pos, negsuc, ◌&&◌, codes, bytes_eq}
 use Rattle.std.specs.List.{list_all}
 use Rattle.std.proofs.lemmas.Bool.{cond-true, le-leb}
+use Rattle.kl1_model.specs.Limits.{most_name_bytes}
 use Rattle.kl1_model.specs.Text.{is_name_byte, is_text}
 use Rattle.kl1_model.specs.Term.{Term, variable, integer, atom, structure, none, more}
 use Rattle.kl1_model.specs.Look as model
@@ -102,4 +103,4 @@ one_more text text' n left own some count = let e : length text' ≡ length text
 
 -- the text is a name at the end
 pub text_is : (text : List ℕ) (left : ℕ) → length text + left ≡ most_spelled → list_all is_name_byte text ≡ true → is_text text ≡ true
-text_is text left n e = let le : length text ≤ most_spelled = omega (arith, n) in ap (λ b. b && list_all is_name_byte text) (le-leb (length text) most_spelled le) ∙ e
+text_is text left n e = let le : length text ≤ most_name_bytes = omega (arith, n) in ap (λ b. b && list_all is_name_byte text) (le-leb (length text) most_name_bytes le) ∙ e

@@ -1,15 +1,15 @@
 -- Names come back from the words that hold them.
-use Rattle.std.proofs.Common.{lit<, nat_le, ◌≡◌, ℕ, zero, suc, ◌+◌, ◌-◌, ◌*◌, ◌/◌, ◌%◌, ◌^◌, ◌<◌, ◌≤◌, List, [], ◌∷◌, ◌++◌, length, take, drop, slice_index, IsTrue, refl, true, Bool, ap, subst, inl, inr, ◌∙◌, sym, arith, Decides, bytes_eq, add_comm, get_or, sub-one, add-one}
+use Rattle.std.proofs.Common.{lit<, nat_le, ◌≡◌, ℕ, zero, suc, ◌+◌, ◌-◌, ◌*◌, ◌/◌, ◌%◌, ◌^◌, ◌<◌, ◌≤◌, ◌==◌, if◌then◌else◌, List, [], ◌∷◌, ◌++◌, length, take, drop, slice_index, IsTrue, refl, true, false, Bool, ap, subst, inl, inr, ◌∙◌, sym, arith, Decides, bytes_eq, add_comm, get_or, sub-one, add-one}
 use Rattle.std.specs.List.{list_all}
 use Rattle.std.specs.Bool.{one_answer}
 use Rattle.std.proofs.lemmas.Slice.Eq.{bytes_eq-Decides}
 use Rattle.std.proofs.Math.Nat.{mul-suc, pow-suc, pow-le-pow_right, one-le-pow}
 use Rattle.std.proofs.Math.Seq.{take-add, drop-cons}
 use Rattle.std.proofs.lemmas.List.{take_all, drop_all, drop-drop, length-drop, ext_get_or}
-use Rattle.std.proofs.lemmas.Bool.{and_parts, leb-true, ne_eqb, eq-eqb, cases_lt}
+use Rattle.std.proofs.lemmas.Bool.{and_parts, leb-true, ne_eqb, eq-eqb, cases_eq, cases_lt}
 use Rattle.kl1_model.specs.Limits.{most_name_bytes}
 use Rattle.kl1_model.specs.Text.{is_name_byte, is_text}
-use Rattle.kl1_text.specs.Words.{name_words, number_of, bytes_in, words_of, bytes_of, word_at, word_count, words_to_end}
+use Rattle.kl1_text.specs.Words.{name_words, number_of, bytes_in, words_of, bytes_of, word_at, word_count, words_to_end, HoldsName}
 
 -- a byte of a name is neither zero nor over 126
 pub name_byte_bounds : (b : ℕ) → is_name_byte b ≡ true → (32 ≤ b) × (b ≤ 126)
@@ -106,14 +106,15 @@ few_bytes (suc n) (suc m) (b ∷ bs) h l =
     let rest : number_of n bs < 256 ^ m = few_bytes n m bs p.1 (omega arith) in
     rw (pow-suc 256 m) (omega arith)
 
--- and one of `n + 1` bytes isn't
-many_bytes : (n : ℕ) (bs : List ℕ) → list_all is_name_byte bs ≡ true → n < length bs → 256 ^ n ≤ number_of (suc n) bs
+-- and one of more bytes isn't
+many_bytes : (n m : ℕ) (bs : List ℕ) → list_all is_name_byte bs ≡ true → n ≤ m → n < length bs → 256 ^ n ≤ number_of (suc m) bs
 unfolding number_of
-many_bytes n [] h l = absurd (omega arith)
-many_bytes zero (b ∷ bs) h l = let bounds = name_byte_bounds b (and_parts (is_name_byte b) (list_all is_name_byte bs) h).0 in omega arith
-many_bytes (suc n) (b ∷ bs) h l =
+many_bytes n m [] h few l = absurd (omega arith)
+many_bytes zero m (b ∷ bs) h few l = let bounds = name_byte_bounds b (and_parts (is_name_byte b) (list_all is_name_byte bs) h).0 in omega arith
+many_bytes (suc n) zero (b ∷ bs) h few l = absurd (omega arith)
+many_bytes (suc n) (suc m) (b ∷ bs) h few l =
     let p = and_parts (is_name_byte b) (list_all is_name_byte bs) h in
-    let rest : 256 ^ n ≤ number_of (suc n) bs = many_bytes n bs p.1 (omega arith) in
+    let rest : 256 ^ n ≤ number_of (suc m) bs = many_bytes n m bs p.1 (omega arith) (omega arith) in
     rw (pow-suc 256 n) (omega arith)
 
 -- a word that is full has eight bytes
@@ -130,7 +131,7 @@ pub short_word : (bs : List ℕ) (k : ℕ) → IsTrue (is_text bs) → word_at b
 short_word bs k h less = elim (cases_lt (length bs) (8 * k + 8)) [
   | inl short ↦ short
   | inr long ↦
-      let full : 256 ^ 7 ≤ word_at bs k = many_bytes 7 (drop (8 * k) bs) (names-drop (8 * k) bs (name_bytes bs h)) (let l = length-drop (8 * k) bs in omega arith) in
+      let full : 256 ^ 7 ≤ word_at bs k = many_bytes 7 7 (drop (8 * k) bs) (names-drop (8 * k) bs (name_bytes bs h)) (omega arith) (let l = length-drop (8 * k) bs in omega arith) in
       absurd (omega arith)
 ]
 
@@ -156,6 +157,7 @@ goes_with t u (suc k) name its same within =
 -- names whose words are the same as far as one of them goes are one
 pub same_to_end : (t u : List ℕ) → IsTrue (is_text t) → IsTrue (is_text u) → ((k : ℕ) → k < word_count t → word_at u k ≡ word_at t k) → u ≡ t
 same_to_end t u name its same =
+    let last : length t / 8 < word_count u = goes_to t u (length t / 8) name its (λ j h. same j (omega arith)) (omega arith) in
     let ends : length u < 8 * (length t / 8) + 8 = elim (cases_lt (word_at t (length t / 8)) (256 ^ 7)) [
       | inl less ↦ short_word u (length t / 8) its (rw (same (length t / 8) (omega arith)) less)
       | inr full ↦ let l = full_word t (length t / 8) name full in absurd (omega arith)
@@ -245,3 +247,37 @@ bytes_of_none i ws h = rw (drop_all i ws h) refl
 pub bytes_of_step : (i : ℕ) (ws : List ℕ) → i < length ws → bytes_of (drop i ws) ≡ bytes_in 8 (get_or ws i 0) ++ bytes_of (drop (i + 1) ws)
 unfolding bytes_of
 bytes_of_step i ws h = rw (drop-cons ws i 0, add-one) refl
+
+-- `n` bytes at most
+length-bytes_in : (n w : ℕ) → length (bytes_in n w) ≤ n
+unfolding bytes_in
+length-bytes_in zero w = omega arith
+length-bytes_in (suc n) w = elim (w % 256 == 0) as (λ b. length (if b then [] else w % 256 ∷ bytes_in n (w / 256)) ≤ suc n) [ true ↦ omega arith | false ↦ let l = length-bytes_in n (w / 256) in omega arith ]
+
+-- a name whose second word is zero has eight bytes at most
+pub one_word : (t : List ℕ) → IsTrue (is_text t) → word_at t 1 ≡ 0 → length t ≤ 8
+one_word t name empty = elim (cases_lt 8 (length t)) [
+  | inl long ↦
+      let some : 256 ^ 0 ≤ word_at t 1 = many_bytes 0 7 (drop (8 * 1) t) (names-drop (8 * 1) t (name_bytes t name)) (omega arith) (let l = length-drop (8 * 1) t in omega arith) in
+      absurd (omega arith)
+  | inr short ↦ short
+]
+
+-- its first word has its bytes
+pub word_bytes : (t : List ℕ) → IsTrue (is_text t) → length t ≤ 8 → bytes_in 8 (number_of 8 t) ≡ t
+word_bytes t name short = bytes_in-number_of 8 t (name_bytes t name) ∙ take_all 8 t short
+
+-- and so holds it
+pub holds_name : (t : List ℕ) → IsTrue (is_text t) → length t ≤ 8 → HoldsName (number_of 8 t)
+holds_name t name short =
+    let e = word_bytes t name short in
+    record { same = ap (number_of 8) (sym e); name = subst (λ bs. IsTrue (is_text bs)) (sym e) name }
+
+-- a word that holds a name, and zeros after it, are the name's words
+pub words_of_one : (ws : List ℕ) (w : ℕ) → HoldsName w → length ws ≡ name_words → slice_index ws 0 ≡ w → ((k : ℕ) → 0 < k → slice_index ws k ≡ 0) → ws ≡ words_of name_words (bytes_in 8 w)
+words_of_one ws w holds size first others =
+    ext_get_or 0 ws (words_of name_words (bytes_in 8 w)) (size ∙ sym (length-words_of name_words (bytes_in 8 w)))
+    (λ k h. let below : k < name_words = subst (λ m. k < m) size h in elim (cases_eq k 0) [
+      | inl here ↦ rw here (first ∙ holds.same ∙ sym (word_of name_words 0 (bytes_in 8 w) (omega arith)))
+      | inr other ↦ others k (omega arith) ∙ sym (word_of name_words k (bytes_in 8 w) below ∙ no_word (bytes_in 8 w) k (let l = length-bytes_in 8 w in omega arith))
+    ])

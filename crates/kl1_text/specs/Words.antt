@@ -1,5 +1,6 @@
 -- How a name lies in words: eight bytes a word, the first in the lowest place, and zeros after the last.
-use Rattle.std.specs.Prelude.{ℕ, zero, suc, ◌+◌, ◌*◌, ◌/◌, ◌%◌, ◌==◌, if◌then◌else◌, List, [], ◌∷◌, ◌++◌, length, drop}
+use Rattle.std.specs.Prelude.{◌≡◌, ℕ, zero, suc, ◌+◌, ◌*◌, ◌/◌, ◌%◌, ◌==◌, if◌then◌else◌, List, [], ◌∷◌, ◌++◌, length, drop, IsTrue}
+use Rattle.kl1_model.specs.Text.{is_text}
 use Rattle.kl1_text.specs.declared.packing.TheConstants.{WORDS}
 
 -- how many words hold a name: so many that a zero byte is left after the longest
@@ -38,3 +39,8 @@ word_count t = length t / 8 + 1
 -- the words of a name, up to the one in which it ends
 abbrev pub words_to_end : List ℕ → List ℕ
 words_to_end t = words_of (word_count t) t
+
+-- a word holds a name of at most eight bytes
+pub record HoldsName (w : ℕ) : Type 0 where
+  pub same : w ≡ number_of 8 (bytes_in 8 w)
+  pub name : IsTrue (is_text (bytes_in 8 w))

@@ -1,6 +1,6 @@
 // A name as a value.
 
-ghost use Rattle.std.specs.Prelude.{◌≡◌, ℕ, ◌≤◌, List, [], IsTrue, IfSome, IfOk, is_some, length, bytes_eq, ◌↔◌};
+ghost use Rattle.std.specs.Prelude.{◌≡◌, ℕ, ◌<◌, ◌≤◌, List, [], IsTrue, IfSome, IsNone, IfOk, is_some, length, bytes_eq, ◌↔◌};
 ghost use Rattle.std.specs.Cmp.{partial_equiv_from_equiv};
 ghost use Rattle.std.specs.Cmp.Lexicographic.{nat_list_eq_equiv};
 ghost use Rattle.std.specs.Hash as fed;
@@ -11,7 +11,7 @@ ghost use Rattle.kl1_model.specs.Name.{name_text, atom_text};
 ghost use Rattle.kl1_model.specs.declared.built_in.BuiltIn.{BuiltIn};
 ghost use Rattle.kl1_model.specs.Limits.{most_name_bytes};
 ghost use Rattle.kl1_text.specs.BuiltIns.{built_in_of};
-ghost use Rattle.kl1_text.specs.Words.{name_words, words_of, bytes_of, words_to_end};
+ghost use Rattle.kl1_text.specs.Words.{name_words, words_of, bytes_of, bytes_in, words_to_end, HoldsName};
 
 use crate::built_ins::find_built_in;
 use crate::literals::bytes_of as literal;
@@ -120,6 +120,25 @@ impl AtomText {
         ensures { result ≡ bytes_of words }
     {
         AtomText { words }
+    }
+
+    /// The word that holds the name, if the name has at most eight bytes.
+    pub fn one_word(&self) -> Option<u64>
+        ensures some { IfSome result (λ word. HoldsName word × (bytes_in 8 word ≡ self.now)) }
+        ensures none { IsNone result → 8 < length self.now }
+    {
+        let words = &self.words;
+        if words[1] == 0 { Some(words[0]) } else { None }
+    }
+
+    /// The name of at most eight bytes that a word holds.
+    pub fn of_word(word: u64) -> Self
+        requires { HoldsName word }
+        ensures { result ≡ bytes_in 8 word }
+    {
+        let mut words = [0u64; WORDS];
+        words[0] = word;
+        AtomText::of_words(words)
     }
 
     /// Tells a caller's proof that these bytes are a name. It does nothing.
