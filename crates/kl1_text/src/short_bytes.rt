@@ -19,6 +19,7 @@ pub struct ShortBytes {
 }
 
 impl Model for ShortBytes {
+    ghost use Rattle.std.specs.Prelude.{ℕ, ◌≤◌, List, take};
     ghost use Rattle.kl1_text.specs.declared.short_bytes.TheConstants.{MOST_SHORT_BYTES};
 
     ghost Value = { List ℕ };

@@ -1,6 +1,7 @@
 // That seats of several accounts find one number for each name, also when two threads look the same names up at once.
 
 ghost use Rattle.std.specs.Prelude.{◌≡◌, ℕ, ◌+◌, ◌<◌, ◌≤◌, [], Some, length, slice_get, vec_len};
+ghost use Rattle.kl1_model.specs.Limits.{most_accounts};
 ghost use Rattle.kl1_atoms.specs.declared.atom_seat.AtomSeat.{AtomSeat};
 ghost use Rattle.kl1_atoms.specs.Seats.{IsSharedSeat, IsNewSharedSeat, face_in};
 
@@ -91,7 +92,7 @@ pub fn agree_in<R: Threads + Sync>(
     alloc: Global,
     accounts: usize,
 ) -> Result<bool, AllocError>
-    requires { (1 < accounts) × (accounts ≤ 16) }
+    requires { (1 < accounts) × (accounts ≤ most_accounts) }
 {
     let names = names(alloc, 500)?;
     let (table, mut seats) = AtomTable::new(alloc, accounts)?;

@@ -9,6 +9,7 @@ use crate::atoms::sources::{
     seats_share,
 };
 use crate::atoms::tells::threads_find_the_same;
+use kl1_model::limits::MOST_ACCOUNTS;
 use kl1_tests_rows::{Text, put_check};
 use kl1_text::AtomText;
 use std::rt::Clock;
@@ -33,10 +34,10 @@ fn put_each<R: Threads + Clock + Sync>(rt: &R, out: &mut Text, names: &[AtomText
         b"atoms two_threads_and_the_seats_of_2_accounts_agree",
         done,
     );
-    let done = agree_in(rt, alloc, 16);
+    let done = agree_in(rt, alloc, MOST_ACCOUNTS);
     put_check(
         out,
-        b"atoms two_threads_and_the_seats_of_16_accounts_agree",
+        b"atoms two_threads_and_the_seats_of_32_accounts_agree",
         done,
     );
     let done = agree_on_one_bucket(rt, alloc);
