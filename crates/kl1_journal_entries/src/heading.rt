@@ -3,6 +3,7 @@
 ghost use Rattle.std.specs.Prelude.{◌≡◌, ◌+◌, ◌≤◌, ◌++◌, length, bytes_eq, option_map, IfSome};
 ghost use Rattle.kl1_model.specs.Limits.{most_sessions, most_names};
 ghost use Rattle.kl1_model_history.specs.JournalText.{first_line, heading_in};
+ghost use Rattle.kl1_text.specs.declared.short_bytes.TheConstants.{MOST_SHORT_BYTES};
 ghost use Rattle.kl1_journal_entries.specs.Reading.{heading_view};
 
 use itoa::Buffer;
@@ -19,7 +20,7 @@ pub struct Heading {
 
 /// Puts bytes after others.
 fn put_short(out: &mut ShortBytes, bytes: &[u8])
-    requires { length out.old + length bytes.now ≤ 128 }
+    requires { length out.old + length bytes.now ≤ MOST_SHORT_BYTES }
     ensures { out.new ≡ out.old ++ bytes.now }
 {
     let mut rest = bytes;

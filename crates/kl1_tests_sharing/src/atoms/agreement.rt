@@ -1,7 +1,7 @@
 // That seats of several accounts find one number for each name, also when two threads look the same names up at once.
 
 ghost use Rattle.std.specs.Prelude.{◌≡◌, ℕ, ◌+◌, ◌<◌, ◌≤◌, [], Some, length, slice_get, vec_len};
-ghost use Rattle.kl1_model.specs.Limits.{most_accounts};
+ghost use Rattle.kl1_model.specs.Limits.{most_accounts, most_names};
 ghost use Rattle.kl1_atoms.specs.declared.atom_seat.AtomSeat.{AtomSeat};
 ghost use Rattle.kl1_atoms.specs.Seats.{IsSharedSeat, IsNewSharedSeat, face_in};
 
@@ -16,7 +16,7 @@ use std::thread::{Threads, join};
 #[tactic(auto, using(kl1_atoms::specs::Knowing::few_more))]
 fn learned(table: &AtomTable, mut seat: AtomSeat, names: &[AtomText]) -> (u64, AtomSeat)
     requires of { IsSharedSeat table.now.table.shared.table_id seat.badge.table_id table.now.accounts (face_in seat.badge.views) seat.account }
-    requires room { length (face_in seat.badge.views).knows + length names.now ≤ 1024 }
+    requires room { length (face_in seat.badge.views).knows + length names.now ≤ most_names }
     ensures { IsSharedSeat table.now.table.shared.table_id result.1.badge.table_id table.now.accounts (face_in result.1.badge.views) result.1.account }
 {
     let mut row = 0u64;
@@ -52,7 +52,7 @@ fn others_agree(
 ) -> bool
     requires of { IsSharedSeat table.now.table.shared.table_id seat.old.badge.table_id table.now.accounts (face_in seat.old.badge.views) seat.old.account }
     requires seats { (k : ℕ) (seat : AtomSeat) → slice_get seats.old.items k ≡ Some seat → IsNewSharedSeat table.now.table.shared.table_id seat.badge.table_id table.now.accounts (face_in seat.badge.views) seat.account k }
-    requires few { length names.now ≤ 1024 }
+    requires few { length names.now ≤ most_names }
 {
     for _other in 0..seats.len() {
         let (_, mut other) = learned(table, next_seat(table, seats), names);
@@ -73,7 +73,7 @@ fn agree_at_once<R: Threads + Sync>(
 ) -> bool
     requires seats { (k : ℕ) (seat : AtomSeat) → slice_get seats.old.items k ≡ Some seat → IsNewSharedSeat table.now.table.shared.table_id seat.badge.table_id table.now.accounts (face_in seat.badge.views) seat.account k }
     requires two { 1 < vec_len seats.old }
-    requires few { length names.now ≤ 1024 }
+    requires few { length names.now ≤ most_names }
 {
     let a = next_seat(table, seats);
     let b = next_seat(table, seats);
