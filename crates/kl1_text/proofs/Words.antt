@@ -1,11 +1,11 @@
 -- Names come back from the words that hold them.
-use Rattle.std.proofs.Common.{lit<, nat_le, ◌≡◌, ℕ, zero, suc, ◌+◌, ◌-◌, ◌*◌, ◌/◌, ◌%◌, ◌^◌, ◌<◌, ◌≤◌, ◌==◌, if◌then◌else◌, List, [], ◌∷◌, ◌++◌, length, take, drop, slice_index, IsTrue, refl, true, false, Bool, ap, subst, inl, inr, ◌∙◌, sym, arith, Decides, bytes_eq, add_comm, get_or, sub-one, add-one}
+use Rattle.std.proofs.Common.{lit<, nat_le, ◌≡◌, ℕ, zero, suc, ◌+◌, ◌-◌, ◌*◌, ◌/◌, ◌%◌, ◌^◌, ◌<◌, ◌≤◌, ◌==◌, if◌then◌else◌, List, [], ◌∷◌, ◌++◌, length, take, drop, replicate, slice_index, slice_set, IsTrue, refl, true, false, Bool, ap, subst, inl, inr, ◌∙◌, sym, arith, Decides, bytes_eq, add_comm, get_or, sub-one, add-one}
 use Rattle.std.specs.List.{list_all}
 use Rattle.std.specs.Bool.{one_answer}
 use Rattle.std.proofs.lemmas.Slice.Eq.{bytes_eq-Decides}
 use Rattle.std.proofs.Math.Nat.{mul-suc, pow-suc, pow-le-pow_right, one-le-pow}
 use Rattle.std.proofs.Math.Seq.{take-add, drop-cons}
-use Rattle.std.proofs.lemmas.List.{take_all, drop_all, drop-drop, length-drop, ext_get_or}
+use Rattle.std.proofs.lemmas.List.{take_all, drop_all, drop-drop, length-drop, length-set, length-replicate, get_or-set_same, get_or-set_other, ext_get_or}
 use Rattle.std.proofs.lemmas.Bool.{and_parts, leb-true, ne_eqb, eq-eqb, cases_eq, cases_lt}
 use Rattle.kl1_model.specs.Limits.{most_name_bytes}
 use Rattle.kl1_model.specs.Text.{is_name_byte, is_text}
@@ -281,3 +281,19 @@ words_of_one ws w holds size first others =
       | inl here ↦ rw here (first ∙ holds.same ∙ sym (word_of name_words 0 (bytes_in 8 w) (omega arith)))
       | inr other ↦ others k (omega arith) ∙ sym (word_of name_words k (bytes_in 8 w) below ∙ no_word (bytes_in 8 w) k (let l = length-bytes_in 8 w in omega arith))
     ])
+
+-- zeros
+zeros_at : (n k : ℕ) → slice_index (replicate n 0) k ≡ 0
+zeros_at zero k = refl
+zeros_at (suc n) zero = refl
+zeros_at (suc n) (suc k) = zeros_at n k
+
+-- a word put before zeros, and the bytes of that row
+pub row_of_word : (w : ℕ) → HoldsName w → slice_set (replicate name_words 0) 0 w ≡ words_of name_words (bytes_in 8 w)
+row_of_word w holds =
+    let size : length {A = ℕ} (replicate name_words 0) ≡ name_words = length-replicate name_words 0 in
+    words_of_one (slice_set (replicate name_words 0) 0 w) w holds (length-set (replicate name_words 0) 0 w ∙ size) (get_or-set_same (replicate name_words 0) 0 w 0 (omega (arith, size)))
+    (λ k h. get_or-set_other (replicate name_words 0) 0 k w 0 (λ same. absurd (omega arith)) ∙ zeros_at name_words k)
+
+pub bytes_of_row : (w : ℕ) → HoldsName w → bytes_of (slice_set (replicate name_words 0) 0 w) ≡ bytes_in 8 w
+bytes_of_row w holds = ap bytes_of (row_of_word w holds) ∙ words_hold (bytes_in 8 w) holds.name
