@@ -291,7 +291,7 @@ zeros_at (suc n) (suc k) = zeros_at n k
 -- a word put before zeros, and the bytes of that row
 pub row_of_word : (w : ℕ) → HoldsName w → slice_set (replicate name_words 0) 0 w ≡ words_of name_words (bytes_in 8 w)
 row_of_word w holds =
-    let size : length {A = ℕ} (replicate name_words 0) ≡ name_words = length-replicate name_words 0 in
+    let size : length {A = ℕ} (replicate name_words 0) ≡ name_words = length-replicate {A = ℕ} name_words 0 in
     words_of_one (slice_set (replicate name_words 0) 0 w) w holds (length-set (replicate name_words 0) 0 w ∙ size) (get_or-set_same (replicate name_words 0) 0 w 0 (omega (arith, size)))
     (λ k h. get_or-set_other (replicate name_words 0) 0 k w 0 (λ same. absurd (omega arith)) ∙ zeros_at name_words k)
 

@@ -1,7 +1,7 @@
 use Rattle.std.proofs.Common.{◌≡◌, ◌+◌, ◌-◌, ◌*◌, ◌<◌, ◌≤◌, length, drop, sym, ◌∙◌, ap, subst, inl, inr, arith, get_or-set_same, get_or-set_other}
 use Rattle.std.proofs.lemmas.Bool.{cases_eq, cases_lt, eqb-true}
 use Rattle.std.proofs.lemmas.List.{length-set, drop-drop, ext_get_or, length-drop}
-use Rattle.kl1_text.specs.Words.{number_of, words_of, name_words, word_at}
+use Rattle.kl1_text.specs.Words.{number_of, words_of, name_words}
 use Rattle.kl1_text.proofs.Words.{length-words_of, word_of, no_word}
 use Rattle.kl1_text.proofs.packing.words_of.Goals as goal
 
