@@ -15,7 +15,7 @@ count : (c : goal.After-words) → length c.words.result.now ≡ word_count c.ar
 count c = ap length c.words.ensures.value ∙ length-words_of (word_count c.args.text.now) c.args.text.now
 
 -- and each is the text's
-word_is : (c : goal.In-loop-word) → slice_index c.words.result.now c.loop-word.word ≡ word_at c.args.text.now c.loop-word.word
+word_is : (c : goal.After-read) → slice_index c.words.result.now c.loop-word.word ≡ word_at c.args.text.now c.loop-word.word
 word_is c =
     let within : c.loop-word.word < word_count c.args.text.now = (let n = count c in omega arith) in
     ap (λ ws. slice_index ws c.loop-word.word) c.words.ensures.value ∙ word_of (word_count c.args.text.now) c.loop-word.word c.args.text.now within

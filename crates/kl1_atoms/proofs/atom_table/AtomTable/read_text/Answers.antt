@@ -13,7 +13,7 @@ use Rattle.kl1_atoms.specs.Plays.{own}
 use Rattle.kl1_atoms.proofs.atom_table.AtomTable.read_text.Goals as goal
 
 -- what the seat knew at the start it knows
-knows_on : (c : goal.In-loop-word) (t : List ℕ) → text_in (own c.args.seat.now.me.0).knows (first_number + c.args.entry) ≡ Some t → text_in (own c.loop-word.seat.me.0).knows (first_number + c.args.entry) ≡ Some t
+knows_on : (c : goal.After-read-value) (t : List ℕ) → text_in (own c.args.seat.now.me.0).knows (first_number + c.args.entry) ≡ Some t → text_in (own c.loop-word.seat.me.0).knows (first_number + c.args.entry) ≡ Some t
 knows_on c t e = subst (λ (m : Me (Unit {0}) View). text_in (own m.0).knows (first_number + c.args.entry) ≡ Some t) (sym c.loop-word.invariant.same) e
 
 -- the name that the entry has is a name
