@@ -44,6 +44,14 @@ LongNameIsRead = read_module (long_text 127) ≡ good (record { name = codes "z"
 abbrev pub LongerNameIsBad : Type 0
 LongerNameIsBad = read_module (long_text 128) ≡ bad 2
 
+-- a variable of 63 bytes is one
+abbrev pub LongVariableIsRead : Type 0
+LongVariableIsRead = read_goal (replicate 63 88 ++ codes " = 1") ≡ good (pair (codes "=") (variable 1) (integer (pos 1)))
+
+-- a variable of 64 bytes makes its line bad
+abbrev pub LongerVariableIsBad : Type 0
+LongerVariableIsBad = read_goal (replicate 64 88 ++ codes " = 1") ≡ bad 1
+
 -- a dot before a letter is no end and no sign
 abbrev pub DotInsideIsBad : Type 0
 DotInsideIsBad = read_module (codes ":- module z.\np.q.") ≡ bad 2
