@@ -208,13 +208,23 @@ eight_fit n r few below =
     let most : 256 ^ n ≤ 256 ^ 8 = pow-le-pow_right (lit< tt) few in
     omega arith
 
--- names are one if their words are
-pub same_names : (xs ys : List ℕ) (r : Bool) → IsTrue (is_text xs) → IsTrue (is_text ys) → r ≡ bytes_eq (words_to_end xs) (words_to_end ys) → Decides r (xs ≡ ys)
-same_names xs ys r hx hy e =
-    let same : Decides (bytes_eq (words_to_end xs) (words_to_end ys)) (words_to_end xs ≡ words_to_end ys) = bytes_eq-Decides (words_to_end xs) (words_to_end ys) in (
-      (λ is. sym (ended_hold xs hx) ∙ ap bytes_of (same.0 (sym e ∙ is)) ∙ ended_hold ys hy),
-      (λ are. e ∙ same.1 (ap words_to_end are)),
-    )
+-- a word of a name, of all those that hold it
+held_word : (t ws : List ℕ) (k : ℕ) → ws ≡ words_of name_words t → k < name_words → slice_index ws k ≡ word_at t k
+held_word t ws k e within = ap (λ vs. slice_index vs k) e ∙ word_of name_words k t within
+
+-- names are one if all words are the same as far as one of them goes
+pub same_by : (xs ys vs ws : List ℕ) (n : ℕ) → vs ≡ words_of name_words xs → ws ≡ words_of name_words ys → IsTrue (is_text xs) → IsTrue (is_text ys) → word_count xs ≤ n → n ≤ name_words
+    → ((k : ℕ) → k < n → slice_index vs k ≡ slice_index ws k) → Decides true (xs ≡ ys)
+same_by xs ys vs ws n e d name its enough few same =
+    let one : ys ≡ xs = same_to_end xs ys name its (λ k h. sym (held_word ys ws k d (omega arith)) ∙ sym (same k (omega arith)) ∙ held_word xs vs k e (omega arith)) in
+    ((λ yes. sym one), (λ are. refl))
+
+-- the words up to a short one are all that a name takes
+pub ends_within : (t ws : List ℕ) (k : ℕ) → ws ≡ words_of name_words t → IsTrue (is_text t) → k < name_words → slice_index ws k < 256 ^ 7 → word_count t ≤ k + 1
+ends_within t ws k e name within less =
+    let word = held_word t ws k e within in
+    let small : word_at t k < 256 ^ 7 = omega arith in
+    let short = short_word t k name small in omega arith
 
 -- a test of whether two lists are one is the test of their elements
 pub same_bytes : (xs ys : List ℕ) (r : Bool) → Decides r (xs ≡ ys) → r ≡ bytes_eq xs ys

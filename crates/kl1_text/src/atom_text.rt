@@ -74,7 +74,17 @@ impl AtomText {
         ensures iff { IsTrue result ↔ (self.now ≡ other.now) }
         ensures value { result ≡ bytes_eq self.now other.now }
     {
-        *self.words() == *other.words()
+        let mine = &self.words;
+        let others = &other.words;
+        for word in 0..WORDS {
+            if mine[word] != others[word] {
+                return false;
+            }
+            if mine[word] < FULL_WORD {
+                return true;
+            }
+        }
+        true
     }
 
     /// The name of a built-in.
