@@ -102,10 +102,20 @@ impl AtomText {
         ensures text { IsTrue (is_text result) }
     {
         let mut out = ShortBytes::new();
+        self.unpack(&mut out);
+        out
+    }
+
+    /// Puts the bytes of the name into a row that has none.
+    fn unpack(&self, out: &mut ShortBytes)
+        requires { out.old ≡ [] }
+        ensures value { out.new ≡ self.now }
+        ensures short { length out.new ≤ most_name_bytes }
+        ensures text { IsTrue (is_text out.new) }
+    {
         for word in self.words() {
             out.put_number(*word, 8);
         }
-        out
     }
 
     /// The words that hold the name, up to the one in which it ends: the first whose highest byte is zero.
@@ -162,7 +172,9 @@ impl AtomText {
     pub fn built_in(&self) -> Option<BuiltIn>
         ensures { result ≡ built_in_of self.now }
     {
-        find_built_in(self.unpacked().as_slice())
+        let mut bytes = ShortBytes::new();
+        self.unpack(&mut bytes);
+        find_built_in(bytes.as_slice())
     }
 
     /// How many bytes the name has.
@@ -170,7 +182,9 @@ impl AtomText {
         ensures value { result ≡ length self.now }
         ensures short { result ≤ most_name_bytes }
     {
-        self.unpacked().len()
+        let mut bytes = ShortBytes::new();
+        self.unpack(&mut bytes);
+        bytes.len()
     }
 
     /// The bytes of the name, in a vector of their own.

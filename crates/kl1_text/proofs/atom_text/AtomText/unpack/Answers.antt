@@ -2,7 +2,7 @@ use Rattle.std.proofs.Common.{◌≡◌, ◌<◌, ◌≤◌, length, ◌∙◌, 
 use Rattle.kl1_model.specs.Text.{is_text}
 use Rattle.kl1_text.specs.Words.{bytes_of}
 use Rattle.kl1_text.proofs.Words.{bytes_of_none, bytes_of_step, ended_hold, name_length}
-use Rattle.kl1_text.proofs.atom_text.AtomText.unpacked.Goals as goal
+use Rattle.kl1_text.proofs.atom_text.AtomText.unpack.Goals as goal
 
 pub loop-word-preserved : goal.loop-word-preserved
 loop-word-preserved c =
