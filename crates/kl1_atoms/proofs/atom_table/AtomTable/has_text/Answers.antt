@@ -29,21 +29,21 @@ pub returns-then-read-words-clause-is : goal.returns-then-read-words-clause-is
 returns-then-read-words-clause-is c = λ h is e name. (
   (λ yes. absurd (false≢true yes)),
   (λ same.
-  let w = c.loop-word.word in
-  let ws = c.words-words.result.now in
-  let count = as_many ws c.args.text.now c.words-words.ensures.value in
-  let within : w < word_count c.args.text.now = omega arith in
-  let read = seen_word c.args.seat.now.me c.loop-word.seat.me c.args.text.now h c.args.self.now.accounts c.args.entry w c.read.result c.loop-word.invariant.same c.requires.accounts c.read.ensures.tells is e
-  c.words-words.ensures.name name (c.loop-word.invariant.words h is e name) within in
-  let agrees : c.read.result ≡ slice_index ws w = read ∙ ap (λ t. word_at t w) same ∙ sym (text_word ws c.args.text.now w c.words-words.ensures.value (omega arith)) in
-  absurd (omega arith)),
+      let w = c.loop-word.word in
+      let ws = c.words-words.result.now in
+      let count = as_many ws c.args.text.now c.words-words.ensures.value in
+      let within : w < word_count c.args.text.now = omega arith in
+      let read = seen_word c.args.seat.now.me c.loop-word.seat.me c.args.text.now h c.args.self.now.accounts c.args.entry w c.read.result c.loop-word.invariant.same c.requires.accounts c.read.ensures.tells is e
+      c.words-words.ensures.name name (c.loop-word.invariant.words h is e name) within in
+      let agrees : c.read.result ≡ slice_index ws w = read ∙ ap (λ t. word_at t w) same ∙ sym (text_word ws c.args.text.now w c.words-words.ensures.value (omega arith)) in
+      absurd (omega arith)),
 )
 
 -- all words up to the one in which the text ends agree
 pub returns-clause-is : goal.returns-clause-is
 returns-clause-is c = λ h is e name. (
   (λ _.
-  let count = as_many c.words-words.result.now c.args.text.now c.words-words.ensures.value in
-  same_to_end c.args.text.now h.text c.words-words.ensures.name name (λ k small. c.loop-word.invariant.words h is e name k (omega arith))),
+      let count = as_many c.words-words.result.now c.args.text.now c.words-words.ensures.value in
+      same_to_end c.args.text.now h.text c.words-words.ensures.name name (λ k small. c.loop-word.invariant.words h is e name k (omega arith))),
   (λ _. refl),
 )
