@@ -1,6 +1,6 @@
 // The journal of an account.
 
-ghost use Rattle.std.specs.Prelude.{◌≡◌, ◌<◌, ◌≤◌, ◌==◌, [], length, IfOk, OnOk, IfSome};
+ghost use Rattle.std.specs.Prelude.{◌≡◌, ◌<◌, ◌≤◌, [], IfOk, OnOk, IfSome};
 ghost use Rattle.kl1_model.specs.Limits.{most_sessions};
 ghost use Rattle.kl1_history.specs.Journal.{new_journal};
 ghost use Rattle.kl1_history.specs.TextLaws.{AreNames, IsWritten};
@@ -112,20 +112,6 @@ impl Journal {
         ensures { result ≡ self.now.journal.sessions }
     {
         self.sessions
-    }
-
-    /// How many entries there are.
-    pub fn len(&self) -> u64
-        ensures { result ≡ length self.now.journal.entries }
-    {
-        self.slots.len() as u64
-    }
-
-    /// Whether there are no entries.
-    pub fn is_empty(&self) -> bool
-        ensures { result ≡ (length self.now.journal.entries == 0) }
-    {
-        self.slots.is_empty()
     }
 
     /// Tells a caller's proof that each journal has a text that reads back: at most 4 sessions are open, its names are at most 1,024

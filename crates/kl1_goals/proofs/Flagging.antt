@@ -1,7 +1,6 @@
 -- Goals by flags of their shoens.
-use Rattle.std.proofs.Common.{◌≡◌, ℕ, zero, suc, ◌+◌, ◌-◌, ◌<◌, ◌≤◌, ◌==◌, ◌&&◌, ◌||◌, not, Bool, true, false, cond, List, [], ◌∷◌, ◌++◌, Option, Some, None, option_map, length, get_or, set, take, map, refl, sym, ◌∙◌, ap, subst, arith, add-one}
-use Rattle.std.specs.List.{filter, find, count_by}
-use Rattle.std.specs.Option.{option_to_list}
+use Rattle.std.proofs.Common.{◌≡◌, ℕ, zero, suc, ◌+◌, ◌-◌, ◌<◌, ◌≤◌, ◌==◌, ◌&&◌, ◌||◌, not, Bool, true, false, cond, List, [], ◌∷◌, ◌++◌, Option, length, get_or, set, take, map, refl, sym, ◌∙◌, ap, subst, arith, add-one}
+use Rattle.std.specs.List.{filter, count_by}
 use Rattle.std.proofs.Math.Bool.{beq}
 use Rattle.std.proofs.lemmas.Bool.{false≢true, eqb-true}
 use Rattle.std.proofs.lemmas.List.{take_all, length-map, length-append, map-set}
@@ -82,21 +81,6 @@ alive_left flags gs count gone h e =
     let both = length_both is_alive (is_flagged flags) gs in
     let these = e ∙ sym (length-filter (is_counted_by flags) gs) in
     (omega (arith, h, both, these), omega (arith, h, both, these))
-
--- the monitor of a shoen
-monitor_on : {N : Type 0} (b : Bool) (g : Goal N) (fs : List (Goal N)) (o : Option (Goal N)) (t : Option ℕ) → map number_of (cond b (g ∷ fs) fs) ≡ option_to_list t →
-    (map number_of fs ≡ option_to_list t → t ≡ option_map number_of o) → t ≡ option_map number_of (cond b (Some g) o)
-monitor_on false g fs o t e h = h e
-monitor_on true g fs o None e h = absurd (omega (arith, ap length e))
-monitor_on true g fs o (Some n) e h = let k : g.number ≡ n = cc in ap Some (sym k)
-
-none_listed : (t : Option ℕ) → [] ≡ option_to_list t → t ≡ None
-none_listed None e = refl
-none_listed (Some n) e = absurd (omega (arith, ap length e))
-
-pub monitor_found : {N : Type 0} (p : Goal N → Bool) (gs : List (Goal N)) (t : Option ℕ) → map number_of (filter p gs) ≡ option_to_list t → t ≡ option_map number_of (find p gs)
-monitor_found p [] t e = none_listed t e
-monitor_found p (g ∷ gs) t e = monitor_on (p g) g (filter p gs) (find p gs) t e (monitor_found p gs t)
 
 -- what is kept of shoens, as goals are let step or not
 numbers_enabled : {N : Type 0} (flags : List Bool) (gs : List (Goal N)) → map number_of (map (enabled_by flags) gs) ≡ map number_of gs

@@ -2,17 +2,17 @@
 
 ghost use Rattle.std.specs.Prelude.{◌≡◌, ◌+◌, ◌<◌, ◌≤◌, ◌&&◌, ℕ, not, List, [], ◌∷◌, ◌++◌, None, map, option_map, IfSome, OnOk};
 ghost use Rattle.std.specs.List.{filter, find, list_any, count_by};
-ghost use Rattle.kl1_goals.specs.Lists.{number_of, has_number, is_other, is_after, is_monitor, is_monitor_of, is_goal_of, is_flagged, stood_by, enabled_by};
+ghost use Rattle.kl1_goals.specs.Lists.{has_number, is_other, is_after, is_monitor, is_monitor_of, is_goal_of, is_flagged, stood_by, enabled_by};
 ghost use Rattle.kl1_goals.specs.Readies.{first_from, chosen, stands};
 ghost use Rattle.kl1_goals.specs.Tables.{Tabled, IsNext, IsKnown, AreInOrder, AreSingle};
 
 use crate::flags::{count_flagged, drop_flagged, enable_all};
 use crate::goal::Goal;
 use crate::places::{append, bury, count_upto, first_held, held_place, make_end, stand, tidy};
+use crate::room::make_room;
 use crate::slot::Slot;
 use crate::tally::{Tally, clear, lower, lower_alive, raise, raise_alive, tally_of};
 use kl1_queue::ReadyQueue;
-use kl1_room::make_room;
 use kl1_text::NameValue;
 use std::alloc::{AllocError, Global};
 use std::marker::Model;
@@ -275,20 +275,6 @@ impl<N: NameValue> GoalTable<N> {
         ensures { result ≡ count_by (λ g. not (is_monitor g) && is_flagged flags.now g) self.now.goals }
     {
         count_flagged(&self.slots, flags)
-    }
-
-    /// The number of a shoen's monitor, if it has one.
-    pub fn monitor_of(&self, shoen: u64) -> Option<u64>
-        ensures { result ≡ option_map number_of (find (is_monitor_of shoen) self.now.goals) }
-    {
-        tally_of(&self.tallies, shoen).monitor
-    }
-
-    /// Whether a shoen has a goal other than its monitor.
-    pub fn has_goal(&self, shoen: u64) -> bool
-        ensures { result ≡ list_any (is_goal_of shoen) self.now.goals }
-    {
-        tally_of(&self.tallies, shoen).goals > 0
     }
 
     /// Whether a shoen has a goal other than its monitor and goal `number`.

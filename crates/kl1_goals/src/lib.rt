@@ -5,10 +5,12 @@ mod flags;
 mod goal;
 mod goal_table;
 mod places;
+mod room;
 mod slot;
 mod tally;
 mod task;
 
 pub use goal::Goal;
 pub use goal_table::GoalTable;
+pub use room::make_room;
 pub use task::Task;

@@ -2,7 +2,7 @@
 
 use crate::answer::put_atom;
 use kl1_rows::{Text, cut, small_number_of};
-use kl1_text::{AtomNo, AtomText, NameValue, built_in_at, built_ins_differ, put_name};
+use kl1_text::{AtomNo, AtomText, NameValue, built_in_at, put_name};
 
 /// Puts a name as an atom, as the name of a structure, its length, and its bytes twice, with bars between them; `none` if
 /// the bytes are no name.
@@ -28,8 +28,6 @@ pub fn put_forms(answer: &mut Text, bytes: &[u8]) {
 
 /// Puts the number of the built-in name of these bytes, or `none`.
 pub fn put_place(answer: &mut Text, bytes: &[u8]) {
-    // It does nothing: its contract is a law of the built-in names.
-    built_ins_differ();
     let Some(name) = AtomText::read(bytes) else {
         answer.fail();
         return;

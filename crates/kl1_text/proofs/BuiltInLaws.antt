@@ -1,12 +1,11 @@
--- Built-in names differ in place and in text.
-use Rattle.std.proofs.Common.{◌≡◌, ℕ, ◌<◌, ◌==◌, Bool, true, false, List, [], ◌∷◌, Option, Some, None, find, slice_get, bytes_eq, lit<, refl, sym, ap, ◌∙◌, inl, inr, IsTrue}
+-- Built-in names are names, and are found by their places and by their texts.
+use Rattle.std.proofs.Common.{◌≡◌, ℕ, ◌<◌, ◌==◌, Bool, true, false, List, [], ◌∷◌, Option, Some, None, find, slice_get, bytes_eq, lit<, refl, inl, inr, IsTrue}
 use Rattle.std.proofs.lemmas.Bool.{cases_Bool, eqb-true, agree_below_at}
 use Rattle.std.proofs.lemmas.Option.{slice_get_within}
 use Rattle.std.proofs.lemmas.Slice.Eq.{bytes_eq-Decides}
 use Rattle.kl1_model.specs.declared.built_in.BuiltIn.{BuiltIn}
 use Rattle.kl1_model.specs.declared.built_in.BuiltIn.TheVariants.{EmptyList, ListCell, Colon, Equal, NotEqual, Assign, Less, Greater, AtMost, AtLeast, SameNumber, OtherNumber, Plus, Minus, Times, Divide, Modulo, True, Otherwise, Wait, Integer, Atom, ListTest, AtomFrom, Shoen, Execute, Module, Priority, Started, Stopped, Resumed, Exhausted, Exception, Terminated, Aborted, Failure, Overflow, IllegalInput, Exhaustion, Stop, Start, Abort, Allow}
 use Rattle.kl1_model.specs.Text.{text_of, is_text, built_ins}
-use Rattle.kl1_text.specs.Laws.{IsKnown, Differ, Found, TextsRead}
 use Rattle.kl1_text.specs.BuiltIns.{place_of, built_in_at, built_in_of}
 
 -- the name at a name's place is that name
@@ -221,18 +220,3 @@ place_found n b e =
     let within : n < 43 = slice_get_within built_ins n b e in
     let all : in_place (slice_get built_ins n) n ≡ true = agree_below_at (λ k. in_place (slice_get built_ins k) k) (λ _. true) 43 n refl within in
     eqb-true (place_of b) n (rw e at all)
-
-pub known : (b : BuiltIn) → IsKnown b
-known b = record { name = built_ins_are_texts b; by_text = of_text b; by_place = at_place b; below = place-below b }
-
-pub differ : Differ
-differ = record {
-  texts = λ b c e. some_is b c (sym (of_text b) ∙ ap built_in_of e ∙ of_text c);
-  places = λ b c e. some_is b c (sym (at_place b) ∙ ap built_in_at e ∙ at_place c);
-}
-
-pub found : Found
-found = record { texts = text_found; places = place_found }
-
-pub texts_read : TextsRead
-texts_read = record { once = λ a b e. e; texts = λ b. refl }

@@ -1,4 +1,3 @@
 pub mod BuiltIns
-pub mod Laws
 pub mod Reading
 pub mod Words

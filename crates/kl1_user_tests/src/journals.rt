@@ -4,15 +4,15 @@ use kl1_entries::Journal;
 use kl1_rows::{Text, is_counted};
 use std::alloc::Global;
 
-/// How many entries of a journal come one after another.
-fn count_of(journal: &Journal) -> u64 {
+/// How many entries of the journal of a text come one after another: no more than the text has bytes.
+fn count_of(journal: &Journal, text: &[u8]) -> u64 {
     let mut entries = journal.entries();
-    for place in 0..journal.len() {
+    for place in 0..text.len() {
         if entries.next().is_none() {
-            return place;
+            return place as u64;
         }
     }
-    journal.len()
+    text.len() as u64
 }
 
 /// Whether a text is a journal's whose own lines are the text, and which has this number of entries, or `none`; nothing if memory is
@@ -30,7 +30,7 @@ fn is_read(alloc: Global, text: &[u8], wanted: &[u8]) -> Option<bool> {
     if told.has_failed {
         return None;
     }
-    Some(told.bytes.as_slice() == text && is_counted(wanted, b"", count_of(&journal)))
+    Some(told.bytes.as_slice() == text && is_counted(wanted, b"", count_of(&journal, text)))
 }
 
 /// Whether a text is a journal's whose own lines are the text, and which has this number of entries, or `none`; at the second try if

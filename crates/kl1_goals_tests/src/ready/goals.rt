@@ -155,12 +155,12 @@ pub fn the_greatest_priority_then_the_least_number(alloc: Global) -> Result<bool
     Ok(none & one & greater & lesser & monitor & back & next & last & is_quiet(&table))
 }
 
-/// Whether shoens have goals, as long as there is one that isn't a monitor.
+/// Whether shoens have goals beside one, as long as there is one that isn't a monitor.
 fn have_goals(table: &GoalTable<AtomNo>) -> bool {
-    let two = table.has_goal(1) & table.has_goal_beside(1, 2) & table.has_goal_beside(1, 1);
-    let one = table.has_goal(2) & !table.has_goal_beside(2, 7) & table.has_goal_beside(2, 5);
+    let two = table.has_goal_beside(1, 2) & table.has_goal_beside(1, 1);
+    let one = !table.has_goal_beside(2, 7) & table.has_goal_beside(2, 5);
     let other = table.has_goal_beside(2, 2) & table.has_goal_beside(2, 9);
-    let none = !table.has_goal(0) & !table.has_goal(3) & !table.has_goal(4);
+    let none = !table.has_goal_beside(0, 2) & !table.has_goal_beside(4, 2);
     two & one & other & none & !table.has_goal_beside(3, 7)
 }
 
@@ -169,12 +169,12 @@ pub fn ends_of_shoens_are_seen(alloc: Global) -> Result<bool, AllocError> {
     let mut table = filled(alloc)?;
     let before = have_goals(&table);
     table.remove(4);
-    let one = table.has_goal(1) & !table.has_goal_beside(1, 2) & table.has_goal_beside(1, 1);
+    let one = !table.has_goal_beside(1, 2) & table.has_goal_beside(1, 1);
     table.remove(2);
-    let none = !table.has_goal(1) & !table.has_goal_beside(1, 7);
+    let none = !table.has_goal_beside(1, 7);
     let monitor = is_monitor(table.get(1), 1, 1);
     table.remove_monitor(1);
-    let removed = table.get(1).is_none() & table.has_goal(2);
+    let removed = table.get(1).is_none() & table.has_goal_beside(2, 5);
     Ok(before & one & none & monitor & removed)
 }
 
@@ -198,22 +198,12 @@ pub fn goals_wait_for_flags(alloc: Global) -> Result<bool, AllocError> {
     Ok(all & one & monitor & none & held & back)
 }
 
-/// Whether a number was found, and is this one.
-fn is_number(found: Option<u64>, number: u64) -> bool {
-    match found {
-        None => false,
-        Some(value) => value == number,
-    }
-}
-
 /// Whether goals of shoens whose flags are set are counted without monitors, and removed with them.
 pub fn goals_of_flags_are_removed(alloc: Global) -> Result<bool, AllocError> {
     let mut table = filled(alloc)?;
     let two = table.count_below(&[true, false, true]) == 2;
     let one = table.count_below(&[false, true]) == 1;
     let counts = (table.alive() == 3) & two & one & (table.count_below(&[]) == 0);
-    let monitors = is_number(table.monitor_of(1), 1) & is_number(table.monitor_of(2), 5);
-    let no_monitor = table.monitor_of(0).is_none() & table.monitor_of(3).is_none();
     table.set_standing(4, Some(2));
     table.set_standing(7, Some(1));
     table.remove_below(&[true, false, true]);
@@ -221,8 +211,8 @@ pub fn goals_of_flags_are_removed(alloc: Global) -> Result<bool, AllocError> {
         & is_goal(table.after(5), 7, 2, 30, 70)
         & table.after(7).is_none();
     let first = is_first(&table, 7, 1);
-    let known = (table.shoens() == 3) & (table.alive() == 1) & table.monitor_of(1).is_none();
+    let known = (table.shoens() == 3) & (table.alive() == 1);
     table.remove_below(&[false, true]);
     let none = table.after(0).is_none() & (table.alive() == 0) & is_quiet(&table);
-    Ok(counts & monitors & no_monitor & left & first & known & none)
+    Ok(counts & left & first & known & none)
 }

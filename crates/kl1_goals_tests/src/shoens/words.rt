@@ -41,8 +41,6 @@ pub enum Word {
     Shoen,
     /// what it was charged,
     Charged,
-    /// whether it was charged just what it may be,
-    Reached,
     /// whether its goals are enabled,
     Enabled,
     /// whether it has a living child,
@@ -53,8 +51,6 @@ pub enum Word {
     Depth,
     /// its parent,
     Parent,
-    /// whether it is on the path of another,
-    On,
     /// for each shoen whether its goals are enabled,
     Flags,
     /// and for each shoen whether it is below one.
@@ -62,7 +58,7 @@ pub enum Word {
 }
 
 /// The words by their names.
-const WORDS: [(&[u8], Word); 26] = [
+const WORDS: [(&[u8], Word); 24] = [
     (b"open", Word::Open),
     (b"charge", Word::Charge),
     (b"begin", Word::Begin),
@@ -80,13 +76,11 @@ const WORDS: [(&[u8], Word); 26] = [
     (b"len", Word::Len),
     (b"shoen", Word::Shoen),
     (b"charged", Word::Charged),
-    (b"reached", Word::Reached),
     (b"enabled", Word::Enabled),
     (b"child", Word::Child),
     (b"lives", Word::Lives),
     (b"depth", Word::Depth),
     (b"parent", Word::Parent),
-    (b"on", Word::On),
     (b"flags", Word::Flags),
     (b"below", Word::Below),
 ];

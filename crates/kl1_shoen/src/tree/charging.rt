@@ -39,16 +39,6 @@ impl<N: NameValue> ShoenTree<N> {
         0
     }
 
-    /// Whether shoen `number` was charged just what it may be.
-    pub fn has_reached(&self, number: u64) -> bool
-        ensures { result ≡ has_reached_in self.now.shoens self.now.work number }
-    {
-        let Some(shoen) = self.lend(number) else {
-            return false;
-        };
-        shoen.allowance == self.charged(number)
-    }
-
     /// The step of a path at shoen `number`, with whether the shoen was charged just what it may be.
     pub fn reached_step(&self, number: u64) -> Step
         requires { 0 < number }

@@ -2,10 +2,10 @@
 
 ghost use Rattle.std.specs.Prelude.{◌≡◌, length, map, OnOk};
 ghost use Rattle.std.specs.List.{list_any};
-ghost use Rattle.kl1_shoen.specs.Shoens.{path_in, is_on_path_in, is_living_child_of, AreNumbered, AreLower};
+ghost use Rattle.kl1_shoen.specs.Shoens.{path_in, is_on_path_in, is_living_child_of};
 
 use crate::tree::ShoenTree;
-use kl1_ancestors::{Shoen, parent_of, tell_below};
+use kl1_ancestors::tell_below;
 use kl1_text::NameValue;
 use std::alloc::AllocError;
 
@@ -26,15 +26,6 @@ impl<N: NameValue> ShoenTree<N> {
         }
     }
 
-    /// Whether a shoen is on the path of another: it is that one, or one of its ancestors.
-    pub fn is_on_path(&self, ancestor: u64, number: u64) -> bool
-        ensures { result ≡ is_on_path_in self.now.shoens ancestor number }
-    {
-        // Only for the proof: parents have lower numbers.
-        let _lower = self.len();
-        is_on_path_of(self.shoens.items(), ancestor, number)
-    }
-
     /// Whether a shoen has a child that lives, in constant time.
     pub fn has_living_child(&self, number: u64) -> bool
         ensures { result ≡ list_any (is_living_child_of number) self.now.shoens }
@@ -49,24 +40,5 @@ impl<N: NameValue> ShoenTree<N> {
         // Only for the proof: parents have lower numbers.
         let _lower = self.len();
         tell_below(self.shoens.items(), number, out)
-    }
-}
-
-/// Whether a shoen is on the path of another, as `is_on_path`.
-fn is_on_path_of<N: NameValue>(shoens: &[Shoen<N>], ancestor: u64, number: u64) -> bool
-    requires numbered { AreNumbered 0 shoens.now }
-    requires lower { AreLower shoens.now }
-    ensures { result ≡ is_on_path_in shoens.now ancestor number }
-{
-    let mut at = number;
-    'path: loop {
-        let up = parent_of(shoens, at);
-        if at == 0 {
-            return false;
-        }
-        if at == ancestor {
-            return true;
-        }
-        at = up;
     }
 }
