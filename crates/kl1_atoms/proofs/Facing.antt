@@ -3,7 +3,7 @@ use Rattle.std.proofs.Common.{◌≡◌, ◌≢◌, ℕ, zero, suc, ◌+◌, ◌
 use Rattle.std.specs.List.{IsDistinct, AllByRecursion, list_any}
 use Rattle.std.proofs.lemmas.Bool.{cases_order, ne_eqb, eqb-true, or_cases}
 use Rattle.std.proofs.lemmas.Map.Steps.{length-le_from_distinct_below}
-use Rattle.kl1_model.specs.Limits.{buckets_each, first_number, most_names}
+use Rattle.kl1_model.specs.declared.limits.TheConstants.{BUCKETS_EACH, FIRST_NUMBER, MOST_NAMES}
 use Rattle.kl1_text.specs.Words.{words_of, bytes_of}
 use Rattle.kl1_text.proofs.Words.{words_hold}
 use Rattle.kl1_model.specs.Text.{is_text}
@@ -88,7 +88,7 @@ is_table n ws sound = record {
       one_text_of n ws at.1 by.1 at.0 t u at.3 (subst (λ x. Stands n ws by.1 x u) (sym same) by.3);
   one_number = λ t l m at by.
       let same = no_text_twice n ws at.1 by.1 at.0 by.0 t sound at.3 by.3 in
-      at.2 ∙ ap (λ x. first_number + x) (one_entry_of n ws by.1 at.0 by.0 t t (subst (λ x. Stands n ws x at.0 t) same at.3) by.3) ∙ sym by.2;
+      at.2 ∙ ap (λ x. FIRST_NUMBER + x) (one_entry_of n ws by.1 at.0 by.0 t t (subst (λ x. Stands n ws x at.0 t) same at.3) by.3) ∙ sym by.2;
 }
 
 -- what an account knows is one to one
@@ -97,7 +97,7 @@ knows_names n ws f sound fits = record {
   names = are_names (At n ws) f.knows (is_table n ws sound) fits.known;
   entries = λ t m e.
       let a = fits.known.by_number t m e in
-      ((let q = a.2 in omega arith), subst (λ k. m < first_number + most_names * k) (sym fits.accounts) (let q = a.2 in let r = a.3.entry in omega arith));
+      ((let q = a.2 in omega arith), subst (λ k. m < FIRST_NUMBER + MOST_NAMES * k) (sym fits.accounts) (let q = a.2 in let r = a.3.entry in omega arith));
 }
 
 -- a sighting is so
@@ -188,14 +188,14 @@ at_most : (e : ℕ → ℕ) (m d : ℕ) → ((c : ℕ) → c < d → e c < m) �
 at_most e m d below differ = subst (λ l. l ≤ m) (length-values e d) (length-le_from_distinct_below (values e d) m (values_distinct e d differ) (values_below e m d below))
 
 -- no more buckets of a way point to other texts than there are entries
-pub few_others : (n : ℕ) (ws : List ℕ) (t : List ℕ) (d : ℕ) → Sound n ws → d ≤ buckets_each * n → Others n ws t d → d ≤ most_names * n
+pub few_others : (n : ℕ) (ws : List ℕ) (t : List ℕ) (d : ℕ) → Sound n ws → d ≤ BUCKETS_EACH * n → Others n ws t d → d ≤ MOST_NAMES * n
 few_others n ws t d sound within others =
-    at_most (λ c. slice_index ws (further n t c) - 1) (most_names * n) d
+    at_most (λ c. slice_index ws (further n t c) - 1) (MOST_NAMES * n) d
     (λ c h. let o = others c h in let p : slice_index ws (further n t c) ≡ suc o.0 = o.2.points in let q = o.2.entry in omega arith)
     (λ b c before h e.
     let o = others b (omega arith) in
     let p = others c h in
     let same : o.0 ≡ p.0 = (let x : slice_index ws (further n t b) ≡ suc o.0 = o.2.points in let y : slice_index ws (further n t c) ≡ suc p.0 = p.2.points in omega arith) in
     let place = sound.once (further n t b) (further n t c) o.0 o.2.bucket p.2.bucket o.2.points (p.2.points ∙ ap suc (sym same)) in
-    let turn : start n t + b ≡ start n t + c = one_turn (start n t + b) (start n t + c) (buckets_each * n) (omega arith) (omega arith) place in
+    let turn : start n t + b ≡ start n t + c = one_turn (start n t + b) (start n t + c) (BUCKETS_EACH * n) (omega arith) (omega arith) place in
     absurd (omega arith))

@@ -6,7 +6,7 @@ use Rattle.std.proofs.Math.ListN.{length-append}
 use mathlib.Core.Option.{some}
 use lib.ListN.{get_elem?}
 use Rattle.atomic_table.proofs.Lists.{at_set}
-use Rattle.kl1_model.specs.Limits.{buckets_each, most_names}
+use Rattle.kl1_model.specs.declared.limits.TheConstants.{BUCKETS_EACH, MOST_NAMES}
 use Rattle.kl1_atoms.specs.declared.face.Face.{Face}
 use Rattle.kl1_atoms.specs.declared.face.Heard.{Heard}
 use Rattle.kl1_atoms.specs.declared.face.View.{View}
@@ -16,8 +16,8 @@ use Rattle.kl1_atoms.specs.Rule.{word_place, Stands, At, Others, Reaches, Sound,
 
 -- words after others: buckets that point to an entry still do, and the entry's words are the same
 pub record Grows (n : ℕ) (ws vs : List ℕ) : Type 0 where
-  pub buckets : (i e : ℕ) → i < buckets_each * n → slice_index ws i ≡ suc e → slice_index vs i ≡ suc e
-  pub entries : (i e k : ℕ) → i < buckets_each * n → slice_index ws i ≡ suc e → k < 8 → slice_index vs (word_place n e k) ≡ slice_index ws (word_place n e k)
+  pub buckets : (i e : ℕ) → i < BUCKETS_EACH * n → slice_index ws i ≡ suc e → slice_index vs i ≡ suc e
+  pub entries : (i e k : ℕ) → i < BUCKETS_EACH * n → slice_index ws i ≡ suc e → k < 8 → slice_index vs (word_place n e k) ≡ slice_index ws (word_place n e k)
 
 pub stands_on : (n : ℕ) (ws vs : List ℕ) (i e : ℕ) (t : List ℕ) → Grows n ws vs → Stands n ws i e t → Stands n vs i e t
 stands_on n ws vs i e t grows st = record {
@@ -99,11 +99,11 @@ module _ (views : List View) (id : ℕ) (f f' : Face) (fs : List Face) (at : get
   }
 
 -- a word of an account's own unpublished entry is stored
-module _ (n : ℕ) (ws : List ℕ) (f : Face) (k v : ℕ) (sound : Sound n ws) (fits : Fits n ws f) (room : f.used < most_names) (within : k < 8) where
+module _ (n : ℕ) (ws : List ℕ) (f : Face) (k v : ℕ) (sound : Sound n ws) (fits : Fits n ws f) (room : f.used < MOST_NAMES) (within : k < 8) where
   stored : List ℕ
   stored = slice_set ws (word_place n (own_entry f) k) v
 
-  bucket_same : (i : ℕ) → i < buckets_each * n → slice_index (slice_set ws (word_place n (own_entry f) k) v) i ≡ slice_index ws i
+  bucket_same : (i : ℕ) → i < BUCKETS_EACH * n → slice_index (slice_set ws (word_place n (own_entry f) k) v) i ≡ slice_index ws i
   bucket_same i h = get_or-set_other ws (word_place n (own_entry f) k) i v 0 (λ e. omega arith)
 
   word_same : (e l : ℕ) → l < 8 → (e ≡ own_entry f → ⊥) → slice_index (slice_set ws (word_place n (own_entry f) k) v) (word_place n e l) ≡ slice_index ws (word_place n e l)

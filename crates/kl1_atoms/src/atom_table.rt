@@ -1,7 +1,7 @@
 // The table of names that threads share.
 
 ghost use Rattle.std.specs.Prelude.{◌≡◌, ℕ, suc, ◌+◌, ◌*◌, ◌<◌, ◌≤◌, List, [], IsTrue, length};
-ghost use Rattle.kl1_model.specs.Limits.{buckets_each, most_accounts, most_names};
+ghost use Rattle.kl1_model.specs.declared.limits.TheConstants.{BUCKETS_EACH, MOST_ACCOUNTS, MOST_NAMES};
 ghost use Rattle.kl1_atoms.specs.Rule.{words_each};
 ghost use Rattle.kl1_text.specs.Words.{words_of};
 ghost use Rattle.kl1_atoms.specs.declared.face.Heard.{Heard};
@@ -29,7 +29,7 @@ pub struct AtomTable {
     pub ghost key: { table.shared.key ≡ accounts },
     pub ghost size: { table.shared.table_id.words ≡ words_each * accounts },
     pub ghost some: { 0 < accounts },
-    pub ghost few: { accounts ≤ most_accounts },
+    pub ghost few: { accounts ≤ MOST_ACCOUNTS },
 }
 
 impl AtomTable {
@@ -37,7 +37,7 @@ impl AtomTable {
     pub(crate) fn look(&self, seat: &mut Seat<(), View>, bucket: u64) -> u64
         requires of { seat.old.table_id ≡ self.now.table.shared.table_id }
         requires first { IsTrue (has_first seat.old.me.0.faces) }
-        requires bucket { bucket < buckets_each * self.now.accounts }
+        requires bucket { bucket < BUCKETS_EACH * self.now.accounts }
         ensures of { seat.new.table_id ≡ seat.old.table_id }
         ensures tells { Steps seat.old.me seat.new.me (λ f g. Looks f g bucket result) }
         ensures meets { Meets (own seat.old.me.0) (others_of seat.old.me.0.faces) bucket result }
@@ -49,7 +49,7 @@ impl AtomTable {
     pub(crate) fn read(&self, seat: &mut Seat<(), View>, entry: u64, word: u64) -> u64
         requires of { seat.old.table_id ≡ self.now.table.shared.table_id }
         requires first { IsTrue (has_first seat.old.me.0.faces) }
-        requires entry { entry < most_names * self.now.accounts }
+        requires entry { entry < MOST_NAMES * self.now.accounts }
         requires word { word < 8 }
         ensures of { seat.new.table_id ≡ seat.old.table_id }
         ensures same { seat.new.me ≡ seat.old.me }
@@ -63,10 +63,10 @@ impl AtomTable {
     pub(crate) fn draft(&self, seat: &mut Seat<(), View>, entry: u64, word: u64, value: u64)
         requires of { seat.old.table_id ≡ self.now.table.shared.table_id }
         requires first { IsTrue (has_first seat.old.me.0.faces) }
-        requires room { (own seat.old.me.0).used < most_names }
+        requires room { (own seat.old.me.0).used < MOST_NAMES }
         requires next { word ≡ length (own seat.old.me.0).draft }
         requires entry { entry ≡ own_entry (own seat.old.me.0) }
-        requires bound { entry < most_names * self.now.accounts }
+        requires bound { entry < MOST_NAMES * self.now.accounts }
         requires word { word < 8 }
         requires accounts { (own seat.old.me.0).accounts ≡ self.now.accounts }
         ensures of { seat.new.table_id ≡ seat.old.table_id }
@@ -82,9 +82,9 @@ impl AtomTable {
     pub(crate) fn publish(&self, seat: &mut Seat<(), View>, bucket: u64, entry: u64) -> u64
         requires of { seat.old.table_id ≡ self.now.table.shared.table_id }
         requires first { IsTrue (has_first seat.old.me.0.faces) }
-        requires bucket { bucket < buckets_each * self.now.accounts }
+        requires bucket { bucket < BUCKETS_EACH * self.now.accounts }
         requires entry { entry ≡ own_entry (own seat.old.me.0) }
-        requires bound { entry < most_names * self.now.accounts }
+        requires bound { entry < MOST_NAMES * self.now.accounts }
         requires ready { (t : List ℕ) × (d : ℕ) × IsReady (own seat.old.me.0) t d bucket }
         ensures of { seat.new.table_id ≡ seat.old.table_id }
         ensures tells { Steps seat.old.me seat.new.me (λ f g. Publishes f g bucket result) }
@@ -98,7 +98,7 @@ impl AtomTable {
     pub(crate) fn learn(&self, seat: &mut Seat<(), View>, bucket: u64)
         requires of { seat.old.table_id ≡ self.now.table.shared.table_id }
         requires first { IsTrue (has_first seat.old.me.0.faces) }
-        requires bucket { bucket < buckets_each * self.now.accounts }
+        requires bucket { bucket < BUCKETS_EACH * self.now.accounts }
         requires seen { (h : Heard) × In (own seat.old.me.0).heard h × (h.bucket ≡ bucket) }
         ensures of { seat.new.table_id ≡ seat.old.table_id }
         ensures tells { Steps seat.old.me seat.new.me (λ f g. Learns f g bucket) }

@@ -9,7 +9,8 @@ use Rattle.kl1_model.specs.Match.{call_of}
 use Rattle.kl1_model.specs.Arithmetic.{evaluated}
 use Rattle.kl1_model.specs.Goal.{is_execute}
 use Rattle.kl1_model.specs.Look as model_look
-use Rattle.kl1_model.specs.Look.{spelling, most_spelled, arguments_look}
+use Rattle.kl1_model.specs.Look.{spelling, arguments_look}
+use Rattle.kl1_model.specs.declared.limits.TheConstants.{MOST_SPELLED}
 use Rattle.kl1_model.specs.Reduction.{Move, unifies, goes, assigned, spells, ordered, execute_arguments, order_move, execute_move, built_in_move}
 use Rattle.kl1_model.specs.code.Waits.{awaited_in_call, awaited_at_head, awaited_by_evaluated, awaited_by_spelling, awaited_by_look, awaited_by_order, awaited_by_execute, awaited_by_built_in}
 use Rattle.kl1_store.specs.declared.cell.Cell.{Cell}
@@ -58,7 +59,7 @@ by_module f a b = if bytes_eq f (codes ":") then execute_move a b else None
 
 -- and one that is neither `=` nor `:=`
 abbrev by_spelling : List ℕ → Term → Term → Option Move
-by_spelling f a b = if bytes_eq f (codes "atom_from") then spells b (spelling most_spelled a) else by_module f a b
+by_spelling f a b = if bytes_eq f (codes "atom_from") then spells b (spelling MOST_SPELLED a) else by_module f a b
 
 -- and one that isn't `=`
 abbrev by_assignment : List ℕ → Term → Term → Option Move
@@ -71,7 +72,7 @@ no_assignment : (f : List ℕ) (a b : Term) → bytes_eq f (codes "=") ≡ false
 no_assignment f a b e n = no_unification f a b e ∙ cond-false (bytes_eq f (codes ":=")) (assigned a (evaluated b)) (by_spelling f a b) n
 
 no_spelling : (f : List ℕ) (a b : Term) → bytes_eq f (codes "=") ≡ false → bytes_eq f (codes ":=") ≡ false → bytes_eq f (codes "atom_from") ≡ false → built_in_move (structure f (more a (more b none))) ≡ by_module f a b
-no_spelling f a b e n s = no_assignment f a b e n ∙ cond-false (bytes_eq f (codes "atom_from")) (spells b (spelling most_spelled a)) (by_module f a b) s
+no_spelling f a b e n s = no_assignment f a b e n ∙ cond-false (bytes_eq f (codes "atom_from")) (spells b (spelling MOST_SPELLED a)) (by_module f a b) s
 
 -- what a name waits for of two terms that is neither `:=` nor `atom_from`
 abbrev waits_by_module : List ℕ → Term → Term → List ℕ
@@ -79,13 +80,13 @@ waits_by_module f a b = if bytes_eq f (codes ":") then awaited_by_execute a b el
 
 -- and one that isn't `:=`
 abbrev waits_by_spelling : List ℕ → Term → Term → List ℕ
-waits_by_spelling f a b = if bytes_eq f (codes "atom_from") then awaited_by_spelling (spelling most_spelled a) else waits_by_module f a b
+waits_by_spelling f a b = if bytes_eq f (codes "atom_from") then awaited_by_spelling (spelling MOST_SPELLED a) else waits_by_module f a b
 
 no_expression : (f : List ℕ) (a b : Term) → bytes_eq f (codes ":=") ≡ false → awaited_by_built_in (structure f (more a (more b none))) ≡ waits_by_spelling f a b
 no_expression f a b n = cond-false (bytes_eq f (codes ":=")) (awaited_by_evaluated (evaluated b)) (waits_by_spelling f a b) n
 
 no_codes : (f : List ℕ) (a b : Term) → bytes_eq f (codes ":=") ≡ false → bytes_eq f (codes "atom_from") ≡ false → awaited_by_built_in (structure f (more a (more b none))) ≡ waits_by_module f a b
-no_codes f a b n s = no_expression f a b n ∙ cond-false (bytes_eq f (codes "atom_from")) (awaited_by_spelling (spelling most_spelled a)) (waits_by_module f a b) s
+no_codes f a b n s = no_expression f a b n ∙ cond-false (bytes_eq f (codes "atom_from")) (awaited_by_spelling (spelling MOST_SPELLED a)) (waits_by_module f a b) s
 
 waits_for_none : (f : List ℕ) (a b : Term) → bytes_eq f (codes ":") ≡ false → bytes_eq f (codes ":=") ≡ false → bytes_eq f (codes "atom_from") ≡ false → awaited_by_built_in (structure f (more a (more b none))) ≡ []
 waits_for_none f a b e n s = no_codes f a b n s ∙ cond-false (bytes_eq f (codes ":")) (awaited_by_execute a b) [] e
@@ -114,9 +115,9 @@ pub is_spelling : {N : Type 0} (f : N → List ℕ) (h : Held N) (name : N) (lef
     IsSpelling f h (two_terms f h name left right) left right
 is_spelling f h name left right ne other n e = record {
   call = other_name (f name) (term_of f h left) (term_of f h right) ne;
-  built_in = no_assignment (f name) (term_of f h left) (term_of f h right) other n ∙ cond-true (bytes_eq (f name) (codes "atom_from")) (spells (term_of f h right) (spelling most_spelled (term_of f h left))) (by_module (f name) (term_of f h left) (term_of f h right)) e;
+  built_in = no_assignment (f name) (term_of f h left) (term_of f h right) other n ∙ cond-true (bytes_eq (f name) (codes "atom_from")) (spells (term_of f h right) (spelling MOST_SPELLED (term_of f h left))) (by_module (f name) (term_of f h left) (term_of f h right)) e;
   awaits = other_head (f name) (term_of f h left) (term_of f h right) ne;
-  waits_for = no_expression (f name) (term_of f h left) (term_of f h right) n ∙ cond-true (bytes_eq (f name) (codes "atom_from")) (awaited_by_spelling (spelling most_spelled (term_of f h left))) (waits_by_module (f name) (term_of f h left) (term_of f h right)) e;
+  waits_for = no_expression (f name) (term_of f h left) (term_of f h right) n ∙ cond-true (bytes_eq (f name) (codes "atom_from")) (awaited_by_spelling (spelling MOST_SPELLED (term_of f h left))) (waits_by_module (f name) (term_of f h left) (term_of f h right)) e;
 }
 
 pub other_two : {N : Type 0} (f : N → List ℕ) (h : Held N) (name : N) (left right : Cell N) → bytes_eq (f name) (codes ":") ≡ false → bytes_eq (f name) (codes "=") ≡ false → bytes_eq (f name) (codes ":=") ≡ false → bytes_eq (f name) (codes "atom_from") ≡ false →

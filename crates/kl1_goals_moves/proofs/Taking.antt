@@ -12,7 +12,8 @@ use Rattle.kl1_model.specs.declared.number.Number.{Number}
 use Rattle.kl1_model.specs.declared.number.Number.TheVariants.{Value, Overflow, ZeroDivisor}
 use Rattle.kl1_model.specs.Text.{text_of}
 use Rattle.kl1_model.specs.Arithmetic.{evaluated}
-use Rattle.kl1_model.specs.Look.{spelling, most_spelled, arguments_look}
+use Rattle.kl1_model.specs.Look.{spelling, arguments_look}
+use Rattle.kl1_model.specs.declared.limits.TheConstants.{MOST_SPELLED}
 use Rattle.kl1_model.specs.Reduction as model_moves
 use Rattle.kl1_model.specs.Reduction.{raises, unifies, goes, illegal_input, built_in_move}
 use Rattle.kl1_model.specs.code.Waits.{move_by, awaited_by_term, awaited_by_call, awaited_by_clauses, awaited_at_head, awaited_by_evaluated, awaited_by_spelling, awaited_by_look, awaited_by_built_in}
@@ -137,6 +138,7 @@ fails_as f h modules t c n p places text (Some (move.Unifies a b)) e z r = absur
 fails_as f h modules t c n p places text (Some (move.Names a)) e z r = absurd r
 fails_as f h modules t c n p places text (Some (move.Opens o)) e z r = absurd r
 fails_as f h modules t c n p places text (Some move.Goes) e z r = absurd r
+fails_as f h modules t c n p places text (Some move.GivesWay) e z r = absurd r
 
 pub commits_as : {N : Type 0} (f : N → List ℕ) (h : Held N) (modules : List Module) (t : Term) (c : Call N) (n : ℕ) (p : Predicate N) (places : List (Place N)) (text : List ℕ) (found : Option (Move N)) → IsCall f h t c → 0 < n → CommitsAs f h c p (clauses_of modules (call_at f h c)) n places found → MovesAs f h modules t n p places text found
 commits_as f h modules t c n p places text None e lt r = commits_by modules t (call_at f h c) n None e.is lt r
@@ -146,6 +148,7 @@ commits_as f h modules t c n p places text (Some (move.Unifies a b)) e lt r = ab
 commits_as f h modules t c n p places text (Some (move.Names a)) e lt r = absurd r
 commits_as f h modules t c n p places text (Some (move.Opens o)) e lt r = absurd r
 commits_as f h modules t c n p places text (Some move.Goes) e lt r = absurd r
+commits_as f h modules t c n p places text (Some move.GivesWay) e lt r = absurd r
 
 -- what comes of a cell that becomes a number
 becomes_as : {N : Type 0} (f : N → List ℕ) (h : Held N) (modules : List Module) (t : Term) (n : ℕ) (p : Predicate N) (places : List (Place N)) (text : List ℕ) (a : Cell N) (x : Number) → move_by modules t n ≡ Some (model_moves.becomes (term_of f h a) x) → MovesAs f h modules t n p places text (Some (assigning.becomes a x))
@@ -165,8 +168,8 @@ assigned_as f h modules t n p places text a b x u z e = by x (by_zero modules t 
 
 -- what comes of a cell that becomes the name that codes spell
 pub named_as : {N : Type 0} (f : N → List ℕ) (h : Held N) (modules : List Module) (t : Term) (n : ℕ) (p : Predicate N) (places : List (Place N)) (text : List ℕ) (codes target : Cell N) (x : Spelling) → IsSpelling f h t codes target → n ≡ 0 →
-    spelling_of x text ≡ spelling most_spelled (term_of f h codes) → MovesAs f h modules t n p places text (naming target x)
-named_as f h modules t n p places text codes target x u z e = by x (by_zero modules t n (model_moves.spells (term_of f h target) (spelling most_spelled (term_of f h codes))) u.call u.built_in z ∙ ap (model_moves.spells (term_of f h target)) (sym e))
+    spelling_of x text ≡ spelling MOST_SPELLED (term_of f h codes) → MovesAs f h modules t n p places text (naming target x)
+named_as f h modules t n p places text codes target x u z e = by x (by_zero modules t n (model_moves.spells (term_of f h target) (spelling MOST_SPELLED (term_of f h codes))) u.call u.built_in z ∙ ap (model_moves.spells (term_of f h target)) (sym e))
   where
     by : (x : Spelling) → move_by modules t n ≡ model_moves.spells (term_of f h target) (spelling_of x text) → MovesAs f h modules t n p places text (naming target x)
     by spelled.Spelled m = m
@@ -265,10 +268,10 @@ waits_by_spelling spelled.Spelled = []
 waits_by_spelling (spelled.Waits v) = v ∷ []
 waits_by_spelling spelled.Misspelled = []
 
-pub spelling_stands : {N : Type 0} (f : N → List ℕ) (h : Held N) (modules : List Module) (t : Term) (codes target : Cell N) (x : Spelling) (text awaited : List ℕ) → IsSpelling f h t codes target → spelling_of x text ≡ spelling most_spelled (term_of f h codes) → awaited ≡ waits_by_spelling x →
+pub spelling_stands : {N : Type 0} (f : N → List ℕ) (h : Held N) (modules : List Module) (t : Term) (codes target : Cell N) (x : Spelling) (text awaited : List ℕ) → IsSpelling f h t codes target → spelling_of x text ≡ spelling MOST_SPELLED (term_of f h codes) → awaited ≡ waits_by_spelling x →
     StandsAs modules t awaited (clause_by_spelling x)
 spelling_stands f h modules t codes target x text awaited u e a =
-    by x (u.built_in ∙ ap (model_moves.spells (term_of f h target)) (sym e)) (awaited_parts modules t [] (awaited_by_spelling (spelling most_spelled (term_of f h codes))) None u.awaits u.call u.waits_for ∙ ap awaited_by_spelling (sym e)) a
+    by x (u.built_in ∙ ap (model_moves.spells (term_of f h target)) (sym e)) (awaited_parts modules t [] (awaited_by_spelling (spelling MOST_SPELLED (term_of f h codes))) None u.awaits u.call u.waits_for ∙ ap awaited_by_spelling (sym e)) a
   where
     by : (x : Spelling) → built_in_move t ≡ model_moves.spells (term_of f h target) (spelling_of x text) → awaited_by_term modules t ≡ awaited_by_spelling (spelling_of x text) → awaited ≡ waits_by_spelling x → StandsAs modules t awaited (clause_by_spelling x)
     by spelled.Spelled m w b = record { clause_is = sym (term_clause-built_in modules t (model_moves.names text (term_of f h target)) u.call m); awaits = same_by (awaited_by_term modules t) awaited (b ∙ sym w) }
@@ -325,7 +328,7 @@ goal_assigns_as {N = N} f h modules t k a b x n p places text found e z own valu
     subst Q (sym own) (assigned_as f h modules t n p places text a b x (subst P e is) z value)
 
 pub goal_names_as : {N : Type 0} (f : N → List ℕ) (h : Held N) (modules : List Module) (t : Term) (k : Kind N) (a b : Cell N) (x : Spelling) (n : ℕ) (p : Predicate N) (places : List (Place N)) (text : List ℕ) (found : Option (Move N)) → k ≡ kind.Spells a b → n ≡ 0 → found ≡ naming b x →
-    spelling_of x text ≡ spelling most_spelled (term_of f h a) → IsKind f h t k → MovesAs f h modules t n p places text found
+    spelling_of x text ≡ spelling MOST_SPELLED (term_of f h a) → IsKind f h t k → MovesAs f h modules t n p places text found
 goal_names_as {N = N} f h modules t k a b x n p places text found e z own value is =
     let P : Kind N → Type 0 = λ y. IsKind f h t y in
     let Q : Option (Move N) → Type 0 = λ o. MovesAs f h modules t n p places text o in

@@ -3,7 +3,8 @@ use Rattle.std.specs.Prelude.{◌≡◌, ℕ, ◌<◌, if◌then◌else◌, List
 use Rattle.kl1_model.specs.Term.{Term, count_of}
 use Rattle.kl1_model.specs.Match.{call_of}
 use Rattle.kl1_model.specs.Arithmetic.{evaluated}
-use Rattle.kl1_model.specs.Look.{spelling, most_spelled, arguments_look}
+use Rattle.kl1_model.specs.Look.{spelling, arguments_look}
+use Rattle.kl1_model.specs.declared.limits.TheConstants.{MOST_SPELLED}
 use Rattle.kl1_model.specs.Reduction.{unifies, goes, assigned, spells, ordered, built_in_move}
 use Rattle.kl1_model.specs.code.Waits.{awaited_at_head, awaited_by_evaluated, awaited_by_spelling, awaited_by_look, awaited_by_built_in}
 use Rattle.kl1_store.specs.declared.cell.Cell.{Cell}
@@ -44,9 +45,9 @@ pub record IsAssignment {N : Type 0} (f : N → List ℕ) (h : Held N) (t : Term
 -- a term makes of a cell the name that another spells
 pub record IsSpelling {N : Type 0} (f : N → List ℕ) (h : Held N) (t : Term) (codes target : Cell N) : Type 0 where
   pub call : call_of t ≡ None
-  pub built_in : built_in_move t ≡ spells (term_of f h target) (spelling most_spelled (term_of f h codes))
+  pub built_in : built_in_move t ≡ spells (term_of f h target) (spelling MOST_SPELLED (term_of f h codes))
   pub awaits : awaited_at_head t ≡ []
-  pub waits_for : awaited_by_built_in t ≡ awaited_by_spelling (spelling most_spelled (term_of f h codes))
+  pub waits_for : awaited_by_built_in t ≡ awaited_by_spelling (spelling MOST_SPELLED (term_of f h codes))
 
 -- a term is `shoen:execute` with the arguments of a structure, which are an order for a new shoen
 pub record IsExecution {N : Type 0} (f : N → List ℕ) (h : Held N) (t : Term) (s : ℕ) : Type 0 where

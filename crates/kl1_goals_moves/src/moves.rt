@@ -28,7 +28,7 @@ use std::alloc::AllocError;
 
 /// What a goal can do: commit to the clause at a place among those of its predicate, from 0; raise an exception of the kind of a
 /// name; unify two terms; use the text in the trial as a name and unify a term with it; open a shoen by the order that a structure
-/// of six arguments is; or nothing but go.
+/// of six arguments is; nothing but go; or, as a substitute, give way to a goal of what it waited for.
 #[derive(Clone, Copy)]
 pub enum Move<N> {
     Commits(usize),
@@ -37,6 +37,7 @@ pub enum Move<N> {
     Names(Cell<N>),
     Opens(u32),
     Goes,
+    GivesWay,
 }
 
 /// What a goal of a kind can do by the clause numbered `clause`, or nothing if that isn't allowed. If it commits, the cells at

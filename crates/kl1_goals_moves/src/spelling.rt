@@ -1,7 +1,8 @@
 // What lists of codes spell.
 
 ghost use Rattle.std.specs.Prelude.{◌≡◌, ℕ, List};
-ghost use Rattle.kl1_model.specs.Look.{spelling, most_spelled};
+ghost use Rattle.kl1_model.specs.Look.{spelling};
+ghost use Rattle.kl1_model.specs.declared.limits.TheConstants.{MOST_SPELLED};
 ghost use Rattle.kl1_text.specs.Reading.{Reads};
 ghost use Rattle.kl1_store.specs.Held.{IsIn};
 ghost use Rattle.kl1_store.specs.Meaning.{term_of};
@@ -25,7 +26,7 @@ pub enum Spelling {
 pub fn spell<N: NameValue>(store: &Store<N>, codes: Cell<N>, text: &mut ShortBytes) -> Spelling
     requires { IsIn store.now.held codes }
     ensures inside { SpellingIn store.now.held text.new result }
-    ensures spelling { (f : N → List ℕ) → Reads N.built f → spelling_of result text.new ≡ spelling most_spelled (term_of f store.now.held codes) }
+    ensures spelling { (f : N → List ℕ) → Reads N.built f → spelling_of result text.new ≡ spelling MOST_SPELLED (term_of f store.now.held codes) }
 {
     *text = ShortBytes::new();
     let mut rest = codes;

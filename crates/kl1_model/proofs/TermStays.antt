@@ -3,7 +3,8 @@ use Rattle.std.proofs.Common.{◌≡◌, ℕ, ◌==◌, Bool, true, false, if◌
 use Rattle.std.specs.Prelude.{not, ◌&&◌, codes, bytes_eq, Option, Some, None, option_map, is_some, find, filter}
 use Rattle.std.proofs.lemmas.Bool.{cond-false}
 use Rattle.kl1_model.specs.Goal.{is_called, is_execute}
-use Rattle.kl1_model.specs.Look.{Spelling, spelled, awaits_code, misspelled, spelling, most_spelled, Look, right, waits_on, wrong, ExecuteArguments, arguments_look}
+use Rattle.kl1_model.specs.Look.{Spelling, spelled, awaits_code, misspelled, spelling, Look, right, waits_on, wrong, ExecuteArguments, arguments_look}
+use Rattle.kl1_model.specs.declared.limits.TheConstants.{MOST_SPELLED}
 use Rattle.kl1_model.specs.Term.{Term, variable, integer, atom, structure, Terms, none, more, count_of, substituted, each_substituted, Replacement, replaced}
 use Rattle.kl1_model.specs.Module.{Module, is_of}
 use Rattle.kl1_model.specs.Match.{Call, call_of, module_of, clauses_in, clauses_of}
@@ -179,12 +180,12 @@ execute_awaited_stays s (atom m) (structure p (more a (more b (more c (more d (m
 execute_awaited_stays s (atom m) (structure p (more a (more b (more c (more d (more e (more g (more h us)))))))) l k = no_awaited s (bytes_eq m (codes "shoen") && is_called (codes "execute") 6 p (count_of (each_substituted s (more a (more b (more c (more d (more e (more g (more h us)))))))))) (bytes_eq m (codes "shoen") && is_called (codes "execute") 6 p (count_of (more a (more b (more c (more d (more e (more g (more h us)))))))))
 
 pair_stays_by : (s : ℕ → Term) (c d e g : Bool) (a b : Term) → LeavesEach s (if g then awaited_in_call a b else []) →
-    LeavesEach s (if d then awaited_by_evaluated (evaluated b) else if e then awaited_by_spelling (spelling most_spelled a) else if g then awaited_by_execute a b else []) →
-    is_some (if c then Some (unifies (substituted s a) (substituted s b)) else if d then assigned (substituted s a) (evaluated (substituted s b)) else if e then spells (substituted s b) (spelling most_spelled (substituted s a)) else if g then execute_move (substituted s a) (substituted s b) else None)
-    ≡ is_some (if c then Some (unifies a b) else if d then assigned a (evaluated b) else if e then spells b (spelling most_spelled a) else if g then execute_move a b else None)
+    LeavesEach s (if d then awaited_by_evaluated (evaluated b) else if e then awaited_by_spelling (spelling MOST_SPELLED a) else if g then awaited_by_execute a b else []) →
+    is_some (if c then Some (unifies (substituted s a) (substituted s b)) else if d then assigned (substituted s a) (evaluated (substituted s b)) else if e then spells (substituted s b) (spelling MOST_SPELLED (substituted s a)) else if g then execute_move (substituted s a) (substituted s b) else None)
+    ≡ is_some (if c then Some (unifies a b) else if d then assigned a (evaluated b) else if e then spells b (spelling MOST_SPELLED a) else if g then execute_move a b else None)
 pair_stays_by s true d e g a b l k = refl
 pair_stays_by s false true e g a b l k = assigned_is (substituted s a) a (evaluated (substituted s b)) (evaluated b) (evaluated_stays s b k)
-pair_stays_by s false false true g a b l k = spells_is (substituted s b) b (spelling most_spelled (substituted s a)) (spelling most_spelled a) (spelling_stays s most_spelled a k)
+pair_stays_by s false false true g a b l k = spells_is (substituted s b) b (spelling MOST_SPELLED (substituted s a)) (spelling MOST_SPELLED a) (spelling_stays s MOST_SPELLED a k)
 pair_stays_by s false false false true a b l k = execute_stays s a b l k
 pair_stays_by s false false false false a b l k = refl
 
@@ -198,11 +199,11 @@ built_in_stays s (structure f (more a (more b none))) l k = pair_stays_by s (byt
 built_in_stays s (structure f (more a (more b (more c us)))) l k = refl
 
 awaited_if_stays : (s : ℕ → Term) (d e g : Bool) (a b : Term) → LeavesEach s (if g then awaited_in_call a b else []) →
-    LeavesEach s (if d then awaited_by_evaluated (evaluated b) else if e then awaited_by_spelling (spelling most_spelled a) else if g then awaited_by_execute a b else []) →
-    (if d then awaited_by_evaluated (evaluated (substituted s b)) else if e then awaited_by_spelling (spelling most_spelled (substituted s a)) else if g then awaited_by_execute (substituted s a) (substituted s b) else [])
-    ≡ (if d then awaited_by_evaluated (evaluated b) else if e then awaited_by_spelling (spelling most_spelled a) else if g then awaited_by_execute a b else [])
+    LeavesEach s (if d then awaited_by_evaluated (evaluated b) else if e then awaited_by_spelling (spelling MOST_SPELLED a) else if g then awaited_by_execute a b else []) →
+    (if d then awaited_by_evaluated (evaluated (substituted s b)) else if e then awaited_by_spelling (spelling MOST_SPELLED (substituted s a)) else if g then awaited_by_execute (substituted s a) (substituted s b) else [])
+    ≡ (if d then awaited_by_evaluated (evaluated b) else if e then awaited_by_spelling (spelling MOST_SPELLED a) else if g then awaited_by_execute a b else [])
 awaited_if_stays s true e g a b l k = ap awaited_by_evaluated (evaluated_stays s b k)
-awaited_if_stays s false true g a b l k = ap awaited_by_spelling (spelling_stays s most_spelled a k)
+awaited_if_stays s false true g a b l k = ap awaited_by_spelling (spelling_stays s MOST_SPELLED a k)
 awaited_if_stays s false false true a b l k = execute_awaited_stays s a b l k
 awaited_if_stays s false false false a b l k = refl
 

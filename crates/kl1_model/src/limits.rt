@@ -1,4 +1,4 @@
-//! Each number of the language and of the server, once, with its unit. `specs/Limits.antt` states them for contracts.
+//! Each number of the language and of the server, once, with its unit.
 
 /// The most bytes of a name.
 pub const MOST_NAME_BYTES: usize = 63;

@@ -9,6 +9,7 @@ pub mod AccountRowProofs
 pub mod HistoryRowProofs
 pub mod GuardRowProofs
 pub mod ShoenRowProofs
+pub mod SubstituteRowProofs
 pub mod StreamRowProofs
 pub mod SectionOrder
 pub mod Allowances

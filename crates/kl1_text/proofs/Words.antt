@@ -7,7 +7,7 @@ use Rattle.std.proofs.Math.Nat.{mul-suc, pow-suc, pow-le-pow_right}
 use Rattle.std.proofs.Math.Seq.{take-add, drop-cons}
 use Rattle.std.proofs.lemmas.List.{take_all, drop_all}
 use Rattle.std.proofs.lemmas.Bool.{and_parts, leb-true, ne_eqb, eq-eqb}
-use Rattle.kl1_model.specs.Limits.{most_name_bytes}
+use Rattle.kl1_model.specs.declared.limits.TheConstants.{MOST_NAME_BYTES}
 use Rattle.kl1_model.specs.Text.{is_name_byte, is_text}
 use Rattle.kl1_text.specs.Words.{number_of, bytes_in, words_of, bytes_of}
 
@@ -51,8 +51,8 @@ bytes_of-words_of (suc n) bs h =
 -- eight words hold a name
 pub words_hold : (bs : List ℕ) → IsTrue (is_text bs) → bytes_of (words_of 8 bs) ≡ bs
 words_hold bs h =
-    let p = and_parts (nat_le (length bs) most_name_bytes) (list_all is_name_byte bs) h in
-    let within : length bs ≤ most_name_bytes = leb-true (length bs) most_name_bytes p.0 in
+    let p = and_parts (nat_le (length bs) MOST_NAME_BYTES) (list_all is_name_byte bs) h in
+    let within : length bs ≤ MOST_NAME_BYTES = leb-true (length bs) MOST_NAME_BYTES p.0 in
     let short : length bs ≤ 64 = omega arith in
     bytes_of-words_of 8 bs p.1 ∙ take_all 64 bs short
 

@@ -9,7 +9,7 @@ ghost use Rattle.std.proofs.lemmas.Slice.Eq.{bytes_eq-Decides};
 ghost use Rattle.kl1_model.specs.Text.{is_text, text_of};
 ghost use Rattle.kl1_model.specs.Name.{name_text, atom_text};
 ghost use Rattle.kl1_model.specs.declared.built_in.BuiltIn.{BuiltIn};
-ghost use Rattle.kl1_model.specs.Limits.{most_name_bytes};
+ghost use Rattle.kl1_model.specs.declared.limits.TheConstants.{MOST_NAME_BYTES};
 ghost use Rattle.kl1_text.specs.BuiltIns.{built_in_of};
 ghost use Rattle.kl1_text.specs.Words.{words_of, bytes_of};
 
@@ -89,7 +89,7 @@ impl AtomText {
     /// The bytes of the name.
     pub fn unpacked(&self) -> ShortBytes
         ensures value { result ≡ self.now }
-        ensures short { length result ≤ most_name_bytes }
+        ensures short { length result ≤ MOST_NAME_BYTES }
         ensures text { IsTrue (is_text result) }
     {
         let mut out = ShortBytes::new();
@@ -132,7 +132,7 @@ impl AtomText {
     /// How many bytes the name has.
     pub fn len(&self) -> usize
         ensures value { result ≡ length self.now }
-        ensures short { result ≤ most_name_bytes }
+        ensures short { result ≤ MOST_NAME_BYTES }
     {
         self.unpacked().len()
     }

@@ -9,14 +9,15 @@ use Rattle.kl1_model.specs.Term.{Term}
 use Rattle.kl1_model.specs.Match.{call_of}
 use Rattle.kl1_model.specs.Control.{Control, awaits_message, tells, tells_other, ends, breaks_off, control_of}
 use Rattle.kl1_model.specs.Tree.{is_enabled, is_enabled_in}
-use Rattle.kl1_model.specs.Reduction.{Move, moves, term_move, read_action, monitor_action, task_action, action_of}
-use Rattle.kl1_model.specs.code.Waits.{move_by}
+use Rattle.kl1_model.specs.Look.{Look, right, waits_on, wrong, goal_look}
+use Rattle.kl1_model.specs.Reduction.{Move, moves, substitute_move, term_move, read_action, monitor_action, task_action, action_of}
+use Rattle.kl1_model.specs.code.Waits.{move_by, look_clause}
 use Rattle.kl1_model.specs.Choice.{call_clauses, task_clauses, clause_for, can_step, quiet, goes_before, first_of_goals, Chosen, chosen, first}
 use Rattle.kl1_store.specs.Held.{Held}
 use Rattle.kl1_store.specs.Hooks.{Hook}
 use Rattle.kl1_text.specs.declared.cell_name.CellName.{CellName}
 use Rattle.kl1_goals.specs.declared.task.Task.{Task}
-use Rattle.kl1_goals.specs.declared.task.Task.TheVariants.{Monitor, Reduces}
+use Rattle.kl1_goals.specs.declared.task.Task.TheVariants.{Monitor, Reduces, Substitutes}
 use Rattle.kl1_goals.specs.declared.goal.Goal.{Goal}
 use Rattle.kl1_goals.specs.Lists.{is_monitor_task, is_monitor}
 use Rattle.kl1_shoen_paths.specs.declared.shoen.Shoen.{Shoen}
@@ -351,6 +352,12 @@ shoen_found : (t : Means) (n : ℕ) (ss : List (Shoen CellName)) → shoen_at n 
 shoen_found t n [] = refl
 shoen_found t n (s ∷ ss) = found_first t n s ss (s.number == n) (shoen_found t n ss)
 
+-- what a substitute can do by its one clause is allowed unless it waits
+substitute_found : (u : Term) (l : Look) → find (λ c. is_some (if c == 0 then option_map (moves u) (substitute_move l) else None)) (0 ∷ []) ≡ look_clause l
+substitute_found u right = refl
+substitute_found u (waits_on v) = refl
+substitute_found u wrong = refl
+
 -- the clause by which a task could step is the first that is allowed
 clause_found : (s : State) (t : Means) (shoens : List (Shoen CellName)) (n : ℕ) (k : Task CellName) → s.shoens ≡ map (shoen_with t) shoens →
     find (λ c. is_some (task_action s n (task_with t k) c)) (task_clauses s.modules (task_with t k)) ≡ task_clause s.modules (control_with t shoens n) (task_with t k)
@@ -359,6 +366,7 @@ clause_found s t shoens n Monitor e =
 clause_found s t shoens n (Reduces x) e =
     let u = aim_with t x in
     find_alike (λ c. is_some (option_map (moves u) (term_move s.modules u c (call_of u)))) (λ c. is_some (move_by s.modules u c)) (λ c. some_moves u (term_move s.modules u c (call_of u))) (0 ∷ call_clauses s.modules (call_of u))
+clause_found s t shoens n (Substitutes x) e = substitute_found (t x) (goal_look (t x))
 
 -- if goals may step, it is by that clause
 clause_enabled : (s : State) (g : model.Goal) (b : Bool) (o : Option ℕ) → is_enabled s g ≡ b → find (λ c. is_some (task_action s g.shoen g.task c)) (task_clauses s.modules g.task) ≡ o → clause_for s g ≡ (if b then o else None)
@@ -376,6 +384,7 @@ enabled_read f h shoens work s g e w is =
     by_task : (k : Task CellName) → (model.is_monitor (task_with (meaning f h) k) || is_enabled_in s g.shoen) ≡ (is_monitor_task k || is_enabled_in s g.shoen)
     by_task Monitor = refl
     by_task (Reduces x) = refl
+    by_task (Substitutes x) = refl
 
 -- a goal that is settled, and may step as the shoens have it, stands
 pub one_stands : (f : Reading) (hooks : List Hook) (h : Held CellName) (modules : List Numbered) (shoens : List (Shoen CellName)) (work : List ℕ) (s : State) (g : Goal CellName) → s.shoens ≡ map (shoen_with (meaning f h)) shoens → s.work ≡ work → s.modules ≡ contents modules →

@@ -27,23 +27,20 @@ use Rattle.kl1_user_effects.specs.Account.{Means, meaning, task_with, goal_with,
 use Rattle.kl1_user_effects.specs.Naming.{AreSmall}
 use Rattle.kl1_user_effects.specs.Calling.{spare}
 use Rattle.kl1_user_effects.specs.Settled.{control_with, task_clause, awaited_by_task, IsSettled, AreSettled}
+use Rattle.kl1_user_account.specs.Exchanging.{swapped, exchanged}
 use Rattle.kl1_user_effects.proofs.KnownNames.{not_known}
 use Rattle.kl1_user_effects.proofs.States.{found_in}
 use Rattle.kl1_user_effects.proofs.DraftRows.{by_text}
 
 -- ---- two numbers, each in place of the other
 
--- a number, if one stands for another and that for this
-abbrev swapped : CellName → CellName → CellName → CellName
-swapped a b n = if n.number == a.number then b else if n.number == b.number then a else n
-
-same_name : (m n : CellName) → m.number ≡ n.number → m ≡ n
+pub same_name : (m n : CellName) → m.number ≡ n.number → m ≡ n
 same_name m n e = ap (λ x. let c : CellName = record { number = x } in c) e
 
-swap_first : (a b n : CellName) → n.number ≡ a.number → swapped a b n ≡ b
+pub swap_first : (a b n : CellName) → n.number ≡ a.number → swapped a b n ≡ b
 swap_first a b n e = ap (λ c. if c then b else if n.number == b.number then a else n) (eq-eqb n.number a.number e)
 
-swap_second : (a b n : CellName) → n.number ≡ b.number → swapped a b n ≡ a
+pub swap_second : (a b n : CellName) → n.number ≡ b.number → swapped a b n ≡ a
 swap_second a b n e = by_case (n.number == a.number) refl
   where
     by_case : (c : Bool) → (n.number == a.number) ≡ c → swapped a b n ≡ a
@@ -52,12 +49,12 @@ swap_second a b n e = by_case (n.number == a.number) refl
         ap (λ c. if c then b else if n.number == b.number then a else n) q
         ∙ ap (λ c. if c then a else n) (eq-eqb n.number b.number e)
 
-swap_other : (a b n : CellName) → (n.number ≡ a.number → ⊥) → (n.number ≡ b.number → ⊥) → swapped a b n ≡ n
+pub swap_other : (a b n : CellName) → (n.number ≡ a.number → ⊥) → (n.number ≡ b.number → ⊥) → swapped a b n ≡ n
 swap_other a b n x y =
     ap (λ c. if c then b else if n.number == b.number then a else n) (ne_eqb n.number a.number x)
     ∙ ap (λ c. if c then a else n) (ne_eqb n.number b.number y)
 
-swap_back : (a b n : CellName) → swapped a b (swapped a b n) ≡ n
+pub swap_back : (a b n : CellName) → swapped a b (swapped a b n) ≡ n
 swap_back a b n = by_first (n.number == a.number) refl
   where
     by_second : (c : Bool) → (n.number == b.number) ≡ c → (n.number ≡ a.number → ⊥) → swapped a b (swapped a b n) ≡ n
@@ -72,10 +69,6 @@ swap_back a b n = by_first (n.number == a.number) refl
         let e = eqb-true n.number a.number q in
         ap (swapped a b) (swap_first a b n e) ∙ swap_second a b b refl ∙ same_name a n (sym e)
     by_first false q = by_second (n.number == b.number) refl (eqb-false n.number a.number q)
-
--- a reading that reads each of two numbers as the other
-abbrev pub exchanged : CellName → CellName → Reading → Reading
-exchanged a b f n = f (swapped a b n)
 
 -- ---- a name that is new, by the spare number
 
@@ -92,7 +85,7 @@ small_in (k ∷ names) t n a e = by_case (bytes_eq k.text t) (small_in names t n
     by_case false later q = later q
 
 -- the number of a name that is known has 32 bits
-small_by : (names : List Known) (t : List ℕ) (n : ℕ) → AreSmall names → number_by names t ≡ Some n → n < 2 ^ 32
+pub small_by : (names : List Known) (t : List ℕ) (n : ℕ) → AreSmall names → number_by names t ≡ Some n → n < 2 ^ 32
 small_by names t n a e = elim (option_cases (built_in_of t)) [
   | inl none ↦ small_in names t n a (rw none at e)
   | inr some ↦

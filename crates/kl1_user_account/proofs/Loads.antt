@@ -4,7 +4,7 @@ use Rattle.std.specs.Prelude.{Some, is_some, option_map}
 use Rattle.kl1_model.specs.Control.{control_of}
 use Rattle.std.proofs.lemmas.Bool.{le-leb, lt-leb, lt-ltb, le-ltb, ltb-true, ltb-false}
 use Rattle.std.proofs.lemmas.List.{map-append, take_more}
-use Rattle.kl1_model.specs.Limits.{most_names, most_modules, most_entries, most_source_bytes}
+use Rattle.kl1_model.specs.declared.limits.TheConstants.{MOST_NAMES, MOST_MODULES, MOST_ENTRIES, MOST_SOURCE_BYTES}
 use Rattle.kl1_model.specs.Module.{Module, read_module, good}
 use Rattle.kl1_model.specs.Match.{module_of}
 use Rattle.kl1_model.specs.State as model
@@ -61,27 +61,27 @@ pub is_free : (ms : List Numbered) (d : Numbered) (n : CellName) (b : Bool) → 
 is_free ms d n b e is = sym (e ∙ ap (is_numbered ms) is)
 
 -- whether the names of a module are too many
-pub crowds_is : (names : List Known) (d : Numbered) (code : Module) (texts : List (List ℕ)) (b : Bool) → b ≡ nat_lt most_names (length (with_texts (texts_of names) texts)) → texts ≡ own_names code → code ≡ d.content →
-    nat_lt most_names (length (with_texts (texts_of names) (own_names d.content))) ≡ b
-crowds_is names d code texts b e are is = sym (e ∙ ap (λ (xs : List (List ℕ)). nat_lt most_names (length (with_texts (texts_of names) xs))) (are ∙ ap own_names is))
+pub crowds_is : (names : List Known) (d : Numbered) (code : Module) (texts : List (List ℕ)) (b : Bool) → b ≡ nat_lt MOST_NAMES (length (with_texts (texts_of names) texts)) → texts ≡ own_names code → code ≡ d.content →
+    nat_lt MOST_NAMES (length (with_texts (texts_of names) (own_names d.content))) ≡ b
+crowds_is names d code texts b e are is = sym (e ∙ ap (λ (xs : List (List ℕ)). nat_lt MOST_NAMES (length (with_texts (texts_of names) xs))) (are ∙ ap own_names is))
 
 -- a module whose name is taken
 pub draft_exists : (ms : List Numbered) (names : List Known) (entries : ℕ) (d : Numbered) → is_some (module_of (contents ms) d.content.name) ≡ true → DraftsAs ms names entries d (Some Exists)
 draft_exists ms names entries d there = λ s at. rw (at.modules_are, there) refl
 
 -- names that would be too many
-pub draft_crowds : (ms : List Numbered) (names : List Known) (entries : ℕ) (d : Numbered) → is_some (module_of (contents ms) d.content.name) ≡ false → nat_lt most_names (length (with_texts (texts_of names) (own_names d.content))) ≡ true → DraftsAs ms names entries d (Some Names)
+pub draft_crowds : (ms : List Numbered) (names : List Known) (entries : ℕ) (d : Numbered) → is_some (module_of (contents ms) d.content.name) ≡ false → nat_lt MOST_NAMES (length (with_texts (texts_of names) (own_names d.content))) ≡ true → DraftsAs ms names entries d (Some Names)
 draft_crowds ms names entries d absent many = λ s at.
     let n = length (with_names (texts_of names) (names_of_module d.content)) in
     let is : length (with_texts (texts_of names) (own_names d.content)) ≡ n = ap length (of_module (texts_of names) d.content) in
-    let lt : most_names < n = ltb-true most_names n (ap (nat_lt most_names) (sym is) ∙ many) in
-    rw (at.modules_are, absent, at.names_are, lt-leb n most_names lt) refl
+    let lt : MOST_NAMES < n = ltb-true MOST_NAMES n (ap (nat_lt MOST_NAMES) (sym is) ∙ many) in
+    rw (at.modules_are, absent, at.names_are, lt-leb n MOST_NAMES lt) refl
 
-few_names : (names : List Known) (m : Module) → nat_lt most_names (length (with_texts (texts_of names) (own_names m))) ≡ false → length (with_names (texts_of names) (names_of_module m)) ≤ most_names
+few_names : (names : List Known) (m : Module) → nat_lt MOST_NAMES (length (with_texts (texts_of names) (own_names m))) ≡ false → length (with_names (texts_of names) (names_of_module m)) ≤ MOST_NAMES
 few_names names m e =
     let n = length (with_names (texts_of names) (names_of_module m)) in
-    let is : nat_lt most_names n ≡ false = ap (λ (xs : List (List ℕ)). nat_lt most_names (length xs)) (sym (of_module (texts_of names) m)) ∙ e in
-    ltb-false most_names n is
+    let is : nat_lt MOST_NAMES n ≡ false = ap (λ (xs : List (List ℕ)). nat_lt MOST_NAMES (length xs)) (sym (of_module (texts_of names) m)) ∙ e in
+    ltb-false MOST_NAMES n is
 
 -- modules are as many as their contents
 modules_count : (ms : List Numbered) → length (contents ms) ≡ length ms
@@ -89,21 +89,21 @@ modules_count [] = refl
 modules_count (m ∷ ms) = ap suc (modules_count ms)
 
 -- as many modules as there may be
-pub draft_limit : (ms : List Numbered) (names : List Known) (entries : ℕ) (d : Numbered) → is_some (module_of (contents ms) d.content.name) ≡ false → nat_lt most_names (length (with_texts (texts_of names) (own_names d.content))) ≡ false → most_modules ≤ length ms → DraftsAs ms names entries d (Some Limit)
+pub draft_limit : (ms : List Numbered) (names : List Known) (entries : ℕ) (d : Numbered) → is_some (module_of (contents ms) d.content.name) ≡ false → nat_lt MOST_NAMES (length (with_texts (texts_of names) (own_names d.content))) ≡ false → MOST_MODULES ≤ length ms → DraftsAs ms names entries d (Some Limit)
 draft_limit ms names entries d absent few full = λ s at.
     let n = length (with_names (texts_of names) (names_of_module d.content)) in
-    rw (at.modules_are, absent, at.names_are, le-leb n most_names (few_names names d.content few), modules_count ms, le-ltb (length ms) most_modules full) refl
+    rw (at.modules_are, absent, at.names_are, le-leb n MOST_NAMES (few_names names d.content few), modules_count ms, le-ltb (length ms) MOST_MODULES full) refl
 
 -- a full journal
-pub draft_full : (ms : List Numbered) (names : List Known) (entries : ℕ) (d : Numbered) → is_some (module_of (contents ms) d.content.name) ≡ false → nat_lt most_names (length (with_texts (texts_of names) (own_names d.content))) ≡ false → length ms < most_modules → most_entries ≤ entries →
+pub draft_full : (ms : List Numbered) (names : List Known) (entries : ℕ) (d : Numbered) → is_some (module_of (contents ms) d.content.name) ≡ false → nat_lt MOST_NAMES (length (with_texts (texts_of names) (own_names d.content))) ≡ false → length ms < MOST_MODULES → MOST_ENTRIES ≤ entries →
     DraftsAs ms names entries d (Some Journal)
 draft_full ms names entries d absent few less full = λ s at.
     let n = length (with_names (texts_of names) (names_of_module d.content)) in
-    rw (at.modules_are, absent, at.names_are, le-leb n most_names (few_names names d.content few), modules_count ms, lt-ltb (length ms) most_modules less, at.entries_are, le-ltb entries most_entries full) refl
+    rw (at.modules_are, absent, at.names_are, le-leb n MOST_NAMES (few_names names d.content few), modules_count ms, lt-ltb (length ms) MOST_MODULES less, at.entries_are, le-ltb entries MOST_ENTRIES full) refl
 
 -- a module that may be loaded
 pub draft_loads : (ms : List Numbered) (names : List Known) (entries : ℕ) (d : Numbered) → ReadsDraft names (own_names d.content) d.row → is_numbered ms (number_of d) ≡ false → is_some (module_of (contents ms) d.content.name) ≡ false →
-    nat_lt most_names (length (with_texts (texts_of names) (own_names d.content))) ≡ false → length ms < most_modules → entries < most_entries → IsDraft ms names entries d
+    nat_lt MOST_NAMES (length (with_texts (texts_of names) (own_names d.content))) ≡ false → length ms < MOST_MODULES → entries < MOST_ENTRIES → IsDraft ms names entries d
 draft_loads ms names entries d reads new absent few less room =
     let n = length (with_names (texts_of names) (names_of_module d.content)) in
     let le = few_names names d.content few in
@@ -115,21 +115,21 @@ draft_loads ms names entries d reads new absent few less room =
       few = omega arith;
       modules_few = less;
       room = room;
-      loads = λ s at. rw (at.modules_are, absent, at.names_are, le-leb n most_names le, modules_count ms, lt-ltb (length ms) most_modules less, at.entries_are, lt-ltb entries most_entries room) refl;
+      loads = λ s at. rw (at.modules_are, absent, at.names_are, le-leb n MOST_NAMES le, modules_count ms, lt-ltb (length ms) MOST_MODULES less, at.entries_are, lt-ltb entries MOST_ENTRIES room) refl;
     }
 
 -- ---- sources
 
 -- a source that is a module
-pub load_good : (text : List ℕ) (m : Module) → length text ≤ most_source_bytes → read_module text ≡ good m → (s : State) → step s (load text) ≡ load_module s (good m)
-load_good text m h r = λ s. rw (le-leb (length text) most_source_bytes h) (ap (load_module s) r)
+pub load_good : (text : List ℕ) (m : Module) → length text ≤ MOST_SOURCE_BYTES → read_module text ≡ good m → (s : State) → step s (load text) ≡ load_module s (good m)
+load_good text m h r = λ s. rw (le-leb (length text) MOST_SOURCE_BYTES h) (ap (load_module s) r)
 
 -- a module of these parts is one of parts that are the same
 pub same_parts : (x : Numbered) (m n : Module) (row own : List CellName) (place : ℕ × ℕ) → x ≡ record { content = m; row = row; place = place } → n ≡ m → own ≡ row → x ≡ record { content = n; row = own; place = place }
 same_parts x m n row own place is content rows = rw (content, rows) is
 
 -- a module is drafted for a source that is read as it, if it is one that may be loaded
-pub drafted_is : (ms : List Numbered) (names : List Known) (entries : ℕ) (text : List ℕ) (x d : Numbered) → length text ≤ most_source_bytes → read_module text ≡ good d.content → x ≡ d → IsDraft ms names entries d → IsDraftOf ms names entries text x
+pub drafted_is : (ms : List Numbered) (names : List Known) (entries : ℕ) (text : List ℕ) (x d : Numbered) → length text ≤ MOST_SOURCE_BYTES → read_module text ≡ good d.content → x ≡ d → IsDraft ms names entries d → IsDraftOf ms names entries text x
 drafted_is ms names entries text x d few read is draft =
     let P : Numbered → Type 0 = λ y. IsDraftOf ms names entries text y in
     subst P (sym is) (record { draft = draft; loads = load_good text d.content few read })

@@ -5,7 +5,7 @@ use Rattle.std.proofs.lemmas.Bool.{and_parts, eqb-true}
 use Rattle.kl1_model.specs.Module.{Clause, Module}
 use Rattle.kl1_model.specs.Term.{Term}
 use Rattle.kl1_model.specs.Match.{clauses_of}
-use Rattle.kl1_model.specs.code.Waits.{awaited_by_term}
+use Rattle.kl1_model.specs.code.Waits.{awaited_by_term, awaited_by_substitute}
 use Rattle.kl1_text.specs.Reading.{Reads}
 use Rattle.kl1_text.specs.declared.cell_name.CellName.{CellName}
 use Rattle.kl1_store.specs.declared.cell.Cell.{Cell}
@@ -23,8 +23,9 @@ use Rattle.kl1_goals_moves.specs.Calls.{call_at}
 use Rattle.kl1_goals_moves.specs.Kinds.{IsKind, IsCall}
 use Rattle.kl1_goals_moves.specs.Moves.{HasPredicate}
 use Rattle.kl1_goals_moves.specs.Standing.{StandsAs}
+use Rattle.kl1_goals_moves.specs.Substitutes.{SubstituteStands}
 use Rattle.kl1_goals.specs.declared.task.Task.{Task}
-use Rattle.kl1_goals.specs.declared.task.Task.TheVariants.{Monitor, Reduces}
+use Rattle.kl1_goals.specs.declared.task.Task.TheVariants.{Monitor, Reduces, Substitutes}
 use Rattle.kl1_goals.specs.declared.goal.Goal.{Goal}
 use Rattle.kl1_shoen_paths.specs.declared.shoen.Shoen.{Shoen}
 use Rattle.kl1_model.specs.Tree.{path_within}
@@ -113,6 +114,17 @@ pub stands_at : (ms : List Numbered) (shoens : List (Shoen CellName)) (h : Held 
     ((f : Reading) → Knows ms f → (k : Held CellName) (t : Term) → IsKind f k t kind → HasPredicate f k (contents ms) kind p) →
     StandsBy h hooks kind p c → StandsAt ms shoens h hooks n (Reduces x) c
 stands_at ms shoens h hooks n x kind p c is has s = record { found = λ f knows. let k = kind_at f h x kind (is f knows.reads) in s.found f ms shoens n x knows.reads k (has f knows h (aim f h x) k) }
+
+-- what is found of a substitute, if its number hangs on what it waits for, and this is the clause by which it can step
+pub substitute_stands : (h : Held CellName) (hooks : List Hook) (x : Cell CellName) (n : ℕ) (vs ws : List ℕ) (clause : Option ℕ) → ((f : Reading) → Reads built f → SubstituteStands (meaning f h x) vs clause) → ws ≡ vs → HangsOnEach hooks n ws →
+    (ms : List Numbered) (shoens : List (Shoen CellName)) (shoen : ℕ) → StandsAt ms shoens h hooks shoen (Substitutes x) (record { number = n; standing = clause })
+substitute_stands h hooks x n vs ws clause stands same hangs ms shoens shoen =
+    let H : List ℕ → Type 0 = λ us. HangsOnEach hooks n us in
+    record {
+      found = λ f knows.
+          let s = stands f knows.reads in
+          record { standing = s.clause_is; hung = hangs_on_same hooks n vs (awaited_by_substitute (meaning f h x)) s.awaits (subst H same hangs) };
+    }
 
 -- ---- monitors
 

@@ -2,7 +2,8 @@
 use Rattle.std.proofs.Common.{◌≡◌, ◌<◌, ◌≤◌, ℕ, false, List, [], ◌++◌, length, map, refl, sym, ap, ◌∙◌, subst, arith}
 use Rattle.std.specs.Prelude.{Option, Some, None}
 use Rattle.std.specs.List.{AllByRecursion}
-use Rattle.kl1_model.specs.Limits.{most_entries}
+use Rattle.kl1_model.specs.declared.limits.TheConstants.{MOST_ENTRIES}
+use Rattle.kl1_model.specs.declared.rules.Rules.{Rules}
 use Rattle.kl1_model.specs.State as model
 use Rattle.kl1_model.specs.State.{State}
 use Rattle.kl1_model.specs.Event.{reduce, reduced, Transition, with_entry}
@@ -27,6 +28,7 @@ use Rattle.kl1_user_effects.specs.Drafts.{goals_left, names_with, made_of}
 use Rattle.kl1_user_effects.specs.Installing.{IsBegun, goals_after}
 use Rattle.kl1_user_effects.specs.Settled.{AreSettled}
 use Rattle.kl1_user_account.specs.Keeping.{IsKept}
+use Rattle.kl1_user_account.specs.Exchanging.{exchanged}
 use Rattle.kl1_user_account.specs.Waking.{KeepControls}
 use Rattle.kl1_user_account.specs.Finishing.{SameFlags, Finishes}
 use Rattle.kl1_user_effects.specs.Leaving.{Leaves}
@@ -38,7 +40,7 @@ use Rattle.kl1_user_effects.proofs.States.{goals_grown}
 use Rattle.kl1_user_account.proofs.Restood.{each_is}
 use Rattle.kl1_user_account.proofs.StartKept.{owned_more, up_to_more}
 use Rattle.kl1_user_account.proofs.Finished.{known_after, next_owned}
-use Rattle.kl1_user_account.proofs.Exchanged.{exchanged, with_spare, spare_texts, spare_fits, spare_reads, exchanged_fits, settled_alike}
+use Rattle.kl1_user_account.proofs.Exchanged.{with_spare, spare_texts, spare_fits, spare_reads, exchanged_fits, settled_alike}
 use Rattle.kl1_user_account.proofs.Respelled.{variables_respelled, goals_respelled, shoens_respelled, spare_again}
 
 -- a reduction of an account was drafted: the draft began, effects have left a tree and another draft, the numbers of more goals may have
@@ -52,7 +54,8 @@ pub record IsDrafted (a : Account) (n c : ℕ) (old mid new : Kept CellName) (t 
   pub grown : Grown old.held mid.held
   pub hooks : mid.hooks ≡ old.hooks
   pub same : new.held ≡ mid.held
-  pub begun : IsBegun removed a.last_goal a.variables a.nodes a.reports start
+  pub rules : effected.rules ≡ a.rules
+  pub begun : IsBegun removed a.rules a.last_goal a.variables a.nodes a.reports start
   pub leaves : Leaves number mid.held t u reached start effected
   pub shoens_in : AreShoensIn mid.held u.shoens
   pub effect : IsEffect a n c mid.held u effected
@@ -62,16 +65,17 @@ pub record IsDrafted (a : Account) (n c : ℕ) (old mid new : Kept CellName) (t 
   pub has : HasName effected.spelled effected.name
   pub tells : told ≡ record effected { told = told.told }
   pub controls : KeepControls told.told.items a.shoens u.shoens a.goals
-  pub room : a.entries < most_entries
+  pub room : a.entries < MOST_ENTRIES
   pub finishes : Finishes a.modules (point_of old) mid new u a.goals table reached told finished
 
 -- what a draft makes of an account is the account with the finished draft in place, and with the names that it has then
 placed_named : (f : Reading) (a : Account) (last : Held CellName) (u : Tree CellName) (d e : Draft) (more : List Known) → map (goal_with (meaning f last)) (goals_after a.goals e) ≡ map (goal_with (meaning f last)) (goals_left (a.goals ++ d.added.items) d) →
-    texts_of more ≡ names_with (texts_of a.names) d.name → e.last_goal ≡ d.last_goal → e.variables ≡ d.variables → e.nodes ≡ d.nodes → e.reports ≡ d.reports →
+    d.rules ≡ a.rules → texts_of more ≡ names_with (texts_of a.names) d.name → e.last_goal ≡ d.last_goal → e.variables ≡ d.variables → e.nodes ≡ d.nodes → e.reports ≡ d.reports →
     worked f (with_entry (state_of f a)) last (made_of a.goals (texts_of a.names) u d) ≡ state_of f (named_in a last u e more)
-placed_named f a last u d e more goals texts goal_is variables nodes reports =
+placed_named f a last u d e more goals rules texts goal_is variables nodes reports =
     let s = state_of f (named_in a last u e more) in
-    ap (λ (gs : List model.Goal). let z : State = record s { goals = gs; names = names_with (texts_of a.names) d.name; last_goal = d.last_goal; variables = d.variables; nodes = d.nodes; reports = d.reports } in z) (sym goals)
+    ap (λ (r : Rules). let z : State = record s { rules = r; goals = map (goal_with (meaning f last)) (goals_left (a.goals ++ d.added.items) d); names = names_with (texts_of a.names) d.name; last_goal = d.last_goal; variables = d.variables; nodes = d.nodes; reports = d.reports } in z) rules
+    ∙ ap (λ (gs : List model.Goal). let z : State = record s { goals = gs; names = names_with (texts_of a.names) d.name; last_goal = d.last_goal; variables = d.variables; nodes = d.nodes; reports = d.reports } in z) (sym goals)
     ∙ ap (λ (ns : List (List ℕ)). let z : State = record s { names = ns; last_goal = d.last_goal; variables = d.variables; nodes = d.nodes; reports = d.reports } in z) (sym texts)
     ∙ ap (λ n. let z : State = record s { last_goal = n; variables = d.variables; nodes = d.nodes; reports = d.reports } in z) (sym goal_is)
     ∙ ap (λ n. let z : State = record s { variables = n; nodes = d.nodes; reports = d.reports } in z) (sym variables)
@@ -128,7 +132,7 @@ module _ (a : Account) (n c : ℕ) (old mid new : Kept CellName) (t u : Tree Cel
   steps_to more last p f fits =
       (d.effect more last p f fits).step
       ∙ ap (λ (z : State). let y : Transition = record { state = z; reply = reduced } in y)
-      (placed_named f a last u effected finished more (goals_are f last) p.named.texts last_is variables_are nodes_are reports_are)
+      (placed_named f a last u effected finished more (goals_are f last) d.rules p.named.texts last_is variables_are nodes_are reports_are)
 
   -- two readings, of names that were published in two ways, read the same state
   same_states : (more less : List Known) (last first : Held CellName) → IsPublishedBy a.names more effected mid.held last → IsPublishedBy a.names less effected mid.held first → (f g : Reading) → Fits more f → Fits less g →

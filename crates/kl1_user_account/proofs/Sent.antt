@@ -5,6 +5,7 @@ use Rattle.std.specs.List.{AllByRecursion, list_any}
 use Rattle.std.proofs.lemmas.Bool.{eq-eqb, ne_eqb}
 use Rattle.std.proofs.lemmas.List.{append-nil}
 use Rattle.kl1_model.specs.declared.message.Message.{Message}
+use Rattle.kl1_model.specs.declared.rules.Rules.{Rules}
 use Rattle.kl1_model.specs.Module.{is_among as is_on}
 use Rattle.kl1_model.specs.Tree.{path_within}
 use Rattle.kl1_model.specs.State as model
@@ -76,7 +77,7 @@ count_bare : (ss : List (Shoen CellName)) → length (map bare ss) ≡ length ss
 count_bare [] = refl
 count_bare (h ∷ ss) = ap suc (count_bare ss)
 
-alike_count : (ss us : List (Shoen CellName)) → AreAlike ss us → length us ≡ length ss
+pub alike_count : (ss us : List (Shoen CellName)) → AreAlike ss us → length us ≡ length ss
 alike_count ss us e = sym (count_bare us) ∙ ap (λ (z : List (Shoen CellName)). length z) e ∙ count_bare ss
 
 -- whether a shoen holds back its goals, by the parents of all
@@ -157,7 +158,7 @@ are_told : (hooks : List Hook) (bs : List (Binding CellName)) → AreTold hooks 
 are_told hooks bs v n c h = among_of (told_by bs hooks) n (is_told bs hooks (record { variable = v; number = n }) h (bound_of bs v c))
 
 -- all goals are settled after those that were told are looked at
-woken : (ms : List Numbered) (before after : List (Shoen CellName)) (mark : Point) (old mid new : Kept CellName) (goals : List (Goal CellName)) (was changes : List Change) →
+pub woken : (ms : List Numbered) (before after : List (Shoen CellName)) (mark : Point) (old mid new : Kept CellName) (goals : List (Goal CellName)) (was changes : List Change) →
     mark ≡ point_of old → IsFormed old.held → Grown old.held mid.held → mid.hooks ≡ old.hooks → AreGoalsIn old.held goals → AreInOrder goals → AllByRecursion (λ g. 0 < g.number) goals → AreShoensIn old.held before → AreAlike before after → was ≡ [] →
     WakesTold ms after mid.held mid.hooks new.hooks goals 0 (told_by (drop mark.sizes.bindings mid.held.bindings) mid.hooks) was changes → new.held ≡ mid.held →
     (f : Reading) → Knows ms f → AreSettled f old.hooks old.held ms before goals → AreSettled f new.hooks new.held ms after (restood changes goals)
@@ -180,7 +181,7 @@ others_all (g ∷ gs) a =
     ap (λ b. if not b then g ∷ filter (is_other 0) gs else filter (is_other 0) gs) (ne_eqb g.number 0 (λ e. omega (arith, low, e)))
     ∙ ap (λ (xs : List (Goal CellName)). g ∷ xs) (others_all gs a.1)
 
-leaves_all : (d : Draft) → d.removed ≡ 0 → d.aborted.items ≡ [] → d.ended.items ≡ [] → d.added.items ≡ [] → d.shifts ≡ false → (gs : List (Goal CellName)) → AllByRecursion (λ g. 0 < g.number) gs → goals_after gs d ≡ restood d.changes.items gs
+pub leaves_all : (d : Draft) → d.removed ≡ 0 → d.aborted.items ≡ [] → d.ended.items ≡ [] → d.added.items ≡ [] → d.shifts ≡ false → (gs : List (Goal CellName)) → AllByRecursion (λ g. 0 < g.number) gs → goals_after gs d ≡ restood d.changes.items gs
 leaves_all d removed aborted ended added shifts gs first =
     let cs = d.changes.items in
     let X : List (Goal CellName) = restood cs (staying d.removed d.aborted.items d.ended.items gs) ++ d.added.items in
@@ -197,13 +198,13 @@ leaves_all d removed aborted ended added shifts gs first =
 -- ---- all of it
 
 -- a message is drafted
-pub is_sent : (ms : List Numbered) (mark : Point) (old mid new : Kept CellName) (goals : List (Goal CellName)) (t u : Tree CellName) (variables nodes entries n last reports : ℕ) (m : Message) (o : Origin CellName) (begun put d : Draft) →
+pub is_sent : (ms : List Numbered) (rules : Rules) (mark : Point) (old mid new : Kept CellName) (goals : List (Goal CellName)) (t u : Tree CellName) (variables nodes entries n last reports : ℕ) (m : Message) (o : Origin CellName) (begun put d : Draft) →
     mark ≡ point_of old → IsFormed old.held → 0 < old.held.variables → AreGoalsIn old.held goals → AreInOrder goals → AllByRecursion (λ g. 0 < g.number) goals → AreShoensIn old.held t.shoens →
-    Allows t.shoens variables nodes entries n m o → IsBegun 0 last variables nodes reports begun →
+    Allows t.shoens variables nodes entries n m o → IsBegun 0 rules last variables nodes reports begun →
     PutsOn n m o.control old.held mid.held t.shoens u.shoens begun put → AreShoensIn mid.held u.shoens → AreAlike t.shoens u.shoens → u.work ≡ t.work → put ≡ record begun { variables = put.variables; nodes = put.nodes } → Grown old.held mid.held → mid.hooks ≡ old.hooks →
     WakesTold ms u.shoens mid.held mid.hooks new.hooks goals 0 (told_by (drop mark.sizes.bindings mid.held.bindings) mid.hooks) put.changes.items d.changes.items → d ≡ record put { told = d.told; changes = d.changes } → new.held ≡ mid.held →
     IsSent ms old new goals t u variables nodes entries n m d
-is_sent ms mark old mid new goals t u variables nodes entries n last reports m o begun put d marked formed some inside order first shoens_in may is puts after alike work rest grown hooks wakes more same =
+is_sent ms rules mark old mid new goals t u variables nodes entries n last reports m o begun put d marked formed some inside order first shoens_in may is puts after alike work rest grown hooks wakes more same =
     let S : Held CellName → Type 0 = λ h. AreShoensIn h u.shoens in
     record {
       journal = may.journal;
@@ -235,7 +236,7 @@ is_sent ms mark old mid new goals t u variables nodes entries n last reports m o
 abbrev pub with_message : Account → Held CellName → List (Shoen CellName) → Draft → Account
 with_message a h us d = record a { held = h; goals = restood d.changes.items a.goals; shoens = us; variables = d.variables; nodes = d.nodes; entries = suc a.entries }
 
-knows_of : (a : Account) (hooks : List Hook) (known : ℕ) → IsKept a hooks known → (f : Reading) → Fits a.names f → Knows a.modules f
+pub knows_of : (a : Account) (hooks : List Hook) (known : ℕ) → IsKept a hooks known → (f : Reading) → Fits a.names f → Knows a.modules f
 knows_of a hooks known k f fits = record { reads = fits.reads; rows = k.rows f fits }
 
 -- the step to it

@@ -5,9 +5,10 @@ use Rattle.std.proofs.lemmas.Bool.{ne_eqb}
 use Rattle.kl1_model.specs.Term.{Term, substituted, Replacement}
 use Rattle.kl1_model.specs.Control.{Control, awaits_message, tells, tells_other, ends, breaks_off, control_of}
 use Rattle.kl1_model.specs.code.Awaited.{awaited_by_control}
-use Rattle.kl1_model.specs.code.Waits.{LeavesEach, term_clause, awaited_by_term}
+use Rattle.kl1_model.specs.code.Waits.{LeavesEach, term_clause, awaited_by_term, awaited_by_look, awaited_by_substitute, look_clause, substitute_clause}
 use Rattle.kl1_model.specs.laws.WaitsLaws.{control_substituted}
 use Rattle.kl1_model.proofs.Substitutions.{values_of, replaced_is}
+use Rattle.kl1_model.proofs.LookStays.{substitutes_stay}
 use Rattle.kl1_model.proofs.TermStays.{term_stays, is_replaced, left_alone}
 use Rattle.kl1_model.proofs.ControlStays.{control_stays}
 use Rattle.kl1_text.specs.declared.cell_name.CellName.{CellName}
@@ -19,7 +20,7 @@ use Rattle.kl1_store.specs.Later.{bound_since}
 use Rattle.kl1_store.specs.Sound.{IsFormed, Grown}
 use Rattle.kl1_store.proofs.Later.{is_later}
 use Rattle.kl1_goals.specs.declared.task.Task.{Task}
-use Rattle.kl1_goals.specs.declared.task.Task.TheVariants.{Monitor, Reduces}
+use Rattle.kl1_goals.specs.declared.task.Task.TheVariants.{Monitor, Reduces, Substitutes}
 use Rattle.kl1_goals.specs.declared.goal.Goal.{Goal}
 use Rattle.kl1_shoen_paths.specs.declared.shoen.Shoen.{Shoen}
 use Rattle.kl1_shoen.specs.Shoens.{shoen_in}
@@ -119,6 +120,13 @@ by_task f hooks old new modules before after g (Reduces x) e formed grown i insi
     let is : aim f new x ≡ substituted (values_of l.replacements) t = aim_later f old new x l i ∙ replaced_is l.replacements t in
     let stays = term_stays (contents modules) (values_of l.replacements) t (leaves_hung l.replacements hooks g.number (awaited_by_term (contents modules) t) hung (subst N (sym l.numbers) free)) in
     (ap (term_clause (contents modules)) is ∙ stays.0, ap (awaited_by_term (contents modules)) is ∙ stays.1)
+by_task f hooks old new modules before after g (Substitutes x) e formed grown i inside same free hung =
+    let l = is_later f old new formed grown in
+    let N : List ℕ → Type 0 = λ ns. HangsOnNone hooks g.number ns in
+    let t = term_of f old x in
+    let is : term_of f new x ≡ substituted (values_of l.replacements) t = l.means x i ∙ replaced_is l.replacements t in
+    let stays = substitutes_stay (values_of l.replacements) t (leaves_hung l.replacements hooks g.number (awaited_by_substitute t) hung (subst N (sym l.numbers) free)) in
+    (ap substitute_clause is ∙ ap look_clause stays, ap awaited_by_substitute is ∙ ap awaited_by_look stays)
 
 -- a goal that hangs on no variable that was bound is settled as it was, a monitor if its control stream is what it was
 pub stays_settled : (f : Reading) (hooks : List Hook) (old new : Held CellName) (modules : List Numbered) (before after : List (Shoen CellName)) (g : Goal CellName) → IsFormed old → Grown old new → IsTaskIn old g.task → AreShoensIn old before →

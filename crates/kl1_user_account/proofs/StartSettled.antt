@@ -8,7 +8,7 @@ use Rattle.kl1_model.specs.Term.{Term}
 use Rattle.kl1_model.specs.code.TermCode.{nodes_of}
 use Rattle.kl1_model.specs.Meaning.{highest, is_numbered}
 use Rattle.kl1_model.specs.Nodes.{goal_nodes}
-use Rattle.kl1_model.specs.Limits.{monitor_priority, most_entries, most_goals, most_variables, most_nodes, most_shoens}
+use Rattle.kl1_model.specs.declared.limits.TheConstants.{MONITOR_PRIORITY, MOST_ENTRIES, MOST_GOALS, MOST_VARIABLES, MOST_NODES, MOST_SHOENS}
 use Rattle.kl1_model.specs.Control.{Control, awaits_message, control_of}
 use Rattle.kl1_model.specs.code.Waits.{term_clause, awaited_by_term}
 use Rattle.kl1_model.specs.State as model
@@ -28,7 +28,7 @@ use Rattle.kl1_clause.specs.Instructions.{IsRowOf}
 use Rattle.kl1_clause.specs.NameList.{with_texts}
 use Rattle.kl1_match.specs.Waiting.{AreSame}
 use Rattle.kl1_goals.specs.declared.task.Task.{Task}
-use Rattle.kl1_goals.specs.declared.task.Task.TheVariants.{Monitor, Reduces}
+use Rattle.kl1_goals.specs.declared.task.Task.TheVariants.{Monitor, Reduces, Substitutes}
 use Rattle.kl1_goals.specs.declared.goal.Goal.{Goal}
 use Rattle.kl1_goals.specs.Lists.{is_monitor}
 use Rattle.kl1_shoen_paths.specs.declared.shoen.Shoen.{Shoen}
@@ -91,6 +91,7 @@ settled_old f hooks more h k ms ss x g agree i inside ne up s =
     by_task : (t : Task CellName) → IsTaskIn h t → task_with (meaning f h) t ≡ task_with (meaning f k) t
     by_task Monitor j = refl
     by_task (Reduces q) j = ap model.reduces (aims_same h (meaning f h) (meaning f k) agree q j)
+    by_task (Substitutes x) j = ap model.substitutes (agree x j)
 
     by_front : (y : Option (Cell CellName)) → control_at ss g.shoen ≡ y → front_with (meaning f h) y ≡ front_with (meaning f k) y
     by_front None e = refl
@@ -128,8 +129,8 @@ front_new f k ss x v numbered e c unbound =
 
 -- ---- an account after a start
 
-pub started_kept : (a b : Account) (mid : Held CellName) (texts : List (List ℕ)) (row : List Instruction) (numbers : List CellName) (count : ℕ) (cells : List (Cell CellName)) (awaited : List ℕ) (o : Opening) (allowance low high : ℕ) (goal : Term) (hooks after : List Hook) (known next : ℕ) → IsKept a hooks known → AreNumbered 0 a.shoens → AreLower a.shoens → low ≤ monitor_priority → high ≤ monitor_priority →
-    IsStart a b mid texts row numbers count cells awaited o allowance low high goal → AreNames a.names → AreSmall b.names → a.entries < most_entries → after ≡ (hooks ++ hooks_on (o.streams.control ∷ []) (a.last_goal + 1)) ++ hooks_on awaited (a.last_goal + 2) → next ≡ suc known → IsKept b after next
+pub started_kept : (a b : Account) (mid : Held CellName) (texts : List (List ℕ)) (row : List Instruction) (numbers : List CellName) (count : ℕ) (cells : List (Cell CellName)) (awaited : List ℕ) (o : Opening) (allowance low high : ℕ) (goal : Term) (hooks after : List Hook) (known next : ℕ) → IsKept a hooks known → AreNumbered 0 a.shoens → AreLower a.shoens → low ≤ MONITOR_PRIORITY → high ≤ MONITOR_PRIORITY →
+    IsStart a b mid texts row numbers count cells awaited o allowance low high goal → AreNames a.names → AreSmall b.names → a.entries < MOST_ENTRIES → after ≡ (hooks ++ hooks_on (o.streams.control ∷ []) (a.last_goal + 1)) ++ hooks_on awaited (a.last_goal + 2) → next ≡ suc known → IsKept b after next
 started_kept a b mid texts row numbers count cells awaited o allowance low high goal hooks after known next k numbered lower below also_below s once small room hung counted =
     let firm : IsFirm a = record { some = k.some; goals = k.goals; shoens = k.shoens; numbered = numbered } in
     let firm_then = started_firm a b mid texts row numbers count cells awaited o allowance low high goal firm below also_below s in
@@ -205,25 +206,25 @@ refused_start a c allowance low high goal o r e s f at =
     subst S e s (state_of f a) at
 
 -- room for a goal is within what there may be
-pub variables_within : (c : Counted) (variables nodes : ℕ) → has_room_beside c variables nodes ≡ true → c.variables + suc (suc variables) ≤ most_variables
+pub variables_within : (c : Counted) (variables nodes : ℕ) → has_room_beside c variables nodes ≡ true → c.variables + suc (suc variables) ≤ MOST_VARIABLES
 variables_within c variables nodes e =
-    let p = and_parts (nat_lt c.goals most_goals && nat_le (c.variables + suc (suc variables)) most_variables && nat_le (c.nodes + nodes) most_nodes) (nat_lt c.shoens most_shoens) e in
-    let q = and_parts (nat_lt c.goals most_goals && nat_le (c.variables + suc (suc variables)) most_variables) (nat_le (c.nodes + nodes) most_nodes) p.0 in
-    leb-true (c.variables + suc (suc variables)) most_variables (and_parts (nat_lt c.goals most_goals) (nat_le (c.variables + suc (suc variables)) most_variables) q.0).1
+    let p = and_parts (nat_lt c.goals MOST_GOALS && nat_le (c.variables + suc (suc variables)) MOST_VARIABLES && nat_le (c.nodes + nodes) MOST_NODES) (nat_lt c.shoens MOST_SHOENS) e in
+    let q = and_parts (nat_lt c.goals MOST_GOALS && nat_le (c.variables + suc (suc variables)) MOST_VARIABLES) (nat_le (c.nodes + nodes) MOST_NODES) p.0 in
+    leb-true (c.variables + suc (suc variables)) MOST_VARIABLES (and_parts (nat_lt c.goals MOST_GOALS) (nat_le (c.variables + suc (suc variables)) MOST_VARIABLES) q.0).1
 
-pub nodes_within : (c : Counted) (variables nodes : ℕ) → has_room_beside c variables nodes ≡ true → c.nodes + nodes ≤ most_nodes
+pub nodes_within : (c : Counted) (variables nodes : ℕ) → has_room_beside c variables nodes ≡ true → c.nodes + nodes ≤ MOST_NODES
 nodes_within c variables nodes e =
-    let p = and_parts (nat_lt c.goals most_goals && nat_le (c.variables + suc (suc variables)) most_variables && nat_le (c.nodes + nodes) most_nodes) (nat_lt c.shoens most_shoens) e in
-    leb-true (c.nodes + nodes) most_nodes (and_parts (nat_lt c.goals most_goals && nat_le (c.variables + suc (suc variables)) most_variables) (nat_le (c.nodes + nodes) most_nodes) p.0).1
+    let p = and_parts (nat_lt c.goals MOST_GOALS && nat_le (c.variables + suc (suc variables)) MOST_VARIABLES && nat_le (c.nodes + nodes) MOST_NODES) (nat_lt c.shoens MOST_SHOENS) e in
+    leb-true (c.nodes + nodes) MOST_NODES (and_parts (nat_lt c.goals MOST_GOALS && nat_le (c.variables + suc (suc variables)) MOST_VARIABLES) (nat_le (c.nodes + nodes) MOST_NODES) p.0).1
 
 -- ---- the start of a draft that was put in place
 
 pub is_start : (a b : Account) (mid : Held CellName) (texts : List (List ℕ)) (row : List Instruction) (numbers sliced : List CellName) (count : ℕ) (cells : List (Cell CellName)) (awaited : List ℕ) (o : Opening) (allowance low high : ℕ) (goal code : Term) (gs : List (Goal CellName)) (ss : List (Shoen CellName)) (work : List ℕ) (nodes : ℕ) →
     IsFormed a.held → IsDrafted a.modules a.names texts row count allowance a.reports a.held mid cells awaited o → Grown a.held mid → IsPlaced sliced row cells mid b.held gs b.goals ss b.shoens b.work a.last_goal allowance low high o → gs ≡ a.goals → ss ≡ a.shoens → sliced ≡ numbers → Grown mid b.held →
     code ≡ goal → texts ≡ with_names [] (names_of code) → IsRowOf (with_names [] (names_of code)) row (nodes_of code) → IsTrue (is_numbered goal) → count ≡ highest goal → texts_of b.names ≡ with_texts (texts_of a.names) texts → AreNumbersOf b.names texts numbers → ((f : Reading) → Fits b.names f → Fits a.names f) →
-    b.own_name ≡ a.own_name → b.sessions ≡ a.sessions → b.modules ≡ a.modules → b.work ≡ work → work ≡ a.work → b.last_goal ≡ suc (suc a.last_goal) → b.variables ≡ a.variables + (count + 2) → nodes ≡ goal_nodes code → b.nodes ≡ a.nodes + nodes → b.reports ≡ o.streams.made → b.entries ≡ a.entries + 1 →
+    b.own_name ≡ a.own_name → b.rules ≡ a.rules → b.sessions ≡ a.sessions → b.modules ≡ a.modules → b.work ≡ work → work ≡ a.work → b.last_goal ≡ suc (suc a.last_goal) → b.variables ≡ a.variables + (count + 2) → nodes ≡ goal_nodes code → b.nodes ≡ a.nodes + nodes → b.reports ≡ o.streams.made → b.entries ≡ a.entries + 1 →
     IsStart a b mid texts row numbers count cells awaited o allowance low high goal
-is_start a b mid texts row numbers sliced count cells awaited o allowance low high goal code gs ss work nodes formed d grown p e f h up same t is numbered many names are fits own sessions modules worked was last variables counted all reports entries =
+is_start a b mid texts row numbers sliced count cells awaited o allowance low high goal code gs ss work nodes formed d grown p e f h up same t is numbered many names are fits own rules sessions modules worked was last variables counted all reports entries =
     let P : List (Goal CellName) → Type 0 = λ x. IsPlaced sliced row cells mid b.held x b.goals ss b.shoens b.work a.last_goal allowance low high o in
     let Q : List (Shoen CellName) → Type 0 = λ x. IsPlaced sliced row cells mid b.held a.goals b.goals x b.shoens b.work a.last_goal allowance low high o in
     let R : List CellName → Type 0 = λ x. IsPlaced x row cells mid b.held a.goals b.goals a.shoens b.shoens b.work a.last_goal allowance low high o in
@@ -242,6 +243,7 @@ is_start a b mid texts row numbers sliced count cells awaited o allowance low hi
       numbers_are = are;
       fits = fits;
       own = own;
+      rules = rules;
       sessions = sessions;
       modules = modules;
       work = worked ∙ was;

@@ -1,7 +1,11 @@
 -- Reductions: which are refused, and what an account is after a draft is put in place.
 use Rattle.std.specs.Prelude.{◌≡◌, ℕ, suc, ◌+◌, ◌<◌, ◌≤◌, [], ◌&&◌, nat_lt, if◌then◌else◌, Bool, true, false, List, length, find, Option, Some, None}
-use Rattle.kl1_model.specs.Limits.{most_entries}
+use Rattle.kl1_model.specs.declared.rules.Rules.{Rules}
+use Rattle.kl1_model.specs.declared.limits.TheConstants.{MOST_ENTRIES}
 use Rattle.kl1_model.specs.Ending.{settle}
+use Rattle.kl1_model.specs.State as model_state
+use Rattle.kl1_model.specs.State.{monitor, reduces, substitutes}
+use Rattle.kl1_model.specs.Module.{Module}
 use Rattle.kl1_model.specs.Reduction as model
 use Rattle.kl1_model.specs.Reduction.{goes, moved, heard}
 use Rattle.kl1_model.specs.code.Waits.{move_by}
@@ -17,8 +21,10 @@ use Rattle.kl1_stream.specs.Controls.{control_as}
 use Rattle.kl1_clause.specs.declared.predicate.Predicate.{Predicate}
 use Rattle.kl1_match.specs.declared.place.Place.{Place}
 use Rattle.kl1_goals_moves.specs.declared.moves.Move.{Move}
-use Rattle.kl1_goals_moves.specs.Moves.{MovesAs}
-use Rattle.kl1_goals.specs.declared.task.Task.TheVariants.{Monitor, Reduces}
+use Rattle.kl1_goals_moves.specs.Moves.{IsMove, MovesAs}
+use Rattle.kl1_goals_moves.specs.Substitutes.{move_by_clause}
+use Rattle.kl1_goals.specs.declared.task.Task.{Task}
+use Rattle.kl1_goals.specs.declared.task.Task.TheVariants.{Monitor, Reduces, Substitutes}
 use Rattle.kl1_goals.specs.declared.goal.Goal.{Goal}
 use Rattle.kl1_goals.specs.Lists.{has_number}
 use Rattle.kl1_goals.specs.Tables.{Tabled}
@@ -31,7 +37,7 @@ use Rattle.kl1_user_events.specs.Views.{refusal_of}
 use Rattle.kl1_user_effects.specs.declared.draft.Draft.{Draft}
 use Rattle.kl1_atoms.specs.declared.known.Known.{Known}
 use Rattle.kl1_user_effects.specs.Fitting.{Reading, Fits}
-use Rattle.kl1_user_effects.specs.Account.{Account, state_of, aim}
+use Rattle.kl1_user_effects.specs.Account.{Account, meaning, task_with, state_of, aim, whole}
 use Rattle.kl1_user_effects.specs.Works.{Knows}
 use Rattle.kl1_user_effects.specs.Installing.{goals_after, IsFitting}
 use Rattle.kl1_user_effects.specs.Settled.{AreEnabled}
@@ -99,7 +105,30 @@ move_at ms h x c f = move_or_go (move_by (contents ms) (aim f h x) c)
 pub record IsMade (h : Held CellName) (ms : List Numbered) (entries : ℕ) (x : Qualified CellName) (c : ℕ) (p : Predicate CellName) (places : List (Place CellName)) (text : List ℕ) (made : Move CellName) : Type 0 where
   pub moves : (f : Reading) → Knows ms f → MovesAs f h (contents ms) (aim f h x) c p places text (Some made)
   pub some : (f : Reading) → Knows ms f → move_by (contents ms) (aim f h x) c ≡ Some (move_at ms h x c f)
-  pub room : entries < most_entries
+  pub room : entries < MOST_ENTRIES
+
+-- what a task can do by clause `c`; a monitor makes no move
+abbrev pub task_move : List Module → model_state.Task → ℕ → Option model.Move
+task_move modules monitor c = None
+task_move modules (reduces t) c = move_by modules t c
+task_move modules (substitutes t) c = move_by_clause t c
+
+-- the move of a task by clause `c`
+abbrev pub move_of_task : List Numbered → Held CellName → Task CellName → ℕ → Reading → model.Move
+move_of_task ms h k c f = move_or_go (task_move (contents ms) (task_with (meaning f h) k) c)
+
+-- a task is for this cell
+abbrev pub IsTaskFor : Qualified CellName → Task CellName → Type 0
+IsTaskFor x Monitor = ⊥
+IsTaskFor x (Reduces q) = q ≡ x
+IsTaskFor x (Substitutes y) = whole y ≡ x
+
+-- a goal of this task, which is for a cell, can do this move by clause `c`, and there is room in the journal
+pub record IsToMake (h : Held CellName) (ms : List Numbered) (entries : ℕ) (k : Task CellName) (x : Qualified CellName) (c : ℕ) (p : Predicate CellName) (places : List (Place CellName)) (text : List ℕ) (made : Move CellName) : Type 0 where
+  pub task : IsTaskFor x k
+  pub moves : (f : Reading) → Knows ms f → IsMove f h (task_move (contents ms) (task_with (meaning f h) k) c) p places text (Some made)
+  pub some : (f : Reading) → Knows ms f → task_move (contents ms) (task_with (meaning f h) k) c ≡ Some (move_of_task ms h k c f)
+  pub room : entries < MOST_ENTRIES
 
 -- an account after a draft is put in place, if its store holds this and its shoens are those of a tree, with one entry more in its
 -- journal; names are those that it has then
@@ -116,10 +145,11 @@ put_in a h t d = record a {
   entries = suc a.entries;
 }
 
--- an account of this name, with this number of open sessions and these parts
-abbrev pub account_at : (List ℕ × ℕ) → Held CellName → List (Goal CellName) → Tree CellName → List Numbered → List Known → ℕ → ℕ → ℕ → ℕ → ℕ → Account
-account_at own h goals t ms known last variables nodes reports entries = record {
+-- an account of this name, with this number of open sessions, with these rules and parts
+abbrev pub account_at : (List ℕ × ℕ) → Rules → Held CellName → List (Goal CellName) → Tree CellName → List Numbered → List Known → ℕ → ℕ → ℕ → ℕ → ℕ → Account
+account_at own rules h goals t ms known last variables nodes reports entries = record {
   own_name = own.0;
+  rules = rules;
   held = h;
   goals = goals;
   shoens = t.shoens;

@@ -2,7 +2,7 @@
 use Rattle.std.specs.Prelude.{◌≡◌, ℕ, suc, ◌+◌, ◌<◌, ◌≤◌, true, List, [], map, Option, Some, None, option_and_then}
 use Rattle.std.specs.List.{AllByRecursion}
 use Rattle.kl1_model.specs.declared.message.Message.{Message}
-use Rattle.kl1_model.specs.Limits.{most_variables, most_nodes, most_entries}
+use Rattle.kl1_model.specs.declared.limits.TheConstants.{MOST_VARIABLES, MOST_NODES, MOST_ENTRIES}
 use Rattle.kl1_model.specs.Control.{message_nodes}
 use Rattle.kl1_model.specs.State.{State}
 use Rattle.kl1_model.specs.Event.{control, sent, refuse, with_entry}
@@ -53,9 +53,9 @@ Refuses ss variables nodes entries n m r =
 pub record Allows (ss : List (Shoen CellName)) (variables nodes entries n : ℕ) (m : Message) (o : Origin CellName) : Type 0 where
   pub found : option_and_then (λ h. h.origin) (shoen_in n ss) ≡ Some o
   pub message : is_message m ≡ true
-  pub has_variables : variables < most_variables
-  pub has_nodes : nodes + message_nodes m ≤ most_nodes
-  pub journal : entries < most_entries
+  pub has_variables : variables < MOST_VARIABLES
+  pub has_nodes : nodes + message_nodes m ≤ MOST_NODES
+  pub journal : entries < MOST_ENTRIES
   pub steps : (t : Means) (s : State) (last : ℕ) (goals : List (Goal CellName)) → Counts variables nodes entries s →
       step (state_with s t last goals ss) (control n m) ≡ record { state = with_entry (sent_on n m (t o.control) (state_with s t last goals ss)); reply = sent }
 
@@ -67,7 +67,7 @@ PutsOn n m x old new ss us before after =
 
 -- a message to shoen `n` is drafted, and what hangs on the tail that it binds was looked at
 pub record IsSent (ms : List Numbered) (old new : Kept CellName) (goals : List (Goal CellName)) (t u : Tree CellName) (variables nodes entries n : ℕ) (m : Message) (d : Draft) : Type 0 where
-  pub journal : entries < most_entries
+  pub journal : entries < MOST_ENTRIES
   pub added : d.added.items ≡ []
   pub leaves : (gs : List (Goal CellName)) → AllByRecursion (λ g. 0 < g.number) gs → goals_after gs d ≡ restood d.changes.items gs
   pub inside : AreShoensIn new.held u.shoens

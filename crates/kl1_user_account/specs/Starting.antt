@@ -5,13 +5,13 @@ use Rattle.kl1_model.specs.Text.{text_of}
 use Rattle.kl1_model.specs.declared.built_in.BuiltIn.{BuiltIn}
 use Rattle.kl1_model.specs.code.TermCode.{nodes_of}
 use Rattle.kl1_model.specs.Meaning.{cell, highest, is_numbered}
-use Rattle.kl1_model.specs.Limits.{monitor_priority, most_goals, most_variables, most_nodes, most_shoens, most_reports}
+use Rattle.kl1_model.specs.declared.limits.TheConstants.{MONITOR_PRIORITY, MOST_GOALS, MOST_VARIABLES, MOST_NODES, MOST_SHOENS, MOST_REPORTS, MOST_ENTRIES, MOST_NAMES}
 use Rattle.kl1_model.specs.Nodes.{goal_nodes}
 use Rattle.kl1_model.specs.Opening.{may_start, with_next_variables}
 use Rattle.kl1_model.specs.Report.{started_report, exhausted_report}
 use Rattle.kl1_model.specs.State.{State, names_of, with_names}
 use Rattle.kl1_model.specs.Tree.{goals_alive}
-use Rattle.kl1_model.specs.Event.{start, refuse, most_entries, most_names}
+use Rattle.kl1_model.specs.Event.{start, refuse}
 use Rattle.kl1_model.specs.Step.{step}
 use Rattle.kl1_model.specs.declared.life.Life.TheVariants.{Living}
 use Rattle.kl1_text.specs.Reading.{Reads}
@@ -58,15 +58,15 @@ pub record HasNames (s : State) (names : List Known) (counted : Counted) : Type 
 -- whether a goal with `variables` variables and `nodes` structures can be started beside what is counted
 abbrev pub has_room_beside : Counted → ℕ → ℕ → Bool
 has_room_beside c variables nodes =
-    nat_lt c.goals most_goals && nat_le (c.variables + suc (suc variables)) most_variables && nat_le (c.nodes + nodes) most_nodes && nat_lt c.shoens most_shoens
+    nat_lt c.goals MOST_GOALS && nat_le (c.variables + suc (suc variables)) MOST_VARIABLES && nat_le (c.nodes + nodes) MOST_NODES && nat_lt c.shoens MOST_SHOENS
 
 -- a goal may be started, and this is its code
 pub record IsStartable (names : List Known) (counted : Counted) (allowance low high : ℕ) (goal code : Term) : Type 0 where
   pub code_is : code ≡ goal
   pub may : may_start allowance low high goal ≡ true
-  pub few : nat_lt most_names (length (with_texts (texts_of names) (with_names [] (names_of goal)))) ≡ false
+  pub few : nat_lt MOST_NAMES (length (with_texts (texts_of names) (with_names [] (names_of goal)))) ≡ false
   pub keeps : has_room_beside counted (highest goal) (goal_nodes goal) ≡ true
-  pub room : counted.entries < most_entries
+  pub room : counted.entries < MOST_ENTRIES
 
 -- what comes of a goal that is to be started
 abbrev pub StartsAs : List Known → Counted → ℕ → ℕ → ℕ → Term → Starting → Type 0
@@ -77,7 +77,7 @@ StartsAs names counted allowance low high goal (Coded code) = IsStartable names 
 -- control stream
 abbrev pub two_goals : ℕ → ℕ → Bool → ℕ → Cell CellName → Option ℕ → List (Goal CellName)
 two_goals last shoen may high x standing =
-    record { number = suc last; task = Monitor; shoen = shoen; priority = monitor_priority; standing = None; is_enabled = true }
+    record { number = suc last; task = Monitor; shoen = shoen; priority = MONITOR_PRIORITY; standing = None; is_enabled = true }
     ∷ record { number = suc (suc last); task = Reduces (whole x); shoen = shoen; priority = high; standing = standing; is_enabled = may } ∷ []
 
 -- a shoen that the console opens for a goal, with these streams
@@ -111,7 +111,7 @@ abbrev pub tells_at : Term → Term → Opens → Opens
 tells_at message (variable v) o =
     let next = suc o.last in
     let link = cell message (variable next) in
-    if occurs v message || not (nat_lt o.made most_reports) then record o { is_broken = true }
+    if occurs v message || not (nat_lt o.made MOST_REPORTS) then record o { is_broken = true }
     else record { control = replace v link o.control; reports = replace v link o.reports; tail = variable next; is_broken = o.is_broken; last = next; made = suc o.made }
 tells_at message t o = record o { is_broken = true }
 

@@ -1,7 +1,7 @@
 // Modules that are loaded.
 
 ghost use Rattle.std.specs.Prelude.{◌≡◌, ◌↔◌, ℕ, ◌≤◌, ◌<◌, false, [], ◌∷◌, ◌++◌, length, IfOk, OnOk, OnErr, vec_capacity};
-ghost use Rattle.kl1_model.specs.Limits.{most_source_bytes};
+ghost use Rattle.kl1_model.specs.declared.limits.TheConstants.{MOST_SOURCE_BYTES};
 ghost use Rattle.kl1_model.specs.Module.{read_module, good};
 ghost use Rattle.kl1_atoms.specs.Names.{AreNames};
 ghost use Rattle.kl1_store.specs.Hooks.{HasGrown};
@@ -87,7 +87,7 @@ fn draft_found<C: CodeSource>(
     requires names { AreNames names.now.names }
     requires small { AreSmall names.now.names }
     requires rows { (f : Reading) → Fits names.now.names f → AreRead f modules.now.loaded }
-    requires few { length source.now ≤ most_source_bytes }
+    requires few { length source.now ≤ MOST_SOURCE_BYTES }
     requires of { C.has codes.now (C.place found) }
     requires module { read_module source.now ≡ good (C.meaning found) }
     ensures loads { IfOk result (LoadsAs modules.now.loaded names.now.names entries source.now) }
@@ -113,7 +113,7 @@ fn draft_new<C: CodeSource>(
     requires names { AreNames names.now.names }
     requires small { AreSmall names.now.names }
     requires rows { (f : Reading) → Fits names.now.names f → AreRead f modules.now.loaded }
-    requires few { length source.now ≤ most_source_bytes }
+    requires few { length source.now ≤ MOST_SOURCE_BYTES }
     ensures loads { IfOk result (LoadsAs modules.now.loaded names.now.names entries source.now) }
     ensures stands { IfOk result (StandsIn (C.has codes.new)) }
     ensures same { (p : ℕ × ℕ) → C.has codes.old p ↔ C.has codes.new p }

@@ -8,7 +8,7 @@ ghost use Rattle.kl1_store.specs.Hooks.{HasGrown};
 ghost use Rattle.kl1_clause.specs.Predicates.{AreSome};
 ghost use Rattle.kl1_goals_moves.specs.Kinds.{IsKind, KindIn};
 ghost use Rattle.kl1_goals_moves.specs.Moves.{HasPredicate};
-ghost use Rattle.kl1_goals.specs.declared.task.Task.TheVariants.{Monitor, Reduces};
+ghost use Rattle.kl1_goals.specs.declared.task.Task.TheVariants.{Monitor, Reduces, Substitutes};
 ghost use Rattle.kl1_goals.specs.Lists.{is_monitor};
 ghost use Rattle.kl1_shoen.specs.Shoens.{is_enabled_at};
 ghost use Rattle.kl1_shoen_paths.specs.declared.shoen.Shoen.{Shoen};
@@ -23,7 +23,9 @@ use kl1_clause::Predicate;
 use kl1_codes::CodeSource;
 use kl1_codes_modules::CodedModules;
 use kl1_goals::{Goal, GoalTable, Task};
-use kl1_goals_moves::{Call, Kind, Trial, kind_of_qualified, or_none, standing_of};
+use kl1_goals_moves::{
+    Call, Kind, Trial, kind_of_qualified, or_none, standing_of, substitute_standing,
+};
 use kl1_shoen::ShoenTree;
 use kl1_store::{Cell, Qualified, Store};
 use kl1_store_hooks::hang_on;
@@ -186,6 +188,26 @@ pub(crate) fn monitor_standing(
     }
 }
 
+/// The clause by which substitute `number` can step, for what a cell is: 0, or none as long as it waits. The number is hung on the
+/// variable that it waits for then.
+pub(crate) fn substitute_hung(
+    store: &mut Store<CellName>,
+    trial: &mut Trial<CellName>,
+    number: u64,
+    term: Cell<CellName>,
+) -> Result<Option<u64>, AllocError>
+    requires term { IsIn store.old.held term }
+    ensures stands { IfOk result (λ standing. (modules : List Numbered) (shoens : List (Shoen CellName)) (shoen : ℕ) → StandsAt modules shoens store.old.held store.new.hooks shoen (Substitutes term) (record { number = number; standing = standing })) }
+    ensures held { store.new.held ≡ store.old.held }
+    ensures grown { HasGrown store.old store.new }
+{
+    let standing = substitute_standing(store, term, trial)?;
+    if !trial.awaited.is_empty() {
+        hang_on(store, trial.awaited.as_slice(), number)?;
+    }
+    Ok(standing)
+}
+
 /// The clause by which a goal can step, or none. The predicate of goals of one kind is known here and below; the goal's number is hung
 /// on each variable that it waits for.
 #[inline(always)]
@@ -211,6 +233,7 @@ fn task_standing<C: CodeSource>(
         Task::Reduces(cell) => {
             standing_at(store, modules, known, predicate, trial, goal.number, cell)
         }
+        Task::Substitutes(term) => substitute_hung(store, trial, goal.number, term),
     }
 }
 

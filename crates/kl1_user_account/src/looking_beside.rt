@@ -17,7 +17,7 @@ ghost use Rattle.kl1_user_effects.specs.Kept.{IsTaskIn, AreGoalsIn, AreShoensIn}
 ghost use Rattle.kl1_user_effects.specs.Works.{Knows};
 ghost use Rattle.kl1_user_account.specs.Looking.{StandsAt, FindsOut, LooksBelow, LooksAtAll};
 
-use crate::looking::{hung_standing, monitor_standing};
+use crate::looking::{hung_standing, monitor_standing, substitute_hung};
 use kl1_clause::Predicate;
 use kl1_codes::CodeSource;
 use kl1_codes_modules::{CodedModule, CodedModules};
@@ -99,6 +99,7 @@ fn task_beside<C: CodeSource>(
     match task {
         Task::Monitor => monitor_standing(store, shoens, number, shoen),
         Task::Reduces(cell) => standing_beside(store, modules, draft, trial, number, cell),
+        Task::Substitutes(term) => substitute_hung(store, trial, number, term),
     }
 }
 

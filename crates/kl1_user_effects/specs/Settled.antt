@@ -4,10 +4,10 @@ use Rattle.std.specs.Prelude.{◌≡◌, ℕ, ◌||◌, List, [], Option, None, 
 use Rattle.std.specs.List.{AllByRecursion}
 use Rattle.kl1_model.specs.Module.{Module}
 use Rattle.kl1_model.specs.State as model
-use Rattle.kl1_model.specs.State.{monitor, reduces}
+use Rattle.kl1_model.specs.State.{monitor, reduces, substitutes}
 use Rattle.kl1_model.specs.Control.{Control, awaits_message, tells, tells_other, ends, breaks_off, control_of}
 use Rattle.kl1_model.specs.code.Awaited.{awaited_by_control}
-use Rattle.kl1_model.specs.code.Waits.{term_clause, awaited_by_term}
+use Rattle.kl1_model.specs.code.Waits.{term_clause, awaited_by_term, substitute_clause, awaited_by_substitute}
 use Rattle.kl1_text.specs.declared.cell_name.CellName.{CellName}
 use Rattle.kl1_store.specs.declared.cell.Cell.{Cell}
 use Rattle.kl1_store.specs.Hooks.{Hook}
@@ -56,11 +56,13 @@ awaited_by_monitor (Some c) = awaited_by_control c
 abbrev pub task_clause : List Module → Option Control → model.Task → Option ℕ
 task_clause modules c monitor = monitor_clause c
 task_clause modules c (reduces t) = term_clause modules t
+task_clause modules c (substitutes t) = substitute_clause t
 
 -- the variables that a task waits for, with this at the front of its shoen's control stream
 abbrev pub awaited_by_task : List Module → Option Control → model.Task → List ℕ
 awaited_by_task modules c monitor = awaited_by_monitor c
 awaited_by_task modules c (reduces t) = awaited_by_term modules t
+awaited_by_task modules c (substitutes t) = awaited_by_substitute t
 
 -- a goal stands as the clauses of the modules and the control streams of the shoens have it, and hangs on each variable that it
 -- waits for, for a reading

@@ -9,7 +9,8 @@ use Rattle.kl1_model.specs.Module.{Clause, Module}
 use Rattle.kl1_model.specs.Match.{Answer, yes, no, wait, match_patterns, guard_term, places_of, verdict, Call, call_of, clauses_of}
 use Rattle.kl1_model.specs.Arithmetic.{Evaluated, comes_to, awaits, is_no_expression, evaluated}
 use Rattle.kl1_model.specs.Goal.{is_execute}
-use Rattle.kl1_model.specs.Look.{Spelling, spelled, awaits_code, misspelled, spelling, most_spelled, Look, right, waits_on, wrong, ExecuteArguments, arguments_look}
+use Rattle.kl1_model.specs.Look.{Spelling, spelled, awaits_code, misspelled, spelling, Look, right, waits_on, wrong, goal_look, ExecuteArguments, arguments_look}
+use Rattle.kl1_model.specs.declared.limits.TheConstants.{MOST_SPELLED}
 use Rattle.kl1_model.specs.Reduction.{Move, execute_arguments, term_move}
 use Rattle.kl1_model.specs.Choice.{call_clauses}
 
@@ -197,7 +198,7 @@ awaited_by_execute a b = []
 abbrev pub awaited_by_pair : List ℕ → Term → Term → List ℕ
 awaited_by_pair f a b =
     if bytes_eq f (codes ":=") then awaited_by_evaluated (evaluated b)
-    else if bytes_eq f (codes "atom_from") then awaited_by_spelling (spelling most_spelled a)
+    else if bytes_eq f (codes "atom_from") then awaited_by_spelling (spelling MOST_SPELLED a)
     else if bytes_eq f (codes ":") then awaited_by_execute a b
     else []
 
@@ -205,6 +206,20 @@ awaited_by_pair f a b =
 abbrev pub awaited_by_built_in : Term → List ℕ
 awaited_by_built_in (structure f (more a (more b none))) = awaited_by_pair f a b
 awaited_by_built_in t = []
+
+-- the variable that a substitute waits for while its term is this
+abbrev pub awaited_by_substitute : Term → List ℕ
+awaited_by_substitute t = awaited_by_look (goal_look t)
+
+-- the clause by which a substitute can step by what is found of its term: 0, unless it waits
+abbrev pub look_clause : Look → Option ℕ
+look_clause right = Some 0
+look_clause (waits_on v) = None
+look_clause wrong = Some 0
+
+-- the clause by which a substitute can step while its term is this
+abbrev pub substitute_clause : Term → Option ℕ
+substitute_clause t = look_clause (goal_look t)
 
 -- the variables that a term waits for as a goal
 abbrev pub awaited_by_term : List Module → Term → List ℕ

@@ -199,6 +199,7 @@ fn put_done(
         None => answer.fail(),
         Some(Move::Raises(kind)) => put_raised(answer, kind)?,
         Some(Move::Goes) => answer.put(b" goes"),
+        Some(Move::GivesWay) => answer.put(b" gives way"),
         Some(Move::Unifies(left, right)) => put_cells(answer, store, &[left, right])?,
         Some(Move::Names(target)) => put_named(answer, store, trial.text.as_slice(), target)?,
         Some(Move::Opens(structure)) => put_opened(answer, store, structure)?,

@@ -2,7 +2,7 @@ use Rattle.std.proofs.Common.{◌≡◌, ◌+◌, ◌<◌, Some, length, sym, �
 use Rattle.std.proofs.lemmas.Bool.{cases_eq}
 use Rattle.std.proofs.lemmas.List.{length-set}
 use Rattle.atomic_table.specs.Table.{Me}
-use Rattle.kl1_model.specs.Limits.{first_number}
+use Rattle.kl1_model.specs.declared.limits.TheConstants.{FIRST_NUMBER}
 use Rattle.kl1_atoms.specs.declared.face.View.{View}
 use Rattle.kl1_text.specs.Words.{words_of}
 use Rattle.kl1_atoms.specs.Names.{text_in}
@@ -19,7 +19,7 @@ loop-word-preserved c = record {
   words = λ t e k h. elim (cases_eq k c.loop-word.word) [
     | inl here ↦
         let accounts = subst (λ (m : Me (Unit {0}) View). (own m.0).accounts ≡ c.args.self.now.accounts) (sym c.loop-word.invariant.same) c.requires.accounts in
-        let known = subst (λ (m : Me (Unit {0}) View). text_in (own m.0).knows (first_number + c.args.entry) ≡ Some t) (sym c.loop-word.invariant.same) e in
+        let known = subst (λ (m : Me (Unit {0}) View). text_in (own m.0).knows (FIRST_NUMBER + c.args.entry) ≡ Some t) (sym c.loop-word.invariant.same) e in
         let inside : c.loop-word.word < length c.loop-word.words = omega (arith, c.loop-word.invariant.eight) in
         rw here (get_or-set_same c.loop-word.words c.loop-word.word c.read.result 0 inside
         ∙ c.read.ensures.tells.known t c.args.entry c.loop-word.word known (omega arith) (ap (λ n. word_place n c.args.entry c.loop-word.word) (sym accounts)))

@@ -1,5 +1,5 @@
 use Rattle.std.proofs.Common.{◌≡◌, ℕ, ◌+◌, ◌<◌, List, Some, length, slice_index}
-use Rattle.kl1_model.specs.Limits.{first_number}
+use Rattle.kl1_model.specs.declared.limits.TheConstants.{FIRST_NUMBER}
 use Rattle.kl1_text.specs.Words.{words_of}
 use Rattle.kl1_atoms.specs.Names.{text_in}
 use Rattle.kl1_atoms.specs.Plays.{own}
@@ -11,5 +11,5 @@ invariant-loop-word l = record {
   of : l.seat.table_id ≡ l.initial.seat.table_id;
   same : l.seat.me ≡ l.initial.seat.me;
   eight : length l.words ≡ 8;
-  words : (t : List ℕ) → text_in (own l.initial.seat.me.0).knows (first_number + l.entry) ≡ Some t → (k : ℕ) → k < l.word → slice_index l.words k ≡ slice_index (words_of 8 t) k;
+  words : (t : List ℕ) → text_in (own l.initial.seat.me.0).knows (FIRST_NUMBER + l.entry) ≡ Some t → (k : ℕ) → k < l.word → slice_index l.words k ≡ slice_index (words_of 8 t) k;
 }

@@ -1,7 +1,7 @@
 use Rattle.std.proofs.Common.{◌≡◌, ◌<◌, ◌≤◌, length, ◌∙◌, IsTrue, arith, append_assoc, append-nil, nat_le}
 use Rattle.std.specs.List.{list_all}
 use Rattle.std.proofs.lemmas.Bool.{and_parts, leb-true}
-use Rattle.kl1_model.specs.Limits.{most_name_bytes}
+use Rattle.kl1_model.specs.declared.limits.TheConstants.{MOST_NAME_BYTES}
 use Rattle.kl1_model.specs.Text.{is_text, is_name_byte}
 use Rattle.kl1_text.proofs.Words.{bytes_of_none, bytes_of_step}
 use Rattle.kl1_text.proofs.atom_text.AtomText.unpacked.Goals as goal
@@ -32,7 +32,7 @@ returns-clause-value c = whole_name c
 
 pub returns-clause-short : goal.returns-clause-short
 returns-clause-short c =
-    leb-true (length c.loop-word.out) most_name_bytes (and_parts (nat_le (length c.loop-word.out) most_name_bytes) (list_all is_name_byte c.loop-word.out) (is_name c)).0
+    leb-true (length c.loop-word.out) MOST_NAME_BYTES (and_parts (nat_le (length c.loop-word.out) MOST_NAME_BYTES) (list_all is_name_byte c.loop-word.out) (is_name c)).0
 
 pub returns-clause-text : goal.returns-clause-text
 returns-clause-text c = is_name c

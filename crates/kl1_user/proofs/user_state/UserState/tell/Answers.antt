@@ -2,7 +2,7 @@ use Rattle.std.proofs.Common.{sym, ap}
 use Rattle.kl1_model.specs.Event as model
 use Rattle.kl1_user_events.specs.Views.{query_of}
 use Rattle.kl1_user.proofs.Steps.{asks_same}
-use Rattle.kl1_user.proofs.user_state.UserState.answer.Goals as goal
+use Rattle.kl1_user.proofs.user_state.UserState.tell.Goals as goal
 
 pub returns-in-Value-clause-step : goal.returns-in-Value-clause-step
 returns-in-Value-clause-step g c =
