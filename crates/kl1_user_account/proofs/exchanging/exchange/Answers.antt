@@ -1,4 +1,4 @@
-use Rattle.std.proofs.Common.{◌≡◌, ◌∙◌}
+use Rattle.std.proofs.Common.{◌∙◌}
 use Rattle.kl1_user_account.specs.Exchanging.{held_exchanged}
 use Rattle.kl1_user_account.proofs.Exchanges.{exchanged_next, exchanged_done}
 use Rattle.kl1_user_account.proofs.exchanging.exchange.Goals as goal

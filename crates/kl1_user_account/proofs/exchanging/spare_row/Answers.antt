@@ -1,4 +1,4 @@
-use Rattle.std.proofs.Common.{◌≡◌, ◌+◌, ap, ◌∙◌}
+use Rattle.std.proofs.Common.{◌+◌, ap, ◌∙◌}
 use Rattle.kl1_user_account.proofs.Exchanges.{spared_next, spared_all}
 use Rattle.kl1_user_account.proofs.exchanging.spare_row.Goals as goal
 

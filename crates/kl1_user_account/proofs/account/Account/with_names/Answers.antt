@@ -1,9 +1,7 @@
-use Rattle.std.proofs.Common.{◌≡◌, ℕ, ◌≤◌, List, length, sym, ap, ◌∙◌, subst}
+use Rattle.std.proofs.Common.{ℕ, ◌≤◌, List, length, sym, ap, ◌∙◌, subst}
 use Rattle.kl1_model.specs.declared.limits.TheConstants.{MOST_NAMES}
 use Rattle.kl1_model.specs.State.{fresh_with}
-use Rattle.kl1_atoms.specs.declared.known.Known.{Known}
-use Rattle.kl1_clause.specs.NameList.{with_texts}
-use Rattle.kl1_user_effects.specs.Account.{state_of, texts_of}
+use Rattle.kl1_user_effects.specs.Account.{state_of}
 use Rattle.kl1_user_account.proofs.GivenNames.{put_to_none}
 use Rattle.kl1_user_account.proofs.account.Account.with_names.Goals as goal
 
