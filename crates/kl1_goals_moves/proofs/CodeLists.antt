@@ -3,11 +3,11 @@ use Rattle.std.proofs.Common.{◌≡◌, ℕ, zero, suc, ◌+◌, ◌-◌, ◌<�
 use Rattle.std.specs.Prelude.{pos, negsuc, ◌&&◌, codes, bytes_eq}
 use Rattle.std.specs.List.{list_all}
 use Rattle.std.proofs.lemmas.Bool.{cond-true, le-leb}
+use Rattle.kl1_model.specs.declared.limits.TheConstants.{MOST_NAME_BYTES, MOST_SPELLED}
 use Rattle.kl1_model.specs.Text.{is_name_byte, is_text}
 use Rattle.kl1_model.specs.Term.{Term, variable, integer, atom, structure, none, more}
 use Rattle.kl1_model.specs.Look as model
 use Rattle.kl1_model.specs.Look.{spelled, awaits_code, misspelled, spelled_before, spelled_by, spelling}
-use Rattle.kl1_model.specs.declared.limits.TheConstants.{MOST_SPELLED}
 use Rattle.kl1_model.specs.declared.built_in.BuiltIn.{BuiltIn}
 use Rattle.kl1_text.specs.Reading.{Reads}
 use Rattle.kl1_store.specs.declared.cell.Cell.{Cell}
@@ -103,4 +103,4 @@ one_more text text' n left own some count = let e : length text' ≡ length text
 
 -- the text is a name at the end
 pub text_is : (text : List ℕ) (left : ℕ) → length text + left ≡ MOST_SPELLED → list_all is_name_byte text ≡ true → is_text text ≡ true
-text_is text left n e = let le : length text ≤ MOST_SPELLED = omega (arith, n) in ap (λ b. b && list_all is_name_byte text) (le-leb (length text) MOST_SPELLED le) ∙ e
+text_is text left n e = let le : length text ≤ MOST_NAME_BYTES = omega (arith, n) in ap (λ b. b && list_all is_name_byte text) (le-leb (length text) MOST_NAME_BYTES le) ∙ e

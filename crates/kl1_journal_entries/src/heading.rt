@@ -3,6 +3,7 @@
 ghost use Rattle.std.specs.Prelude.{◌≡◌, ◌+◌, ◌≤◌, ◌++◌, length, bytes_eq, option_map, IfSome};
 ghost use Rattle.kl1_model.specs.declared.limits.TheConstants.{MOST_SESSIONS, MOST_NAMES};
 ghost use Rattle.kl1_model_history.specs.JournalText.{version, first_line, rules_of, heading_in};
+ghost use Rattle.kl1_text.specs.declared.short_bytes.TheConstants.{MOST_SHORT_BYTES};
 ghost use Rattle.kl1_journal_entries.specs.Reading.{heading_view};
 
 use itoa::Buffer;
@@ -45,7 +46,7 @@ fn rules_of(word: &[u8]) -> Option<Rules>
 
 /// Puts bytes after others.
 fn put_short(out: &mut ShortBytes, bytes: &[u8])
-    requires { length out.old + length bytes.now ≤ 128 }
+    requires { length out.old + length bytes.now ≤ MOST_SHORT_BYTES }
     ensures { out.new ≡ out.old ++ bytes.now }
 {
     let mut rest = bytes;

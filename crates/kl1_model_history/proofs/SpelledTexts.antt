@@ -77,7 +77,7 @@ either_names true m n g h = g
 either_names false m n g h = h
 
 spelled_names : (a : Term) (s : Spelling) → IsSpelled MOST_SPELLED s → MayName (spells a s)
-spelled_names a (spelled text) h = and_from (nat_le (length text) MOST_NAME_BYTES) (list_all is_name_byte text) (le-leb (length text) MOST_NAME_BYTES h.1) h.0
+spelled_names a (spelled text) h = and_from (nat_le (length text) MOST_NAME_BYTES) (list_all is_name_byte text) (le-leb (length text) MOST_NAME_BYTES (let few = h.1 in omega arith)) h.0
 spelled_names a (awaits_code v) h = tt
 spelled_names a misspelled h = tt
 

@@ -15,7 +15,7 @@ abbrev pub are_distinct : List (List ℕ) → Bool
 are_distinct [] = true
 are_distinct (n ∷ ns) = not (list_any (bytes_eq n) ns) && are_distinct ns
 
--- the accounts that the first line names: 1 to 16 distinct names of accounts after the word `accounts`
+-- the accounts that the first line names: 1 to 32 distinct names of accounts after the word `accounts`
 abbrev pub accounts_in : List (List ℕ) → Option (List (List ℕ))
 accounts_in [] = None
 accounts_in (w ∷ names) = if bytes_eq w (codes "accounts") && nat_le 1 (length names) && nat_le (length names) MOST_ACCOUNTS && list_all is_account_name names && are_distinct names then Some names else None
