@@ -28,6 +28,7 @@ pub(crate) fn version(rules: Rules) -> &'static [u8]
     match rules {
         Rules::One => b"1",
         Rules::Two => b"2",
+        Rules::Three => b"3",
     }
 }
 
@@ -35,11 +36,14 @@ pub(crate) fn version(rules: Rules) -> &'static [u8]
 fn rules_of(word: &[u8]) -> Option<Rules>
     ensures { result ≡ rules_of word.now }
 {
-    if is_same(word, b"1") {
+    if is_same(word, version(Rules::One)) {
         return Some(Rules::One);
     }
-    if is_same(word, b"2") {
+    if is_same(word, version(Rules::Two)) {
         return Some(Rules::Two);
+    }
+    if is_same(word, version(Rules::Three)) {
+        return Some(Rules::Three);
     }
     None
 }

@@ -99,5 +99,5 @@ pub const MOST_LISTED: usize = 64;
 /// The greatest allowance of a shoen, in reductions.
 pub const MOST_ALLOWANCE: u64 = (1 << 63) - 1;
 
-/// The most codes from which `atom_from` makes a name.
-pub const MOST_SPELLED: usize = 63;
+/// The most codes from which `atom_from` makes a name by the first and the second rules.
+pub const MOST_SPELLED_BEFORE: usize = 63;

@@ -1,7 +1,7 @@
 -- Scripts: their accounts, and what is written for their records.
 use Rattle.std.specs.Prelude.{ℕ, nat_le, not, ◌&&◌, Bool, true, if◌then◌else◌, List, [], ◌∷◌, ◌++◌, length, codes, bytes_eq, Option, Some, None}
 use Rattle.std.specs.List.{list_any, list_all}
-use Rattle.kl1_model.specs.declared.rules.Rules.TheVariants.{Two}
+use Rattle.kl1_model.specs.declared.rules.Rules.TheVariants.{Three}
 use Rattle.kl1_model.specs.declared.limits.TheConstants.{MOST_ACCOUNTS}
 use Rattle.kl1_model.specs.AccountName.{is_account_name}
 use Rattle.kl1_model.specs.Event.{refused, syntax}
@@ -39,9 +39,9 @@ abbrev pub after_all : Kept → List (Option Command) → Kept
 after_all k [] = k
 after_all k (c ∷ cs) = after_all (done_by k c).kept cs
 
--- an account alone: the fresh account, which keeps to the second rules, after its own commands among records
+-- an account alone: the fresh account, which keeps to the third rules, after its own commands among records
 abbrev pub alone_after : List ℕ → List Record → Kept
-alone_after name records = after_all (fresh_kept Two name) (commands_of name records)
+alone_after name records = after_all (fresh_kept Three name) (commands_of name records)
 
 -- the lines of a reply, each with the account's name before it
 abbrev pub written_reply : List ℕ → List (List ℕ) → List ℕ
