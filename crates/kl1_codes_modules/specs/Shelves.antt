@@ -1,5 +1,5 @@
 -- The modules of an account, in order of loading.
-use Rattle.std.specs.Prelude.{◌≡◌, ℕ, List, [], ◌∷◌, refl}
+use Rattle.std.specs.Prelude.{◌≡◌, ℕ, List, [], ◌∷◌, ◌++◌, refl}
 use Rattle.kl1_model.specs.declared.rules.Rules.{Rules}
 use Rattle.std.specs.Coded.{Coded, code_by, coded×, coded_list, coded_ℕ}
 use Rattle.kl1_codes_modules.specs.Numbered.{Numbered, numbered_code, number_of}
@@ -18,6 +18,10 @@ shelf_code =
 pub record Program : Type 0 where
   pub rules : Rules
   pub loaded : List Numbered
+
+-- a program with one module more
+abbrev pub with_last : Program → Numbered → Program
+with_last program m = record program { loaded = program.loaded ++ m ∷ [] }
 
 -- each entry stands under the number of its module
 abbrev pub AreKeyed : List (ℕ × Numbered) → Type 0
