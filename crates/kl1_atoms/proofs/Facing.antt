@@ -1,12 +1,10 @@
 -- What sound words show: a table of names, no text twice, and no more names than entries.
-use Rattle.std.proofs.Common.{◌≡◌, ◌≢◌, ℕ, zero, suc, ◌+◌, ◌-◌, ◌*◌, ◌<◌, ◌≤◌, List, [], ◌∷◌, length, Option, Some, None, slice_index, IsTrue, refl, sym, ap, ◌∙◌, subst, inl, inr, arith, eqb, true, false}
+use Rattle.std.proofs.Common.{◌≡◌, ◌≢◌, ℕ, zero, suc, ◌+◌, ◌-◌, ◌*◌, ◌<◌, ◌≤◌, List, [], ◌∷◌, length, Option, Some, None, slice_index, refl, sym, ap, ◌∙◌, subst, inl, inr, arith, eqb, true, false}
 use Rattle.std.specs.List.{IsDistinct, AllByRecursion, list_any}
 use Rattle.std.proofs.lemmas.Bool.{cases_order, ne_eqb, eqb-true, or_cases}
 use Rattle.std.proofs.lemmas.Map.Steps.{length-le_from_distinct_below}
 use Rattle.kl1_model.specs.declared.limits.TheConstants.{BUCKETS_EACH, FIRST_NUMBER, MOST_NAMES}
-use Rattle.kl1_text.specs.Words.{words_of, bytes_of}
-use Rattle.kl1_text.proofs.Words.{words_hold}
-use Rattle.kl1_model.specs.Text.{is_text}
+use Rattle.kl1_text.proofs.Words.{one_name}
 use Rattle.atomic_table.proofs.Lists.{one_turn}
 use Rattle.kl1_atoms.specs.declared.face.Face.{Face}
 use Rattle.kl1_atoms.specs.declared.face.Heard.{Heard}
@@ -18,33 +16,9 @@ use Rattle.kl1_atoms.specs.Plays.{In, Passed, Agreed, EachAgrees, NoneKnows, Mee
 use mathlib.Core.Option.{some}
 use lib.ListN.{get_elem?}
 
--- lists of one length with the same elements are one
-pub same_by_index : (xs ys : List ℕ) → length xs ≡ length ys → ((k : ℕ) → k < length xs → slice_index xs k ≡ slice_index ys k) → xs ≡ ys
-same_by_index [] [] e same = refl
-same_by_index [] (y ∷ ys) e same = absurd (omega arith)
-same_by_index (x ∷ xs) [] e same = absurd (omega arith)
-same_by_index (x ∷ xs) (y ∷ ys) e same =
-    let head : x ≡ y = same 0 (omega arith) in
-    let tail : xs ≡ ys = same_by_index xs ys (omega arith) (λ k h. same (suc k) (omega arith)) in
-    cc
-
--- `words_of n` gives `n` words
-pub length-words_of : (n : ℕ) (bs : List ℕ) → length (words_of n bs) ≡ n
-unfolding words_of
-length-words_of zero bs = refl
-length-words_of (suc n) bs = ap suc (length-words_of n _)
-
--- names whose words are the same are one
-pub same_name : (t u : List ℕ) → IsTrue (is_text t) → IsTrue (is_text u) → ((k : ℕ) → k < 8 → slice_index (words_of 8 t) k ≡ slice_index (words_of 8 u) k) → t ≡ u
-same_name t u name its same =
-    let lt = length-words_of 8 t in
-    let lu = length-words_of 8 u in
-    let e : words_of 8 t ≡ words_of 8 u = same_by_index (words_of 8 t) (words_of 8 u) (lt ∙ sym lu) (λ k h. same k (subst (λ m. k < m) lt h)) in
-    sym (words_hold t name) ∙ ap bytes_of e ∙ words_hold u its
-
 -- an entry has one text
 pub one_text_of : (n : ℕ) (ws : List ℕ) (i j e : ℕ) (t u : List ℕ) → Stands n ws i e t → Stands n ws j e u → t ≡ u
-one_text_of n ws i j e t u st su = same_name t u st.name su.name (λ k h. sym (st.shows k h) ∙ su.shows k h)
+one_text_of n ws i j e t u st su = one_name u t su.name st.name (λ k h l. sym (st.shows k l) ∙ su.shows k h)
 
 -- a bucket points to one entry
 pub one_entry_of : (n : ℕ) (ws : List ℕ) (i e d : ℕ) (t u : List ℕ) → Stands n ws i e t → Stands n ws i d u → e ≡ d

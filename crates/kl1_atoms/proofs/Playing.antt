@@ -6,8 +6,8 @@ use Rattle.std.proofs.Math.ListN.{length-append}
 use mathlib.Core.Option.{some, none}
 use lib.ListN.{get_elem?}
 use Rattle.kl1_model.specs.declared.limits.TheConstants.{BUCKETS_EACH, FIRST_NUMBER, MOST_NAMES}
-use Rattle.kl1_text.specs.Words.{words_of, bytes_of}
-use Rattle.kl1_text.proofs.Words.{words_hold}
+use Rattle.kl1_text.specs.Words.{name_words, bytes_of, word_count, words_to_end}
+use Rattle.kl1_text.proofs.Words.{length-words_of, word_of, ended_hold}
 use prog.Atomic.{either}
 use Rattle.std.proofs.lemmas.Bool.{eq-eqb, ne_eqb}
 use Rattle.kl1_model.specs.Text.{is_text}
@@ -23,7 +23,7 @@ use Rattle.kl1_atoms.specs.Rule.{word_place, Shows, Stands, At, Sound, own_entry
 use Rattle.kl1_atoms.specs.Plays.{IsReady, has_first, own, In, heard_more, Sees, Looks, drafted_more, published_by, learned, LooksAt, ReadsAt, DraftsAt, PublishesAt, LearnsAt}
 use Rattle.kl1_atoms.proofs.Growing.{step_kept, sound_store, fits_store_other, fits_store_own}
 use Rattle.kl1_atoms.proofs.Publishing.{face_after, sound_publish, fits_publish_other, fits_publish_own}
-use Rattle.kl1_atoms.proofs.Facing.{is_table, one_entry_of, length-words_of, knows_names, seen_stands, passed_others, not_known, few_others, one_text_at, meets}
+use Rattle.kl1_atoms.proofs.Facing.{is_table, one_entry_of, knows_names, seen_stands, passed_others, not_known, few_others, one_text_at, meets}
 
 -- what holds of each view that has a first face holds of a view that has one
 pub by_first : (P : View → Type 0) → ((f : Face) (fs : List Face) → P record { faces = f ∷ fs }) → (fs : List Face) → IsTrue (has_first fs) → P record { faces = fs }
@@ -128,16 +128,17 @@ allows_read n slots id i v c first = by_first (λ (u : View). Allows (Kept n) sl
               let a = fits.known.by_number t (FIRST_NUMBER + e) e_is in
               let same : e ≡ a.0 = (let q = a.2 in omega arith) in
               ap (slice_index s.words) (place ∙ ap (λ m. word_place m e k) fits.accounts ∙ ap (λ x. word_place n x k) same) ∙ a.3.shows k few;
+          names = λ t e e_is. (fits.known.by_number t (FIRST_NUMBER + e) e_is).3.name;
         },
       ),
     ))
     v.faces first
 
-pub allows_draft : (n slots id i w : ℕ) (v : View) (c : List (ℕ × Unit {0})) → IsTrue (has_first v.faces) → (own v).used < MOST_NAMES → length (own v).draft < 8
+pub allows_draft : (n slots id i w : ℕ) (v : View) (c : List (ℕ × Unit {0})) → IsTrue (has_first v.faces) → (own v).used < MOST_NAMES → length (own v).draft < name_words
     → i ≡ word_place (own v).accounts (own_entry (own v)) (length (own v).draft)
     → Allows (Kept n) slots id (v, c) i (λ m. w) (λ m. DraftsAt (step slots i w 0 none) (v, c) w)
 allows_draft n slots id i w v c first = by_first
-    (λ (u : View). (own u).used < MOST_NAMES → length (own u).draft < 8 → i ≡ word_place (own u).accounts (own_entry (own u)) (length (own u).draft) → Allows (Kept n) slots id (u, c) i (λ m. w) (λ m. DraftsAt (step slots i w 0 none) (u, c) w))
+    (λ (u : View). (own u).used < MOST_NAMES → length (own u).draft < name_words → i ≡ word_place (own u).accounts (own_entry (own u)) (length (own u).draft) → Allows (Kept n) slots id (u, c) i (λ m. w) (λ m. DraftsAt (step slots i w 0 none) (u, c) w))
     (λ f fs room few place s kept len at small.
     let fits = own_fits n id s kept f fs at in
     let here : i ≡ word_place n (own_entry f) (length f.draft) = place ∙ ap (λ m. word_place m (own_entry f) (length f.draft)) fits.accounts in
@@ -155,14 +156,14 @@ allows_draft n slots id i w v c first = by_first
     v.faces first
 
 -- the entry that a face has drafted shows its text
-draft_shows : (n : ℕ) (ws : List ℕ) (f : Face) (t : List ℕ) → Fits n ws f → f.draft ≡ words_of 8 t → Shows n ws (own_entry f) t
+draft_shows : (n : ℕ) (ws : List ℕ) (f : Face) (t : List ℕ) → Fits n ws f → f.draft ≡ words_to_end t → Shows n ws (own_entry f) t
 draft_shows n ws f t fits e = λ k h.
-    let d = fits.drafted k (let l : length f.draft ≡ 8 = ap length e ∙ length-words_of 8 t in omega arith) in
-    d.2 ∙ ap (λ xs. slice_index xs k) e
+    let d = fits.drafted k (let l : length f.draft ≡ word_count t = ap length e ∙ length-words_of (word_count t) t in omega arith) in
+    d.2 ∙ ap (λ xs. slice_index xs k) e ∙ word_of (word_count t) k t h
 
 -- publishing by the draft is publishing by the text
-published_same : (f : Face) (t : List ℕ) → f.draft ≡ words_of 8 t → IsTrue (is_text t) → face_after f t ≡ published_by f
-published_same f t e name = ap (face_after f) (sym (words_hold t name) ∙ ap bytes_of (sym e))
+published_same : (f : Face) (t : List ℕ) → f.draft ≡ words_to_end t → IsTrue (is_text t) → face_after f t ≡ published_by f
+published_same f t e name = ap (face_after f) (sym (ended_hold t name) ∙ ap bytes_of (sym e))
 
 pub allows_publish : (n slots id i e : ℕ) (v : View) (c : List (ℕ × Unit {0})) (t : List ℕ) (d : ℕ) → IsTrue (has_first v.faces) → IsReady (own v) t d i → e ≡ own_entry (own v) → i < BUCKETS_EACH * n
     → Allows (Kept n) slots id (v, c) i (λ m. either (eqb m 0) (suc e) m) (PublishesAt (step slots i 0 (suc e) none) (v, c))

@@ -4,8 +4,8 @@ use Rattle.std.proofs.lemmas.Bool.{cases_eq, false≢true}
 use Rattle.std.proofs.Math.ListN.{length-append}
 use Rattle.kl1_model.specs.declared.limits.TheConstants.{BUCKETS_EACH, FIRST_NUMBER, MOST_NAMES}
 use Rattle.kl1_text.specs.BuiltIns.{built_in_at}
-use Rattle.kl1_text.specs.Words.{words_of, bytes_of}
-use Rattle.kl1_text.proofs.Words.{words_hold}
+use Rattle.kl1_text.specs.Words.{name_words, words_of, bytes_of, words_to_end}
+use Rattle.kl1_text.proofs.Words.{words_hold, ended_hold}
 use Rattle.kl1_model.specs.Text.{is_text}
 use Rattle.atomic_table.specs.Table.{Me}
 use Rattle.kl1_atoms.specs.declared.known.Known.{Known}
@@ -89,7 +89,7 @@ entry_left f t d drafted walks new = elim walks.room [
 ]
 
 -- a draft leaves a look-up where it is
-pub walks_drafted : (f g : Face) (t : List ℕ) (d : ℕ) (drafted : Bool) → Walks f t d drafted → f.used < MOST_NAMES → Drafts f g (words_of 8 t) → Walks g t d true
+pub walks_drafted : (f g : Face) (t : List ℕ) (d : ℕ) (drafted : Bool) → Walks f t d drafted → f.used < MOST_NAMES → Drafts f g (words_to_end t) → Walks g t d true
 walks_drafted f g t d drafted walks room drafts = record {
   name = walks.name;
   other = walks.other;
@@ -114,10 +114,10 @@ is_ready f t n d bucket walks accounts within way = record {
 }
 
 -- what a face knows once its text is published
-pub made : (f g h : Face) (t : List ℕ) (d : ℕ) (drafted : Bool) → Walks f t d drafted → number_in f.knows t ≡ None → Drafts f g (words_of 8 t) → h ≡ published_by g → Listed h.accounts h.knows → Gives f h t d Made
+pub made : (f g h : Face) (t : List ℕ) (d : ℕ) (drafted : Bool) → Walks f t d drafted → number_in f.knows t ≡ None → Drafts f g (words_to_end t) → h ≡ published_by g → Listed h.accounts h.knows → Gives f h t d Made
 made f g h t d drafted walks new drafts is names =
     let own_same : own_entry g ≡ own_entry f = (let a = drafts.same.account in let u = drafts.used in omega arith) in
-    let text : bytes_of g.draft ≡ t = ap bytes_of drafts.draft ∙ words_hold t walks.name in
+    let text : bytes_of g.draft ≡ t = ap bytes_of drafts.draft ∙ ended_hold t walks.name in
     let pair : own_pair g ≡ record { text = t; number = record { number = FIRST_NUMBER + own_entry f } } = ap (λ (x : ℕ × List ℕ). own_known x) (let e : (own_entry g, bytes_of g.draft) ≡ (own_entry f, t) = cc in e) in
     let knows : h.knows ≡ f.knows ++ record { text = t; number = record { number = FIRST_NUMBER + own_entry f } } ∷ [] =
     ap (λ (x : Face). x.knows) is ∙ ap (λ k. g.knows ++ k ∷ []) pair ∙ ap (λ ks. ks ++ record { text = t; number = record { number = FIRST_NUMBER + own_entry f } } ∷ []) drafts.knows
@@ -174,10 +174,10 @@ kin_seen f g i found sees = record {
 }
 
 -- a face that looked at a free bucket, drafted, and saw who was first
-pub kin_drafted : (f g h k : Face) (n i found at : ℕ) (t : List ℕ) (d : ℕ) (drafted : Bool) → Looks f g i found → found ≤ 0 → Walks f t d drafted → f.accounts ≡ n → i ≡ further n t d → Drafts g h (words_of 8 t) → Sees h k i at → Kin f k
+pub kin_drafted : (f g h k : Face) (n i found at : ℕ) (t : List ℕ) (d : ℕ) (drafted : Bool) → Looks f g i found → found ≤ 0 → Walks f t d drafted → f.accounts ≡ n → i ≡ further n t d → Drafts g h (words_to_end t) → Sees h k i at → Kin f k
 kin_drafted f g h k n i found at t d drafted looks none walks accounts way drafts sees =
     let free = looked_free f g n i found t d drafted looks none walks accounts way in
-    let one : Drafts f h (words_of 8 t) = subst (λ (x : Face). Drafts x h (words_of 8 t)) free.same drafts in
+    let one : Drafts f h (words_to_end t) = subst (λ (x : Face). Drafts x h (words_to_end t)) free.same drafts in
     let two = kin_seen h k i at sees in
     record {
       same = record { accounts = two.same.accounts ∙ one.same.accounts; account = two.same.account ∙ one.same.account };
@@ -225,18 +225,18 @@ pub published_else : (f g : Face) (i found : ℕ) → Publishes f g i found → 
 published_else f g i found publishes full = elim publishes [ inl made_it ↦ absurd (full made_it.0) | inr sees ↦ sees ]
 
 -- a look-up at a free bucket, with its draft
-pub drafted_walks : (f g h : Face) (n i found : ℕ) (t : List ℕ) (d : ℕ) (drafted : Bool) → Looks f g i found → found ≤ 0 → Walks f t d drafted → f.accounts ≡ n → i ≡ further n t d → Drafts g h (words_of 8 t) → Walks h t d true × (h.accounts ≡ n)
+pub drafted_walks : (f g h : Face) (n i found : ℕ) (t : List ℕ) (d : ℕ) (drafted : Bool) → Looks f g i found → found ≤ 0 → Walks f t d drafted → f.accounts ≡ n → i ≡ further n t d → Drafts g h (words_to_end t) → Walks h t d true × (h.accounts ≡ n)
 drafted_walks f g h n i found t d drafted looks none walks accounts way drafts =
     let free = looked_free f g n i found t d drafted looks none walks accounts way in
-    let at_f : Drafts f h (words_of 8 t) = subst (λ (x : Face). Drafts x h (words_of 8 t)) free.same drafts in
+    let at_f : Drafts f h (words_to_end t) = subst (λ (x : Face). Drafts x h (words_to_end t)) free.same drafts in
     (walks_drafted f h t d drafted walks free.room at_f, at_f.same.accounts ∙ accounts)
 
 -- and with its text published
-pub published_walks : (f g h k : Face) (n i found at : ℕ) (t : List ℕ) (d : ℕ) (drafted : Bool) → Looks f g i found → found ≤ 0 → Walks f t d drafted → f.accounts ≡ n → i ≡ further n t d → Drafts g h (words_of 8 t)
+pub published_walks : (f g h k : Face) (n i found at : ℕ) (t : List ℕ) (d : ℕ) (drafted : Bool) → Looks f g i found → found ≤ 0 → Walks f t d drafted → f.accounts ≡ n → i ≡ further n t d → Drafts g h (words_to_end t)
     → Publishes h k i at → at ≡ 0 → Gives f k t d Made
 published_walks f g h k n i found at t d drafted looks none walks accounts way drafts publishes free_yet =
     let free = looked_free f g n i found t d drafted looks none walks accounts way in
-    let at_f : Drafts f h (words_of 8 t) = subst (λ (x : Face). Drafts x h (words_of 8 t)) free.same drafts in
+    let at_f : Drafts f h (words_to_end t) = subst (λ (x : Face). Drafts x h (words_to_end t)) free.same drafts in
     let now = published_now h k i at publishes free_yet in
     made f h k t d drafted walks free.new at_f now.0 now.1
 
@@ -302,19 +302,19 @@ pub text_is_name : (ks : List Known) (n : ℕ) (t : List ℕ) → AreNames ks �
 text_is_name ks n t names none e = names.texts t n (names.forth t n (rw none e))
 
 -- words of a name are held by themselves
-pub held_words : (ws t : List ℕ) → IsTrue (is_text t) → ws ≡ words_of 8 t → (ws ≡ words_of 8 (bytes_of ws)) × (bytes_of ws ≡ t)
+pub held_words : (ws t : List ℕ) → IsTrue (is_text t) → ws ≡ words_of name_words t → (ws ≡ words_of name_words (bytes_of ws)) × (bytes_of ws ≡ t)
 held_words ws t name e =
     let text : bytes_of ws ≡ t = ap bytes_of e ∙ words_hold t name in
-    (e ∙ ap (words_of 8) (sym text), text)
+    (e ∙ ap (words_of name_words) (sym text), text)
 
 -- the words that were read of a known number are its name's
 pub record ReadName (views : List View) (n : ℕ) (ws : List ℕ) : Type 0 where
-  pub held : ws ≡ words_of 8 (bytes_of ws)
+  pub held : ws ≡ words_of name_words (bytes_of ws)
   pub name : IsTrue (is_text (bytes_of ws))
   pub text : text_by (face_in views).knows n ≡ Some (bytes_of ws)
 
 pub read_name : (views taken : List View) (v : View) (n e : ℕ) (ws : List ℕ) → taken ≡ views → taken ≡ v ∷ [] → IsSome (text_by (face_in views).knows n) → built_in_at n ≡ None → Listed (face_in views).accounts (face_in views).knows
-    → e ≡ n - FIRST_NUMBER → ((t : List ℕ) → text_in (own v).knows (FIRST_NUMBER + e) ≡ Some t → ws ≡ words_of 8 t) → ReadName views n ws
+    → e ≡ n - FIRST_NUMBER → ((t : List ℕ) → text_in (own v).knows (FIRST_NUMBER + e) ≡ Some t → ws ≡ words_of name_words t) → ReadName views n ws
 read_name views taken v n e ws was one known none listed place read =
     let found = known_text (face_in views).knows n known none in
     let face : face_in views ≡ own v = ap face_in (sym was ∙ one) in

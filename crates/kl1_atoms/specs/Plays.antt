@@ -1,9 +1,9 @@
 -- What each step on the shared table tells the seat that takes it.
-use Rattle.std.specs.Prelude.{◌≡◌, ◌≢◌, ℕ, suc, ◌+◌, ◌*◌, ◌<◌, ◌≤◌, ◌⊎◌, Bool, true, false, List, [], ◌∷◌, ◌++◌, Some, None, IsTrue, slice_index}
+use Rattle.std.specs.Prelude.{◌≡◌, ◌≢◌, ℕ, suc, ◌+◌, ◌*◌, ◌<◌, ◌≤◌, ◌⊎◌, Bool, true, false, List, [], ◌∷◌, ◌++◌, Some, None, IsTrue}
 use Rattle.kl1_model.specs.declared.limits.TheConstants.{BUCKETS_EACH, FIRST_NUMBER, MOST_NAMES}
 use Rattle.kl1_model.specs.Text.{is_text}
 use Rattle.kl1_text.specs.BuiltIns.{built_in_of}
-use Rattle.kl1_text.specs.Words.{words_of, bytes_of}
+use Rattle.kl1_text.specs.Words.{bytes_of, word_at, word_count, words_to_end}
 use Rattle.atomic_table.specs.Table.{Step, Me}
 use Rattle.kl1_atoms.specs.declared.known.Known.{Known}
 use Rattle.kl1_atoms.specs.declared.face.Face.{Face}
@@ -86,10 +86,12 @@ pub record Meets (f : Face) (fs : List Face) (i found : ℕ) : Type 0 where
   pub agree : EachAgrees f.knows fs
   pub unknown : found ≡ 0 → (t : List ℕ) (d : ℕ) → i ≡ further f.accounts t d → Passed f t d → NoneKnows fs t
 
--- a read of a word: of an entry that was seen, it is the text's word, and likewise of an entry whose name is known
+-- a read of a word: of an entry that was seen, it is the text's word, if the text goes so far, and likewise of an entry whose name is
+-- known; what is known is a name
 pub record Reads (f : Face) (place found : ℕ) : Type 0 where
-  pub seen : (h : Heard) (k : ℕ) → In f.heard h → k < 8 → place ≡ word_place f.accounts h.entry k → found ≡ slice_index (words_of 8 h.text) k
-  pub known : (t : List ℕ) (e k : ℕ) → text_in f.knows (FIRST_NUMBER + e) ≡ Some t → k < 8 → place ≡ word_place f.accounts e k → found ≡ slice_index (words_of 8 t) k
+  pub seen : (h : Heard) (k : ℕ) → In f.heard h → k < word_count h.text → place ≡ word_place f.accounts h.entry k → found ≡ word_at h.text k
+  pub known : (t : List ℕ) (e k : ℕ) → text_in f.knows (FIRST_NUMBER + e) ≡ Some t → k < word_count t → place ≡ word_place f.accounts e k → found ≡ word_at t k
+  pub names : (t : List ℕ) (e : ℕ) → text_in f.knows (FIRST_NUMBER + e) ≡ Some t → IsTrue (is_text t)
 
 -- a face that has drafted one more word
 abbrev pub drafted_more : Face → ℕ → Face
@@ -99,13 +101,13 @@ drafted_more f w = record { accounts = f.accounts; account = f.account; used = f
 abbrev pub own_pair : Face → Known
 own_pair f = record { text = bytes_of f.draft; number = record { number = FIRST_NUMBER + own_entry f } }
 
--- a face may publish its draft, the words of a text, in a bucket of the text's way: all before it were passed
+-- a face may publish its draft, the words of a text up to its end, in a bucket of the text's way: all before it were passed
 pub record IsReady (f : Face) (t : List ℕ) (d i : ℕ) : Type 0 where
   pub room : f.used < MOST_NAMES
   pub bucket : i < BUCKETS_EACH * f.accounts
   pub way : i ≡ further f.accounts t d
   pub passed : Passed f t d
-  pub draft : f.draft ≡ words_of 8 t
+  pub draft : f.draft ≡ words_to_end t
   pub name : IsTrue (is_text t)
   pub other : built_in_of t ≡ None
 

@@ -3,7 +3,7 @@ use Rattle.std.specs.Prelude.{◌≡◌, ℕ, ◌+◌, ◌*◌, ◌<◌, ◌≤�
 use Rattle.kl1_model.specs.declared.limits.TheConstants.{FIRST_NUMBER, MOST_NAMES}
 use Rattle.kl1_model.specs.Text.{is_text}
 use Rattle.kl1_text.specs.BuiltIns.{built_in_of}
-use Rattle.kl1_text.specs.Words.{words_of}
+use Rattle.kl1_text.specs.Words.{words_to_end}
 use Rattle.kl1_atoms.specs.declared.face.Face.{Face}
 use Rattle.kl1_atoms.specs.declared.round.Round.{Round}
 use Rattle.kl1_atoms.specs.declared.round.Round.TheVariants.{Found, Made, Other}
@@ -13,7 +13,7 @@ use Rattle.kl1_atoms.specs.Plays.{Passed}
 
 -- the words that are drafted, if any are
 abbrev pub draft_of : Bool → List ℕ → List ℕ
-draft_of drafted t = if drafted then words_of 8 t else []
+draft_of drafted t = if drafted then words_to_end t else []
 
 -- a face at the start of a look-up of a text
 pub record Starts (f : Face) (t : List ℕ) : Type 0 where

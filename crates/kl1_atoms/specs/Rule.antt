@@ -1,11 +1,11 @@
--- The rule of the shared table of names, for n accounts: n times `BUCKETS_EACH` buckets, and n times `MOST_NAMES` entries of eight words after them.
+-- The rule of the shared table of names, for n accounts: n times `BUCKETS_EACH` buckets, and n times `MOST_NAMES` entries of `name_words` words after them.
 use Rattle.std.specs.Prelude.{◌≡◌, ◌≢◌, ℕ, suc, ◌+◌, ◌*◌, ◌<◌, ◌≤◌, List, [], ◌∷◌, length, Some, None, IsTrue, slice_index}
 use mathlib.Core.Option.{some}
 use lib.ListN.{get_elem?}
 use Rattle.kl1_model.specs.declared.limits.TheConstants.{BUCKETS_EACH, FIRST_NUMBER, MOST_NAMES}
 use Rattle.kl1_model.specs.Text.{is_text}
 use Rattle.kl1_text.specs.BuiltIns.{built_in_of}
-use Rattle.kl1_text.specs.Words.{words_of}
+use Rattle.kl1_text.specs.Words.{name_words, word_at, word_count}
 use Rattle.atomic_table.specs.Table.{State}
 use Rattle.kl1_atoms.specs.declared.face.Face.{Face}
 use Rattle.kl1_atoms.specs.declared.face.Heard.{Heard}
@@ -14,17 +14,17 @@ use Rattle.kl1_atoms.specs.declared.known.Known.{Known}
 use Rattle.kl1_atoms.specs.Names.{text_in, StandIn, AreNames}
 use Rattle.kl1_atoms.specs.Way.{further}
 
--- the words of the table for each account: its buckets, and eight words for each of its names
+-- the words of the table for each account: its buckets, and the words for each of its names
 abbrev pub words_each : ℕ
-words_each = BUCKETS_EACH + 8 * MOST_NAMES
+words_each = BUCKETS_EACH + name_words * MOST_NAMES
 
 -- the place of an entry's word
 abbrev pub word_place : ℕ → ℕ → ℕ → ℕ
-word_place n e k = BUCKETS_EACH * n + 8 * e + k
+word_place n e k = BUCKETS_EACH * n + name_words * e + k
 
--- an entry's words are those of a text
+-- an entry's words are those of a text, up to the one in which it ends; whatever stands after that one isn't part of the text
 abbrev pub Shows : ℕ → List ℕ → ℕ → List ℕ → Type 0
-Shows n ws e t = (k : ℕ) → k < 8 → slice_index ws (word_place n e k) ≡ slice_index (words_of 8 t) k
+Shows n ws e t = (k : ℕ) → k < word_count t → slice_index ws (word_place n e k) ≡ word_at t k
 
 -- a bucket points to an entry, whose text is a name that isn't built in
 pub record Stands (n : ℕ) (ws : List ℕ) (i e : ℕ) (t : List ℕ) : Type 0 where
@@ -74,7 +74,7 @@ pub record Fits (n : ℕ) (ws : List ℕ) (f : Face) : Type 0 where
   pub free : (j : ℕ) → f.used ≤ j → j < MOST_NAMES → Unpublished n ws (MOST_NAMES * f.account + j)
   pub known : StandIn (At n ws) f.knows
   pub heard : AllStand n ws f.heard
-  pub drafted : (k : ℕ) → k < length f.draft → (k < 8) × (f.used < MOST_NAMES) × (slice_index ws (word_place n (own_entry f) k) ≡ slice_index f.draft k)
+  pub drafted : (k : ℕ) → k < length f.draft → (k < name_words) × (f.used < MOST_NAMES) × (slice_index ws (word_place n (own_entry f) k) ≡ slice_index f.draft k)
 
 -- a face is one of a seat's
 abbrev pub Mine : List View → ℕ → ℕ → Face → Type 0

@@ -3,7 +3,7 @@
 ghost use Rattle.std.specs.Prelude.{◌≡◌, ℕ, suc, ◌+◌, ◌*◌, ◌<◌, ◌≤◌, List, [], IsTrue, length};
 ghost use Rattle.kl1_model.specs.declared.limits.TheConstants.{BUCKETS_EACH, MOST_ACCOUNTS, MOST_NAMES};
 ghost use Rattle.kl1_atoms.specs.Rule.{words_each};
-ghost use Rattle.kl1_text.specs.Words.{words_of};
+ghost use Rattle.kl1_text.specs.Words.{name_words};
 ghost use Rattle.kl1_atoms.specs.declared.face.Heard.{Heard};
 ghost use Rattle.kl1_atoms.specs.Rule.{word_place, own_entry};
 ghost use Rattle.kl1_atoms.specs.Seats.{own_part, other_part, joint_view};
@@ -13,13 +13,17 @@ use crate::face::View;
 use crate::law::{Draft, Joined, Law, Learn, Look, Parted, Publish, Read};
 use atomic_table::{Seat, Table};
 use kl1_model::limits::{BUCKETS_EACH, MOST_NAMES};
+use kl1_text::WORDS;
 use std::alloc::Global;
 
 /// The names that one account adds at most, as table places are counted.
 pub(crate) const NAMES_EACH: u64 = MOST_NAMES as u64;
 
-/// The words of the table for each account: its buckets, and eight words for each of its names.
-pub(crate) const WORDS_EACH: usize = BUCKETS_EACH as usize + 8 * MOST_NAMES;
+/// The words of an entry, as table places are counted.
+const ENTRY_WORDS: u64 = WORDS as u64;
+
+/// The words of the table for each account: its buckets, and the words for each of its names.
+pub(crate) const WORDS_EACH: usize = BUCKETS_EACH as usize + WORDS * MOST_NAMES;
 
 /// A table of names for several accounts, in which many threads look names up at once, each with a seat of its own.
 #[derive(Drop)]
@@ -50,12 +54,12 @@ impl AtomTable {
         requires of { seat.old.table_id ≡ self.now.table.shared.table_id }
         requires first { IsTrue (has_first seat.old.me.0.faces) }
         requires entry { entry < MOST_NAMES * self.now.accounts }
-        requires word { word < 8 }
+        requires word { word < name_words }
         ensures of { seat.new.table_id ≡ seat.old.table_id }
         ensures same { seat.new.me ≡ seat.old.me }
         ensures tells { Reads (own seat.old.me.0) (word_place self.now.accounts entry word) result }
     {
-        let place = BUCKETS_EACH * self.accounts + 8 * entry + word;
+        let place = BUCKETS_EACH * self.accounts + ENTRY_WORDS * entry + word;
         self.table.shared.load::<Read>(seat, place as usize)
     }
 
@@ -67,12 +71,12 @@ impl AtomTable {
         requires next { word ≡ length (own seat.old.me.0).draft }
         requires entry { entry ≡ own_entry (own seat.old.me.0) }
         requires bound { entry < MOST_NAMES * self.now.accounts }
-        requires word { word < 8 }
+        requires word { word < name_words }
         requires accounts { (own seat.old.me.0).accounts ≡ self.now.accounts }
         ensures of { seat.new.table_id ≡ seat.old.table_id }
         ensures tells { Steps seat.old.me seat.new.me (λ f g. g ≡ drafted_more f value) }
     {
-        let place = BUCKETS_EACH * self.accounts + 8 * entry + word;
+        let place = BUCKETS_EACH * self.accounts + ENTRY_WORDS * entry + word;
         self.table
             .shared
             .store::<Draft>(seat, place as usize, value);

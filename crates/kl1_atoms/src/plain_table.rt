@@ -25,7 +25,7 @@ pub struct PlainTable {
 }
 
 impl PlainTable {
-    /// A table for 1 to 16 accounts, and a seat for each of them that knows the built-in names alone.
+    /// A table for 1 to 32 accounts, and a seat for each of them that knows the built-in names alone.
     pub fn new(alloc: Global, accounts: usize) -> Result<(PlainTable, Vec<PlainSeat>), AllocError>
         requires { accounts ≤ MOST_ACCOUNTS }
         ensures places { IfOk result (λ made. vec_len made.0.places ≡ MOST_NAMES * accounts) }

@@ -57,7 +57,7 @@ impl AtomTable {
         ensures others { FindsOthers (own seat.old.me.0) (others_of seat.old.me.0.faces) text.now result }
         ensures turns { Ticks turns.old turns.new self.now.accounts result }
     {
-        let start = self.first_bucket(*text);
+        let start = self.first_bucket(text);
         for passed in 0..BUCKETS_EACH * self.accounts {
             turns.tick();
             let bucket = self.bucket_at(start, passed);

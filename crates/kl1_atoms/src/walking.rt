@@ -3,7 +3,7 @@
 ghost use Rattle.std.specs.Prelude.{◌≡◌, ◌≢◌, ℕ, suc, ◌+◌, ◌*◌, ◌%◌, ◌<◌, ◌≤◌, ◌↔◌, Bool, true, false, List, [], IsTrue, length};
 ghost use Rattle.kl1_model.specs.declared.limits.TheConstants.{BUCKETS_EACH, FIRST_NUMBER, MOST_ACCOUNTS, MOST_NAMES};
 ghost use Rattle.kl1_model.specs.Text.{is_text};
-ghost use Rattle.kl1_text.specs.Words.{words_of};
+ghost use Rattle.kl1_text.specs.Words.{words_to_end};
 ghost use Rattle.kl1_atoms.specs.declared.face.Face.{Face};
 ghost use Rattle.kl1_atoms.specs.declared.face.Heard.{Heard};
 ghost use Rattle.kl1_atoms.specs.Way.{further, mixed, start};
@@ -20,8 +20,8 @@ use atomic_table::Seat;
 use kl1_model::limits::{BUCKETS_EACH, FIRST_NUMBER};
 use kl1_text::{AtomNo, AtomText, NameValue};
 
-/// What each word is multiplied by in a mix: odd, and with its bits spread.
-const MIX: u64 = 18_397_679_294_719_823_053;
+/// What each sum is multiplied by in a mix: 2 ^ 64 over the golden ratio, by which names that differ in a few bytes are spread out.
+const MIX: u64 = 11_400_714_819_323_198_485;
 
 /// How many values half the bits of a word have.
 const HALF: u64 = 4_294_967_296;
@@ -39,7 +39,7 @@ impl AtomTable {
         ensures is { (h : Heard) → In (own seat.old.me.0).heard h → h.entry ≡ entry → IsTrue (is_text h.text) → IsTrue result ↔ (h.text ≡ text.now) }
     {
         let words = text.words();
-        for word in 0..8 {
+        for word in 0..words.len() {
             if self.read(seat, entry, word as u64) != words[word] {
                 return false;
             }
@@ -87,13 +87,13 @@ impl AtomTable {
         requires entry { entry ≡ own_entry (own seat.old.me.0) }
         requires bound { entry < MOST_NAMES * self.now.accounts }
         ensures of { seat.new.table_id ≡ seat.old.table_id }
-        ensures tells { Steps seat.old.me seat.new.me (λ f g. Drafts f g (words_of 8 text.now)) }
+        ensures tells { Steps seat.old.me seat.new.me (λ f g. Drafts f g (words_to_end text.now)) }
     {
         if drafted {
             return;
         }
         let words = text.words();
-        for word in 0..8 {
+        for word in 0..words.len() {
             self.draft(seat, entry, word as u64, words[word]);
         }
     }
@@ -133,11 +133,11 @@ impl AtomTable {
     }
 
     /// The bucket where a look-up of a text starts.
-    pub fn first_bucket(&self, text: AtomText) -> u64
-        ensures value { result ≡ start self.now.accounts text }
+    pub fn first_bucket(&self, text: &AtomText) -> u64
+        ensures value { result ≡ start self.now.accounts text.now }
         ensures within { result < BUCKETS_EACH * self.now.accounts }
     {
-        mixed(&text.words()) / HALF * (BUCKETS_EACH * self.accounts) / HALF
+        mixed(text.words()) / HALF * (BUCKETS_EACH * self.accounts) / HALF
     }
 
     /// The bucket that is `passed` after `start`, round the end.
@@ -180,7 +180,7 @@ impl AtomTable {
         ensures turns { turns.new + from ≤ turns.old + MOST_NAMES * self.now.accounts + 2 }
         ensures grow { turns.old ≤ turns.new }
     {
-        let start = self.first_bucket(*text);
+        let start = self.first_bucket(text);
         let mut drafted = false;
         for passed in from..BUCKETS_EACH * self.accounts {
             turns.tick();

@@ -1,6 +1,7 @@
 -- What a goal can do, by the definitions, told of cells and compiled clauses.
 use Rattle.std.specs.Prelude.{◌≡◌, ℕ, ◌<◌, IsTrue, List, length, map, Option, Some, None, slice_get, if◌then◌else◌}
 use Rattle.kl1_model.specs.declared.built_in.BuiltIn.TheVariants.{Failure}
+use Rattle.kl1_model.specs.declared.rules.Rules.{Rules}
 use Rattle.kl1_model.specs.Text.{is_text, text_of}
 use Rattle.kl1_model.specs.Term.{Term}
 use Rattle.kl1_model.specs.Module.{Clause, Module}
@@ -110,5 +111,5 @@ IsMove f h m p places text (Some move.Goes) = m ≡ Some goes
 IsMove f h m p places text (Some move.GivesWay) = m ≡ Some gives_way
 
 -- what a goal can do by the clause numbered `number` is this move, and a text is what it names
-abbrev pub MovesAs : {N : Type 0} → (N → List ℕ) → Held N → List Module → Term → ℕ → Predicate N → List (Place N) → List ℕ → Option (Move N) → Type 0
-MovesAs f h modules t number p places text found = IsMove f h (move_by modules t number) p places text found
+abbrev pub MovesAs : {N : Type 0} → (N → List ℕ) → Held N → Rules → List Module → Term → ℕ → Predicate N → List (Place N) → List ℕ → Option (Move N) → Type 0
+MovesAs f h rules modules t number p places text found = IsMove f h (move_by rules modules t number) p places text found

@@ -5,7 +5,7 @@ use Rattle.std.specs.Coded.{Coded, code_by, coded×, coded⊎, coded_list, coded
 use Rattle.kl1_model.specs.declared.message.Message.{Message}
 use Rattle.kl1_model.specs.declared.message.Message.TheVariants.{Stop, Start, Abort, Allow}
 use Rattle.kl1_model.specs.declared.rules.Rules.{Rules}
-use Rattle.kl1_model.specs.declared.rules.Rules.TheVariants.{One, Two}
+use Rattle.kl1_model.specs.declared.rules.Rules.TheVariants.{One, Two, Three}
 use Rattle.kl1_model.specs.Term.{Term}
 use Rattle.kl1_model.specs.code.TermCode.{term_code}
 use Rattle.kl1_model_history.specs.Journal.{Entry, loads, starts, sends, steps, answers, Journal}
@@ -40,9 +40,11 @@ message_code = code_by (ℕ ⊎ ℕ) (coded⊎ coded_ℕ coded_ℕ) message_part
 abbrev pub rules_number : Rules → ℕ
 rules_number One = 1
 rules_number Two = 2
+rules_number Three = 3
 
 -- the rules with a number
 abbrev pub rules_from : ℕ → Rules
+rules_from (suc (suc (suc n))) = Three
 rules_from (suc (suc n)) = Two
 rules_from n = One
 
@@ -50,6 +52,7 @@ rules_from n = One
 pub rules_same : (r : Rules) → rules_from (rules_number r) ≡ r
 rules_same One = refl
 rules_same Two = refl
+rules_same Three = refl
 
 -- rules are stored as their number
 abbrev pub rules_code : Coded Rules

@@ -3,6 +3,7 @@
 ghost use Rattle.std.specs.Prelude.{◌≡◌, ◌+◌, ◌≤◌, ◌++◌, length, bytes_eq, option_map, IfSome};
 ghost use Rattle.kl1_model.specs.declared.limits.TheConstants.{MOST_SESSIONS, MOST_NAMES};
 ghost use Rattle.kl1_model_history.specs.JournalText.{version, first_line, rules_of, heading_in};
+ghost use Rattle.kl1_text.specs.declared.short_bytes.TheConstants.{MOST_SHORT_BYTES};
 ghost use Rattle.kl1_journal_entries.specs.Reading.{heading_view};
 
 use itoa::Buffer;
@@ -27,6 +28,7 @@ pub(crate) fn version(rules: Rules) -> &'static [u8]
     match rules {
         Rules::One => b"1",
         Rules::Two => b"2",
+        Rules::Three => b"3",
     }
 }
 
@@ -34,18 +36,21 @@ pub(crate) fn version(rules: Rules) -> &'static [u8]
 fn rules_of(word: &[u8]) -> Option<Rules>
     ensures { result ≡ rules_of word.now }
 {
-    if is_same(word, b"1") {
+    if is_same(word, version(Rules::One)) {
         return Some(Rules::One);
     }
-    if is_same(word, b"2") {
+    if is_same(word, version(Rules::Two)) {
         return Some(Rules::Two);
+    }
+    if is_same(word, version(Rules::Three)) {
+        return Some(Rules::Three);
     }
     None
 }
 
 /// Puts bytes after others.
 fn put_short(out: &mut ShortBytes, bytes: &[u8])
-    requires { length out.old + length bytes.now ≤ 128 }
+    requires { length out.old + length bytes.now ≤ MOST_SHORT_BYTES }
     ensures { out.new ≡ out.old ++ bytes.now }
 {
     let mut rest = bytes;

@@ -223,7 +223,7 @@ task_moves s n (substitutes u) clause t m e h = false≢true h
 
 task_reads : (s : State) (n : ℕ) (task : Task) (clause : ℕ) (c : Control) → task_action s n task clause ≡ Some (reads c) → is_monitor task ≡ false → ⊥
 task_reads s n monitor clause c e h = false≢true (sym h)
-task_reads s n (reduces u) clause c e h = no_reading c (term_move s.modules u clause (call_of u)) u e
+task_reads s n (reduces u) clause c e h = no_reading c (term_move s.rules s.modules u clause (call_of u)) u e
 task_reads s n (substitutes u) clause c e h = no_reading c (substitute_move (goal_look u)) u (some_if (clause == 0) (option_map (moves u) (substitute_move (goal_look u))) (reads c) e)
 
 reduces_by : (s : State) (g : Goal) (clause : ℕ) (o : Option Action) → action_of s g clause ≡ o → Reduces s g (reduced_by s g o)

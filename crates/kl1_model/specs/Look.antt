@@ -1,6 +1,6 @@
 -- Built-in goals that look at terms: `atom_from` spells a name, and `shoen:execute` opens a shoen.
 use Rattle.std.specs.Prelude.{ℕ, suc, nat_le, ◌||◌, Bool, if◌then◌else◌, pos, List, [], ◌∷◌, codes, bytes_eq}
-use Rattle.kl1_model.specs.declared.limits.TheConstants.{MOST_SPELLED, MOST_PRIORITY}
+use Rattle.kl1_model.specs.declared.limits.TheConstants.{MOST_PRIORITY}
 use Rattle.kl1_model.specs.Text.{is_name_byte}
 use Rattle.kl1_model.specs.Term.{Term, variable, integer, atom, structure, none, more}
 

@@ -120,7 +120,7 @@ abbrev pub is_word : ℤ → Bool
 is_word (pos n) = nat_lt n NUMBER_LIMIT
 is_word (negsuc n) = nat_lt n NUMBER_LIMIT
 
--- whether a term has names of at most 63 bytes, integers of 64 bits, and structures of 1 to 8 arguments
+-- whether a term has names of at most 127 bytes, integers of 64 bits, and structures of 1 to 8 arguments
 abbrev mutual
   pub is_narrow : Term → Bool
   is_narrow (variable n) = true

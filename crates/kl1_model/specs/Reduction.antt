@@ -1,7 +1,8 @@
 -- Reductions: what a goal can do, and what comes of it.
 use Rattle.std.specs.Prelude.{ℕ, suc, ◌+◌, ◌==◌, nat_le, min, ◌&&◌, Bool, true, false, if◌then◌else◌, List, [], ◌∷◌, ◌++◌, length, map, find, codes, bytes_eq, Option, Some, None, option_map}
-use Rattle.kl1_model.specs.declared.limits.TheConstants.{MOST_GOALS, MOST_VARIABLES, MOST_NODES, MOST_NAMES, MOST_ALLOWANCE, MOST_SPELLED}
+use Rattle.kl1_model.specs.declared.limits.TheConstants.{MOST_GOALS, MOST_VARIABLES, MOST_NODES, MOST_NAMES, MOST_ALLOWANCE}
 use Rattle.kl1_model.specs.Term.{Term, variable, integer, atom, structure, none, more, Replacement}
+use Rattle.kl1_model.specs.declared.rules.Rules.{Rules}
 use Rattle.kl1_model.specs.declared.number.Number.{Number}
 use Rattle.kl1_model.specs.declared.number.Number.TheVariants.{Value, Overflow, ZeroDivisor}
 use Rattle.kl1_model.specs.declared.message.Message.{Message}
@@ -15,7 +16,7 @@ use Rattle.kl1_model.specs.Match.{Call, call_of, Candidate, candidates_of, fails
 use Rattle.kl1_model.specs.Instance.{body_instance, body_priorities, fresh_variables}
 use Rattle.kl1_model.specs.Look.{Spelling, spelled, awaits_code, misspelled, spelling, Look, right, waits_on, wrong, goal_look, ExecuteArguments, arguments_look}
 use Rattle.kl1_model.specs.Control.{Control, awaits_message, tells, tells_other, ends, breaks_off, control_of}
-use Rattle.kl1_model.specs.State.{Task, monitor, reduces, substitutes, Goal, Shoen, State, has_substitutes, shoen_at, replace_all, change_shoen, without_goal, with_name}
+use Rattle.kl1_model.specs.State.{Task, monitor, reduces, substitutes, Goal, Shoen, State, has_substitutes, most_spelled, shoen_at, replace_all, change_shoen, without_goal, with_name}
 use Rattle.kl1_model.specs.Tree.{goals_alive, charge, is_enabled}
 use Rattle.kl1_model.specs.Event.{step_refused, reduced, Transition, refuse, with_entry, recorded}
 pub use Rattle.kl1_model.specs.Report.{failure, overflow, illegal_input, exhaustion}
@@ -92,24 +93,24 @@ execute_move a b = None
 -- ---- built-in goals together: `true`, `=`, and those above
 
 -- what a built-in goal of two terms does
-abbrev pub pair_move : List ℕ → Term → Term → Option Move
-pair_move f a b =
+abbrev pub pair_move : Rules → List ℕ → Term → Term → Option Move
+pair_move rules f a b =
     if bytes_eq f (codes "=") then Some (unifies a b)
     else if bytes_eq f (codes ":=") then assigned a (evaluated b)
-    else if bytes_eq f (codes "atom_from") then spells b (spelling MOST_SPELLED a)
+    else if bytes_eq f (codes "atom_from") then spells b (spelling (most_spelled rules) a)
     else if bytes_eq f (codes ":") then execute_move a b
     else None
 
 -- what a built-in goal does
-abbrev pub built_in_move : Term → Option Move
-built_in_move (atom a) = if bytes_eq a (codes "true") then Some goes else None
-built_in_move (structure f (more a (more b none))) = pair_move f a b
-built_in_move t = None
+abbrev pub built_in_move : Rules → Term → Option Move
+built_in_move rules (atom a) = if bytes_eq a (codes "true") then Some goes else None
+built_in_move rules (structure f (more a (more b none))) = pair_move rules f a b
+built_in_move rules t = None
 
 -- what a term can do by the clause numbered `clause`; a built-in goal takes 0 alone
-abbrev pub term_move : List Module → Term → ℕ → Option Call → Option Move
-term_move modules t clause None = if clause == 0 then built_in_move t else None
-term_move modules t clause (Some call) = call_move modules call clause
+abbrev pub term_move : Rules → List Module → Term → ℕ → Option Call → Option Move
+term_move rules modules t clause None = if clause == 0 then built_in_move rules t else None
+term_move rules modules t clause (Some call) = call_move modules call clause
 
 -- ---- substitutes
 
@@ -142,7 +143,7 @@ monitor_action (Some h) clause = if clause == 0 then read_action (control_of h.c
 -- what a goal of shoen `shoen` can do by its task and the clause numbered `clause`
 abbrev pub task_action : State → ℕ → Task → ℕ → Option Action
 task_action s shoen monitor clause = monitor_action (shoen_at shoen s.shoens) clause
-task_action s shoen (reduces t) clause = option_map (moves t) (term_move s.modules t clause (call_of t))
+task_action s shoen (reduces t) clause = option_map (moves t) (term_move s.rules s.modules t clause (call_of t))
 task_action s shoen (substitutes t) clause = if clause == 0 then option_map (moves t) (substitute_move (goal_look t)) else None
 
 -- what a goal can do by the clause numbered `clause`, or nothing if that isn't allowed

@@ -4,7 +4,8 @@ use Rattle.std.specs.List.{list_any}
 use Rattle.kl1_model.specs.declared.life.Life.{Life}
 use Rattle.kl1_model.specs.declared.life.Life.TheVariants.{Living, Terminated, Aborted}
 use Rattle.kl1_model.specs.declared.rules.Rules.{Rules}
-use Rattle.kl1_model.specs.declared.rules.Rules.TheVariants.{One, Two}
+use Rattle.kl1_model.specs.declared.rules.Rules.TheVariants.{One, Two, Three}
+use Rattle.kl1_model.specs.declared.limits.TheConstants.{MOST_NAME_BYTES, MOST_SPELLED_BEFORE}
 use Rattle.kl1_model.specs.Text.{is_built_in}
 use Rattle.kl1_model.specs.Term.{Term, variable, integer, atom, structure, Terms, none, more, terms_of, replace, Replacement}
 use Rattle.kl1_model.specs.Module.{Clause, goals_of, Module}
@@ -71,6 +72,13 @@ pub record State : Type 0 where
 abbrev pub has_substitutes : Rules → Bool
 has_substitutes One = false
 has_substitutes Two = true
+has_substitutes Three = true
+
+-- the greatest number of codes from which `atom_from` makes a name
+abbrev pub most_spelled : Rules → ℕ
+most_spelled One = MOST_SPELLED_BEFORE
+most_spelled Two = MOST_SPELLED_BEFORE
+most_spelled Three = MOST_NAME_BYTES
 
 -- an account of this name, which keeps to these rules, in which nothing has happened
 abbrev pub fresh : Rules → List ℕ → State

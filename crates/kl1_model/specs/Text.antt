@@ -9,7 +9,7 @@ use Rattle.kl1_model.specs.declared.built_in.BuiltIn.TheVariants.{EmptyList, Lis
 abbrev pub is_name_byte : ℕ → Bool
 is_name_byte b = nat_le 32 b && nat_le b 126
 
--- a name: at most 63 bytes of printable ASCII; no bytes at all is a name too
+-- a name: at most 127 bytes of printable ASCII; no bytes at all is a name too
 abbrev pub is_text : List ℕ → Bool
 is_text bs = nat_le (length bs) MOST_NAME_BYTES && list_all is_name_byte bs
 

@@ -5,7 +5,7 @@ use Rattle.std.proofs.Common.{refl, ap, sym, ◌∙◌, arith}
 use Rattle.std.proofs.lemmas.Bool.{and_parts, le-leb, eqb-true}
 use Rattle.std.proofs.lemmas.List.{append_assoc, append-nil}
 use Rattle.std.proofs.lemmas.Fmt.{length-decimal-le}
-use Rattle.kl1_model.specs.declared.limits.TheConstants.{MOST_NAME_BYTES, NUMBER_LIMIT}
+use Rattle.kl1_model.specs.declared.limits.TheConstants.{MOST_NAME_BYTES, MOST_VARIABLE_BYTES, NUMBER_LIMIT}
 use Rattle.kl1_model.specs.declared.sign.Sign.TheVariants.{Colon}
 use Rattle.kl1_model.specs.Text.{is_name_byte, is_text}
 use Rattle.kl1_model.specs.Name.{is_small_letter, is_word_byte, is_bare, doubled, quoted, name_text}
@@ -145,9 +145,9 @@ lexes_variable v rest ts few none behind =
     let words = digits_are_words (decimal v) (decimal_writes v (omega arith)).digits in
     let short = length-decimal-le 20 v (omega arith) (omega arith) (omega arith) in
     lexes_token (variable_token v)
-    (ap (λ w. bounded (95 ∷ w) (variable_token (95 ∷ w)) (behind_word (decimal v ++ rest))) (word_stops (decimal v) rest words none)
-    ∙ ap (λ w. bounded (spelling v) (variable_token (spelling v)) w) (behind_word_is (decimal v) rest words none)
-    ∙ ap (λ x. if x then token (variable_token (spelling v)) rest else broken) (le-leb (length (spelling v)) MOST_NAME_BYTES (omega (arith, short))))
+    (ap (λ w. bounded MOST_VARIABLE_BYTES (95 ∷ w) (variable_token (95 ∷ w)) (behind_word (decimal v ++ rest))) (word_stops (decimal v) rest words none)
+    ∙ ap (λ w. bounded MOST_VARIABLE_BYTES (spelling v) (variable_token (spelling v)) w) (behind_word_is (decimal v) rest words none)
+    ∙ ap (λ x. if x then token (variable_token (spelling v)) rest else broken) (le-leb (length (spelling v)) MOST_VARIABLE_BYTES (omega (arith, short))))
     behind
 
 -- a colon before what begins with neither `-` nor `=`

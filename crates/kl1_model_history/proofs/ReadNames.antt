@@ -4,7 +4,7 @@ use Rattle.std.specs.List.{list_all, AllByRecursion}
 use Rattle.std.proofs.Common.{refl, sym, ap, ◌∙◌, arith, inl, inr}
 use Rattle.std.proofs.lemmas.Bool.{and_parts, and_from, le-leb, leb-true, eqb-true, or_cases}
 use Rattle.std.proofs.lemmas.List.Folds.{list_all-append}
-use Rattle.kl1_model.specs.declared.limits.TheConstants.{MOST_NAME_BYTES, NUMBER_LIMIT}
+use Rattle.kl1_model.specs.declared.limits.TheConstants.{MOST_NAME_BYTES, MOST_VARIABLE_BYTES, NUMBER_LIMIT}
 use Rattle.kl1_model.specs.declared.sign.Sign.{Sign}
 use Rattle.kl1_model.specs.declared.sign.Sign.TheVariants.{Neck}
 use Rattle.kl1_model.specs.Text.{is_name_byte, is_text}
@@ -166,7 +166,7 @@ by_has ends_line b bs h = tt
 by_has blanks b bs h = tt
 by_has comments b bs h = comment_has (behind_comment bs)
 by_has names b bs h = name_front_has false (b ∷ word_of bs) (behind_word bs) (and_from (is_name_byte b) (list_all is_name_byte (word_of bs)) (between 97 122 b (h refl) (omega arith) (omega arith)) (words_are_names (word_of bs) (words bs)))
-by_has variables b bs h = either_front (nat_le (length (b ∷ word_of bs)) MOST_NAME_BYTES) (token (variable_token (b ∷ word_of bs)) (behind_word bs)) broken tt tt
+by_has variables b bs h = either_front (nat_le (length (b ∷ word_of bs)) MOST_VARIABLE_BYTES) (token (variable_token (b ∷ word_of bs)) (behind_word bs)) broken tt tt
 by_has numbers b bs h = either_front (nat_le (number_of (b ∷ digits_of bs)) NUMBER_LIMIT) (token (digits_token (number_of (b ∷ digits_of bs))) (behind_digits bs)) broken tt tt
 by_has quotes b bs h = quoted_has (quoted_from false [] bs) (quoted_all false [] bs refl)
 by_has dots b bs h = dot_has bs

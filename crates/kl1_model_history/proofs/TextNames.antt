@@ -7,7 +7,7 @@ use Rattle.std.specs.List.{list_all}
 use Rattle.std.proofs.lemmas.Option.{none-some, same_Some}
 use Rattle.std.proofs.lemmas.Slice.Eq.{bytes_eq-Decides}
 use Rattle.kl1_model.specs.declared.rules.Rules.{Rules}
-use Rattle.kl1_model.specs.declared.rules.Rules.TheVariants.{One, Two}
+use Rattle.kl1_model.specs.declared.rules.Rules.TheVariants.{One, Two, Three}
 use Rattle.kl1_model.specs.declared.limits.TheConstants.{NUMBER_LIMIT, MOST_NAMES, MOST_SESSIONS}
 use Rattle.kl1_model.specs.Text.{is_text}
 use Rattle.kl1_model.specs.Name.{is_small_letter, is_word_byte, is_bare, doubled, quoted, name_text}
@@ -80,6 +80,7 @@ heading_same rules m n p q =
 version_back : (rules : Rules) (rest : List ℕ) → (line : List ℕ) → line ≡ codes "journal " ++ version rules ++ 32 ∷ rest → (rules_of (before_space (behind_space line)) ≡ Some rules) × (behind_space (behind_space line) ≡ rest)
 version_back One rest line is = (ap (λ x. rules_of (before_space (behind_space x))) is, ap (λ x. behind_space (behind_space x)) is)
 version_back Two rest line is = (ap (λ x. rules_of (before_space (behind_space x))) is, ap (λ x. behind_space (behind_space x)) is)
+version_back Three rest line is = (ap (λ x. rules_of (before_space (behind_space x))) is, ap (λ x. behind_space (behind_space x)) is)
 
 first_parts : (v m n : List ℕ) → codes "journal " ++ v ++ 32 ∷ [] ++ m ++ 32 ∷ [] ++ n ≡ codes "journal " ++ v ++ 32 ∷ (m ++ 32 ∷ n)
 first_parts v m n = simp append_assoc refl

@@ -6,7 +6,7 @@ use Rattle.std.proofs.lemmas.Bool.{and_parts, and_from, leb-true, ne_eqb, not_fr
 use Rattle.std.proofs.lemmas.List.Folds.{list_all-append}
 use Rattle.std.proofs.lemmas.Slice.Eq.{bytes_eq-Decides}
 use Rattle.kl1_model.specs.declared.rules.Rules.{Rules}
-use Rattle.kl1_model.specs.declared.rules.Rules.TheVariants.{One, Two}
+use Rattle.kl1_model.specs.declared.rules.Rules.TheVariants.{One, Two, Three}
 use Rattle.kl1_model.specs.declared.limits.TheConstants.{NUMBER_LIMIT}
 use Rattle.kl1_model.specs.declared.message.Message.TheVariants.{Stop, Start, Abort, Allow}
 use Rattle.kl1_model.specs.Text.{is_name_byte, is_text}
@@ -102,3 +102,4 @@ name_unbroken t h =
 pub first_unbroken : (rules : Rules) (sessions names : ℕ) → sessions < NUMBER_LIMIT → names < NUMBER_LIMIT → IsUnbroken (first_line rules sessions names)
 first_unbroken One sessions names p q = two_unbroken sessions names p q
 first_unbroken Two sessions names p q = two_unbroken sessions names p q
+first_unbroken Three sessions names p q = two_unbroken sessions names p q

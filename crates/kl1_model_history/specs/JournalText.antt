@@ -4,7 +4,7 @@ use Rattle.std.specs.List.{list_all, list_any}
 use Rattle.kl1_model.specs.declared.message.Message.{Message}
 use Rattle.kl1_model.specs.declared.message.Message.TheVariants.{Stop, Start, Abort, Allow}
 use Rattle.kl1_model.specs.declared.rules.Rules.{Rules}
-use Rattle.kl1_model.specs.declared.rules.Rules.TheVariants.{One, Two}
+use Rattle.kl1_model.specs.declared.rules.Rules.TheVariants.{One, Two, Three}
 use Rattle.kl1_model.specs.declared.limits.TheConstants.{MOST_LINE_BYTES, MOST_NAMES, MOST_SESSIONS}
 use Rattle.kl1_model.specs.Text.{is_text, is_built_in}
 use Rattle.kl1_model.specs.Term.{Term}
@@ -50,6 +50,7 @@ name_line t = codes "name " ++ atom_text t
 abbrev pub version : Rules → List ℕ
 version One = codes "1"
 version Two = codes "2"
+version Three = codes "3"
 
 -- the first line of a journal: its version, how many sessions are open, and how many names follow
 abbrev pub first_line : Rules → ℕ → ℕ → List ℕ
@@ -171,7 +172,11 @@ if_first_line line rules sessions names =
 
 -- the rules of an account whose journal has this version, if it is one
 abbrev pub rules_of : List ℕ → Option Rules
-rules_of w = if bytes_eq w (codes "1") then Some One else if bytes_eq w (codes "2") then Some Two else None
+rules_of w =
+    if bytes_eq w (version One) then Some One
+    else if bytes_eq w (version Two) then Some Two
+    else if bytes_eq w (version Three) then Some Three
+    else None
 
 -- the heading whose line this is, with these rules, if there is one
 abbrev pub heading_with : List ℕ → List ℕ → Rules → Option Heading

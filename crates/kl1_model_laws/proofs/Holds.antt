@@ -14,7 +14,8 @@ use Rattle.kl1_model.specs.Goal.{is_execute}
 use Rattle.kl1_model.specs.Module.{Clause, Module}
 use Rattle.kl1_model.specs.Match.{Answer, yes, no, wait, Match, with_answer, match_pattern, match_patterns, term_at, places_of, verdict, Call, call_of, clauses_of, is_no, Candidate, candidate_by, candidates_within, candidates_from, candidates_of, fails}
 use Rattle.kl1_model.specs.Look.{Spelling, spelled, awaits_code, misspelled, spelling, Look, right, waits_on, wrong, ExecuteArguments, arguments_look}
-use Rattle.kl1_model.specs.declared.limits.TheConstants.{MOST_SPELLED}
+use Rattle.kl1_model.specs.declared.rules.Rules.{Rules}
+use Rattle.kl1_model.specs.State.{most_spelled}
 use Rattle.kl1_model.specs.Reduction.{Move, commits, raises, unifies, names, opens, goes, gives_way, failure, call_move, becomes, assigned, spells, ordered, execute_arguments, order_move, execute_move, pair_move, built_in_move, term_move, substitute_move, equation}
 use Rattle.kl1_model.specs.Asking.{elements_of, elements_in}
 use Rattle.kl1_model.specs.Answering.{unanswered, unanswered_at}
@@ -293,24 +294,24 @@ in_execute P (variable v) b h = tt
 in_execute P (integer i) b h = tt
 in_execute P (structure f ts) b h = tt
 
-in_pair : (P : ℕ → Type 0) (f : List ℕ) (a b : Term) → Holds P a → Holds P b → MayMove P (pair_move f a b)
-in_pair P f a b g h =
+in_pair : (P : ℕ → Type 0) (rules : Rules) (f : List ℕ) (a b : Term) → Holds P a → Holds P b → MayMove P (pair_move rules f a b)
+in_pair P rules f a b g h =
     let last = if bytes_eq f (codes ":") then execute_move a b else None in
-    let third = if bytes_eq f (codes "atom_from") then spells b (spelling MOST_SPELLED a) else last in
+    let third = if bytes_eq f (codes "atom_from") then spells b (spelling (most_spelled rules) a) else last in
     let second = if bytes_eq f (codes ":=") then assigned a (evaluated b) else third in
     if_moves (bytes_eq f (codes "=")) P (Some (unifies a b)) second (g, h)
     (if_moves (bytes_eq f (codes ":=")) P (assigned a (evaluated b)) third (in_assigned P a (evaluated b) g)
-    (if_moves (bytes_eq f (codes "atom_from")) P (spells b (spelling MOST_SPELLED a)) last (in_spelled P b (spelling MOST_SPELLED a) h)
+    (if_moves (bytes_eq f (codes "atom_from")) P (spells b (spelling (most_spelled rules) a)) last (in_spelled P b (spelling (most_spelled rules) a) h)
     (if_moves (bytes_eq f (codes ":")) P (execute_move a b) None (in_execute P a b h) tt)))
 
-in_built_in : (P : ℕ → Type 0) (t : Term) → Holds P t → MayMove P (built_in_move t)
-in_built_in P (atom a) h = if_moves (bytes_eq a (codes "true")) P (Some goes) None tt tt
-in_built_in P (structure f (more a (more b none))) h = in_pair P f a b h.0 h.1.0
-in_built_in P (variable v) h = tt
-in_built_in P (integer i) h = tt
-in_built_in P (structure f none) h = tt
-in_built_in P (structure f (more a none)) h = tt
-in_built_in P (structure f (more a (more b (more c ts)))) h = tt
+in_built_in : (P : ℕ → Type 0) (rules : Rules) (t : Term) → Holds P t → MayMove P (built_in_move rules t)
+in_built_in P rules (atom a) h = if_moves (bytes_eq a (codes "true")) P (Some goes) None tt tt
+in_built_in P rules (structure f (more a (more b none))) h = in_pair P rules f a b h.0 h.1.0
+in_built_in P rules (variable v) h = tt
+in_built_in P rules (integer i) h = tt
+in_built_in P rules (structure f none) h = tt
+in_built_in P rules (structure f (more a none)) h = tt
+in_built_in P rules (structure f (more a (more b (more c ts)))) h = tt
 
 -- a fact holds of the arguments of a call that may be there
 abbrev MayCall : (ℕ → Type 0) → Option Call → Type 0
@@ -341,13 +342,13 @@ in_called P modules call clause h =
     if_moves (clause == 0) P failing (option_map (λ k. commits k) found) (if_moves (fails modules call) P (Some (raises failure)) None tt tt)
     (found_place P (λ k. k.number == clause) (candidates_of modules call) (from P 1 (clauses_of modules call) call.arguments h))
 
-in_term : (P : ℕ → Type 0) (modules : List Module) (t : Term) (clause : ℕ) (o : Option Call) → Holds P t → MayCall P o → MayMove P (term_move modules t clause o)
-in_term P modules t clause None h c = if_moves (clause == 0) P (built_in_move t) None (in_built_in P t h) tt
-in_term P modules t clause (Some call) h c = in_called P modules call clause c
+in_term : (P : ℕ → Type 0) (rules : Rules) (modules : List Module) (t : Term) (clause : ℕ) (o : Option Call) → Holds P t → MayCall P o → MayMove P (term_move rules modules t clause o)
+in_term P rules modules t clause None h c = if_moves (clause == 0) P (built_in_move rules t) None (in_built_in P rules t h) tt
+in_term P rules modules t clause (Some call) h c = in_called P modules call clause c
 
 -- what holds of the variables of a goal holds of those of its move
-pub in_move : (P : ℕ → Type 0) (modules : List Module) (t : Term) (clause : ℕ) (m : Move) → Holds P t → term_move modules t clause (call_of t) ≡ Some m → InMove P m
-in_move P modules t clause m h e = subst (MayMove P) e (in_term P modules t clause (call_of t) h (in_call P t h))
+pub in_move : (P : ℕ → Type 0) (rules : Rules) (modules : List Module) (t : Term) (clause : ℕ) (m : Move) → Holds P t → term_move rules modules t clause (call_of t) ≡ Some m → InMove P m
+in_move P rules modules t clause m h e = subst (MayMove P) e (in_term P rules modules t clause (call_of t) h (in_call P t h))
 
 in_look : (P : ℕ → Type 0) (l : Look) → MayMove P (substitute_move l)
 in_look P right = tt

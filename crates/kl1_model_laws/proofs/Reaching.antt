@@ -31,7 +31,7 @@ pub record Keeping (P : State → Type 0) : Type 0 where
   pub loads : (s : State) (source : List ℕ) (m : Module) → read_module source ≡ good m → nat_lt s.entries MOST_ENTRIES ≡ true → P s → P (with_entry (with_module s m))
   pub starts : (s : State) (allowance low high : ℕ) (t : Term) → IsTree s → may_start allowance low high t ≡ true → has_room_to_start s t ≡ true → nat_lt s.entries MOST_ENTRIES ≡ true → P s → P (with_entry (start_goal s allowance low high t))
   pub sends : (s : State) (n : ℕ) (m : Message) (h : Shoen) (o : Origin) → IsTree s → shoen_at n s.shoens ≡ Some h → h.origin ≡ Some o → nat_lt s.entries MOST_ENTRIES ≡ true → P s → P (with_entry (sent_on n m o.control s))
-  pub moving : (s : State) (n clause : ℕ) (g : Goal) (t : Term) (m : Move) → IsTree s → goal_at n s.goals ≡ Some g → g.task ≡ reduces t → term_move s.modules t clause (call_of t) ≡ Some m → is_enabled s g ≡ true → nat_lt s.entries MOST_ENTRIES ≡ true → P s → P (acted g (moves t m) (with_entry s))
+  pub moving : (s : State) (n clause : ℕ) (g : Goal) (t : Term) (m : Move) → IsTree s → goal_at n s.goals ≡ Some g → g.task ≡ reduces t → term_move s.rules s.modules t clause (call_of t) ≡ Some m → is_enabled s g ≡ true → nat_lt s.entries MOST_ENTRIES ≡ true → P s → P (acted g (moves t m) (with_entry s))
   pub substituting : (s : State) (n : ℕ) (g : Goal) (t : Term) (m : Move) → IsTree s → goal_at n s.goals ≡ Some g → g.task ≡ substitutes t → substitute_move (goal_look t) ≡ Some m → is_enabled s g ≡ true → nat_lt s.entries MOST_ENTRIES ≡ true → P s → P (acted g (moves t m) (with_entry s))
   pub answers : (s : State) (n report v : ℕ) (t : Term) (h : Shoen) (o : Origin) → IsTree s → shoen_at n s.shoens ≡ Some h → h.origin ≡ Some o → may_answer n report t ≡ true → has_room_to_answer s t ≡ true → unanswered_at o.reports report ≡ Some v → nat_lt s.entries MOST_ENTRIES ≡ true → P s → P (with_entry (answered v t s))
   pub reading : (s : State) (n : ℕ) (g : Goal) (h : Shoen) (c : Control) → IsTree s → goal_at n s.goals ≡ Some g → shoen_at g.shoen s.shoens ≡ Some h → control_of h.control ≡ c → nat_lt s.entries MOST_ENTRIES ≡ true → P s → P (acted g (reads c) (with_entry s))
@@ -139,7 +139,7 @@ module _ (P : State → Type 0) (k : Keeping P) where
   acts_monitor s n clause g a None found is r = absurd (none-some a is)
   acts_monitor s n clause g a (Some h) found is r = acts_read s n g h a (control_of h.control) refl (some_if (clause == 0) (read_action (control_of h.control)) a is) found r
 
-  acts_move : (s : State) (n clause : ℕ) (g : Goal) (a : Action) (t : Term) (o : Option Move) → term_move s.modules t clause (call_of t) ≡ o → option_map (moves t) o ≡ Some a → g.task ≡ reduces t → Ready s n g → Acts s g a
+  acts_move : (s : State) (n clause : ℕ) (g : Goal) (a : Action) (t : Term) (o : Option Move) → term_move s.rules s.modules t clause (call_of t) ≡ o → option_map (moves t) o ≡ Some a → g.task ≡ reduces t → Ready s n g → Acts s g a
   acts_move s n clause g a t None e is task r = absurd (none-some a is)
   acts_move s n clause g a t (Some m) e is task r = subst (Acts s g) (same_Some (moves t m) a is) (k.moving s n clause g t m r.tree r.there task e r.enabled r.free r.holds)
 
@@ -149,7 +149,7 @@ module _ (P : State → Type 0) (k : Keeping P) where
 
   acts_task : (s : State) (n clause : ℕ) (g : Goal) (a : Action) (task : Task) → g.task ≡ task → task_action s g.shoen task clause ≡ Some a → Ready s n g → Acts s g a
   acts_task s n clause g a monitor e is r = acts_monitor s n clause g a (shoen_at g.shoen s.shoens) refl is r
-  acts_task s n clause g a (reduces t) e is r = acts_move s n clause g a t (term_move s.modules t clause (call_of t)) refl is e r
+  acts_task s n clause g a (reduces t) e is r = acts_move s n clause g a t (term_move s.rules s.modules t clause (call_of t)) refl is e r
   acts_task s n clause g a (substitutes t) e is r = acts_substitute s n g a t (substitute_move (goal_look t)) refl (some_if (clause == 0) (option_map (moves t) (substitute_move (goal_look t))) a is) e r
 
   holds_action : (s : State) (n clause : ℕ) (g : Goal) (o : Option Action) → action_of s g clause ≡ o → goal_at n s.goals ≡ Some g → IsTree s → P s → Holds (reduced_by s g o)

@@ -344,12 +344,12 @@ own_answered s n report v t h o there e may is p =
 own_acts : (c : ℕ → ℕ) (g : Goal) (t : Term) (m : Move) (s : State) → IsFree c s.last_variable t → InMove (Free c s.last_variable) m → Of c s → Tails (acted g (moves t m) (with_entry s))
 own_acts c g t m s f h a = (c, own_acted c g t m (with_entry s) f h (record { goals = a.goals; shoens = a.shoens; above = a.above }))
 
-own_moving : (s : State) (n clause : ℕ) (g : Goal) (t : Term) (m : Move) → goal_at n s.goals ≡ Some g → g.task ≡ reduces t → term_move s.modules t clause (call_of t) ≡ Some m → Tails s → Tails (acted g (moves t m) (with_entry s))
+own_moving : (s : State) (n clause : ℕ) (g : Goal) (t : Term) (m : Move) → goal_at n s.goals ≡ Some g → g.task ≡ reduces t → term_move s.rules s.modules t clause (call_of t) ≡ Some m → Tails s → Tails (acted g (moves t m) (with_entry s))
 own_moving s n clause g t m there task e p =
     let c = p.0 in
     let a = p.1 in
     let free : IsFree c s.last_variable t = subst (TaskFree c s.last_variable) task (the_goal (λ g. TaskFree c s.last_variable g.task) n s.goals g there a.goals) in
-    own_acts c g t m s free (in_move (Free c s.last_variable) s.modules t clause m free e) a
+    own_acts c g t m s free (in_move (Free c s.last_variable) s.rules s.modules t clause m free e) a
 
 own_substituting : (s : State) (n : ℕ) (g : Goal) (t : Term) (m : Move) → goal_at n s.goals ≡ Some g → g.task ≡ substitutes t → substitute_move (goal_look t) ≡ Some m → Tails s → Tails (acted g (moves t m) (with_entry s))
 own_substituting s n g t m there task e p =

@@ -722,13 +722,13 @@ names_in_quotes_script = codes "accounts alice" ++ 10 ∷ [] ++ codes "alice sta
 abbrev pub names_in_quotes_output : List ℕ
 names_in_quotes_output = codes "alice + shoen 1" ++ 10 ∷ [] ++ codes "alice + shoen 2" ++ 10 ∷ [] ++ codes "alice + 2" ++ 10 ∷ [] ++ codes "alice + '='('','')" ++ 10 ∷ [] ++ codes "alice + '='('[]'(a),'[]'(a))" ++ 10 ∷ []
 
--- the bytes of names_of_63_and_64_bytes.script
-abbrev pub names_of_63_and_64_bytes_script : List ℕ
-names_of_63_and_64_bytes_script = codes "accounts alice bob" ++ 10 ∷ [] ++ codes "alice load 78" ++ 10 ∷ [] ++ codes ":- module e1." ++ 10 ∷ [] ++ codes "aaaaaaaaaaaaaaaaaaaaaaaaaaaaaaaaaaaaaaaaaaaaaaaaaaaaaaaaaaaaaaa." ++ 10 ∷ [] ++ codes "alice load 79" ++ 10 ∷ [] ++ codes ":- module e2." ++ 10 ∷ [] ++ codes "aaaaaaaaaaaaaaaaaaaaaaaaaaaaaaaaaaaaaaaaaaaaaaaaaaaaaaaaaaaaaaaa." ++ 10 ∷ []
+-- the bytes of names_of_127_and_128_bytes.script
+abbrev pub names_of_127_and_128_bytes_script : List ℕ
+names_of_127_and_128_bytes_script = codes "accounts alice bob" ++ 10 ∷ [] ++ codes "alice load 142" ++ 10 ∷ [] ++ codes ":- module e1." ++ 10 ∷ [] ++ codes "aaaaaaaaaaaaaaaaaaaaaaaaaaaaaaaaaaaaaaaaaaaaaaaaaaaaaaaaaaaaaaaaaaaaaaaaaaaaaaaaaaaaaaaaaaaaaaaaaaaaaaaaaaaaaaaaaaaaaaaaaaaaaaa." ++ 10 ∷ [] ++ codes "alice load 143" ++ 10 ∷ [] ++ codes ":- module e2." ++ 10 ∷ [] ++ codes "aaaaaaaaaaaaaaaaaaaaaaaaaaaaaaaaaaaaaaaaaaaaaaaaaaaaaaaaaaaaaaaaaaaaaaaaaaaaaaaaaaaaaaaaaaaaaaaaaaaaaaaaaaaaaaaaaaaaaaaaaaaaaaaa." ++ 10 ∷ []
 
--- the bytes of names_of_63_and_64_bytes.expected
-abbrev pub names_of_63_and_64_bytes_output : List ℕ
-names_of_63_and_64_bytes_output = codes "alice + loaded e1" ++ 10 ∷ [] ++ codes "alice - 2 source 2" ++ 10 ∷ []
+-- the bytes of names_of_127_and_128_bytes.expected
+abbrev pub names_of_127_and_128_bytes_output : List ℕ
+names_of_127_and_128_bytes_output = codes "alice + loaded e1" ++ 10 ∷ [] ++ codes "alice - 2 source 2" ++ 10 ∷ []
 
 -- the bytes of nested_patterns.script
 abbrev pub nested_patterns_script : List ℕ
@@ -978,14 +978,6 @@ sessions_stay_through_a_reset_script = codes "accounts alice bob" ++ 10 ∷ [] +
 abbrev pub sessions_stay_through_a_reset_output : List ℕ
 sessions_stay_through_a_reset_output = codes "alice + welcome alice" ++ 10 ∷ [] ++ codes "alice + welcome alice" ++ 10 ∷ [] ++ codes "alice + 1" ++ 10 ∷ [] ++ codes "alice journal 2 2 0" ++ 10 ∷ [] ++ codes "alice + shoen 1" ++ 10 ∷ [] ++ codes "alice + reset" ++ 10 ∷ [] ++ codes "alice + 1" ++ 10 ∷ [] ++ codes "alice journal 2 2 0" ++ 10 ∷ [] ++ codes "alice + welcome alice" ++ 10 ∷ [] ++ codes "alice + welcome alice" ++ 10 ∷ [] ++ codes "alice - 12 sessions" ++ 10 ∷ [] ++ codes "alice + bye" ++ 10 ∷ [] ++ codes "alice + 1" ++ 10 ∷ [] ++ codes "alice journal 2 3 0" ++ 10 ∷ []
 
--- the bytes of seventeen_accounts.script
-abbrev pub seventeen_accounts_script : List ℕ
-seventeen_accounts_script = codes "accounts a0 a1 a2 a3 a4 a5 a6 a7 a8 a9 a10 a11 a12 a13 a14 a15 b" ++ 10 ∷ [] ++ codes "a0 run 0" ++ 10 ∷ []
-
--- the bytes of seventeen_accounts.expected
-abbrev pub seventeen_accounts_output : List ℕ
-seventeen_accounts_output = codes "! accounts" ++ 10 ∷ []
-
 -- the bytes of shoens_32_deep.script
 abbrev pub shoens_32_deep_script : List ℕ
 shoens_32_deep_script = codes "accounts alice" ++ 10 ∷ [] ++ codes "alice load 58" ++ 10 ∷ [] ++ codes ":- module d." ++ 10 ∷ [] ++ codes "d :- true | shoen:execute(d:d,0,10,1000,C,R)." ++ 10 ∷ [] ++ codes "alice start 1000 0 10 d:d" ++ 10 ∷ [] ++ codes "alice run 1000" ++ 10 ∷ [] ++ codes "alice status 1" ++ 10 ∷ [] ++ codes "alice status 32" ++ 10 ∷ [] ++ codes "alice status 33" ++ 10 ∷ []
@@ -1001,14 +993,6 @@ single_reductions_script = codes "accounts alice bob" ++ 10 ∷ [] ++ codes "ali
 -- the bytes of single_reductions.expected
 abbrev pub single_reductions_output : List ℕ
 single_reductions_output = codes "alice - 6 step" ++ 10 ∷ [] ++ codes "alice + shoen 1" ++ 10 ∷ [] ++ codes "alice + shoen 2" ++ 10 ∷ [] ++ codes "alice - 6 step" ++ 10 ∷ [] ++ codes "alice - 6 step" ++ 10 ∷ [] ++ codes "alice - 6 step" ++ 10 ∷ [] ++ codes "alice - 6 step" ++ 10 ∷ [] ++ codes "alice - 1 syntax" ++ 10 ∷ [] ++ codes "alice - 1 syntax" ++ 10 ∷ [] ++ codes "alice - 1 syntax" ++ 10 ∷ [] ++ codes "alice - 1 syntax" ++ 10 ∷ [] ++ codes "alice - 1 syntax" ++ 10 ∷ [] ++ codes "alice - 6 step" ++ 10 ∷ [] ++ codes "alice - 1 syntax" ++ 10 ∷ [] ++ codes "alice - 1 syntax" ++ 10 ∷ [] ++ codes "alice - 1 syntax" ++ 10 ∷ [] ++ codes "alice + '='(_5,b)" ++ 10 ∷ [] ++ codes "alice + reduced" ++ 10 ∷ [] ++ codes "alice + '='(b,b)" ++ 10 ∷ [] ++ codes "alice - 6 step" ++ 10 ∷ [] ++ codes "alice + '='(_1,a)" ++ 10 ∷ []
-
--- the bytes of sixteen_accounts.script
-abbrev pub sixteen_accounts_script : List ℕ
-sixteen_accounts_script = codes "accounts a0 a1 a2 a3 a4 a5 a6 a7 a8 a9 a10 a11 a12 a13 a14 a15" ++ 10 ∷ [] ++ codes "a0 run 0" ++ 10 ∷ [] ++ codes "a15 run 0" ++ 10 ∷ []
-
--- the bytes of sixteen_accounts.expected
-abbrev pub sixteen_accounts_output : List ℕ
-sixteen_accounts_output = codes "a0 + 0" ++ 10 ∷ [] ++ codes "a15 + 0" ++ 10 ∷ []
 
 -- the bytes of sixteen_accounts_interleaved.script
 abbrev pub sixteen_accounts_interleaved_script : List ℕ
@@ -1113,6 +1097,22 @@ substitute_waits_for_the_predicate_script = codes "accounts alice" ++ 10 ∷ [] 
 -- the bytes of substitute_waits_for_the_predicate.expected
 abbrev pub substitute_waits_for_the_predicate_output : List ℕ
 substitute_waits_for_the_predicate_output = codes "alice + loaded h" ++ 10 ∷ [] ++ codes "alice + shoen 1" ++ 10 ∷ [] ++ codes "alice + 5" ++ 10 ∷ [] ++ codes "alice + running 1 9 1" ++ 10 ∷ [] ++ codes "alice + no" ++ 10 ∷ [] ++ codes "alice - 6 step" ++ 10 ∷ [] ++ codes "alice + 2" ++ 10 ∷ [] ++ codes "alice - 6 step" ++ 10 ∷ [] ++ codes "alice + 3" ++ 10 ∷ [] ++ codes "alice + terminated 4 9 0" ++ 10 ∷ [] ++ codes "alice + terminated 10 100 0" ++ 10 ∷ []
+
+-- the bytes of thirty_three_accounts.script
+abbrev pub thirty_three_accounts_script : List ℕ
+thirty_three_accounts_script = codes "accounts a0 a1 a2 a3 a4 a5 a6 a7 a8 a9 a10 a11 a12 a13 a14 a15 a16 a17 a18 a19 a20 a21 a22 a23 a24 a25 a26 a27 a28 a29 a30 a31 b" ++ 10 ∷ [] ++ codes "a0 run 0" ++ 10 ∷ []
+
+-- the bytes of thirty_three_accounts.expected
+abbrev pub thirty_three_accounts_output : List ℕ
+thirty_three_accounts_output = codes "! accounts" ++ 10 ∷ []
+
+-- the bytes of thirty_two_accounts.script
+abbrev pub thirty_two_accounts_script : List ℕ
+thirty_two_accounts_script = codes "accounts a0 a1 a2 a3 a4 a5 a6 a7 a8 a9 a10 a11 a12 a13 a14 a15 a16 a17 a18 a19 a20 a21 a22 a23 a24 a25 a26 a27 a28 a29 a30 a31" ++ 10 ∷ [] ++ codes "a0 run 0" ++ 10 ∷ [] ++ codes "a31 run 0" ++ 10 ∷ []
+
+-- the bytes of thirty_two_accounts.expected
+abbrev pub thirty_two_accounts_output : List ℕ
+thirty_two_accounts_output = codes "a0 + 0" ++ 10 ∷ [] ++ codes "a31 + 0" ++ 10 ∷ []
 
 -- the bytes of truncated_load.script
 abbrev pub truncated_load_script : List ℕ
@@ -1310,7 +1310,7 @@ pub record ExamplesHold : Type 0 where
   pub names_from_codes : output names_from_codes_script ≡ names_from_codes_output
   pub names_in_order_of_first_use : output names_in_order_of_first_use_script ≡ names_in_order_of_first_use_output
   pub names_in_quotes : output names_in_quotes_script ≡ names_in_quotes_output
-  pub names_of_63_and_64_bytes : output names_of_63_and_64_bytes_script ≡ names_of_63_and_64_bytes_output
+  pub names_of_127_and_128_bytes : output names_of_127_and_128_bytes_script ≡ names_of_127_and_128_bytes_output
   pub nested_patterns : output nested_patterns_script ≡ nested_patterns_output
   pub no_accounts : output no_accounts_script ≡ no_accounts_output
   pub no_clause_for_a_goal_that_waits : output no_clause_for_a_goal_that_waits_script ≡ no_clause_for_a_goal_that_waits_output
@@ -1342,10 +1342,8 @@ pub record ExamplesHold : Type 0 where
   pub reversed_list : output reversed_list_script ≡ reversed_list_output
   pub second_variable_wakes : output second_variable_wakes_script ≡ second_variable_wakes_output
   pub sessions_stay_through_a_reset : output sessions_stay_through_a_reset_script ≡ sessions_stay_through_a_reset_output
-  pub seventeen_accounts : output seventeen_accounts_script ≡ seventeen_accounts_output
   pub shoens_32_deep : output shoens_32_deep_script ≡ shoens_32_deep_output
   pub single_reductions : output single_reductions_script ≡ single_reductions_output
-  pub sixteen_accounts : output sixteen_accounts_script ≡ sixteen_accounts_output
   pub sixteen_accounts_interleaved : output sixteen_accounts_interleaved_script ≡ sixteen_accounts_interleaved_output
   pub slices_by_allowances : output slices_by_allowances_script ≡ slices_by_allowances_output
   pub stopped_and_resumed : output stopped_and_resumed_script ≡ stopped_and_resumed_output
@@ -1359,6 +1357,8 @@ pub record ExamplesHold : Type 0 where
   pub substitute_in_an_exhausted_shoen : output substitute_in_an_exhausted_shoen_script ≡ substitute_in_an_exhausted_shoen_output
   pub substitute_of_an_integer : output substitute_of_an_integer_script ≡ substitute_of_an_integer_output
   pub substitute_waits_for_the_predicate : output substitute_waits_for_the_predicate_script ≡ substitute_waits_for_the_predicate_output
+  pub thirty_three_accounts : output thirty_three_accounts_script ≡ thirty_three_accounts_output
+  pub thirty_two_accounts : output thirty_two_accounts_script ≡ thirty_two_accounts_output
   pub truncated_load : output truncated_load_script ≡ truncated_load_output
   pub truncated_load_of_another_name : output truncated_load_of_another_name_script ≡ truncated_load_of_another_name_output
   pub two_answers_for_one_exception : output two_answers_for_one_exception_script ≡ two_answers_for_one_exception_output

@@ -42,7 +42,7 @@ impl<'t> Model for PoolParts<'t> {
 }
 
 impl<'t> PoolParts<'t> {
-    /// Accounts of these names, 1 to 16 of them, which keep to these rules, in which nothing has happened, each with a seat of its
+    /// Accounts of these names, 1 to 32 of them, which keep to these rules, in which nothing has happened, each with a seat of its
     /// own that knows the built-in names alone; and a tally and a queue for them and for `shares` shares.
     pub fn new(
         alloc: Global,

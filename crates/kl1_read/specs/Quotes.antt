@@ -3,7 +3,7 @@ use Rattle.std.specs.Prelude.{◌≡◌, ℕ, nat_le, if◌then◌else◌, List,
 use Rattle.std.specs.Borrow.{Bor}
 use Rattle.kl1_model.specs.declared.limits.TheConstants.{MOST_NAME_BYTES}
 
--- a text with what is after it, if it has at most 63 bytes
+-- a text with what is after it, if it has at most 127 bytes
 abbrev pub short : Option (List ℕ × List ℕ) → Option (List ℕ × List ℕ)
 short None = None
 short (Some q) = if nat_le (length q.0) MOST_NAME_BYTES then Some q else None

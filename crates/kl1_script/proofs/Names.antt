@@ -26,7 +26,7 @@ no_name names words rest e h k =
     let none : list_all is_account_name words ≡ false = rw (sym more, list_all-append is_account_name names (word_in rest ∷ words_of (behind_word_in rest))) (and_right (list_all is_account_name names) _ (and_left (is_account_name (word_in rest)) _ k)) in
     rw (and_left (list_all is_account_name words) (nat_le (length words) MOST_ACCOUNTS) none) refl
 
--- a word after sixteen names
+-- a word after as many names as there may be
 pub too_many : (names words : List (List ℕ)) (rest : List ℕ) → names ++ words_of rest ≡ words → is_blank_line rest ≡ false → length names ≡ MOST_ACCOUNTS → None ≡ named words
 too_many names words rest e h k =
     let more : names ++ word_in rest ∷ words_of (behind_word_in rest) ≡ words = ap (λ ws. names ++ ws) (sym (words_more rest h)) ∙ e in

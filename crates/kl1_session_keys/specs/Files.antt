@@ -41,7 +41,7 @@ abbrev pub entries_in : List (List ℕ) → Option (List Entry)
 entries_in [] = Some []
 entries_in (line ∷ lines) = option_and_then (λ e. option_map (λ es. e ∷ es) (entries_in lines)) (entry_in line)
 
--- whether entries are 1 to 16, of names that differ
+-- whether entries are 1 to 32, of names that differ
 abbrev pub are_fit : List Entry → Bool
 are_fit es = nat_le 1 (length es) && nat_le (length es) MOST_ACCOUNTS && are_distinct (map (λ e. e.name) es)
 

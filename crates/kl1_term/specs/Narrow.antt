@@ -6,7 +6,7 @@ use Rattle.kl1_model.specs.code.TermCode.{NodeCode}
 use Rattle.kl1_model.specs.Meaning.{is_word}
 use Rattle.kl1_model.specs.declared.limits.TheConstants.{MOST_ARGUMENTS}
 
--- whether a node has a name of at most 63 bytes, an integer of 64 bits, and 1 to 8 arguments if it is a structure's
+-- whether a node has a name of at most 127 bytes, an integer of 64 bits, and 1 to 8 arguments if it is a structure's
 abbrev pub is_narrow_node : NodeCode → Bool
 is_narrow_node (inl (inl n)) = true
 is_narrow_node (inl (inr i)) = is_word i

@@ -13,7 +13,7 @@ use kl1_model::limits::{MOST_ARGUMENTS, MOST_DEPTH};
 use std::alloc::{AllocError, Global};
 
 impl Term {
-    /// Whether a text can write the term: its names have at most 63 bytes, its structures 1 to 8 arguments, and it is at
+    /// Whether a text can write the term: its names have at most 127 bytes, its structures 1 to 8 arguments, and it is at
     /// most 256 deep.
     pub fn is_writable(&self, alloc: Global) -> Result<bool, AllocError>
         ensures { IfOk result (λ fits. fits ≡ is_writable self.now) }

@@ -33,7 +33,7 @@ use Rattle.kl1_shoen_paths.specs.declared.shoen.Origin.{Origin}
 use Rattle.kl1_shoen_paths.specs.declared.shoen.Shoen.{Shoen}
 use Rattle.kl1_user_effects.specs.declared.draft.Draft.{Draft}
 use Rattle.kl1_user_effects.specs.Fitting.{Reading, Fits, built}
-use Rattle.kl1_user_effects.specs.Account.{Account, Means, meaning, task_with, goal_with, origin_with, shoen_with, state_with, state_of, told_in, aim_with, texts_of}
+use Rattle.kl1_user_effects.specs.Account.{Account, program_of, Means, meaning, task_with, goal_with, origin_with, shoen_with, state_with, state_of, told_in, aim_with, texts_of}
 use Rattle.kl1_user_effects.specs.Kept.{IsTaskIn, IsOwned}
 use Rattle.kl1_user_effects.specs.Naming.{AreSmall, AreNumbersOf}
 use Rattle.kl1_user_effects.specs.Drafts.{goals_left, restood}
@@ -125,7 +125,7 @@ with_answer a h names d = record a { held = h; goals = restood d.changes.items a
 pub record IsPut (a : Account) (n report v : ℕ) (goal code : Term) (counted : Counted) (spares numbers : List CellName) (more : List Known) (old new : Kept CellName) (d : Draft) : Type 0 where
   pub held : a.held ≡ old.held
   pub may : IsAnswerable a.rules a.held a.shoens a.names counted n report goal code v
-  pub drafted : IsAnswered a.modules a.names goal spares v old new a.goals a.shoens d.changes.items
+  pub drafted : IsAnswered (program_of a) a.names goal spares v old new a.goals a.shoens d.changes.items
   pub grown : Grown old.held new.held
   pub texts : texts_of more ≡ with_texts (texts_of a.names) (with_names [] (names_of goal))
   pub numbers_are : AreNumbersOf more (with_names [] (names_of goal)) numbers
@@ -231,12 +231,12 @@ module _ (a : Account) (hooks : List Hook) (known n report v : ℕ) (goal code :
         settled = λ f fits.
             let g = by_spares f in
             let own = (spared f fits).fits in
-            let H : Held CellName → Type 0 = λ h. AreSettled g old.hooks h a.modules a.shoens a.goals in
-            let K : List Hook → Type 0 = λ hs. AreSettled g hs a.held a.modules a.shoens a.goals in
+            let H : Held CellName → Type 0 = λ h. AreSettled g old.hooks h (program_of a) a.shoens a.goals in
+            let K : List Hook → Type 0 = λ hs. AreSettled g hs a.held (program_of a) a.shoens a.goals in
             let drafted = p.drafted.settles g (knows_of a hooks known k g own) (subst H p.held (subst K hung (k.settled g own))) in
             let goals_same : map (goal_with (meaning g new.held)) (restood cs a.goals) ≡ map (goal_with (meaning f (held_exchanged spares numbers new.held))) (restood cs a.goals) =
             restood_read (meaning g new.held) cs a.goals ∙ sym (goals_read f fits) ∙ sym (restood_read (meaning f (held_exchanged spares numbers new.held)) cs a.goals) in
-            settled_alike g f new.hooks new.held (held_exchanged spares numbers new.held) a.modules a.shoens (restood cs a.goals) (sym (shoens_read f fits)) goals_same drafted;
+            settled_alike g f new.hooks new.held (held_exchanged spares numbers new.held) (program_of a) a.shoens (restood cs a.goals) (sym (shoens_read f fits)) goals_same drafted;
         enabled = restood_holds (IsEnabled a.shoens a.work) (λ g o q. q) cs a.goals k.enabled;
         rows = λ f fits. k.rows f (p.fits f fits);
         named = λ f g one two.
@@ -313,11 +313,11 @@ module _ (a : Account) (variables nodes : ℕ) (begun d : Draft) (is : IsBegun 0
 
 -- all that is known of an answer when its names are published
 pub is_put : (a : Account) (n report v : ℕ) (goal code : Term) (counted : Counted) (spares numbers : List CellName) (texts : List (List ℕ)) (known more : List Known) (old new : Kept CellName) (variables nodes : ℕ) (begun d : Draft) →
-    a.held ≡ old.held → IsAnswerable a.rules a.held a.shoens a.names counted n report goal code v → IsAnswered a.modules a.names code spares v old new a.goals a.shoens d.changes.items → Grown old.held new.held →
+    a.held ≡ old.held → IsAnswerable a.rules a.held a.shoens a.names counted n report goal code v → IsAnswered (program_of a) a.names code spares v old new a.goals a.shoens d.changes.items → Grown old.held new.held →
     texts ≡ with_names [] (names_of code) → IsNameList texts → known ≡ a.names → texts_of more ≡ with_texts (texts_of known) texts → AreNumbersOf more texts numbers → ((f : Reading) → Fits more f → Fits known f) → AreNames more → AreSmall more →
     IsBegun 0 a.rules a.last_goal variables nodes a.reports begun → d ≡ record begun { told = d.told; changes = d.changes } → variables ≡ a.variables + highest goal → nodes ≡ a.nodes + structures_of goal → IsPut a n report v goal code counted spares numbers more old new d
 is_put a n report v goal code counted spares numbers texts known more old new variables nodes begun d held may answered grown are list same names numbers_are fits one small is rest vs ns =
-    let A : Term → Type 0 = λ t. IsAnswered a.modules a.names t spares v old new a.goals a.shoens d.changes.items in
+    let A : Term → Type 0 = λ t. IsAnswered (program_of a) a.names t spares v old new a.goals a.shoens d.changes.items in
     let texts_are : texts ≡ with_names [] (names_of goal) = are ∙ ap (λ (t : Term). with_names [] (names_of t)) may.code_is in
     let N : List (List ℕ) → Type 0 = λ ts. AreNumbersOf more ts numbers in
     let L : List (List ℕ) → Type 0 = λ ts. IsNameList ts in

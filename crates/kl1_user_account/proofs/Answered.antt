@@ -35,7 +35,7 @@ use Rattle.kl1_match.proofs.Places.{kept_with}
 use Rattle.kl1_goals.specs.declared.goal.Goal.{Goal}
 use Rattle.kl1_goals.specs.Tables.{AreInOrder}
 use Rattle.kl1_shoen_paths.specs.declared.shoen.Shoen.{Shoen}
-use Rattle.kl1_codes_modules.specs.Numbered.{Numbered}
+use Rattle.kl1_codes_modules.specs.Shelves.{Program}
 use Rattle.kl1_user_effects.specs.declared.draft.Change.{Change}
 use Rattle.kl1_user_effects.specs.Fitting.{Reading, built}
 use Rattle.kl1_user_effects.specs.Account.{meaning}
@@ -146,14 +146,14 @@ bound_grown old one ready two mid first same next only =
     Grown-trans old two mid (Grown-trans old ready two (subst R (sym same) first) next) (Grown-bound two mid only)
 
 -- an answer is drafted
-pub is_answered : (ms : List Numbered) (known : List Known) (goal : Term) (spares sliced : List CellName) (row : List Instruction) (cells were : List (Cell CellName)) (v count : ℕ) (x : Cell CellName) (u : Unified) (mark : Point) (old : Kept CellName) (one ready two : Held CellName) (mid new : Kept CellName) (goals : List (Goal CellName)) (ss : List (Shoen CellName)) (was changes : List Change) →
+pub is_answered : (program : Program) (known : List Known) (goal : Term) (spares sliced : List CellName) (row : List Instruction) (cells were : List (Cell CellName)) (v count : ℕ) (x : Cell CellName) (u : Unified) (mark : Point) (old : Kept CellName) (one ready two : Held CellName) (mid new : Kept CellName) (goals : List (Goal CellName)) (ss : List (Shoen CellName)) (was changes : List Change) →
     mark ≡ point_of old → IsFormed old.held → 0 < old.held.variables → AreGoalsIn old.held goals → AreInOrder goals → AllByRecursion (λ g. 0 < g.number) goals → AreShoensIn old.held ss → IsUnbound old.held v → is_goal goal ≡ true → IsTrue (is_numbered goal) → count ≡ highest goal → was ≡ [] →
     AreSpared known 0 (with_names [] (names_of goal)) spares → IsRowOf (with_names [] (names_of goal)) row (nodes_of goal) → sliced ≡ spares →
     one ≡ with_variables old.held count → Grown old.held one → AreGoalVariables one (old.held.variables - 1) count cells → ready ≡ one → were ≡ cells → BuildsGoal built sliced row were ready two x → Grown ready two → two.bindings ≡ ready.bindings →
     SettlesTo built two mid.held (Variable v) x u → OnlyBound two mid.held → mid.hooks ≡ old.hooks →
-    WakesTold ms ss mid.held mid.hooks new.hooks goals 0 (told_by (drop mark.sizes.bindings mid.held.bindings) mid.hooks) was changes → new.held ≡ mid.held →
-    IsAnswered ms known goal spares v old new goals ss changes
-is_answered ms known goal spares sliced row cells were v count x u mark old one ready two mid new goals ss was changes marked formed some inside order first shoens_in unbound is numbered many unchanged spared row_is slice first_is grown vars ready_is cells_are builds next same settles only hooks wakes held =
+    WakesTold program ss mid.held mid.hooks new.hooks goals 0 (told_by (drop mark.sizes.bindings mid.held.bindings) mid.hooks) was changes → new.held ≡ mid.held →
+    IsAnswered program known goal spares v old new goals ss changes
+is_answered program known goal spares sliced row cells were v count x u mark old one ready two mid new goals ss was changes marked formed some inside order first shoens_in unbound is numbered many unchanged spared row_is slice first_is grown vars ready_is cells_are builds next same settles only hooks wakes held =
     let last = old.held.variables - 1 in
     let t = with_next_variables last goal in
     let up : Grown old.held mid.held = bound_grown old.held one ready two mid.held grown ready_is next only in
@@ -179,5 +179,5 @@ is_answered ms known goal spares sliced row cells were v count x u mark old one 
           ap (λ (h : Held CellName). meaning f h z) held
           ∙ becomes_goal f two mid.held v x t u reads solved settles z
           ∙ ap (replace v t) (b.kept f reads z old_in ∙ ap (λ (h : Held CellName). meaning f h z) first_is ∙ kept_with f old.held count z);
-      settles = woken ms ss ss mark old mid new goals was changes marked formed up hooks inside order first shoens_in refl unchanged wakes held;
+      settles = woken program ss ss mark old mid new goals was changes marked formed up hooks inside order first shoens_in refl unchanged wakes held;
     }

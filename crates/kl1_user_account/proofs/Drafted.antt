@@ -22,8 +22,8 @@ use Rattle.kl1_goals_moves.specs.Moves.{IsMove, MovesAs, MoveIn}
 use Rattle.kl1_goals_moves.specs.Substitutes.{move_by_clause, substitute_move_of, SubstituteMoves}
 use Rattle.kl1_goals.specs.declared.task.Task.{Task}
 use Rattle.kl1_goals.specs.declared.task.Task.TheVariants.{Reduces, Substitutes}
-use Rattle.kl1_codes_modules.specs.Numbered.{Numbered}
 use Rattle.kl1_codes_modules.specs.Finding.{contents}
+use Rattle.kl1_codes_modules.specs.Shelves.{Program}
 use Rattle.kl1_user_effects.specs.Fitting.{Reading, built, reading_of, reading_fits}
 use Rattle.kl1_user_effects.specs.Account.{meaning, task_with, aim, whole}
 use Rattle.kl1_user_account.specs.Reducing.{move_or_go, move_at, task_move, move_of_task, IsMade, IsToMake}
@@ -70,16 +70,16 @@ allowed f h o p places text m inside moves =
     let found = found_move f h o p places text m inside moves in
     gives o found.0 found.1
 
-pub allowed_move : (f : Reading) (ms : List Numbered) (h : Held CellName) (p : Predicate CellName) (places : List (Place CellName)) (text : List ℕ) (x : Qualified CellName) (m : Move CellName) (clause : ℕ) → MoveIn h p places text (Some m) →
-    MovesAs f h (contents ms) (aim f h x) clause p places text (Some m) → move_by (contents ms) (aim f h x) clause ≡ Some (move_at ms h x clause f)
-allowed_move f ms h p places text x m clause inside moves = allowed f h (move_by (contents ms) (aim f h x) clause) p places text m inside moves
+pub allowed_move : (f : Reading) (program : Program) (h : Held CellName) (p : Predicate CellName) (places : List (Place CellName)) (text : List ℕ) (x : Qualified CellName) (m : Move CellName) (clause : ℕ) → MoveIn h p places text (Some m) →
+    MovesAs f h program.rules (contents program.loaded) (aim f h x) clause p places text (Some m) → move_by program.rules (contents program.loaded) (aim f h x) clause ≡ Some (move_at program h x clause f)
+allowed_move f program h p places text x m clause inside moves = allowed f h (move_by program.rules (contents program.loaded) (aim f h x) clause) p places text m inside moves
 
 -- ---- moves that are to be made
 
 -- a goal that is to be reduced
-pub goal_makes : (h : Held CellName) (ms : List Numbered) (entries : ℕ) (k : Task CellName) (x : Qualified CellName) (c : ℕ) (p : Predicate CellName) (places : List (Place CellName)) (text : List ℕ) (m : Move CellName) → k ≡ Reduces x → IsMade h ms entries x c p places text m → IsToMake h ms entries k x c p places text m
-goal_makes h ms entries k x c p places text m is makes =
-    let T : Task CellName → Type 0 = λ z. IsToMake h ms entries z x c p places text m in
+pub goal_makes : (h : Held CellName) (program : Program) (entries : ℕ) (k : Task CellName) (x : Qualified CellName) (c : ℕ) (p : Predicate CellName) (places : List (Place CellName)) (text : List ℕ) (m : Move CellName) → k ≡ Reduces x → IsMade h program entries x c p places text m → IsToMake h program entries k x c p places text m
+goal_makes h program entries k x c p places text m is makes =
+    let T : Task CellName → Type 0 = λ z. IsToMake h program entries z x c p places text m in
     subst T (sym is) (record { task = refl; moves = makes.moves; some = makes.some; room = makes.room })
 
 -- a substitute's move, told of cells
@@ -103,10 +103,10 @@ substitute_inside h o p places text made.Goes s = absurd s
 substitute_inside h o p places text made.GivesWay s = tt
 
 -- a substitute
-pub substitute_makes : (h : Held CellName) (ms : List Numbered) (entries : ℕ) (k : Task CellName) (y : Cell CellName) (c : ℕ) (p : Predicate CellName) (places : List (Place CellName)) (text : List ℕ) (o : Option (Move CellName)) (m : Move CellName) → k ≡ Substitutes y → o ≡ Some m →
-    ((f : Reading) → Reads built f → SubstituteMoves (meaning f h y) c o) → entries < MOST_ENTRIES → IsToMake h ms entries k (whole y) c p places text m
-substitute_makes h ms entries k y c p places text o m is found moves room =
-    let T : Task CellName → Type 0 = λ z. IsToMake h ms entries z (whole y) c p places text m in
+pub substitute_makes : (h : Held CellName) (program : Program) (entries : ℕ) (k : Task CellName) (y : Cell CellName) (c : ℕ) (p : Predicate CellName) (places : List (Place CellName)) (text : List ℕ) (o : Option (Move CellName)) (m : Move CellName) → k ≡ Substitutes y → o ≡ Some m →
+    ((f : Reading) → Reads built f → SubstituteMoves (meaning f h y) c o) → entries < MOST_ENTRIES → IsToMake h program entries k (whole y) c p places text m
+substitute_makes h program entries k y c p places text o m is found moves room =
+    let T : Task CellName → Type 0 = λ z. IsToMake h program entries z (whole y) c p places text m in
     let one : (f : Reading) → Reads built f → SubstituteMoves (meaning f h y) c (Some m) = λ f reads. (let S : Option (Move CellName) → Type 0 = λ q. SubstituteMoves (meaning f h y) c q in subst S found (moves f reads)) in
     subst T (sym is) (record {
       task = refl;
@@ -118,20 +118,20 @@ substitute_makes h ms entries k y c p places text o m is found moves room =
     })
 
 -- what a substitute can do, by its task
-task_of_substitute : (f : Reading) (ms : List Numbered) (h : Held CellName) (k : Task CellName) (y : Cell CellName) (c : ℕ) → k ≡ Substitutes y → task_move (contents ms) (task_with (meaning f h) k) c ≡ move_by_clause (meaning f h y) c
-task_of_substitute f ms h k y c is = ap (λ (z : Task CellName). task_move (contents ms) (task_with (meaning f h) z) c) is
+task_of_substitute : (f : Reading) (program : Program) (h : Held CellName) (k : Task CellName) (y : Cell CellName) (c : ℕ) → k ≡ Substitutes y → task_move program.rules (contents program.loaded) (task_with (meaning f h) k) c ≡ move_by_clause (meaning f h y) c
+task_of_substitute f program h k y c is = ap (λ (z : Task CellName). task_move program.rules (contents program.loaded) (task_with (meaning f h) z) c) is
 
 -- a substitute that can do nothing by a clause
-pub waits_by : (f : Reading) (ms : List Numbered) (h : Held CellName) (k : Task CellName) (y : Cell CellName) (c : ℕ) (o : Option (Move CellName)) → k ≡ Substitutes y → o ≡ None → SubstituteMoves (meaning f h y) c o → task_move (contents ms) (task_with (meaning f h) k) c ≡ None
-waits_by f ms h k y c o is none moves =
+pub waits_by : (f : Reading) (program : Program) (h : Held CellName) (k : Task CellName) (y : Cell CellName) (c : ℕ) (o : Option (Move CellName)) → k ≡ Substitutes y → o ≡ None → SubstituteMoves (meaning f h y) c o → task_move program.rules (contents program.loaded) (task_with (meaning f h) k) c ≡ None
+waits_by f program h k y c o is none moves =
     let S : Option (Move CellName) → Type 0 = λ q. SubstituteMoves (meaning f h y) c q in
-    task_of_substitute f ms h k y c is ∙ subst S none moves
+    task_of_substitute f program h k y c is ∙ subst S none moves
 
 -- one that can do a move
-pub allowed_by : (f : Reading) (ms : List Numbered) (h : Held CellName) (k : Task CellName) (y : Cell CellName) (c : ℕ) (o : Option (Move CellName)) (m : Move CellName) → k ≡ Substitutes y → o ≡ Some m → SubstituteMoves (meaning f h y) c o → task_move (contents ms) (task_with (meaning f h) k) c ≡ Some (move_of_task ms h k c f)
-allowed_by f ms h k y c o m is found moves =
+pub allowed_by : (f : Reading) (program : Program) (h : Held CellName) (k : Task CellName) (y : Cell CellName) (c : ℕ) (o : Option (Move CellName)) (m : Move CellName) → k ≡ Substitutes y → o ≡ Some m → SubstituteMoves (meaning f h y) c o → task_move program.rules (contents program.loaded) (task_with (meaning f h) k) c ≡ Some (move_of_task program h k c f)
+allowed_by f program h k y c o m is found moves =
     let S : Option (Move CellName) → Type 0 = λ q. SubstituteMoves (meaning f h y) c q in
-    let e = task_of_substitute f ms h k y c is in
+    let e = task_of_substitute f program h k y c is in
     let some = by_move m (move_by_clause (meaning f h y) c) (subst S found moves) in
     e ∙ some ∙ sym (ap (λ o. Some (move_or_go o)) e)
   where

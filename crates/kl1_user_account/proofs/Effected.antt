@@ -35,7 +35,7 @@ use Rattle.kl1_codes_modules.specs.Finding.{contents}
 use Rattle.kl1_user_effects.specs.declared.draft.Draft.{Draft}
 use Rattle.kl1_user_effects.specs.declared.draft.Spelled.{Spelled}
 use Rattle.kl1_user_effects.specs.Fitting.{Reading, Fits}
-use Rattle.kl1_user_effects.specs.Account.{Account, Means, meaning, task_with, goal_with, aim, state_of, texts_of}
+use Rattle.kl1_user_effects.specs.Account.{Account, program_of, Means, meaning, task_with, goal_with, aim, state_of, texts_of}
 use Rattle.kl1_user_effects.specs.Kept.{IsTaskIn, IsOwned}
 use Rattle.kl1_user_effects.specs.Works.{Made, IsMadeIn, Knows, worked}
 use Rattle.kl1_user_effects.specs.Calling.{keeps_names, name_of}
@@ -112,7 +112,7 @@ text_is s t e = cc
 
 -- a cell that a goal may unify with a name that is new isn't this name
 not_yet : (a : Account) (hooks : List Hook) (known n c : ℕ) (g : Goal CellName) (x : Qualified CellName) (p : Predicate CellName) (places : List (Place CellName)) (text : List ℕ) (y : Cell CellName) (f : Reading) →
-    IsKept a hooks known → IsFormed a.held → MoveIn a.held p places text (Some (made.Names y)) → find (has_number n) a.goals ≡ Some g → IsToMake a.held a.modules a.entries g.task x c p places text (made.Names y) →
+    IsKept a hooks known → IsFormed a.held → MoveIn a.held p places text (Some (made.Names y)) → find (has_number n) a.goals ≡ Some g → IsToMake a.held (program_of a) a.entries g.task x c p places text (made.Names y) →
     Fits a.names f → number_by a.names text ≡ None → meaning f a.held y ≡ atom text → ⊥
 not_yet a hooks known n c g x p places text y f kept formed inside found makes fits none e =
     let h = otherwise a.names text f in
@@ -120,11 +120,11 @@ not_yet a hooks known n c g x p places text y f kept formed inside found makes f
     let at : IsAtomAt a.held y f text = atom_at f a.held y text formed inside.1 e in
     let one = makes.moves f (fits_knows a hooks known f kept fits) in
     let two = makes.moves h (fits_knows a hooks known h kept other) in
-    let same : meaning f a.held y ≡ meaning h a.held y = named_is text text (meaning f a.held y) (meaning h a.held y) (sym one ∙ ap (λ (k : model.Task). task_move (contents a.modules) k c) (same_task a hooks known n g f h kept found fits other) ∙ two) in
+    let same : meaning f a.held y ≡ meaning h a.held y = named_is text text (meaning f a.held y) (meaning h a.held y) (sym one ∙ ap (λ (k : model.Task). task_move a.rules (contents a.modules) k c) (same_task a hooks known n g f h kept found fits other) ∙ two) in
     otherwise_other a.names text f at.number at.read (text_is (h at.number) text (sym (at.means h) ∙ sym same ∙ e))
 
 name_read : (a : Account) (hooks : List Hook) (known n c : ℕ) (g : Goal CellName) (x : Qualified CellName) (p : Predicate CellName) (places : List (Place CellName)) (text : List ℕ) (y : Cell CellName) (f : Reading) (number : CellName) (name : Option (List ℕ)) (o : Option ℕ) →
-    IsKept a hooks known → IsFormed a.held → MoveIn a.held p places text (Some (made.Names y)) → find (has_number n) a.goals ≡ Some g → IsToMake a.held a.modules a.entries g.task x c p places text (made.Names y) →
+    IsKept a hooks known → IsFormed a.held → MoveIn a.held p places text (Some (made.Names y)) → find (has_number n) a.goals ≡ Some g → IsToMake a.held (program_of a) a.entries g.task x c p places text (made.Names y) →
     Fits a.names f → ReadsNew f number name → number_by a.names text ≡ o → name ≡ name_of o (keeps_names a.names text) text → ReadsText f a.held a.names text y number o
 name_read a hooks known n c g x p places text y f number name None kept formed inside found makes fits reads e is =
     λ keeps. (
@@ -135,7 +135,7 @@ name_read a hooks known n c g x p places text y f number name (Some m) kept form
 
 -- if a move uses a text as a name, readings of the names that an account has then read it
 names_read : (a : Account) (hooks : List Hook) (known n c : ℕ) (g : Goal CellName) (x : Qualified CellName) (p : Predicate CellName) (places : List (Place CellName)) (text : List ℕ) (m : Move CellName) (ms : List Numbered) (more : List Known) (number : CellName) (name : Option (List ℕ)) →
-    IsKept a hooks known → IsFormed a.held → MoveIn a.held p places text (Some m) → find (has_number n) a.goals ≡ Some g → IsToMake a.held a.modules a.entries g.task x c p places text m →
+    IsKept a hooks known → IsFormed a.held → MoveIn a.held p places text (Some m) → find (has_number n) a.goals ≡ Some g → IsToMake a.held (program_of a) a.entries g.task x c p places text m →
     ((f : Reading) → Knows ms f → Fits more f) → IsNamedBy a.names more name number → name ≡ name_for m a.names text → ReadsAll m ms a.held a.names text number
 names_read a hooks known n c g x p places text (made.Commits place) ms more number name kept formed inside found makes fits named is = tt
 names_read a hooks known n c g x p places text (made.Raises b) ms more number name kept formed inside found makes fits named is = tt
@@ -150,7 +150,7 @@ names_read a hooks known n c g x p places text made.GivesWay ms more number name
 
 -- what a goal does is the effect of its reduction
 pub does_effect : (a : Account) (hooks : List Hook) (known n c : ℕ) (g : Goal CellName) (x : Qualified CellName) (p : Predicate CellName) (places : List (Place CellName)) (text : List ℕ) (made : Move CellName) (mid : Held CellName) (t u : Tree CellName) (start d : Draft) →
-    IsKept a hooks known → IsSteppable a.goals n c g → g.number ≡ n → IsToMake a.held a.modules a.entries g.task x c p places text made → IsFormed a.held → MoveIn a.held p places text (Some made) →
+    IsKept a hooks known → IsSteppable a.goals n c g → g.number ≡ n → IsToMake a.held (program_of a) a.entries g.task x c p places text made → IsFormed a.held → MoveIn a.held p places text (Some made) →
     t.shoens ≡ a.shoens → t.work ≡ a.work → IsBegun g.number a.rules a.last_goal a.variables a.nodes a.reports start →
     Does p made places text g x a.goals a.names a.held mid t u start d → d.name ≡ name_for made a.names text → IsEffect a n c mid u d
 does_effect a hooks known n c g x p places text made mid t u start d kept is number makes formed inside shoens work begun does name more last published f fits =
@@ -161,7 +161,7 @@ does_effect a hooks known n c g x p places text made mid t u start d kept is num
     let knows : Knows ms f = record { reads = fits.reads; rows = both_read f a.modules (as_modules more) own.rows (fits_modules f more fits) } in
     let s = with_entry (state_of f a) in
     let k = goal_with (meaning f a.held) g in
-    let m : Reading → reduction.Move = λ r. move_of_task a.modules a.held g.task c r in
+    let m : Reading → reduction.Move = λ r. move_of_task (program_of a) a.held g.task c r in
     let change : State → State = λ z. after_reduction g.shoen (moved k (aim f a.held x) (m f) (charge g.shoen z)) in
     let read = names_read a hooks known n c g x p places text made ms more published.number d.name kept formed inside is.found makes fit published.named name in
     let turned = does ms m published.number last read published.respells

@@ -19,8 +19,8 @@ use Rattle.kl1_store.specs.Held.{Held}
 use Rattle.kl1_goals.specs.declared.goal.Goal.{Goal}
 use Rattle.kl1_shoen_paths.specs.declared.shoen.Shoen.{Shoen}
 use Rattle.kl1_shoen.specs.Shoens.{shoen_in}
-use Rattle.kl1_codes_modules.specs.Numbered.{Numbered}
 use Rattle.kl1_codes_modules.specs.Finding.{contents}
+use Rattle.kl1_codes_modules.specs.Shelves.{Program}
 use Rattle.kl1_store_hooks.specs.Hanging.{HangsOnEach}
 use Rattle.kl1_user_effects.specs.Fitting.{Reading, Fits, built}
 use Rattle.kl1_user_effects.specs.Account.{Means, meaning, task_with, goal_with, shoen_with, texts_of}
@@ -161,22 +161,22 @@ control_read t ss n = by_case (shoen_in n ss) ∙ sym (ap front_of (found_in t n
 control_alike : (t u : Means) (ss : List (Shoen CellName)) (n : ℕ) → map (shoen_with t) ss ≡ map (shoen_with u) ss → control_with t ss n ≡ control_with u ss n
 control_alike t u ss n e = control_read t ss n ∙ ap (λ (hs : List model.Shoen). front_of (shoen_at n hs)) e ∙ sym (control_read u ss n)
 
-settled_one : (f g : Reading) (hooks : List Hook) (h k : Held CellName) (ms : List Numbered) (ss : List (Shoen CellName)) (x : Goal CellName) → map (shoen_with (meaning f h)) ss ≡ map (shoen_with (meaning g k)) ss → goal_with (meaning f h) x ≡ goal_with (meaning g k) x →
-    IsSettled f hooks h ms ss x → IsSettled g hooks k ms ss x
-settled_one f g hooks h k ms ss x shoens goal s =
+settled_one : (f g : Reading) (hooks : List Hook) (h k : Held CellName) (program : Program) (ss : List (Shoen CellName)) (x : Goal CellName) → map (shoen_with (meaning f h)) ss ≡ map (shoen_with (meaning g k)) ss → goal_with (meaning f h) x ≡ goal_with (meaning g k) x →
+    IsSettled f hooks h program ss x → IsSettled g hooks k program ss x
+settled_one f g hooks h k program ss x shoens goal s =
     let front : control_with (meaning f h) ss x.shoen ≡ control_with (meaning g k) ss x.shoen = control_alike (meaning f h) (meaning g k) ss x.shoen shoens in
     let task : task_with (meaning f h) x.task ≡ task_with (meaning g k) x.task = ap (λ (y : model.Goal). y.task) goal in
     let H : List ℕ → Type 0 = λ vs. HangsOnEach hooks x.number vs in
     record {
-      standing = s.standing ∙ ap₂ (λ (c : Option Control) (y : model.Task). task_clause (contents ms) c y) front task;
-      hung = subst H (ap₂ (λ (c : Option Control) (y : model.Task). awaited_by_task (contents ms) c y) front task) s.hung;
+      standing = s.standing ∙ ap₂ (λ (c : Option Control) (y : model.Task). task_clause program.rules (contents program.loaded) c y) front task;
+      hung = subst H (ap₂ (λ (c : Option Control) (y : model.Task). awaited_by_task program.rules (contents program.loaded) c y) front task) s.hung;
     }
 
 -- goals that are settled for one reading are for another by which they and the shoens are the same
-pub settled_alike : (f g : Reading) (hooks : List Hook) (h k : Held CellName) (ms : List Numbered) (ss : List (Shoen CellName)) (gs : List (Goal CellName)) → map (shoen_with (meaning f h)) ss ≡ map (shoen_with (meaning g k)) ss → map (goal_with (meaning f h)) gs ≡ map (goal_with (meaning g k)) gs →
-    AreSettled f hooks h ms ss gs → AreSettled g hooks k ms ss gs
-settled_alike f g hooks h k ms ss [] shoens goals s = tt
-settled_alike f g hooks h k ms ss (x ∷ gs) shoens goals s =
+pub settled_alike : (f g : Reading) (hooks : List Hook) (h k : Held CellName) (program : Program) (ss : List (Shoen CellName)) (gs : List (Goal CellName)) → map (shoen_with (meaning f h)) ss ≡ map (shoen_with (meaning g k)) ss → map (goal_with (meaning f h)) gs ≡ map (goal_with (meaning g k)) gs →
+    AreSettled f hooks h program ss gs → AreSettled g hooks k program ss gs
+settled_alike f g hooks h k program ss [] shoens goals s = tt
+settled_alike f g hooks h k program ss (x ∷ gs) shoens goals s =
     let first : goal_with (meaning f h) x ≡ goal_with (meaning g k) x = cc in
     let rest : map (goal_with (meaning f h)) gs ≡ map (goal_with (meaning g k)) gs = cc in
-    (settled_one f g hooks h k ms ss x shoens first s.0, settled_alike f g hooks h k ms ss gs shoens rest s.1)
+    (settled_one f g hooks h k program ss x shoens first s.0, settled_alike f g hooks h k program ss gs shoens rest s.1)

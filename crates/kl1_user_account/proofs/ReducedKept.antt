@@ -21,7 +21,7 @@ use Rattle.kl1_shoen.specs.Shoens.{Tree, is_enabled_at}
 use Rattle.kl1_user_effects.specs.declared.draft.Draft.{Draft}
 use Rattle.kl1_user_effects.specs.declared.draft.Spelled.{Spelled}
 use Rattle.kl1_user_effects.specs.Fitting.{Reading, Fits}
-use Rattle.kl1_user_effects.specs.Account.{Account, meaning, goal_with, state_of, texts_of}
+use Rattle.kl1_user_effects.specs.Account.{Account, program_of, meaning, goal_with, state_of, texts_of}
 use Rattle.kl1_user_effects.specs.Kept.{AreGoalsIn, AreOwned, AreUpTo, AreShoensIn}
 use Rattle.kl1_user_effects.specs.Works.{worked}
 use Rattle.kl1_user_effects.specs.Drafts.{goals_left, names_with, made_of}
@@ -66,7 +66,7 @@ pub record IsDrafted (a : Account) (n c : ℕ) (old mid new : Kept CellName) (t 
   pub tells : told ≡ record effected { told = told.told }
   pub controls : KeepControls told.told.items a.shoens u.shoens a.goals
   pub room : a.entries < MOST_ENTRIES
-  pub finishes : Finishes a.modules (point_of old) mid new u a.goals table reached told finished
+  pub finishes : Finishes (program_of a) (point_of old) mid new u a.goals table reached told finished
 
 -- what a draft makes of an account is the account with the finished draft in place, and with the names that it has then
 placed_named : (f : Reading) (a : Account) (last : Held CellName) (u : Tree CellName) (d e : Draft) (more : List Known) → map (goal_with (meaning f last)) (goals_after a.goals e) ≡ map (goal_with (meaning f last)) (goals_left (a.goals ++ d.added.items) d) →
@@ -145,11 +145,11 @@ module _ (a : Account) (n c : ℕ) (old mid new : Kept CellName) (t u : Tree Cel
   -- ---- goals that are settled
 
   -- for a reading that fits the names before
-  settled_before : (f : Reading) → Fits a.names f → AreSettled f new.hooks new.held a.modules u.shoens (goals_after a.goals finished)
+  settled_before : (f : Reading) → Fits a.names f → AreSettled f new.hooks new.held (program_of a) u.shoens (goals_after a.goals finished)
   settled_before f fits =
       let G : Held CellName → Type 0 = λ h. AreGoalsIn h a.goals in
       let S : Held CellName → Type 0 = λ h. AreShoensIn h a.shoens in
-      let T : Held CellName → Type 0 = λ h. AreSettled f old.hooks h a.modules a.shoens a.goals in
+      let T : Held CellName → Type 0 = λ h. AreSettled f old.hooks h (program_of a) a.shoens a.goals in
       d.finishes.settles old a.shoens (record { marked = refl; formed = d.formed; grown = d.grown; hooks = d.hooks }) (subst G (sym d.held) d.kept.goals) (subst S (sym d.held) d.kept.shoens) d.controls
       f (record { reads = fits.reads; rows = d.kept.rows f fits }) (subst T (sym d.held) (d.kept.settled f fits))
 
@@ -170,29 +170,29 @@ module _ (a : Account) (n c : ℕ) (old mid new : Kept CellName) (t u : Tree Cel
 
   -- for a reading that fits the names after, if a name was drafted
   settled_named : (more : List Known) (last : Held CellName) (text : List ℕ) → effected.name ≡ Some text → number_by a.names text ≡ None → IsPublishedBy a.names more effected mid.held last → (f : Reading) → Fits more f →
-      AreSettled f new.hooks last a.modules u.shoens (goals_after a.goals finished)
+      AreSettled f new.hooks last (program_of a) u.shoens (goals_after a.goals finished)
   settled_named more last text is new_text p f fits =
       let R : Option (List ℕ) → Type 0 = λ o. ReadsNew f p.number o in
-      let H : Held CellName → Type 0 = λ h. AreSettled (exchanged spare p.number f) new.hooks h a.modules u.shoens (goals_after a.goals finished) in
+      let H : Held CellName → Type 0 = λ h. AreSettled (exchanged spare p.number f) new.hooks h (program_of a) u.shoens (goals_after a.goals finished) in
       let less = with_spare a.names text in
       let g = exchanged spare p.number f in
       let two : Fits less g = exchanged_fits a.names text p.number f d.kept.small new_text (subst R is (p.named.reads f fits)) (p.named.fits f fits) in
       let states = same_states less more mid.held last (spare_published text is new_text) p g f two fits in
-      settled_alike g f new.hooks mid.held last a.modules u.shoens (goals_after a.goals finished) (ap (λ (z : State). z.shoens) states) (ap (λ (z : State). z.goals) states)
+      settled_alike g f new.hooks mid.held last (program_of a) u.shoens (goals_after a.goals finished) (ap (λ (z : State). z.shoens) states) (ap (λ (z : State). z.goals) states)
       (subst H d.same (settled_before g (spare_fits a.names text new_text g two)))
 
   -- if none was, the store is what it was
-  settled_unnamed : (more : List Known) (last : Held CellName) → effected.name ≡ None → IsPublishedBy a.names more effected mid.held last → (f : Reading) → Fits more f → AreSettled f new.hooks last a.modules u.shoens (goals_after a.goals finished)
+  settled_unnamed : (more : List Known) (last : Held CellName) → effected.name ≡ None → IsPublishedBy a.names more effected mid.held last → (f : Reading) → Fits more f → AreSettled f new.hooks last (program_of a) u.shoens (goals_after a.goals finished)
   settled_unnamed more last is p f fits =
       let S : Option Spelled → Type 0 = λ s. Respells s p.number mid.held last in
-      let H : Held CellName → Type 0 = λ h. AreSettled f new.hooks h a.modules u.shoens (goals_after a.goals finished) in
+      let H : Held CellName → Type 0 = λ h. AreSettled f new.hooks h (program_of a) u.shoens (goals_after a.goals finished) in
       let stays : last ≡ mid.held = subst S (d.has is) p.respells in
       subst H (d.same ∙ sym stays) (settled_before f (p.named.fits f fits))
 
-  settled_after : (more : List Known) (last : Held CellName) → IsPublishedBy a.names more effected mid.held last → (f : Reading) → Fits more f → AreSettled f new.hooks last a.modules u.shoens (goals_after a.goals finished)
+  settled_after : (more : List Known) (last : Held CellName) → IsPublishedBy a.names more effected mid.held last → (f : Reading) → Fits more f → AreSettled f new.hooks last (program_of a) u.shoens (goals_after a.goals finished)
   settled_after more last p f fits = by_name effected.name refl
     where
-      by_name : (o : Option (List ℕ)) → effected.name ≡ o → AreSettled f new.hooks last a.modules u.shoens (goals_after a.goals finished)
+      by_name : (o : Option (List ℕ)) → effected.name ≡ o → AreSettled f new.hooks last (program_of a) u.shoens (goals_after a.goals finished)
       by_name None is = settled_unnamed more last is p f fits
       by_name (Some text) is =
           let N : Option (List ℕ) → Type 0 = λ o. IsNewName a.names o in

@@ -29,7 +29,7 @@ use Rattle.kl1_shoen_paths.specs.declared.shoen.Shoen.{Shoen}
 use Rattle.kl1_shoen.specs.Shoens.{Tree, is_enabled_at}
 use Rattle.kl1_user_effects.specs.declared.draft.Draft.{Draft}
 use Rattle.kl1_user_effects.specs.declared.draft.Spelled.{Spelled}
-use Rattle.kl1_user_effects.specs.Account.{Account, texts_of}
+use Rattle.kl1_user_effects.specs.Account.{Account, program_of, texts_of}
 use Rattle.kl1_user_effects.specs.Kept.{AreOwned, AreShoensIn}
 use Rattle.kl1_user_effects.specs.Drafts.{goals_left}
 use Rattle.kl1_user_effects.specs.Installing.{IsBegun}
@@ -192,7 +192,7 @@ pub heard_reduces : (a : Account) (n c known : ℕ) (g : Goal CellName) (k : Con
     IsKept a old.hooks known → IsSteppable a.goals n c g → g.task ≡ Monitor → HeardAs a.held a.shoens a.entries g c k → a.entries < MOST_ENTRIES → AreSingle a.goals →
     old.held ≡ a.held → t.shoens ≡ a.shoens → t.work ≡ a.work → mark ≡ point_of old → IsFormed old.held → IsBegun 0 a.rules a.last_goal a.variables a.nodes a.reports start →
     Reads g.shoen k a.goals (texts_of a.names) a.held mid.held t u start effected → AreShoensIn mid.held u.shoens → Leaves g.shoen mid.held t u [] start effected → IsHeard start effected → Grown old.held mid.held → mid.hooks ≡ old.hooks →
-    told ≡ record effected { told = told.told } → told.told.items ≡ effected.told.items ++ n ∷ [] → Finishes a.modules mark mid new u a.goals table reached told finished → new.held ≡ mid.held → table.shoens ≡ known → IsReduced a n c new u table finished
+    told ≡ record effected { told = told.told } → told.told.items ≡ effected.told.items ++ n ∷ [] → Finishes (program_of a) mark mid new u a.goals table reached told finished → new.held ≡ mid.held → table.shoens ≡ known → IsReduced a n c new u table finished
 heard_reduces a n c known g k mark old mid new t u table reached start effected told finished kept is task hears room single held shoens work at formed begun reads inside leaves rest grown hooks tells pushed finishes same count =
     let name : effected.name ≡ None = ap (λ (d : Draft). d.name) rest ∙ begun.name in
     let spelled : effected.spelled ≡ None = ap (λ (d : Draft). d.spelled) rest ∙ begun.spelled in
@@ -203,7 +203,7 @@ heard_reduces a n c known g k mark old mid new t u table reached start effected 
     let S : Option Spelled → Type 0 = λ o. IsSpelledIn o mid.held in
     let R : Option Spelled → Type 0 = λ o. IsSparedIn o mid.held in
     let C : List (Shoen CellName) → Type 0 = λ ss. KeepControls told.told.items ss u.shoens a.goals in
-    let F : Point → Type 0 = λ m. Finishes a.modules m mid new u a.goals table reached told finished in
+    let F : Point → Type 0 = λ m. Finishes (program_of a) m mid new u a.goals table reached told finished in
     drafted_reduces a n c old mid new t u table g.shoen 0 reached start effected told finished (record {
       kept = subst K (sym count) kept;
       held = held;
@@ -230,17 +230,17 @@ heard_reduces a n c known g k mark old mid new t u table reached start effected 
 
 -- what a goal does is drafted as it is to be
 pub does_reduces : (a : Account) (c known : ℕ) (g : Goal CellName) (x : Qualified CellName) (p : Predicate CellName) (places : List (Place CellName)) (text : List ℕ) (made : Move CellName) (mark : Point) (old mid new : Kept CellName) (t u : Tree CellName) (table : Tabled CellName) (reached : List ℕ) (start effected finished : Draft) →
-    IsKept a old.hooks known → IsSteppable a.goals g.number c g → IsToMake a.held a.modules a.entries g.task x c p places text made → MoveIn a.held p places text (Some made) →
+    IsKept a old.hooks known → IsSteppable a.goals g.number c g → IsToMake a.held (program_of a) a.entries g.task x c p places text made → MoveIn a.held p places text (Some made) →
     old.held ≡ a.held → t.shoens ≡ a.shoens → t.work ≡ a.work → mark ≡ point_of old → IsFormed a.held → IsBegun g.number a.rules a.last_goal a.variables a.nodes a.reports start →
     Does p made places text g x a.goals a.names a.held mid.held t u start effected → AreShoensIn mid.held u.shoens → Leaves 0 mid.held t u reached start effected → effected.name ≡ name_for made a.names text →
     IsSpelledIn effected.spelled mid.held → IsSparedIn effected.spelled mid.held → HasName effected.spelled effected.name → IsActed start effected → Grown old.held mid.held → mid.hooks ≡ old.hooks →
-    Finishes a.modules mark mid new u a.goals table reached effected finished → new.held ≡ mid.held → table.shoens ≡ known → IsReduced a g.number c new u table finished
+    Finishes (program_of a) mark mid new u a.goals table reached effected finished → new.held ≡ mid.held → table.shoens ≡ known → IsReduced a g.number c new u table finished
 does_reduces a c known g x p places text made mark old mid new t u table reached start effected finished kept is makes within held shoens work at formed begun does inside leaves name spelled spared has rest grown hooks finishes same count =
     let K : ℕ → Type 0 = λ m. IsKept a old.hooks m in
     let N : Option (List ℕ) → Type 0 = λ o. IsNewName a.names o in
     let H : Held CellName → Type 0 = λ h. IsFormed h in
     let C : List (Shoen CellName) → Type 0 = λ ss. KeepControls effected.told.items ss u.shoens a.goals in
-    let F : Point → Type 0 = λ m. Finishes a.modules m mid new u a.goals table reached effected finished in
+    let F : Point → Type 0 = λ m. Finishes (program_of a) m mid new u a.goals table reached effected finished in
     drafted_reduces a g.number c old mid new t u table 0 g.number reached start effected effected finished (record {
       kept = subst K (sym count) kept;
       held = held;
@@ -266,9 +266,9 @@ does_reduces a c known g x p places text made mark old mid new t u table reached
     })
 
 -- a draft that has begun with what an account has, once it removes goal `n`
-pub begun_for : (n : ℕ) (d : Draft) → IsBegun 0 d.rules d.last_goal d.variables d.nodes d.reports d → IsBegun n d.rules d.last_goal d.variables d.nodes d.reports (record d { removed = n })
-begun_for n d b = record {
-  rules_are = refl;
+pub begun_for : (n : ℕ) (rules : Rules) (d : Draft) → IsBegun 0 rules d.last_goal d.variables d.nodes d.reports d → IsBegun n rules d.last_goal d.variables d.nodes d.reports (record d { removed = n })
+begun_for n rules d b = record {
+  rules_are = b.rules_are;
   removed_is = refl;
   aborted = b.aborted;
   ended = b.ended;

@@ -29,7 +29,7 @@ use Rattle.kl1_shoen.specs.Shoens.{AreNumbered, is_enabled_at}
 use Rattle.kl1_user_account.specs.declared.counted.Counted.{Counted}
 use Rattle.kl1_user_account.specs.declared.opening.Opening.{Opening}
 use Rattle.kl1_user_effects.specs.Fitting.{Reading, Fits}
-use Rattle.kl1_user_effects.specs.Account.{Account, meaning, goal_with, shoen_with, state_of, texts_of}
+use Rattle.kl1_user_effects.specs.Account.{Account, program_of, meaning, goal_with, shoen_with, state_of, texts_of}
 use Rattle.kl1_user_effects.specs.Naming.{AreNumbersOf}
 use Rattle.kl1_user_effects.specs.Kept.{AreGoalsIn, AreShoensIn}
 use Rattle.kl1_user_account.specs.Starting.{HasNames, IsStartable, streams_opened, IsDrafted, IsPlaced}
@@ -49,7 +49,7 @@ pub record IsFirm (a : Account) : Type 0 where
 -- what is known of a start of a goal before it is in place and after it: the draft, the place, the names, and what is counted
 pub record IsStart (a b : Account) (mid : Held CellName) (texts : List (List ℕ)) (row : List Instruction) (numbers : List CellName) (count : ℕ) (cells : List (Cell CellName)) (awaited : List ℕ) (o : Opening) (allowance low high : ℕ) (goal : Term) : Type 0 where
   pub formed : IsFormed a.held
-  pub drafted : IsDrafted a.modules a.names texts row count allowance a.reports a.held mid cells awaited o
+  pub drafted : IsDrafted (program_of a) a.names texts row count allowance a.reports a.held mid cells awaited o
   pub grown : Grown a.held mid
   pub placed : IsPlaced numbers row cells mid b.held a.goals b.goals a.shoens b.shoens b.work a.last_goal allowance low high o
   pub more : Grown mid b.held

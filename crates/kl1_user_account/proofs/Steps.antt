@@ -153,7 +153,7 @@ is_none_read f h (BreaksOff x) e = absurd (cc)
 -- ---- what a goal for a cell can do
 
 -- it makes the move of its term, if there is one
-pub goal_does : (f : Reading) (a : Account) (c : ℕ) (g : Goal CellName) (x : Qualified CellName) (o : Option reduction.Move) → g.task ≡ Reduces x → move_by (contents a.modules) (aim f a.held x) c ≡ o →
+pub goal_does : (f : Reading) (a : Account) (c : ℕ) (g : Goal CellName) (x : Qualified CellName) (o : Option reduction.Move) → g.task ≡ Reduces x → move_by a.rules (contents a.modules) (aim f a.held x) c ≡ o →
     task_action (state_of f a) g.shoen (task_with (meaning f a.held) g.task) c ≡ option_map (moves (aim f a.held x)) o
 goal_does f a c g x o task found =
     let s = state_of f a in
@@ -170,7 +170,7 @@ substitute_acts t c = by_case (c == 0)
     by_case false = refl
 
 -- a goal makes the move of its task, if there is one
-pub task_does : (f : Reading) (a : Account) (c : ℕ) (g : Goal CellName) (x : Qualified CellName) (o : Option reduction.Move) → IsTaskFor x g.task → task_move (contents a.modules) (task_with (meaning f a.held) g.task) c ≡ o →
+pub task_does : (f : Reading) (a : Account) (c : ℕ) (g : Goal CellName) (x : Qualified CellName) (o : Option reduction.Move) → IsTaskFor x g.task → task_move a.rules (contents a.modules) (task_with (meaning f a.held) g.task) c ≡ o →
     task_action (state_of f a) g.shoen (task_with (meaning f a.held) g.task) c ≡ option_map (moves (aim f a.held x)) o
 task_does f a c g x o is found = by_task g.task is found
   where
@@ -180,9 +180,9 @@ task_does f a c g x o is found = by_task g.task is found
     t : Means
     t = meaning f a.held
 
-    by_task : (k : Task CellName) → IsTaskFor x k → task_move (contents a.modules) (task_with t k) c ≡ o → task_action s g.shoen (task_with t k) c ≡ option_map (moves (aim f a.held x)) o
+    by_task : (k : Task CellName) → IsTaskFor x k → task_move a.rules (contents a.modules) (task_with t k) c ≡ o → task_action s g.shoen (task_with t k) c ≡ option_map (moves (aim f a.held x)) o
     by_task Monitor i e = absurd i
-    by_task (Reduces q) i e = ap (λ (y : Qualified CellName). option_map (moves (aim_with t y)) (move_by (contents a.modules) (aim_with t q) c)) i ∙ ap (option_map (moves (aim f a.held x))) e
+    by_task (Reduces q) i e = ap (λ (y : Qualified CellName). option_map (moves (aim_with t y)) (move_by a.rules (contents a.modules) (aim_with t q) c)) i ∙ ap (option_map (moves (aim f a.held x))) e
     by_task (Substitutes y) i e = substitute_acts (t y) c ∙ ap (λ (z : Qualified CellName). option_map (moves (aim_with t z)) (move_by_clause (t y) c)) i ∙ ap (option_map (moves (aim f a.held x))) e
 
 -- what isn't so is false

@@ -26,7 +26,7 @@ use Rattle.kl1_shoen_paths.specs.declared.shoen.Origin.{Origin}
 use Rattle.kl1_shoen_paths.specs.declared.shoen.Shoen.{Shoen}
 use Rattle.kl1_shoen.specs.Shoens.{shoen_in}
 use Rattle.kl1_user_effects.specs.Fitting.{Reading, built}
-use Rattle.kl1_codes_modules.specs.Numbered.{Numbered}
+use Rattle.kl1_codes_modules.specs.Shelves.{Program}
 use Rattle.kl1_user_effects.specs.declared.draft.Change.{Change}
 use Rattle.kl1_user_effects.specs.Account.{meaning, texts_of, with_kept}
 use Rattle.kl1_user_effects.specs.Works.{Knows}
@@ -71,8 +71,8 @@ AnswersAs rules h ss names counted n report goal (Coded code v) = IsAnswerable r
 
 -- an answer is drafted: its goal, whose variables come after those that were there, was built with these numbers for its names and stands in
 -- place of variable `v`, and what hangs on that was looked at
-pub record IsAnswered (ms : List Numbered) (known : List Known) (goal : Term) (spares : List CellName) (v : ℕ) (old new : Kept CellName) (goals : List (Goal CellName)) (ss : List (Shoen CellName)) (changes : List Change) : Type 0 where
+pub record IsAnswered (program : Program) (known : List Known) (goal : Term) (spares : List CellName) (v : ℕ) (old new : Kept CellName) (goals : List (Goal CellName)) (ss : List (Shoen CellName)) (changes : List Change) : Type 0 where
   pub spared : AreSpared known 0 (with_names [] (names_of goal)) spares
   pub variables : new.held.variables ≡ old.held.variables + highest goal
   pub means : (f : Reading) → Reads built f → map f spares ≡ with_names [] (names_of goal) → (x : Cell CellName) → IsIn old.held x → meaning f new.held x ≡ replace v (with_next_variables (old.held.variables - 1) goal) (meaning f old.held x)
-  pub settles : (f : Reading) → Knows ms f → AreSettled f old.hooks old.held ms ss goals → AreSettled f new.hooks new.held ms ss (restood changes goals)
+  pub settles : (f : Reading) → Knows program.loaded f → AreSettled f old.hooks old.held program ss goals → AreSettled f new.hooks new.held program ss (restood changes goals)

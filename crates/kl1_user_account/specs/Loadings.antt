@@ -15,6 +15,7 @@ use Rattle.kl1_goals.specs.declared.goal.Goal.{Goal}
 use Rattle.kl1_shoen_paths.specs.declared.shoen.Shoen.{Shoen}
 use Rattle.kl1_codes_modules.specs.Numbered.{Numbered, own_names, number_of}
 use Rattle.kl1_codes_modules.specs.Finding.{contents, is_numbered}
+use Rattle.kl1_codes_modules.specs.Shelves.{Program, with_last}
 use Rattle.kl1_user_effects.specs.declared.draft.Change.{Change}
 use Rattle.kl1_user_account.specs.declared.loading.Loading.{Loading}
 use Rattle.kl1_user_account.specs.declared.loading.Loading.TheVariants.{Refused, Drafted}
@@ -68,5 +69,5 @@ StandsIn has (Refused r) = Unit {0}
 StandsIn has (Drafted d) = has d.place
 
 -- all goals are settled with a drafted module beside the others, after these changes
-abbrev pub Settles : List Numbered → Numbered → List (Shoen CellName) → List Hook → Held CellName → List (Goal CellName) → List Change → Type 0
-Settles ms d shoens hooks h goals changes = (f : Reading) → Knows (ms ++ d ∷ []) f → AreSettled f hooks h (ms ++ d ∷ []) shoens (restood changes goals)
+abbrev pub Settles : Program → Numbered → List (Shoen CellName) → List Hook → Held CellName → List (Goal CellName) → List Change → Type 0
+Settles program d shoens hooks h goals changes = (f : Reading) → Knows (program.loaded ++ d ∷ []) f → AreSettled f hooks h (with_last program d) shoens (restood changes goals)

@@ -159,18 +159,18 @@ pub record OpensStreams (allowance made : ℕ) (old new : Held CellName) (s : St
   pub kept : (f : Reading) (x : Cell CellName) → IsIn old x → meaning f new x ≡ meaning f old x
 
 -- by this clause the goal of a row can step, which waits for these variables, if its names have these numbers
-abbrev pub Judges : List Numbered → List CellName → List Instruction → List (Cell CellName) → Held CellName → List ℕ → Option ℕ → Type 0
-Judges ms names row cells h awaited standing =
-    (f : Reading) → Knows ms f → (goal : Term) → IsRowOf (map f names) row (nodes_of goal) → IsTrue (is_numbered goal) → (last : ℕ) → AreGoalVariables h last (highest goal) cells →
-    StandsAs (contents ms) (with_next_variables last goal) awaited standing
+abbrev pub Judges : Program → List CellName → List Instruction → List (Cell CellName) → Held CellName → List ℕ → Option ℕ → Type 0
+Judges program names row cells h awaited standing =
+    (f : Reading) → Knows program.loaded f → (goal : Term) → IsRowOf (map f names) row (nodes_of goal) → IsTrue (is_numbered goal) → (last : ℕ) → AreGoalVariables h last (highest goal) cells →
+    StandsAs program.rules (contents program.loaded) (with_next_variables last goal) awaited standing
 
 -- what is drafted of a goal of these texts and this row, for an account with these names and modules: its variables, the streams of
 -- its shoen, the clause by which it can step, and what it waits for
-pub record IsDrafted (ms : List Numbered) (names : List Known) (texts : List (List ℕ)) (row : List Instruction) (count allowance made : ℕ) (old new : Held CellName) (cells : List (Cell CellName)) (awaited : List ℕ) (o : Opening) : Type 0 where
+pub record IsDrafted (program : Program) (names : List Known) (texts : List (List ℕ)) (row : List Instruction) (count allowance made : ℕ) (old new : Held CellName) (cells : List (Cell CellName)) (awaited : List ℕ) (o : Opening) : Type 0 where
   pub streams : OpensStreams allowance made (with_variables old count) new o.streams
   pub variables : AreGoalVariables new (old.variables - 1) count cells
-  pub judged : AreNames names → AreSmall names → ((f : Reading) → Fits names f → AreRead f ms) → (goal : Term) → IsRowOf texts row (nodes_of goal) → IsTrue (is_numbered goal) → count ≡ highest goal →
-      StandsAs (contents ms) (with_next_variables (old.variables - 1) goal) awaited o.standing
+  pub judged : AreNames names → AreSmall names → ((f : Reading) → Fits names f → AreRead f program.loaded) → (goal : Term) → IsRowOf texts row (nodes_of goal) → IsTrue (is_numbered goal) → count ≡ highest goal →
+      StandsAs program.rules (contents program.loaded) (with_next_variables (old.variables - 1) goal) awaited o.standing
   pub unbound : AreUnbound new awaited
 
 -- a number hung on each of these variables

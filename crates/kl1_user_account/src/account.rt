@@ -162,7 +162,7 @@ impl<C: CodeSource> Account<C> {
             &mut self.store,
             &mut self.goals,
             &mut self.shoens,
-            &CodedModules::over(&self.modules, codes),
+            &CodedModules::over(self.rules, &self.modules, codes),
             &mut self.names,
             &mut self.trial,
             &mut self.draft,
@@ -217,7 +217,7 @@ impl<C: CodeSource> Account<C> {
             &mut self.store,
             &self.goals,
             &mut self.shoens,
-            &CodedModules::over(&self.modules, codes),
+            &CodedModules::over(self.rules, &self.modules, codes),
             &mut self.trial,
             &mut self.draft,
             self.rules,
@@ -281,6 +281,7 @@ impl<C: CodeSource> Account<C> {
             &mut self.store,
             &self.goals,
             &self.shoens,
+            self.rules,
             &mut self.modules,
             codes,
             &mut self.names,
@@ -343,7 +344,7 @@ impl<C: CodeSource> Account<C> {
             &mut self.store,
             &mut self.goals,
             &mut self.shoens,
-            &CodedModules::over(&self.modules, codes),
+            &CodedModules::over(self.rules, &self.modules, codes),
             &mut self.names,
             texts,
             row,
@@ -432,7 +433,7 @@ impl<C: CodeSource> Account<C> {
             &mut self.store,
             &self.goals,
             &self.shoens,
-            &CodedModules::over(&self.modules, codes),
+            &CodedModules::over(self.rules, &self.modules, codes),
             &mut self.names,
             &mut spares,
             &mut self.numbers,
@@ -502,7 +503,10 @@ impl<C: CodeSource> Account<C> {
         requires { ArePlaced (C.has codes.now) self.now.modules }
         ensures step { IfOk result (λ reply. (f : Reading) → Fits self.now.names f → step (state_of f self.now) (read modules_query) ≡ record { state = state_of f self.now; reply = reply_of reply }) }
     {
-        modules_of(self.alloc, &CodedModules::over(&self.modules, codes))
+        modules_of(
+            self.alloc,
+            &CodedModules::over(self.rules, &self.modules, codes),
+        )
     }
 
     /// The goal of shoen `number`, as started, with what is bound now.

@@ -1,7 +1,6 @@
 // What may be answered.
 
 ghost use Rattle.std.specs.Prelude.{◌≡◌, codes, nat_le, IfOk, OnOk};
-ghost use Rattle.kl1_model.specs.State.{has_substitutes};
 ghost use Rattle.kl1_model.specs.Answering.{answer_line, may_answer};
 ghost use Rattle.kl1_user_effects.specs.Kept.{AreShoensIn};
 ghost use Rattle.kl1_user_account.specs.Answering.{AnswersAs};
@@ -27,16 +26,6 @@ use std::alloc::{AllocError, Global};
 pub(crate) enum Answering {
     Refused(Refusal),
     Coded(GoalCode, u32),
-}
-
-/// Whether a goal that raises an exception leaves a substitute.
-fn has_substitutes(rules: Rules) -> bool
-    ensures { result ≡ has_substitutes rules }
-{
-    match rules {
-        Rules::One => false,
-        Rules::Two => true,
-    }
 }
 
 /// Puts the rest of the line of a journal for an answer after its first word. After an error some of it may be there.
@@ -94,7 +83,7 @@ pub(crate) fn code_of_answer(
     requires shoens { AreShoensIn store.now.held shoens.now.shoens }
     ensures { IfOk result (AnswersAs rules store.now.held shoens.now.shoens names.now.names counted number report goal.now) }
 {
-    if !has_substitutes(rules) {
+    if !rules.has_substitutes() {
         return Ok(Answering::Refused(Refusal::Syntax));
     }
     if !may_answer(alloc, number, report, goal)? {

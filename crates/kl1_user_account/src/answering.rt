@@ -55,7 +55,7 @@ pub(crate) fn draft_answer<C: CodeSource>(
     requires spares { spares.old.items ≡ [] }
     requires empty { numbers.old.items ≡ [] }
     requires begun { draft.old.changes.items ≡ [] }
-    ensures ok { OnOk result (IsAnswered modules.now.loaded names.old.names code.now spares.new.items variable store.old store.new goals.now.goals shoens.now.shoens draft.new.changes.items) }
+    ensures ok { OnOk result (IsAnswered modules.now names.old.names code.now spares.new.items variable store.old store.new goals.now.goals shoens.now.shoens draft.new.changes.items) }
     ensures rest { draft.new ≡ record draft.old { told = draft.new.told; changes = draft.new.changes } }
     ensures empty { OnOk result (numbers.new.items ≡ []) }
     ensures room { OnOk result (length (with_names [] (names_of code.now)) ≤ vec_capacity numbers.new) }

@@ -124,11 +124,11 @@ fn move_to_make<C: CodeSource>(
     requires some { AreSome predicate.names.now predicate.clauses.now }
     requires is { (f : Reading) → Knows modules.now.loaded f → IsKind f store.now.held (aim f store.now.held cell) kind }
     requires has { (f : Reading) → Knows modules.now.loaded f → (h : Held CellName) (t : Term) → IsKind f h t kind → HasPredicate f h (contents modules.now.loaded) kind predicate }
-    ensures refused { IfOk result (λ o. IfErr o (NotMade store.now.held modules.now.loaded entries cell clause)) }
-    ensures makes { IfOk result (λ o. IfOk o (IsMade store.now.held modules.now.loaded entries cell clause predicate.entry (taken_places trial.new) trial.new.text)) }
+    ensures refused { IfOk result (λ o. IfErr o (NotMade store.now.held modules.now entries cell clause)) }
+    ensures makes { IfOk result (λ o. IfOk o (IsMade store.now.held modules.now entries cell clause predicate.entry (taken_places trial.new) trial.new.text)) }
     ensures inside { IfOk result (λ o. IfOk o (λ made. MoveIn store.now.held predicate.entry (taken_places trial.new) trial.new.text (Some made))) }
 {
-    let Some(made) = move_of(store, kind, predicate, clause, trial)? else {
+    let Some(made) = move_of(store, modules.rules(), kind, predicate, clause, trial)? else {
         return Ok(Err(Refusal::Step));
     };
     if MOST_ENTRIES <= entries {
@@ -155,9 +155,9 @@ fn draft_reading<C: CodeSource>(
 ) -> Result<Option<Refusal>, AllocError>
     requires steppable { IsSteppable goals.old.goals goal.number clause goal }
     requires monitor { goal.task ≡ Monitor }
-    requires begun { IsBegun 0 draft.old.rules draft.old.last_goal draft.old.variables draft.old.nodes draft.old.reports draft.old }
-    requires kept { (own : List ℕ × ℕ) → IsKept (account_at own draft.old.rules store.old.held goals.old.goals shoens.old modules.now.loaded names.now.names draft.old.last_goal draft.old.variables draft.old.nodes draft.old.reports entries) store.old.hooks goals.old.shoens }
-    ensures ok { IfOk result (λ refused. (own : List ℕ × ℕ) → ReducesAs (account_at own draft.old.rules store.old.held goals.old.goals shoens.old modules.now.loaded names.now.names draft.old.last_goal draft.old.variables draft.old.nodes draft.old.reports entries) goal.number clause store.old store.new shoens.old shoens.new goals.new draft.new refused) }
+    requires begun { IsBegun 0 modules.now.rules draft.old.last_goal draft.old.variables draft.old.nodes draft.old.reports draft.old }
+    requires kept { (own : List ℕ × ℕ) → IsKept (account_at own store.old.held goals.old.goals shoens.old modules.now names.now.names draft.old.last_goal draft.old.variables draft.old.nodes draft.old.reports entries) store.old.hooks goals.old.shoens }
+    ensures ok { IfOk result (λ refused. (own : List ℕ × ℕ) → ReducesAs (account_at own store.old.held goals.old.goals shoens.old modules.now names.now.names draft.old.last_goal draft.old.variables draft.old.nodes draft.old.reports entries) goal.number clause store.old store.new shoens.old shoens.new goals.new draft.new refused) }
     ensures back { CanGoBack shoens.old shoens.new }
     ensures grown { HasGrown store.old store.new }
     ensures goals { goals.new.goals ≡ goals.old.goals }
@@ -215,14 +215,14 @@ fn draft_made<C: CodeSource>(
 ) -> Result<(), AllocError>
     requires steppable { IsSteppable goals.old.goals goal.number clause goal }
     requires level { goal.priority ≤ MONITOR_PRIORITY }
-    requires begun { IsBegun 0 draft.old.rules draft.old.last_goal draft.old.variables draft.old.nodes draft.old.reports draft.old }
-    requires kept { (own : List ℕ × ℕ) → IsKept (account_at own draft.old.rules store.old.held goals.old.goals shoens.old modules.now.loaded names.old.names draft.old.last_goal draft.old.variables draft.old.nodes draft.old.reports entries) store.old.hooks goals.old.shoens }
+    requires begun { IsBegun 0 modules.now.rules draft.old.last_goal draft.old.variables draft.old.nodes draft.old.reports draft.old }
+    requires kept { (own : List ℕ × ℕ) → IsKept (account_at own store.old.held goals.old.goals shoens.old modules.now names.old.names draft.old.last_goal draft.old.variables draft.old.nodes draft.old.reports entries) store.old.hooks goals.old.shoens }
     requires cell { IsIn store.old.held cell.cell }
     requires some { AreSome predicate.names.now predicate.clauses.now }
     requires serves { Serves modules.now.loaded kind predicate }
-    requires makes { IsToMake store.old.held modules.now.loaded entries goal.task cell clause predicate (taken_places trial.old) trial.old.text made }
+    requires makes { IsToMake store.old.held modules.now entries goal.task cell clause predicate (taken_places trial.old) trial.old.text made }
     requires inside { MoveIn store.old.held predicate (taken_places trial.old) trial.old.text (Some made) }
-    ensures ok { OnOk result ((own : List ℕ × ℕ) → IsReduced (account_at own draft.old.rules store.old.held goals.old.goals shoens.old modules.now.loaded names.old.names draft.old.last_goal draft.old.variables draft.old.nodes draft.old.reports entries) goal.number clause store.new shoens.new goals.new draft.new) }
+    ensures ok { OnOk result ((own : List ℕ × ℕ) → IsReduced (account_at own store.old.held goals.old.goals shoens.old modules.now names.old.names draft.old.last_goal draft.old.variables draft.old.nodes draft.old.reports entries) goal.number clause store.new shoens.new goals.new draft.new) }
     ensures back { CanGoBack shoens.old shoens.new }
     ensures grown { HasGrown store.old store.new }
     ensures goals { goals.new.goals ≡ goals.old.goals }
@@ -264,9 +264,9 @@ fn draft_substitute<C: CodeSource>(
     requires steppable { IsSteppable goals.old.goals goal.number clause goal }
     requires substitutes { goal.task ≡ Substitutes term }
     requires level { goal.priority ≤ MONITOR_PRIORITY }
-    requires begun { IsBegun 0 draft.old.rules draft.old.last_goal draft.old.variables draft.old.nodes draft.old.reports draft.old }
-    requires kept { (own : List ℕ × ℕ) → IsKept (account_at own draft.old.rules store.old.held goals.old.goals shoens.old modules.now.loaded names.old.names draft.old.last_goal draft.old.variables draft.old.nodes draft.old.reports entries) store.old.hooks goals.old.shoens }
-    ensures ok { IfOk result (λ refused. (own : List ℕ × ℕ) → ReducesAs (account_at own draft.old.rules store.old.held goals.old.goals shoens.old modules.now.loaded names.old.names draft.old.last_goal draft.old.variables draft.old.nodes draft.old.reports entries) goal.number clause store.old store.new shoens.old shoens.new goals.new draft.new refused) }
+    requires begun { IsBegun 0 modules.now.rules draft.old.last_goal draft.old.variables draft.old.nodes draft.old.reports draft.old }
+    requires kept { (own : List ℕ × ℕ) → IsKept (account_at own store.old.held goals.old.goals shoens.old modules.now names.old.names draft.old.last_goal draft.old.variables draft.old.nodes draft.old.reports entries) store.old.hooks goals.old.shoens }
+    ensures ok { IfOk result (λ refused. (own : List ℕ × ℕ) → ReducesAs (account_at own store.old.held goals.old.goals shoens.old modules.now names.old.names draft.old.last_goal draft.old.variables draft.old.nodes draft.old.reports entries) goal.number clause store.old store.new shoens.old shoens.new goals.new draft.new refused) }
     ensures back { CanGoBack shoens.old shoens.new }
     ensures grown { HasGrown store.old store.new }
     ensures goals { goals.new.goals ≡ goals.old.goals }
@@ -325,9 +325,9 @@ fn draft_move<C: CodeSource>(
     requires steppable { IsSteppable goals.old.goals goal.number clause goal }
     requires reduces { goal.task ≡ Reduces cell }
     requires level { goal.priority ≤ MONITOR_PRIORITY }
-    requires begun { IsBegun 0 draft.old.rules draft.old.last_goal draft.old.variables draft.old.nodes draft.old.reports draft.old }
-    requires kept { (own : List ℕ × ℕ) → IsKept (account_at own draft.old.rules store.old.held goals.old.goals shoens.old modules.now.loaded names.old.names draft.old.last_goal draft.old.variables draft.old.nodes draft.old.reports entries) store.old.hooks goals.old.shoens }
-    ensures ok { IfOk result (λ refused. (own : List ℕ × ℕ) → ReducesAs (account_at own draft.old.rules store.old.held goals.old.goals shoens.old modules.now.loaded names.old.names draft.old.last_goal draft.old.variables draft.old.nodes draft.old.reports entries) goal.number clause store.old store.new shoens.old shoens.new goals.new draft.new refused) }
+    requires begun { IsBegun 0 modules.now.rules draft.old.last_goal draft.old.variables draft.old.nodes draft.old.reports draft.old }
+    requires kept { (own : List ℕ × ℕ) → IsKept (account_at own store.old.held goals.old.goals shoens.old modules.now names.old.names draft.old.last_goal draft.old.variables draft.old.nodes draft.old.reports entries) store.old.hooks goals.old.shoens }
+    ensures ok { IfOk result (λ refused. (own : List ℕ × ℕ) → ReducesAs (account_at own store.old.held goals.old.goals shoens.old modules.now names.old.names draft.old.last_goal draft.old.variables draft.old.nodes draft.old.reports entries) goal.number clause store.old store.new shoens.old shoens.new goals.new draft.new refused) }
     ensures back { CanGoBack shoens.old shoens.new }
     ensures grown { HasGrown store.old store.new }
     ensures goals { goals.new.goals ≡ goals.old.goals }
@@ -366,9 +366,9 @@ fn draft_reduction<C: CodeSource>(
     number: u64,
     clause: u64,
 ) -> Result<Option<Refusal>, AllocError>
-    requires begun { IsBegun 0 draft.old.rules draft.old.last_goal draft.old.variables draft.old.nodes draft.old.reports draft.old }
-    requires kept { (own : List ℕ × ℕ) → IsKept (account_at own draft.old.rules store.old.held goals.old.goals shoens.old modules.now.loaded names.old.names draft.old.last_goal draft.old.variables draft.old.nodes draft.old.reports entries) store.old.hooks goals.old.shoens }
-    ensures ok { IfOk result (λ refused. (own : List ℕ × ℕ) → ReducesAs (account_at own draft.old.rules store.old.held goals.old.goals shoens.old modules.now.loaded names.old.names draft.old.last_goal draft.old.variables draft.old.nodes draft.old.reports entries) number clause store.old store.new shoens.old shoens.new goals.new draft.new refused) }
+    requires begun { IsBegun 0 modules.now.rules draft.old.last_goal draft.old.variables draft.old.nodes draft.old.reports draft.old }
+    requires kept { (own : List ℕ × ℕ) → IsKept (account_at own store.old.held goals.old.goals shoens.old modules.now names.old.names draft.old.last_goal draft.old.variables draft.old.nodes draft.old.reports entries) store.old.hooks goals.old.shoens }
+    ensures ok { IfOk result (λ refused. (own : List ℕ × ℕ) → ReducesAs (account_at own store.old.held goals.old.goals shoens.old modules.now names.old.names draft.old.last_goal draft.old.variables draft.old.nodes draft.old.reports entries) number clause store.old store.new shoens.old shoens.new goals.new draft.new refused) }
     ensures back { CanGoBack shoens.old shoens.new }
     ensures grown { HasGrown store.old store.new }
     ensures goals { goals.new.goals ≡ goals.old.goals }
@@ -420,9 +420,9 @@ pub(crate) fn draft_named<C: CodeSource>(
     number: u64,
     clause: u64,
 ) -> Result<Option<Refusal>, AllocError>
-    requires begun { IsBegun 0 draft.old.rules draft.old.last_goal draft.old.variables draft.old.nodes draft.old.reports draft.old }
-    requires kept { (own : List ℕ × ℕ) → IsKept (account_at own draft.old.rules store.old.held goals.old.goals shoens.old modules.now.loaded names.old.names draft.old.last_goal draft.old.variables draft.old.nodes draft.old.reports entries) store.old.hooks goals.old.shoens }
-    ensures ok { IfOk result (λ refused. (own : List ℕ × ℕ) → ReducesAs (account_at own draft.old.rules store.old.held goals.old.goals shoens.old modules.now.loaded names.old.names draft.old.last_goal draft.old.variables draft.old.nodes draft.old.reports entries) number clause store.old store.new shoens.old shoens.new goals.new draft.new refused) }
+    requires begun { IsBegun 0 modules.now.rules draft.old.last_goal draft.old.variables draft.old.nodes draft.old.reports draft.old }
+    requires kept { (own : List ℕ × ℕ) → IsKept (account_at own store.old.held goals.old.goals shoens.old modules.now names.old.names draft.old.last_goal draft.old.variables draft.old.nodes draft.old.reports entries) store.old.hooks goals.old.shoens }
+    ensures ok { IfOk result (λ refused. (own : List ℕ × ℕ) → ReducesAs (account_at own store.old.held goals.old.goals shoens.old modules.now names.old.names draft.old.last_goal draft.old.variables draft.old.nodes draft.old.reports entries) number clause store.old store.new shoens.old shoens.new goals.new draft.new refused) }
     ensures back { CanGoBack shoens.old shoens.new }
     ensures grown { HasGrown store.old store.new }
     ensures goals { goals.new.goals ≡ goals.old.goals }

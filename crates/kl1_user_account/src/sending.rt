@@ -137,7 +137,7 @@ pub(crate) fn wake_bound<C: CodeSource>(
 ) -> Result<(), AllocError>
     requires goals { AreGoalsIn store.old.held goals.now.goals }
     requires shoens { AreShoensIn store.old.held shoens.now.shoens }
-    ensures wakes { OnOk result (WakesTold modules.now.loaded shoens.now.shoens store.old.held store.old.hooks store.new.hooks goals.now.goals 0 (told_by (drop mark.sizes.bindings store.old.held.bindings) store.old.hooks) draft.old.changes.items draft.new.changes.items) }
+    ensures wakes { OnOk result (WakesTold modules.now shoens.now.shoens store.old.held store.old.hooks store.new.hooks goals.now.goals 0 (told_by (drop mark.sizes.bindings store.old.held.bindings) store.old.hooks) draft.old.changes.items draft.new.changes.items) }
     ensures rest { draft.new ≡ record draft.old { told = draft.new.told; changes = draft.new.changes } }
     ensures held { store.new.held ≡ store.old.held }
     ensures grown { HasGrown store.old store.new }
@@ -182,7 +182,7 @@ pub(crate) fn draft_message<C: CodeSource>(
     requires order { AreInOrder goals.now.goals }
     requires first { AllByRecursion (λ g. 0 < g.number) goals.now.goals }
     requires shoens { AreShoensIn store.old.held shoens.old.shoens }
-    ensures ok { IfOk result (SendsAs modules.now.loaded store.old store.new goals.now.goals shoens.old shoens.new variables nodes entries number message draft.new) }
+    ensures ok { IfOk result (SendsAs modules.now store.old store.new goals.now.goals shoens.old shoens.new variables nodes entries number message draft.new) }
     ensures back { CanGoBack shoens.old shoens.new }
     ensures grown { HasGrown store.old store.new }
 {

@@ -106,7 +106,7 @@ pub(crate) fn prepare_start<C: CodeSource>(
     requires named { AreNamed (length texts.now) row.now }
     requires below { AreBelow (count + 1) row.now }
     requires empty { numbers.old.items ≡ [] }
-    ensures ok { IfOk result (IsDrafted modules.now.loaded names.old.names texts.now row.now count allowance made store.old.held store.new.held (goal_variables scratch.new) trial.new.awaited.items) }
+    ensures ok { IfOk result (IsDrafted modules.now names.old.names texts.now row.now count allowance made store.old.held store.new.held (goal_variables scratch.new) trial.new.awaited.items) }
     ensures grown { OnOk result (Grown store.old.held store.new.held) }
     ensures formed { IsFormed store.old.held }
     ensures empty { OnOk result (numbers.new.items ≡ []) }

@@ -121,19 +121,19 @@ drafts_new_name h k t u d c e goal text known a x none room number is p =
 
 -- ---- whether there is room for a name
 
-pub room_known : (known : List Known) (text : List ℕ) (o : Option CellName) (v : CellName) (len : ℕ) → option_map (λ (c : CellName). c.number) o ≡ number_by known text → o ≡ Some v → len ≡ length known → nat_le len 1024 ≡ keeps_names known text
+pub room_known : (known : List Known) (text : List ℕ) (o : Option CellName) (v : CellName) (len : ℕ) → option_map (λ (c : CellName). c.number) o ≡ number_by known text → o ≡ Some v → len ≡ length known → nat_le len MOST_NAMES ≡ keeps_names known text
 room_known known text o v len number is len_is =
     let e : number_by known text ≡ Some v.number = sym number ∙ ap (option_map (λ (c : CellName). c.number)) is in
-    ap (λ n. nat_le n 1024) (len_is ∙ sym (length-map known (λ (k : Known). k.text)))
+    ap (λ n. nat_le n MOST_NAMES) (len_is ∙ sym (length-map known (λ (k : Known). k.text)))
     ∙ ap (λ (l : List (List ℕ)). nat_le (length l) MOST_NAMES) (sym (known_named known text v.number e))
 
-pub room_new : (known : List Known) (text : List ℕ) (o : Option CellName) (len : ℕ) → option_map (λ (c : CellName). c.number) o ≡ number_by known text → o ≡ None → len ≡ length known → nat_lt len 1024 ≡ keeps_names known text
+pub room_new : (known : List Known) (text : List ℕ) (o : Option CellName) (len : ℕ) → option_map (λ (c : CellName). c.number) o ≡ number_by known text → o ≡ None → len ≡ length known → nat_lt len MOST_NAMES ≡ keeps_names known text
 room_new known text o len number is len_is =
     let e : number_by known text ≡ None = sym number ∙ ap (option_map (λ (c : CellName). c.number)) is in
     below_next len
-    ∙ ap (λ n. nat_le (n + 1) 1024) (len_is ∙ sym (length-map known (λ (k : Known). k.text)))
-    ∙ ap (λ n. nat_le n 1024) (sym (length_push (texts_of known) text))
+    ∙ ap (λ n. nat_le (n + 1) MOST_NAMES) (len_is ∙ sym (length-map known (λ (k : Known). k.text)))
+    ∙ ap (λ n. nat_le n MOST_NAMES) (sym (length_push (texts_of known) text))
     ∙ ap (λ (l : List (List ℕ)). nat_le (length l) MOST_NAMES) (sym (new_named known text e))
   where
-    below_next : (n : ℕ) → nat_lt n 1024 ≡ nat_le (n + 1) 1024
-    below_next n = let e : suc n ≡ n + 1 = omega arith in ap (λ m. nat_le m 1024) e
+    below_next : (n : ℕ) → nat_lt n MOST_NAMES ≡ nat_le (n + 1) MOST_NAMES
+    below_next n = let e : suc n ≡ n + 1 = omega arith in ap (λ m. nat_le m MOST_NAMES) e

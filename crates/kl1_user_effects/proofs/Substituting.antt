@@ -4,8 +4,6 @@ use Rattle.std.specs.Prelude.{nat_lt, find, Option, Some, None, option_map}
 use Rattle.std.specs.List.{AllByRecursion}
 use Rattle.std.proofs.lemmas.Bool.{ne_eqb}
 use Rattle.std.proofs.lemmas.List.{map-append, take_all}
-use Rattle.kl1_model.specs.declared.rules.Rules.{Rules}
-use Rattle.kl1_model.specs.declared.rules.Rules.TheVariants.{One, Two}
 use Rattle.kl1_model.specs.declared.built_in.BuiltIn.{BuiltIn}
 use Rattle.kl1_model.specs.declared.limits.TheConstants.{MOST_REPORTS, MONITOR_PRIORITY}
 use Rattle.kl1_model.specs.Text.{text_of}
@@ -252,8 +250,8 @@ told_begun d e is b = let P : Draft → Type 0 = λ x. HasBegun x in subst P (sy
 
 -- ---- exceptions by the rules
 
--- by the first rules an exception is a report
-pub plain_turns : (ms : List Numbered) (h k : Held CellName) (w v : Made) (goal : Goal CellName) (kind : List ℕ) (x : Cell CellName) → w.rules ≡ One → Turns ms (λ f. report goal.shoen (exception kind (meaning f h x))) h k w v →
+-- if there are no substitutes an exception is a report
+pub plain_turns : (ms : List Numbered) (h k : Held CellName) (w v : Made) (goal : Goal CellName) (kind : List ℕ) (x : Cell CellName) → has_substitutes w.rules ≡ false → Turns ms (λ f. report goal.shoen (exception kind (meaning f h x))) h k w v →
     Turns ms (λ f. raised (goal_with (meaning f h) goal) kind (meaning f h x)) h k w v
 plain_turns ms h k w v goal kind x one t =
     turns_as ms (λ f. report goal.shoen (exception kind (meaning f h x))) (λ f. raised (goal_with (meaning f h) goal) kind (meaning f h x)) h k w v
@@ -261,11 +259,11 @@ plain_turns ms h k w v goal kind x one t =
     let S = worked f s h w in
     let G = goal_with (meaning f h) goal in
     let T = meaning f h x in
-    ap (λ (r : Rules). if has_substitutes r && is_reported goal.shoen (exception kind T) S then substituted_by G kind T S else report goal.shoen (exception kind T) S) one)
+    ap (λ b. if b && is_reported goal.shoen (exception kind T) S then substituted_by G kind T S else report goal.shoen (exception kind T) S) one)
     t
 
 -- one that isn't reported is one too
-pub unreported_turns : (ms : List Numbered) (h k : Held CellName) (w v : Made) (goal : Goal CellName) (kind : List ℕ) (x : Cell CellName) → w.rules ≡ Two → ((f : Reading) → Knows ms f → (s : State) → is_reported goal.shoen (exception kind (meaning f h x)) (worked f s h w) ≡ false) →
+pub unreported_turns : (ms : List Numbered) (h k : Held CellName) (w v : Made) (goal : Goal CellName) (kind : List ℕ) (x : Cell CellName) → has_substitutes w.rules ≡ true → ((f : Reading) → Knows ms f → (s : State) → is_reported goal.shoen (exception kind (meaning f h x)) (worked f s h w) ≡ false) →
     Turns ms (λ f. report goal.shoen (exception kind (meaning f h x))) h k w v → Turns ms (λ f. raised (goal_with (meaning f h) goal) kind (meaning f h x)) h k w v
 unreported_turns ms h k w v goal kind x two unmade t =
     turns_as ms (λ f. report goal.shoen (exception kind (meaning f h x))) (λ f. raised (goal_with (meaning f h) goal) kind (meaning f h x)) h k w v
@@ -273,7 +271,7 @@ unreported_turns ms h k w v goal kind x two unmade t =
     let S = worked f s h w in
     let G = goal_with (meaning f h) goal in
     let T = meaning f h x in
-    ap (λ (r : Rules). if has_substitutes r && is_reported goal.shoen (exception kind T) S then substituted_by G kind T S else report goal.shoen (exception kind T) S) two
+    ap (λ b. if b && is_reported goal.shoen (exception kind T) S then substituted_by G kind T S else report goal.shoen (exception kind T) S) two
     ∙ ap (λ b. if b then substituted_by G kind T S else report goal.shoen (exception kind T) S) (unmade f knows s))
     t
 
@@ -296,7 +294,7 @@ substituted_at goal s new message awaited =
       last_goal = suc (report goal.shoen message (record s { last_variable = new })).last_goal;
     }
 
-substituted_state : (f : Reading) (h mid k : Held CellName) (w : Made) (goal : Goal CellName) (kind : BuiltIn) (term message : Cell CellName) (s : State) → w.rules ≡ Two → 0 < h.variables → is_reported goal.shoen (exception (text_of kind) (meaning f h term)) (worked f s h w) ≡ true →
+substituted_state : (f : Reading) (h mid k : Held CellName) (w : Made) (goal : Goal CellName) (kind : BuiltIn) (term message : Cell CellName) (s : State) → has_substitutes w.rules ≡ true → 0 < h.variables → is_reported goal.shoen (exception (text_of kind) (meaning f h term)) (worked f s h w) ≡ true →
     meaning f mid message ≡ exception_with (text_of kind) (meaning f h term) (variable h.variables) → meaning f k (Variable h.variables) ≡ variable h.variables →
     raised (goal_with (meaning f h) goal) (text_of kind) (meaning f h term) (worked f s h w) ≡ substituted_at goal (worked f s h w) (suc (h.variables - 1)) (meaning f mid message) (meaning f k (Variable h.variables))
 substituted_state f h mid k w goal kind term message s two some reported means stays =
@@ -305,14 +303,14 @@ substituted_state f h mid k w goal kind term message s two some reported means s
     let K = text_of kind in
     let T = meaning f h term in
     let new : suc (h.variables - 1) ≡ h.variables = omega arith in
-    ap (λ (r : Rules). if has_substitutes r && is_reported goal.shoen (exception K T) S then substituted_by G K T S else report goal.shoen (exception K T) S) two
+    ap (λ b. if b && is_reported goal.shoen (exception K T) S then substituted_by G K T S else report goal.shoen (exception K T) S) two
     ∙ ap (λ b. if b then substituted_by G K T S else report goal.shoen (exception K T) S) reported
     ∙ ap (λ v. substituted_at goal S (suc (h.variables - 1)) (exception_with K T (variable v)) (variable v)) new
     ∙ ap (λ (m : Term). substituted_at goal S (suc (h.variables - 1)) m (variable h.variables)) (sym means)
     ∙ ap (λ (x : Term). substituted_at goal S (suc (h.variables - 1)) (meaning f mid message) x) (sym stays)
 
 -- an exception that is reported with a new variable, for which a substitute waits in the place of the goal
-pub drafts_substituted : (h mid k : Held CellName) (t u : Tree CellName) (d e x : Draft) (goal : Goal CellName) (kind : BuiltIn) (term message : Cell CellName) → d.rules ≡ Two → IsAsked h mid kind term message → AreShoensIn h t.shoens →
+pub drafts_substituted : (h mid k : Held CellName) (t u : Tree CellName) (d e x : Draft) (goal : Goal CellName) (kind : BuiltIn) (term message : Cell CellName) → has_substitutes d.rules ≡ true → IsAsked h mid kind term message → AreShoensIn h t.shoens →
     IsTold goal.shoen message mid k t.shoens d true → KeepsFree goal.shoen t.shoens mid k → DraftsAll (λ f. report goal.shoen (meaning f mid message)) mid k t u d e → DraftsAll (λ f. replaced_by (goal_with (meaning f k) goal) (task_with (meaning f k) (Substitutes (Variable h.variables)))) k k u u e x →
     DraftsAll (λ f. raised (goal_with (meaning f h) goal) (text_of kind) (meaning f h term)) h k t u d x
 drafts_substituted h mid k t u d e x goal kind term message two a shoens told free reporting replacing ms goals names i =
@@ -334,7 +332,7 @@ drafts_substituted h mid k t u d e x goal kind term message two a shoens told fr
     all
 
 -- with what the code has for the substitute: a goal with the variable's number
-pub drafts_asked : (h mid k : Held CellName) (t u : Tree CellName) (d e x : Draft) (goal : Goal CellName) (kind : BuiltIn) (term message : Cell CellName) (v : ℕ) (made : Bool) → d.rules ≡ Two → HasBegun d → IsOwned (length t.shoens) goal → IsAsked h mid kind term message → AreShoensIn h t.shoens → v ≡ h.variables →
+pub drafts_asked : (h mid k : Held CellName) (t u : Tree CellName) (d e x : Draft) (goal : Goal CellName) (kind : BuiltIn) (term message : Cell CellName) (v : ℕ) (made : Bool) → has_substitutes d.rules ≡ true → HasBegun d → IsOwned (length t.shoens) goal → IsAsked h mid kind term message → AreShoensIn h t.shoens → v ≡ h.variables →
     made ≡ true → IsTold goal.shoen message mid k t.shoens d made → KeepsFree goal.shoen t.shoens mid k → DraftsAll (λ f. report goal.shoen (meaning f mid message)) mid k t u d e → Grown mid k → length u.shoens ≡ length t.shoens → e ≡ record d { reports = e.reports } →
     x.added.items ≡ e.added.items ++ one_for e.last_goal goal (Substitutes (Variable v)) → x.last_goal ≡ suc e.last_goal → x ≡ record e { added = x.added; last_goal = x.last_goal } →
     DraftsAll (λ f. raised (goal_with (meaning f h) goal) (text_of kind) (meaning f h term)) h k t u d x
@@ -347,7 +345,7 @@ drafts_asked h mid k t u d e x goal kind term message v made two begun own a sho
 
 -- going back to a mark from before the new variable, after a report that wasn't made, leaves the store as it was, and what a report
 -- without the variable leaves of the rest
-pub drafts_unsubstituted : (h mid k : Held CellName) (t u : Tree CellName) (d e : Draft) (goal : Goal CellName) (kind : BuiltIn) (term message : Cell CellName) → d.rules ≡ Two → IsAsked h mid kind term message → AreShoensIn h t.shoens →
+pub drafts_unsubstituted : (h mid k : Held CellName) (t u : Tree CellName) (d e : Draft) (goal : Goal CellName) (kind : BuiltIn) (term message : Cell CellName) → has_substitutes d.rules ≡ true → IsAsked h mid kind term message → AreShoensIn h t.shoens →
     IsTold goal.shoen message mid k t.shoens d false → IsDropped goal.shoen t u d e → DraftsAll (λ f. raised (goal_with (meaning f h) goal) (text_of kind) (meaning f h term)) h h t u d e
 drafts_unsubstituted h mid k t u d e goal kind term message two a shoens told dropped ms goals names i =
     let w = made_of goals names t d in

@@ -18,6 +18,7 @@ use Rattle.kl1_shoen_paths.specs.declared.shoen.Origin.{Origin}
 use Rattle.kl1_shoen_paths.specs.declared.shoen.Shoen.{Shoen}
 use Rattle.kl1_codes_modules.specs.Numbered.{Numbered}
 use Rattle.kl1_codes_modules.specs.Finding.{contents}
+use Rattle.kl1_codes_modules.specs.Shelves.{Program}
 use Rattle.kl1_user_effects.specs.Fitting.{Reading}
 
 -- what an account keeps: its own name; its rules; what its cells are; its goals and its shoens; for each reduction that was charged, the number
@@ -39,6 +40,10 @@ pub record Account : Type 0 where
   pub reports : ℕ
   pub entries : ℕ
   pub sessions : ℕ
+
+-- what the goals of an account are reduced by
+abbrev pub program_of : Account → Program
+program_of a = record { rules = a.rules; loaded = a.modules }
 
 -- what cells mean
 abbrev pub Means : Type 0

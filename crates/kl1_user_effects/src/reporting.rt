@@ -1,8 +1,8 @@
 // Reports, exceptions and the ends of report streams.
 
-ghost use Rattle.std.specs.Prelude.{◌≡◌, ◌≤◌, ◌++◌, [], false, suc, length, IfOk, OnOk};
+ghost use Rattle.std.specs.Prelude.{◌≡◌, ◌≤◌, ◌++◌, [], true, false, suc, length, IfOk, OnOk};
 ghost use Rattle.kl1_model.specs.declared.limits.TheConstants.{MONITOR_PRIORITY};
-ghost use Rattle.kl1_model.specs.declared.rules.Rules.TheVariants.{Two};
+ghost use Rattle.kl1_model.specs.State.{has_substitutes};
 ghost use Rattle.kl1_model.specs.Unify.{mgu};
 ghost use Rattle.kl1_model.specs.Term.{atom};
 ghost use Rattle.kl1_model.specs.Report.{report, report_each, close, exception};
@@ -22,7 +22,7 @@ ghost use Rattle.kl1_user_effects.specs.Late.{KeepsFree};
 
 use crate::committing::last_of;
 use crate::draft::Draft;
-use kl1_goals::{Goal, Rules, Task};
+use kl1_goals::{Goal, Task};
 use kl1_model::BuiltIn;
 use kl1_model::limits::MOST_REPORTS;
 use kl1_shoen::ShoenTree;
@@ -203,7 +203,7 @@ fn raise_with_substitute(
     requires term { IsIn store.old.held term }
     requires shoens { AreShoensIn store.old.held shoens.old.shoens }
     requires owned { IsOwned (length shoens.old.shoens) goal }
-    requires rules { draft.old.rules ≡ Two }
+    requires rules { has_substitutes draft.old.rules ≡ true }
     requires begun { HasBegun draft.old }
     requires empty { draft.old.added.items ≡ [] }
     requires level { goal.priority ≤ MONITOR_PRIORITY }
@@ -229,7 +229,7 @@ fn raise_with_substitute(
 }
 
 /// Does what comes of an exception of the kind of a name that a goal raises, which a draft removes and which is this cell: its shoen
-/// reports that, and by the second rules a substitute stands in its place. If memory is refused, the store may have grown.
+/// reports that, and if there are substitutes one stands in its place. If memory is refused, the store may have grown.
 pub fn raise(
     store: &mut Store<CellName>,
     shoens: &mut ShoenTree<CellName>,
@@ -256,10 +256,10 @@ pub fn raise(
     ensures hooks { store.new.hooks ≡ store.old.hooks }
 {
     let term = whole(store, cell)?;
-    match draft.rules {
-        Rules::One => raise_whole(store, shoens, draft, goal.shoen, kind, term),
-        Rules::Two => raise_with_substitute(store, shoens, draft, goal, kind, term),
+    if !draft.rules.has_substitutes() {
+        return raise_whole(store, shoens, draft, goal.shoen, kind, term);
     }
+    raise_with_substitute(store, shoens, draft, goal, kind, term)
 }
 
 /// Reports an exception of the kind of a name of a whole goal of shoen `number`, or of any term. If memory is refused, the

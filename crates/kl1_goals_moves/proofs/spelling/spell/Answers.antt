@@ -1,6 +1,6 @@
 use Rattle.std.proofs.Common.{◌-◌, refl}
 use Rattle.kl1_model.specs.Look.{spelling}
-use Rattle.kl1_model.specs.declared.limits.TheConstants.{MOST_SPELLED}
+use Rattle.kl1_model.specs.State.{most_spelled}
 use Rattle.kl1_store.specs.Meaning.{term_of}
 use Rattle.kl1_goals_moves.proofs.CodeLists.{code_taken, all_bytes, one_more}
 use Rattle.kl1_goals_moves.proofs.spelling.spell.Goals as goal
@@ -10,9 +10,9 @@ codes-preserved g c =
     let inside = c.in-Code.ensures.inside in
     record {
       rest_in = inside.1.1;
-      count = one_more c.codes.text c.push.new.self c.in-Code.byte c.codes.left c.push.ensures inside.0 c.codes.invariant.count;
+      count = one_more c.codes.text c.push.new.self c.in-Code.byte c.codes.left (most_spelled c.args.rules) c.push.ensures inside.0 c.codes.invariant.count;
       bytes = all_bytes c.codes.text c.push.new.self c.in-Code.byte c.push.ensures c.codes.invariant.bytes inside.1.0;
       value = λ f r.
-          code_taken c.codes.text c.push.new.self c.in-Code.byte c.codes.left (c.codes.left - 1) (term_of f c.args.store.now.held c.codes.rest) (term_of f c.args.store.now.held c.in-Code.next) (spelling MOST_SPELLED (term_of f c.args.store.now.held c.args.codes))
+          code_taken c.codes.text c.push.new.self c.in-Code.byte c.codes.left (c.codes.left - 1) (term_of f c.args.store.now.held c.codes.rest) (term_of f c.args.store.now.held c.in-Code.next) (spelling (most_spelled c.args.rules) (term_of f c.args.store.now.held c.args.codes))
           c.push.ensures refl (c.in-Code.ensures.front f r) (c.codes.invariant.value f r);
     }

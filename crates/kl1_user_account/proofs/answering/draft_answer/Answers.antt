@@ -57,7 +57,7 @@ returns-clause-ok g c =
     let hooks : c.unify_cells.new.self.hooks ≡ c.args.store.now.hooks = u.hooks ∙ b.hooks ∙ r.hooks ∙ v.hooks in
     on_ok_weaker c.wake_bound.result
     (λ wakes.
-    is_answered c.args.modules.now.loaded c.args.names.now.names c.args.code.now c.spare_row.new.row.items c.as_slice.result.now c.row-row.result.now (goal_variables c.put_goal_variables.new.scratch) (goal_variables c.reserve_goal.new.scratch) c.args.variable c.args.count c.put_goal-cell.result c.in_ok-_unified._unified c.mark-mark.result c.args.store.now c.put_goal_variables.new.store.held c.reserve_goal.new.store.held c.put_goal-cell.new.store.held c.unify_cells.new.self c.wake_bound.new.store c.args.goals.now.goals c.args.shoens.now.shoens c.args.draft.now.changes.items c.wake_bound.new.draft.changes.items
+    is_answered c.args.modules.now c.args.names.now.names c.args.code.now c.spare_row.new.row.items c.as_slice.result.now c.row-row.result.now (goal_variables c.put_goal_variables.new.scratch) (goal_variables c.reserve_goal.new.scratch) c.args.variable c.args.count c.put_goal-cell.result c.in_ok-_unified._unified c.mark-mark.result c.args.store.now c.put_goal_variables.new.store.held c.reserve_goal.new.store.held c.put_goal-cell.new.store.held c.unify_cells.new.self c.wake_bound.new.store c.args.goals.now.goals c.args.shoens.now.shoens c.args.draft.now.changes.items c.wake_bound.new.draft.changes.items
     c.mark-mark.ensures.point c.mark-mark.ensures.formed c.requires.some c.requires.goals c.requires.order c.requires.first c.requires.shoens c.requires.unbound c.requires.goal c.requires.numbered c.requires.count c.requires.begun
     spared c.row-row.ensures c.as_slice.ensures.value v.held v.grown v.variables r.same r.scratch b.goal b.grown b.bindings u.ok u.bound hooks wakes w.held)
     w.wakes

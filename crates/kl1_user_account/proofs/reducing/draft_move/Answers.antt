@@ -21,7 +21,7 @@ move_to_make-requires-clause-is g c f knows = kind_at f c.args.store.now.held c.
 pub returns-in-Err-clause-ok : goal.returns-in-Err-clause-ok
 returns-in-Err-clause-ok g c own =
     let d = c.args.draft.now in
-    let a : Account = account_at own d.rules c.args.store.now.held c.args.goals.now.goals c.args.shoens.now c.args.modules.now.loaded c.args.names.now.names d.last_goal d.variables d.nodes d.reports c.args.entries in
+    let a : Account = account_at own c.args.store.now.held c.args.goals.now.goals c.args.shoens.now c.args.modules.now c.args.names.now.names d.last_goal d.variables d.nodes d.reports c.args.entries in
     let refused = rw c.in-Err.is at c.in_ok-refusal.ensures.refused in
     record { held = refl; hooks = refl; tree = refl; steps = refused a c.args.goal.number c.args.goal c.requires.steppable c.requires.reduces (c.requires.kept own).enabled }
 
@@ -32,7 +32,7 @@ draft_made-requires-clause-cell g c =
 
 pub draft_made-requires-clause-makes : goal.draft_made-requires-clause-makes
 draft_made-requires-clause-makes g c =
-    goal_makes c.args.store.now.held c.args.modules.now.loaded c.args.entries c.args.goal.task c.args.cell c.args.clause c.predicate_of-predicate.result (taken_places c.move_to_make.new.trial) c.move_to_make.new.trial.text c.in-Ok.made c.requires.reduces (rw c.in-Ok.is at c.in_ok-refusal.ensures.makes)
+    goal_makes c.args.store.now.held c.args.modules.now c.args.entries c.args.goal.task c.args.cell c.args.clause c.predicate_of-predicate.result (taken_places c.move_to_make.new.trial) c.move_to_make.new.trial.text c.in-Ok.made c.requires.reduces (rw c.in-Ok.is at c.in_ok-refusal.ensures.makes)
 
 pub draft_made-requires-clause-inside : goal.draft_made-requires-clause-inside
 draft_made-requires-clause-inside g c = rw c.in-Ok.is at c.in_ok-refusal.ensures.inside

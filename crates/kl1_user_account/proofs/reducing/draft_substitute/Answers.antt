@@ -20,9 +20,9 @@ pub returns-in_default-clause-ok : goal.returns-in_default-clause-ok
 returns-in_default-clause-ok g c own =
     let d = c.args.draft.now in
     let h = c.args.store.now.held in
-    let ms = c.args.modules.now.loaded in
+    let ms = c.args.modules.now in
     let k = c.args.goal.task in
-    let a : Account = account_at own d.rules h c.args.goals.now.goals c.args.shoens.now ms c.args.names.now.names d.last_goal d.variables d.nodes d.reports c.args.entries in
+    let a : Account = account_at own h c.args.goals.now.goals c.args.shoens.now ms c.args.names.now.names d.last_goal d.variables d.nodes d.reports c.args.entries in
     let T : Task CellName → Type 0 = λ t. IsTaskFor (whole c.args.term) t in
     record {
       held = refl;
@@ -37,9 +37,9 @@ pub returns-then-entries-ge-MOST_ENTRIES-clause-ok : goal.returns-then-entries-g
 returns-then-entries-ge-MOST_ENTRIES-clause-ok g c own =
     let d = c.args.draft.now in
     let h = c.args.store.now.held in
-    let ms = c.args.modules.now.loaded in
+    let ms = c.args.modules.now in
     let k = c.args.goal.task in
-    let a : Account = account_at own d.rules h c.args.goals.now.goals c.args.shoens.now ms c.args.names.now.names d.last_goal d.variables d.nodes d.reports c.args.entries in
+    let a : Account = account_at own h c.args.goals.now.goals c.args.shoens.now ms c.args.names.now.names d.last_goal d.variables d.nodes d.reports c.args.entries in
     let T : Task CellName → Type 0 = λ t. IsTaskFor (whole c.args.term) t in
     record {
       held = refl;
@@ -58,7 +58,7 @@ draft_made-requires-clause-cell g c =
 
 pub draft_made-requires-clause-makes : goal.draft_made-requires-clause-makes
 draft_made-requires-clause-makes g c =
-    substitute_makes c.args.store.now.held c.args.modules.now.loaded c.args.entries c.args.goal.task c.args.term c.args.clause c.predicate_of-predicate.result (taken_places c.args.trial.now) c.args.trial.now.text c.substitute_move.result c.in-Some.made c.requires.substitutes c.in-Some.is c.substitute_move.ensures c.if-entries-ge-MOST_ENTRIES.false
+    substitute_makes c.args.store.now.held c.args.modules.now c.args.entries c.args.goal.task c.args.term c.args.clause c.predicate_of-predicate.result (taken_places c.args.trial.now) c.args.trial.now.text c.substitute_move.result c.in-Some.made c.requires.substitutes c.in-Some.is c.substitute_move.ensures c.if-entries-ge-MOST_ENTRIES.false
 
 pub draft_made-requires-clause-inside : goal.draft_made-requires-clause-inside
 draft_made-requires-clause-inside g c =

@@ -6,7 +6,7 @@ use Rattle.kl1_atoms.proofs.atom_table.AtomTable.first_bucket.Goals as goal
 
 pub returns-clause-value : goal.returns-clause-value
 unfolding start
-returns-clause-value c = ap (λ m. m / 4294967296 * (BUCKETS_EACH * c.args.self.now.accounts) / 4294967296) (c.mixed.ensures.value ∙ ap (mixed 0) c.words.ensures)
+returns-clause-value c = ap (λ m. m / 4294967296 * (BUCKETS_EACH * c.args.self.now.accounts) / 4294967296) (c.mixed.ensures.value ∙ ap (mixed 0) c.words.ensures.value)
 
 pub returns-clause-within : goal.returns-clause-within
 returns-clause-within c =

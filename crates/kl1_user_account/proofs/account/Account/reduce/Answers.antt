@@ -12,8 +12,8 @@ draft_named-drafted-requires g c =
     let u = c.self.inside in
     let b = c.begin_draft.ensures in
     record {
-      begun = begun_same 0 u.rules u.last_goal u.variables u.nodes u.reports c.begin_draft.new.draft b;
-      kept = rw (c.over.ensures, b.rules_are, b.last_is, b.variables_are, b.nodes_are, b.reports_are) (kept_at (kept_in u) c.begin.new.self u.store.hooks u.goals.shoens (ap (λ (x : Tree CellName). x.shoens) c.begin.ensures) (ap (λ (x : Tree CellName). x.work) c.begin.ensures) c.self.invariant);
+      begun = rw c.over.ensures (begun_same 0 u.rules u.last_goal u.variables u.nodes u.reports c.begin_draft.new.draft b);
+      kept = rw (c.over.ensures, b.last_is, b.variables_are, b.nodes_are, b.reports_are) (kept_at (kept_in u) c.begin.new.self u.store.hooks u.goals.shoens (ap (λ (x : Tree CellName). x.shoens) c.begin.ensures) (ap (λ (x : Tree CellName). x.work) c.begin.ensures) c.self.invariant);
     }
 
 pub invariant_of-self-in-Some : goal.invariant_of-self-in-Some
@@ -27,7 +27,7 @@ invariant_of-self-in-Some g c =
     let table = c.draft_named-drafted.new.goals in
     let d = c.draft_named-drafted.new.draft in
     let came =
-    comes_of a t c.args.number c.args.clause u.store k v table d c.in-Ok.refused (ap (λ (x : Tree CellName). x.shoens) c.begin.ensures) (ap (λ (x : Tree CellName). x.work) c.begin.ensures) (rw (c.over.ensures, b.rules_are, b.last_is, b.variables_are, b.nodes_are, b.reports_are) at c.in-Ok.ensures.ok) in
+    comes_of a t c.args.number c.args.clause u.store k v table d c.in-Ok.refused (ap (λ (x : Tree CellName). x.shoens) c.begin.ensures) (ap (λ (x : Tree CellName). x.work) c.begin.ensures) (rw (c.over.ensures, b.last_is, b.variables_are, b.nodes_are, b.reports_are) at c.in-Ok.ensures.ok) in
     let r = refused_of a c.args.number c.args.clause u.store k t v table d c.in-Ok.refused c.in-Some.refusal c.in-Some.is came in
     let back = as_before a c.args.number c.args.clause u.store k t v c.in-Some.refusal table.goals c.draft_named-drafted.new.names.names r refl (ap (λ (x : Tree CellName). x.shoens) c.begin.ensures) (ap (λ (x : Tree CellName). x.work) c.begin.ensures) c.draft_named-drafted.ensures.goals c.draft_named-drafted.ensures.names in
     still_kept a _ u.store.hooks k.hooks u.goals.shoens table.shoens back r.hooks c.draft_named-drafted.ensures.shoens c.self.invariant
@@ -43,7 +43,7 @@ returns-in-Some-clause-step g c =
     let table = c.draft_named-drafted.new.goals in
     let d = c.draft_named-drafted.new.draft in
     let came =
-    comes_of a t c.args.number c.args.clause u.store k v table d c.in-Ok.refused (ap (λ (x : Tree CellName). x.shoens) c.begin.ensures) (ap (λ (x : Tree CellName). x.work) c.begin.ensures) (rw (c.over.ensures, b.rules_are, b.last_is, b.variables_are, b.nodes_are, b.reports_are) at c.in-Ok.ensures.ok) in
+    comes_of a t c.args.number c.args.clause u.store k v table d c.in-Ok.refused (ap (λ (x : Tree CellName). x.shoens) c.begin.ensures) (ap (λ (x : Tree CellName). x.work) c.begin.ensures) (rw (c.over.ensures, b.last_is, b.variables_are, b.nodes_are, b.reports_are) at c.in-Ok.ensures.ok) in
     let r = refused_of a c.args.number c.args.clause u.store k t v table d c.in-Ok.refused c.in-Some.refusal c.in-Some.is came in
     let back = as_before a c.args.number c.args.clause u.store k t v c.in-Some.refusal table.goals c.draft_named-drafted.new.names.names r refl (ap (λ (x : Tree CellName). x.shoens) c.begin.ensures) (ap (λ (x : Tree CellName). x.work) c.begin.ensures) c.draft_named-drafted.ensures.goals c.draft_named-drafted.ensures.names in
     λ f fits. refused_step a c.args.self.now _ c.args.number c.args.clause u.store k t v c.in-Some.refusal u.store.hooks u.goals.shoens c.self.view_is back c.self.invariant r f fits
@@ -59,7 +59,7 @@ publish_drafted-requires-clause-name g c =
     let table = c.draft_named-drafted.new.goals in
     let d = c.draft_named-drafted.new.draft in
     let came =
-    comes_of a t c.args.number c.args.clause u.store k v table d c.in-Ok.refused (ap (λ (x : Tree CellName). x.shoens) c.begin.ensures) (ap (λ (x : Tree CellName). x.work) c.begin.ensures) (rw (c.over.ensures, b.rules_are, b.last_is, b.variables_are, b.nodes_are, b.reports_are) at c.in-Ok.ensures.ok) in
+    comes_of a t c.args.number c.args.clause u.store k v table d c.in-Ok.refused (ap (λ (x : Tree CellName). x.shoens) c.begin.ensures) (ap (λ (x : Tree CellName). x.work) c.begin.ensures) (rw (c.over.ensures, b.last_is, b.variables_are, b.nodes_are, b.reports_are) at c.in-Ok.ensures.ok) in
     let r = reduced_of a c.args.number c.args.clause u.store k t v table d c.in-Ok.refused c.in_default.is came in
     let N : List Known → Type 0 = λ ks. IsNewName ks d.name in
     subst N (sym c.draft_named-drafted.ensures.names) r.name
@@ -75,7 +75,7 @@ publish_drafted-requires-clause-spelled g c =
     let table = c.draft_named-drafted.new.goals in
     let d = c.draft_named-drafted.new.draft in
     let came =
-    comes_of a t c.args.number c.args.clause u.store k v table d c.in-Ok.refused (ap (λ (x : Tree CellName). x.shoens) c.begin.ensures) (ap (λ (x : Tree CellName). x.work) c.begin.ensures) (rw (c.over.ensures, b.rules_are, b.last_is, b.variables_are, b.nodes_are, b.reports_are) at c.in-Ok.ensures.ok) in
+    comes_of a t c.args.number c.args.clause u.store k v table d c.in-Ok.refused (ap (λ (x : Tree CellName). x.shoens) c.begin.ensures) (ap (λ (x : Tree CellName). x.work) c.begin.ensures) (rw (c.over.ensures, b.last_is, b.variables_are, b.nodes_are, b.reports_are) at c.in-Ok.ensures.ok) in
     let r = reduced_of a c.args.number c.args.clause u.store k t v table d c.in-Ok.refused c.in_default.is came in
     r.spelled
 
@@ -90,7 +90,7 @@ publish_drafted-requires-clause-has g c =
     let table = c.draft_named-drafted.new.goals in
     let d = c.draft_named-drafted.new.draft in
     let came =
-    comes_of a t c.args.number c.args.clause u.store k v table d c.in-Ok.refused (ap (λ (x : Tree CellName). x.shoens) c.begin.ensures) (ap (λ (x : Tree CellName). x.work) c.begin.ensures) (rw (c.over.ensures, b.rules_are, b.last_is, b.variables_are, b.nodes_are, b.reports_are) at c.in-Ok.ensures.ok) in
+    comes_of a t c.args.number c.args.clause u.store k v table d c.in-Ok.refused (ap (λ (x : Tree CellName). x.shoens) c.begin.ensures) (ap (λ (x : Tree CellName). x.work) c.begin.ensures) (rw (c.over.ensures, b.last_is, b.variables_are, b.nodes_are, b.reports_are) at c.in-Ok.ensures.ok) in
     let r = reduced_of a c.args.number c.args.clause u.store k t v table d c.in-Ok.refused c.in_default.is came in
     r.has
 
@@ -105,7 +105,7 @@ install-requires g c =
     let table = c.draft_named-drafted.new.goals in
     let d = c.draft_named-drafted.new.draft in
     let came =
-    comes_of a t c.args.number c.args.clause u.store k v table d c.in-Ok.refused (ap (λ (x : Tree CellName). x.shoens) c.begin.ensures) (ap (λ (x : Tree CellName). x.work) c.begin.ensures) (rw (c.over.ensures, b.rules_are, b.last_is, b.variables_are, b.nodes_are, b.reports_are) at c.in-Ok.ensures.ok) in
+    comes_of a t c.args.number c.args.clause u.store k v table d c.in-Ok.refused (ap (λ (x : Tree CellName). x.shoens) c.begin.ensures) (ap (λ (x : Tree CellName). x.work) c.begin.ensures) (rw (c.over.ensures, b.last_is, b.variables_are, b.nodes_are, b.reports_are) at c.in-Ok.ensures.ok) in
     let r = reduced_of a c.args.number c.args.clause u.store k t v table d c.in-Ok.refused c.in_default.is came in
     let opens : Bool = nat_lt c.shoens.result c.len.result in
     let is : opens ≡ nat_lt table.shoens (length v.shoens) = ap₂ (λ (m n : ℕ). nat_lt m n) c.shoens.ensures.shoens c.len.ensures.value in
@@ -122,7 +122,7 @@ invariant_of-self-2 g c =
     let table = c.draft_named-drafted.new.goals in
     let d = c.draft_named-drafted.new.draft in
     let came =
-    comes_of a t c.args.number c.args.clause u.store k v table d c.in-Ok.refused (ap (λ (x : Tree CellName). x.shoens) c.begin.ensures) (ap (λ (x : Tree CellName). x.work) c.begin.ensures) (rw (c.over.ensures, b.rules_are, b.last_is, b.variables_are, b.nodes_are, b.reports_are) at c.in-Ok.ensures.ok) in
+    comes_of a t c.args.number c.args.clause u.store k v table d c.in-Ok.refused (ap (λ (x : Tree CellName). x.shoens) c.begin.ensures) (ap (λ (x : Tree CellName). x.work) c.begin.ensures) (rw (c.over.ensures, b.last_is, b.variables_are, b.nodes_are, b.reports_are) at c.in-Ok.ensures.ok) in
     let r = reduced_of a c.args.number c.args.clause u.store k t v table d c.in-Ok.refused c.in_default.is came in
     let p = published_of a.names c.draft_named-drafted.new.names.names c.publish_drafted.new.known.names d k.held c.publish_drafted.new.store.held c.draft_named-drafted.ensures.names c.publish_drafted.ensures.published in
     let one : u.entries + 1 ≡ suc u.entries = omega arith in
@@ -142,7 +142,7 @@ returns-clause-step g c =
     let table = c.draft_named-drafted.new.goals in
     let d = c.draft_named-drafted.new.draft in
     let came =
-    comes_of a t c.args.number c.args.clause u.store k v table d c.in-Ok.refused (ap (λ (x : Tree CellName). x.shoens) c.begin.ensures) (ap (λ (x : Tree CellName). x.work) c.begin.ensures) (rw (c.over.ensures, b.rules_are, b.last_is, b.variables_are, b.nodes_are, b.reports_are) at c.in-Ok.ensures.ok) in
+    comes_of a t c.args.number c.args.clause u.store k v table d c.in-Ok.refused (ap (λ (x : Tree CellName). x.shoens) c.begin.ensures) (ap (λ (x : Tree CellName). x.work) c.begin.ensures) (rw (c.over.ensures, b.last_is, b.variables_are, b.nodes_are, b.reports_are) at c.in-Ok.ensures.ok) in
     let r = reduced_of a c.args.number c.args.clause u.store k t v table d c.in-Ok.refused c.in_default.is came in
     let p = published_of a.names c.draft_named-drafted.new.names.names c.publish_drafted.new.known.names d k.held c.publish_drafted.new.store.held c.draft_named-drafted.ensures.names c.publish_drafted.ensures.published in
     let one : u.entries + 1 ≡ suc u.entries = omega arith in

@@ -1,6 +1,6 @@
 use Rattle.std.proofs.Common.{◌≡◌, ◌*◌, ◌≤◌, ◌++◌, length, drop}
 use Rattle.kl1_text.specs.Words.{bytes_of}
-use Rattle.kl1_text.proofs.atom_text.AtomText.unpacked.Given as goal
+use Rattle.kl1_text.proofs.atom_text.AtomText.unpack.Given as goal
 
 -- the bytes so far and those of the words that are left are all bytes
 abbrev pub invariant-loop-word : goal.invariant-loop-word
