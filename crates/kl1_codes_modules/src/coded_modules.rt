@@ -19,7 +19,7 @@ use std::marker::Model;
 pub struct CodedModules<'a, C: CodeSource> {
     rules: Rules,
     modules: &'a Modules<C>,
-    codes: &'a C,
+    code_source: &'a C,
 }
 
 impl<'a, C: CodeSource> Model for CodedModules<'a, C> {
@@ -35,7 +35,7 @@ impl<'a, C: CodeSource> Model for CodedModules<'a, C> {
 
     ghost view = { λ m. record { rules = m.rules; loaded = m.modules.now.loaded } };
 
-    ghost invariant = { λ m. ArePlaced (C.has m.codes.now) m.modules.now.loaded };
+    ghost invariant = { λ m. ArePlaced (C.has m.code_source.now) m.modules.now.loaded };
 }
 
 impl<'a, C: CodeSource> CodedModules<'a, C> {
@@ -47,7 +47,7 @@ impl<'a, C: CodeSource> CodedModules<'a, C> {
         CodedModules {
             rules,
             modules,
-            codes,
+            code_source: codes,
         }
     }
 
@@ -71,7 +71,7 @@ impl<'a, C: CodeSource> CodedModules<'a, C> {
     {
         match self.modules.get(place) {
             None => None,
-            Some(loaded) => Some(CodedModule::over(loaded, self.codes)),
+            Some(loaded) => Some(CodedModule::over(loaded, self.code_source)),
         }
     }
 
@@ -86,7 +86,8 @@ impl<'a, C: CodeSource> CodedModules<'a, C> {
         ensures finds { Finds self.now.loaded module_name name count result }
         ensures some { IfSome result (λ p. AreSome p.names.now p.clauses.now) }
     {
-        self.modules.find(self.codes, module_name, name, count)
+        self.modules
+            .find(self.code_source, module_name, name, count)
     }
 
     /// Like `find`, with one module more, which is drafted and none of these.
