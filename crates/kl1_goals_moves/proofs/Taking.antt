@@ -342,6 +342,13 @@ goal_opens_as {N = N} f h rules modules t k s o x n p places text found e z own 
     let Q : Option (Move N) → Type 0 = λ m. MovesAs f h rules modules t n p places text m in
     subst Q (sym own) (opened_as f h rules modules t n p places text s o x (subst P e is) z at value)
 
+-- by which clause `shoen:execute` can step by the look at its arguments, and what it waits for
+pub kind_executes : {N : Type 0} (f : N → List ℕ) (h : Held N) (rules : Rules) (modules : List Module) (t : Term) (k : Kind N) (s : ℕ) (o : ExecuteArguments N) (x : Look) (awaited : List ℕ) → k ≡ kind.Executes s → IsOrder h s o → look_of x ≡ arguments_look (order_at f h o) → awaited ≡ waits_by_look x →
+    IsKind f h t k → StandsAs rules modules t awaited (clause_by_look x)
+kind_executes {N = N} f h rules modules t k s o x awaited e at value waits is =
+    let P : Kind N → Type 0 = λ y. IsKind f h t y in
+    execution_stands f h rules modules t s o x awaited (subst P e is) at value waits
+
 pub kind_stands : {N : Type 0} (built : BuiltIn → N) (f : N → List ℕ) (h : Held N) (rules : Rules) (modules : List Module) (t : Term) (k : Kind N) (c : Call N) (goal : Cell N) (p : Predicate N) (before after : List ℕ) (choice : Option ℕ) → Reads built f → k ≡ kind.Calls c → goal ≡ cell_of c → before ≡ [] →
     IsChoice built p.names.now p.clauses.now h goal before after choice → IsKind f h t k → HasPredicate f h modules k p → StandsAs rules modules t after choice
 kind_stands {N = N} built f h rules modules t k c goal p before after choice r e own empty chosen is has =

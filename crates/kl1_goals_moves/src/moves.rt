@@ -40,9 +40,9 @@ pub enum Move<N> {
     GivesWay,
 }
 
-/// What a goal of a kind can do by the clause numbered `clause` and the rules of its account, or nothing if that isn't allowed. If it commits, the cells at
-/// the places of the clause's head are in the trial, and if it uses a name, its text is; otherwise nothing is said of what is
-/// there.
+/// What a goal of a kind can do by the clause numbered `clause` and the rules of its account, or nothing if that isn't allowed. If
+/// it commits, the cells at the places of the clause's head are in the trial, and if it uses a name, its text is; otherwise nothing
+/// is said of what is there.
 pub fn move_of<N: NameValue>(
     store: &Store<N>,
     rules: Rules,

@@ -21,8 +21,8 @@ pub enum Spelling {
     Misspelled,
 }
 
-/// What a list of codes comes to by the rules of an account, which say how many codes there may be. `text` gets the name that it spells, if it spells one; otherwise nothing is said of
-/// what is there. The variable of one that waits is unbound.
+/// What a list of codes comes to by the rules of an account, which say how many codes there may be. `text` gets the name that it spells,
+/// if it spells one; otherwise nothing is said of what is there. The variable of one that waits is unbound.
 pub fn spell<N: NameValue>(
     store: &Store<N>,
     rules: Rules,

@@ -23,8 +23,8 @@ use kl1_store::Store;
 use kl1_text::NameValue;
 use std::alloc::AllocError;
 
-/// The least clause by which a goal of a kind can step by the rules of its account, or nothing if it has to wait or is no goal. The trial gets the
-/// variables that it waits for; they are unbound.
+/// The least clause by which a goal of a kind can step by the rules of its account, or nothing if it has to wait or is no goal. The
+/// trial gets the variables that it waits for; they are unbound.
 #[inline(always)]
 pub fn standing_of<N: NameValue>(
     store: &Store<N>,

@@ -6,8 +6,8 @@ ghost use Rattle.kl1_user_account.specs.Starting.{has_room_beside};
 
 use kl1_model::limits::{MOST_GOALS, MOST_NODES, MOST_SHOENS, MOST_VARIABLES};
 
-/// How much an account has of what is limited: its goals, without monitors; the variables and the structures of its starts, messages
-/// and commits; the shoens that it opened; and the entries of its journal.
+/// How much an account has of what is limited: its goals, without monitors; the variables and the structures of its starts, messages,
+/// answers and commits; the shoens that it opened; and the entries of its journal.
 #[derive(Clone, Copy)]
 pub(crate) struct Counted {
     pub goals: u64,

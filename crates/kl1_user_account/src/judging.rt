@@ -48,8 +48,8 @@ fn judge<C: CodeSource>(
 }
 
 /// Drafts a start of the goal of these names and this row, which has `count` variables, for an account that made `made` reports: in
-/// the store these and the streams of the shoen, in the trial what the goal waits for. There is room for the numbers of its names then. If memory is refused, the store
-/// may have grown.
+/// the store these and the streams of the shoen, in the trial what the goal waits for. There is room for the numbers of its names
+/// then. If memory is refused, the store may have grown.
 pub(crate) fn draft_start<C: CodeSource>(
     store: &mut Store<CellName>,
     modules: &CodedModules<'_, C>,

@@ -38,7 +38,7 @@ pub struct Draft {
     pub added: Vec<Goal<CellName>>,
     /// The last number of a goal.
     pub last_goal: u64,
-    /// How many variables the account's starts, messages and commits had.
+    /// How many variables the account's starts, messages, answers and commits had.
     pub variables: u64,
     /// How many structures these had.
     pub nodes: u64,

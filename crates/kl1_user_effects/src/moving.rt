@@ -28,7 +28,8 @@ use kl1_text::{AtomText, CellName};
 use std::alloc::AllocError;
 
 /// Does a move of a goal that a draft removes, which is this cell; `alive` counts the goals without it. If the move would pass a
-/// limit, the goal raises an exception in its place. If it uses a name that is new to the account, no variable becomes it. If memory is refused, the store may have grown, and the draft is of no use.
+/// limit, the goal raises an exception in its place. If it uses a name that is new to the account, no variable becomes it. If
+/// memory is refused, the store may have grown, and the draft is of no use.
 pub fn do_move(
     store: &mut Store<CellName>,
     goals: &GoalTable<CellName>,

@@ -37,8 +37,8 @@ impl<C: CodeSource> Account<C> {
         Ok(Account::blank(alloc, name, rules, store, AccountNames::new(alloc), 0))
     }
 
-    /// An account of this name, which keeps to these rules, in which nothing has happened but that it has used `texts`, and that `sessions` sessions are open. The
-    /// seat knows no name before it and these after it; if memory is refused, it knows none.
+    /// An account of this name, which keeps to these rules, in which nothing has happened but that it has used `texts`, and that
+    /// `sessions` sessions are open. The seat knows no name before it and these after it; if memory is refused, it knows none.
     pub fn with_names<A: AtomSource>(
         alloc: Global,
         name: AccountName,
@@ -79,8 +79,8 @@ impl<C: CodeSource> Account<C> {
         Ok(())
     }
 
-    /// Puts an account in which nothing has happened in place of this one, of the same name, and with the same rules, names and sessions. Its
-    /// cells are those of a store that holds one variable.
+    /// Puts an account in which nothing has happened in place of this one, of the same name, and with the same rules, names and
+    /// sessions. Its cells are those of a store that holds one variable.
     fn begin_again(&mut self, store: Store<CellName>)
         requires { store.held ≡ with_variable nothing_held }
         ensures { self.new ≡ begun self.old.own_name self.old.rules self.old.names self.old.sessions }
@@ -96,8 +96,8 @@ impl<C: CodeSource> Account<C> {
         );
     }
 
-    /// An account that keeps to these rules, in which nothing has happened but that it has used these names, and that `sessions` sessions are open. Its cells are
-    /// those of a store that holds one variable: the variables of the account are numbered from 1.
+    /// An account that keeps to these rules, in which nothing has happened but that it has used these names, and that `sessions`
+    /// sessions are open. Its cells are those of a store that holds one variable: the variables of the account are numbered from 1.
     fn blank(
         alloc: Global,
         name: AccountName,

@@ -1,5 +1,5 @@
 use Rattle.std.proofs.lemmas.Result.{IfOk-weaker}
-use Rattle.kl1_goals_moves.proofs.Taking.{call_fails_as, call_commits_as, goal_assigns_as}
+use Rattle.kl1_goals_moves.proofs.Taking.{call_fails_as, call_commits_as, goal_assigns_as, goal_opens_as}
 use Rattle.kl1_goals_moves.specs.Moves.{taken_places}
 use Rattle.kl1_goals_moves.proofs.moves.move_of.Goals as goal
 
@@ -17,3 +17,8 @@ pub returns-then-clause-eq0-3-clause-moves : goal.returns-then-clause-eq0-3-clau
 returns-then-clause-eq0-3-clause-moves g c = λ f r modules t k p.
     goal_assigns_as f c.args.store.now.held c.args.rules modules t c.args.kind c.in-Assigns.left c.in-Assigns.right c.in_ok-value-in-Assigns.value c.args.clause c.args.predicate (taken_places c.args.trial.now) c.args.trial.now.text c.assigned.result c.in-Assigns.is c.if-clause-eq0-3.true c.assigned.ensures
     (c.in_ok-value-in-Assigns.ensures.value f r) k
+
+pub returns-then-clause-eq0-5-clause-moves : goal.returns-then-clause-eq0-5-clause-moves
+returns-then-clause-eq0-5-clause-moves g c = λ f r modules t k p.
+    goal_opens_as f c.args.store.now.held c.args.rules modules t c.args.kind c.in-Executes.structure c.order_at.result c.look_at_order-look.result c.args.clause c.args.predicate (taken_places c.args.trial.now) c.args.trial.now.text c.opening.result c.in-Executes.is c.if-clause-eq0-5.true c.opening.ensures
+    c.order_at.ensures.order (c.look_at_order-look.ensures.look f r) k
