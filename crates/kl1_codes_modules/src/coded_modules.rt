@@ -19,22 +19,23 @@ use std::marker::Model;
 pub struct CodedModules<'a, C: CodeSource> {
     rules: Rules,
     modules: &'a Modules<C>,
-    codes: &'a C,
+    code_source: &'a C,
 }
 
 impl<'a, C: CodeSource> Model for CodedModules<'a, C> {
+    ghost use Rattle.std.specs.Coded.{codes};
     ghost use Rattle.kl1_codes_modules.specs.Numbered.{numbered_code};
     ghost use Rattle.kl1_codes_modules.specs.Shelves.{Program};
 
     ghost Value = { Program };
 
-    ghost coded = { Prim.hlevel (numbered_code) };
+    ghost coded = { Prim.hlevel (codes, numbered_code) };
 
     ghost use Rattle.kl1_codes_modules.specs.Numbered.{ArePlaced};
 
     ghost view = { λ m. record { rules = m.rules; loaded = m.modules.now.loaded } };
 
-    ghost invariant = { λ m. ArePlaced (C.has m.codes.now) m.modules.now.loaded };
+    ghost invariant = { λ m. ArePlaced (C.has m.code_source.now) m.modules.now.loaded };
 }
 
 impl<'a, C: CodeSource> CodedModules<'a, C> {
@@ -46,7 +47,7 @@ impl<'a, C: CodeSource> CodedModules<'a, C> {
         CodedModules {
             rules,
             modules,
-            codes,
+            code_source: codes,
         }
     }
 
@@ -70,7 +71,7 @@ impl<'a, C: CodeSource> CodedModules<'a, C> {
     {
         match self.modules.get(place) {
             None => None,
-            Some(loaded) => Some(CodedModule::over(loaded, self.codes)),
+            Some(loaded) => Some(CodedModule::over(loaded, self.code_source)),
         }
     }
 
@@ -85,7 +86,8 @@ impl<'a, C: CodeSource> CodedModules<'a, C> {
         ensures finds { Finds self.now.loaded module_name name count result }
         ensures some { IfSome result (λ p. AreSome p.names.now p.clauses.now) }
     {
-        self.modules.find(self.codes, module_name, name, count)
+        self.modules
+            .find(self.code_source, module_name, name, count)
     }
 
     /// Like `find`, with one module more, which is drafted and none of these.

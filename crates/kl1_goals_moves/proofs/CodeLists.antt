@@ -3,7 +3,7 @@ use Rattle.std.proofs.Common.{◌≡◌, ℕ, zero, suc, ◌+◌, ◌-◌, ◌<�
 use Rattle.std.specs.Prelude.{pos, negsuc, ◌&&◌, codes, bytes_eq}
 use Rattle.std.specs.List.{list_all}
 use Rattle.std.proofs.lemmas.Bool.{cond-true, le-leb}
-use Rattle.kl1_model.specs.declared.limits.TheConstants.{MOST_NAME_BYTES}
+use Rattle.kl1_model.specs.declared.limits.TheConstants.{MOST_NAME_BYTES, MOST_SPELLED_BEFORE}
 use Rattle.kl1_model.specs.declared.rules.Rules.{Rules}
 use Rattle.kl1_model.specs.declared.rules.Rules.TheVariants.{One, Two, Three}
 use Rattle.kl1_model.specs.State.{most_spelled}
@@ -106,9 +106,9 @@ one_more text text' n left most own some count = let e : length text' ≡ length
 
 -- by any rules no more is spelled than a name may have
 pub spelled_in_names : (rules : Rules) → most_spelled rules ≤ MOST_NAME_BYTES
-spelled_in_names One = omega arith
-spelled_in_names Two = omega arith
-spelled_in_names Three = omega arith
+spelled_in_names One = let le : MOST_SPELLED_BEFORE ≤ MOST_NAME_BYTES = omega arith in le
+spelled_in_names Two = let le : MOST_SPELLED_BEFORE ≤ MOST_NAME_BYTES = omega arith in le
+spelled_in_names Three = let le : MOST_NAME_BYTES ≤ MOST_NAME_BYTES = omega arith in le
 
 -- the text is a name at the end
 pub text_is : (rules : Rules) (text : List ℕ) (left : ℕ) → length text + left ≡ most_spelled rules → list_all is_name_byte text ≡ true → is_text text ≡ true

@@ -3,7 +3,7 @@ use Rattle.std.specs.Prelude.{◌≡◌, ℕ, zero, suc, ◌≤◌, ◌==◌, na
 use Rattle.std.specs.List.{list_all}
 use Rattle.std.proofs.Common.{refl, arith}
 use Rattle.std.proofs.lemmas.Bool.{and_from, le-leb}
-use Rattle.kl1_model.specs.declared.limits.TheConstants.{MOST_NAME_BYTES}
+use Rattle.kl1_model.specs.declared.limits.TheConstants.{MOST_NAME_BYTES, MOST_SPELLED_BEFORE}
 use Rattle.kl1_model.specs.declared.rules.Rules.{Rules}
 use Rattle.kl1_model.specs.declared.rules.Rules.TheVariants.{One, Two, Three}
 use Rattle.kl1_model.specs.Text.{is_name_byte, is_text}
@@ -79,9 +79,9 @@ either_names true m n g h = g
 either_names false m n g h = h
 
 most_in_names : (rules : Rules) → most_spelled rules ≤ MOST_NAME_BYTES
-most_in_names One = omega arith
-most_in_names Two = omega arith
-most_in_names Three = omega arith
+most_in_names One = let le : MOST_SPELLED_BEFORE ≤ MOST_NAME_BYTES = omega arith in le
+most_in_names Two = let le : MOST_SPELLED_BEFORE ≤ MOST_NAME_BYTES = omega arith in le
+most_in_names Three = let le : MOST_NAME_BYTES ≤ MOST_NAME_BYTES = omega arith in le
 
 spelled_names : (most : ℕ) (a : Term) (s : Spelling) → most ≤ MOST_NAME_BYTES → IsSpelled most s → MayName (spells a s)
 spelled_names most a (spelled text) le h = and_from (nat_le (length text) MOST_NAME_BYTES) (list_all is_name_byte text) (le-leb (length text) MOST_NAME_BYTES (let few = h.1 in omega arith)) h.0

@@ -698,6 +698,14 @@ names_before_the_first_space_script = codes "accounts alice bob" ++ 10 ∷ [] ++
 abbrev pub names_before_the_first_space_output : List ℕ
 names_before_the_first_space_output = codes "alice - 1 syntax" ++ 10 ∷ [] ++ codes "alice - 1 syntax" ++ 10 ∷ [] ++ codes "bob + 0" ++ 10 ∷ [] ++ codes "! account" ++ 10 ∷ [] ++ codes "! account" ++ 10 ∷ [] ++ codes "! account" ++ 10 ∷ [] ++ codes "alice + 0" ++ 10 ∷ [] ++ codes "alice - 1 syntax" ++ 10 ∷ []
 
+-- the bytes of names_from_127_and_128_codes.script
+abbrev pub names_from_127_and_128_codes_script : List ℕ
+names_from_127_and_128_codes_script = codes "accounts alice" ++ 10 ∷ [] ++ codes "alice start 10 0 10 atom_from([97,97,97,97,97,97,97,97,97,97,97,97,97,97,97,97,97,97,97,97,97,97,97,97,97,97,97,97,97,97,97,97,97,97,97,97,97,97,97,97,97,97,97,97,97,97,97,97,97,97,97,97,97,97,97,97,97,97,97,97,97,97,97,97,97,97,97,97,97,97,97,97,97,97,97,97,97,97,97,97,97,97,97,97,97,97,97,97,97,97,97,97,97,97,97,97,97,97,97,97,97,97,97,97,97,97,97,97,97,97,97,97,97,97,97,97,97,97,97,97,97,97,97,97,97,97,97],A)" ++ 10 ∷ [] ++ codes "alice run 10" ++ 10 ∷ [] ++ codes "alice value 1" ++ 10 ∷ [] ++ codes "alice status 1" ++ 10 ∷ [] ++ codes "alice start 10 0 10 atom_from([97,97,97,97,97,97,97,97,97,97,97,97,97,97,97,97,97,97,97,97,97,97,97,97,97,97,97,97,97,97,97,97,97,97,97,97,97,97,97,97,97,97,97,97,97,97,97,97,97,97,97,97,97,97,97,97,97,97,97,97,97,97,97,97,97,97,97,97,97,97,97,97,97,97,97,97,97,97,97,97,97,97,97,97,97,97,97,97,97,97,97,97,97,97,97,97,97,97,97,97,97,97,97,97,97,97,97,97,97,97,97,97,97,97,97,97,97,97,97,97,97,97,97,97,97,97,97,97],A)" ++ 10 ∷ [] ++ codes "alice run 10" ++ 10 ∷ [] ++ codes "alice status 2" ++ 10 ∷ []
+
+-- the bytes of names_from_127_and_128_codes.expected
+abbrev pub names_from_127_and_128_codes_output : List ℕ
+names_from_127_and_128_codes_output = codes "alice + shoen 1" ++ 10 ∷ [] ++ codes "alice + 1" ++ 10 ∷ [] ++ codes "alice + atom_from([97,97,97,97,97,97,97,97,97,97,97,97,97,97,97,97,97,97,97,97,97,97,97,97,97,97,97,97,97,97,97,97,97,97,97,97,97,97,97,97,97,97,97,97,97,97,97,97,97,97,97,97,97,97,97,97,97,97,97,97,97,97,97,97,97,97,97,97,97,97,97,97,97,97,97,97,97,97,97,97,97,97,97,97,97,97,97,97,97,97,97,97,97,97,97,97,97,97,97,97,97,97,97,97,97,97,97,97,97,97,97,97,97,97,97,97,97,97,97,97,97,97,97,97,97,97,97],aaaaaaaaaaaaaaaaaaaaaaaaaaaaaaaaaaaaaaaaaaaaaaaaaaaaaaaaaaaaaaaaaaaaaaaaaaaaaaaaaaaaaaaaaaaaaaaaaaaaaaaaaaaaaaaaaaaaaaaaaaaaaaa)" ++ 10 ∷ [] ++ codes "alice + terminated 1 10 0" ++ 10 ∷ [] ++ codes "alice + shoen 2" ++ 10 ∷ [] ++ codes "alice + 1" ++ 10 ∷ [] ++ codes "alice + running 1 10 1" ++ 10 ∷ []
+
 -- the bytes of names_from_codes.script
 abbrev pub names_from_codes_script : List ℕ
 names_from_codes_script = codes "accounts alice" ++ 10 ∷ [] ++ codes "alice start 10 0 10 atom_from([104,105],A)" ++ 10 ∷ [] ++ codes "alice run 10" ++ 10 ∷ [] ++ codes "alice value 1" ++ 10 ∷ [] ++ codes "alice start 10 0 10 X = ''" ++ 10 ∷ [] ++ codes "alice start 10 0 10 X = '[]'(a)" ++ 10 ∷ [] ++ codes "alice reduce 6 0" ++ 10 ∷ [] ++ codes "alice value 3" ++ 10 ∷ []
@@ -1307,6 +1315,7 @@ pub record ExamplesHold : Type 0 where
   pub modules_loaded_at_that_moment : output modules_loaded_at_that_moment_script ≡ modules_loaded_at_that_moment_output
   pub modules_of_two_accounts : output modules_of_two_accounts_script ≡ modules_of_two_accounts_output
   pub names_before_the_first_space : output names_before_the_first_space_script ≡ names_before_the_first_space_output
+  pub names_from_127_and_128_codes : output names_from_127_and_128_codes_script ≡ names_from_127_and_128_codes_output
   pub names_from_codes : output names_from_codes_script ≡ names_from_codes_output
   pub names_in_order_of_first_use : output names_in_order_of_first_use_script ≡ names_in_order_of_first_use_output
   pub names_in_quotes : output names_in_quotes_script ≡ names_in_quotes_output

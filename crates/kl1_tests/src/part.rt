@@ -37,7 +37,7 @@ pub enum Part {
 }
 
 /// The parts by the two words that name them at the front of a heading.
-const PARTS: [(&[u8], Part); 64] = [
+const PARTS: [(&[u8], Part); 66] = [
     (b"store numbers ", Part::Numbers),
     (b"store texts ", Part::Texts),
     (b"read name ", Part::Read(kl1_tests_read::Kind::Name)),

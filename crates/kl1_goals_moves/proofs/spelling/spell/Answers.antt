@@ -1,9 +1,16 @@
-use Rattle.std.proofs.Common.{◌-◌, refl}
+use Rattle.std.proofs.Common.{◌-◌, refl, arith}
 use Rattle.kl1_model.specs.Look.{spelling}
 use Rattle.kl1_model.specs.State.{most_spelled}
 use Rattle.kl1_store.specs.Meaning.{term_of}
-use Rattle.kl1_goals_moves.proofs.CodeLists.{code_taken, all_bytes, one_more}
+use Rattle.kl1_goals_moves.proofs.CodeLists.{code_taken, all_bytes, one_more, spelled_in_names}
 use Rattle.kl1_goals_moves.proofs.spelling.spell.Goals as goal
+
+pub push-requires : goal.push-requires
+push-requires g c =
+    let few = spelled_in_names c.args.rules in
+    let count = c.codes.invariant.count in
+    let some = c.in-Code.ensures.inside.0 in
+    omega (arith, few, count, some)
 
 pub codes-preserved : goal.codes-preserved
 codes-preserved g c =

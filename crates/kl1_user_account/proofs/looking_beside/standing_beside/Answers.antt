@@ -21,4 +21,4 @@ returns-clause-stands g c =
     let one : Option ℕ → Change = λ s. record { number = c.args.number; standing = s } in
     IfOk-weaker c.hung_standing.result (λ s. StandsBy ms.rules h hooks kind p (one s)) (λ s. (shoens : List (Shoen CellName)) (shoen : ℕ) → StandsAt ms shoens h hooks shoen (Reduces x) (one s))
     (λ s found shoens shoen. stands_at ms shoens h hooks shoen x kind p (one s) c.kind_of_qualified-kind.ensures.kind c.predicate_beside-predicate.ensures.has found)
-    c.hung_standing.ensures.stands
+    (rw c.rules.ensures at c.hung_standing.ensures.stands)

@@ -20,7 +20,7 @@ returns-in_default-clause-refused g c a n w is task all f knows =
     let kind = c.requires.is f knows in
     let P : Option (Move CellName) → Type 0 = λ m. MovesAs f h ms.rules (contents ms.loaded) (aim f h x) c.args.clause c.args.predicate (taken_places c.move_of.new.trial) c.move_of.new.trial.text m in
     steps_not f b n c.args.clause w is all
-    (goal_does f b c.args.clause w x None task (subst P c.in_default.is (c.in_ok-made.ensures.moves f knows.reads (contents ms.loaded) (aim f h x) kind (c.requires.has f knows h (aim f h x) kind))))
+    (goal_does f b c.args.clause w x None task (subst P c.in_default.is ((rw c.rules.ensures at c.in_ok-made.ensures.moves) f knows.reads (contents ms.loaded) (aim f h x) kind (c.requires.has f knows h (aim f h x) kind))))
 
 pub returns-then-entries-ge-MOST_ENTRIES-clause-refused : goal.returns-then-entries-ge-MOST_ENTRIES-clause-refused
 returns-then-entries-ge-MOST_ENTRIES-clause-refused g c a n w is task all f knows =
@@ -34,7 +34,7 @@ returns-then-entries-ge-MOST_ENTRIES-clause-refused g c a n w is task all f know
     let kind = c.requires.is f knows in
     let P : Option (Move CellName) → Type 0 = λ m. MovesAs f h ms.rules (contents ms.loaded) (aim f h x) c.args.clause p places text m in
     let I : Option (Move CellName) → Type 0 = λ m. MoveIn h p places text m in
-    let found = subst P c.in-Some.is (c.in_ok-made.ensures.moves f knows.reads (contents ms.loaded) (aim f h x) kind (c.requires.has f knows h (aim f h x) kind)) in
+    let found = subst P c.in-Some.is ((rw c.rules.ensures at c.in_ok-made.ensures.moves) f knows.reads (contents ms.loaded) (aim f h x) kind (c.requires.has f knows h (aim f h x) kind)) in
     steps_full f b n c.args.clause w (moves (aim f h x) (move_at ms h x c.args.clause f)) is all
     (goal_does f b c.args.clause w x (Some (move_at ms h x c.args.clause f)) task (allowed_move f ms h p places text x c.in-Some.made c.args.clause (subst I c.in-Some.is c.in_ok-made.ensures.inside) found))
     c.if-entries-ge-MOST_ENTRIES.true
@@ -53,11 +53,11 @@ returns-clause-makes g c =
       moves = λ f knows.
           let kind = c.requires.is f knows in
           let P : Option (Move CellName) → Type 0 = λ m. MovesAs f h ms.rules (contents ms.loaded) (aim f h x) c.args.clause p places text m in
-          subst P c.in-Some.is (c.in_ok-made.ensures.moves f knows.reads (contents ms.loaded) (aim f h x) kind (c.requires.has f knows h (aim f h x) kind));
+          subst P c.in-Some.is ((rw c.rules.ensures at c.in_ok-made.ensures.moves) f knows.reads (contents ms.loaded) (aim f h x) kind (c.requires.has f knows h (aim f h x) kind));
       some = λ f knows.
           let kind = c.requires.is f knows in
           let P : Option (Move CellName) → Type 0 = λ m. MovesAs f h ms.rules (contents ms.loaded) (aim f h x) c.args.clause p places text m in
           allowed_move f ms h p places text x c.in-Some.made c.args.clause inside
-          (subst P c.in-Some.is (c.in_ok-made.ensures.moves f knows.reads (contents ms.loaded) (aim f h x) kind (c.requires.has f knows h (aim f h x) kind)));
+          (subst P c.in-Some.is ((rw c.rules.ensures at c.in_ok-made.ensures.moves) f knows.reads (contents ms.loaded) (aim f h x) kind (c.requires.has f knows h (aim f h x) kind)));
       room = c.if-entries-ge-MOST_ENTRIES.false;
     }
