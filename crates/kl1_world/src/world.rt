@@ -52,7 +52,7 @@ impl<A: AtomSource + Drop, C: CodeSource + Drop> Model for World<A, C> {
 }
 
 impl<A: AtomSource + Drop, C: CodeSource + Drop> World<A, C> {
-    /// Accounts of these names, 1 to 32 of them, which keep to these rules, in which nothing has happened, each with its own seat.
+    /// Accounts of these names, at least one, which keep to these rules, in which nothing has happened, each with its own seat.
     pub fn new(
         alloc: Global,
         names: A,
