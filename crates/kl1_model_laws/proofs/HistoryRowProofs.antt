@@ -35,7 +35,7 @@ sessions_of_a_journal_row : (kept_after_lines alice (codes "login" ∷ codes "lo
 unfolding digits tokens_within expression_at series_by grouped_by body_by mgu_within walk path_within
 sessions_of_a_journal_row = refl
 
-lines_of_entries_row : journal_lines with_each_entry.journal ≡ codes "journal 2 1 0" ∷ codes "load 3a2d206d6f64756c6520652e" ∷ codes "start 9 0 9 ':='(_1,f(_2))" ∷ codes "stop 1" ∷ codes "resume 1" ∷ codes "allow 1 5" ∷ codes "abort 1" ∷ codes "reduce 1 0" ∷ codes "reduce 1 0" ∷ codes "reduce 1 0" ∷ codes "reduce 1 0" ∷ []
+lines_of_entries_row : journal_lines with_each_entry.journal ≡ codes "journal 3 1 0" ∷ codes "load 3a2d206d6f64756c6520652e" ∷ codes "start 9 0 9 ':='(_1,f(_2))" ∷ codes "stop 1" ∷ codes "resume 1" ∷ codes "allow 1 5" ∷ codes "abort 1" ∷ codes "reduce 1 0" ∷ codes "reduce 1 0" ∷ codes "reduce 1 0" ∷ codes "reduce 1 0" ∷ []
 unfolding digits tokens_within expression_at series_by grouped_by body_by mgu_within walk path_within
 lines_of_entries_row = refl
 

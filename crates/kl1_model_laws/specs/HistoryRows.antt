@@ -59,7 +59,7 @@ pub record HistoryRowsHold : Type 0 where
   -- a journal tells the sessions that are open
   pub sessions_of_a_journal : (kept_after_lines alice (codes "login" ∷ codes "login" ∷ codes "logout" ∷ [])).journal ≡ new_journal Three [] 1
   -- the lines of each kind of entry
-  pub lines_of_entries : journal_lines with_each_entry.journal ≡ codes "journal 2 1 0" ∷ codes "load 3a2d206d6f64756c6520652e" ∷ codes "start 9 0 9 ':='(_1,f(_2))" ∷ codes "stop 1" ∷ codes "resume 1" ∷ codes "allow 1 5" ∷ codes "abort 1" ∷ codes "reduce 1 0" ∷ codes "reduce 1 0" ∷ codes "reduce 1 0" ∷ codes "reduce 1 0" ∷ []
+  pub lines_of_entries : journal_lines with_each_entry.journal ≡ codes "journal 3 1 0" ∷ codes "load 3a2d206d6f64756c6520652e" ∷ codes "start 9 0 9 ':='(_1,f(_2))" ∷ codes "stop 1" ∷ codes "resume 1" ∷ codes "allow 1 5" ∷ codes "abort 1" ∷ codes "reduce 1 0" ∷ codes "reduce 1 0" ∷ codes "reduce 1 0" ∷ codes "reduce 1 0" ∷ []
   -- they read back
   pub entries_read_back : journal_in (written_lines (journal_lines with_each_entry.journal)) ≡ Some with_each_entry.journal
   -- variables, goals, shoens and entries of the account
