@@ -23,13 +23,13 @@ pub struct CodedModules<'a, C: CodeSource> {
 }
 
 impl<'a, C: CodeSource> Model for CodedModules<'a, C> {
-    ghost use Rattle.std.specs.Coded.{codes};
+    ghost use Rattle.std.specs.Coded.{codes as plain_codes};
     ghost use Rattle.kl1_codes_modules.specs.Numbered.{numbered_code};
     ghost use Rattle.kl1_codes_modules.specs.Shelves.{Program};
 
     ghost Value = { Program };
 
-    ghost coded = { Prim.hlevel (codes, numbered_code) };
+    ghost coded = { Prim.hlevel (plain_codes, numbered_code) };
 
     ghost use Rattle.kl1_codes_modules.specs.Numbered.{ArePlaced};
 
