@@ -3,7 +3,7 @@
 _kl1_client() {
     local word=${COMP_WORDS[COMP_CWORD]} before=${COMP_WORDS[COMP_CWORD - 1]}
     local options="--key-file --all --command --help"
-    local commands="load start run reduce quiet stop resume abort allow value status reports modules journal reset wait logout"
+    local commands="load start run reduce quiet stop resume abort allow answer value status reports modules journal reset wait logout"
     COMPREPLY=()
     case $before in
     --key-file)

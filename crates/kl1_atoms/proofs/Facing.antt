@@ -1,12 +1,10 @@
 -- What sound words show: a table of names, no text twice, and no more names than entries.
-use Rattle.std.proofs.Common.{◌≡◌, ◌≢◌, ℕ, zero, suc, ◌+◌, ◌-◌, ◌*◌, ◌<◌, ◌≤◌, List, [], ◌∷◌, length, Option, Some, None, slice_index, IsTrue, refl, sym, ap, ◌∙◌, subst, inl, inr, arith, eqb, true, false}
+use Rattle.std.proofs.Common.{◌≡◌, ◌≢◌, ℕ, zero, suc, ◌+◌, ◌-◌, ◌*◌, ◌<◌, ◌≤◌, List, [], ◌∷◌, length, Option, Some, None, slice_index, refl, sym, ap, ◌∙◌, subst, inl, inr, arith, eqb, true, false}
 use Rattle.std.specs.List.{IsDistinct, AllByRecursion, list_any}
 use Rattle.std.proofs.lemmas.Bool.{cases_order, ne_eqb, eqb-true, or_cases}
 use Rattle.std.proofs.lemmas.Map.Steps.{length-le_from_distinct_below}
-use Rattle.kl1_model.specs.Limits.{buckets_each, first_number, most_names}
-use Rattle.kl1_text.specs.Words.{words_of, bytes_of}
-use Rattle.kl1_text.proofs.Words.{words_hold}
-use Rattle.kl1_model.specs.Text.{is_text}
+use Rattle.kl1_model.specs.declared.limits.TheConstants.{BUCKETS_EACH, FIRST_NUMBER, MOST_NAMES}
+use Rattle.kl1_text.proofs.Words.{one_name}
 use Rattle.atomic_table.proofs.Lists.{one_turn}
 use Rattle.kl1_atoms.specs.declared.face.Face.{Face}
 use Rattle.kl1_atoms.specs.declared.face.Heard.{Heard}
@@ -18,33 +16,9 @@ use Rattle.kl1_atoms.specs.Plays.{In, Passed, Agreed, EachAgrees, NoneKnows, Mee
 use mathlib.Core.Option.{some}
 use lib.ListN.{get_elem?}
 
--- lists of one length with the same elements are one
-pub same_by_index : (xs ys : List ℕ) → length xs ≡ length ys → ((k : ℕ) → k < length xs → slice_index xs k ≡ slice_index ys k) → xs ≡ ys
-same_by_index [] [] e same = refl
-same_by_index [] (y ∷ ys) e same = absurd (omega arith)
-same_by_index (x ∷ xs) [] e same = absurd (omega arith)
-same_by_index (x ∷ xs) (y ∷ ys) e same =
-    let head : x ≡ y = same 0 (omega arith) in
-    let tail : xs ≡ ys = same_by_index xs ys (omega arith) (λ k h. same (suc k) (omega arith)) in
-    cc
-
--- `words_of n` gives `n` words
-pub length-words_of : (n : ℕ) (bs : List ℕ) → length (words_of n bs) ≡ n
-unfolding words_of
-length-words_of zero bs = refl
-length-words_of (suc n) bs = ap suc (length-words_of n _)
-
--- names whose words are the same are one
-pub same_name : (t u : List ℕ) → IsTrue (is_text t) → IsTrue (is_text u) → ((k : ℕ) → k < 8 → slice_index (words_of 8 t) k ≡ slice_index (words_of 8 u) k) → t ≡ u
-same_name t u name its same =
-    let lt = length-words_of 8 t in
-    let lu = length-words_of 8 u in
-    let e : words_of 8 t ≡ words_of 8 u = same_by_index (words_of 8 t) (words_of 8 u) (lt ∙ sym lu) (λ k h. same k (subst (λ m. k < m) lt h)) in
-    sym (words_hold t name) ∙ ap bytes_of e ∙ words_hold u its
-
 -- an entry has one text
 pub one_text_of : (n : ℕ) (ws : List ℕ) (i j e : ℕ) (t u : List ℕ) → Stands n ws i e t → Stands n ws j e u → t ≡ u
-one_text_of n ws i j e t u st su = same_name t u st.name su.name (λ k h. sym (st.shows k h) ∙ su.shows k h)
+one_text_of n ws i j e t u st su = one_name u t su.name st.name (λ k h l. sym (st.shows k l) ∙ su.shows k h)
 
 -- a bucket points to one entry
 pub one_entry_of : (n : ℕ) (ws : List ℕ) (i e d : ℕ) (t u : List ℕ) → Stands n ws i e t → Stands n ws i d u → e ≡ d
@@ -88,7 +62,7 @@ is_table n ws sound = record {
       one_text_of n ws at.1 by.1 at.0 t u at.3 (subst (λ x. Stands n ws by.1 x u) (sym same) by.3);
   one_number = λ t l m at by.
       let same = no_text_twice n ws at.1 by.1 at.0 by.0 t sound at.3 by.3 in
-      at.2 ∙ ap (λ x. first_number + x) (one_entry_of n ws by.1 at.0 by.0 t t (subst (λ x. Stands n ws x at.0 t) same at.3) by.3) ∙ sym by.2;
+      at.2 ∙ ap (λ x. FIRST_NUMBER + x) (one_entry_of n ws by.1 at.0 by.0 t t (subst (λ x. Stands n ws x at.0 t) same at.3) by.3) ∙ sym by.2;
 }
 
 -- what an account knows is one to one
@@ -97,7 +71,7 @@ knows_names n ws f sound fits = record {
   names = are_names (At n ws) f.knows (is_table n ws sound) fits.known;
   entries = λ t m e.
       let a = fits.known.by_number t m e in
-      ((let q = a.2 in omega arith), subst (λ k. m < first_number + most_names * k) (sym fits.accounts) (let q = a.2 in let r = a.3.entry in omega arith));
+      ((let q = a.2 in omega arith), subst (λ k. m < FIRST_NUMBER + MOST_NAMES * k) (sym fits.accounts) (let q = a.2 in let r = a.3.entry in omega arith));
 }
 
 -- a sighting is so
@@ -188,14 +162,14 @@ at_most : (e : ℕ → ℕ) (m d : ℕ) → ((c : ℕ) → c < d → e c < m) �
 at_most e m d below differ = subst (λ l. l ≤ m) (length-values e d) (length-le_from_distinct_below (values e d) m (values_distinct e d differ) (values_below e m d below))
 
 -- no more buckets of a way point to other texts than there are entries
-pub few_others : (n : ℕ) (ws : List ℕ) (t : List ℕ) (d : ℕ) → Sound n ws → d ≤ buckets_each * n → Others n ws t d → d ≤ most_names * n
+pub few_others : (n : ℕ) (ws : List ℕ) (t : List ℕ) (d : ℕ) → Sound n ws → d ≤ BUCKETS_EACH * n → Others n ws t d → d ≤ MOST_NAMES * n
 few_others n ws t d sound within others =
-    at_most (λ c. slice_index ws (further n t c) - 1) (most_names * n) d
+    at_most (λ c. slice_index ws (further n t c) - 1) (MOST_NAMES * n) d
     (λ c h. let o = others c h in let p : slice_index ws (further n t c) ≡ suc o.0 = o.2.points in let q = o.2.entry in omega arith)
     (λ b c before h e.
     let o = others b (omega arith) in
     let p = others c h in
     let same : o.0 ≡ p.0 = (let x : slice_index ws (further n t b) ≡ suc o.0 = o.2.points in let y : slice_index ws (further n t c) ≡ suc p.0 = p.2.points in omega arith) in
     let place = sound.once (further n t b) (further n t c) o.0 o.2.bucket p.2.bucket o.2.points (p.2.points ∙ ap suc (sym same)) in
-    let turn : start n t + b ≡ start n t + c = one_turn (start n t + b) (start n t + c) (buckets_each * n) (omega arith) (omega arith) place in
+    let turn : start n t + b ≡ start n t + c = one_turn (start n t + b) (start n t + c) (BUCKETS_EACH * n) (omega arith) (omega arith) place in
     absurd (omega arith))

@@ -1,7 +1,7 @@
 -- A look-up that publishes nothing, bucket by bucket.
 use Rattle.std.proofs.Common.{◌≡◌, ◌≢◌, ℕ, ◌+◌, ◌-◌, ◌*◌, ◌<◌, ◌≤◌, ◌↔◌, List, length, Some, IsTrue, Bool, false, refl, sym, ap, ◌∙◌, subst, inl, inr, arith}
 use Rattle.std.proofs.lemmas.Bool.{false≢true}
-use Rattle.kl1_model.specs.Limits.{buckets_each, first_number, most_names}
+use Rattle.kl1_model.specs.declared.limits.TheConstants.{BUCKETS_EACH, FIRST_NUMBER, MOST_NAMES}
 use Rattle.kl1_model.specs.Text.{is_text}
 use Rattle.atomic_table.specs.Table.{Me}
 use Rattle.kl1_atoms.specs.declared.face.Face.{Face}
@@ -43,7 +43,7 @@ passed_on f g h t d more passed = subst (λ (x : Face). Passed x t d) (sym more)
 
 -- a glance at a free bucket
 pub glance_free : (before after : Me (Unit {0}) View) (t : List ℕ) (n d i found : ℕ) → Steps before after (λ f g. Looks f g i found) → found ≡ 0 → (own before.0).accounts ≡ n → i ≡ further n t d
-    → d ≤ buckets_each * n → Passed (own before.0) t d → Steps before after (λ f g. Glances f g t i d Free)
+    → d ≤ BUCKETS_EACH * n → Passed (own before.0) t d → Steps before after (λ f g. Glances f g t i d Free)
 glance_free before after t n d i found steps free accounts way few passed = record {
   slots = steps.slots;
   faces = steps.faces;
@@ -51,7 +51,7 @@ glance_free before after t n d i found steps free accounts way few passed = reco
     | inl stays ↦ (
       stays_seen (own before.0) (own after.0) stays.1,
       subst (λ (x : Face). Passed x t d) (sym stays.1) passed,
-      steps.tells.few t d (subst (λ m. d ≤ buckets_each * m) (sym accounts) few) passed,
+      steps.tells.few t d (subst (λ m. d ≤ BUCKETS_EACH * m) (sym accounts) few) passed,
       steps.tells.unknown free t d (way ∙ ap (λ m. further m t d) (sym accounts)) passed,
     )
     | inr sees ↦ absurd (let s = sees.1 in omega arith)
@@ -60,7 +60,7 @@ glance_free before after t n d i found steps free accounts way few passed = reco
 
 -- a glance at another text
 pub glance_other : (before mid after : Me (Unit {0}) View) (t : List ℕ) (n d i found : ℕ) (has : Bool) → Steps before mid (λ f g. Looks f g i found) → (found ≡ 0 → ⊥) → (own before.0).accounts ≡ n → i ≡ further n t d
-    → d ≤ buckets_each * n → Passed (own before.0) t d → after ≡ mid
+    → d ≤ BUCKETS_EACH * n → Passed (own before.0) t d → after ≡ mid
     → ((h : Heard) → In (own mid.0).heard h → h.entry ≡ found - 1 → IsTrue (is_text h.text) → IsTrue has ↔ (h.text ≡ t)) → has ≡ false → Steps before after (λ f g. Glances f g t i d Other)
 glance_other before mid after t n d i found has steps full accounts way few passed same is differs =
     let sees = looked_seen (own before.0) (own mid.0) i found steps.tells (omega arith) in
@@ -74,21 +74,21 @@ glance_other before mid after t n d i found has steps full accounts way few pass
       tells = (
         was,
         passed_more (own mid.0) t n d i sees.0 (passed_on (own before.0) (own mid.0) sees.0 t d sees.5 passed) here sees.2 way (was.same.accounts ∙ accounts) other,
-        steps.tells.few t d (subst (λ m. d ≤ buckets_each * m) (sym accounts) few) passed,
+        steps.tells.few t d (subst (λ m. d ≤ BUCKETS_EACH * m) (sym accounts) few) passed,
       );
     } in told)
 
 -- a text that was found is known from then on
-pub found_ends : (a b c : Me (Unit {0}) View) (t : List ℕ) (i e number more : ℕ) → Steps a b (λ f g. Finds f g t (Found i e)) → Steps b c (λ f g. Learns f g i) → Starts (own a.0) t → number ≡ first_number + e → more ≡ 0
+pub found_ends : (a b c : Me (Unit {0}) View) (t : List ℕ) (i e number more : ℕ) → Steps a b (λ f g. Finds f g t (Found i e)) → Steps b c (λ f g. Learns f g i) → Starts (own a.0) t → number ≡ FIRST_NUMBER + e → more ≡ 0
     → Steps a c (λ f g. Ends f g t number × (g.used ≡ f.used + more))
 found_ends a b c t i e number more found learns starts is none =
     let saw = found.tells.0 in
     let seen = found.tells.1 in
     let change : own c.0 ≡ learned (own b.0) seen.sighting = learns.tells.change seen.sighting seen.seen seen.bucket in
-    let entry : first_number + seen.sighting.entry ≡ number = ap (λ x. first_number + x) seen.entry ∙ sym is in
+    let entry : FIRST_NUMBER + seen.sighting.entry ≡ number = ap (λ x. FIRST_NUMBER + x) seen.entry ∙ sym is in
     let knows : (own c.0).knows ≡ added (own a.0).knows t record { number = number } =
-    ap (λ (x : Face). x.knows) change ∙ ap (λ ks. added ks seen.sighting.text record { number = first_number + seen.sighting.entry }) saw.knows
-    ∙ ap (λ u. added (own a.0).knows u record { number = first_number + seen.sighting.entry }) seen.text ∙ ap (λ m. added (own a.0).knows t record { number = m }) entry
+    ap (λ (x : Face). x.knows) change ∙ ap (λ ks. added ks seen.sighting.text record { number = FIRST_NUMBER + seen.sighting.entry }) saw.knows
+    ∙ ap (λ u. added (own a.0).knows u record { number = FIRST_NUMBER + seen.sighting.entry }) seen.text ∙ ap (λ m. added (own a.0).knows t record { number = m }) entry
     in
     let used : (own c.0).used ≡ (own a.0).used = ap (λ (x : Face). x.used) change ∙ saw.used in
     let grown : length (own a.0).knows ≤ length (own c.0).knows = subst (λ ks. length (own a.0).knows ≤ length ks) (sym knows) (no_fewer (own a.0).knows t number) in
@@ -113,28 +113,28 @@ found_ends a b c t i e number more found learns starts is none =
 
 -- a text that was compared is known from then on
 pub learned_ends : (before mid after : Me (Unit {0}) View) (t : List ℕ) (n d i e : ℕ) (drafted : Bool) (h : Heard) → mid ≡ before → Steps mid after (λ f g. Learns f g i) → Walks (own before.0) t d drafted
-    → In (own before.0).heard h → h.bucket ≡ i → h.entry ≡ e → h.text ≡ t → (own before.0).accounts ≡ n → e < most_names * n → Steps before after (λ f g. Compares f g t d drafted (FoundIn e))
+    → In (own before.0).heard h → h.bucket ≡ i → h.entry ≡ e → h.text ≡ t → (own before.0).accounts ≡ n → e < MOST_NAMES * n → Steps before after (λ f g. Compares f g t d drafted (FoundIn e))
 learned_ends before mid after t n d i e drafted h same learns walks is at entry text accounts within =
     let steps : Steps before after (λ f g. Learns f g i) = subst (λ (m : Me (Unit {0}) View). Steps m after (λ f g. Learns f g i)) same learns in
     let change : own after.0 ≡ learned (own before.0) h = steps.tells.change h is at in
-    let knows : (own after.0).knows ≡ added (own before.0).knows t record { number = first_number + e } =
-    ap (λ (x : Face). x.knows) change ∙ ap (λ u. added (own before.0).knows u record { number = first_number + h.entry }) text ∙ ap (λ m. added (own before.0).knows t record { number = first_number + m }) entry
+    let knows : (own after.0).knows ≡ added (own before.0).knows t record { number = FIRST_NUMBER + e } =
+    ap (λ (x : Face). x.knows) change ∙ ap (λ u. added (own before.0).knows u record { number = FIRST_NUMBER + h.entry }) text ∙ ap (λ m. added (own before.0).knows t record { number = FIRST_NUMBER + m }) entry
     in
     let used : (own after.0).used ≡ (own before.0).used = ap (λ (x : Face). x.used) change in
-    let grown : length (own before.0).knows ≤ length (own after.0).knows = subst (λ ks. length (own before.0).knows ≤ length ks) (sym knows) (no_fewer (own before.0).knows t (first_number + e)) in
+    let grown : length (own before.0).knows ≤ length (own after.0).knows = subst (λ ks. length (own before.0).knows ≤ length ks) (sym knows) (no_fewer (own before.0).knows t (FIRST_NUMBER + e)) in
     record {
       slots = steps.slots;
       faces = steps.faces;
       tells = (
         record {
           same = record { accounts = ap (λ (x : Face). x.accounts) change; account = ap (λ (x : Face). x.account) change };
-          adds = record { known = knows; number = subst (λ u. number_by (own after.0).knows u ≡ Some (first_number + e)) text (steps.tells.number h is at ∙ ap (λ m. Some (first_number + m)) entry) };
+          adds = record { known = knows; number = subst (λ u. number_by (own after.0).knows u ≡ Some (FIRST_NUMBER + e)) text (steps.tells.number h is at ∙ ap (λ m. Some (FIRST_NUMBER + m)) entry) };
           names = steps.tells.names;
           used_up = (let u = walks.used_up in omega arith);
           publishes = publishes_none (own before.0).used (own after.0).used (own before.0).knows (own after.0).knows used grown;
           draft = ap (λ (x : Face). x.draft) change;
         },
         used,
-        subst (λ m. e < most_names * m) (sym accounts) within,
+        subst (λ m. e < MOST_NAMES * m) (sym accounts) within,
       );
     }

@@ -6,7 +6,9 @@ use Rattle.std.proofs.Math.ListN.{length-append}
 use mathlib.Core.Option.{some}
 use lib.ListN.{get_elem?}
 use Rattle.atomic_table.proofs.Lists.{at_set}
-use Rattle.kl1_model.specs.Limits.{buckets_each, most_names}
+use Rattle.kl1_model.specs.declared.limits.TheConstants.{BUCKETS_EACH, MOST_NAMES}
+use Rattle.kl1_text.specs.Words.{name_words}
+use Rattle.kl1_text.proofs.Words.{few_words}
 use Rattle.kl1_atoms.specs.declared.face.Face.{Face}
 use Rattle.kl1_atoms.specs.declared.face.Heard.{Heard}
 use Rattle.kl1_atoms.specs.declared.face.View.{View}
@@ -16,15 +18,15 @@ use Rattle.kl1_atoms.specs.Rule.{word_place, Stands, At, Others, Reaches, Sound,
 
 -- words after others: buckets that point to an entry still do, and the entry's words are the same
 pub record Grows (n : ℕ) (ws vs : List ℕ) : Type 0 where
-  pub buckets : (i e : ℕ) → i < buckets_each * n → slice_index ws i ≡ suc e → slice_index vs i ≡ suc e
-  pub entries : (i e k : ℕ) → i < buckets_each * n → slice_index ws i ≡ suc e → k < 8 → slice_index vs (word_place n e k) ≡ slice_index ws (word_place n e k)
+  pub buckets : (i e : ℕ) → i < BUCKETS_EACH * n → slice_index ws i ≡ suc e → slice_index vs i ≡ suc e
+  pub entries : (i e k : ℕ) → i < BUCKETS_EACH * n → slice_index ws i ≡ suc e → k < name_words → slice_index vs (word_place n e k) ≡ slice_index ws (word_place n e k)
 
 pub stands_on : (n : ℕ) (ws vs : List ℕ) (i e : ℕ) (t : List ℕ) → Grows n ws vs → Stands n ws i e t → Stands n vs i e t
 stands_on n ws vs i e t grows st = record {
   bucket = st.bucket;
   points = grows.buckets i e st.bucket st.points;
   entry = st.entry;
-  shows = λ k h. grows.entries i e k st.bucket st.points h ∙ st.shows k h;
+  shows = λ k h. grows.entries i e k st.bucket st.points (let f = few_words t st.name in omega arith) ∙ st.shows k h;
   name = st.name;
   own = st.own;
 }
@@ -99,14 +101,14 @@ module _ (views : List View) (id : ℕ) (f f' : Face) (fs : List Face) (at : get
   }
 
 -- a word of an account's own unpublished entry is stored
-module _ (n : ℕ) (ws : List ℕ) (f : Face) (k v : ℕ) (sound : Sound n ws) (fits : Fits n ws f) (room : f.used < most_names) (within : k < 8) where
+module _ (n : ℕ) (ws : List ℕ) (f : Face) (k v : ℕ) (sound : Sound n ws) (fits : Fits n ws f) (room : f.used < MOST_NAMES) (within : k < name_words) where
   stored : List ℕ
   stored = slice_set ws (word_place n (own_entry f) k) v
 
-  bucket_same : (i : ℕ) → i < buckets_each * n → slice_index (slice_set ws (word_place n (own_entry f) k) v) i ≡ slice_index ws i
+  bucket_same : (i : ℕ) → i < BUCKETS_EACH * n → slice_index (slice_set ws (word_place n (own_entry f) k) v) i ≡ slice_index ws i
   bucket_same i h = get_or-set_other ws (word_place n (own_entry f) k) i v 0 (λ e. omega arith)
 
-  word_same : (e l : ℕ) → l < 8 → (e ≡ own_entry f → ⊥) → slice_index (slice_set ws (word_place n (own_entry f) k) v) (word_place n e l) ≡ slice_index ws (word_place n e l)
+  word_same : (e l : ℕ) → l < name_words → (e ≡ own_entry f → ⊥) → slice_index (slice_set ws (word_place n (own_entry f) k) v) (word_place n e l) ≡ slice_index ws (word_place n e l)
   word_same e l h other = get_or-set_other ws (word_place n (own_entry f) k) (word_place n e l) v 0 (λ same. other (omega arith))
 
   pub grows_store : Grows n ws (slice_set ws (word_place n (own_entry f) k) v)

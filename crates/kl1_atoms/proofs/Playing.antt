@@ -5,9 +5,9 @@ use Rattle.std.proofs.lemmas.List.{set-get_or}
 use Rattle.std.proofs.Math.ListN.{length-append}
 use mathlib.Core.Option.{some, none}
 use lib.ListN.{get_elem?}
-use Rattle.kl1_model.specs.Limits.{buckets_each, first_number, most_names}
-use Rattle.kl1_text.specs.Words.{words_of, bytes_of}
-use Rattle.kl1_text.proofs.Words.{words_hold}
+use Rattle.kl1_model.specs.declared.limits.TheConstants.{BUCKETS_EACH, FIRST_NUMBER, MOST_NAMES}
+use Rattle.kl1_text.specs.Words.{name_words, bytes_of, word_count, words_to_end}
+use Rattle.kl1_text.proofs.Words.{length-words_of, word_of, ended_hold}
 use prog.Atomic.{either}
 use Rattle.std.proofs.lemmas.Bool.{eq-eqb, ne_eqb}
 use Rattle.kl1_model.specs.Text.{is_text}
@@ -23,7 +23,7 @@ use Rattle.kl1_atoms.specs.Rule.{word_place, Shows, Stands, At, Sound, own_entry
 use Rattle.kl1_atoms.specs.Plays.{IsReady, has_first, own, In, heard_more, Sees, Looks, drafted_more, published_by, learned, LooksAt, ReadsAt, DraftsAt, PublishesAt, LearnsAt}
 use Rattle.kl1_atoms.proofs.Growing.{step_kept, sound_store, fits_store_other, fits_store_own}
 use Rattle.kl1_atoms.proofs.Publishing.{face_after, sound_publish, fits_publish_other, fits_publish_own}
-use Rattle.kl1_atoms.proofs.Facing.{is_table, one_entry_of, length-words_of, knows_names, seen_stands, passed_others, not_known, few_others, one_text_at, meets}
+use Rattle.kl1_atoms.proofs.Facing.{is_table, one_entry_of, knows_names, seen_stands, passed_others, not_known, few_others, one_text_at, meets}
 
 -- what holds of each view that has a first face holds of a view that has one
 pub by_first : (P : View → Type 0) → ((f : Face) (fs : List Face) → P record { faces = f ∷ fs }) → (fs : List Face) → IsTrue (has_first fs) → P record { faces = fs }
@@ -62,21 +62,21 @@ looks : (n : ℕ) (ws : List ℕ) (f g : Face) (i : ℕ) → Sound n ws → Fits
 looks n ws f g i sound fits change = record {
   names = knows_names n ws f sound fits;
   few = λ t d within passed.
-      let limit : d ≤ buckets_each * n = subst (λ m. d ≤ buckets_each * m) fits.accounts within in
-      subst (λ m. d ≤ most_names * m) (sym fits.accounts) (few_others n ws t d sound limit (passed_others n ws f t d fits passed));
+      let limit : d ≤ BUCKETS_EACH * n = subst (λ m. d ≤ BUCKETS_EACH * m) fits.accounts within in
+      subst (λ m. d ≤ MOST_NAMES * m) (sym fits.accounts) (few_others n ws t d sound limit (passed_others n ws f t d fits passed));
   unknown = λ zero_ t d way passed.
       not_known n ws f t i d sound fits zero_ (way ∙ ap (λ m. further m t d) fits.accounts) (passed_others n ws f t d fits passed);
   change = change;
 }
 
 -- a bucket that isn't free has a sighting
-sighting : (n : ℕ) (ws : List ℕ) (i : ℕ) → Sound n ws → i < buckets_each * n → (slice_index ws i ≡ 0 → ⊥) → (h : Heard) × (slice_index ws i ≡ suc h.entry) × (h.bucket ≡ i) × Stands n ws h.bucket h.entry h.text
+sighting : (n : ℕ) (ws : List ℕ) (i : ℕ) → Sound n ws → i < BUCKETS_EACH * n → (slice_index ws i ≡ 0 → ⊥) → (h : Heard) × (slice_index ws i ≡ suc h.entry) × (h.bucket ≡ i) × Stands n ws h.bucket h.entry h.text
 sighting n ws i sound within full =
     let points : slice_index ws i ≡ suc (slice_index ws i - 1) = omega arith in
     let s = sound.stands i (slice_index ws i - 1) within points in
     (record { bucket = i; entry = slice_index ws i - 1; text = s.0 }, points, refl, s.1)
 
-pub allows_look : (n slots id i : ℕ) (v : View) (c : List (ℕ × Unit {0})) → IsTrue (has_first v.faces) → i < buckets_each * n
+pub allows_look : (n slots id i : ℕ) (v : View) (c : List (ℕ × Unit {0})) → IsTrue (has_first v.faces) → i < BUCKETS_EACH * n
     → Allows (Kept n) slots id (v, c) i (λ m. m) (LooksAt (step slots i 0 0 none) (v, c))
 allows_look n slots id i v c first within = by_first (λ (u : View). Allows (Kept n) slots id (u, c) i (λ m. m) (LooksAt (step slots i 0 0 none) (u, c)))
     (λ f fs s kept len at small.
@@ -102,7 +102,7 @@ allows_look n slots id i v c first within = by_first (λ (u : View). Allows (Kep
               record {
                 slots = refl;
                 faces = refl;
-                tells = looks n s.words f (heard_more f h.0) i kept.sound fits (inr (h.0, h.1, h.2, subst (λ m. h.0.entry < most_names * m) (sym fits.accounts) h.3.entry, h.3.name, refl));
+                tells = looks n s.words f (heard_more f h.0) i kept.sound fits (inr (h.0, h.1, h.2, subst (λ m. h.0.entry < MOST_NAMES * m) (sym fits.accounts) h.3.entry, h.3.name, refl));
               },
               meets n s.words f fs i kept.sound fits (other_fits n id s kept f fs at),
             ),
@@ -125,19 +125,20 @@ allows_read n slots id i v c first = by_first (λ (u : View). Allows (Kept n) sl
           seen = λ h k is few place.
               ap (slice_index s.words) (place ∙ ap (λ m. word_place m h.entry k) fits.accounts) ∙ (seen_stands n s.words f.heard h fits.heard is).shows k few;
           known = λ t e k e_is few place.
-              let a = fits.known.by_number t (first_number + e) e_is in
+              let a = fits.known.by_number t (FIRST_NUMBER + e) e_is in
               let same : e ≡ a.0 = (let q = a.2 in omega arith) in
               ap (slice_index s.words) (place ∙ ap (λ m. word_place m e k) fits.accounts ∙ ap (λ x. word_place n x k) same) ∙ a.3.shows k few;
+          names = λ t e e_is. (fits.known.by_number t (FIRST_NUMBER + e) e_is).3.name;
         },
       ),
     ))
     v.faces first
 
-pub allows_draft : (n slots id i w : ℕ) (v : View) (c : List (ℕ × Unit {0})) → IsTrue (has_first v.faces) → (own v).used < most_names → length (own v).draft < 8
+pub allows_draft : (n slots id i w : ℕ) (v : View) (c : List (ℕ × Unit {0})) → IsTrue (has_first v.faces) → (own v).used < MOST_NAMES → length (own v).draft < name_words
     → i ≡ word_place (own v).accounts (own_entry (own v)) (length (own v).draft)
     → Allows (Kept n) slots id (v, c) i (λ m. w) (λ m. DraftsAt (step slots i w 0 none) (v, c) w)
 allows_draft n slots id i w v c first = by_first
-    (λ (u : View). (own u).used < most_names → length (own u).draft < 8 → i ≡ word_place (own u).accounts (own_entry (own u)) (length (own u).draft) → Allows (Kept n) slots id (u, c) i (λ m. w) (λ m. DraftsAt (step slots i w 0 none) (u, c) w))
+    (λ (u : View). (own u).used < MOST_NAMES → length (own u).draft < name_words → i ≡ word_place (own u).accounts (own_entry (own u)) (length (own u).draft) → Allows (Kept n) slots id (u, c) i (λ m. w) (λ m. DraftsAt (step slots i w 0 none) (u, c) w))
     (λ f fs room few place s kept len at small.
     let fits = own_fits n id s kept f fs at in
     let here : i ≡ word_place n (own_entry f) (length f.draft) = place ∙ ap (λ m. word_place m (own_entry f) (length f.draft)) fits.accounts in
@@ -155,19 +156,19 @@ allows_draft n slots id i w v c first = by_first
     v.faces first
 
 -- the entry that a face has drafted shows its text
-draft_shows : (n : ℕ) (ws : List ℕ) (f : Face) (t : List ℕ) → Fits n ws f → f.draft ≡ words_of 8 t → Shows n ws (own_entry f) t
+draft_shows : (n : ℕ) (ws : List ℕ) (f : Face) (t : List ℕ) → Fits n ws f → f.draft ≡ words_to_end t → Shows n ws (own_entry f) t
 draft_shows n ws f t fits e = λ k h.
-    let d = fits.drafted k (let l : length f.draft ≡ 8 = ap length e ∙ length-words_of 8 t in omega arith) in
-    d.2 ∙ ap (λ xs. slice_index xs k) e
+    let d = fits.drafted k (let l : length f.draft ≡ word_count t = ap length e ∙ length-words_of (word_count t) t in omega arith) in
+    d.2 ∙ ap (λ xs. slice_index xs k) e ∙ word_of (word_count t) k t h
 
 -- publishing by the draft is publishing by the text
-published_same : (f : Face) (t : List ℕ) → f.draft ≡ words_of 8 t → IsTrue (is_text t) → face_after f t ≡ published_by f
-published_same f t e name = ap (face_after f) (sym (words_hold t name) ∙ ap bytes_of (sym e))
+published_same : (f : Face) (t : List ℕ) → f.draft ≡ words_to_end t → IsTrue (is_text t) → face_after f t ≡ published_by f
+published_same f t e name = ap (face_after f) (sym (ended_hold t name) ∙ ap bytes_of (sym e))
 
-pub allows_publish : (n slots id i e : ℕ) (v : View) (c : List (ℕ × Unit {0})) (t : List ℕ) (d : ℕ) → IsTrue (has_first v.faces) → IsReady (own v) t d i → e ≡ own_entry (own v) → i < buckets_each * n
+pub allows_publish : (n slots id i e : ℕ) (v : View) (c : List (ℕ × Unit {0})) (t : List ℕ) (d : ℕ) → IsTrue (has_first v.faces) → IsReady (own v) t d i → e ≡ own_entry (own v) → i < BUCKETS_EACH * n
     → Allows (Kept n) slots id (v, c) i (λ m. either (eqb m 0) (suc e) m) (PublishesAt (step slots i 0 (suc e) none) (v, c))
 allows_publish n slots id i e v c t d first = by_first
-    (λ (u : View). IsReady (own u) t d i → e ≡ own_entry (own u) → i < buckets_each * n → Allows (Kept n) slots id (u, c) i (λ m. either (eqb m 0) (suc e) m) (PublishesAt (step slots i 0 (suc e) none) (u, c)))
+    (λ (u : View). IsReady (own u) t d i → e ≡ own_entry (own u) → i < BUCKETS_EACH * n → Allows (Kept n) slots id (u, c) i (λ m. either (eqb m 0) (suc e) m) (PublishesAt (step slots i 0 (suc e) none) (u, c)))
     (λ f fs ready mine within s kept len at small.
     let fits = own_fits n id s kept f fs at in
     elim (cases_eq (slice_index s.words i) 0) [
@@ -200,17 +201,17 @@ allows_publish n slots id i e v c t d first = by_first
             record {
               slots = refl;
               faces = refl;
-              tells = inr (h.0, h.1, h.2, subst (λ m. h.0.entry < most_names * m) (sym fits.accounts) h.3.entry, h.3.name, refl);
+              tells = inr (h.0, h.1, h.2, subst (λ m. h.0.entry < MOST_NAMES * m) (sym fits.accounts) h.3.entry, h.3.name, refl);
             },
           )
     ])
     v.faces first
 
 -- what is known after a look-up stands
-stand_added : (n : ℕ) (ws : List ℕ) (ks : List Known) (i e : ℕ) (t : List ℕ) → StandIn (At n ws) ks → Stands n ws i e t → StandIn (At n ws) (added ks t record { number = first_number + e })
+stand_added : (n : ℕ) (ws : List ℕ) (ks : List Known) (i e : ℕ) (t : List ℕ) → StandIn (At n ws) ks → Stands n ws i e t → StandIn (At n ws) (added ks t record { number = FIRST_NUMBER + e })
 stand_added n ws ks i e t stand st = elim (cases_Bool (is_some (number_by ks t))) [
   | inl known ↦ rw known stand
-  | inr other ↦ rw other (stand_more (At n ws) ks record { text = t; number = record { number = first_number + e } } stand (e, i, refl, st))
+  | inr other ↦ rw other (stand_more (At n ws) ks record { text = t; number = record { number = FIRST_NUMBER + e } } stand (e, i, refl, st))
 ]
 
 -- and is no fewer
@@ -221,7 +222,7 @@ learn_fits : (n : ℕ) (ws : List ℕ) (f : Face) (h : Heard) → Fits n ws f �
 learn_fits n ws f h fits st = record {
   accounts = fits.accounts;
   account = fits.account;
-  used_up = (let u = fits.used_up in let l = no_fewer f.knows h.text (first_number + h.entry) in omega arith);
+  used_up = (let u = fits.used_up in let l = no_fewer f.knows h.text (FIRST_NUMBER + h.entry) in omega arith);
   free = fits.free;
   known = stand_added n ws f.knows h.bucket h.entry h.text fits.known st;
   heard = tt;
@@ -229,11 +230,11 @@ learn_fits n ws f h fits st = record {
 }
 
 -- the number of a text that was learned
-number_learned : (n : ℕ) (ws : List ℕ) (f : Face) (h : Heard) → Sound n ws → Fits n ws f → Stands n ws h.bucket h.entry h.text → number_by (learned f h).knows h.text ≡ Some (first_number + h.entry)
+number_learned : (n : ℕ) (ws : List ℕ) (f : Face) (h : Heard) → Sound n ws → Fits n ws f → Stands n ws h.bucket h.entry h.text → number_by (learned f h).knows h.text ≡ Some (FIRST_NUMBER + h.entry)
 number_learned n ws f h sound fits st = elim (option_cases (number_in f.knows h.text)) [
-  | inl none_yet ↦ rw (st.own, none_yet) (number_in-last f.knows record { text = h.text; number = record { number = first_number + h.entry } } none_yet)
+  | inl none_yet ↦ rw (st.own, none_yet) (number_in-last f.knows record { text = h.text; number = record { number = FIRST_NUMBER + h.entry } } none_yet)
   | inr known ↦
-      let same = (is_table n ws sound).one_number h.text known.0 (first_number + h.entry) (fits.known.by_text h.text known.0 known.1) (h.entry, h.bucket, refl, st) in
+      let same = (is_table n ws sound).one_number h.text known.0 (FIRST_NUMBER + h.entry) (fits.known.by_text h.text known.0 known.1) (h.entry, h.bucket, refl, st) in
       rw (st.own, known.1) (known.1 ∙ ap (λ m. Some m) same)
 ]
 
@@ -257,7 +258,7 @@ allows_learn n slots id i v c h first = by_first
           number = λ g its place.
               let su = seen_stands n s.words f.heard g fits.heard its in
               let same = learned_same n s.words f h g (bucket ∙ sym place) st su in
-              subst (λ (x : Face). number_by x.knows g.text ≡ Some (first_number + g.entry)) (sym same) (number_learned n s.words f g kept.sound fits su);
+              subst (λ (x : Face). number_by x.knows g.text ≡ Some (FIRST_NUMBER + g.entry)) (sym same) (number_learned n s.words f g kept.sound fits su);
           change = λ g its place. learned_same n s.words f h g (bucket ∙ sym place) st (seen_stands n s.words f.heard g fits.heard its);
         };
       },

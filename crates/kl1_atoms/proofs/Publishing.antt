@@ -3,7 +3,7 @@ use Rattle.std.proofs.Common.{◌≡◌, ◌≢◌, ℕ, suc, ◌+◌, ◌*◌, 
 use Rattle.std.proofs.lemmas.Bool.{cases_eq}
 use Rattle.std.proofs.lemmas.List.{length-set, get_or-set_same, get_or-set_other}
 use Rattle.std.proofs.Math.ListN.{length-append}
-use Rattle.kl1_model.specs.Limits.{buckets_each, first_number, most_names}
+use Rattle.kl1_model.specs.declared.limits.TheConstants.{BUCKETS_EACH, FIRST_NUMBER, MOST_NAMES}
 use Rattle.kl1_text.specs.BuiltIns.{built_in_of}
 use Rattle.kl1_model.specs.Text.{is_text}
 use Rattle.kl1_atoms.specs.declared.known.Known.{Known}
@@ -15,13 +15,13 @@ use Rattle.kl1_atoms.proofs.Growing.{Grows, stands_on, others_on, reaches_on, at
 
 -- the pair that is published
 abbrev pub published : Face → List ℕ → Known
-published f t = record { text = t; number = record { number = first_number + own_entry f } }
+published f t = record { text = t; number = record { number = FIRST_NUMBER + own_entry f } }
 
 -- what an account knows once it has published
 abbrev pub face_after : Face → List ℕ → Face
 face_after f t = record { accounts = f.accounts; account = f.account; used = f.used + 1; knows = f.knows ++ published f t ∷ []; heard = []; draft = [] }
 
-module _ (n : ℕ) (ws : List ℕ) (f : Face) (i : ℕ) (t : List ℕ) (sound : Sound n ws) (fits : Fits n ws f) (room : f.used < most_names) (within : i < buckets_each * n) (free : slice_index ws i ≡ 0)
+module _ (n : ℕ) (ws : List ℕ) (f : Face) (i : ℕ) (t : List ℕ) (sound : Sound n ws) (fits : Fits n ws f) (room : f.used < MOST_NAMES) (within : i < BUCKETS_EACH * n) (free : slice_index ws i ≡ 0)
     (shows : Shows n ws (own_entry f) t) (name : IsTrue (is_text t)) (own : built_in_of t ≡ None) (d : ℕ) (way : i ≡ further n t d) (others : Others n ws t d) where
   inside : i < length ws
   inside = let s = sound.size in omega arith
@@ -91,7 +91,7 @@ module _ (n : ℕ) (ws : List ℕ) (f : Face) (i : ℕ) (t : List ℕ) (sound : 
     accounts = its.accounts;
     account = its.account;
     used_up = its.used_up;
-    free = λ j low high l h points. elim (points_before l (most_names * g.account + j) points) [
+    free = λ j low high l h points. elim (points_before l (MOST_NAMES * g.account + j) points) [
       | inl is ↦ let e = is.1 in let r = room in differ (omega arith)
       | inr was ↦ its.free j low high l h was
     ];
@@ -105,7 +105,7 @@ module _ (n : ℕ) (ws : List ℕ) (f : Face) (i : ℕ) (t : List ℕ) (sound : 
     accounts = fits.accounts;
     account = fits.account;
     used_up = rw (length-append f.knows (published f t ∷ [])) (let u = fits.used_up in omega arith);
-    free = λ j low high l h points. elim (points_before l (most_names * f.account + j) points) [
+    free = λ j low high l h points. elim (points_before l (MOST_NAMES * f.account + j) points) [
       | inl is ↦ let e = is.1 in absurd (omega arith)
       | inr was ↦ fits.free j (omega arith) high l h was
     ];

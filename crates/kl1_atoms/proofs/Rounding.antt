@@ -2,10 +2,10 @@
 use Rattle.std.proofs.Common.{◌≡◌, ◌≢◌, ℕ, ◌+◌, ◌-◌, ◌*◌, ◌<◌, ◌≤◌, List, [], ◌∷◌, ◌++◌, Some, None, IsTrue, IsSome, refl, sym, ap, ◌∙◌, subst, inl, inr, arith, true, false, Bool}
 use Rattle.std.proofs.lemmas.Bool.{cases_eq, false≢true}
 use Rattle.std.proofs.Math.ListN.{length-append}
-use Rattle.kl1_model.specs.Limits.{buckets_each, first_number, most_names}
+use Rattle.kl1_model.specs.declared.limits.TheConstants.{BUCKETS_EACH, FIRST_NUMBER, MOST_NAMES}
 use Rattle.kl1_text.specs.BuiltIns.{built_in_at}
-use Rattle.kl1_text.specs.Words.{words_of, bytes_of}
-use Rattle.kl1_text.proofs.Words.{words_hold}
+use Rattle.kl1_text.specs.Words.{name_words, words_of, bytes_of, words_to_end}
+use Rattle.kl1_text.proofs.Words.{words_hold, ended_hold}
 use Rattle.kl1_model.specs.Text.{is_text}
 use Rattle.atomic_table.specs.Table.{Me}
 use Rattle.kl1_atoms.specs.declared.known.Known.{Known}
@@ -41,7 +41,7 @@ passed_more f t n d bucket h passed is at way accounts differ = λ c below. elim
 
 -- a look-up goes on past another text
 pub goes_on : (before after : Me (Unit {0}) View) (t : List ℕ) (n d bucket : ℕ) (drafted : Bool) (h : Heard) → after ≡ before → IsTrue (has_first before.0.faces) → Walks (own before.0) t d drafted
-    → In (own before.0).heard h → h.bucket ≡ bucket → bucket ≡ further n t d → (own before.0).accounts ≡ n → h.text ≢ t → d ≤ most_names * n → Steps before after (λ f g. Compares f g t d drafted (Other drafted))
+    → In (own before.0).heard h → h.bucket ≡ bucket → bucket ≡ further n t d → (own before.0).accounts ≡ n → h.text ≢ t → d ≤ MOST_NAMES * n → Steps before after (λ f g. Compares f g t d drafted (Other drafted))
 goes_on before after t n d bucket drafted h same first walks is at way accounts differ small =
     subst (λ (m : Me (Unit {0}) View). Steps before m (λ f g. Compares f g t d drafted (Other drafted))) (sym same)
     (let stay : Steps before before (λ f g. Compares f g t d drafted (Other drafted)) = record {
@@ -61,7 +61,7 @@ goes_on before after t n d bucket drafted h same first walks is at way accounts 
             draft = walks.draft;
             drafted_room = walks.drafted_room;
           };
-          few = subst (λ m. d + 1 ≤ most_names * m + 1) (sym accounts) (omega arith);
+          few = subst (λ m. d + 1 ≤ MOST_NAMES * m + 1) (sym accounts) (omega arith);
         },
         refl,
       );
@@ -82,14 +82,14 @@ walks_seen f g i found t d drafted walks sees =
     } in more)
 
 -- a text that isn't known, if there is room, finds an entry
-pub entry_left : (f : Face) (t : List ℕ) (d : ℕ) (drafted : Bool) → Walks f t d drafted → number_in f.knows t ≡ None → f.used < most_names
+pub entry_left : (f : Face) (t : List ℕ) (d : ℕ) (drafted : Bool) → Walks f t d drafted → number_in f.knows t ≡ None → f.used < MOST_NAMES
 entry_left f t d drafted walks new = elim walks.room [
   | inl known ↦ absurd (false≢true (rw (walks.other, new) at known))
   | inr few ↦ let u = walks.used_up in omega arith
 ]
 
 -- a draft leaves a look-up where it is
-pub walks_drafted : (f g : Face) (t : List ℕ) (d : ℕ) (drafted : Bool) → Walks f t d drafted → f.used < most_names → Drafts f g (words_of 8 t) → Walks g t d true
+pub walks_drafted : (f g : Face) (t : List ℕ) (d : ℕ) (drafted : Bool) → Walks f t d drafted → f.used < MOST_NAMES → Drafts f g (words_to_end t) → Walks g t d true
 walks_drafted f g t d drafted walks room drafts = record {
   name = walks.name;
   other = walks.other;
@@ -98,14 +98,14 @@ walks_drafted f g t d drafted walks room drafts = record {
   passed = λ c below.
       let p = walks.passed c below in (p.0, subst (λ hs. In hs p.0) (sym drafts.heard) p.1, p.2 ∙ ap (λ m. further m t c) (sym drafts.same.accounts), p.3);
   draft = drafts.draft;
-  drafted_room = λ _. subst (λ u. u < most_names) (sym drafts.used) room;
+  drafted_room = λ _. subst (λ u. u < MOST_NAMES) (sym drafts.used) room;
 }
 
 -- a drafted face at a free bucket may publish
-pub is_ready : (f : Face) (t : List ℕ) (n d bucket : ℕ) → Walks f t d true → f.accounts ≡ n → bucket < buckets_each * n → bucket ≡ further n t d → IsReady f t d bucket
+pub is_ready : (f : Face) (t : List ℕ) (n d bucket : ℕ) → Walks f t d true → f.accounts ≡ n → bucket < BUCKETS_EACH * n → bucket ≡ further n t d → IsReady f t d bucket
 is_ready f t n d bucket walks accounts within way = record {
   room = walks.drafted_room refl;
-  bucket = subst (λ m. bucket < buckets_each * m) (sym accounts) within;
+  bucket = subst (λ m. bucket < BUCKETS_EACH * m) (sym accounts) within;
   way = way ∙ ap (λ m. further m t d) (sym accounts);
   passed = walks.passed;
   draft = walks.draft;
@@ -114,28 +114,28 @@ is_ready f t n d bucket walks accounts within way = record {
 }
 
 -- what a face knows once its text is published
-pub made : (f g h : Face) (t : List ℕ) (d : ℕ) (drafted : Bool) → Walks f t d drafted → number_in f.knows t ≡ None → Drafts f g (words_of 8 t) → h ≡ published_by g → Listed h.accounts h.knows → Gives f h t d Made
+pub made : (f g h : Face) (t : List ℕ) (d : ℕ) (drafted : Bool) → Walks f t d drafted → number_in f.knows t ≡ None → Drafts f g (words_to_end t) → h ≡ published_by g → Listed h.accounts h.knows → Gives f h t d Made
 made f g h t d drafted walks new drafts is names =
     let own_same : own_entry g ≡ own_entry f = (let a = drafts.same.account in let u = drafts.used in omega arith) in
-    let text : bytes_of g.draft ≡ t = ap bytes_of drafts.draft ∙ words_hold t walks.name in
-    let pair : own_pair g ≡ record { text = t; number = record { number = first_number + own_entry f } } = ap (λ (x : ℕ × List ℕ). own_known x) (let e : (own_entry g, bytes_of g.draft) ≡ (own_entry f, t) = cc in e) in
-    let knows : h.knows ≡ f.knows ++ record { text = t; number = record { number = first_number + own_entry f } } ∷ [] =
-    ap (λ (x : Face). x.knows) is ∙ ap (λ k. g.knows ++ k ∷ []) pair ∙ ap (λ ks. ks ++ record { text = t; number = record { number = first_number + own_entry f } } ∷ []) drafts.knows
+    let text : bytes_of g.draft ≡ t = ap bytes_of drafts.draft ∙ ended_hold t walks.name in
+    let pair : own_pair g ≡ record { text = t; number = record { number = FIRST_NUMBER + own_entry f } } = ap (λ (x : ℕ × List ℕ). own_known x) (let e : (own_entry g, bytes_of g.draft) ≡ (own_entry f, t) = cc in e) in
+    let knows : h.knows ≡ f.knows ++ record { text = t; number = record { number = FIRST_NUMBER + own_entry f } } ∷ [] =
+    ap (λ (x : Face). x.knows) is ∙ ap (λ k. g.knows ++ k ∷ []) pair ∙ ap (λ ks. ks ++ record { text = t; number = record { number = FIRST_NUMBER + own_entry f } } ∷ []) drafts.knows
     in
     let used : h.used ≡ f.used + 1 = ap (λ (x : Face). x.used) is ∙ ap (λ u. u + 1) drafts.used in (
       record {
         same = record { accounts = ap (λ (x : Face). x.accounts) is ∙ drafts.same.accounts; account = ap (λ (x : Face). x.account) is ∙ drafts.same.account };
-        adds = rw knows (adds_one f.knows t record { number = first_number + own_entry f } walks.other new);
+        adds = rw knows (adds_one f.knows t record { number = FIRST_NUMBER + own_entry f } walks.other new);
         names = names;
         used_up = rw (used, knows) (simp length-append (let u = walks.used_up in omega arith));
-        publishes = rw (used, knows) (publishes_one f.used f.knows record { text = t; number = record { number = first_number + own_entry f } });
+        publishes = rw (used, knows) (publishes_one f.used f.knows record { text = t; number = record { number = FIRST_NUMBER + own_entry f } });
         draft = ap (λ (x : Face). x.draft) is;
       },
       used,
       entry_left f t d drafted walks new,
     ) where
       own_known : ℕ × List ℕ → Known
-      own_known x = record { text = x.1; number = record { number = first_number + x.0 } }
+      own_known x = record { text = x.1; number = record { number = FIRST_NUMBER + x.0 } }
 
 -- a bucket that isn't free was seen
 pub looked_seen : (f g : Face) (i found : ℕ) → Looks f g i found → 0 < found → Sees f g i found
@@ -145,7 +145,7 @@ looked_seen f g i found looks full = elim looks.change [ inl free ↦ absurd (le
 pub record Free (f g : Face) (t : List ℕ) (d : ℕ) (drafted : Bool) : Type 0 where
   pub same : g ≡ f
   pub new : number_in f.knows t ≡ None
-  pub room : f.used < most_names
+  pub room : f.used < MOST_NAMES
 
 pub looked_free : (f g : Face) (n i found : ℕ) (t : List ℕ) (d : ℕ) (drafted : Bool) → Looks f g i found → found ≤ 0 → Walks f t d drafted → f.accounts ≡ n → i ≡ further n t d → Free f g t d drafted
 looked_free f g n i found t d drafted looks none walks accounts way = elim looks.change [
@@ -174,10 +174,10 @@ kin_seen f g i found sees = record {
 }
 
 -- a face that looked at a free bucket, drafted, and saw who was first
-pub kin_drafted : (f g h k : Face) (n i found at : ℕ) (t : List ℕ) (d : ℕ) (drafted : Bool) → Looks f g i found → found ≤ 0 → Walks f t d drafted → f.accounts ≡ n → i ≡ further n t d → Drafts g h (words_of 8 t) → Sees h k i at → Kin f k
+pub kin_drafted : (f g h k : Face) (n i found at : ℕ) (t : List ℕ) (d : ℕ) (drafted : Bool) → Looks f g i found → found ≤ 0 → Walks f t d drafted → f.accounts ≡ n → i ≡ further n t d → Drafts g h (words_to_end t) → Sees h k i at → Kin f k
 kin_drafted f g h k n i found at t d drafted looks none walks accounts way drafts sees =
     let free = looked_free f g n i found t d drafted looks none walks accounts way in
-    let one : Drafts f h (words_of 8 t) = subst (λ (x : Face). Drafts x h (words_of 8 t)) free.same drafts in
+    let one : Drafts f h (words_to_end t) = subst (λ (x : Face). Drafts x h (words_to_end t)) free.same drafts in
     let two = kin_seen h k i at sees in
     record {
       same = record { accounts = two.same.accounts ∙ one.same.accounts; account = two.same.account ∙ one.same.account };
@@ -190,14 +190,14 @@ pub compared_gives : (f m g : Face) (t : List ℕ) (d : ℕ) (drafted : Bool) (r
 compared_gives f m g t d drafted (Found e) kin told = (
   record {
     same = record { accounts = told.0.same.accounts ∙ kin.same.accounts; account = told.0.same.account ∙ kin.same.account };
-    adds = subst (λ ks. Adds ks t record { number = first_number + e } g.knows) kin.knows told.0.adds;
+    adds = subst (λ ks. Adds ks t record { number = FIRST_NUMBER + e } g.knows) kin.knows told.0.adds;
     names = told.0.names;
     used_up = told.0.used_up;
     publishes = rw (← kin.used, ← kin.knows) told.0.publishes;
     draft = told.0.draft;
   },
   told.1 ∙ kin.used,
-  subst (λ m. e < most_names * m) kin.same.accounts told.2,
+  subst (λ m. e < MOST_NAMES * m) kin.same.accounts told.2,
 )
 compared_gives f m g t d drafted Made kin told = absurd told
 compared_gives f m g t d drafted (Other still) kin told = record {
@@ -205,7 +205,7 @@ compared_gives f m g t d drafted (Other still) kin told = record {
   used = told.0.used ∙ kin.used;
   knows = told.0.knows ∙ kin.knows;
   walks = subst (λ b. Walks g t (d + 1) b) (sym told.1) told.0.walks;
-  few = subst (λ m. d + 1 ≤ most_names * m + 1) kin.same.accounts told.0.few;
+  few = subst (λ m. d + 1 ≤ MOST_NAMES * m + 1) kin.same.accounts told.0.few;
 }
 
 -- three steps, one after another
@@ -225,25 +225,25 @@ pub published_else : (f g : Face) (i found : ℕ) → Publishes f g i found → 
 published_else f g i found publishes full = elim publishes [ inl made_it ↦ absurd (full made_it.0) | inr sees ↦ sees ]
 
 -- a look-up at a free bucket, with its draft
-pub drafted_walks : (f g h : Face) (n i found : ℕ) (t : List ℕ) (d : ℕ) (drafted : Bool) → Looks f g i found → found ≤ 0 → Walks f t d drafted → f.accounts ≡ n → i ≡ further n t d → Drafts g h (words_of 8 t) → Walks h t d true × (h.accounts ≡ n)
+pub drafted_walks : (f g h : Face) (n i found : ℕ) (t : List ℕ) (d : ℕ) (drafted : Bool) → Looks f g i found → found ≤ 0 → Walks f t d drafted → f.accounts ≡ n → i ≡ further n t d → Drafts g h (words_to_end t) → Walks h t d true × (h.accounts ≡ n)
 drafted_walks f g h n i found t d drafted looks none walks accounts way drafts =
     let free = looked_free f g n i found t d drafted looks none walks accounts way in
-    let at_f : Drafts f h (words_of 8 t) = subst (λ (x : Face). Drafts x h (words_of 8 t)) free.same drafts in
+    let at_f : Drafts f h (words_to_end t) = subst (λ (x : Face). Drafts x h (words_to_end t)) free.same drafts in
     (walks_drafted f h t d drafted walks free.room at_f, at_f.same.accounts ∙ accounts)
 
 -- and with its text published
-pub published_walks : (f g h k : Face) (n i found at : ℕ) (t : List ℕ) (d : ℕ) (drafted : Bool) → Looks f g i found → found ≤ 0 → Walks f t d drafted → f.accounts ≡ n → i ≡ further n t d → Drafts g h (words_of 8 t)
+pub published_walks : (f g h k : Face) (n i found at : ℕ) (t : List ℕ) (d : ℕ) (drafted : Bool) → Looks f g i found → found ≤ 0 → Walks f t d drafted → f.accounts ≡ n → i ≡ further n t d → Drafts g h (words_to_end t)
     → Publishes h k i at → at ≡ 0 → Gives f k t d Made
 published_walks f g h k n i found at t d drafted looks none walks accounts way drafts publishes free_yet =
     let free = looked_free f g n i found t d drafted looks none walks accounts way in
-    let at_f : Drafts f h (words_of 8 t) = subst (λ (x : Face). Drafts x h (words_of 8 t)) free.same drafts in
+    let at_f : Drafts f h (words_to_end t) = subst (λ (x : Face). Drafts x h (words_to_end t)) free.same drafts in
     let now = published_now h k i at publishes free_yet in
     made f h k t d drafted walks free.new at_f now.0 now.1
 
 -- as few buckets were passed as there are entries
-pub looked_few : (f g : Face) (n i found : ℕ) (t : List ℕ) (d : ℕ) (drafted : Bool) → Looks f g i found → Walks f t d drafted → f.accounts ≡ n → d ≤ buckets_each * n → d ≤ most_names * n
+pub looked_few : (f g : Face) (n i found : ℕ) (t : List ℕ) (d : ℕ) (drafted : Bool) → Looks f g i found → Walks f t d drafted → f.accounts ≡ n → d ≤ BUCKETS_EACH * n → d ≤ MOST_NAMES * n
 looked_few f g n i found t d drafted looks walks accounts within =
-    subst (λ m. d ≤ most_names * m) accounts (looks.few t d (subst (λ m. d ≤ buckets_each * m) (sym accounts) within) walks.passed)
+    subst (λ m. d ≤ MOST_NAMES * m) accounts (looks.few t d (subst (λ m. d ≤ BUCKETS_EACH * m) (sym accounts) within) walks.passed)
 
 -- a step further on the way
 pub further_on : (a b c : Me (Unit {0}) View) (t : List ℕ) (d : ℕ) (drafted still : Bool) → Steps a b (λ f g. OnTheWay f g t d drafted) → Steps b c (λ f g. GoesOn f g t (d + 1) still) → Steps a c (λ f g. OnTheWay f g t (d + 1) still)
@@ -302,25 +302,25 @@ pub text_is_name : (ks : List Known) (n : ℕ) (t : List ℕ) → AreNames ks �
 text_is_name ks n t names none e = names.texts t n (names.forth t n (rw none e))
 
 -- words of a name are held by themselves
-pub held_words : (ws t : List ℕ) → IsTrue (is_text t) → ws ≡ words_of 8 t → (ws ≡ words_of 8 (bytes_of ws)) × (bytes_of ws ≡ t)
+pub held_words : (ws t : List ℕ) → IsTrue (is_text t) → ws ≡ words_of name_words t → (ws ≡ words_of name_words (bytes_of ws)) × (bytes_of ws ≡ t)
 held_words ws t name e =
     let text : bytes_of ws ≡ t = ap bytes_of e ∙ words_hold t name in
-    (e ∙ ap (words_of 8) (sym text), text)
+    (e ∙ ap (words_of name_words) (sym text), text)
 
 -- the words that were read of a known number are its name's
 pub record ReadName (views : List View) (n : ℕ) (ws : List ℕ) : Type 0 where
-  pub held : ws ≡ words_of 8 (bytes_of ws)
+  pub held : ws ≡ words_of name_words (bytes_of ws)
   pub name : IsTrue (is_text (bytes_of ws))
   pub text : text_by (face_in views).knows n ≡ Some (bytes_of ws)
 
 pub read_name : (views taken : List View) (v : View) (n e : ℕ) (ws : List ℕ) → taken ≡ views → taken ≡ v ∷ [] → IsSome (text_by (face_in views).knows n) → built_in_at n ≡ None → Listed (face_in views).accounts (face_in views).knows
-    → e ≡ n - first_number → ((t : List ℕ) → text_in (own v).knows (first_number + e) ≡ Some t → ws ≡ words_of 8 t) → ReadName views n ws
+    → e ≡ n - FIRST_NUMBER → ((t : List ℕ) → text_in (own v).knows (FIRST_NUMBER + e) ≡ Some t → ws ≡ words_of name_words t) → ReadName views n ws
 read_name views taken v n e ws was one known none listed place read =
     let found = known_text (face_in views).knows n known none in
     let face : face_in views ≡ own v = ap face_in (sym was ∙ one) in
-    let from : first_number ≤ n = (listed.entries found.0 n found.1).0 in
-    let number : n ≡ first_number + e = omega arith in
-    let here : text_in (own v).knows (first_number + e) ≡ Some found.0 = subst (λ (f : Face). text_in f.knows (first_number + e) ≡ Some found.0) face (subst (λ m. text_in (face_in views).knows m ≡ Some found.0) number found.1) in
+    let from : FIRST_NUMBER ≤ n = (listed.entries found.0 n found.1).0 in
+    let number : n ≡ FIRST_NUMBER + e = omega arith in
+    let here : text_in (own v).knows (FIRST_NUMBER + e) ≡ Some found.0 = subst (λ (f : Face). text_in f.knows (FIRST_NUMBER + e) ≡ Some found.0) face (subst (λ m. text_in (face_in views).knows m ≡ Some found.0) number found.1) in
     let name = text_is_name (face_in views).knows n found.0 listed.names none found.1 in
     let held = held_words ws found.0 name (read found.0 here) in
     record {

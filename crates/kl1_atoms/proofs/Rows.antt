@@ -4,7 +4,7 @@ use Rattle.std.proofs.lemmas.Bool.{cases_eq}
 use Rattle.std.proofs.lemmas.List.{length-set}
 use Rattle.std.proofs.lemmas.Option.{slice_get_within}
 use Rattle.std.proofs.Math.ListN.{length-append}
-use Rattle.kl1_model.specs.Limits.{first_number, most_names}
+use Rattle.kl1_model.specs.declared.limits.TheConstants.{FIRST_NUMBER, MOST_NAMES}
 use Rattle.kl1_model.specs.Text.{is_text}
 use Rattle.kl1_text.specs.BuiltIns.{built_in_of}
 use Rattle.kl1_atoms.specs.declared.known.Known.{Known}
@@ -54,7 +54,7 @@ free_holds_nothing : (o : Option (Option (List ℕ))) (t : List ℕ) → o ≡ S
 free_holds_nothing o t p q = let e : Some None ≡ Some (Some t) = sym p ∙ q in cc
 
 -- seats of a table whose places are all free
-pub new_seat : (places : List (Option (List ℕ))) (accounts k : ℕ) → length places ≡ most_names * accounts → ((i : ℕ) → i < most_names * accounts → slice_get places i ≡ Some None) → k < accounts → IsSeatOf places k 0 []
+pub new_seat : (places : List (Option (List ℕ))) (accounts k : ℕ) → length places ≡ MOST_NAMES * accounts → ((i : ℕ) → i < MOST_NAMES * accounts → slice_get places i ≡ Some None) → k < accounts → IsSeatOf places k 0 []
 new_seat places accounts k size free within = record {
   table = record {
     names = λ t n at. absurd (nothing t n at);
@@ -65,26 +65,26 @@ new_seat places accounts k size free within = record {
   };
   row = omega arith;
   used_up = omega arith;
-  free = λ j low high. free (most_names * k + j) (omega arith);
+  free = λ j low high. free (MOST_NAMES * k + j) (omega arith);
   there = record { by_text = λ t n e. cc; by_number = λ t n e. cc };
 } where
   nothing : (t : List ℕ) (n : ℕ) → StandsAt places n t → ⊥
   nothing t n at =
-      let inside : n - first_number < length places = slice_get_within places (n - first_number) (Some t) at.1 in
-      free_holds_nothing (slice_get places (n - first_number)) t (free (n - first_number) (omega arith)) at.1
+      let inside : n - FIRST_NUMBER < length places = slice_get_within places (n - FIRST_NUMBER) (Some t) at.1 in
+      free_holds_nothing (slice_get places (n - FIRST_NUMBER)) t (free (n - FIRST_NUMBER) (omega arith)) at.1
 
 -- what stands in a row after a write to a free place: what stood there, or the text written
 module _ (places : List (Option (List ℕ))) (place : ℕ) (t : List ℕ) (free : slice_get places place ≡ Some None) where
   stood : (u : List ℕ) (n : ℕ) → StandsAt places n u → StandsAt (slice_set places place (Some t)) n u
-  stood u n at = (at.0, set_other places place (n - first_number) (Some t) (λ e. free_holds_nothing (slice_get places place) u free (subst (λ i. slice_get places i ≡ Some (Some u)) e at.1)) ∙ at.1)
+  stood u n at = (at.0, set_other places place (n - FIRST_NUMBER) (Some t) (λ e. free_holds_nothing (slice_get places place) u free (subst (λ i. slice_get places i ≡ Some (Some u)) e at.1)) ∙ at.1)
 
-  stands : (u : List ℕ) (n : ℕ) → StandsAt (slice_set places place (Some t)) n u → StandsAt places n u ⊎ ((n - first_number ≡ place) × (t ≡ u) × (first_number ≤ n))
+  stands : (u : List ℕ) (n : ℕ) → StandsAt (slice_set places place (Some t)) n u → StandsAt places n u ⊎ ((n - FIRST_NUMBER ≡ place) × (t ≡ u) × (FIRST_NUMBER ≤ n))
   stands u n at =
-      elim (cases_eq (n - first_number) place) [
+      elim (cases_eq (n - FIRST_NUMBER) place) [
         | inl same ↦
-            let here : slice_get (slice_set places place (Some t)) (n - first_number) ≡ Some (Some t) = rw same (set_same places place (Some t) (slice_get_within places place None free)) in
-            inr (same, one_held (slice_get (slice_set places place (Some t)) (n - first_number)) t u here at.1, at.0)
-        | inr other ↦ inl (at.0, sym (set_other places place (n - first_number) (Some t) other) ∙ at.1)
+            let here : slice_get (slice_set places place (Some t)) (n - FIRST_NUMBER) ≡ Some (Some t) = rw same (set_same places place (Some t) (slice_get_within places place None free)) in
+            inr (same, one_held (slice_get (slice_set places place (Some t)) (n - FIRST_NUMBER)) t u here at.1, at.0)
+        | inr other ↦ inl (at.0, sym (set_other places place (n - FIRST_NUMBER) (Some t) other) ∙ at.1)
       ]
 
   module _ (name : IsTrue (is_text t)) (own : built_in_of t ≡ None) (new : (i : ℕ) → slice_get places i ≢ Some (Some t)) (table : IsTable (StandsAt places)) where
@@ -94,14 +94,14 @@ module _ (places : List (Option (List ℕ))) (place : ℕ) (t : List ℕ) (free 
       names = λ u n at. elim (stands u n at) [ inl was ↦ table.names u n was | inr is ↦ subst (λ v. IsTrue (is_text v)) is.1 name ];
       not_built_in = λ u n at. elim (stands u n at) [ inl was ↦ table.not_built_in u n was | inr is ↦ subst (λ v. built_in_of v ≡ None) is.1 own ];
       from_64 = λ u n at. at.0;
-      one_text = λ u v n at by. one_held (slice_get (slice_set places place (Some t)) (n - first_number)) u v at.1 by.1;
+      one_text = λ u v n at by. one_held (slice_get (slice_set places place (Some t)) (n - FIRST_NUMBER)) u v at.1 by.1;
       one_number = λ u m n at by. elim (stands u m at) [
         | inl was ↦ elim (stands u n by) [
           | inl were ↦ table.one_number u m n was were
-          | inr is ↦ absurd (new (m - first_number) (rw is.1 was.1))
+          | inr is ↦ absurd (new (m - FIRST_NUMBER) (rw is.1 was.1))
         ]
         | inr is ↦ elim (stands u n by) [
-          | inl were ↦ absurd (new (n - first_number) (rw is.1 were.1))
+          | inl were ↦ absurd (new (n - FIRST_NUMBER) (rw is.1 were.1))
           | inr are ↦ omega arith
         ]
       ];
@@ -112,20 +112,20 @@ longer : (ks : List Known) (k : Known) → length (ks ++ k ∷ []) ≡ length ks
 longer ks k = simp length-append
 
 -- the seat of a look-up, after it
-pub seat_after : (old new : List (Option (List ℕ))) (account used_old used_new place : ℕ) (t : List ℕ) (k : Known) (known : List Known) → IsSeatOf old account used_old known → length known < most_names
-    → IsTrue (is_text t) → built_in_of t ≡ None → Held old new account used_old used_new place t → k.text ≡ t → k.number.number ≡ first_number + place → IsSeatOf new account used_new (known ++ k ∷ [])
+pub seat_after : (old new : List (Option (List ℕ))) (account used_old used_new place : ℕ) (t : List ℕ) (k : Known) (known : List Known) → IsSeatOf old account used_old known → length known < MOST_NAMES
+    → IsTrue (is_text t) → built_in_of t ≡ None → Held old new account used_old used_new place t → k.text ≡ t → k.number.number ≡ FIRST_NUMBER + place → IsSeatOf new account used_new (known ++ k ∷ [])
 seat_after old new account used_old used_new place t k known seat few name own held text number =
     let here : StandsAt new k.number.number k.text =
-    (omega arith, rw text (subst (λ i. slice_get new i ≡ Some (Some t)) (let i : place ≡ k.number.number - first_number = omega arith in i) held.there))
+    (omega arith, rw text (subst (λ i. slice_get new i ≡ Some (Some t)) (let i : place ≡ k.number.number - FIRST_NUMBER = omega arith in i) held.there))
     in
     elim held.change [
       | inl same ↦
           let e : old ≡ new = sym same.0 in
           record {
             table = subst (λ ps. IsTable (StandsAt ps)) e seat.table;
-            row = subst (λ ps. most_names * account + most_names ≤ length ps) e seat.row;
+            row = subst (λ ps. MOST_NAMES * account + MOST_NAMES ≤ length ps) e seat.row;
             used_up = rw longer (let u = seat.used_up in let s = same.1 in omega arith);
-            free = λ j low high. subst (λ ps. slice_get ps (most_names * account + j) ≡ Some None) e (seat.free j (let s = same.1 in omega arith) high);
+            free = λ j low high. subst (λ ps. slice_get ps (MOST_NAMES * account + j) ≡ Some None) e (seat.free j (let s = same.1 in omega arith) high);
             there = stand_more (StandsAt new) known k (subst (λ ps. StandIn (StandsAt ps) known) e seat.there) here;
           }
       | inr put ↦
@@ -133,11 +133,11 @@ seat_after old new account used_old used_new place t k known seat few name own h
           let e : slice_set old place (Some t) ≡ new = sym put.2 in
           record {
             table = subst (λ ps. IsTable (StandsAt ps)) e (written old place t free name own put.3 seat.table);
-            row = subst (λ ps. most_names * account + most_names ≤ length ps) e (rw length-set seat.row);
+            row = subst (λ ps. MOST_NAMES * account + MOST_NAMES ≤ length ps) e (rw length-set seat.row);
             used_up = rw longer (let u = seat.used_up in let s = put.1 in omega arith);
             free = λ j low high.
-                let other : most_names * account + j ≡ place → ⊥ = λ is. let p = put.0 in let s = put.1 in absurd (omega arith) in
-                subst (λ ps. slice_get ps (most_names * account + j) ≡ Some None) e (set_other old place (most_names * account + j) (Some t) other ∙ seat.free j (let s = put.1 in omega arith) high);
+                let other : MOST_NAMES * account + j ≡ place → ⊥ = λ is. let p = put.0 in let s = put.1 in absurd (omega arith) in
+                subst (λ ps. slice_get ps (MOST_NAMES * account + j) ≡ Some None) e (set_other old place (MOST_NAMES * account + j) (Some t) other ∙ seat.free j (let s = put.1 in omega arith) high);
             there = stand_more (StandsAt new) known k (subst (λ ps. StandIn (StandsAt ps) known) e (stand_on (StandsAt old) (StandsAt (slice_set old place (Some t))) known (stood old place t free) seat.there)) here;
           }
     ]
@@ -151,7 +151,7 @@ held_publishes old new account used_old used_new place t known k held =
     ]
 
 -- another account's seat, after it
-pub other_seat_after : (old new : List (Option (List ℕ))) (account used_old used_new place : ℕ) (t : List ℕ) (known : List Known) → IsSeatOf old account used_old known → length known < most_names
+pub other_seat_after : (old new : List (Option (List ℕ))) (account used_old used_new place : ℕ) (t : List ℕ) (known : List Known) → IsSeatOf old account used_old known → length known < MOST_NAMES
     → IsTrue (is_text t) → built_in_of t ≡ None → Held old new account used_old used_new place t
     → (other used : ℕ) (others : List Known) → other ≢ account → IsSeatOf old other used others → IsSeatOf new other used others
 other_seat_after old new account used_old used_new place t known seat few name own held other used others differ its =
@@ -159,15 +159,15 @@ other_seat_after old new account used_old used_new place t known seat few name o
       | inl same ↦ subst (λ ps. IsSeatOf ps other used others) (sym same.0) its
       | inr put ↦
           let free : slice_get old place ≡ Some None = rw put.0 (seat.free used_old (omega arith) (let u = seat.used_up in omega arith)) in
-          let in_row : used_old < most_names = (let u = seat.used_up in omega arith) in
+          let in_row : used_old < MOST_NAMES = (let u = seat.used_up in omega arith) in
           subst (λ ps. IsSeatOf ps other used others) (sym put.2)
           (let after : IsSeatOf (slice_set old place (Some t)) other used others = record {
             table = written old place t free name own put.3 seat.table;
             row = rw length-set its.row;
             used_up = its.used_up;
             free = λ j low high.
-                let apart : most_names * other + j ≡ place → ⊥ = λ is. let p = put.0 in differ (omega arith) in
-                set_other old place (most_names * other + j) (Some t) apart ∙ its.free j low high;
+                let apart : MOST_NAMES * other + j ≡ place → ⊥ = λ is. let p = put.0 in differ (omega arith) in
+                set_other old place (MOST_NAMES * other + j) (Some t) apart ∙ its.free j low high;
             there = stand_on (StandsAt old) (StandsAt (slice_set old place (Some t))) others (stood old place t free) its.there;
           } in after)
     ]

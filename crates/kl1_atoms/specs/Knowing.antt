@@ -4,7 +4,7 @@ use Rattle.std.proofs.lemmas.Bool.{cases_Bool, cases_eq, false≢true, eqb-true,
 use Rattle.std.proofs.lemmas.Option.{slice_get_past}
 use Rattle.std.proofs.Math.ListN.{length-append}
 use Rattle.std.proofs.lemmas.Slice.Eq.{bytes_eq-Decides}
-use Rattle.kl1_model.specs.Limits.{first_number}
+use Rattle.kl1_model.specs.declared.limits.TheConstants.{FIRST_NUMBER, MOST_NAME_BYTES}
 use Rattle.kl1_model.specs.Text.{is_text, text_of, built_ins, is_name_byte}
 use Rattle.kl1_text.specs.declared.atom_no.AtomNo.{AtomNo}
 use Rattle.kl1_text.specs.BuiltIns.{place_of, built_in_at, built_in_of}
@@ -73,7 +73,7 @@ option_cases None = inl refl
 option_cases (Some x) = inr (x, refl)
 
 -- no built-in name stands from 64 on
-none_from_64 : (n : ℕ) → first_number ≤ n → built_in_at n ≡ None
+none_from_64 : (n : ℕ) → FIRST_NUMBER ≤ n → built_in_at n ≡ None
 none_from_64 n h = slice_get_past built_ins n (omega arith)
 
 -- what stands in a table is one to one
@@ -137,7 +137,7 @@ adds_one ks t a none new = record { known = rw (none, new) refl; number = rw non
 -- a text is no mark
 no_mark : (mark n : ℕ) (t : List ℕ) → mark < 32 → IsTrue (is_text t) → t ≡ mark ∷ n ∷ [] → ⊥
 no_mark mark n t low name e =
-    let all = (and_parts (nat_le (length t) 63) (list_all is_name_byte t) name).1 in
+    let all = (and_parts (nat_le (length t) MOST_NAME_BYTES) (list_all is_name_byte t) name).1 in
     let byte = (and_parts (is_name_byte mark) (list_all is_name_byte (n ∷ [])) (rw e at all)).0 in
     let bounds = name_byte_bounds mark byte in
     absurd (omega arith)

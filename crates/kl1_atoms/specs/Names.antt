@@ -1,6 +1,6 @@
 -- What a seat knows: names that aren't built in, each with its number, in the order of their first use.
 use Rattle.std.specs.Prelude.{◌≡◌, ℕ, ◌+◌, ◌<◌, ◌≤◌, ◌==◌, ◌⊎◌, if◌then◌else◌, List, [], ◌∷◌, ◌++◌, length, Option, Some, None, IsTrue, IsSome, is_some, bytes_eq}
-use Rattle.kl1_model.specs.Limits.{first_number, most_names}
+use Rattle.kl1_model.specs.declared.limits.TheConstants.{FIRST_NUMBER, MOST_NAMES}
 use Rattle.kl1_model.specs.declared.built_in.BuiltIn.{BuiltIn}
 use Rattle.kl1_model.specs.Text.{is_text, text_of}
 use Rattle.kl1_text.specs.declared.atom_no.AtomNo.{AtomNo}
@@ -37,7 +37,7 @@ text_by ks n = text_or (text_in ks n) (built_in_at n)
 
 -- a text may be looked up: it is known, or there is room for one more
 abbrev pub HasRoom : List Known → List ℕ → Type 0
-HasRoom ks t = IsSome (number_by ks t) ⊎ (length ks < most_names)
+HasRoom ks t = IsSome (number_by ks t) ⊎ (length ks < MOST_NAMES)
 
 -- what is known after a look-up: what was, and after it the pair asked for if it is new
 abbrev pub added : List Known → List ℕ → AtomNo → List Known
@@ -77,6 +77,6 @@ pub record StandIn (at : ℕ → List ℕ → Type 0) (ks : List Known) : Type 0
 pub record IsTable (at : ℕ → List ℕ → Type 0) : Type 0 where
   pub names : (t : List ℕ) (n : ℕ) → at n t → IsTrue (is_text t)
   pub not_built_in : (t : List ℕ) (n : ℕ) → at n t → built_in_of t ≡ None
-  pub from_64 : (t : List ℕ) (n : ℕ) → at n t → first_number ≤ n
+  pub from_64 : (t : List ℕ) (n : ℕ) → at n t → FIRST_NUMBER ≤ n
   pub one_text : (t u : List ℕ) (n : ℕ) → at n t → at n u → t ≡ u
   pub one_number : (t : List ℕ) (m n : ℕ) → at m t → at n t → m ≡ n

@@ -1,9 +1,9 @@
 -- What each step on the shared table tells the seat that takes it.
-use Rattle.std.specs.Prelude.{◌≡◌, ◌≢◌, ℕ, suc, ◌+◌, ◌*◌, ◌<◌, ◌≤◌, ◌⊎◌, Bool, true, false, List, [], ◌∷◌, ◌++◌, Some, None, IsTrue, slice_index}
-use Rattle.kl1_model.specs.Limits.{buckets_each, first_number, most_names}
+use Rattle.std.specs.Prelude.{◌≡◌, ◌≢◌, ℕ, suc, ◌+◌, ◌*◌, ◌<◌, ◌≤◌, ◌⊎◌, Bool, true, false, List, [], ◌∷◌, ◌++◌, Some, None, IsTrue}
+use Rattle.kl1_model.specs.declared.limits.TheConstants.{BUCKETS_EACH, FIRST_NUMBER, MOST_NAMES}
 use Rattle.kl1_model.specs.Text.{is_text}
 use Rattle.kl1_text.specs.BuiltIns.{built_in_of}
-use Rattle.kl1_text.specs.Words.{words_of, bytes_of}
+use Rattle.kl1_text.specs.Words.{bytes_of, word_at, word_count, words_to_end}
 use Rattle.atomic_table.specs.Table.{Step, Me}
 use Rattle.kl1_atoms.specs.declared.known.Known.{Known}
 use Rattle.kl1_atoms.specs.declared.face.Face.{Face}
@@ -56,13 +56,13 @@ heard_more f h = record { accounts = f.accounts; account = f.account; used = f.u
 
 -- a bucket that isn't free was seen: it points to an entry with a text
 abbrev pub Sees : Face → Face → ℕ → ℕ → Type 0
-Sees f g i found = (h : Heard) × (found ≡ suc h.entry) × (h.bucket ≡ i) × (h.entry < most_names * f.accounts) × IsTrue (is_text h.text) × (g ≡ heard_more f h)
+Sees f g i found = (h : Heard) × (found ≡ suc h.entry) × (h.bucket ≡ i) × (h.entry < MOST_NAMES * f.accounts) × IsTrue (is_text h.text) × (g ≡ heard_more f h)
 
 -- a look at a bucket: what is known is one to one, no more buckets were passed than there are entries, a free bucket at the end of
 -- a text's way shows that the text isn't known, and another bucket is seen
 pub record Looks (f g : Face) (i found : ℕ) : Type 0 where
   pub names : Listed f.accounts f.knows
-  pub few : (t : List ℕ) (d : ℕ) → d ≤ buckets_each * f.accounts → Passed f t d → d ≤ most_names * f.accounts
+  pub few : (t : List ℕ) (d : ℕ) → d ≤ BUCKETS_EACH * f.accounts → Passed f t d → d ≤ MOST_NAMES * f.accounts
   pub unknown : found ≡ 0 → (t : List ℕ) (d : ℕ) → i ≡ further f.accounts t d → Passed f t d → number_in f.knows t ≡ None
   pub change : ((found ≡ 0) × (g ≡ f)) ⊎ Sees f g i found
 
@@ -86,10 +86,12 @@ pub record Meets (f : Face) (fs : List Face) (i found : ℕ) : Type 0 where
   pub agree : EachAgrees f.knows fs
   pub unknown : found ≡ 0 → (t : List ℕ) (d : ℕ) → i ≡ further f.accounts t d → Passed f t d → NoneKnows fs t
 
--- a read of a word: of an entry that was seen, it is the text's word, and likewise of an entry whose name is known
+-- a read of a word: of an entry that was seen, it is the text's word, if the text goes so far, and likewise of an entry whose name is
+-- known; what is known is a name
 pub record Reads (f : Face) (place found : ℕ) : Type 0 where
-  pub seen : (h : Heard) (k : ℕ) → In f.heard h → k < 8 → place ≡ word_place f.accounts h.entry k → found ≡ slice_index (words_of 8 h.text) k
-  pub known : (t : List ℕ) (e k : ℕ) → text_in f.knows (first_number + e) ≡ Some t → k < 8 → place ≡ word_place f.accounts e k → found ≡ slice_index (words_of 8 t) k
+  pub seen : (h : Heard) (k : ℕ) → In f.heard h → k < word_count h.text → place ≡ word_place f.accounts h.entry k → found ≡ word_at h.text k
+  pub known : (t : List ℕ) (e k : ℕ) → text_in f.knows (FIRST_NUMBER + e) ≡ Some t → k < word_count t → place ≡ word_place f.accounts e k → found ≡ word_at t k
+  pub names : (t : List ℕ) (e : ℕ) → text_in f.knows (FIRST_NUMBER + e) ≡ Some t → IsTrue (is_text t)
 
 -- a face that has drafted one more word
 abbrev pub drafted_more : Face → ℕ → Face
@@ -97,15 +99,15 @@ drafted_more f w = record { accounts = f.accounts; account = f.account; used = f
 
 -- the pair that a face publishes: its draft and its entry's number
 abbrev pub own_pair : Face → Known
-own_pair f = record { text = bytes_of f.draft; number = record { number = first_number + own_entry f } }
+own_pair f = record { text = bytes_of f.draft; number = record { number = FIRST_NUMBER + own_entry f } }
 
--- a face may publish its draft, the words of a text, in a bucket of the text's way: all before it were passed
+-- a face may publish its draft, the words of a text up to its end, in a bucket of the text's way: all before it were passed
 pub record IsReady (f : Face) (t : List ℕ) (d i : ℕ) : Type 0 where
-  pub room : f.used < most_names
-  pub bucket : i < buckets_each * f.accounts
+  pub room : f.used < MOST_NAMES
+  pub bucket : i < BUCKETS_EACH * f.accounts
   pub way : i ≡ further f.accounts t d
   pub passed : Passed f t d
-  pub draft : f.draft ≡ words_of 8 t
+  pub draft : f.draft ≡ words_to_end t
   pub name : IsTrue (is_text t)
   pub other : built_in_of t ≡ None
 
@@ -119,13 +121,13 @@ Publishes f g i found = ((found ≡ 0) × (g ≡ published_by f) × Listed g.acc
 
 -- a face that knows one text more, by the number of the entry where it was seen
 abbrev pub learned : Face → Heard → Face
-learned f h = record { accounts = f.accounts; account = f.account; used = f.used; knows = added f.knows h.text record { number = first_number + h.entry }; heard = []; draft = [] }
+learned f h = record { accounts = f.accounts; account = f.account; used = f.used; knows = added f.knows h.text record { number = FIRST_NUMBER + h.entry }; heard = []; draft = [] }
 
 -- a look at a bucket that was seen: the seat knows its text from then on
 pub record Learns (f g : Face) (i : ℕ) : Type 0 where
   pub names : Listed g.accounts g.knows
   pub change : (h : Heard) → In f.heard h → h.bucket ≡ i → g ≡ learned f h
-  pub number : (h : Heard) → In f.heard h → h.bucket ≡ i → number_by g.knows h.text ≡ Some (first_number + h.entry)
+  pub number : (h : Heard) → In f.heard h → h.bucket ≡ i → number_by g.knows h.text ≡ Some (FIRST_NUMBER + h.entry)
 
 -- a step that changes a seat's own face alone, and takes no slot
 pub record Steps {S : Type 0} (before after : Me S View) (P : Face → Face → Type 0) : Type 0 where

@@ -1,9 +1,9 @@
 -- What a look-up does to a seat's own face, bucket by bucket.
 use Rattle.std.specs.Prelude.{◌≡◌, ℕ, ◌+◌, ◌*◌, ◌<◌, ◌≤◌, Bool, true, if◌then◌else◌, List, [], length, IsTrue, None}
-use Rattle.kl1_model.specs.Limits.{first_number, most_names}
+use Rattle.kl1_model.specs.declared.limits.TheConstants.{FIRST_NUMBER, MOST_NAMES}
 use Rattle.kl1_model.specs.Text.{is_text}
 use Rattle.kl1_text.specs.BuiltIns.{built_in_of}
-use Rattle.kl1_text.specs.Words.{words_of}
+use Rattle.kl1_text.specs.Words.{words_to_end}
 use Rattle.kl1_atoms.specs.declared.face.Face.{Face}
 use Rattle.kl1_atoms.specs.declared.round.Round.{Round}
 use Rattle.kl1_atoms.specs.declared.round.Round.TheVariants.{Found, Made, Other}
@@ -13,7 +13,7 @@ use Rattle.kl1_atoms.specs.Plays.{Passed}
 
 -- the words that are drafted, if any are
 abbrev pub draft_of : Bool → List ℕ → List ℕ
-draft_of drafted t = if drafted then words_of 8 t else []
+draft_of drafted t = if drafted then words_to_end t else []
 
 -- a face at the start of a look-up of a text
 pub record Starts (f : Face) (t : List ℕ) : Type 0 where
@@ -31,7 +31,7 @@ pub record Walks (f : Face) (t : List ℕ) (d : ℕ) (drafted : Bool) : Type 0 w
   pub used_up : f.used ≤ length f.knows
   pub passed : Passed f t d
   pub draft : f.draft ≡ draft_of drafted t
-  pub drafted_room : drafted ≡ true → f.used < most_names
+  pub drafted_room : drafted ≡ true → f.used < MOST_NAMES
 
 -- two faces are of one account
 pub record SameAccount (f g : Face) : Type 0 where
@@ -61,7 +61,7 @@ pub record GoesOn (f g : Face) (t : List ℕ) (d : ℕ) (drafted : Bool) : Type 
   pub used : g.used ≡ f.used
   pub knows : g.knows ≡ f.knows
   pub walks : Walks g t d drafted
-  pub few : d ≤ most_names * f.accounts + 1
+  pub few : d ≤ MOST_NAMES * f.accounts + 1
 
 -- a look-up under way: the same account, which knows what it knew
 pub record OnTheWay (f g : Face) (t : List ℕ) (d : ℕ) (drafted : Bool) : Type 0 where
@@ -72,12 +72,12 @@ pub record OnTheWay (f g : Face) (t : List ℕ) (d : ℕ) (drafted : Bool) : Typ
 
 -- what a comparison gives
 abbrev pub Compares : Face → Face → List ℕ → ℕ → Bool → Round → Type 0
-Compares f g t d drafted (Found e) = Ends f g t (first_number + e) × (g.used ≡ f.used) × (e < most_names * f.accounts)
+Compares f g t d drafted (Found e) = Ends f g t (FIRST_NUMBER + e) × (g.used ≡ f.used) × (e < MOST_NAMES * f.accounts)
 Compares f g t d drafted Made = ⊥
 Compares f g t d drafted (Other still) = GoesOn f g t (d + 1) drafted × (still ≡ drafted)
 
 -- what a bucket gives
 abbrev pub Gives : Face → Face → List ℕ → ℕ → Round → Type 0
-Gives f g t d (Found e) = Ends f g t (first_number + e) × (g.used ≡ f.used) × (e < most_names * f.accounts)
-Gives f g t d Made = Ends f g t (first_number + own_entry f) × (g.used ≡ f.used + 1) × (f.used < most_names)
+Gives f g t d (Found e) = Ends f g t (FIRST_NUMBER + e) × (g.used ≡ f.used) × (e < MOST_NAMES * f.accounts)
+Gives f g t d Made = Ends f g t (FIRST_NUMBER + own_entry f) × (g.used ≡ f.used + 1) × (f.used < MOST_NAMES)
 Gives f g t d (Other drafted) = GoesOn f g t (d + 1) drafted

@@ -1,11 +1,11 @@
--- The rule of the shared table of names, for n accounts: n times `buckets_each` buckets, and n times `most_names` entries of eight words after them.
+-- The rule of the shared table of names, for n accounts: n times `BUCKETS_EACH` buckets, and n times `MOST_NAMES` entries of `name_words` words after them.
 use Rattle.std.specs.Prelude.{◌≡◌, ◌≢◌, ℕ, suc, ◌+◌, ◌*◌, ◌<◌, ◌≤◌, List, [], ◌∷◌, length, Some, None, IsTrue, slice_index}
 use mathlib.Core.Option.{some}
 use lib.ListN.{get_elem?}
-use Rattle.kl1_model.specs.Limits.{buckets_each, first_number, most_names}
+use Rattle.kl1_model.specs.declared.limits.TheConstants.{BUCKETS_EACH, FIRST_NUMBER, MOST_NAMES}
 use Rattle.kl1_model.specs.Text.{is_text}
 use Rattle.kl1_text.specs.BuiltIns.{built_in_of}
-use Rattle.kl1_text.specs.Words.{words_of}
+use Rattle.kl1_text.specs.Words.{name_words, word_at, word_count}
 use Rattle.atomic_table.specs.Table.{State}
 use Rattle.kl1_atoms.specs.declared.face.Face.{Face}
 use Rattle.kl1_atoms.specs.declared.face.Heard.{Heard}
@@ -14,30 +14,30 @@ use Rattle.kl1_atoms.specs.declared.known.Known.{Known}
 use Rattle.kl1_atoms.specs.Names.{text_in, StandIn, AreNames}
 use Rattle.kl1_atoms.specs.Way.{further}
 
--- the words of the table for each account: its buckets, and eight words for each of its names
+-- the words of the table for each account: its buckets, and the words for each of its names
 abbrev pub words_each : ℕ
-words_each = buckets_each + 8 * most_names
+words_each = BUCKETS_EACH + name_words * MOST_NAMES
 
 -- the place of an entry's word
 abbrev pub word_place : ℕ → ℕ → ℕ → ℕ
-word_place n e k = buckets_each * n + 8 * e + k
+word_place n e k = BUCKETS_EACH * n + name_words * e + k
 
--- an entry's words are those of a text
+-- an entry's words are those of a text, up to the one in which it ends; whatever stands after that one isn't part of the text
 abbrev pub Shows : ℕ → List ℕ → ℕ → List ℕ → Type 0
-Shows n ws e t = (k : ℕ) → k < 8 → slice_index ws (word_place n e k) ≡ slice_index (words_of 8 t) k
+Shows n ws e t = (k : ℕ) → k < word_count t → slice_index ws (word_place n e k) ≡ word_at t k
 
 -- a bucket points to an entry, whose text is a name that isn't built in
 pub record Stands (n : ℕ) (ws : List ℕ) (i e : ℕ) (t : List ℕ) : Type 0 where
-  pub bucket : i < buckets_each * n
+  pub bucket : i < BUCKETS_EACH * n
   pub points : slice_index ws i ≡ suc e
-  pub entry : e < most_names * n
+  pub entry : e < MOST_NAMES * n
   pub shows : Shows n ws e t
   pub name : IsTrue (is_text t)
   pub own : built_in_of t ≡ None
 
 -- a number has a text if some bucket points to that entry, which has the text
 abbrev pub At : ℕ → List ℕ → ℕ → List ℕ → Type 0
-At n ws number t = (e : ℕ) × (i : ℕ) × (number ≡ first_number + e) × Stands n ws i e t
+At n ws number t = (e : ℕ) × (i : ℕ) × (number ≡ FIRST_NUMBER + e) × Stands n ws i e t
 
 -- each of the first d buckets of a text's way points to another text
 abbrev pub Others : ℕ → List ℕ → List ℕ → ℕ → Type 0
@@ -50,12 +50,12 @@ Reaches n ws t i = (d : ℕ) × (i ≡ further n t d) × Others n ws t d
 -- the words between any two steps
 pub record Sound (n : ℕ) (ws : List ℕ) : Type 0 where
   pub size : length ws ≡ words_each * n
-  pub stands : (i e : ℕ) → i < buckets_each * n → slice_index ws i ≡ suc e → (t : List ℕ) × Stands n ws i e t × Reaches n ws t i
-  pub once : (i j e : ℕ) → i < buckets_each * n → j < buckets_each * n → slice_index ws i ≡ suc e → slice_index ws j ≡ suc e → i ≡ j
+  pub stands : (i e : ℕ) → i < BUCKETS_EACH * n → slice_index ws i ≡ suc e → (t : List ℕ) × Stands n ws i e t × Reaches n ws t i
+  pub once : (i j e : ℕ) → i < BUCKETS_EACH * n → j < BUCKETS_EACH * n → slice_index ws i ≡ suc e → slice_index ws j ≡ suc e → i ≡ j
 
 -- no bucket points to an entry
 abbrev pub Unpublished : ℕ → List ℕ → ℕ → Type 0
-Unpublished n ws e = (i : ℕ) → i < buckets_each * n → slice_index ws i ≢ suc e
+Unpublished n ws e = (i : ℕ) → i < BUCKETS_EACH * n → slice_index ws i ≢ suc e
 
 -- each of some sightings is so
 abbrev pub AllStand : ℕ → List ℕ → List Heard → Type 0
@@ -64,17 +64,17 @@ AllStand n ws (h ∷ hs) = Stands n ws h.bucket h.entry h.text × AllStand n ws 
 
 -- the first entry of an account that it hasn't used
 abbrev pub own_entry : Face → ℕ
-own_entry f = most_names * f.account + f.used
+own_entry f = MOST_NAMES * f.account + f.used
 
 -- what an account knows is so
 pub record Fits (n : ℕ) (ws : List ℕ) (f : Face) : Type 0 where
   pub accounts : f.accounts ≡ n
   pub account : f.account < n
   pub used_up : f.used ≤ length f.knows
-  pub free : (j : ℕ) → f.used ≤ j → j < most_names → Unpublished n ws (most_names * f.account + j)
+  pub free : (j : ℕ) → f.used ≤ j → j < MOST_NAMES → Unpublished n ws (MOST_NAMES * f.account + j)
   pub known : StandIn (At n ws) f.knows
   pub heard : AllStand n ws f.heard
-  pub drafted : (k : ℕ) → k < length f.draft → (k < 8) × (f.used < most_names) × (slice_index ws (word_place n (own_entry f) k) ≡ slice_index f.draft k)
+  pub drafted : (k : ℕ) → k < length f.draft → (k < name_words) × (f.used < MOST_NAMES) × (slice_index ws (word_place n (own_entry f) k) ≡ slice_index f.draft k)
 
 -- a face is one of a seat's
 abbrev pub Mine : List View → ℕ → ℕ → Face → Type 0
@@ -83,7 +83,7 @@ Mine views id k f = (v : View) × (get_elem? views id ≡ some v) × (get_elem? 
 -- what an account knows is one to one, and each number is an entry's
 pub record Listed (n : ℕ) (ks : List Known) : Type 0 where
   pub names : AreNames ks
-  pub entries : (t : List ℕ) (m : ℕ) → text_in ks m ≡ Some t → (first_number ≤ m) × (m < first_number + most_names * n)
+  pub entries : (t : List ℕ) (m : ℕ) → text_in ks m ≡ Some t → (FIRST_NUMBER ≤ m) × (m < FIRST_NUMBER + MOST_NAMES * n)
 
 -- the rule: the words are sound, what each account knows is so, and each account has one face
 pub record Kept (n : ℕ) (s : State (Unit {0}) View) : Type 0 where

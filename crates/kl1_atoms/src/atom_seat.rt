@@ -1,7 +1,7 @@
 // What one account knows of the shared table.
 
 ghost use Rattle.std.specs.Prelude.{◌≡◌, ◌≤◌, [], length};
-ghost use Rattle.kl1_model.specs.Limits.{most_names};
+ghost use Rattle.kl1_model.specs.declared.limits.TheConstants.{MOST_NAMES};
 ghost use Rattle.kl1_atoms.specs.Rule.{Listed};
 ghost use Rattle.kl1_atoms.specs.Seats.{face_in, resting};
 
@@ -18,7 +18,7 @@ pub struct AtomSeat {
     pub ghost account_is: { (face_in badge.views).account ≡ account },
     pub ghost used_is: { (face_in badge.views).used ≡ used },
     pub ghost used_up: { used ≤ length (face_in badge.views).knows },
-    pub ghost bound: { used ≤ most_names },
+    pub ghost bound: { used ≤ MOST_NAMES },
     pub ghost draft: { (face_in badge.views).draft ≡ [] },
     pub ghost names: { Listed (face_in badge.views).accounts (face_in badge.views).knows },
 }

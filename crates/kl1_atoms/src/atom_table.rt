@@ -1,9 +1,9 @@
 // The table of names that threads share.
 
 ghost use Rattle.std.specs.Prelude.{◌≡◌, ℕ, suc, ◌+◌, ◌*◌, ◌<◌, ◌≤◌, List, [], IsTrue, length};
-ghost use Rattle.kl1_model.specs.Limits.{buckets_each, most_accounts, most_names};
+ghost use Rattle.kl1_model.specs.declared.limits.TheConstants.{BUCKETS_EACH, MOST_ACCOUNTS, MOST_NAMES};
 ghost use Rattle.kl1_atoms.specs.Rule.{words_each};
-ghost use Rattle.kl1_text.specs.Words.{words_of};
+ghost use Rattle.kl1_text.specs.Words.{name_words};
 ghost use Rattle.kl1_atoms.specs.declared.face.Heard.{Heard};
 ghost use Rattle.kl1_atoms.specs.Rule.{word_place, own_entry};
 ghost use Rattle.kl1_atoms.specs.Seats.{own_part, other_part, joint_view};
@@ -13,13 +13,17 @@ use crate::face::View;
 use crate::law::{Draft, Joined, Law, Learn, Look, Parted, Publish, Read};
 use atomic_table::{Seat, Table};
 use kl1_model::limits::{BUCKETS_EACH, MOST_NAMES};
+use kl1_text::WORDS;
 use std::alloc::Global;
 
 /// The names that one account adds at most, as table places are counted.
 pub(crate) const NAMES_EACH: u64 = MOST_NAMES as u64;
 
-/// The words of the table for each account: its buckets, and eight words for each of its names.
-pub(crate) const WORDS_EACH: usize = BUCKETS_EACH as usize + 8 * MOST_NAMES;
+/// The words of an entry, as table places are counted.
+const ENTRY_WORDS: u64 = WORDS as u64;
+
+/// The words of the table for each account: its buckets, and the words for each of its names.
+pub(crate) const WORDS_EACH: usize = BUCKETS_EACH as usize + WORDS * MOST_NAMES;
 
 /// A table of names for several accounts, in which many threads look names up at once, each with a seat of its own.
 #[derive(Drop)]
@@ -29,7 +33,7 @@ pub struct AtomTable {
     pub ghost key: { table.shared.key ≡ accounts },
     pub ghost size: { table.shared.table_id.words ≡ words_each * accounts },
     pub ghost some: { 0 < accounts },
-    pub ghost few: { accounts ≤ most_accounts },
+    pub ghost few: { accounts ≤ MOST_ACCOUNTS },
 }
 
 impl AtomTable {
@@ -37,7 +41,7 @@ impl AtomTable {
     pub(crate) fn look(&self, seat: &mut Seat<(), View>, bucket: u64) -> u64
         requires of { seat.old.table_id ≡ self.now.table.shared.table_id }
         requires first { IsTrue (has_first seat.old.me.0.faces) }
-        requires bucket { bucket < buckets_each * self.now.accounts }
+        requires bucket { bucket < BUCKETS_EACH * self.now.accounts }
         ensures of { seat.new.table_id ≡ seat.old.table_id }
         ensures tells { Steps seat.old.me seat.new.me (λ f g. Looks f g bucket result) }
         ensures meets { Meets (own seat.old.me.0) (others_of seat.old.me.0.faces) bucket result }
@@ -49,13 +53,13 @@ impl AtomTable {
     pub(crate) fn read(&self, seat: &mut Seat<(), View>, entry: u64, word: u64) -> u64
         requires of { seat.old.table_id ≡ self.now.table.shared.table_id }
         requires first { IsTrue (has_first seat.old.me.0.faces) }
-        requires entry { entry < most_names * self.now.accounts }
-        requires word { word < 8 }
+        requires entry { entry < MOST_NAMES * self.now.accounts }
+        requires word { word < name_words }
         ensures of { seat.new.table_id ≡ seat.old.table_id }
         ensures same { seat.new.me ≡ seat.old.me }
         ensures tells { Reads (own seat.old.me.0) (word_place self.now.accounts entry word) result }
     {
-        let place = BUCKETS_EACH * self.accounts + 8 * entry + word;
+        let place = BUCKETS_EACH * self.accounts + ENTRY_WORDS * entry + word;
         self.table.shared.load::<Read>(seat, place as usize)
     }
 
@@ -63,16 +67,16 @@ impl AtomTable {
     pub(crate) fn draft(&self, seat: &mut Seat<(), View>, entry: u64, word: u64, value: u64)
         requires of { seat.old.table_id ≡ self.now.table.shared.table_id }
         requires first { IsTrue (has_first seat.old.me.0.faces) }
-        requires room { (own seat.old.me.0).used < most_names }
+        requires room { (own seat.old.me.0).used < MOST_NAMES }
         requires next { word ≡ length (own seat.old.me.0).draft }
         requires entry { entry ≡ own_entry (own seat.old.me.0) }
-        requires bound { entry < most_names * self.now.accounts }
-        requires word { word < 8 }
+        requires bound { entry < MOST_NAMES * self.now.accounts }
+        requires word { word < name_words }
         requires accounts { (own seat.old.me.0).accounts ≡ self.now.accounts }
         ensures of { seat.new.table_id ≡ seat.old.table_id }
         ensures tells { Steps seat.old.me seat.new.me (λ f g. g ≡ drafted_more f value) }
     {
-        let place = BUCKETS_EACH * self.accounts + 8 * entry + word;
+        let place = BUCKETS_EACH * self.accounts + ENTRY_WORDS * entry + word;
         self.table
             .shared
             .store::<Draft>(seat, place as usize, value);
@@ -82,9 +86,9 @@ impl AtomTable {
     pub(crate) fn publish(&self, seat: &mut Seat<(), View>, bucket: u64, entry: u64) -> u64
         requires of { seat.old.table_id ≡ self.now.table.shared.table_id }
         requires first { IsTrue (has_first seat.old.me.0.faces) }
-        requires bucket { bucket < buckets_each * self.now.accounts }
+        requires bucket { bucket < BUCKETS_EACH * self.now.accounts }
         requires entry { entry ≡ own_entry (own seat.old.me.0) }
-        requires bound { entry < most_names * self.now.accounts }
+        requires bound { entry < MOST_NAMES * self.now.accounts }
         requires ready { (t : List ℕ) × (d : ℕ) × IsReady (own seat.old.me.0) t d bucket }
         ensures of { seat.new.table_id ≡ seat.old.table_id }
         ensures tells { Steps seat.old.me seat.new.me (λ f g. Publishes f g bucket result) }
@@ -98,7 +102,7 @@ impl AtomTable {
     pub(crate) fn learn(&self, seat: &mut Seat<(), View>, bucket: u64)
         requires of { seat.old.table_id ≡ self.now.table.shared.table_id }
         requires first { IsTrue (has_first seat.old.me.0.faces) }
-        requires bucket { bucket < buckets_each * self.now.accounts }
+        requires bucket { bucket < BUCKETS_EACH * self.now.accounts }
         requires seen { (h : Heard) × In (own seat.old.me.0).heard h × (h.bucket ≡ bucket) }
         ensures of { seat.new.table_id ≡ seat.old.table_id }
         ensures tells { Steps seat.old.me seat.new.me (λ f g. Learns f g bucket) }

@@ -1,9 +1,9 @@
 // Making the shared table, and its public look-ups.
 
 ghost use Rattle.std.specs.Prelude.{◌≡◌, ℕ, ◌+◌, ◌-◌, ◌*◌, ◌<◌, ◌≤◌, List, [], ◌∷◌, Some, IsSome, IsTrue, IfOk, slice_get, vec_len, length};
-ghost use Rattle.kl1_model.specs.Limits.{buckets_each, first_number, most_accounts, most_names};
+ghost use Rattle.kl1_model.specs.declared.limits.TheConstants.{BUCKETS_EACH, FIRST_NUMBER, MOST_ACCOUNTS, MOST_NAMES};
 ghost use Rattle.kl1_atoms.specs.Names.{text_in, text_by, HasRoom, Adds, PublishesWithin};
-ghost use Rattle.kl1_text.specs.Words.{words_of};
+ghost use Rattle.kl1_text.specs.Words.{name_words, words_of};
 ghost use Rattle.kl1_atoms.specs.Plays.{own, has_first};
 ghost use Rattle.kl1_atoms.specs.Seats.{all_faces, face_in, IsSharedSeat, IsNewSharedSeat, new_face, faces_from};
 ghost use Rattle.kl1_atoms.specs.declared.atom_seat.AtomSeat.{AtomSeat};
@@ -14,14 +14,14 @@ use crate::face::View;
 use crate::turns::Turns;
 use atomic_table::{Badge, Seat, Table};
 use kl1_model::limits::FIRST_NUMBER;
-use kl1_text::{AtomNo, AtomText, built_in_at};
+use kl1_text::{AtomNo, AtomText, FULL_WORD, WORDS, built_in_at};
 use std::alloc::{AllocError, Global};
 use std::mem;
 
 impl AtomTable {
-    /// A table for 1 to 16 accounts, and a seat for each of them that knows the built-in names alone.
+    /// A table for 1 to 32 accounts, and a seat for each of them that knows the built-in names alone.
     pub fn new(alloc: Global, accounts: usize) -> Result<(AtomTable, Vec<AtomSeat>), AllocError>
-        requires { (0 < accounts) × (accounts ≤ most_accounts) }
+        requires { (0 < accounts) × (accounts ≤ MOST_ACCOUNTS) }
         ensures accounts { IfOk result (λ made. made.0.accounts ≡ accounts) }
         ensures count { IfOk result (λ made. vec_len made.1 ≡ accounts) }
         ensures seats { IfOk result (λ made. (k : ℕ) (seat : AtomSeat) → slice_get made.1.items k ≡ Some seat → IsNewSharedSeat made.0.table.shared.table_id seat.badge.table_id made.0.accounts (face_in seat.badge.views) seat.account k) }
@@ -75,7 +75,7 @@ impl AtomTable {
         ensures account { seat.new.account ≡ seat.old.account }
         ensures adds { Adds (face_in seat.old.badge.views).knows text result (face_in seat.new.badge.views).knows }
         ensures publishes { PublishesWithin seat.old.used seat.new.used (face_in seat.old.badge.views).knows (face_in seat.new.badge.views).knows }
-        ensures turns { (turns.old < turns.new) × (turns.new ≤ turns.old + buckets_each * self.now.accounts) }
+        ensures turns { (turns.old < turns.new) × (turns.new ≤ turns.old + BUCKETS_EACH * self.now.accounts) }
     {
         text.shows_text();
         let entry = NAMES_EACH * seat.account + seat.used;
@@ -98,19 +98,23 @@ impl AtomTable {
         seat.used
     }
 
-    /// Reads the words of an entry whose name the seat knows.
-    fn read_text(&self, seat: &mut Seat<(), View>, entry: u64) -> [u64; 8]
+    /// Reads the words of an entry whose name the seat knows, up to the one in which the name ends. The words after that one are zero.
+    fn read_text(&self, seat: &mut Seat<(), View>, entry: u64) -> [u64; WORDS]
         requires of { seat.old.table_id ≡ self.now.table.shared.table_id }
         requires first { IsTrue (has_first seat.old.me.0.faces) }
         requires accounts { (own seat.old.me.0).accounts ≡ self.now.accounts }
-        requires entry { entry < most_names * self.now.accounts }
+        requires entry { entry < MOST_NAMES * self.now.accounts }
         ensures of { seat.new.table_id ≡ seat.old.table_id }
         ensures same { seat.new.me ≡ seat.old.me }
-        ensures words { (t : List ℕ) → text_in (own seat.old.me.0).knows (first_number + entry) ≡ Some t → result ≡ words_of 8 t }
+        ensures words { (t : List ℕ) → text_in (own seat.old.me.0).knows (FIRST_NUMBER + entry) ≡ Some t → result ≡ words_of name_words t }
     {
-        let mut words = [0u64; 8];
-        for word in 0..8 {
-            words[word] = self.read(seat, entry, word as u64);
+        let mut words = [0u64; WORDS];
+        for word in 0..WORDS {
+            let value = self.read(seat, entry, word as u64);
+            words[word] = value;
+            if value < FULL_WORD {
+                return words;
+            }
         }
         words
     }

@@ -1,7 +1,7 @@
 // What one account knows of a plain table.
 
 ghost use Rattle.std.specs.Prelude.{◌≡◌, ◌<◌, ◌≤◌, [], ◌∷◌, ◌++◌, IfOk, vec_len, vec_capacity};
-ghost use Rattle.kl1_model.specs.Limits.{most_names};
+ghost use Rattle.kl1_model.specs.declared.limits.TheConstants.{MOST_NAMES};
 
 use crate::known::Known;
 use kl1_model::limits::MOST_NAMES;
@@ -13,7 +13,7 @@ pub struct PlainSeat {
     pub(crate) account: usize,
     pub(crate) used: usize,
     pub(crate) known: Vec<Known>,
-    pub ghost room: { most_names ≤ vec_capacity known },
+    pub ghost room: { MOST_NAMES ≤ vec_capacity known },
 }
 
 impl PlainSeat {
@@ -33,7 +33,7 @@ impl PlainSeat {
 
     /// Puts a pair after what is known.
     pub(crate) fn learn(&mut self, one: Known)
-        requires { vec_len self.old.known < most_names }
+        requires { vec_len self.old.known < MOST_NAMES }
         ensures known { self.new.known.items ≡ self.old.known.items ++ one ∷ [] }
         ensures account { self.new.account ≡ self.old.account }
         ensures used { self.new.used ≡ self.old.used }

@@ -1,7 +1,7 @@
 // A plain table of names: one thread, and a search from the front.
 
 ghost use Rattle.std.specs.Prelude.{◌≡◌, ◌≢◌, ℕ, ◌+◌, ◌*◌, ◌-◌, ◌<◌, ◌≤◌, List, Option, Some, None, IfOk, IfSome, IsNone, IfNone, option_map, slice_get, slice_set, vec_len, vec_capacity, length, IsTrue, ◌↔◌, []};
-ghost use Rattle.kl1_model.specs.Limits.{most_accounts, most_names};
+ghost use Rattle.kl1_model.specs.declared.limits.TheConstants.{MOST_ACCOUNTS, MOST_NAMES};
 ghost use Rattle.kl1_model.specs.Text.{is_text};
 ghost use Rattle.kl1_text.specs.declared.atom_no.AtomNo.{AtomNo};
 ghost use Rattle.kl1_text.specs.BuiltIns.{built_in_of};
@@ -21,14 +21,14 @@ use std::alloc::{AllocError, Global};
 #[derive(Drop)]
 pub struct PlainTable {
     places: Vec<Option<AtomText>>,
-    pub ghost few: { vec_len places ≤ (most_accounts * most_names) },
+    pub ghost few: { vec_len places ≤ (MOST_ACCOUNTS * MOST_NAMES) },
 }
 
 impl PlainTable {
-    /// A table for 1 to 16 accounts, and a seat for each of them that knows the built-in names alone.
+    /// A table for 1 to 32 accounts, and a seat for each of them that knows the built-in names alone.
     pub fn new(alloc: Global, accounts: usize) -> Result<(PlainTable, Vec<PlainSeat>), AllocError>
-        requires { accounts ≤ most_accounts }
-        ensures places { IfOk result (λ made. vec_len made.0.places ≡ most_names * accounts) }
+        requires { accounts ≤ MOST_ACCOUNTS }
+        ensures places { IfOk result (λ made. vec_len made.0.places ≡ MOST_NAMES * accounts) }
         ensures count { IfOk result (λ made. vec_len made.1 ≡ accounts) }
         ensures seats { IfOk result (λ made. (k : ℕ) (seat : PlainSeat) → slice_get made.1.items k ≡ Some seat → IsNewSeat made.0.places.items k seat.account seat.used seat.known.items) }
     {
@@ -40,9 +40,9 @@ impl PlainTable {
     /// The place of a text that isn't built in, which is put into the account's row if it has none yet.
     fn place_of(&mut self, seat: &mut PlainSeat, text: AtomText) -> usize
         requires of { IsSeatOf self.old.places.items seat.old.account seat.old.used seat.old.known.items }
-        requires room { vec_len seat.old.known < most_names }
+        requires room { vec_len seat.old.known < MOST_NAMES }
         requires other { built_in_of text ≡ None }
-        ensures bound { result < (most_accounts * most_names) }
+        ensures bound { result < (MOST_ACCOUNTS * MOST_NAMES) }
         ensures known { seat.new.known ≡ seat.old.known }
         ensures account { seat.new.account ≡ seat.old.account }
         ensures name { IsTrue (is_text text) }

@@ -1,7 +1,7 @@
 // A look-up in the shared table that publishes nothing.
 
 ghost use Rattle.std.specs.Prelude.{◌≡◌, ℕ, ◌+◌, ◌*◌, ◌<◌, ◌≤◌, List, IsTrue};
-ghost use Rattle.kl1_model.specs.Limits.{buckets_each};
+ghost use Rattle.kl1_model.specs.declared.limits.TheConstants.{BUCKETS_EACH};
 ghost use Rattle.kl1_model.specs.Text.{is_text};
 ghost use Rattle.kl1_atoms.specs.declared.face.Face.{Face};
 ghost use Rattle.kl1_atoms.specs.Way.{further};
@@ -23,10 +23,10 @@ impl AtomTable {
         requires first { IsTrue (has_first seat.old.me.0.faces) }
         requires accounts { (own seat.old.me.0).accounts ≡ self.now.accounts }
         requires way { bucket ≡ further self.now.accounts text.now passed }
-        requires within { bucket < buckets_each * self.now.accounts }
+        requires within { bucket < BUCKETS_EACH * self.now.accounts }
         requires name { IsTrue (is_text text.now) }
         requires passed { Passed (own seat.old.me.0) text.now passed }
-        requires few { passed ≤ buckets_each * self.now.accounts }
+        requires few { passed ≤ BUCKETS_EACH * self.now.accounts }
         ensures of { seat.new.table_id ≡ seat.old.table_id }
         ensures tells { Steps seat.old.me seat.new.me (λ f g. Glances f g text.now bucket passed result) }
         ensures others { GlancesOthers (own seat.old.me.0) (others_of seat.old.me.0.faces) text.now result }
@@ -57,7 +57,7 @@ impl AtomTable {
         ensures others { FindsOthers (own seat.old.me.0) (others_of seat.old.me.0.faces) text.now result }
         ensures turns { Ticks turns.old turns.new self.now.accounts result }
     {
-        let start = self.first_bucket(*text);
+        let start = self.first_bucket(text);
         for passed in 0..BUCKETS_EACH * self.accounts {
             turns.tick();
             let bucket = self.bucket_at(start, passed);

@@ -1,9 +1,9 @@
 // A look-up in the shared table, bucket by bucket.
 
 ghost use Rattle.std.specs.Prelude.{◌≡◌, ◌≢◌, ℕ, suc, ◌+◌, ◌*◌, ◌%◌, ◌<◌, ◌≤◌, ◌↔◌, Bool, true, false, List, [], IsTrue, length};
-ghost use Rattle.kl1_model.specs.Limits.{buckets_each, first_number, most_accounts, most_names};
+ghost use Rattle.kl1_model.specs.declared.limits.TheConstants.{BUCKETS_EACH, FIRST_NUMBER, MOST_ACCOUNTS, MOST_NAMES};
 ghost use Rattle.kl1_model.specs.Text.{is_text};
-ghost use Rattle.kl1_text.specs.Words.{words_of};
+ghost use Rattle.kl1_text.specs.Words.{words_to_end};
 ghost use Rattle.kl1_atoms.specs.declared.face.Face.{Face};
 ghost use Rattle.kl1_atoms.specs.declared.face.Heard.{Heard};
 ghost use Rattle.kl1_atoms.specs.Way.{further, mixed, start};
@@ -20,8 +20,8 @@ use atomic_table::Seat;
 use kl1_model::limits::{BUCKETS_EACH, FIRST_NUMBER};
 use kl1_text::{AtomNo, AtomText, NameValue};
 
-/// What each word is multiplied by in a mix: odd, and with its bits spread.
-const MIX: u64 = 18_397_679_294_719_823_053;
+/// What each sum is multiplied by in a mix: 2 ^ 64 over the golden ratio, by which names that differ in a few bytes are spread out.
+const MIX: u64 = 11_400_714_819_323_198_485;
 
 /// How many values half the bits of a word have.
 const HALF: u64 = 4_294_967_296;
@@ -32,14 +32,14 @@ impl AtomTable {
         requires of { seat.old.table_id ≡ self.now.table.shared.table_id }
         requires first { IsTrue (has_first seat.old.me.0.faces) }
         requires accounts { (own seat.old.me.0).accounts ≡ self.now.accounts }
-        requires entry { entry < most_names * self.now.accounts }
+        requires entry { entry < MOST_NAMES * self.now.accounts }
         requires name { IsTrue (is_text text.now) }
         ensures of { seat.new.table_id ≡ seat.old.table_id }
         ensures same { seat.new.me ≡ seat.old.me }
         ensures is { (h : Heard) → In (own seat.old.me.0).heard h → h.entry ≡ entry → IsTrue (is_text h.text) → IsTrue result ↔ (h.text ≡ text.now) }
     {
         let words = text.words();
-        for word in 0..8 {
+        for word in 0..words.len() {
             if self.read(seat, entry, word as u64) != words[word] {
                 return false;
             }
@@ -61,10 +61,10 @@ impl AtomTable {
         requires first { IsTrue (has_first seat.old.me.0.faces) }
         requires accounts { (own seat.old.me.0).accounts ≡ self.now.accounts }
         requires way { bucket ≡ further self.now.accounts text.now passed }
-        requires within { bucket < buckets_each * self.now.accounts }
-        requires entry { entry < most_names * self.now.accounts }
+        requires within { bucket < BUCKETS_EACH * self.now.accounts }
+        requires entry { entry < MOST_NAMES * self.now.accounts }
         requires walks { Walks (own seat.old.me.0) text.now passed drafted }
-        requires small { passed ≤ most_names * self.now.accounts }
+        requires small { passed ≤ MOST_NAMES * self.now.accounts }
         requires seen { (h : Heard) × In (own seat.old.me.0).heard h × (h.bucket ≡ bucket) × (h.entry ≡ entry) × IsTrue (is_text h.text) }
         ensures of { seat.new.table_id ≡ seat.old.table_id }
         ensures gives { Steps seat.old.me seat.new.me (λ f g. Compares f g text.now passed drafted result) }
@@ -82,18 +82,18 @@ impl AtomTable {
         requires of { seat.old.table_id ≡ self.now.table.shared.table_id }
         requires first { IsTrue (has_first seat.old.me.0.faces) }
         requires accounts { (own seat.old.me.0).accounts ≡ self.now.accounts }
-        requires room { (own seat.old.me.0).used < most_names }
+        requires room { (own seat.old.me.0).used < MOST_NAMES }
         requires draft { (own seat.old.me.0).draft ≡ draft_of drafted text.now }
         requires entry { entry ≡ own_entry (own seat.old.me.0) }
-        requires bound { entry < most_names * self.now.accounts }
+        requires bound { entry < MOST_NAMES * self.now.accounts }
         ensures of { seat.new.table_id ≡ seat.old.table_id }
-        ensures tells { Steps seat.old.me seat.new.me (λ f g. Drafts f g (words_of 8 text.now)) }
+        ensures tells { Steps seat.old.me seat.new.me (λ f g. Drafts f g (words_to_end text.now)) }
     {
         if drafted {
             return;
         }
         let words = text.words();
-        for word in 0..8 {
+        for word in 0..words.len() {
             self.draft(seat, entry, word as u64, words[word]);
         }
     }
@@ -112,11 +112,11 @@ impl AtomTable {
         requires first { IsTrue (has_first seat.old.me.0.faces) }
         requires accounts { (own seat.old.me.0).accounts ≡ self.now.accounts }
         requires way { bucket ≡ further self.now.accounts text.now passed }
-        requires within { bucket < buckets_each * self.now.accounts }
+        requires within { bucket < BUCKETS_EACH * self.now.accounts }
         requires entry { entry ≡ own_entry (own seat.old.me.0) }
         requires account { (own seat.old.me.0).account < self.now.accounts }
         requires walks { Walks (own seat.old.me.0) text.now passed drafted }
-        requires few { passed + 1 ≤ buckets_each * self.now.accounts }
+        requires few { passed + 1 ≤ BUCKETS_EACH * self.now.accounts }
         ensures of { seat.new.table_id ≡ seat.old.table_id }
         ensures gives { Steps seat.old.me seat.new.me (λ f g. Gives f g text.now passed result) }
     {
@@ -133,18 +133,18 @@ impl AtomTable {
     }
 
     /// The bucket where a look-up of a text starts.
-    pub fn first_bucket(&self, text: AtomText) -> u64
-        ensures value { result ≡ start self.now.accounts text }
-        ensures within { result < buckets_each * self.now.accounts }
+    pub fn first_bucket(&self, text: &AtomText) -> u64
+        ensures value { result ≡ start self.now.accounts text.now }
+        ensures within { result < BUCKETS_EACH * self.now.accounts }
     {
-        mixed(&text.words()) / HALF * (BUCKETS_EACH * self.accounts) / HALF
+        mixed(text.words()) / HALF * (BUCKETS_EACH * self.accounts) / HALF
     }
 
     /// The bucket that is `passed` after `start`, round the end.
     pub(crate) fn bucket_at(&self, start: u64, passed: u64) -> u64
-        requires start { start < buckets_each * self.now.accounts }
-        requires passed { passed < buckets_each * self.now.accounts }
-        ensures { result ≡ (start + passed) % (buckets_each * self.now.accounts) }
+        requires start { start < BUCKETS_EACH * self.now.accounts }
+        requires passed { passed < BUCKETS_EACH * self.now.accounts }
+        ensures { result ≡ (start + passed) % (BUCKETS_EACH * self.now.accounts) }
     {
         let bucket = start + passed;
         let buckets = BUCKETS_EACH * self.accounts;
@@ -171,16 +171,16 @@ impl AtomTable {
         requires account { (own seat.old.me.0).account < self.now.accounts }
         requires entry { entry ≡ own_entry (own seat.old.me.0) }
         requires used { used ≡ (own seat.old.me.0).used }
-        requires bound { used ≤ most_names }
+        requires bound { used ≤ MOST_NAMES }
         requires walks { Walks (own seat.old.me.0) text.now from false }
-        requires from { from ≤ most_names * self.now.accounts }
+        requires from { from ≤ MOST_NAMES * self.now.accounts }
         ensures of { seat.new.table_id ≡ seat.old.table_id }
         ensures ends { Steps seat.old.me seat.new.me (λ f g. Ends f g text.now result.number.number × (g.used ≡ f.used + result.more)) }
-        ensures more { used + result.more ≤ most_names }
-        ensures turns { turns.new + from ≤ turns.old + most_names * self.now.accounts + 2 }
+        ensures more { used + result.more ≤ MOST_NAMES }
+        ensures turns { turns.new + from ≤ turns.old + MOST_NAMES * self.now.accounts + 2 }
         ensures grow { turns.old ≤ turns.new }
     {
-        let start = self.first_bucket(*text);
+        let start = self.first_bucket(text);
         let mut drafted = false;
         for passed in from..BUCKETS_EACH * self.accounts {
             turns.tick();
@@ -209,12 +209,12 @@ impl AtomTable {
         requires account { (own seat.old.me.0).account < self.now.accounts }
         requires entry { entry ≡ own_entry (own seat.old.me.0) }
         requires used { used ≡ (own seat.old.me.0).used }
-        requires bound { used ≤ most_names }
+        requires bound { used ≤ MOST_NAMES }
         requires starts { Starts (own seat.old.me.0) text.now }
         ensures of { seat.new.table_id ≡ seat.old.table_id }
         ensures ends { Steps seat.old.me seat.new.me (λ f g. Ends f g text.now result.number.number × (g.used ≡ f.used + result.more)) }
-        ensures more { used + result.more ≤ most_names }
-        ensures turns { (turns.old < turns.new) × (turns.new ≤ turns.old + buckets_each * self.now.accounts) }
+        ensures more { used + result.more ≤ MOST_NAMES }
+        ensures turns { (turns.old < turns.new) × (turns.new ≤ turns.old + BUCKETS_EACH * self.now.accounts) }
     {
         match self.seek(seat, text, turns) {
             Sought::Found(bucket, found) => {
@@ -236,8 +236,8 @@ impl AtomTable {
 
 /// The end of a look-up at an entry.
 fn ended(entry: u64, more: u64) -> Ended
-    requires { entry < (most_accounts * most_names) }
-    ensures number { result.number.number ≡ first_number + entry }
+    requires { entry < (MOST_ACCOUNTS * MOST_NAMES) }
+    ensures number { result.number.number ≡ FIRST_NUMBER + entry }
     ensures more { result.more ≡ more }
 {
     Ended {

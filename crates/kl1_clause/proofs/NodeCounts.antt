@@ -28,6 +28,15 @@ mutual
       let j = counted_all ts cs in
       omega (arith, h, i, j)
 
+term_alone : (t : Term) → structures_counted (nodes_of t) ≡ structures_of t
+term_alone t =
+    let h = ap structures_counted (append-nil (nodes_of t)) in
+    let i = counted_of t [] in
+    omega (arith, h, i)
+
+pub term_counted : (nodes : List Node) (t : Term) → map code_of nodes ≡ nodes_of t → structures_counted (map code_of nodes) ≡ structures_of t
+term_counted nodes t e = ap structures_counted e ∙ term_alone t
+
 counted_alone : (ts : Terms) → structures_counted (nodes_of_all ts) ≡ structures_in ts
 counted_alone ts =
     let h = ap structures_counted (append-nil (nodes_of_all ts)) in

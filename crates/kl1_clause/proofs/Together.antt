@@ -8,7 +8,8 @@ use Rattle.std.proofs.lemmas.Bool.{and_parts, eqb-true}
 use Rattle.std.proofs.lemmas.Slice.Eq.{bytes_eq-Decides}
 use Rattle.kl1_model.specs.Term.{count_of}
 use Rattle.kl1_model.specs.Token.{tokens_of_text}
-use Rattle.kl1_model.specs.Module.{Clause, Module, Reading, good, bad, Item, items_of, is_of, last_of, may_follow, section_after, most_clauses, with_clause, is_otherwise, otherwise_on, if_good, clauses_ended, clauses_from, clause_of, module_with, module_named, module_of_items, named_module}
+use Rattle.kl1_model.specs.Module.{Clause, Module, Reading, good, bad, Item, items_of, is_of, last_of, may_follow, section_after, with_clause, is_otherwise, otherwise_on, if_good, clauses_ended, clauses_from, clause_of, module_with, module_named, module_of_items, named_module}
+use Rattle.kl1_model.specs.declared.limits.TheConstants.{MOST_CLAUSES}
 use Rattle.kl1_clause.specs.Predicates.{from_first, front_run}
 use Rattle.kl1_clause.specs.Modules.{IsMeant}
 
@@ -137,7 +138,7 @@ add_by name count cs behind c d true is same t h =
     let own = and_parts (bytes_eq c.name name) (count_of c.patterns == count) is in
     let name_is : c.name ≡ name = (bytes_eq-Decides c.name name).0 own.0 in
     let count_is : count_of c.patterns ≡ count = eqb-true (count_of c.patterns) count own.1 in
-    let asked : goes_on cs behind c.name (count_of c.patterns) ≡ true = (and_parts (nat_lt (length cs) most_clauses) (goes_on cs behind c.name (count_of c.patterns)) h).1 in
+    let asked : goes_on cs behind c.name (count_of c.patterns) ≡ true = (and_parts (nat_lt (length cs) MOST_CLAUSES) (goes_on cs behind c.name (count_of c.patterns)) h).1 in
     let goes : goes_on cs behind name count ≡ true = sym (ap (λ (n : List ℕ). goes_on cs behind n (count_of c.patterns)) name_is ∙ ap (goes_on cs behind name) count_is) ∙ asked in
     elim (either (unwrap_or (option_map (is_of name count) (last_of cs)) false) behind (list_any (is_of name count) cs) goes) [
       | inl last ↦ add_next (is_of name count) cs t.before t.run t.behind d t.are t.none_before t.all t.none_behind last same

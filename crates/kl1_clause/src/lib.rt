@@ -20,4 +20,5 @@ pub use compiled_clause::CompiledClause;
 pub use goal_code::GoalCode;
 pub use instruction::Instruction;
 pub use name::Name;
+pub use node_count::structures_of;
 pub use predicate::Predicate;

@@ -4,7 +4,7 @@ ghost use Rattle.std.specs.Prelude.{◌≡◌, ◌<◌, ◌^◌, List, ◌∷◌
 ghost use Rattle.kl1_model.specs.code.TermCode.{NodeCode};
 ghost use Rattle.kl1_term.specs.Nodes.{code_of, count_in};
 ghost use Rattle.kl1_model.specs.Module.{goals_of};
-ghost use Rattle.kl1_model.specs.Nodes.{goal_nodes, goals_nodes};
+ghost use Rattle.kl1_model.specs.Nodes.{goal_nodes, goals_nodes, structures_of};
 ghost use Rattle.kl1_read.specs.Sources.{goal_of_parts};
 ghost use Rattle.kl1_clause.specs.NodeCounts.{structure_weight, structures_counted, arguments_counted, behind_terms, nodes_counted};
 
@@ -30,6 +30,14 @@ pub(crate) fn goal_nodes(goal: &Term) -> u64
     ensures { result ≡ goal_nodes goal.now }
 {
     nodes_counted(goal.nodes())
+}
+
+/// How many structures a term has, itself among them.
+#[tactic(auto, using(crate::proofs::NodeCounts::term_counted))]
+pub fn structures_of(term: &Term) -> u64
+    ensures { result ≡ structures_of term.now }
+{
+    structures_counted(term.nodes())
 }
 
 /// How many structures stand in the arguments of a goal of these nodes.

@@ -1,4 +1,4 @@
-// The modules of an account with their codes at hand.
+// The modules of an account with their codes at hand, and its rules.
 
 ghost use Rattle.std.specs.Prelude.{◌≡◌, false, [], ◌∷◌, ◌++◌, length, slice_get, IfSome};
 ghost use Rattle.kl1_codes_modules.specs.Numbered.{number_of, ArePlaced};
@@ -9,37 +9,53 @@ use crate::coded_module::CodedModule;
 use crate::modules::Modules;
 use kl1_clause::Predicate;
 use kl1_codes::CodeSource;
+use kl1_model::Rules;
 use kl1_text::CellName;
 use std::marker::Model;
 
-/// The modules of an account, lent with the source where their codes stand: to contracts they are just the modules.
+/// The modules of an account and its rules, lent with the source where the codes of the modules stand: to contracts they are the
+/// modules and the rules.
 #[derive(Drop)]
 pub struct CodedModules<'a, C: CodeSource> {
+    rules: Rules,
     modules: &'a Modules<C>,
-    codes: &'a C,
+    code_source: &'a C,
 }
 
 impl<'a, C: CodeSource> Model for CodedModules<'a, C> {
-    ghost use Rattle.kl1_codes_modules.specs.Shelves.{Shelf, shelf_code};
+    ghost use Rattle.std.specs.Coded.{codes};
+    ghost use Rattle.kl1_codes_modules.specs.Numbered.{numbered_code};
+    ghost use Rattle.kl1_codes_modules.specs.Shelves.{Program};
 
-    ghost Value = { Shelf };
+    ghost Value = { Program };
 
-    ghost coded = { shelf_code };
+    ghost coded = { Prim.hlevel (codes, numbered_code) };
 
     ghost use Rattle.kl1_codes_modules.specs.Numbered.{ArePlaced};
 
-    ghost view = { λ m. m.modules.now };
+    ghost view = { λ m. record { rules = m.rules; loaded = m.modules.now.loaded } };
 
-    ghost invariant = { λ m. ArePlaced (C.has m.codes.now) m.modules.now.loaded };
+    ghost invariant = { λ m. ArePlaced (C.has m.code_source.now) m.modules.now.loaded };
 }
 
 impl<'a, C: CodeSource> CodedModules<'a, C> {
-    /// Modules with the source where their codes stand.
-    pub fn over(modules: &'a Modules<C>, codes: &'a C) -> Self
+    /// Modules and rules with the source where the codes of the modules stand.
+    pub fn over(rules: Rules, modules: &'a Modules<C>, codes: &'a C) -> Self
         requires { ArePlaced (C.has codes.now) modules.now.loaded }
-        ensures { result ≡ modules.now }
+        ensures { result ≡ record { rules = rules; loaded = modules.now.loaded } }
     {
-        CodedModules { modules, codes }
+        CodedModules {
+            rules,
+            modules,
+            code_source: codes,
+        }
+    }
+
+    /// The rules.
+    pub fn rules(&self) -> Rules
+        ensures { result ≡ self.now.rules }
+    {
+        self.rules
     }
 
     /// How many there are.
@@ -55,7 +71,7 @@ impl<'a, C: CodeSource> CodedModules<'a, C> {
     {
         match self.modules.get(place) {
             None => None,
-            Some(loaded) => Some(CodedModule::over(loaded, self.codes)),
+            Some(loaded) => Some(CodedModule::over(loaded, self.code_source)),
         }
     }
 
@@ -70,7 +86,8 @@ impl<'a, C: CodeSource> CodedModules<'a, C> {
         ensures finds { Finds self.now.loaded module_name name count result }
         ensures some { IfSome result (λ p. AreSome p.names.now p.clauses.now) }
     {
-        self.modules.find(self.codes, module_name, name, count)
+        self.modules
+            .find(self.code_source, module_name, name, count)
     }
 
     /// Like `find`, with one module more, which is drafted and none of these.

@@ -1,7 +1,7 @@
 // The commands of lines and records.
 
 ghost use Rattle.std.specs.Prelude.{◌≡◌, IfOk, Some};
-ghost use Rattle.kl1_model_history.specs.Command.{parse, command_by, command_of, does, runs, asks_value, asks_status, start_command, start_with, reduce_command, allow_command, send_command, reports_command, journal_command, alone_command};
+ghost use Rattle.kl1_model_history.specs.Command.{parse, command_by, command_of, does, runs, asks_value, asks_status, start_command, start_with, answer_command, answer_with, reduce_command, allow_command, send_command, reports_command, journal_command, alone_command};
 ghost use Rattle.kl1_model.specs.Module.{read_goal};
 ghost use Rattle.kl1_command_lines.specs.Records.{request_of};
 ghost use Rattle.kl1_user_events.specs.Views.{event_of};
@@ -80,6 +80,8 @@ pub fn parse(alloc: Global, line: &[u8]) -> Result<Parsed, AllocError>
         Ok(parse_alone(Event::Logout, rest))
     } else if is_same(word, b"reset") {
         Ok(parse_alone(Event::Reset, rest))
+    } else if is_same(word, b"answer") {
+        parse_answer(alloc, rest)
     } else {
         Ok(Parsed::Refused)
     }
@@ -258,6 +260,40 @@ fn start_of(
             allowance,
             low,
             high,
+            goal,
+        })),
+        Err(ReadFault::Bad { line: _line }) => Ok(Parsed::Refused),
+        Err(ReadFault::Memory) => Err(AllocError),
+    }
+}
+
+/// What stands after `answer`: a shoen's number, a report's, from 1, and then a goal.
+fn parse_answer(alloc: Global, rest: &[u8]) -> Result<Parsed, AllocError>
+    ensures { IfOk result (λ parsed. parsed_view parsed ≡ answer_command rest.now) }
+{
+    let (first, rest) = split_word(rest);
+    let (second, goal) = split_word(rest);
+    let Some(shoen) = number_in(first) else {
+        return Ok(Parsed::Refused);
+    };
+    let Some(report) = number_in(second) else {
+        return Ok(Parsed::Refused);
+    };
+    answer_of(alloc, shoen, report, goal)
+}
+
+/// The answer with the goal that bytes are, if the report's number is at least 1 and there is one.
+#[tactic(auto, using(crate::proofs::Starts::no_report))]
+fn answer_of(alloc: Global, shoen: u64, report: u64, goal: &[u8]) -> Result<Parsed, AllocError>
+    ensures { IfOk result (λ parsed. parsed_view parsed ≡ answer_with shoen report (read_goal goal.now)) }
+{
+    if report < 1 {
+        return Ok(Parsed::Refused);
+    }
+    match read_goal(alloc, goal) {
+        Ok(goal) => Ok(does(Event::Answer {
+            shoen: ShoenNo(shoen),
+            report,
             goal,
         })),
         Err(ReadFault::Bad { line: _line }) => Ok(Parsed::Refused),

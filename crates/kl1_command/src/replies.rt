@@ -89,6 +89,7 @@ fn put_refusal(out: &mut Vec<u8>, prefix: Option<&[u8]>, refusal: Refusal) -> Re
         Refusal::Limit => put_line(out, prefix, b"- ", b"8 limit"),
         Refusal::Journal => put_line(out, prefix, b"- ", b"9 journal"),
         Refusal::Sessions => put_line(out, prefix, b"- ", b"12 sessions"),
+        Refusal::Answer => put_line(out, prefix, b"- ", b"13 answer"),
     }
 }
 

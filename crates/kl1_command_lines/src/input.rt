@@ -2,7 +2,7 @@
 
 ghost use Rattle.std.specs.Prelude.{◌≡◌, ◌+◌, ◌<◌, ◌≤◌, ℕ, List, length, IfOk, IsErrOf};
 ghost use Rattle.std.specs.Io.KnownBytes.{Consumes, IsAtEnd};
-ghost use Rattle.kl1_model.specs.Limits.{most_script_bytes};
+ghost use Rattle.kl1_model.specs.declared.limits.TheConstants.{MOST_SCRIPT_BYTES};
 ghost use Rattle.kl1_command_lines.specs.Devices.{AddsPiece, IsWhole, ReadsFew};
 ghost use Rattle.kl1_command_lines.specs.declared.script_fault.ScriptFault.TheVariants as faults;
 
@@ -43,11 +43,11 @@ fn read_piece<S: Source>(
 /// Reads all there is, if a script may have that many bytes. No byte after the first one too many is read.
 pub fn read_all<S: Source>(alloc: Global, source: &mut S) -> Result<Vec<u8>, ScriptFault>
     ensures ok { IfOk result (λ bytes. IsWhole (S.remaining source.old) (S.remaining source.new) bytes.items) }
-    ensures small { IfOk result (λ bytes. length bytes.items ≤ most_script_bytes) }
+    ensures small { IfOk result (λ bytes. length bytes.items ≤ MOST_SCRIPT_BYTES) }
     ensures read { IsErrOf result faults.Read → S.failures source.old < S.failures source.new }
     ensures not_read { (IsErrOf result faults.Read → ⊥) → S.failures source.new ≡ S.failures source.old }
-    ensures too_long { IsErrOf result faults.TooLong → (bytes : List ℕ) × (length bytes ≡ most_script_bytes + 1) × Consumes (S.remaining source.old) (S.remaining source.new) bytes }
-    ensures few { ReadsFew (S.remaining source.old) (S.remaining source.new) (most_script_bytes + 1) }
+    ensures too_long { IsErrOf result faults.TooLong → (bytes : List ℕ) × (length bytes ≡ MOST_SCRIPT_BYTES + 1) × Consumes (S.remaining source.old) (S.remaining source.new) bytes }
+    ensures few { ReadsFew (S.remaining source.old) (S.remaining source.new) (MOST_SCRIPT_BYTES + 1) }
     ensures not_write { IsErrOf result faults.Write → ⊥ }
 {
     let mut bytes = Vec::new(alloc);

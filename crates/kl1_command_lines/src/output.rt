@@ -2,7 +2,7 @@
 
 ghost use Rattle.std.specs.Prelude.{◌≡◌, ◌<◌, length, OnOk, OnErr};
 ghost use Rattle.std.specs.Io.KnownBytes.{Appends};
-ghost use Rattle.kl1_model.specs.Limits.{most_waiting_bytes};
+ghost use Rattle.kl1_model.specs.declared.limits.TheConstants.{MOST_WAITING_BYTES};
 ghost use Rattle.kl1_command_lines.specs.Devices.{AppendsFront, PassesOn};
 
 use crate::counted::DeviceFailed;
@@ -39,7 +39,7 @@ pub fn finish<S: Sink>(sink: &mut S, bytes: &[u8]) -> Result<(), DeviceFailed>
 /// Writes the bytes if they are many, and empties them. After a failure, those up to some place are written.
 pub fn pass_on<S: Sink>(sink: &mut S, bytes: &mut Vec<u8>) -> Result<(), DeviceFailed>
     ensures ok { OnOk result (PassesOn (S.contents sink.old) (S.contents sink.new) bytes.old.items bytes.new.items) }
-    ensures few { OnOk result (length bytes.new.items < most_waiting_bytes) }
+    ensures few { OnOk result (length bytes.new.items < MOST_WAITING_BYTES) }
     ensures kept { OnOk result (S.failures sink.new ≡ S.failures sink.old) }
     ensures front { OnErr result (AppendsFront (S.contents sink.old) (S.contents sink.new) bytes.old.items) }
     ensures failed { OnErr result (S.failures sink.old < S.failures sink.new) }

@@ -3,7 +3,7 @@ use Rattle.std.proofs.Common.{◌≡◌, ℕ, zero, suc, ◌+◌, ◌-◌, ◌<�
 use Rattle.std.proofs.lemmas.Bool.{ne_eqb, lt-ltb, le-ltb, false≢true}
 use Rattle.std.specs.List.{filter, find}
 use Rattle.std.proofs.lemmas.List.{get_or-map, map-set, set-get_or, get_or_default, length-map, map_push, length-set, length_push, length-take-le, take-map}
-use Rattle.kl1_model.specs.Limits.{monitor_priority}
+use Rattle.kl1_model.specs.declared.limits.TheConstants.{MONITOR_PRIORITY}
 use Rattle.kl1_goals.specs.declared.goal.Goal.{Goal}
 use Rattle.kl1_goals.specs.declared.slot.Slot.{Slot}
 use Rattle.kl1_goals.specs.Lists.{is_other, has_number, is_after, stood_by, number_of}
@@ -183,7 +183,7 @@ pub goals_ascend : {N : Type 0} (from : ℕ) (ss : List (Slot N)) → Ascend fro
 goals_ascend from [] a = tt
 goals_ascend from (s ∷ ss) a = ascend_on from s.goal (goals_in ss) s.is_held a.0 (goals_ascend (suc s.goal.number) ss a.1)
 
-low_on : {N : Type 0} (s : Slot N) (ss : List (Slot N)) (b : Bool) → s.goal.priority ≤ monitor_priority → AreLow (map level_in ss) → AreLow (map level_in (cond b (s ∷ ss) ss))
+low_on : {N : Type 0} (s : Slot N) (ss : List (Slot N)) (b : Bool) → s.goal.priority ≤ MONITOR_PRIORITY → AreLow (map level_in ss) → AreLow (map level_in (cond b (s ∷ ss) ss))
 low_on s ss false p a = a
 low_on s ss true p a = (p, a)
 
@@ -205,7 +205,7 @@ below_goals n [] a = tt
 below_goals n (g ∷ gs) a = (a.0, below_goals n gs a.1)
 
 -- places with a goal more
-pub slots_push : {N : Type 0} (ss : List (Slot N)) (empty : ℕ) (ranks more : List ℕ) (g : Goal N) → AreSlots ss empty ranks → AreBelow g.number (numbers_of ss) → g.priority ≤ monitor_priority →
+pub slots_push : {N : Type 0} (ss : List (Slot N)) (empty : ℕ) (ranks more : List ℕ) (g : Goal N) → AreSlots ss empty ranks → AreBelow g.number (numbers_of ss) → g.priority ≤ MONITOR_PRIORITY →
     more ≡ ranks ++ rank_in (record { goal = g; is_held = true }) ∷ [] → AreSlots (ss ++ record { goal = g; is_held = true } ∷ []) empty more
 slots_push {N = N} ss empty ranks more g h b p e =
     let s : Slot N = record { goal = g; is_held = true } in
@@ -325,11 +325,11 @@ slots_compacted {N = N} ss ts empty ranks more h e r =
     }
 
 -- the priority of a place that is ranked
-priority_on : (b : Bool) (p : ℕ) → p ≤ monitor_priority → IsPriority (cond b (Some p) None)
+priority_on : (b : Bool) (p : ℕ) → p ≤ MONITOR_PRIORITY → IsPriority (cond b (Some p) None)
 priority_on false p h = tt
 priority_on true p h = h
 
-pub priority_low : {N : Type 0} (s : Slot N) (r : Option ℕ) → s.goal.priority ≤ monitor_priority → r ≡ priority_in s → IsPriority r
+pub priority_low : {N : Type 0} (s : Slot N) (r : Option ℕ) → s.goal.priority ≤ MONITOR_PRIORITY → r ≡ priority_in s → IsPriority r
 priority_low s r p e = rw e (priority_on (s.is_held && stands s.goal) s.goal.priority p)
 
 -- a goal that is there is found

@@ -6,7 +6,7 @@ use Rattle.std.proofs.lemmas.Bool.{false≢true, eqb-true}
 use Rattle.std.proofs.lemmas.List.{take_all, length-map, length-append, map-set}
 use Rattle.std.proofs.lemmas.List.Sums.{length-filter}
 use Rattle.std.proofs.lemmas.List.Elements.{filter-append}
-use Rattle.kl1_model.specs.Limits.{monitor_priority}
+use Rattle.kl1_model.specs.declared.limits.TheConstants.{MONITOR_PRIORITY}
 use Rattle.kl1_goals.specs.declared.goal.Goal.{Goal}
 use Rattle.kl1_goals.specs.declared.slot.Slot.{Slot}
 use Rattle.kl1_goals.specs.declared.tally.Tally.{Tally}
@@ -167,7 +167,7 @@ ranks_set ss k t ranks more r m = m ∙ ap (λ l. set l k (rank_in t)) r ∙ sym
 pub ranks_kept : {N : Type 0} (ss : List (Slot N)) (k : ℕ) (s : Slot N) (ranks : List ℕ) → k < length ss → get_or ss k s ≡ s → ranks ≡ map rank_in ss → ranks ≡ map rank_in (set ss k s)
 ranks_kept ss k s ranks w e r = r ∙ sym (field_kept rank_in ss k s s w e refl)
 
-pub priority_at : {N : Type 0} (ss : List (Slot N)) (k : ℕ) (s : Slot N) → AreLow (map level_in ss) → k < length ss → s ≡ get_or ss k s → s.goal.priority ≤ monitor_priority
+pub priority_at : {N : Type 0} (ss : List (Slot N)) (k : ℕ) (s : Slot N) → AreLow (map level_in ss) → k < length ss → s ≡ get_or ss k s → s.goal.priority ≤ MONITOR_PRIORITY
 priority_at ss k s a w e = omega (arith, low_at (map level_in ss) k a (omega (arith, w, length-map ss level_in)), field_read level_in ss k s w e)
 
 -- the first `k` places are changed, and then the next
@@ -245,7 +245,7 @@ ascend_filter : {N : Type 0} (q : Slot N → Bool) (from : ℕ) (ss : List (Slot
 ascend_filter q from [] a = tt
 ascend_filter q from (s ∷ ss) a = ascend_on from (q s) s (filter q ss) a.0 (ascend_filter q (suc s.goal.number) ss a.1)
 
-low_on : {N : Type 0} (b : Bool) (s : Slot N) (ss : List (Slot N)) → s.goal.priority ≤ monitor_priority → AreLow (map level_in ss) → AreLow (map level_in (cond b (s ∷ ss) ss))
+low_on : {N : Type 0} (b : Bool) (s : Slot N) (ss : List (Slot N)) → s.goal.priority ≤ MONITOR_PRIORITY → AreLow (map level_in ss) → AreLow (map level_in (cond b (s ∷ ss) ss))
 low_on false s ss p a = a
 low_on true s ss p a = (p, a)
 

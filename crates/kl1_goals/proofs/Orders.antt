@@ -1,7 +1,7 @@
 -- Numbers in order.
 use Rattle.std.proofs.Common.{◌≡◌, ℕ, zero, suc, ◌+◌, ◌<◌, ◌≤◌, List, [], ◌∷◌, ◌++◌, length, get_or, arith, inl, inr}
 use Rattle.std.proofs.lemmas.Bool.{cases_lt, cases_eq}
-use Rattle.kl1_model.specs.Limits.{monitor_priority}
+use Rattle.kl1_model.specs.declared.limits.TheConstants.{MONITOR_PRIORITY}
 use Rattle.kl1_goals.specs.Tables.{Ascend}
 use Rattle.kl1_goals.specs.Slots.{AreBelow, AreLow, IsCut, IsAbsent}
 
@@ -37,11 +37,11 @@ below_by_last from (m ∷ ms) n a b = (b 0 (omega arith), below_by_last (suc m) 
 pub below_end : (ns : List ℕ) (k n : ℕ) → Ascend 0 ns → length ns ≡ k + 1 → get_or ns k 0 < n → AreBelow n ns
 below_end ns k n a e p = below_by_last 0 ns n a (λ j w. omega (arith, ascend_le 0 ns j k a (omega arith) (omega arith)))
 
-pub low_push : (ps : List ℕ) (p : ℕ) → AreLow ps → p ≤ monitor_priority → AreLow (ps ++ p ∷ [])
+pub low_push : (ps : List ℕ) (p : ℕ) → AreLow ps → p ≤ MONITOR_PRIORITY → AreLow (ps ++ p ∷ [])
 low_push [] p a w = (w, tt)
 low_push (q ∷ ps) p a w = (a.0, low_push ps p a.1 w)
 
-pub low_at : (ps : List ℕ) (k : ℕ) → AreLow ps → k < length ps → get_or ps k 0 ≤ monitor_priority
+pub low_at : (ps : List ℕ) (k : ℕ) → AreLow ps → k < length ps → get_or ps k 0 ≤ MONITOR_PRIORITY
 low_at [] k a w = absurd (omega arith)
 low_at (p ∷ ps) zero a w = a.0
 low_at (p ∷ ps) (suc k) a w = low_at ps k a.1 (omega arith)

@@ -2,7 +2,7 @@
 use Rattle.std.proofs.Common.{◌≡◌, ℕ, zero, suc, ◌<◌, ◌≤◌, ◌==◌, Bool, not, true, false, cond, nat_lt, List, [], ◌∷◌, ◌++◌, Option, Some, None, IfSome, length, map, refl, sym, ◌∙◌, ap, arith, inl, inr}
 use Rattle.std.specs.List.{filter, find, list_any}
 use Rattle.std.proofs.lemmas.Bool.{ltb-true, lt-ltb, le-ltb, cases_lt}
-use Rattle.kl1_model.specs.Limits.{monitor_priority}
+use Rattle.kl1_model.specs.declared.limits.TheConstants.{MONITOR_PRIORITY}
 use Rattle.kl1_goals.specs.declared.goal.Goal.{Goal}
 use Rattle.kl1_goals.specs.declared.slot.Slot.{Slot}
 use Rattle.kl1_goals.specs.declared.tally.Tally.{Tally}
@@ -46,15 +46,15 @@ pub found_counts : {N : Type 0} (q p : Goal N → Bool) (gs : List (Goal N)) (g 
 found_counts q p [] g f e = absurd (cc)
 found_counts q p (h ∷ gs) g f e = counts_on q p (q h) h g gs f e (λ k. found_counts q p gs g k e)
 
-low_goal_on : {N : Type 0} (q : Goal N → Bool) (c : Bool) (h g : Goal N) (gs : List (Goal N)) → h.priority ≤ monitor_priority → cond c (Some h) (find q gs) ≡ Some g → (find q gs ≡ Some g → g.priority ≤ monitor_priority) → g.priority ≤ monitor_priority
+low_goal_on : {N : Type 0} (q : Goal N → Bool) (c : Bool) (h g : Goal N) (gs : List (Goal N)) → h.priority ≤ MONITOR_PRIORITY → cond c (Some h) (find q gs) ≡ Some g → (find q gs ≡ Some g → g.priority ≤ MONITOR_PRIORITY) → g.priority ≤ MONITOR_PRIORITY
 low_goal_on {N = N} q true h g gs p f rest = let k : h ≡ g = cc in omega (arith, p, ap (λ (v : Goal N). v.priority) k)
 low_goal_on q false h g gs p f rest = rest f
 
-low_slot_on : {N : Type 0} (q : Goal N → Bool) (b : Bool) (h g : Goal N) (gs : List (Goal N)) → h.priority ≤ monitor_priority → find q (cond b (h ∷ gs) gs) ≡ Some g → (find q gs ≡ Some g → g.priority ≤ monitor_priority) → g.priority ≤ monitor_priority
+low_slot_on : {N : Type 0} (q : Goal N → Bool) (b : Bool) (h g : Goal N) (gs : List (Goal N)) → h.priority ≤ MONITOR_PRIORITY → find q (cond b (h ∷ gs) gs) ≡ Some g → (find q gs ≡ Some g → g.priority ≤ MONITOR_PRIORITY) → g.priority ≤ MONITOR_PRIORITY
 low_slot_on q false h g gs p f rest = rest f
 low_slot_on q true h g gs p f rest = low_goal_on q (q h) h g gs p f rest
 
-found_low : {N : Type 0} (q : Goal N → Bool) (ss : List (Slot N)) (g : Goal N) → AreLow (map level_in ss) → find q (goals_in ss) ≡ Some g → g.priority ≤ monitor_priority
+found_low : {N : Type 0} (q : Goal N → Bool) (ss : List (Slot N)) (g : Goal N) → AreLow (map level_in ss) → find q (goals_in ss) ≡ Some g → g.priority ≤ MONITOR_PRIORITY
 found_low q [] g a f = absurd (cc)
 found_low q (s ∷ ss) g a f = low_slot_on q s.is_held s.goal g (goals_in ss) a.0 f (found_low q ss g a.1)
 

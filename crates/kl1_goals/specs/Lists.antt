@@ -1,13 +1,14 @@
 -- Lists of goals, as they are kept.
 use Rattle.std.specs.Prelude.{ℕ, ◌-◌, ◌==◌, nat_lt, not, ◌&&◌, ◌||◌, Bool, true, false, if◌then◌else◌, List, get_or, Option}
 use Rattle.kl1_goals.specs.declared.task.Task.{Task}
-use Rattle.kl1_goals.specs.declared.task.Task.TheVariants.{Monitor, Reduces}
+use Rattle.kl1_goals.specs.declared.task.Task.TheVariants.{Monitor, Reduces, Substitutes}
 use Rattle.kl1_goals.specs.declared.goal.Goal.{Goal}
 
 -- whether a task is a monitor's
 abbrev pub is_monitor_task : {N : Type 0} → Task N → Bool
 is_monitor_task Monitor = true
 is_monitor_task (Reduces x) = false
+is_monitor_task (Substitutes x) = false
 
 -- whether a goal is a monitor
 abbrev pub is_monitor : {N : Type 0} → Goal N → Bool

@@ -1,6 +1,6 @@
 -- The places of a table.
 use Rattle.std.specs.Prelude.{◌≡◌, ℕ, zero, suc, ◌+◌, ◌-◌, ◌<◌, ◌≤◌, ◌&&◌, not, Bool, true, false, cond, List, [], ◌∷◌, map, take, length, get_or, Option, Some, None}
-use Rattle.kl1_model.specs.Limits.{monitor_priority}
+use Rattle.kl1_model.specs.declared.limits.TheConstants.{MONITOR_PRIORITY}
 use Rattle.kl1_queue.specs.Ranks.{rank_of}
 use Rattle.kl1_goals.specs.declared.goal.Goal.{Goal}
 use Rattle.kl1_goals.specs.declared.slot.Slot.{Slot}
@@ -70,7 +70,7 @@ changed_to f (suc k) (s ∷ ss) = f s ∷ changed_to f k ss
 -- priorities of at most a monitor's
 abbrev pub AreLow : List ℕ → Type 0
 AreLow [] = Unit {0}
-AreLow (p ∷ ps) = (p ≤ monitor_priority) × AreLow ps
+AreLow (p ∷ ps) = (p ≤ MONITOR_PRIORITY) × AreLow ps
 
 -- numbers below this one
 abbrev pub AreBelow : ℕ → List ℕ → Type 0

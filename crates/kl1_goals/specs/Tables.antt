@@ -1,7 +1,7 @@
 -- A table of goals, as contracts see it.
 use Rattle.std.specs.Prelude.{◌≡◌, ℕ, suc, ◌<◌, ◌≤◌, List, [], ◌∷◌, length, map, false, true}
 use Rattle.std.specs.List.{list_any, filter, AllByRecursion}
-use Rattle.kl1_model.specs.Limits.{monitor_priority}
+use Rattle.kl1_model.specs.declared.limits.TheConstants.{MONITOR_PRIORITY}
 use Rattle.kl1_goals.specs.declared.goal.Goal.{Goal}
 use Rattle.kl1_goals.specs.Lists.{is_monitor, is_monitor_of, number_of}
 
@@ -26,14 +26,14 @@ pub record IsNext {N : Type 0} (g : Goal N) (goals : List (Goal N)) (shoens : �
   pub number : AreBefore g.number goals
   pub low : 0 < g.shoen
   pub high : g.shoen ≤ shoens
-  pub priority : g.priority ≤ monitor_priority
+  pub priority : g.priority ≤ MONITOR_PRIORITY
   pub monitor : is_monitor g ≡ true → list_any (is_monitor_of g.shoen) goals ≡ false
 
 -- what is so of each goal of a table with `shoens` shoens
 pub record IsKnown {N : Type 0} (g : Goal N) (shoens : ℕ) : Type 0 where
   pub low : 0 < g.shoen
   pub high : g.shoen ≤ shoens
-  pub priority : g.priority ≤ monitor_priority
+  pub priority : g.priority ≤ MONITOR_PRIORITY
 
 -- goals of a table are in order of number
 abbrev pub AreInOrder : {N : Type 0} → List (Goal N) → Type 0

@@ -1,7 +1,7 @@
 // Goals.
 
 ghost use Rattle.std.specs.Prelude.{◌≡◌, ◌≤◌, cond, Some, None};
-ghost use Rattle.kl1_model.specs.Limits.{monitor_priority};
+ghost use Rattle.kl1_model.specs.declared.limits.TheConstants.{MONITOR_PRIORITY};
 ghost use Rattle.kl1_goals.specs.Lists.{is_monitor, is_goal_of};
 ghost use Rattle.kl1_goals.specs.Readies.{stands};
 
@@ -28,6 +28,7 @@ impl<N> Goal<N> {
         match self.task {
             Task::Monitor => true,
             Task::Reduces(_) => false,
+            Task::Substitutes(_) => false,
         }
     }
 
@@ -40,7 +41,7 @@ impl<N> Goal<N> {
 
     /// The priority, if it can step.
     pub(crate) fn ready_priority(&self) -> Option<u16>
-        requires { self.now.priority ≤ monitor_priority }
+        requires { self.now.priority ≤ MONITOR_PRIORITY }
         ensures { result ≡ cond (stands self.now) (Some self.now.priority) None }
     {
         if !self.is_enabled {

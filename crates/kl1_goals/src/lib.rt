@@ -12,5 +12,6 @@ mod task;
 
 pub use goal::Goal;
 pub use goal_table::GoalTable;
+pub use kl1_model::Rules;
 pub use room::make_room;
 pub use task::Task;

@@ -2,7 +2,7 @@
 
 ghost use Rattle.std.specs.Prelude.{◌≡◌, ◌+◌, ◌-◌, ◌<◌, ◌≤◌, ℕ, true, None, List, [], ◌∷◌, ◌++◌, length, map, drop, get_or, nat_lt, MatchOption, vec_len, vec_capacity};
 ghost use Rattle.std.specs.List.{filter, find};
-ghost use Rattle.kl1_model.specs.Limits.{monitor_priority};
+ghost use Rattle.kl1_model.specs.declared.limits.TheConstants.{MONITOR_PRIORITY};
 ghost use Rattle.kl1_goals.specs.Lists.{has_number, is_other, stood_by, number_of};
 ghost use Rattle.kl1_goals.specs.Tables.{Ascend, AreBefore};
 ghost use Rattle.kl1_goals.specs.Slots.{numbers_of, goals_in, first_of, rank_in, level_in, AreLow, AreBelow, IsCut, IsPlace, IsAbsent, AreSlots, IsHeldAt, IsEmptyEnd, IsWithout};
@@ -146,7 +146,7 @@ pub(crate) fn append<N: NameValue>(
 )
     requires slots { AreSlots slots.old.items empty queue.old.ranks }
     requires number { AreBelow goal.now.number (numbers_of slots.old.items) }
-    requires priority { goal.now.priority ≤ monitor_priority }
+    requires priority { goal.now.priority ≤ MONITOR_PRIORITY }
     requires room { vec_len slots.old < vec_capacity slots.old }
     requires queue_room { 0 < queue.old.room }
     ensures slots { AreSlots slots.new.items empty queue.new.ranks }

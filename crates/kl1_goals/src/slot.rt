@@ -1,7 +1,7 @@
 // Places of a table.
 
 ghost use Rattle.std.specs.Prelude.{◌≡◌, ◌≤◌};
-ghost use Rattle.kl1_model.specs.Limits.{monitor_priority};
+ghost use Rattle.kl1_model.specs.declared.limits.TheConstants.{MONITOR_PRIORITY};
 ghost use Rattle.kl1_goals.specs.Slots.{priority_in};
 
 use crate::goal::Goal;
@@ -17,7 +17,7 @@ pub(crate) struct Slot<N> {
 impl<N: NameValue> Slot<N> {
     /// The priority of the goal, if it is there and can step.
     pub(crate) fn priority(&self) -> Option<u16>
-        requires { self.now.goal.priority ≤ monitor_priority }
+        requires { self.now.goal.priority ≤ MONITOR_PRIORITY }
         ensures { result ≡ priority_in self.now }
     {
         if !self.is_held {

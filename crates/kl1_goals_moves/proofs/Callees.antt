@@ -9,7 +9,9 @@ use Rattle.kl1_model.specs.Match.{call_of}
 use Rattle.kl1_model.specs.Arithmetic.{evaluated}
 use Rattle.kl1_model.specs.Goal.{is_execute}
 use Rattle.kl1_model.specs.Look as model_look
-use Rattle.kl1_model.specs.Look.{spelling, most_spelled, arguments_look}
+use Rattle.kl1_model.specs.Look.{spelling, arguments_look}
+use Rattle.kl1_model.specs.declared.rules.Rules.{Rules}
+use Rattle.kl1_model.specs.State.{most_spelled}
 use Rattle.kl1_model.specs.Reduction.{Move, unifies, goes, assigned, spells, ordered, execute_arguments, order_move, execute_move, built_in_move}
 use Rattle.kl1_model.specs.code.Waits.{awaited_in_call, awaited_at_head, awaited_by_evaluated, awaited_by_spelling, awaited_by_look, awaited_by_order, awaited_by_execute, awaited_by_built_in}
 use Rattle.kl1_store.specs.declared.cell.Cell.{Cell}
@@ -57,38 +59,38 @@ abbrev by_module : List ℕ → Term → Term → Option Move
 by_module f a b = if bytes_eq f (codes ":") then execute_move a b else None
 
 -- and one that is neither `=` nor `:=`
-abbrev by_spelling : List ℕ → Term → Term → Option Move
-by_spelling f a b = if bytes_eq f (codes "atom_from") then spells b (spelling most_spelled a) else by_module f a b
+abbrev by_spelling : Rules → List ℕ → Term → Term → Option Move
+by_spelling rules f a b = if bytes_eq f (codes "atom_from") then spells b (spelling (most_spelled rules) a) else by_module f a b
 
 -- and one that isn't `=`
-abbrev by_assignment : List ℕ → Term → Term → Option Move
-by_assignment f a b = if bytes_eq f (codes ":=") then assigned a (evaluated b) else by_spelling f a b
+abbrev by_assignment : Rules → List ℕ → Term → Term → Option Move
+by_assignment rules f a b = if bytes_eq f (codes ":=") then assigned a (evaluated b) else by_spelling rules f a b
 
-no_unification : (f : List ℕ) (a b : Term) → bytes_eq f (codes "=") ≡ false → built_in_move (structure f (more a (more b none))) ≡ by_assignment f a b
-no_unification f a b e = cond-false (bytes_eq f (codes "=")) (Some (unifies a b)) (by_assignment f a b) e
+no_unification : (rules : Rules) (f : List ℕ) (a b : Term) → bytes_eq f (codes "=") ≡ false → built_in_move rules (structure f (more a (more b none))) ≡ by_assignment rules f a b
+no_unification rules f a b e = cond-false (bytes_eq f (codes "=")) (Some (unifies a b)) (by_assignment rules f a b) e
 
-no_assignment : (f : List ℕ) (a b : Term) → bytes_eq f (codes "=") ≡ false → bytes_eq f (codes ":=") ≡ false → built_in_move (structure f (more a (more b none))) ≡ by_spelling f a b
-no_assignment f a b e n = no_unification f a b e ∙ cond-false (bytes_eq f (codes ":=")) (assigned a (evaluated b)) (by_spelling f a b) n
+no_assignment : (rules : Rules) (f : List ℕ) (a b : Term) → bytes_eq f (codes "=") ≡ false → bytes_eq f (codes ":=") ≡ false → built_in_move rules (structure f (more a (more b none))) ≡ by_spelling rules f a b
+no_assignment rules f a b e n = no_unification rules f a b e ∙ cond-false (bytes_eq f (codes ":=")) (assigned a (evaluated b)) (by_spelling rules f a b) n
 
-no_spelling : (f : List ℕ) (a b : Term) → bytes_eq f (codes "=") ≡ false → bytes_eq f (codes ":=") ≡ false → bytes_eq f (codes "atom_from") ≡ false → built_in_move (structure f (more a (more b none))) ≡ by_module f a b
-no_spelling f a b e n s = no_assignment f a b e n ∙ cond-false (bytes_eq f (codes "atom_from")) (spells b (spelling most_spelled a)) (by_module f a b) s
+no_spelling : (rules : Rules) (f : List ℕ) (a b : Term) → bytes_eq f (codes "=") ≡ false → bytes_eq f (codes ":=") ≡ false → bytes_eq f (codes "atom_from") ≡ false → built_in_move rules (structure f (more a (more b none))) ≡ by_module f a b
+no_spelling rules f a b e n s = no_assignment rules f a b e n ∙ cond-false (bytes_eq f (codes "atom_from")) (spells b (spelling (most_spelled rules) a)) (by_module f a b) s
 
 -- what a name waits for of two terms that is neither `:=` nor `atom_from`
 abbrev waits_by_module : List ℕ → Term → Term → List ℕ
 waits_by_module f a b = if bytes_eq f (codes ":") then awaited_by_execute a b else []
 
 -- and one that isn't `:=`
-abbrev waits_by_spelling : List ℕ → Term → Term → List ℕ
-waits_by_spelling f a b = if bytes_eq f (codes "atom_from") then awaited_by_spelling (spelling most_spelled a) else waits_by_module f a b
+abbrev waits_by_spelling : Rules → List ℕ → Term → Term → List ℕ
+waits_by_spelling rules f a b = if bytes_eq f (codes "atom_from") then awaited_by_spelling (spelling (most_spelled rules) a) else waits_by_module f a b
 
-no_expression : (f : List ℕ) (a b : Term) → bytes_eq f (codes ":=") ≡ false → awaited_by_built_in (structure f (more a (more b none))) ≡ waits_by_spelling f a b
-no_expression f a b n = cond-false (bytes_eq f (codes ":=")) (awaited_by_evaluated (evaluated b)) (waits_by_spelling f a b) n
+no_expression : (rules : Rules) (f : List ℕ) (a b : Term) → bytes_eq f (codes ":=") ≡ false → awaited_by_built_in rules (structure f (more a (more b none))) ≡ waits_by_spelling rules f a b
+no_expression rules f a b n = cond-false (bytes_eq f (codes ":=")) (awaited_by_evaluated (evaluated b)) (waits_by_spelling rules f a b) n
 
-no_codes : (f : List ℕ) (a b : Term) → bytes_eq f (codes ":=") ≡ false → bytes_eq f (codes "atom_from") ≡ false → awaited_by_built_in (structure f (more a (more b none))) ≡ waits_by_module f a b
-no_codes f a b n s = no_expression f a b n ∙ cond-false (bytes_eq f (codes "atom_from")) (awaited_by_spelling (spelling most_spelled a)) (waits_by_module f a b) s
+no_codes : (rules : Rules) (f : List ℕ) (a b : Term) → bytes_eq f (codes ":=") ≡ false → bytes_eq f (codes "atom_from") ≡ false → awaited_by_built_in rules (structure f (more a (more b none))) ≡ waits_by_module f a b
+no_codes rules f a b n s = no_expression rules f a b n ∙ cond-false (bytes_eq f (codes "atom_from")) (awaited_by_spelling (spelling (most_spelled rules) a)) (waits_by_module f a b) s
 
-waits_for_none : (f : List ℕ) (a b : Term) → bytes_eq f (codes ":") ≡ false → bytes_eq f (codes ":=") ≡ false → bytes_eq f (codes "atom_from") ≡ false → awaited_by_built_in (structure f (more a (more b none))) ≡ []
-waits_for_none f a b e n s = no_codes f a b n s ∙ cond-false (bytes_eq f (codes ":")) (awaited_by_execute a b) [] e
+waits_for_none : (rules : Rules) (f : List ℕ) (a b : Term) → bytes_eq f (codes ":") ≡ false → bytes_eq f (codes ":=") ≡ false → bytes_eq f (codes "atom_from") ≡ false → awaited_by_built_in rules (structure f (more a (more b none))) ≡ []
+waits_for_none rules f a b e n s = no_codes rules f a b n s ∙ cond-false (bytes_eq f (codes ":")) (awaited_by_execute a b) [] e
 
 -- a text that is one is no other
 other_text : (f own other : List ℕ) → bytes_eq f own ≡ true → bytes_eq own other ≡ false → bytes_eq f other ≡ false
@@ -97,47 +99,47 @@ other_text f own other e n = let same : f ≡ own = (bytes_eq-Decides f own).0 e
 pub is_unification : {N : Type 0} (f : N → List ℕ) (h : Held N) (name : N) (left right : Cell N) → bytes_eq (f name) (codes ":") ≡ false → bytes_eq (f name) (codes "=") ≡ true → IsUnification f h (two_terms f h name left right) left right
 is_unification f h name left right ne e = record {
   call = other_name (f name) (term_of f h left) (term_of f h right) ne;
-  built_in = cond-true (bytes_eq (f name) (codes "=")) (Some (unifies (term_of f h left) (term_of f h right))) (by_assignment (f name) (term_of f h left) (term_of f h right)) e;
+  built_in = λ rules. cond-true (bytes_eq (f name) (codes "=")) (Some (unifies (term_of f h left) (term_of f h right))) (by_assignment rules (f name) (term_of f h left) (term_of f h right)) e;
   awaits = other_head (f name) (term_of f h left) (term_of f h right) ne;
-  waits_no_more = waits_for_none (f name) (term_of f h left) (term_of f h right) ne (other_text (f name) (codes "=") (codes ":=") e refl) (other_text (f name) (codes "=") (codes "atom_from") e refl);
+  waits_no_more = λ rules. waits_for_none rules (f name) (term_of f h left) (term_of f h right) ne (other_text (f name) (codes "=") (codes ":=") e refl) (other_text (f name) (codes "=") (codes "atom_from") e refl);
 }
 
 pub is_assignment : {N : Type 0} (f : N → List ℕ) (h : Held N) (name : N) (left right : Cell N) → bytes_eq (f name) (codes ":") ≡ false → bytes_eq (f name) (codes "=") ≡ false → bytes_eq (f name) (codes ":=") ≡ true → IsAssignment f h (two_terms f h name left right) left right
 is_assignment f h name left right ne other e = record {
   call = other_name (f name) (term_of f h left) (term_of f h right) ne;
-  built_in = no_unification (f name) (term_of f h left) (term_of f h right) other ∙ cond-true (bytes_eq (f name) (codes ":=")) (assigned (term_of f h left) (evaluated (term_of f h right))) (by_spelling (f name) (term_of f h left) (term_of f h right)) e;
+  built_in = λ rules. no_unification rules (f name) (term_of f h left) (term_of f h right) other ∙ cond-true (bytes_eq (f name) (codes ":=")) (assigned (term_of f h left) (evaluated (term_of f h right))) (by_spelling rules (f name) (term_of f h left) (term_of f h right)) e;
   awaits = other_head (f name) (term_of f h left) (term_of f h right) ne;
-  waits_for = cond-true (bytes_eq (f name) (codes ":=")) (awaited_by_evaluated (evaluated (term_of f h right))) (waits_by_spelling (f name) (term_of f h left) (term_of f h right)) e;
+  waits_for = λ rules. cond-true (bytes_eq (f name) (codes ":=")) (awaited_by_evaluated (evaluated (term_of f h right))) (waits_by_spelling rules (f name) (term_of f h left) (term_of f h right)) e;
 }
 
 pub is_spelling : {N : Type 0} (f : N → List ℕ) (h : Held N) (name : N) (left right : Cell N) → bytes_eq (f name) (codes ":") ≡ false → bytes_eq (f name) (codes "=") ≡ false → bytes_eq (f name) (codes ":=") ≡ false → bytes_eq (f name) (codes "atom_from") ≡ true →
     IsSpelling f h (two_terms f h name left right) left right
 is_spelling f h name left right ne other n e = record {
   call = other_name (f name) (term_of f h left) (term_of f h right) ne;
-  built_in = no_assignment (f name) (term_of f h left) (term_of f h right) other n ∙ cond-true (bytes_eq (f name) (codes "atom_from")) (spells (term_of f h right) (spelling most_spelled (term_of f h left))) (by_module (f name) (term_of f h left) (term_of f h right)) e;
+  built_in = λ rules. no_assignment rules (f name) (term_of f h left) (term_of f h right) other n ∙ cond-true (bytes_eq (f name) (codes "atom_from")) (spells (term_of f h right) (spelling (most_spelled rules) (term_of f h left))) (by_module (f name) (term_of f h left) (term_of f h right)) e;
   awaits = other_head (f name) (term_of f h left) (term_of f h right) ne;
-  waits_for = no_expression (f name) (term_of f h left) (term_of f h right) n ∙ cond-true (bytes_eq (f name) (codes "atom_from")) (awaited_by_spelling (spelling most_spelled (term_of f h left))) (waits_by_module (f name) (term_of f h left) (term_of f h right)) e;
+  waits_for = λ rules. no_expression rules (f name) (term_of f h left) (term_of f h right) n ∙ cond-true (bytes_eq (f name) (codes "atom_from")) (awaited_by_spelling (spelling (most_spelled rules) (term_of f h left))) (waits_by_module (f name) (term_of f h left) (term_of f h right)) e;
 }
 
 pub other_two : {N : Type 0} (f : N → List ℕ) (h : Held N) (name : N) (left right : Cell N) → bytes_eq (f name) (codes ":") ≡ false → bytes_eq (f name) (codes "=") ≡ false → bytes_eq (f name) (codes ":=") ≡ false → bytes_eq (f name) (codes "atom_from") ≡ false →
     IsNoGoal (two_terms f h name left right) []
 other_two f h name left right ne other n s = record {
   call = other_name (f name) (term_of f h left) (term_of f h right) ne;
-  built_in = no_spelling (f name) (term_of f h left) (term_of f h right) other n s ∙ cond-false (bytes_eq (f name) (codes ":")) (execute_move (term_of f h left) (term_of f h right)) None ne;
+  built_in = λ rules. no_spelling rules (f name) (term_of f h left) (term_of f h right) other n s ∙ cond-false (bytes_eq (f name) (codes ":")) (execute_move (term_of f h left) (term_of f h right)) None ne;
   awaits = other_head (f name) (term_of f h left) (term_of f h right) ne;
-  waits_no_more = waits_for_none (f name) (term_of f h left) (term_of f h right) ne n s;
+  waits_no_more = λ rules. waits_for_none rules (f name) (term_of f h left) (term_of f h right) ne n s;
 }
 
 -- ---- under the name `:`
 
-module_move : (f : List ℕ) (a b : Term) → bytes_eq f (codes ":") ≡ true → built_in_move (structure f (more a (more b none))) ≡ execute_move a b
-module_move f a b e =
-    no_spelling f a b (other_text f (codes ":") (codes "=") e refl) (other_text f (codes ":") (codes ":=") e refl) (other_text f (codes ":") (codes "atom_from") e refl)
+module_move : (rules : Rules) (f : List ℕ) (a b : Term) → bytes_eq f (codes ":") ≡ true → built_in_move rules (structure f (more a (more b none))) ≡ execute_move a b
+module_move rules f a b e =
+    no_spelling rules f a b (other_text f (codes ":") (codes "=") e refl) (other_text f (codes ":") (codes ":=") e refl) (other_text f (codes ":") (codes "atom_from") e refl)
     ∙ cond-true (bytes_eq f (codes ":")) (execute_move a b) None e
 
-module_waits : (f : List ℕ) (a b : Term) → bytes_eq f (codes ":") ≡ true → awaited_by_built_in (structure f (more a (more b none))) ≡ awaited_by_execute a b
-module_waits f a b e =
-    no_codes f a b (other_text f (codes ":") (codes ":=") e refl) (other_text f (codes ":") (codes "atom_from") e refl)
+module_waits : (rules : Rules) (f : List ℕ) (a b : Term) → bytes_eq f (codes ":") ≡ true → awaited_by_built_in rules (structure f (more a (more b none))) ≡ awaited_by_execute a b
+module_waits rules f a b e =
+    no_codes rules f a b (other_text f (codes ":") (codes ":=") e refl) (other_text f (codes ":") (codes "atom_from") e refl)
     ∙ cond-true (bytes_eq f (codes ":")) (awaited_by_execute a b) [] e
 
 -- ---- modules and callees
@@ -344,7 +346,7 @@ is_call f h g a b c e k n =
       is = calls g (f c.module_name) (f c.name) a b e k.module_is k.goal_is.name_is other ∙ ap (λ x. Some (call_with (f c.module_name) (f c.name) (arguments_of_goal x))) (sym k.goal_is.means);
       counted = ap (λ x. count_of (arguments_of_goal x)) k.goal_is.means ∙ k.goal_is.counted;
       awaits = own_head g a b e ∙ call_awaits (f c.module_name) (f c.name) a b k.module_is k.goal_is.name_is;
-      waits_no_more = module_waits g a b e ∙ no_execute_move (f c.module_name) a b k.module_is other;
+      waits_no_more = λ rules. module_waits rules g a b e ∙ no_execute_move (f c.module_name) a b k.module_is other;
     }
 
 -- the goal of a call whose structure is this
@@ -358,17 +360,17 @@ is_execution f h g a b c s p e k y at lt six =
     let means : b ≡ term_of f h (Structure s) = sym k.goal_is.means ∙ ap (term_of f h) (cell_by c s at) in
     record {
       call = no_call g (f c.module_name) a b k.module_is other;
-      built_in = λ o is. module_move g a b e ∙ execution_moves (f c.module_name) a b (order_at f h o) k.module_is other (ap execute_arguments means ∙ order_in f h s o p lt six is);
+      built_in = λ rules o is. module_move rules g a b e ∙ execution_moves (f c.module_name) a b (order_at f h o) k.module_is other (ap execute_arguments means ∙ order_in f h s o p lt six is);
       awaits = own_head g a b e ∙ call_awaits (f c.module_name) (f c.name) a b k.module_is k.goal_is.name_is;
-      waits_for = λ o is. module_waits g a b e ∙ execution_waits (f c.module_name) a b (order_at f h o) k.module_is other (ap execute_arguments means ∙ order_in f h s o p lt six is);
+      waits_for = λ rules o is. module_waits rules g a b e ∙ execution_waits (f c.module_name) a b (order_at f h o) k.module_is other (ap execute_arguments means ∙ order_in f h s o p lt six is);
     }
 
 nothing_called : (g : List ℕ) (a b : Term) (vs : List ℕ) → bytes_eq g (codes ":") ≡ true → CallsNothing a b vs → IsNoGoal (structure g (more a (more b none))) vs
 nothing_called g a b vs e n = record {
   call = n.call g;
-  built_in = module_move g a b e ∙ n.executes;
+  built_in = λ rules. module_move rules g a b e ∙ n.executes;
   awaits = own_head g a b e ∙ n.awaits;
-  waits_no_more = module_waits g a b e ∙ n.executing;
+  waits_no_more = λ rules. module_waits rules g a b e ∙ n.executing;
 }
 
 -- of an order there are six arguments
@@ -422,10 +424,10 @@ whole_kind {N = N} f h q k e is = let P : Option N → Type 0 = λ o. IsKind f h
 -- ---- atoms
 
 pub is_true_goal : (t : Term) (a : List ℕ) → t ≡ atom a → bytes_eq a (codes "true") ≡ true → IsTrueGoal t
-is_true_goal t a e is = record { call = ap call_of e; built_in = ap built_in_move e ∙ cond-true (bytes_eq a (codes "true")) (Some goes) None is; awaits = ap awaited_at_head e; waits_no_more = ap awaited_by_built_in e }
+is_true_goal t a e is = record { call = ap call_of e; built_in = λ rules. ap (built_in_move rules) e ∙ cond-true (bytes_eq a (codes "true")) (Some goes) None is; awaits = ap awaited_at_head e; waits_no_more = λ rules. ap (awaited_by_built_in rules) e }
 
 pub other_atom : (t : Term) (a : List ℕ) → t ≡ atom a → bytes_eq a (codes "true") ≡ false → IsNoGoal t []
-other_atom t a e is = record { call = ap call_of e; built_in = ap built_in_move e ∙ cond-false (bytes_eq a (codes "true")) (Some goes) None is; awaits = ap awaited_at_head e; waits_no_more = ap awaited_by_built_in e }
+other_atom t a e is = record { call = ap call_of e; built_in = λ rules. ap (built_in_move rules) e ∙ cond-false (bytes_eq a (codes "true")) (Some goes) None is; awaits = ap awaited_at_head e; waits_no_more = λ rules. ap (awaited_by_built_in rules) e }
 
 pub no_goal_yet : (t : Term) (v : ℕ) → t ≡ variable v → IsNoGoal t (v ∷ [])
-no_goal_yet t v e = record { call = ap call_of e; built_in = ap built_in_move e; awaits = ap awaited_at_head e; waits_no_more = ap awaited_by_built_in e }
+no_goal_yet t v e = record { call = ap call_of e; built_in = λ rules. ap (built_in_move rules) e; awaits = ap awaited_at_head e; waits_no_more = λ rules. ap (awaited_by_built_in rules) e }

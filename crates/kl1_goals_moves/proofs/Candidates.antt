@@ -2,6 +2,7 @@
 use Rattle.std.proofs.Common.{◌≡◌, ℕ, suc, ◌+◌, ◌<◌, ◌≤◌, ◌==◌, Bool, true, false, if◌then◌else◌, List, [], ◌∷◌, ◌++◌, length, refl, sym, ap, ◌∙◌, arith}
 use Rattle.std.specs.Prelude.{Option, Some, None, option_map}
 use Rattle.std.proofs.lemmas.Bool.{cond-true, cond-false, eq-eqb, ne_eqb}
+use Rattle.kl1_model.specs.declared.rules.Rules.{Rules}
 use Rattle.kl1_model.specs.Term.{Term, Terms, Replacement}
 use Rattle.kl1_model.specs.Module.{Clause, Module}
 use Rattle.kl1_model.specs.Match as model
@@ -59,29 +60,29 @@ call_goes_on modules k ne =
     cond-false (fails modules k) (Some (raises failure)) None
     (fails_not (fails modules k) (candidates_of modules k) (λ q. ne (least-chosen 1 (clauses_of modules k) k.arguments ∙ q)))
 
-move_by-call : (modules : List Module) (t : Term) (k : model.Call) (n : ℕ) → call_of t ≡ Some k → move_by modules t n ≡ call_move modules k n
-move_by-call modules t k n e = ap (term_move modules t n) e
+move_by-call : (rules : Rules) (modules : List Module) (t : Term) (k : model.Call) (n : ℕ) → call_of t ≡ Some k → move_by rules modules t n ≡ call_move modules k n
+move_by-call rules modules t k n e = ap (term_move rules modules t n) e
 
-pub fails_by : (modules : List Module) (t : Term) (k : model.Call) (n : ℕ) → call_of t ≡ Some k → n ≡ 0 → least_clause (clauses_of modules k) k.arguments ≡ Some 0 → move_by modules t n ≡ Some (raises failure)
-fails_by modules t k n e z l = move_by-call modules t k n e ∙ ap (call_move modules k) z ∙ call_fails modules k l
+pub fails_by : (rules : Rules) (modules : List Module) (t : Term) (k : model.Call) (n : ℕ) → call_of t ≡ Some k → n ≡ 0 → least_clause (clauses_of modules k) k.arguments ≡ Some 0 → move_by rules modules t n ≡ Some (raises failure)
+fails_by rules modules t k n e z l = move_by-call rules modules t k n e ∙ ap (call_move modules k) z ∙ call_fails modules k l
 
-pub goes_on_by : (modules : List Module) (t : Term) (k : model.Call) (n : ℕ) → call_of t ≡ Some k → n ≡ 0 → (least_clause (clauses_of modules k) k.arguments ≡ Some 0 → ⊥) → move_by modules t n ≡ None
-goes_on_by modules t k n e z l = move_by-call modules t k n e ∙ ap (call_move modules k) z ∙ call_goes_on modules k l
+pub goes_on_by : (rules : Rules) (modules : List Module) (t : Term) (k : model.Call) (n : ℕ) → call_of t ≡ Some k → n ≡ 0 → (least_clause (clauses_of modules k) k.arguments ≡ Some 0 → ⊥) → move_by rules modules t n ≡ None
+goes_on_by rules modules t k n e z l = move_by-call rules modules t k n e ∙ ap (call_move modules k) z ∙ call_goes_on modules k l
 
-pub commits_by : (modules : List Module) (t : Term) (k : model.Call) (n : ℕ) (o : Option Candidate) → call_of t ≡ Some k → 0 < n → numbered n (candidates_from 1 (clauses_of modules k) k.arguments) ≡ o → move_by modules t n ≡ option_map (λ q. commits q) o
-commits_by modules t k n o e lt c = move_by-call modules t k n e ∙ by_number modules k n lt ∙ ap (λ x. option_map (λ q. commits q) x) c
+pub commits_by : (rules : Rules) (modules : List Module) (t : Term) (k : model.Call) (n : ℕ) (o : Option Candidate) → call_of t ≡ Some k → 0 < n → numbered n (candidates_from 1 (clauses_of modules k) k.arguments) ≡ o → move_by rules modules t n ≡ option_map (λ q. commits q) o
+commits_by rules modules t k n o e lt c = move_by-call rules modules t k n e ∙ by_number modules k n lt ∙ ap (λ x. option_map (λ q. commits q) x) c
 
 -- ---- goals that are no calls
 
-pub by_zero : (modules : List Module) (t : Term) (n : ℕ) (o : Option model_moves.Move) → call_of t ≡ None → built_in_move t ≡ o → n ≡ 0 → move_by modules t n ≡ o
-by_zero modules t n o e b z = ap (term_move modules t n) e ∙ cond-true (n == 0) (built_in_move t) None (eq-eqb n 0 z) ∙ b
+pub by_zero : (rules : Rules) (modules : List Module) (t : Term) (n : ℕ) (o : Option model_moves.Move) → call_of t ≡ None → built_in_move rules t ≡ o → n ≡ 0 → move_by rules modules t n ≡ o
+by_zero rules modules t n o e b z = ap (term_move rules modules t n) e ∙ cond-true (n == 0) (built_in_move rules t) None (eq-eqb n 0 z) ∙ b
 
-pub by_other : (modules : List Module) (t : Term) (n : ℕ) → call_of t ≡ None → (n ≡ 0 → ⊥) → move_by modules t n ≡ None
-by_other modules t n e z = ap (term_move modules t n) e ∙ cond-false (n == 0) (built_in_move t) None (ne_eqb n 0 z)
+pub by_other : (rules : Rules) (modules : List Module) (t : Term) (n : ℕ) → call_of t ≡ None → (n ≡ 0 → ⊥) → move_by rules modules t n ≡ None
+by_other rules modules t n e z = ap (term_move rules modules t n) e ∙ cond-false (n == 0) (built_in_move rules t) None (ne_eqb n 0 z)
 
-pub by_none : (modules : List Module) (t : Term) (vs : List ℕ) (n : ℕ) → IsNoGoal t vs → move_by modules t n ≡ None
-by_none modules t vs n g = ap (term_move modules t n) g.call ∙ none_either (n == 0) g.built_in
+pub by_none : (rules : Rules) (modules : List Module) (t : Term) (vs : List ℕ) (n : ℕ) → IsNoGoal t vs → move_by rules modules t n ≡ None
+by_none rules modules t vs n g = ap (term_move rules modules t n) g.call ∙ none_either (n == 0) (g.built_in rules)
   where
-    none_either : (b : Bool) → built_in_move t ≡ None → (if b then built_in_move t else None) ≡ None
+    none_either : (b : Bool) → built_in_move rules t ≡ None → (if b then built_in_move rules t else None) ≡ None
     none_either true e = e
     none_either false e = refl

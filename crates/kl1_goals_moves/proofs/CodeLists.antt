@@ -3,10 +3,14 @@ use Rattle.std.proofs.Common.{◌≡◌, ℕ, zero, suc, ◌+◌, ◌-◌, ◌<�
 use Rattle.std.specs.Prelude.{pos, negsuc, ◌&&◌, codes, bytes_eq}
 use Rattle.std.specs.List.{list_all}
 use Rattle.std.proofs.lemmas.Bool.{cond-true, le-leb}
+use Rattle.kl1_model.specs.declared.limits.TheConstants.{MOST_NAME_BYTES, MOST_SPELLED_BEFORE}
+use Rattle.kl1_model.specs.declared.rules.Rules.{Rules}
+use Rattle.kl1_model.specs.declared.rules.Rules.TheVariants.{One, Two, Three}
+use Rattle.kl1_model.specs.State.{most_spelled}
 use Rattle.kl1_model.specs.Text.{is_name_byte, is_text}
 use Rattle.kl1_model.specs.Term.{Term, variable, integer, atom, structure, none, more}
 use Rattle.kl1_model.specs.Look as model
-use Rattle.kl1_model.specs.Look.{spelled, awaits_code, misspelled, spelled_before, spelled_by, spelling, most_spelled}
+use Rattle.kl1_model.specs.Look.{spelled, awaits_code, misspelled, spelled_before, spelled_by, spelling}
 use Rattle.kl1_model.specs.declared.built_in.BuiltIn.{BuiltIn}
 use Rattle.kl1_text.specs.Reading.{Reads}
 use Rattle.kl1_store.specs.declared.cell.Cell.{Cell}
@@ -68,12 +72,12 @@ after_before text n (awaits_code v) = refl
 after_before text n misspelled = refl
 
 -- what the rest of a list spells after a text is what the whole list spells
-abbrev pub SpellsOn : {N : Type 0} → (BuiltIn → N) → Held N → List ℕ → ℕ → Cell N → Cell N → Type 0
-SpellsOn {N = N} built h text left rest whole = (f : N → List ℕ) → Reads built f → spelled_after text (spelling left (term_of f h rest)) ≡ spelling most_spelled (term_of f h whole)
+abbrev pub SpellsOn : {N : Type 0} → (BuiltIn → N) → Held N → ℕ → List ℕ → ℕ → Cell N → Cell N → Type 0
+SpellsOn {N = N} built h most text left rest whole = (f : N → List ℕ) → Reads built f → spelled_after text (spelling left (term_of f h rest)) ≡ spelling most (term_of f h whole)
 
-pub no_codes_yet : {N : Type 0} (built : BuiltIn → N) (h : Held N) (text : List ℕ) (left : ℕ) (rest whole : Cell N) → text ≡ [] → left ≡ most_spelled → rest ≡ whole → SpellsOn built h text left rest whole
-no_codes_yet built h text left rest whole et el er = λ f r.
-    ap (λ l. spelled_after l (spelling left (term_of f h rest))) et ∙ nothing (spelling left (term_of f h rest)) ∙ ap (λ n. spelling n (term_of f h rest)) el ∙ ap (λ x. spelling most_spelled (term_of f h x)) er
+pub no_codes_yet : {N : Type 0} (built : BuiltIn → N) (h : Held N) (most : ℕ) (text : List ℕ) (left : ℕ) (rest whole : Cell N) → text ≡ [] → left ≡ most → rest ≡ whole → SpellsOn built h most text left rest whole
+no_codes_yet built h most text left rest whole et el er = λ f r.
+    ap (λ l. spelled_after l (spelling left (term_of f h rest))) et ∙ nothing (spelling left (term_of f h rest)) ∙ ap (λ n. spelling n (term_of f h rest)) el ∙ ap (λ x. spelling most (term_of f h x)) er
   where
     nothing : (x : model.Spelling) → spelled_after [] x ≡ x
     nothing (spelled rest) = refl
@@ -97,9 +101,15 @@ bytes_behind (m ∷ text) n e b = by (is_name_byte m) (list_all is_name_byte tex
 pub all_bytes : (text text' : List ℕ) (n : ℕ) → text' ≡ text ++ n ∷ [] → list_all is_name_byte text ≡ true → is_name_byte n ≡ true → list_all is_name_byte text' ≡ true
 all_bytes text text' n own e b = ap (list_all is_name_byte) own ∙ bytes_behind text n e b
 
-pub one_more : (text text' : List ℕ) (n left : ℕ) → text' ≡ text ++ n ∷ [] → 0 < left → length text + left ≡ most_spelled → length text' + (left - 1) ≡ most_spelled
-one_more text text' n left own some count = let e : length text' ≡ length text + 1 = ap length own ∙ length-append text (n ∷ []) in omega (arith, e, some, count)
+pub one_more : (text text' : List ℕ) (n left most : ℕ) → text' ≡ text ++ n ∷ [] → 0 < left → length text + left ≡ most → length text' + (left - 1) ≡ most
+one_more text text' n left most own some count = let e : length text' ≡ length text + 1 = ap length own ∙ length-append text (n ∷ []) in omega (arith, e, some, count)
+
+-- by any rules no more is spelled than a name may have
+pub spelled_in_names : (rules : Rules) → most_spelled rules ≤ MOST_NAME_BYTES
+spelled_in_names One = let le : MOST_SPELLED_BEFORE ≤ MOST_NAME_BYTES = omega arith in le
+spelled_in_names Two = let le : MOST_SPELLED_BEFORE ≤ MOST_NAME_BYTES = omega arith in le
+spelled_in_names Three = let le : MOST_NAME_BYTES ≤ MOST_NAME_BYTES = omega arith in le
 
 -- the text is a name at the end
-pub text_is : (text : List ℕ) (left : ℕ) → length text + left ≡ most_spelled → list_all is_name_byte text ≡ true → is_text text ≡ true
-text_is text left n e = let le : length text ≤ most_spelled = omega (arith, n) in ap (λ b. b && list_all is_name_byte text) (le-leb (length text) most_spelled le) ∙ e
+pub text_is : (rules : Rules) (text : List ℕ) (left : ℕ) → length text + left ≡ most_spelled rules → list_all is_name_byte text ≡ true → is_text text ≡ true
+text_is rules text left n e = let few = spelled_in_names rules in let le : length text ≤ MOST_NAME_BYTES = omega (arith, n, few) in ap (λ b. b && list_all is_name_byte text) (le-leb (length text) MOST_NAME_BYTES le) ∙ e

@@ -5,3 +5,4 @@ pub mod CodeLists
 pub mod Candidates
 pub mod Taking
 pub mod Hooked
+pub mod Substituting

@@ -3,7 +3,7 @@ use Rattle.std.proofs.Common.{◌≡◌, ℕ, Bool, true, false, List, refl, sym
 use Rattle.std.specs.Prelude.{pos, negsuc, nat_le, ◌||◌, codes, bytes_eq}
 use Rattle.std.proofs.lemmas.Bool.{cond-true, cond-false}
 use Rattle.kl1_model.specs.Term.{Term, variable, integer, atom, structure, Terms, none, more}
-use Rattle.kl1_model.specs.Limits.{most_priority}
+use Rattle.kl1_model.specs.declared.limits.TheConstants.{MOST_PRIORITY}
 use Rattle.kl1_model.specs.Look as model
 use Rattle.kl1_model.specs.Look.{callee_look, goal_look, priority_look, allowance_look, number_of_term, arguments_look}
 use Rattle.kl1_store.specs.declared.cell.Cell.{Cell}
@@ -31,7 +31,7 @@ look_then Wrong y = refl
 
 priority_top : {N : Type 0} (f : N → List ℕ) (t : Term) (x : Cell N) → HasTop f t x → look_of (priority_by x) ≡ priority_look t
 priority_top f t (Variable v) e = sym (ap priority_look e)
-priority_top f t (Integer (pos n)) e = look_right (nat_le n most_priority) ∙ sym (ap priority_look e)
+priority_top f t (Integer (pos n)) e = look_right (nat_le n MOST_PRIORITY) ∙ sym (ap priority_look e)
 priority_top f t (Integer (negsuc n)) e = sym (ap priority_look e)
 priority_top f t (Atom a) e = sym (ap priority_look e)
 priority_top f (variable v) (Structure s) e = absurd (cc)

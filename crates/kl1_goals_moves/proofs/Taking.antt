@@ -12,7 +12,9 @@ use Rattle.kl1_model.specs.declared.number.Number.{Number}
 use Rattle.kl1_model.specs.declared.number.Number.TheVariants.{Value, Overflow, ZeroDivisor}
 use Rattle.kl1_model.specs.Text.{text_of}
 use Rattle.kl1_model.specs.Arithmetic.{evaluated}
-use Rattle.kl1_model.specs.Look.{spelling, most_spelled, arguments_look}
+use Rattle.kl1_model.specs.Look.{spelling, arguments_look}
+use Rattle.kl1_model.specs.declared.rules.Rules.{Rules}
+use Rattle.kl1_model.specs.State.{most_spelled}
 use Rattle.kl1_model.specs.Reduction as model_moves
 use Rattle.kl1_model.specs.Reduction.{raises, unifies, goes, illegal_input, built_in_move}
 use Rattle.kl1_model.specs.code.Waits.{move_by, awaited_by_term, awaited_by_call, awaited_by_clauses, awaited_at_head, awaited_by_evaluated, awaited_by_spelling, awaited_by_look, awaited_by_built_in}
@@ -129,46 +131,48 @@ judged {N = N} built f h c p cs number goal places answer r some own a t =
 
 -- ---- moves of terms
 
-pub fails_as : {N : Type 0} (f : N → List ℕ) (h : Held N) (modules : List Module) (t : Term) (c : Call N) (n : ℕ) (p : Predicate N) (places : List (Place N)) (text : List ℕ) (found : Option (Move N)) → IsCall f h t c → n ≡ 0 → FailsAs f h c (clauses_of modules (call_at f h c)) found → MovesAs f h modules t n p places text found
-fails_as f h modules t c n p places text None e z r = goes_on_by modules t (call_at f h c) n e.is z r
-fails_as f h modules t c n p places text (Some (move.Commits place)) e z r = absurd r
-fails_as f h modules t c n p places text (Some (move.Raises b)) e z r = fails_by modules t (call_at f h c) n e.is z r.1 ∙ ap (λ k. Some (raises (text_of k))) (sym r.0)
-fails_as f h modules t c n p places text (Some (move.Unifies a b)) e z r = absurd r
-fails_as f h modules t c n p places text (Some (move.Names a)) e z r = absurd r
-fails_as f h modules t c n p places text (Some (move.Opens o)) e z r = absurd r
-fails_as f h modules t c n p places text (Some move.Goes) e z r = absurd r
+pub fails_as : {N : Type 0} (f : N → List ℕ) (h : Held N) (rules : Rules) (modules : List Module) (t : Term) (c : Call N) (n : ℕ) (p : Predicate N) (places : List (Place N)) (text : List ℕ) (found : Option (Move N)) → IsCall f h t c → n ≡ 0 → FailsAs f h c (clauses_of modules (call_at f h c)) found → MovesAs f h rules modules t n p places text found
+fails_as f h rules modules t c n p places text None e z r = goes_on_by rules modules t (call_at f h c) n e.is z r
+fails_as f h rules modules t c n p places text (Some (move.Commits place)) e z r = absurd r
+fails_as f h rules modules t c n p places text (Some (move.Raises b)) e z r = fails_by rules modules t (call_at f h c) n e.is z r.1 ∙ ap (λ k. Some (raises (text_of k))) (sym r.0)
+fails_as f h rules modules t c n p places text (Some (move.Unifies a b)) e z r = absurd r
+fails_as f h rules modules t c n p places text (Some (move.Names a)) e z r = absurd r
+fails_as f h rules modules t c n p places text (Some (move.Opens o)) e z r = absurd r
+fails_as f h rules modules t c n p places text (Some move.Goes) e z r = absurd r
+fails_as f h rules modules t c n p places text (Some move.GivesWay) e z r = absurd r
 
-pub commits_as : {N : Type 0} (f : N → List ℕ) (h : Held N) (modules : List Module) (t : Term) (c : Call N) (n : ℕ) (p : Predicate N) (places : List (Place N)) (text : List ℕ) (found : Option (Move N)) → IsCall f h t c → 0 < n → CommitsAs f h c p (clauses_of modules (call_at f h c)) n places found → MovesAs f h modules t n p places text found
-commits_as f h modules t c n p places text None e lt r = commits_by modules t (call_at f h c) n None e.is lt r
-commits_as f h modules t c n p places text (Some (move.Commits place)) e lt r = record { candidate = r.candidate; moves = commits_by modules t (call_at f h c) n (Some r.candidate) e.is lt r.found; is = r.is }
-commits_as f h modules t c n p places text (Some (move.Raises b)) e lt r = absurd r
-commits_as f h modules t c n p places text (Some (move.Unifies a b)) e lt r = absurd r
-commits_as f h modules t c n p places text (Some (move.Names a)) e lt r = absurd r
-commits_as f h modules t c n p places text (Some (move.Opens o)) e lt r = absurd r
-commits_as f h modules t c n p places text (Some move.Goes) e lt r = absurd r
+pub commits_as : {N : Type 0} (f : N → List ℕ) (h : Held N) (rules : Rules) (modules : List Module) (t : Term) (c : Call N) (n : ℕ) (p : Predicate N) (places : List (Place N)) (text : List ℕ) (found : Option (Move N)) → IsCall f h t c → 0 < n → CommitsAs f h c p (clauses_of modules (call_at f h c)) n places found → MovesAs f h rules modules t n p places text found
+commits_as f h rules modules t c n p places text None e lt r = commits_by rules modules t (call_at f h c) n None e.is lt r
+commits_as f h rules modules t c n p places text (Some (move.Commits place)) e lt r = record { candidate = r.candidate; moves = commits_by rules modules t (call_at f h c) n (Some r.candidate) e.is lt r.found; is = r.is }
+commits_as f h rules modules t c n p places text (Some (move.Raises b)) e lt r = absurd r
+commits_as f h rules modules t c n p places text (Some (move.Unifies a b)) e lt r = absurd r
+commits_as f h rules modules t c n p places text (Some (move.Names a)) e lt r = absurd r
+commits_as f h rules modules t c n p places text (Some (move.Opens o)) e lt r = absurd r
+commits_as f h rules modules t c n p places text (Some move.Goes) e lt r = absurd r
+commits_as f h rules modules t c n p places text (Some move.GivesWay) e lt r = absurd r
 
 -- what comes of a cell that becomes a number
-becomes_as : {N : Type 0} (f : N → List ℕ) (h : Held N) (modules : List Module) (t : Term) (n : ℕ) (p : Predicate N) (places : List (Place N)) (text : List ℕ) (a : Cell N) (x : Number) → move_by modules t n ≡ Some (model_moves.becomes (term_of f h a) x) → MovesAs f h modules t n p places text (Some (assigning.becomes a x))
-becomes_as f h modules t n p places text a (Value z) e = e ∙ ap (λ u. Some (unifies (term_of f h a) u)) (sym (at_integer f h (Integer z) z refl))
-becomes_as f h modules t n p places text a Overflow e = e
-becomes_as f h modules t n p places text a ZeroDivisor e = e
+becomes_as : {N : Type 0} (f : N → List ℕ) (h : Held N) (rules : Rules) (modules : List Module) (t : Term) (n : ℕ) (p : Predicate N) (places : List (Place N)) (text : List ℕ) (a : Cell N) (x : Number) → move_by rules modules t n ≡ Some (model_moves.becomes (term_of f h a) x) → MovesAs f h rules modules t n p places text (Some (assigning.becomes a x))
+becomes_as f h rules modules t n p places text a (Value z) e = e ∙ ap (λ u. Some (unifies (term_of f h a) u)) (sym (at_integer f h (Integer z) z refl))
+becomes_as f h rules modules t n p places text a Overflow e = e
+becomes_as f h rules modules t n p places text a ZeroDivisor e = e
 
 -- and of one that becomes what an expression comes to
-pub assigned_as : {N : Type 0} (f : N → List ℕ) (h : Held N) (modules : List Module) (t : Term) (n : ℕ) (p : Predicate N) (places : List (Place N)) (text : List ℕ) (a b : Cell N) (x : Evaluated ℕ) → IsAssignment f h t a b → n ≡ 0 → evaluated_of (λ v. v) x ≡ evaluated (term_of f h b) →
-    MovesAs f h modules t n p places text (assigning.assigned a x)
-assigned_as f h modules t n p places text a b x u z e = by x (by_zero modules t n (model_moves.assigned (term_of f h a) (evaluated (term_of f h b))) u.call u.built_in z ∙ ap (model_moves.assigned (term_of f h a)) (sym e))
+pub assigned_as : {N : Type 0} (f : N → List ℕ) (h : Held N) (rules : Rules) (modules : List Module) (t : Term) (n : ℕ) (p : Predicate N) (places : List (Place N)) (text : List ℕ) (a b : Cell N) (x : Evaluated ℕ) → IsAssignment f h t a b → n ≡ 0 → evaluated_of (λ v. v) x ≡ evaluated (term_of f h b) →
+    MovesAs f h rules modules t n p places text (assigning.assigned a x)
+assigned_as f h rules modules t n p places text a b x u z e = by x (by_zero rules modules t n (model_moves.assigned (term_of f h a) (evaluated (term_of f h b))) u.call (u.built_in rules) z ∙ ap (model_moves.assigned (term_of f h a)) (sym e))
   where
-    by : (x : Evaluated ℕ) → move_by modules t n ≡ model_moves.assigned (term_of f h a) (evaluated_of (λ v. v) x) → MovesAs f h modules t n p places text (assigning.assigned a x)
-    by (ComesTo k) m = becomes_as f h modules t n p places text a k m
+    by : (x : Evaluated ℕ) → move_by rules modules t n ≡ model_moves.assigned (term_of f h a) (evaluated_of (λ v. v) x) → MovesAs f h rules modules t n p places text (assigning.assigned a x)
+    by (ComesTo k) m = becomes_as f h rules modules t n p places text a k m
     by (Awaits v) m = m
     by IsNoExpression m = m
 
 -- what comes of a cell that becomes the name that codes spell
-pub named_as : {N : Type 0} (f : N → List ℕ) (h : Held N) (modules : List Module) (t : Term) (n : ℕ) (p : Predicate N) (places : List (Place N)) (text : List ℕ) (codes target : Cell N) (x : Spelling) → IsSpelling f h t codes target → n ≡ 0 →
-    spelling_of x text ≡ spelling most_spelled (term_of f h codes) → MovesAs f h modules t n p places text (naming target x)
-named_as f h modules t n p places text codes target x u z e = by x (by_zero modules t n (model_moves.spells (term_of f h target) (spelling most_spelled (term_of f h codes))) u.call u.built_in z ∙ ap (model_moves.spells (term_of f h target)) (sym e))
+pub named_as : {N : Type 0} (f : N → List ℕ) (h : Held N) (rules : Rules) (modules : List Module) (t : Term) (n : ℕ) (p : Predicate N) (places : List (Place N)) (text : List ℕ) (codes target : Cell N) (x : Spelling) → IsSpelling f h t codes target → n ≡ 0 →
+    spelling_of x text ≡ spelling (most_spelled rules) (term_of f h codes) → MovesAs f h rules modules t n p places text (naming target x)
+named_as f h rules modules t n p places text codes target x u z e = by x (by_zero rules modules t n (model_moves.spells (term_of f h target) (spelling (most_spelled rules) (term_of f h codes))) u.call (u.built_in rules) z ∙ ap (model_moves.spells (term_of f h target)) (sym e))
   where
-    by : (x : Spelling) → move_by modules t n ≡ model_moves.spells (term_of f h target) (spelling_of x text) → MovesAs f h modules t n p places text (naming target x)
+    by : (x : Spelling) → move_by rules modules t n ≡ model_moves.spells (term_of f h target) (spelling_of x text) → MovesAs f h rules modules t n p places text (naming target x)
     by spelled.Spelled m = m
     by (spelled.Waits v) m = m
     by spelled.Misspelled m = m
@@ -188,11 +192,11 @@ one_order {N = N} h s o q a b =
     one e = cc
 
 -- what comes of an order by the look at it
-pub opened_as : {N : Type 0} (f : N → List ℕ) (h : Held N) (modules : List Module) (t : Term) (n : ℕ) (p : Predicate N) (places : List (Place N)) (text : List ℕ) (s : ℕ) (o : ExecuteArguments N) (x : Look) → IsExecution f h t s → n ≡ 0 → IsOrder h s o →
-    look_of x ≡ arguments_look (order_at f h o) → MovesAs f h modules t n p places text (opening s x)
-opened_as {N = N} f h modules t n p places text s o x u z at e = by x (by_zero modules t n (model_moves.ordered (order_at f h o) (arguments_look (order_at f h o))) u.call (u.built_in o at) z ∙ ap (model_moves.ordered (order_at f h o)) (sym e))
+pub opened_as : {N : Type 0} (f : N → List ℕ) (h : Held N) (rules : Rules) (modules : List Module) (t : Term) (n : ℕ) (p : Predicate N) (places : List (Place N)) (text : List ℕ) (s : ℕ) (o : ExecuteArguments N) (x : Look) → IsExecution f h t s → n ≡ 0 → IsOrder h s o →
+    look_of x ≡ arguments_look (order_at f h o) → MovesAs f h rules modules t n p places text (opening s x)
+opened_as {N = N} f h rules modules t n p places text s o x u z at e = by x (by_zero rules modules t n (model_moves.ordered (order_at f h o) (arguments_look (order_at f h o))) u.call (u.built_in rules o at) z ∙ ap (model_moves.ordered (order_at f h o)) (sym e))
   where
-    by : (x : Look) → move_by modules t n ≡ model_moves.ordered (order_at f h o) (look_of x) → MovesAs f h modules t n p places text (opening s x)
+    by : (x : Look) → move_by rules modules t n ≡ model_moves.ordered (order_at f h o) (look_of x) → MovesAs f h rules modules t n p places text (opening s x)
     by look.Right m = λ q k. m ∙ ap (λ (y : ExecuteArguments N). Some (model_moves.opens (order_at f h y))) (one_order h s o q at k)
     by (look.Waits v) m = m
     by look.Wrong m = m
@@ -200,36 +204,36 @@ opened_as {N = N} f h modules t n p places text s o x u z at e = by x (by_zero m
 -- ---- standing
 
 -- what a term waits for, by its head, its call and as a built-in goal
-awaited_parts : (modules : List Module) (t : Term) (hs bs : List ℕ) (o : Option model.Call) → awaited_at_head t ≡ hs → call_of t ≡ o → awaited_by_built_in t ≡ bs → awaited_by_term modules t ≡ hs ++ awaited_by_call modules o ++ bs
-awaited_parts modules t hs bs o a b c =
-    ap (λ vs. vs ++ awaited_by_call modules (call_of t) ++ awaited_by_built_in t) a ∙ ap (λ q. hs ++ awaited_by_call modules q ++ awaited_by_built_in t) b ∙ ap (λ vs. hs ++ awaited_by_call modules o ++ vs) c
+awaited_parts : (rules : Rules) (modules : List Module) (t : Term) (hs bs : List ℕ) (o : Option model.Call) → awaited_at_head t ≡ hs → call_of t ≡ o → awaited_by_built_in rules t ≡ bs → awaited_by_term rules modules t ≡ hs ++ awaited_by_call modules o ++ bs
+awaited_parts rules modules t hs bs o a b c =
+    ap (λ vs. vs ++ awaited_by_call modules (call_of t) ++ awaited_by_built_in rules t) a ∙ ap (λ q. hs ++ awaited_by_call modules q ++ awaited_by_built_in rules t) b ∙ ap (λ vs. hs ++ awaited_by_call modules o ++ vs) c
 
 same_by : (vs awaited : List ℕ) → awaited ≡ vs → AreSame awaited vs
 same_by vs awaited e = subst (λ (ws : List ℕ). AreSame ws vs) (sym e) (same_as_itself vs)
 
-pub call_stands : {N : Type 0} (f : N → List ℕ) (h : Held N) (modules : List Module) (t : Term) (c : Call N) (goal : Cell N) (named awaited : List ℕ) (choice : Option ℕ) → IsCall f h t c → goal ≡ cell_of c → awaited ≡ [] ++ named → Chooses (clauses_of modules (call_at f h c)) (arguments_of_goal (term_of f h goal)) named choice → StandsAs modules t awaited choice
-call_stands {N = N} f h modules t c goal named awaited choice e own a k =
+pub call_stands : {N : Type 0} (f : N → List ℕ) (h : Held N) (rules : Rules) (modules : List Module) (t : Term) (c : Call N) (goal : Cell N) (named awaited : List ℕ) (choice : Option ℕ) → IsCall f h t c → goal ≡ cell_of c → awaited ≡ [] ++ named → Chooses (clauses_of modules (call_at f h c)) (arguments_of_goal (term_of f h goal)) named choice → StandsAs rules modules t awaited choice
+call_stands {N = N} f h rules modules t c goal named awaited choice e own a k =
     let cs = clauses_of modules (call_at f h c) in
     let P : Cell N → Type 0 = λ x. Chooses cs (arguments_of_goal (term_of f h x)) named choice in
     let k = subst P own k in
-    let all : awaited_by_term modules t ≡ awaited_by_clauses cs (arguments_at f h c) = awaited_parts modules t [] [] (Some (call_at f h c)) e.awaits e.is e.waits_no_more ∙ append-nil (awaited_by_clauses cs (arguments_at f h c)) in
+    let all : awaited_by_term rules modules t ≡ awaited_by_clauses cs (arguments_at f h c) = awaited_parts rules modules t [] [] (Some (call_at f h c)) e.awaits e.is (e.waits_no_more rules) ∙ append-nil (awaited_by_clauses cs (arguments_at f h c)) in
     record {
-      clause_is = k.clause ∙ sym (term_clause-call modules t (call_at f h c) e.is);
-      awaits = subst (λ (ws : List ℕ). AreSame ws (awaited_by_term modules t)) (sym a) (subst (λ (ws : List ℕ). AreSame named ws) (sym all) k.awaited);
+      clause_is = k.clause ∙ sym (term_clause-call rules modules t (call_at f h c) e.is);
+      awaits = subst (λ (ws : List ℕ). AreSame ws (awaited_by_term rules modules t)) (sym a) (subst (λ (ws : List ℕ). AreSame named ws) (sym all) k.awaited);
     }
 
 -- a goal that is no call waits for what counts at its head, or as a built-in goal
-alone : (modules : List Module) (t : Term) (vs awaited : List ℕ) → call_of t ≡ None → awaited_at_head t ≡ vs → awaited_by_built_in t ≡ [] → awaited ≡ vs → AreSame awaited (awaited_by_term modules t)
-alone modules t vs awaited e h b a = same_by (awaited_by_term modules t) awaited (a ∙ sym (append-nil vs) ∙ sym (append-nil (vs ++ [])) ∙ sym (awaited_parts modules t vs [] None h e b))
+alone : (rules : Rules) (modules : List Module) (t : Term) (vs awaited : List ℕ) → call_of t ≡ None → awaited_at_head t ≡ vs → awaited_by_built_in rules t ≡ [] → awaited ≡ vs → AreSame awaited (awaited_by_term rules modules t)
+alone rules modules t vs awaited e h b a = same_by (awaited_by_term rules modules t) awaited (a ∙ sym (append-nil vs) ∙ sym (append-nil (vs ++ [])) ∙ sym (awaited_parts rules modules t vs [] None h e b))
 
-pub unification_stands : {N : Type 0} (f : N → List ℕ) (h : Held N) (modules : List Module) (t : Term) (left right : Cell N) (awaited : List ℕ) → IsUnification f h t left right → awaited ≡ [] → StandsAs modules t awaited (Some 0)
-unification_stands f h modules t left right awaited u a = record { clause_is = sym (term_clause-built_in modules t (unifies (term_of f h left) (term_of f h right)) u.call u.built_in); awaits = alone modules t [] awaited u.call u.awaits u.waits_no_more a }
+pub unification_stands : {N : Type 0} (f : N → List ℕ) (h : Held N) (rules : Rules) (modules : List Module) (t : Term) (left right : Cell N) (awaited : List ℕ) → IsUnification f h t left right → awaited ≡ [] → StandsAs rules modules t awaited (Some 0)
+unification_stands f h rules modules t left right awaited u a = record { clause_is = sym (term_clause-built_in rules modules t (unifies (term_of f h left) (term_of f h right)) u.call (u.built_in rules)); awaits = alone rules modules t [] awaited u.call u.awaits (u.waits_no_more rules) a }
 
-pub true_stands : (modules : List Module) (t : Term) (awaited : List ℕ) → IsTrueGoal t → awaited ≡ [] → StandsAs modules t awaited (Some 0)
-true_stands modules t awaited u a = record { clause_is = sym (term_clause-built_in modules t goes u.call u.built_in); awaits = alone modules t [] awaited u.call u.awaits u.waits_no_more a }
+pub true_stands : (rules : Rules) (modules : List Module) (t : Term) (awaited : List ℕ) → IsTrueGoal t → awaited ≡ [] → StandsAs rules modules t awaited (Some 0)
+true_stands rules modules t awaited u a = record { clause_is = sym (term_clause-built_in rules modules t goes u.call (u.built_in rules)); awaits = alone rules modules t [] awaited u.call u.awaits (u.waits_no_more rules) a }
 
-pub nothing_stands : (modules : List Module) (t : Term) (vs awaited : List ℕ) → IsNoGoal t vs → awaited ≡ vs → StandsAs modules t awaited None
-nothing_stands modules t vs awaited u a = record { clause_is = sym (term_clause-none modules t u.call u.built_in); awaits = alone modules t vs awaited u.call u.awaits u.waits_no_more a }
+pub nothing_stands : (rules : Rules) (modules : List Module) (t : Term) (vs awaited : List ℕ) → IsNoGoal t vs → awaited ≡ vs → StandsAs rules modules t awaited None
+nothing_stands rules modules t vs awaited u a = record { clause_is = sym (term_clause-none rules modules t u.call (u.built_in rules)); awaits = alone rules modules t vs awaited u.call u.awaits (u.waits_no_more rules) a }
 
 -- by which clause a goal can step that makes a cell what an expression comes to
 abbrev pub clause_by : {V : Type 0} → Evaluated V → Option ℕ
@@ -243,15 +247,15 @@ waits_by (ComesTo x) = []
 waits_by (Awaits v) = v ∷ []
 waits_by IsNoExpression = []
 
-pub assignment_stands : {N : Type 0} (f : N → List ℕ) (h : Held N) (modules : List Module) (t : Term) (left right : Cell N) (x : Evaluated ℕ) (awaited : List ℕ) → IsAssignment f h t left right → evaluated_of (λ v. v) x ≡ evaluated (term_of f h right) → awaited ≡ waits_by x →
-    StandsAs modules t awaited (clause_by x)
-assignment_stands f h modules t left right x awaited u e a =
-    by x (u.built_in ∙ ap (model_moves.assigned (term_of f h left)) (sym e)) (awaited_parts modules t [] (awaited_by_evaluated (evaluated (term_of f h right))) None u.awaits u.call u.waits_for ∙ ap awaited_by_evaluated (sym e)) a
+pub assignment_stands : {N : Type 0} (f : N → List ℕ) (h : Held N) (rules : Rules) (modules : List Module) (t : Term) (left right : Cell N) (x : Evaluated ℕ) (awaited : List ℕ) → IsAssignment f h t left right → evaluated_of (λ v. v) x ≡ evaluated (term_of f h right) → awaited ≡ waits_by x →
+    StandsAs rules modules t awaited (clause_by x)
+assignment_stands f h rules modules t left right x awaited u e a =
+    by x (u.built_in rules ∙ ap (model_moves.assigned (term_of f h left)) (sym e)) (awaited_parts rules modules t [] (awaited_by_evaluated (evaluated (term_of f h right))) None u.awaits u.call (u.waits_for rules) ∙ ap awaited_by_evaluated (sym e)) a
   where
-    by : (x : Evaluated ℕ) → built_in_move t ≡ model_moves.assigned (term_of f h left) (evaluated_of (λ v. v) x) → awaited_by_term modules t ≡ awaited_by_evaluated (evaluated_of (λ v. v) x) → awaited ≡ waits_by x → StandsAs modules t awaited (clause_by x)
-    by (ComesTo k) m w b = record { clause_is = sym (term_clause-built_in modules t (model_moves.becomes (term_of f h left) k) u.call m); awaits = same_by (awaited_by_term modules t) awaited (b ∙ sym w) }
-    by (Awaits v) m w b = record { clause_is = sym (term_clause-none modules t u.call m); awaits = same_by (awaited_by_term modules t) awaited (b ∙ sym w) }
-    by IsNoExpression m w b = record { clause_is = sym (term_clause-built_in modules t (raises illegal_input) u.call m); awaits = same_by (awaited_by_term modules t) awaited (b ∙ sym w) }
+    by : (x : Evaluated ℕ) → built_in_move rules t ≡ model_moves.assigned (term_of f h left) (evaluated_of (λ v. v) x) → awaited_by_term rules modules t ≡ awaited_by_evaluated (evaluated_of (λ v. v) x) → awaited ≡ waits_by x → StandsAs rules modules t awaited (clause_by x)
+    by (ComesTo k) m w b = record { clause_is = sym (term_clause-built_in rules modules t (model_moves.becomes (term_of f h left) k) u.call m); awaits = same_by (awaited_by_term rules modules t) awaited (b ∙ sym w) }
+    by (Awaits v) m w b = record { clause_is = sym (term_clause-none rules modules t u.call m); awaits = same_by (awaited_by_term rules modules t) awaited (b ∙ sym w) }
+    by IsNoExpression m w b = record { clause_is = sym (term_clause-built_in rules modules t (raises illegal_input) u.call m); awaits = same_by (awaited_by_term rules modules t) awaited (b ∙ sym w) }
 
 -- by which clause a goal can step that makes of a cell the name that codes spell
 abbrev pub clause_by_spelling : Spelling → Option ℕ
@@ -265,15 +269,15 @@ waits_by_spelling spelled.Spelled = []
 waits_by_spelling (spelled.Waits v) = v ∷ []
 waits_by_spelling spelled.Misspelled = []
 
-pub spelling_stands : {N : Type 0} (f : N → List ℕ) (h : Held N) (modules : List Module) (t : Term) (codes target : Cell N) (x : Spelling) (text awaited : List ℕ) → IsSpelling f h t codes target → spelling_of x text ≡ spelling most_spelled (term_of f h codes) → awaited ≡ waits_by_spelling x →
-    StandsAs modules t awaited (clause_by_spelling x)
-spelling_stands f h modules t codes target x text awaited u e a =
-    by x (u.built_in ∙ ap (model_moves.spells (term_of f h target)) (sym e)) (awaited_parts modules t [] (awaited_by_spelling (spelling most_spelled (term_of f h codes))) None u.awaits u.call u.waits_for ∙ ap awaited_by_spelling (sym e)) a
+pub spelling_stands : {N : Type 0} (f : N → List ℕ) (h : Held N) (rules : Rules) (modules : List Module) (t : Term) (codes target : Cell N) (x : Spelling) (text awaited : List ℕ) → IsSpelling f h t codes target → spelling_of x text ≡ spelling (most_spelled rules) (term_of f h codes) → awaited ≡ waits_by_spelling x →
+    StandsAs rules modules t awaited (clause_by_spelling x)
+spelling_stands f h rules modules t codes target x text awaited u e a =
+    by x (u.built_in rules ∙ ap (model_moves.spells (term_of f h target)) (sym e)) (awaited_parts rules modules t [] (awaited_by_spelling (spelling (most_spelled rules) (term_of f h codes))) None u.awaits u.call (u.waits_for rules) ∙ ap awaited_by_spelling (sym e)) a
   where
-    by : (x : Spelling) → built_in_move t ≡ model_moves.spells (term_of f h target) (spelling_of x text) → awaited_by_term modules t ≡ awaited_by_spelling (spelling_of x text) → awaited ≡ waits_by_spelling x → StandsAs modules t awaited (clause_by_spelling x)
-    by spelled.Spelled m w b = record { clause_is = sym (term_clause-built_in modules t (model_moves.names text (term_of f h target)) u.call m); awaits = same_by (awaited_by_term modules t) awaited (b ∙ sym w) }
-    by (spelled.Waits v) m w b = record { clause_is = sym (term_clause-none modules t u.call m); awaits = same_by (awaited_by_term modules t) awaited (b ∙ sym w) }
-    by spelled.Misspelled m w b = record { clause_is = sym (term_clause-built_in modules t (raises illegal_input) u.call m); awaits = same_by (awaited_by_term modules t) awaited (b ∙ sym w) }
+    by : (x : Spelling) → built_in_move rules t ≡ model_moves.spells (term_of f h target) (spelling_of x text) → awaited_by_term rules modules t ≡ awaited_by_spelling (spelling_of x text) → awaited ≡ waits_by_spelling x → StandsAs rules modules t awaited (clause_by_spelling x)
+    by spelled.Spelled m w b = record { clause_is = sym (term_clause-built_in rules modules t (model_moves.names text (term_of f h target)) u.call m); awaits = same_by (awaited_by_term rules modules t) awaited (b ∙ sym w) }
+    by (spelled.Waits v) m w b = record { clause_is = sym (term_clause-none rules modules t u.call m); awaits = same_by (awaited_by_term rules modules t) awaited (b ∙ sym w) }
+    by spelled.Misspelled m w b = record { clause_is = sym (term_clause-built_in rules modules t (raises illegal_input) u.call m); awaits = same_by (awaited_by_term rules modules t) awaited (b ∙ sym w) }
 
 -- by which clause a goal can step that opens a shoen
 abbrev pub clause_by_look : Look → Option ℕ
@@ -287,15 +291,15 @@ waits_by_look look.Right = []
 waits_by_look (look.Waits v) = v ∷ []
 waits_by_look look.Wrong = []
 
-pub execution_stands : {N : Type 0} (f : N → List ℕ) (h : Held N) (modules : List Module) (t : Term) (s : ℕ) (o : ExecuteArguments N) (x : Look) (awaited : List ℕ) → IsExecution f h t s → IsOrder h s o → look_of x ≡ arguments_look (order_at f h o) → awaited ≡ waits_by_look x →
-    StandsAs modules t awaited (clause_by_look x)
-execution_stands f h modules t s o x awaited u at e a =
-    by x (u.built_in o at ∙ ap (model_moves.ordered (order_at f h o)) (sym e)) (awaited_parts modules t [] (awaited_by_look (arguments_look (order_at f h o))) None u.awaits u.call (u.waits_for o at) ∙ ap awaited_by_look (sym e)) a
+pub execution_stands : {N : Type 0} (f : N → List ℕ) (h : Held N) (rules : Rules) (modules : List Module) (t : Term) (s : ℕ) (o : ExecuteArguments N) (x : Look) (awaited : List ℕ) → IsExecution f h t s → IsOrder h s o → look_of x ≡ arguments_look (order_at f h o) → awaited ≡ waits_by_look x →
+    StandsAs rules modules t awaited (clause_by_look x)
+execution_stands f h rules modules t s o x awaited u at e a =
+    by x (u.built_in rules o at ∙ ap (model_moves.ordered (order_at f h o)) (sym e)) (awaited_parts rules modules t [] (awaited_by_look (arguments_look (order_at f h o))) None u.awaits u.call (u.waits_for rules o at) ∙ ap awaited_by_look (sym e)) a
   where
-    by : (x : Look) → built_in_move t ≡ model_moves.ordered (order_at f h o) (look_of x) → awaited_by_term modules t ≡ awaited_by_look (look_of x) → awaited ≡ waits_by_look x → StandsAs modules t awaited (clause_by_look x)
-    by look.Right m w b = record { clause_is = sym (term_clause-built_in modules t (model_moves.opens (order_at f h o)) u.call m); awaits = same_by (awaited_by_term modules t) awaited (b ∙ sym w) }
-    by (look.Waits v) m w b = record { clause_is = sym (term_clause-none modules t u.call m); awaits = same_by (awaited_by_term modules t) awaited (b ∙ sym w) }
-    by look.Wrong m w b = record { clause_is = sym (term_clause-built_in modules t (raises illegal_input) u.call m); awaits = same_by (awaited_by_term modules t) awaited (b ∙ sym w) }
+    by : (x : Look) → built_in_move rules t ≡ model_moves.ordered (order_at f h o) (look_of x) → awaited_by_term rules modules t ≡ awaited_by_look (look_of x) → awaited ≡ waits_by_look x → StandsAs rules modules t awaited (clause_by_look x)
+    by look.Right m w b = record { clause_is = sym (term_clause-built_in rules modules t (model_moves.opens (order_at f h o)) u.call m); awaits = same_by (awaited_by_term rules modules t) awaited (b ∙ sym w) }
+    by (look.Waits v) m w b = record { clause_is = sym (term_clause-none rules modules t u.call m); awaits = same_by (awaited_by_term rules modules t) awaited (b ∙ sym w) }
+    by look.Wrong m w b = record { clause_is = sym (term_clause-built_in rules modules t (raises illegal_input) u.call m); awaits = same_by (awaited_by_term rules modules t) awaited (b ∙ sym w) }
 
 -- ---- by kinds
 
@@ -303,47 +307,54 @@ pub positive : (n : ℕ) → (n ≡ 0 → ⊥) → 0 < n
 positive zero ne = absurd (ne refl)
 positive (suc n) ne = omega arith
 
-pub call_fails_as : {N : Type 0} (f : N → List ℕ) (h : Held N) (modules : List Module) (t : Term) (k : Kind N) (c : Call N) (n : ℕ) (p : Predicate N) (places : List (Place N)) (text : List ℕ) (found : Option (Move N)) → k ≡ kind.Calls c → n ≡ 0 →
-    ((cs : List Clause) → AreCompiled (map f p.names.now) p.clauses.now cs → FailsAs f h c cs found) → IsKind f h t k → HasPredicate f h modules k p → MovesAs f h modules t n p places text found
-call_fails_as {N = N} f h modules t k c n p places text found e z fails is has =
+pub call_fails_as : {N : Type 0} (f : N → List ℕ) (h : Held N) (rules : Rules) (modules : List Module) (t : Term) (k : Kind N) (c : Call N) (n : ℕ) (p : Predicate N) (places : List (Place N)) (text : List ℕ) (found : Option (Move N)) → k ≡ kind.Calls c → n ≡ 0 →
+    ((cs : List Clause) → AreCompiled (map f p.names.now) p.clauses.now cs → FailsAs f h c cs found) → IsKind f h t k → HasPredicate f h modules k p → MovesAs f h rules modules t n p places text found
+call_fails_as {N = N} f h rules modules t k c n p places text found e z fails is has =
     let P : Kind N → Type 0 = λ x. IsKind f h t x in
     let Q : Kind N → Type 0 = λ x. HasPredicate f h modules x p in
-    fails_as f h modules t c n p places text found (subst P e is) z (fails (clauses_of modules (call_at f h c)) (subst Q e has))
+    fails_as f h rules modules t c n p places text found (subst P e is) z (fails (clauses_of modules (call_at f h c)) (subst Q e has))
 
-pub call_commits_as : {N : Type 0} (f : N → List ℕ) (h : Held N) (modules : List Module) (t : Term) (k : Kind N) (c : Call N) (n : ℕ) (p : Predicate N) (places : List (Place N)) (text : List ℕ) (found : Option (Move N)) → k ≡ kind.Calls c → (n ≡ 0 → ⊥) →
-    ((cs : List Clause) → AreCompiled (map f p.names.now) p.clauses.now cs → CommitsAs f h c p cs n places found) → IsKind f h t k → HasPredicate f h modules k p → MovesAs f h modules t n p places text found
-call_commits_as {N = N} f h modules t k c n p places text found e z takes is has =
+pub call_commits_as : {N : Type 0} (f : N → List ℕ) (h : Held N) (rules : Rules) (modules : List Module) (t : Term) (k : Kind N) (c : Call N) (n : ℕ) (p : Predicate N) (places : List (Place N)) (text : List ℕ) (found : Option (Move N)) → k ≡ kind.Calls c → (n ≡ 0 → ⊥) →
+    ((cs : List Clause) → AreCompiled (map f p.names.now) p.clauses.now cs → CommitsAs f h c p cs n places found) → IsKind f h t k → HasPredicate f h modules k p → MovesAs f h rules modules t n p places text found
+call_commits_as {N = N} f h rules modules t k c n p places text found e z takes is has =
     let P : Kind N → Type 0 = λ x. IsKind f h t x in
     let Q : Kind N → Type 0 = λ x. HasPredicate f h modules x p in
-    commits_as f h modules t c n p places text found (subst P e is) (positive n z) (takes (clauses_of modules (call_at f h c)) (subst Q e has))
+    commits_as f h rules modules t c n p places text found (subst P e is) (positive n z) (takes (clauses_of modules (call_at f h c)) (subst Q e has))
 
-pub goal_assigns_as : {N : Type 0} (f : N → List ℕ) (h : Held N) (modules : List Module) (t : Term) (k : Kind N) (a b : Cell N) (x : Evaluated ℕ) (n : ℕ) (p : Predicate N) (places : List (Place N)) (text : List ℕ) (found : Option (Move N)) → k ≡ kind.Assigns a b → n ≡ 0 → found ≡ assigning.assigned a x →
-    evaluated_of (λ v. v) x ≡ evaluated (term_of f h b) → IsKind f h t k → MovesAs f h modules t n p places text found
-goal_assigns_as {N = N} f h modules t k a b x n p places text found e z own value is =
+pub goal_assigns_as : {N : Type 0} (f : N → List ℕ) (h : Held N) (rules : Rules) (modules : List Module) (t : Term) (k : Kind N) (a b : Cell N) (x : Evaluated ℕ) (n : ℕ) (p : Predicate N) (places : List (Place N)) (text : List ℕ) (found : Option (Move N)) → k ≡ kind.Assigns a b → n ≡ 0 → found ≡ assigning.assigned a x →
+    evaluated_of (λ v. v) x ≡ evaluated (term_of f h b) → IsKind f h t k → MovesAs f h rules modules t n p places text found
+goal_assigns_as {N = N} f h rules modules t k a b x n p places text found e z own value is =
     let P : Kind N → Type 0 = λ y. IsKind f h t y in
-    let Q : Option (Move N) → Type 0 = λ o. MovesAs f h modules t n p places text o in
-    subst Q (sym own) (assigned_as f h modules t n p places text a b x (subst P e is) z value)
+    let Q : Option (Move N) → Type 0 = λ o. MovesAs f h rules modules t n p places text o in
+    subst Q (sym own) (assigned_as f h rules modules t n p places text a b x (subst P e is) z value)
 
-pub goal_names_as : {N : Type 0} (f : N → List ℕ) (h : Held N) (modules : List Module) (t : Term) (k : Kind N) (a b : Cell N) (x : Spelling) (n : ℕ) (p : Predicate N) (places : List (Place N)) (text : List ℕ) (found : Option (Move N)) → k ≡ kind.Spells a b → n ≡ 0 → found ≡ naming b x →
-    spelling_of x text ≡ spelling most_spelled (term_of f h a) → IsKind f h t k → MovesAs f h modules t n p places text found
-goal_names_as {N = N} f h modules t k a b x n p places text found e z own value is =
+pub goal_names_as : {N : Type 0} (f : N → List ℕ) (h : Held N) (rules : Rules) (modules : List Module) (t : Term) (k : Kind N) (a b : Cell N) (x : Spelling) (n : ℕ) (p : Predicate N) (places : List (Place N)) (text : List ℕ) (found : Option (Move N)) → k ≡ kind.Spells a b → n ≡ 0 → found ≡ naming b x →
+    spelling_of x text ≡ spelling (most_spelled rules) (term_of f h a) → IsKind f h t k → MovesAs f h rules modules t n p places text found
+goal_names_as {N = N} f h rules modules t k a b x n p places text found e z own value is =
     let P : Kind N → Type 0 = λ y. IsKind f h t y in
-    let Q : Option (Move N) → Type 0 = λ o. MovesAs f h modules t n p places text o in
-    subst Q (sym own) (named_as f h modules t n p places text a b x (subst P e is) z value)
+    let Q : Option (Move N) → Type 0 = λ o. MovesAs f h rules modules t n p places text o in
+    subst Q (sym own) (named_as f h rules modules t n p places text a b x (subst P e is) z value)
 
-pub goal_opens_as : {N : Type 0} (f : N → List ℕ) (h : Held N) (modules : List Module) (t : Term) (k : Kind N) (s : ℕ) (o : ExecuteArguments N) (x : Look) (n : ℕ) (p : Predicate N) (places : List (Place N)) (text : List ℕ) (found : Option (Move N)) → k ≡ kind.Executes s → n ≡ 0 → found ≡ opening s x →
-    IsOrder h s o → look_of x ≡ arguments_look (order_at f h o) → IsKind f h t k → MovesAs f h modules t n p places text found
-goal_opens_as {N = N} f h modules t k s o x n p places text found e z own at value is =
+pub goal_opens_as : {N : Type 0} (f : N → List ℕ) (h : Held N) (rules : Rules) (modules : List Module) (t : Term) (k : Kind N) (s : ℕ) (o : ExecuteArguments N) (x : Look) (n : ℕ) (p : Predicate N) (places : List (Place N)) (text : List ℕ) (found : Option (Move N)) → k ≡ kind.Executes s → n ≡ 0 → found ≡ opening s x →
+    IsOrder h s o → look_of x ≡ arguments_look (order_at f h o) → IsKind f h t k → MovesAs f h rules modules t n p places text found
+goal_opens_as {N = N} f h rules modules t k s o x n p places text found e z own at value is =
     let P : Kind N → Type 0 = λ y. IsKind f h t y in
-    let Q : Option (Move N) → Type 0 = λ m. MovesAs f h modules t n p places text m in
-    subst Q (sym own) (opened_as f h modules t n p places text s o x (subst P e is) z at value)
+    let Q : Option (Move N) → Type 0 = λ m. MovesAs f h rules modules t n p places text m in
+    subst Q (sym own) (opened_as f h rules modules t n p places text s o x (subst P e is) z at value)
 
-pub kind_stands : {N : Type 0} (built : BuiltIn → N) (f : N → List ℕ) (h : Held N) (modules : List Module) (t : Term) (k : Kind N) (c : Call N) (goal : Cell N) (p : Predicate N) (before after : List ℕ) (choice : Option ℕ) → Reads built f → k ≡ kind.Calls c → goal ≡ cell_of c → before ≡ [] →
-    IsChoice built p.names.now p.clauses.now h goal before after choice → IsKind f h t k → HasPredicate f h modules k p → StandsAs modules t after choice
-kind_stands {N = N} built f h modules t k c goal p before after choice r e own empty chosen is has =
+-- by which clause `shoen:execute` can step by the look at its arguments, and what it waits for
+pub kind_executes : {N : Type 0} (f : N → List ℕ) (h : Held N) (rules : Rules) (modules : List Module) (t : Term) (k : Kind N) (s : ℕ) (o : ExecuteArguments N) (x : Look) (awaited : List ℕ) → k ≡ kind.Executes s → IsOrder h s o → look_of x ≡ arguments_look (order_at f h o) → awaited ≡ waits_by_look x →
+    IsKind f h t k → StandsAs rules modules t awaited (clause_by_look x)
+kind_executes {N = N} f h rules modules t k s o x awaited e at value waits is =
+    let P : Kind N → Type 0 = λ y. IsKind f h t y in
+    execution_stands f h rules modules t s o x awaited (subst P e is) at value waits
+
+pub kind_stands : {N : Type 0} (built : BuiltIn → N) (f : N → List ℕ) (h : Held N) (rules : Rules) (modules : List Module) (t : Term) (k : Kind N) (c : Call N) (goal : Cell N) (p : Predicate N) (before after : List ℕ) (choice : Option ℕ) → Reads built f → k ≡ kind.Calls c → goal ≡ cell_of c → before ≡ [] →
+    IsChoice built p.names.now p.clauses.now h goal before after choice → IsKind f h t k → HasPredicate f h modules k p → StandsAs rules modules t after choice
+kind_stands {N = N} built f h rules modules t k c goal p before after choice r e own empty chosen is has =
     let P : Kind N → Type 0 = λ x. IsKind f h t x in
     let Q : Kind N → Type 0 = λ x. HasPredicate f h modules x p in
-    call_stands f h modules t c goal chosen.named after choice (subst P e is) own (chosen.awaited ∙ ap (λ l. l ++ chosen.named) empty) (chosen.chooses f r (clauses_of modules (call_at f h c)) (subst Q e has))
+    call_stands f h rules modules t c goal chosen.named after choice (subst P e is) own (chosen.awaited ∙ ap (λ l. l ++ chosen.named) empty) (chosen.chooses f r (clauses_of modules (call_at f h c)) (subst Q e has))
 
 -- ---- bodies
 

@@ -23,28 +23,28 @@ unbound {N = N} h x v e inside walked =
 
 -- a structure of another number of arguments than two
 other_count : (f : List ℕ) (ts : Terms) → (count_of ts ≡ 2 → ⊥) → IsNoGoal (structure f ts) []
-other_count f none ne = record { call = refl; built_in = refl; awaits = refl; waits_no_more = refl }
-other_count f (more (variable n) none) ne = record { call = refl; built_in = refl; awaits = refl; waits_no_more = refl }
-other_count f (more (integer i) none) ne = record { call = refl; built_in = refl; awaits = refl; waits_no_more = refl }
-other_count f (more (atom a) none) ne = record { call = refl; built_in = refl; awaits = refl; waits_no_more = refl }
-other_count f (more (structure g us) none) ne = record { call = refl; built_in = refl; awaits = refl; waits_no_more = refl }
+other_count f none ne = record { call = refl; built_in = λ rules. refl; awaits = refl; waits_no_more = λ rules. refl }
+other_count f (more (variable n) none) ne = record { call = refl; built_in = λ rules. refl; awaits = refl; waits_no_more = λ rules. refl }
+other_count f (more (integer i) none) ne = record { call = refl; built_in = λ rules. refl; awaits = refl; waits_no_more = λ rules. refl }
+other_count f (more (atom a) none) ne = record { call = refl; built_in = λ rules. refl; awaits = refl; waits_no_more = λ rules. refl }
+other_count f (more (structure g us) none) ne = record { call = refl; built_in = λ rules. refl; awaits = refl; waits_no_more = λ rules. refl }
 other_count f (more t (more u none)) ne = absurd (ne refl)
-other_count f (more (variable n) (more (variable m) (more v ts))) ne = record { call = refl; built_in = refl; awaits = refl; waits_no_more = refl }
-other_count f (more (variable n) (more (integer m) (more v ts))) ne = record { call = refl; built_in = refl; awaits = refl; waits_no_more = refl }
-other_count f (more (variable n) (more (atom m) (more v ts))) ne = record { call = refl; built_in = refl; awaits = refl; waits_no_more = refl }
-other_count f (more (variable n) (more (structure m us) (more v ts))) ne = record { call = refl; built_in = refl; awaits = refl; waits_no_more = refl }
-other_count f (more (integer n) (more (variable m) (more v ts))) ne = record { call = refl; built_in = refl; awaits = refl; waits_no_more = refl }
-other_count f (more (integer n) (more (integer m) (more v ts))) ne = record { call = refl; built_in = refl; awaits = refl; waits_no_more = refl }
-other_count f (more (integer n) (more (atom m) (more v ts))) ne = record { call = refl; built_in = refl; awaits = refl; waits_no_more = refl }
-other_count f (more (integer n) (more (structure m us) (more v ts))) ne = record { call = refl; built_in = refl; awaits = refl; waits_no_more = refl }
-other_count f (more (atom n) (more (variable m) (more v ts))) ne = record { call = refl; built_in = refl; awaits = refl; waits_no_more = refl }
-other_count f (more (atom n) (more (integer m) (more v ts))) ne = record { call = refl; built_in = refl; awaits = refl; waits_no_more = refl }
-other_count f (more (atom n) (more (atom m) (more v ts))) ne = record { call = refl; built_in = refl; awaits = refl; waits_no_more = refl }
-other_count f (more (atom n) (more (structure m us) (more v ts))) ne = record { call = refl; built_in = refl; awaits = refl; waits_no_more = refl }
-other_count f (more (structure n ws) (more (variable m) (more v ts))) ne = record { call = refl; built_in = refl; awaits = refl; waits_no_more = refl }
-other_count f (more (structure n ws) (more (integer m) (more v ts))) ne = record { call = refl; built_in = refl; awaits = refl; waits_no_more = refl }
-other_count f (more (structure n ws) (more (atom m) (more v ts))) ne = record { call = refl; built_in = refl; awaits = refl; waits_no_more = refl }
-other_count f (more (structure n ws) (more (structure m us) (more v ts))) ne = record { call = refl; built_in = refl; awaits = refl; waits_no_more = refl }
+other_count f (more (variable n) (more (variable m) (more v ts))) ne = record { call = refl; built_in = λ rules. refl; awaits = refl; waits_no_more = λ rules. refl }
+other_count f (more (variable n) (more (integer m) (more v ts))) ne = record { call = refl; built_in = λ rules. refl; awaits = refl; waits_no_more = λ rules. refl }
+other_count f (more (variable n) (more (atom m) (more v ts))) ne = record { call = refl; built_in = λ rules. refl; awaits = refl; waits_no_more = λ rules. refl }
+other_count f (more (variable n) (more (structure m us) (more v ts))) ne = record { call = refl; built_in = λ rules. refl; awaits = refl; waits_no_more = λ rules. refl }
+other_count f (more (integer n) (more (variable m) (more v ts))) ne = record { call = refl; built_in = λ rules. refl; awaits = refl; waits_no_more = λ rules. refl }
+other_count f (more (integer n) (more (integer m) (more v ts))) ne = record { call = refl; built_in = λ rules. refl; awaits = refl; waits_no_more = λ rules. refl }
+other_count f (more (integer n) (more (atom m) (more v ts))) ne = record { call = refl; built_in = λ rules. refl; awaits = refl; waits_no_more = λ rules. refl }
+other_count f (more (integer n) (more (structure m us) (more v ts))) ne = record { call = refl; built_in = λ rules. refl; awaits = refl; waits_no_more = λ rules. refl }
+other_count f (more (atom n) (more (variable m) (more v ts))) ne = record { call = refl; built_in = λ rules. refl; awaits = refl; waits_no_more = λ rules. refl }
+other_count f (more (atom n) (more (integer m) (more v ts))) ne = record { call = refl; built_in = λ rules. refl; awaits = refl; waits_no_more = λ rules. refl }
+other_count f (more (atom n) (more (atom m) (more v ts))) ne = record { call = refl; built_in = λ rules. refl; awaits = refl; waits_no_more = λ rules. refl }
+other_count f (more (atom n) (more (structure m us) (more v ts))) ne = record { call = refl; built_in = λ rules. refl; awaits = refl; waits_no_more = λ rules. refl }
+other_count f (more (structure n ws) (more (variable m) (more v ts))) ne = record { call = refl; built_in = λ rules. refl; awaits = refl; waits_no_more = λ rules. refl }
+other_count f (more (structure n ws) (more (integer m) (more v ts))) ne = record { call = refl; built_in = λ rules. refl; awaits = refl; waits_no_more = λ rules. refl }
+other_count f (more (structure n ws) (more (atom m) (more v ts))) ne = record { call = refl; built_in = λ rules. refl; awaits = refl; waits_no_more = λ rules. refl }
+other_count f (more (structure n ws) (more (structure m us) (more v ts))) ne = record { call = refl; built_in = λ rules. refl; awaits = refl; waits_no_more = λ rules. refl }
 
 other_arguments : (f : List ℕ) (ts : Terms) → (count_of ts ≡ 2 → ⊥) → is_other (structure f ts) ≡ true
 other_arguments f none ne = refl
@@ -55,7 +55,7 @@ other_arguments f (more t (more u (more v ts))) ne = refl
 -- what is an integer or a structure of another number of arguments than two is no goal
 pub other_goal : (t : Term) → is_other t ≡ true → IsNoGoal t []
 other_goal (variable v) e = absurd (cc)
-other_goal (integer i) e = record { call = refl; built_in = refl; awaits = refl; waits_no_more = refl }
+other_goal (integer i) e = record { call = refl; built_in = λ rules. refl; awaits = refl; waits_no_more = λ rules. refl }
 other_goal (atom a) e = absurd (cc)
 other_goal (structure f none) e = other_count f none (λ k. absurd (cc))
 other_goal (structure f (more t none)) e = other_count f (more t none) (λ k. absurd (omega (arith, k)))

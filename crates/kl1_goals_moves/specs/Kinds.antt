@@ -3,7 +3,9 @@ use Rattle.std.specs.Prelude.{◌≡◌, ℕ, ◌<◌, if◌then◌else◌, List
 use Rattle.kl1_model.specs.Term.{Term, count_of}
 use Rattle.kl1_model.specs.Match.{call_of}
 use Rattle.kl1_model.specs.Arithmetic.{evaluated}
-use Rattle.kl1_model.specs.Look.{spelling, most_spelled, arguments_look}
+use Rattle.kl1_model.specs.Look.{spelling, arguments_look}
+use Rattle.kl1_model.specs.declared.rules.Rules.{Rules}
+use Rattle.kl1_model.specs.State.{most_spelled}
 use Rattle.kl1_model.specs.Reduction.{unifies, goes, assigned, spells, ordered, built_in_move}
 use Rattle.kl1_model.specs.code.Waits.{awaited_at_head, awaited_by_evaluated, awaited_by_spelling, awaited_by_look, awaited_by_built_in}
 use Rattle.kl1_store.specs.declared.cell.Cell.{Cell}
@@ -25,42 +27,42 @@ pub record IsCall {N : Type 0} (f : N → List ℕ) (h : Held N) (t : Term) (c :
   pub is : call_of t ≡ Some (call_at f h c)
   pub counted : count_of (arguments_at f h c) ≡ c.count
   pub awaits : awaited_at_head t ≡ []
-  pub waits_no_more : awaited_by_built_in t ≡ []
+  pub waits_no_more : (rules : Rules) → awaited_by_built_in rules t ≡ []
 
 -- a term is a unification of two cells
 pub record IsUnification {N : Type 0} (f : N → List ℕ) (h : Held N) (t : Term) (left right : Cell N) : Type 0 where
   pub call : call_of t ≡ None
-  pub built_in : built_in_move t ≡ Some (unifies (term_of f h left) (term_of f h right))
+  pub built_in : (rules : Rules) → built_in_move rules t ≡ Some (unifies (term_of f h left) (term_of f h right))
   pub awaits : awaited_at_head t ≡ []
-  pub waits_no_more : awaited_by_built_in t ≡ []
+  pub waits_no_more : (rules : Rules) → awaited_by_built_in rules t ≡ []
 
 -- a term makes a cell what another comes to as an expression
 pub record IsAssignment {N : Type 0} (f : N → List ℕ) (h : Held N) (t : Term) (left right : Cell N) : Type 0 where
   pub call : call_of t ≡ None
-  pub built_in : built_in_move t ≡ assigned (term_of f h left) (evaluated (term_of f h right))
+  pub built_in : (rules : Rules) → built_in_move rules t ≡ assigned (term_of f h left) (evaluated (term_of f h right))
   pub awaits : awaited_at_head t ≡ []
-  pub waits_for : awaited_by_built_in t ≡ awaited_by_evaluated (evaluated (term_of f h right))
+  pub waits_for : (rules : Rules) → awaited_by_built_in rules t ≡ awaited_by_evaluated (evaluated (term_of f h right))
 
 -- a term makes of a cell the name that another spells
 pub record IsSpelling {N : Type 0} (f : N → List ℕ) (h : Held N) (t : Term) (codes target : Cell N) : Type 0 where
   pub call : call_of t ≡ None
-  pub built_in : built_in_move t ≡ spells (term_of f h target) (spelling most_spelled (term_of f h codes))
+  pub built_in : (rules : Rules) → built_in_move rules t ≡ spells (term_of f h target) (spelling (most_spelled rules) (term_of f h codes))
   pub awaits : awaited_at_head t ≡ []
-  pub waits_for : awaited_by_built_in t ≡ awaited_by_spelling (spelling most_spelled (term_of f h codes))
+  pub waits_for : (rules : Rules) → awaited_by_built_in rules t ≡ awaited_by_spelling (spelling (most_spelled rules) (term_of f h codes))
 
 -- a term is `shoen:execute` with the arguments of a structure, which are an order for a new shoen
 pub record IsExecution {N : Type 0} (f : N → List ℕ) (h : Held N) (t : Term) (s : ℕ) : Type 0 where
   pub call : call_of t ≡ None
-  pub built_in : (o : ExecuteArguments N) → IsOrder h s o → built_in_move t ≡ ordered (order_at f h o) (arguments_look (order_at f h o))
+  pub built_in : (rules : Rules) (o : ExecuteArguments N) → IsOrder h s o → built_in_move rules t ≡ ordered (order_at f h o) (arguments_look (order_at f h o))
   pub awaits : awaited_at_head t ≡ []
-  pub waits_for : (o : ExecuteArguments N) → IsOrder h s o → awaited_by_built_in t ≡ awaited_by_look (arguments_look (order_at f h o))
+  pub waits_for : (rules : Rules) (o : ExecuteArguments N) → IsOrder h s o → awaited_by_built_in rules t ≡ awaited_by_look (arguments_look (order_at f h o))
 
 -- a term is `true`
 pub record IsTrueGoal (t : Term) : Type 0 where
   pub call : call_of t ≡ None
-  pub built_in : built_in_move t ≡ Some goes
+  pub built_in : (rules : Rules) → built_in_move rules t ≡ Some goes
   pub awaits : awaited_at_head t ≡ []
-  pub waits_no_more : awaited_by_built_in t ≡ []
+  pub waits_no_more : (rules : Rules) → awaited_by_built_in rules t ≡ []
 
 -- a term is of this kind
 abbrev pub IsKind : {N : Type 0} → (N → List ℕ) → Held N → Term → Kind N → Type 0

@@ -10,3 +10,4 @@ pub mod Assigning
 pub mod Opening
 pub mod Standing
 pub mod Bodies
+pub mod Substitutes

@@ -1,6 +1,6 @@
 -- What looks at cells come to.
 use Rattle.std.specs.Prelude.{ℕ, nat_le, Bool, if◌then◌else◌, ℤ, pos, negsuc, Option, Some, None}
-use Rattle.kl1_model.specs.Limits.{most_priority}
+use Rattle.kl1_model.specs.declared.limits.TheConstants.{MOST_PRIORITY}
 use Rattle.kl1_model.specs.Look as model
 use Rattle.kl1_store.specs.declared.cell.Cell.{Cell}
 use Rattle.kl1_store.specs.declared.cell.Cell.TheVariants.{Variable, Integer, Atom, Structure}
@@ -38,7 +38,7 @@ whole_of (negsuc n) = None
 
 -- the look at what may be a priority
 abbrev pub priority_in : Option ℕ → Look
-priority_in (Some n) = right_if (nat_le n most_priority)
+priority_in (Some n) = right_if (nat_le n MOST_PRIORITY)
 priority_in None = Wrong
 
 -- the look at what may be an allowance

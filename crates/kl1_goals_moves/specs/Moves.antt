@@ -1,11 +1,13 @@
 -- What a goal can do, by the definitions, told of cells and compiled clauses.
 use Rattle.std.specs.Prelude.{◌≡◌, ℕ, ◌<◌, IsTrue, List, length, map, Option, Some, None, slice_get, if◌then◌else◌}
 use Rattle.kl1_model.specs.declared.built_in.BuiltIn.TheVariants.{Failure}
+use Rattle.kl1_model.specs.declared.rules.Rules.{Rules}
 use Rattle.kl1_model.specs.Text.{is_text, text_of}
 use Rattle.kl1_model.specs.Term.{Term}
 use Rattle.kl1_model.specs.Module.{Clause, Module}
 use Rattle.kl1_model.specs.Match.{clauses_of, Candidate, candidates_from}
-use Rattle.kl1_model.specs.Reduction.{commits, raises, unifies, names, opens, goes}
+use Rattle.kl1_model.specs.Reduction as model
+use Rattle.kl1_model.specs.Reduction.{commits, raises, unifies, names, opens, goes, gives_way}
 use Rattle.kl1_model.specs.code.Waits.{move_by, least_clause}
 use Rattle.kl1_store.specs.Held.{Held, IsIn, arguments_of}
 use Rattle.kl1_store.specs.Meaning.{term_of}
@@ -50,6 +52,7 @@ MoveIn h p places text (Some (move.Unifies a b)) = IsIn h a × IsIn h b
 MoveIn h p places text (Some (move.Names a)) = IsTrue (is_text text) × IsIn h a
 MoveIn h p places text (Some (move.Opens s)) = (s < length h.structures) × (length (arguments_of h s) ≡ 6)
 MoveIn h p places text (Some move.Goes) = Unit {0}
+MoveIn h p places text (Some move.GivesWay) = Unit {0}
 
 -- the move of a call that fails, or nothing
 abbrev pub FailsAs : {N : Type 0} → (N → List ℕ) → Held N → Call N → List Clause → Option (Move N) → Type 0
@@ -60,6 +63,7 @@ FailsAs f h c cs (Some (move.Unifies a b)) = ⊥
 FailsAs f h c cs (Some (move.Names a)) = ⊥
 FailsAs f h c cs (Some (move.Opens s)) = ⊥
 FailsAs f h c cs (Some move.Goes) = ⊥
+FailsAs f h c cs (Some move.GivesWay) = ⊥
 
 -- the candidate numbered `number` among the clauses of a call
 abbrev pub candidate_at : {N : Type 0} → (N → List ℕ) → Held N → Call N → List Clause → ℕ → Option Candidate
@@ -87,19 +91,25 @@ CommitsAs f h c p cs number places (Some (move.Unifies a b)) = ⊥
 CommitsAs f h c p cs number places (Some (move.Names a)) = ⊥
 CommitsAs f h c p cs number places (Some (move.Opens s)) = ⊥
 CommitsAs f h c p cs number places (Some move.Goes) = ⊥
+CommitsAs f h c p cs number places (Some move.GivesWay) = ⊥
 
 -- the move is a candidate, whose clause stands at a place
-pub record CommitsTo {N : Type 0} (f : N → List ℕ) (h : Held N) (modules : List Module) (t : Term) (number : ℕ) (p : Predicate N) (place : ℕ) (places : List (Place N)) : Type 0 where
+pub record CommitsTo {N : Type 0} (f : N → List ℕ) (h : Held N) (m : Option model.Move) (p : Predicate N) (place : ℕ) (places : List (Place N)) : Type 0 where
   pub candidate : Candidate
-  pub moves : move_by modules t number ≡ Some (commits candidate)
+  pub moves : m ≡ Some (commits candidate)
   pub is : IsCandidate f h p place places candidate
 
+-- a move of the definitions, or none, is this one told of cells, and a text is what it names
+abbrev pub IsMove : {N : Type 0} → (N → List ℕ) → Held N → Option model.Move → Predicate N → List (Place N) → List ℕ → Option (Move N) → Type 0
+IsMove f h m p places text None = m ≡ None
+IsMove f h m p places text (Some (move.Commits place)) = CommitsTo f h m p place places
+IsMove f h m p places text (Some (move.Raises b)) = m ≡ Some (raises (text_of b))
+IsMove f h m p places text (Some (move.Unifies a b)) = m ≡ Some (unifies (term_of f h a) (term_of f h b))
+IsMove f h m p places text (Some (move.Names a)) = m ≡ Some (names text (term_of f h a))
+IsMove {N = N} f h m p places text (Some (move.Opens s)) = (o : ExecuteArguments N) → IsOrder h s o → m ≡ Some (opens (order_at f h o))
+IsMove f h m p places text (Some move.Goes) = m ≡ Some goes
+IsMove f h m p places text (Some move.GivesWay) = m ≡ Some gives_way
+
 -- what a goal can do by the clause numbered `number` is this move, and a text is what it names
-abbrev pub MovesAs : {N : Type 0} → (N → List ℕ) → Held N → List Module → Term → ℕ → Predicate N → List (Place N) → List ℕ → Option (Move N) → Type 0
-MovesAs f h modules t number p places text None = move_by modules t number ≡ None
-MovesAs f h modules t number p places text (Some (move.Commits place)) = CommitsTo f h modules t number p place places
-MovesAs f h modules t number p places text (Some (move.Raises b)) = move_by modules t number ≡ Some (raises (text_of b))
-MovesAs f h modules t number p places text (Some (move.Unifies a b)) = move_by modules t number ≡ Some (unifies (term_of f h a) (term_of f h b))
-MovesAs f h modules t number p places text (Some (move.Names a)) = move_by modules t number ≡ Some (names text (term_of f h a))
-MovesAs {N = N} f h modules t number p places text (Some (move.Opens s)) = (o : ExecuteArguments N) → IsOrder h s o → move_by modules t number ≡ Some (opens (order_at f h o))
-MovesAs f h modules t number p places text (Some move.Goes) = move_by modules t number ≡ Some goes
+abbrev pub MovesAs : {N : Type 0} → (N → List ℕ) → Held N → Rules → List Module → Term → ℕ → Predicate N → List (Place N) → List ℕ → Option (Move N) → Type 0
+MovesAs f h rules modules t number p places text found = IsMove f h (move_by rules modules t number) p places text found

@@ -1,5 +1,6 @@
 -- What stands at the top of a goal.
 use Rattle.std.specs.Prelude.{◌≡◌, ℕ, Bool, true, false, List, [], None}
+use Rattle.kl1_model.specs.declared.rules.Rules.{Rules}
 use Rattle.kl1_model.specs.Term.{Term, variable, integer, atom, structure, none, more}
 use Rattle.kl1_model.specs.Match.{call_of}
 use Rattle.kl1_model.specs.Reduction.{built_in_move}
@@ -18,9 +19,9 @@ two_terms f h name left right = structure (f name) (more (term_of f h left) (mor
 -- a term that is neither a call nor a built-in goal, for which these variables count
 pub record IsNoGoal (t : Term) (vs : List ℕ) : Type 0 where
   pub call : call_of t ≡ None
-  pub built_in : built_in_move t ≡ None
+  pub built_in : (rules : Rules) → built_in_move rules t ≡ None
   pub awaits : awaited_at_head t ≡ vs
-  pub waits_no_more : awaited_by_built_in t ≡ []
+  pub waits_no_more : (rules : Rules) → awaited_by_built_in rules t ≡ []
 
 -- whether a term is an integer, or a structure of another number of arguments than two
 abbrev pub is_other : Term → Bool

@@ -21,14 +21,14 @@ use crate::trial::Trial;
 use kl1_clause::Predicate;
 use kl1_match_guard::evaluate_cell;
 use kl1_match_verdict::{choose, is_candidate, takes_in_order};
-use kl1_model::BuiltIn;
+use kl1_model::{BuiltIn, Rules};
 use kl1_store::{Cell, Store};
 use kl1_text::NameValue;
 use std::alloc::AllocError;
 
 /// What a goal can do: commit to the clause at a place among those of its predicate, from 0; raise an exception of the kind of a
 /// name; unify two terms; use the text in the trial as a name and unify a term with it; open a shoen by the order that a structure
-/// of six arguments is; or nothing but go.
+/// of six arguments is; nothing but go; or, as a substitute, give way to a goal of what it waited for.
 #[derive(Clone, Copy)]
 pub enum Move<N> {
     Commits(usize),
@@ -37,13 +37,15 @@ pub enum Move<N> {
     Names(Cell<N>),
     Opens(u32),
     Goes,
+    GivesWay,
 }
 
-/// What a goal of a kind can do by the clause numbered `clause`, or nothing if that isn't allowed. If it commits, the cells at
-/// the places of the clause's head are in the trial, and if it uses a name, its text is; otherwise nothing is said of what is
-/// there.
+/// What a goal of a kind can do by the clause numbered `clause` and the rules of its account, or nothing if that isn't allowed. If
+/// it commits, the cells at the places of the clause's head are in the trial, and if it uses a name, its text is; otherwise nothing
+/// is said of what is there.
 pub fn move_of<N: NameValue>(
     store: &Store<N>,
+    rules: Rules,
     kind: Kind<N>,
     predicate: Predicate<'_, N>,
     clause: u64,
@@ -52,7 +54,7 @@ pub fn move_of<N: NameValue>(
     requires kind { KindIn store.now.held kind }
     requires predicate { AreSome predicate.names.now predicate.clauses.now }
     ensures inside { IfOk result (MoveIn store.now.held predicate.entry (taken_places trial.new) trial.new.text) }
-    ensures moves { IfOk result (λ found. (f : N → List ℕ) → Reads N.built f → (modules : List Module) (t : Term) → IsKind f store.now.held t kind → HasPredicate f store.now.held modules kind predicate.entry → MovesAs f store.now.held modules t clause predicate.entry (taken_places trial.new) trial.new.text found) }
+    ensures moves { IfOk result (λ found. (f : N → List ℕ) → Reads N.built f → (modules : List Module) (t : Term) → IsKind f store.now.held t kind → HasPredicate f store.now.held modules kind predicate.entry → MovesAs f store.now.held rules modules t clause predicate.entry (taken_places trial.new) trial.new.text found) }
 {
     match kind {
         Kind::Calls(call) => {
@@ -76,7 +78,7 @@ pub fn move_of<N: NameValue>(
         }
         Kind::Spells(codes, target) => {
             if clause == 0 {
-                return Ok(naming(target, spell(store, codes, &mut trial.text)));
+                return Ok(naming(target, spell(store, rules, codes, &mut trial.text)));
             }
             Ok(None)
         }

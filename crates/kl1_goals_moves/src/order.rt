@@ -182,8 +182,8 @@ fn look_at_two<N: NameValue>(store: &Store<N>, name: N, left: Cell<N>, right: Ce
     Look::right_if(unifies || assigns || spells)
 }
 
-/// The look at the goal of a new shoen.
-fn look_at_goal<N: NameValue>(store: &Store<N>, goal: Cell<N>) -> Look
+/// The look at the goal of a new shoen, and at what a substitute waits for. The variable of one that waits is unbound.
+pub(crate) fn look_at_goal<N: NameValue>(store: &Store<N>, goal: Cell<N>) -> Look
     requires { IsIn store.now.held goal }
     ensures inside { LookIn store.now.held result }
     ensures look { (f : N → List ℕ) → Reads N.built f → look_of result ≡ goal_look (term_of f store.now.held goal) }

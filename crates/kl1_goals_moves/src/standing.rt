@@ -18,15 +18,17 @@ use crate::trial::Trial;
 use kl1_clause::Predicate;
 use kl1_match_guard::{Evaluated, evaluate_cell};
 use kl1_match_verdict::choose;
+use kl1_model::Rules;
 use kl1_store::Store;
 use kl1_text::NameValue;
 use std::alloc::AllocError;
 
-/// The least clause by which a goal of a kind can step, or nothing if it has to wait or is no goal. The trial gets the
-/// variables that it waits for; they are unbound.
+/// The least clause by which a goal of a kind can step by the rules of its account, or nothing if it has to wait or is no goal. The
+/// trial gets the variables that it waits for; they are unbound.
 #[inline(always)]
 pub fn standing_of<N: NameValue>(
     store: &Store<N>,
+    rules: Rules,
     kind: Kind<N>,
     predicate: Predicate<'_, N>,
     trial: &mut Trial<N>,
@@ -34,7 +36,7 @@ pub fn standing_of<N: NameValue>(
     requires kind { KindIn store.now.held kind }
     requires predicate { AreSome predicate.names.now predicate.clauses.now }
     ensures unbound { OnOk result (AreUnbound store.now.held trial.new.awaited.items) }
-    ensures standing { IfOk result (λ clause. (f : N → List ℕ) → Reads N.built f → (modules : List Module) (t : Term) → IsKind f store.now.held t kind → HasPredicate f store.now.held modules kind predicate.entry → StandsAs modules t trial.new.awaited.items clause) }
+    ensures standing { IfOk result (λ clause. (f : N → List ℕ) → Reads N.built f → (modules : List Module) (t : Term) → IsKind f store.now.held t kind → HasPredicate f store.now.held modules kind predicate.entry → StandsAs rules modules t trial.new.awaited.items clause) }
 {
     trial.awaited.clear();
     match kind {
@@ -57,7 +59,7 @@ pub fn standing_of<N: NameValue>(
                 Evaluated::IsNoExpression => Ok(Some(0)),
             }
         }
-        Kind::Spells(codes, _) => match spell(store, codes, &mut trial.text) {
+        Kind::Spells(codes, _) => match spell(store, rules, codes, &mut trial.text) {
             Spelling::Spelled => Ok(Some(0)),
             Spelling::Waits(code) => {
                 trial.awaited.push(code)?;

@@ -1,6 +1,7 @@
 -- An account with its journal after an event.
 use Rattle.std.proofs.Common.{◌≡◌, ℕ, Bool, true, false, if◌then◌else◌, List, [], refl, sym, ap, ◌∙◌, subst}
 use Rattle.std.specs.Prelude.{Option, Some, None, is_some}
+use Rattle.kl1_model.specs.declared.rules.Rules.{Rules}
 use Rattle.kl1_model.specs.State.{State, fresh}
 use Rattle.kl1_model.specs.Event as model
 use Rattle.kl1_model.specs.Event.{Transition}
@@ -44,7 +45,7 @@ pub done_change : (f : Reading) (old new : Account) (j k : Journal) (e : model.E
     k ≡ (if is_refused reply then j else changed j c reply) → done (kept_of f (old, j)) e ≡ record { kept = kept_of f (new, k); reply = reply }
 done_change f old new j k e reply c was is h k_is =
     done_by f old new j k e reply is
-    (noted_is (state_of f old) (texts_of old.names) j e c h refl was.sessions ∙ ap (λ (x : Transition). if is_refused x.reply then j else changed j c x.reply) is ∙ sym k_is)
+    (noted_is (state_of f old) (texts_of old.names) j e c h refl was.rules was.sessions ∙ ap (λ (x : Transition). if is_refused x.reply then j else changed j c x.reply) is ∙ sym k_is)
 
 -- an account is the replay of its journal after an event
 kept_by : (old new : Account) (j k : Journal) (e : model.Event) (reply : model.Reply) → IsKept (old, j) → AreNames new.names → Does old e new reply → ((f : Reading) → Fits new.names f → Fits old.names f) →
@@ -87,9 +88,9 @@ kept_step old new j k goal clause o was names does before k_is =
     kept_by old new j k (model.reduce goal clause) (reduced_or o) was names does before (λ f fits. done_step f old new j k goal clause o (does f fits) k_is)
 
 -- a fresh account is the replay of its journal
-pub kept_fresh : (a : Account) (j : Journal) (name : List ℕ) → a.names ≡ [] → ((f : Reading) → kept_of f (a, j) ≡ fresh_kept name) → IsKept (a, j)
-kept_fresh a j name none is = record {
-  replay = λ f fits. subst IsReplay (sym (is f)) (fresh_is_replay name);
+pub kept_fresh : (a : Account) (j : Journal) (rules : Rules) (name : List ℕ) → a.names ≡ [] → ((f : Reading) → kept_of f (a, j) ≡ fresh_kept rules name) → IsKept (a, j)
+kept_fresh a j rules name none is = record {
+  replay = λ f fits. subst IsReplay (sym (is f)) (fresh_is_replay rules name);
   names = subst (λ (ks : List Known). texts.AreNames (texts_of ks)) (sym none) no_names;
 }
 

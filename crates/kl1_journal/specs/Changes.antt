@@ -1,6 +1,6 @@
 -- What an event changes in a journal.
 use Rattle.std.specs.Prelude.{⊤, ◌≡◌, ℕ, suc, ◌-◌, ◌<◌, ◌⊎◌, List, IfSome}
-use Rattle.kl1_model.specs.Limits.{most_sessions}
+use Rattle.kl1_model.specs.declared.limits.TheConstants.{MOST_SESSIONS}
 use Rattle.kl1_model.specs.Event as model
 use Rattle.kl1_model_history.specs.Journal.{Journal, new_journal}
 use Rattle.kl1_journal_entries.specs.Lined.{Rows, lined_entry, with_prepared}
@@ -30,7 +30,7 @@ IsEntered _ = ⊤
 abbrev pub IsChange : List (List ℕ) → Journal → model.Event → Change → Type 0
 IsChange names j e (change.Entry entry) = (entry ≡ lined_entry e) × IsEntered e
 IsChange names j e change.Sessions = (e ≡ model.login) ⊎ (e ≡ model.logout)
-IsChange names j e (change.Anew new) = (e ≡ model.reset) × (new.journal ≡ new_journal names j.sessions)
+IsChange names j e (change.Anew new) = (e ≡ model.reset) × (new.journal ≡ new_journal j.rules names j.sessions)
 
 -- there is room for the entry of a change
 abbrev pub HasRoom : Rows → Change → Type 0
@@ -40,7 +40,7 @@ HasRoom rows (change.Anew new) = ⊤
 
 -- a reply fits how many sessions are open
 abbrev pub ReplyFits : Journal → model.Reply → Type 0
-ReplyFits j (model.welcome name) = j.sessions < most_sessions
+ReplyFits j (model.welcome name) = j.sessions < MOST_SESSIONS
 ReplyFits j model.bye = 0 < j.sessions
 ReplyFits j _ = ⊤
 

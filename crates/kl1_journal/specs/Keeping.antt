@@ -1,5 +1,6 @@
 -- An account with its journal, of which it is the replay.
 use Rattle.std.specs.Prelude.{◌≡◌, List, []}
+use Rattle.kl1_model.specs.declared.rules.Rules.TheVariants.{One}
 use Rattle.kl1_model_history.specs.Journal.{Journal, new_journal, Kept}
 use Rattle.kl1_model_history.specs.laws.HistoryLaws.{IsReplay}
 use Rattle.kl1_model_history.specs.laws.TextLaws.{AreNames}
@@ -13,7 +14,7 @@ Held = Account × Journal
 
 -- what stands for an account if there is none
 abbrev pub nobody : Held
-nobody = (record { own_name = []; held = nothing_held; goals = []; shoens = []; work = []; modules = []; names = []; last_goal = 0; variables = 0; nodes = 0; reports = 0; entries = 0; sessions = 0 }, new_journal [] 0)
+nobody = (record { own_name = []; rules = One; held = nothing_held; goals = []; shoens = []; work = []; modules = []; names = []; last_goal = 0; variables = 0; nodes = 0; reports = 0; entries = 0; sessions = 0 }, new_journal One [] 0)
 
 -- the account with its journal that these are, for a reading of its names
 abbrev pub kept_of : Reading → Held → Kept

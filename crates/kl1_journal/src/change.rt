@@ -53,6 +53,11 @@ pub(crate) fn prepare(
             shoen: _shoen,
             message: _message,
         } => entered(alloc, journal, event),
+        Event::Answer {
+            shoen: _shoen,
+            report: _report,
+            goal: _goal,
+        } => entered(alloc, journal, event),
         Event::Reduce {
             goal: _goal,
             clause: _clause,
@@ -64,11 +69,11 @@ pub(crate) fn prepare(
 /// The journal that a reset begins.
 fn anew(alloc: Global, journal: &Journal, names: &[AtomText]) -> Result<Journal, AllocError>
     requires { AreNames names.now }
-    ensures { IfOk result (λ new. new.journal ≡ new_journal names.now journal.now.journal.sessions) }
+    ensures { IfOk result (λ new. new.journal ≡ new_journal journal.now.journal.rules names.now journal.now.journal.sessions) }
 {
     // This is called for the fact that it proves: at most 4 sessions are open.
     journal.shows_written();
-    Journal::with_names(alloc, names, journal.sessions())
+    Journal::with_names(alloc, journal.rules(), names, journal.sessions())
 }
 
 /// The entry of an event, with room for it. A query is no entry, and no room is made for it.

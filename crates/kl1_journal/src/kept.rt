@@ -18,7 +18,7 @@ use crate::change::{note, note_step, prepare};
 use kl1_atoms::AtomSource;
 use kl1_codes::CodeSource;
 use kl1_journal_entries::Journal;
-use kl1_user::{AccountName, UserState};
+use kl1_user::{AccountName, Rules, UserState};
 use kl1_user_events::{ClauseNo, Event, GoalNo, Listed, Refusal, Reply, ShoenNo};
 use std::alloc::{AllocError, Global};
 use std::marker::{Model, PhantomData};
@@ -53,19 +53,25 @@ impl<A: AtomSource, C: CodeSource> Model for Kept<A, C> {
 }
 
 impl<A: AtomSource, C: CodeSource> Kept<A, C> {
-    /// An account of this name in which nothing has happened, with a seat that knows the built-in names alone.
-    pub fn new(alloc: Global, name: AccountName, seat: A::Seat) -> Result<Self, AllocError>
+    /// An account of this name, which keeps to these rules, in which nothing has happened, with a seat that knows the built-in
+    /// names alone.
+    pub fn new(
+        alloc: Global,
+        name: AccountName,
+        rules: Rules,
+        seat: A::Seat,
+    ) -> Result<Self, AllocError>
         requires { A.knows seat ≡ [] }
         ensures seat { IfOk result (λ k. k.0 ≡ seat) }
-        ensures fresh { IfOk result (λ k. (f : Reading) → kept_of f k.1 ≡ fresh_kept name) }
+        ensures fresh { IfOk result (λ k. (f : Reading) → kept_of f k.1 ≡ fresh_kept rules name) }
         ensures names { IfOk result (λ k. k.1.0.names ≡ []) }
         ensures modules { IfOk result (λ k. k.1.0.modules ≡ []) }
     {
-        let user = UserState::fresh(alloc, name)?;
+        let user = UserState::fresh(alloc, name, rules)?;
         Ok(Kept {
             user,
             seat,
-            journal: Journal::new(alloc),
+            journal: Journal::new(alloc, rules),
             source: PhantomData,
             alloc,
         })

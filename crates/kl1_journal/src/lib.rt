@@ -6,4 +6,4 @@ mod kept;
 
 pub use kept::Kept;
 pub use kl1_journal_entries::Journal;
-pub use kl1_user::AccountName;
+pub use kl1_user::{AccountName, Rules};

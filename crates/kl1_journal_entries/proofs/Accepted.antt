@@ -2,19 +2,20 @@
 use Rattle.std.proofs.Common.{◌≡◌, ℕ, suc, ◌≤◌, ◌+◌, ◌*◌, ◌&&◌, Bool, true, false, if◌then◌else◌, length, refl, arith}
 use Rattle.std.specs.Prelude.{nat_le, Some}
 use Rattle.std.proofs.lemmas.Bool.{and_from, and_parts, lt-ltb, le-leb, leb-true}
-use Rattle.kl1_model.specs.Limits.{number_limit, most_priority}
+use Rattle.kl1_model.specs.declared.limits.TheConstants.{NUMBER_LIMIT, MOST_PRIORITY, MOST_SOURCE_BYTES, MOST_LINE_BYTES}
 use Rattle.kl1_model.specs.Term.{Term}
 use Rattle.kl1_model.specs.Goal.{is_goal}
 use Rattle.kl1_model.specs.Meaning.{is_writable, is_numbered}
-use Rattle.kl1_model.specs.State.{State, shoen_at, goal_at, names_of, with_names}
-use Rattle.kl1_model.specs.Event.{Event, load, start, control, reduce, read, login, logout, reset, syntax, opened, Transition, refuse, is_number, is_range, most_source_bytes, most_line_bytes, with_entry, recorded, named, limited}
+use Rattle.kl1_model.specs.State.{State, shoen_at, goal_at, has_substitutes, names_of, with_names}
+use Rattle.kl1_model.specs.Event.{Event, load, start, control, reduce, read, login, logout, reset, answer, syntax, opened, Transition, refuse, is_number, is_range, with_entry, recorded, named, limited}
 use Rattle.kl1_model.specs.Module.{read_module}
 use Rattle.kl1_model.specs.Opening.{start_line, may_start, has_room_to_start, start_goal}
 use Rattle.kl1_model.specs.Reduction.{reduce_goal}
 use Rattle.kl1_model.specs.Sending.{may_send, send_to}
+use Rattle.kl1_model.specs.Answering.{answer_line, may_answer, answer_to}
 use Rattle.kl1_model.specs.Step.{load_module, step}
 use Rattle.kl1_model.specs.laws.TreeLaws.{is_refused}
-use Rattle.kl1_model_history.specs.Journal.{Entry, loads, starts, sends, steps, Journal, with_event}
+use Rattle.kl1_model_history.specs.Journal.{Entry, loads, starts, sends, steps, answers, Journal, with_event}
 use Rattle.kl1_journal_entries.specs.Lined.{is_lined, entry_of, lined_entry, with_prepared}
 use Rattle.kl1_journal_entries.proofs.Sound.{if_true}
 
@@ -23,34 +24,49 @@ passed : (b : Bool) (x : Transition) (s : State) → is_refused (if b then x els
 passed true x s h = refl
 passed false x s h = cc
 
-number_below : (n : ℕ) → n ≤ most_priority → is_number n ≡ true
-number_below n small = lt-ltb n number_limit (omega (arith, small))
+number_below : (n : ℕ) → n ≤ MOST_PRIORITY → is_number n ≡ true
+number_below n small = lt-ltb n NUMBER_LIMIT (omega (arith, small))
 
 -- a start that may start is lined
 may_lined : (allowance low high : ℕ) (t : Term) → may_start allowance low high t ≡ true → is_lined (starts allowance low high t) ≡ true
 may_lined allowance low high t may =
-    let a = and_parts (is_number allowance && is_range low high && is_goal t && is_writable t && is_numbered t) (nat_le (length (start_line allowance low high t)) most_line_bytes) may in
+    let a = and_parts (is_number allowance && is_range low high && is_goal t && is_writable t && is_numbered t) (nat_le (length (start_line allowance low high t)) MOST_LINE_BYTES) may in
     let b = and_parts (is_number allowance && is_range low high && is_goal t && is_writable t) (is_numbered t) a.0 in
     let d = and_parts (is_number allowance && is_range low high && is_goal t) (is_writable t) b.0 in
     let e = and_parts (is_number allowance && is_range low high) (is_goal t) d.0 in
     let f = and_parts (is_number allowance) (is_range low high) e.0 in
-    let g = and_parts (nat_le low high) (nat_le high most_priority) f.1 in
-    let top = leb-true high most_priority g.1 in
+    let g = and_parts (nat_le low high) (nat_le high MOST_PRIORITY) f.1 in
+    let top = leb-true high MOST_PRIORITY g.1 in
     let numbers = and_from (is_number allowance && is_number low) (is_number high) (and_from (is_number allowance) (is_number low) f.0 (number_below low (omega (arith, leb-true low high g.0, top)))) (number_below high top) in
-    and_from (is_number allowance && is_number low && is_number high && is_goal t && is_writable t && is_numbered t) (nat_le (length (start_line allowance low high t)) most_line_bytes)
+    and_from (is_number allowance && is_number low && is_number high && is_goal t && is_writable t && is_numbered t) (nat_le (length (start_line allowance low high t)) MOST_LINE_BYTES)
     (and_from (is_number allowance && is_number low && is_number high && is_goal t && is_writable t) (is_numbered t)
     (and_from (is_number allowance && is_number low && is_number high && is_goal t) (is_writable t) (and_from (is_number allowance && is_number low && is_number high) (is_goal t) numbers e.1) d.1) b.1) a.1
+
+-- an answer that may be given is lined
+answer_lined : (n report : ℕ) (t : Term) → may_answer n report t ≡ true → is_lined (answers n report t) ≡ true
+answer_lined n report t may =
+    let a = and_parts (is_number n && is_number report && nat_le 1 report && is_goal t && is_writable t && is_numbered t) (nat_le (length (answer_line n report t)) MOST_LINE_BYTES) may in
+    let b = and_parts (is_number n && is_number report && nat_le 1 report && is_goal t && is_writable t) (is_numbered t) a.0 in
+    let d = and_parts (is_number n && is_number report && nat_le 1 report && is_goal t) (is_writable t) b.0 in
+    let e = and_parts (is_number n && is_number report && nat_le 1 report) (is_goal t) d.0 in
+    let f = and_parts (is_number n && is_number report) (nat_le 1 report) e.0 in
+    and_from (is_number n && is_number report && is_goal t && is_writable t && is_numbered t) (nat_le (length (answer_line n report t)) MOST_LINE_BYTES)
+    (and_from (is_number n && is_number report && is_goal t && is_writable t) (is_numbered t)
+    (and_from (is_number n && is_number report && is_goal t) (is_writable t) (and_from (is_number n && is_number report) (is_goal t) f.0 e.1) d.1) b.1) a.1
 
 -- an event that is accepted is lined, if it is an entry
 pub accepted_entries : (s : State) (e : Event) → is_refused (step s e).reply ≡ false → lined_entry e ≡ entry_of e
 accepted_entries s (load text) h =
-    let few = leb-true (length text) most_source_bytes (passed (nat_le (length text) most_source_bytes) (load_module s (read_module text)) s h) in
-    if_true (is_lined (loads text)) (loads text) (le-leb (5 + 2 * length text) most_line_bytes (omega (arith, few)))
+    let few = leb-true (length text) MOST_SOURCE_BYTES (passed (nat_le (length text) MOST_SOURCE_BYTES) (load_module s (read_module text)) s h) in
+    if_true (is_lined (loads text)) (loads text) (le-leb (5 + 2 * length text) MOST_LINE_BYTES (omega (arith, few)))
 accepted_entries s (start allowance low high t) h =
     let after = named s (with_names s.names (names_of t)) (limited s (has_room_to_start s t) (recorded s (record { state = with_entry (start_goal s allowance low high t); reply = opened (suc s.last_shoen) }))) in
     if_true (is_lined (starts allowance low high t)) (starts allowance low high t) (may_lined allowance low high t (passed (may_start allowance low high t) after s h))
 accepted_entries s (control n m) h = if_true (may_send n m) (sends n m) (passed (may_send n m) (send_to s n m (shoen_at n s.shoens)) s h)
 accepted_entries s (reduce goal clause) h = if_true (is_number goal && is_number clause) (steps goal clause) (passed (is_number goal && is_number clause) (reduce_goal s clause (goal_at goal s.goals)) s h)
+accepted_entries s (answer n report t) h =
+    let both = and_parts (has_substitutes s.rules) (may_answer n report t) (passed (has_substitutes s.rules && may_answer n report t) (answer_to s report t (shoen_at n s.shoens)) s h) in
+    if_true (is_lined (answers n report t)) (answers n report t) (answer_lined n report t both.1)
 accepted_entries s (read q) h = refl
 accepted_entries s login h = refl
 accepted_entries s logout h = refl
@@ -62,6 +78,7 @@ with_event_entry j (load text) s n h = refl
 with_event_entry j (start allowance low high t) s n h = refl
 with_event_entry j (control k m) s n h = refl
 with_event_entry j (reduce goal clause) s n h = refl
+with_event_entry j (answer k report t) s n h = refl
 with_event_entry j (read q) s n h = refl
 with_event_entry j login s n h = cc
 with_event_entry j logout s n h = cc

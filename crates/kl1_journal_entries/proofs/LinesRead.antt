@@ -5,7 +5,7 @@ use Rattle.std.specs.List.{list_all}
 use Rattle.std.proofs.lemmas.Bool.{and_from, and_parts, le-leb}
 use Rattle.std.proofs.lemmas.Option.{option_and_then_some, same_Some}
 use Rattle.std.proofs.lemmas.Slice.Eq.{bytes_eq-Decides}
-use Rattle.kl1_model.specs.Limits.{number_limit, most_digits, most_line_bytes}
+use Rattle.kl1_model.specs.declared.limits.TheConstants.{NUMBER_LIMIT, MOST_DIGITS, MOST_LINE_BYTES}
 use Rattle.kl1_model.specs.declared.message.Message.{Message}
 use Rattle.kl1_model.specs.declared.message.Message.TheVariants.{Stop, Start, Abort, Allow}
 use Rattle.kl1_model.specs.Term.{Term}
@@ -17,8 +17,9 @@ use Rattle.kl1_model.specs.Event.{Event, is_number}
 use Rattle.kl1_model.specs.Module.{Reading, good, bad, read_goal}
 use Rattle.kl1_model.specs.Opening.{start_line}
 use Rattle.kl1_model.specs.Sending.{may_send}
-use Rattle.kl1_model_history.specs.Journal.{Entry, loads, starts, sends, steps, event_in}
-use Rattle.kl1_model_history.specs.JournalText.{is_hex_digit, hex_bytes, load_in, of_two, start_of, start_in, entry_by, entry_line, if_line, entry_in}
+use Rattle.kl1_model.specs.Answering.{answer_line}
+use Rattle.kl1_model_history.specs.Journal.{Entry, loads, starts, sends, steps, answers, event_in}
+use Rattle.kl1_model_history.specs.JournalText.{is_hex_digit, hex_bytes, load_in, of_two, start_of, start_in, answer_of, answer_in, entry_by, entry_line, if_line, entry_in}
 use Rattle.kl1_model_history.proofs.ReadStrict.{goals_read_are_printable}
 use Rattle.kl1_model_history.proofs.TextEntries.{length_hex}
 use Rattle.kl1_journal_entries.specs.Lined.{is_lined, if_lined, lined_entry}
@@ -46,8 +47,8 @@ number_by false m n h = absurd (let e : ⊥ = cc in e)
 -- a number that is read may stand in a line
 number_read : (w : List ℕ) (n : ℕ) → number_in w ≡ Some n → is_number n ≡ true
 number_read w n h =
-    let both = number_by (nat_le 1 (length w) && nat_le (length w) most_digits && list_all is_digit w && nat_lt (number_of w) number_limit) (number_of w) n h in
-    let last = and_parts (nat_le 1 (length w) && nat_le (length w) most_digits && list_all is_digit w) (nat_lt (number_of w) number_limit) both.0 in
+    let both = number_by (nat_le 1 (length w) && nat_le (length w) MOST_DIGITS && list_all is_digit w && nat_lt (number_of w) NUMBER_LIMIT) (number_of w) n h in
+    let last = and_parts (nat_le 1 (length w) && nat_le (length w) MOST_DIGITS && list_all is_digit w) (nat_lt (number_of w) NUMBER_LIMIT) both.0 in
     ap is_number (sym both.1) ∙ last.1
 
 two_lined : (make : ℕ → ℕ → Entry) → ((a b : ℕ) → is_number a ≡ true → is_number b ≡ true → is_lined (make a b) ≡ true) → (rest : List ℕ) (e : Entry) → of_two make rest ≡ Some e → is_lined e ≡ true
@@ -63,25 +64,25 @@ load_by : (b : Bool) (text : List ℕ) (e : Entry) → (if b then Some (loads te
 load_by true text e h = same_Some (loads text) e h
 load_by false text e h = absurd (let e : ⊥ = cc in e)
 
-load_lined : (rest : List ℕ) (e : Entry) → load_in rest ≡ Some e → length (entry_line e) ≤ most_line_bytes → is_lined e ≡ true
+load_lined : (rest : List ℕ) (e : Entry) → load_in rest ≡ Some e → length (entry_line e) ≤ MOST_LINE_BYTES → is_lined e ≡ true
 load_lined rest e h few =
     let text = hex_bytes rest in
     let is : loads text ≡ e = load_by (list_all is_hex_digit rest) text e h in
-    let short : length (entry_line (loads text)) ≤ most_line_bytes = subst (λ (d : Entry). length (entry_line d) ≤ most_line_bytes) (sym is) few in
-    ap is_lined (sym is) ∙ le-leb (5 + 2 * length text) most_line_bytes (omega (arith, short, length_hex text))
+    let short : length (entry_line (loads text)) ≤ MOST_LINE_BYTES = subst (λ (d : Entry). length (entry_line d) ≤ MOST_LINE_BYTES) (sym is) few in
+    ap is_lined (sym is) ∙ le-leb (5 + 2 * length text) MOST_LINE_BYTES (omega (arith, short, length_hex text))
 
 start_by : {P : Type 0} (a l h : ℕ) (r : Reading Term) (e : Entry) → start_of a l h r ≡ Some e → ((t : Term) → r ≡ good t → starts a l h t ≡ e → P) → P
 start_by a l h (bad line) e is go = absurd (let e : ⊥ = cc in e)
 start_by a l h (good t) e is go = go t refl (same_Some (starts a l h t) e is)
 
-start_from : (a l h : ℕ) (t : Term) → is_number a ≡ true → is_number l ≡ true → is_number h ≡ true → is_goal t ≡ true → is_writable t && is_numbered t && nat_lt (highest t) number_limit ≡ true → length (start_line a l h t) ≤ most_line_bytes → is_lined (starts a l h t) ≡ true
+start_from : (a l h : ℕ) (t : Term) → is_number a ≡ true → is_number l ≡ true → is_number h ≡ true → is_goal t ≡ true → is_writable t && is_numbered t && nat_lt (highest t) NUMBER_LIMIT ≡ true → length (start_line a l h t) ≤ MOST_LINE_BYTES → is_lined (starts a l h t) ≡ true
 start_from a l h t p q r goal printable few =
-    let parts = and_parts (is_writable t) (is_numbered t) (and_parts (is_writable t && is_numbered t) (nat_lt (highest t) number_limit) printable).0 in
-    and_from (is_number a && is_number l && is_number h && is_goal t && is_writable t && is_numbered t) (nat_le (length (start_line a l h t)) most_line_bytes)
+    let parts = and_parts (is_writable t) (is_numbered t) (and_parts (is_writable t && is_numbered t) (nat_lt (highest t) NUMBER_LIMIT) printable).0 in
+    and_from (is_number a && is_number l && is_number h && is_goal t && is_writable t && is_numbered t) (nat_le (length (start_line a l h t)) MOST_LINE_BYTES)
     (and_from (is_number a && is_number l && is_number h && is_goal t && is_writable t) (is_numbered t)
     (and_from (is_number a && is_number l && is_number h && is_goal t) (is_writable t)
     (and_from (is_number a && is_number l && is_number h) (is_goal t) (and_from (is_number a && is_number l) (is_number h) (and_from (is_number a) (is_number l) p q) r) goal) parts.0) parts.1)
-    (le-leb (length (start_line a l h t)) most_line_bytes few)
+    (le-leb (length (start_line a l h t)) MOST_LINE_BYTES few)
 
 behind_by : (b : Bool) (bs : List ℕ) → length (behind_space bs) ≤ length bs → length {A = ℕ} (elim b [ true ↦ bs | false ↦ behind_space bs ]) ≤ suc (length bs)
 behind_by true bs less = omega arith
@@ -91,19 +92,44 @@ behind_short : (bs : List ℕ) → length (behind_space bs) ≤ length bs
 behind_short [] = omega arith
 behind_short (b ∷ bs) = behind_by (b == 32) bs (behind_short bs)
 
-start_lined : (rest : List ℕ) (e : Entry) → start_in rest ≡ Some e → length rest < number_limit → length (entry_line e) ≤ most_line_bytes → is_lined e ≡ true
+start_lined : (rest : List ℕ) (e : Entry) → start_in rest ≡ Some e → length rest < NUMBER_LIMIT → length (entry_line e) ≤ MOST_LINE_BYTES → is_lined e ≡ true
 start_lined rest e h small few =
     let b = behind_space rest in
     let c = behind_space b in
     let text = behind_space c in
-    let less : length text < number_limit = omega (arith, small, behind_short rest, behind_short b, behind_short c) in
+    let less : length text < NUMBER_LIMIT = omega (arith, small, behind_short rest, behind_short b, behind_short c) in
     option_and_then_some (λ a. option_and_then (λ low. option_and_then (λ high. start_of a low high (read_goal text)) (number_in (before_space c))) (number_in (before_space b))) (number_in (before_space rest)) e h
     (λ a first m. option_and_then_some (λ low. option_and_then (λ high. start_of a low high (read_goal text)) (number_in (before_space c))) (number_in (before_space b)) e m
     (λ low second n. option_and_then_some (λ high. start_of a low high (read_goal text)) (number_in (before_space c)) e n
     (λ high third o. start_by a low high (read_goal text) e o
     (λ t read is.
     let facts = goals_read_are_printable text t less read in
-    ap is_lined (sym is) ∙ start_from a low high t (number_read (before_space rest) a first) (number_read (before_space b) low second) (number_read (before_space c) high third) facts.1 facts.0 (subst (λ (d : Entry). length (entry_line d) ≤ most_line_bytes) (sym is) few)))))
+    ap is_lined (sym is) ∙ start_from a low high t (number_read (before_space rest) a first) (number_read (before_space b) low second) (number_read (before_space c) high third) facts.1 facts.0 (subst (λ (d : Entry). length (entry_line d) ≤ MOST_LINE_BYTES) (sym is) few)))))
+
+answer_by : {P : Type 0} (n report : ℕ) (r : Reading Term) (e : Entry) → answer_of n report r ≡ Some e → ((t : Term) → r ≡ good t → answers n report t ≡ e → P) → P
+answer_by n report (bad line) e is go = absurd (let e : ⊥ = cc in e)
+answer_by n report (good t) e is go = go t refl (same_Some (answers n report t) e is)
+
+answer_from : (n report : ℕ) (t : Term) → is_number n ≡ true → is_number report ≡ true → is_goal t ≡ true → is_writable t && is_numbered t && nat_lt (highest t) NUMBER_LIMIT ≡ true → length (answer_line n report t) ≤ MOST_LINE_BYTES → is_lined (answers n report t) ≡ true
+answer_from n report t p q goal printable few =
+    let parts = and_parts (is_writable t) (is_numbered t) (and_parts (is_writable t && is_numbered t) (nat_lt (highest t) NUMBER_LIMIT) printable).0 in
+    and_from (is_number n && is_number report && is_goal t && is_writable t && is_numbered t) (nat_le (length (answer_line n report t)) MOST_LINE_BYTES)
+    (and_from (is_number n && is_number report && is_goal t && is_writable t) (is_numbered t)
+    (and_from (is_number n && is_number report && is_goal t) (is_writable t)
+    (and_from (is_number n && is_number report) (is_goal t) (and_from (is_number n) (is_number report) p q) goal) parts.0) parts.1)
+    (le-leb (length (answer_line n report t)) MOST_LINE_BYTES few)
+
+answer_lined : (rest : List ℕ) (e : Entry) → answer_in rest ≡ Some e → length rest < NUMBER_LIMIT → length (entry_line e) ≤ MOST_LINE_BYTES → is_lined e ≡ true
+answer_lined rest e h small few =
+    let b = behind_space rest in
+    let text = behind_space b in
+    let less : length text < NUMBER_LIMIT = omega (arith, small, behind_short rest, behind_short b) in
+    option_and_then_some (λ n. option_and_then (λ report. answer_of n report (read_goal text)) (number_in (before_space b))) (number_in (before_space rest)) e h
+    (λ n first m. option_and_then_some (λ report. answer_of n report (read_goal text)) (number_in (before_space b)) e m
+    (λ report second o. answer_by n report (read_goal text) e o
+    (λ t read is.
+    let facts = goals_read_are_printable text t less read in
+    ap is_lined (sym is) ∙ answer_from n report t (number_read (before_space rest) n first) (number_read (before_space b) report second) facts.1 facts.0 (subst (λ (d : Entry). length (entry_line d) ≤ MOST_LINE_BYTES) (sym is) few))))
 
 sent_lined : (m : Message) → (n : ℕ) → may_send n m ≡ true → is_lined (sends n m) ≡ true
 sent_lined m n h = h
@@ -112,7 +138,7 @@ with_true : (b : Bool) → b ≡ true → b && true ≡ true
 with_true b h = and_from b true h refl
 
 -- what is read by the first word of a line is lined, if its own line isn't too long
-by_word : (w rest : List ℕ) (e : Entry) → entry_by w rest ≡ Some e → length rest < number_limit → length (entry_line e) ≤ most_line_bytes → is_lined e ≡ true
+by_word : (w rest : List ℕ) (e : Entry) → entry_by w rest ≡ Some e → length rest < NUMBER_LIMIT → length (entry_line e) ≤ MOST_LINE_BYTES → is_lined e ≡ true
 by_word w rest e h small few =
     elim (either (bytes_eq w (codes "reduce")) _ _ e h) [
       | inl p ↦ two_lined steps (λ a b x y. and_from (is_number a) (is_number b) x y) rest e p
@@ -120,15 +146,18 @@ by_word w rest e h small few =
         | inl p ↦ load_lined rest e p few
         | inr h2 ↦ elim (either (bytes_eq w (codes "start")) _ _ e h2) [
           | inl p ↦ start_lined rest e p small few
-          | inr h3 ↦ elim (either (bytes_eq w (codes "stop")) _ _ e h3) [
-            | inl p ↦ one_lined (λ n. sends n Stop) (λ n x. with_true (is_number n) x) rest e p
-            | inr h4 ↦ elim (either (bytes_eq w (codes "resume")) _ _ e h4) [
-              | inl p ↦ one_lined (λ n. sends n Start) (λ n x. with_true (is_number n) x) rest e p
-              | inr h5 ↦ elim (either (bytes_eq w (codes "abort")) _ _ e h5) [
-                | inl p ↦ one_lined (λ n. sends n Abort) (λ n x. with_true (is_number n) x) rest e p
-                | inr h6 ↦ elim (either (bytes_eq w (codes "allow")) _ _ e h6) [
-                  | inl p ↦ two_lined (λ n k. sends n (Allow k)) (λ a b x y. and_from (is_number a) (is_number b) x y) rest e p
-                  | inr q ↦ absurd (let f : ⊥ = cc in f)
+          | inr h3 ↦ elim (either (bytes_eq w (codes "answer")) _ _ e h3) [
+            | inl p ↦ answer_lined rest e p small few
+            | inr h4 ↦ elim (either (bytes_eq w (codes "stop")) _ _ e h4) [
+              | inl p ↦ one_lined (λ n. sends n Stop) (λ n x. with_true (is_number n) x) rest e p
+              | inr h5 ↦ elim (either (bytes_eq w (codes "resume")) _ _ e h5) [
+                | inl p ↦ one_lined (λ n. sends n Start) (λ n x. with_true (is_number n) x) rest e p
+                | inr h6 ↦ elim (either (bytes_eq w (codes "abort")) _ _ e h6) [
+                  | inl p ↦ one_lined (λ n. sends n Abort) (λ n x. with_true (is_number n) x) rest e p
+                  | inr h7 ↦ elim (either (bytes_eq w (codes "allow")) _ _ e h7) [
+                    | inl p ↦ two_lined (λ n k. sends n (Allow k)) (λ a b x y. and_from (is_number a) (is_number b) x y) rest e p
+                    | inr q ↦ absurd (let f : ⊥ = cc in f)
+                  ]
                 ]
               ]
             ]
@@ -148,15 +177,15 @@ short_in : (b : Bool) (o : Option Entry) → b ≡ true → (if b then o else No
 short_in true o h = refl
 short_in false o h = cc
 
-in_short : (line : List ℕ) → length line ≤ most_line_bytes → entry_in line ≡ option_and_then (if_line line) (entry_by (before_space line) (behind_space line))
-in_short line few = short_in (nat_le (length line) most_line_bytes) (option_and_then (if_line line) (entry_by (before_space line) (behind_space line))) (le-leb (length line) most_line_bytes few)
+in_short : (line : List ℕ) → length line ≤ MOST_LINE_BYTES → entry_in line ≡ option_and_then (if_line line) (entry_by (before_space line) (behind_space line))
+in_short line few = short_in (nat_le (length line) MOST_LINE_BYTES) (option_and_then (if_line line) (entry_by (before_space line) (behind_space line))) (le-leb (length line) MOST_LINE_BYTES few)
 
 none_map : (o : Option Entry) → None ≡ option_map event_in o → o ≡ None
 none_map None h = refl
 none_map (Some e) h = absurd (let f : ⊥ = cc in f)
 
 -- no entry is read of a line that has none by its first word
-pub none_found : (line : List ℕ) → length line ≤ most_line_bytes → None ≡ option_map event_in (entry_by (before_space line) (behind_space line)) → entry_in line ≡ None
+pub none_found : (line : List ℕ) → length line ≤ MOST_LINE_BYTES → None ≡ option_map event_in (entry_by (before_space line) (behind_space line)) → entry_in line ≡ None
 none_found line few h = in_short line few ∙ ap (option_and_then (if_line line)) (none_map (entry_by (before_space line) (behind_space line)) h)
 
 same_entry : (e : Entry) → lined_entry (event_in e) ≡ if_lined e
@@ -164,6 +193,7 @@ same_entry (loads text) = refl
 same_entry (starts a l h t) = refl
 same_entry (sends n m) = refl
 same_entry (steps g c) = refl
+same_entry (answers n report t) = refl
 
 -- what is known of an entry by its line
 record Known (line : List ℕ) (e : Entry) (p : Option Entry) : Type 0 where
@@ -180,7 +210,7 @@ unknown_by x false line e p lined same needs is h = same
 unknown_by true true line e p lined same needs is h = absurd (let f : ⊥ = (let g : is_line_of (Some e) line ≡ false = ap (λ o. is_line_of o line) (sym is) ∙ h in cc) in f)
 unknown_by false true line e p lined same needs is h = absurd (let f : ⊥ = (let g = needs refl in cc) in f)
 
-entry_known : (line : List ℕ) (o : Option Entry) (v : Event) (p : Option Entry) → o ≡ entry_by (before_space line) (behind_space line) → length line ≤ most_line_bytes → Some v ≡ option_map event_in o → p ≡ lined_entry v → is_line_of p line ≡ true → IsFound line v p
+entry_known : (line : List ℕ) (o : Option Entry) (v : Event) (p : Option Entry) → o ≡ entry_by (before_space line) (behind_space line) → length line ≤ MOST_LINE_BYTES → Some v ≡ option_map event_in o → p ≡ lined_entry v → is_line_of p line ≡ true → IsFound line v p
 entry_known line None v p is few h q same = absurd (let f : ⊥ = cc in f)
 entry_known line (Some e) v p is few h q same =
     let event : v ≡ event_in e = same_Some v (event_in e) h in
@@ -190,19 +220,19 @@ entry_known line (Some e) v p is few h q same =
     record { event = ap (λ (w : Event). Some w) event ∙ ap (option_map event_in) (sym read); entry = ap (λ (w : Option Entry). Some w) known.entry ∙ ap (option_map (λ (d : Entry). Some d)) (sym read) }
 
 -- an entry whose line this is
-pub found : (line : List ℕ) (v : Event) (p : Option Entry) → length line ≤ most_line_bytes → Some v ≡ option_map event_in (entry_by (before_space line) (behind_space line)) → p ≡ lined_entry v → is_line_of p line ≡ true → IsFound line v p
+pub found : (line : List ℕ) (v : Event) (p : Option Entry) → length line ≤ MOST_LINE_BYTES → Some v ≡ option_map event_in (entry_by (before_space line) (behind_space line)) → p ≡ lined_entry v → is_line_of p line ≡ true → IsFound line v p
 found line v p few h q same = entry_known line (entry_by (before_space line) (behind_space line)) v p refl few h q same
 
-entry_unknown : (line : List ℕ) (o : Option Entry) (v : Event) (p : Option Entry) → o ≡ entry_by (before_space line) (behind_space line) → length line ≤ most_line_bytes → Some v ≡ option_map event_in o → p ≡ lined_entry v → is_line_of p line ≡ false → entry_in line ≡ None
+entry_unknown : (line : List ℕ) (o : Option Entry) (v : Event) (p : Option Entry) → o ≡ entry_by (before_space line) (behind_space line) → length line ≤ MOST_LINE_BYTES → Some v ≡ option_map event_in o → p ≡ lined_entry v → is_line_of p line ≡ false → entry_in line ≡ None
 entry_unknown line None v p is few h q other = absurd (let f : ⊥ = cc in f)
 entry_unknown line (Some e) v p is few h q other =
     let event : v ≡ event_in e = same_Some v (event_in e) h in
     let prepared : p ≡ if_lined e = q ∙ ap lined_entry event ∙ same_entry e in
-    let small : length (behind_space line) < number_limit = omega (arith, few, behind_short line) in
-    let needs : bytes_eq (entry_line e) line ≡ true → is_lined e ≡ true = λ same. by_word (before_space line) (behind_space line) e (sym is) small (subst (λ (bs : List ℕ). length bs ≤ most_line_bytes) (sym ((bytes_eq-Decides (entry_line e) line).0 same)) few) in
+    let small : length (behind_space line) < NUMBER_LIMIT = omega (arith, few, behind_short line) in
+    let needs : bytes_eq (entry_line e) line ≡ true → is_lined e ≡ true = λ same. by_word (before_space line) (behind_space line) e (sym is) small (subst (λ (bs : List ℕ). length bs ≤ MOST_LINE_BYTES) (sym ((bytes_eq-Decides (entry_line e) line).0 same)) few) in
     let differs = unknown_by (is_lined e) (bytes_eq (entry_line e) line) line e p refl refl needs prepared other in
     in_short line few ∙ ap (option_and_then (if_line line)) (sym is) ∙ if_false (bytes_eq (entry_line e) line) e differs
 
 -- a line that isn't that of its entry
-pub not_found : (line : List ℕ) (v : Event) (p : Option Entry) → length line ≤ most_line_bytes → Some v ≡ option_map event_in (entry_by (before_space line) (behind_space line)) → p ≡ lined_entry v → is_line_of p line ≡ false → entry_in line ≡ None
+pub not_found : (line : List ℕ) (v : Event) (p : Option Entry) → length line ≤ MOST_LINE_BYTES → Some v ≡ option_map event_in (entry_by (before_space line) (behind_space line)) → p ≡ lined_entry v → is_line_of p line ≡ false → entry_in line ≡ None
 not_found line v p few h q other = entry_unknown line (entry_by (before_space line) (behind_space line)) v p refl few h q other

@@ -4,6 +4,7 @@ use Rattle.std.specs.Prelude.{Option, Some, None, option_map, option_and_then}
 use Rattle.std.proofs.lemmas.List.{append-nil}
 use Rattle.std.proofs.lemmas.Bool.{and_from, and_parts}
 use Rattle.std.proofs.lemmas.Option.{same_Some}
+use Rattle.kl1_model.specs.declared.rules.Rules.{Rules}
 use Rattle.kl1_model.specs.Text.{is_text}
 use Rattle.kl1_model_history.specs.Journal.{Entry, Journal, new_journal, with_entry}
 use Rattle.kl1_model_history.specs.JournalText.{Lines, lines_of, entry_in, name_in, is_new_name, entry_first, journal_with, journal_after}
@@ -42,26 +43,26 @@ entry_more j k text line after p is h put = entry_put j k text line after (entry
 
 -- ---- names
 
-after_by : (sessions : ℕ) (names : List (List ℕ)) (n : ℕ) (after line : List ℕ) (o : Option (List ℕ)) → Option Journal
-after_by sessions names n after line o = if length (lines_of after).rest == 0 then option_and_then (λ t. if is_new_name names t then journal_after sessions (names ++ t ∷ []) n (lines_of after).whole else None) o else None
+after_by : (rules : Rules) (sessions : ℕ) (names : List (List ℕ)) (n : ℕ) (after line : List ℕ) (o : Option (List ℕ)) → Option Journal
+after_by rules sessions names n after line o = if length (lines_of after).rest == 0 then option_and_then (λ t. if is_new_name names t then journal_after rules sessions (names ++ t ∷ []) n (lines_of after).whole else None) o else None
 
-name_line_read : (sessions : ℕ) (names : List (List ℕ)) (m n : ℕ) (text line after : List ℕ) (o : Option (List ℕ)) → m ≡ suc n → lines_of text ≡ with_line line (lines_of after) → name_in line ≡ o → read_after sessions names m text ≡ after_by sessions names n after line o
+name_line_read : (rules : Rules) (sessions : ℕ) (names : List (List ℕ)) (m n : ℕ) (text line after : List ℕ) (o : Option (List ℕ)) → m ≡ suc n → lines_of text ≡ with_line line (lines_of after) → name_in line ≡ o → read_after rules sessions names m text ≡ after_by rules sessions names n after line o
 unfolding after_by
-name_line_read sessions names m n text line after o count is read =
-    ap (λ (k : ℕ). read_after sessions names k text) count
-    ∙ ap (λ (ls : Lines). if length ls.rest == 0 then journal_after sessions names (suc n) ls.whole else None) is
-    ∙ ap (after_by sessions names n after line) read
+name_line_read rules sessions names m n text line after o count is read =
+    ap (λ (k : ℕ). read_after rules sessions names k text) count
+    ∙ ap (λ (ls : Lines). if length ls.rest == 0 then journal_after rules sessions names (suc n) ls.whole else None) is
+    ∙ ap (after_by rules sessions names n after line) read
 
 -- a line of no name
-pub no_name : (sessions : ℕ) (names : List (List ℕ)) (m n : ℕ) (text line after : List ℕ) → m ≡ suc n → lines_of text ≡ with_line line (lines_of after) → name_in line ≡ None → read_after sessions names m text ≡ None
+pub no_name : (rules : Rules) (sessions : ℕ) (names : List (List ℕ)) (m n : ℕ) (text line after : List ℕ) → m ≡ suc n → lines_of text ≡ with_line line (lines_of after) → name_in line ≡ None → read_after rules sessions names m text ≡ None
 unfolding after_by
-no_name sessions names m n text line after count is read = name_line_read sessions names m n text line after None count is read ∙ neither (length (lines_of after).rest == 0)
+no_name rules sessions names m n text line after count is read = name_line_read rules sessions names m n text line after None count is read ∙ neither (length (lines_of after).rest == 0)
 
 -- no line, if names follow
-pub no_line : (sessions : ℕ) (names : List (List ℕ)) (m n : ℕ) (text : List ℕ) → m ≡ suc n → lines_of text ≡ record { whole = []; rest = text } → read_after sessions names m text ≡ None
-no_line sessions names m n text count is =
-    ap (λ (k : ℕ). read_after sessions names k text) count
-    ∙ ap (λ (ls : Lines). if length ls.rest == 0 then journal_after sessions names (suc n) ls.whole else None) is
+pub no_line : (rules : Rules) (sessions : ℕ) (names : List (List ℕ)) (m n : ℕ) (text : List ℕ) → m ≡ suc n → lines_of text ≡ record { whole = []; rest = text } → read_after rules sessions names m text ≡ None
+no_line rules sessions names m n text count is =
+    ap (λ (k : ℕ). read_after rules sessions names k text) count
+    ∙ ap (λ (ls : Lines). if length ls.rest == 0 then journal_after rules sessions names (suc n) ls.whole else None) is
     ∙ neither (length text == 0)
 
 new_by : (x : Bool) (a b : Option Journal) → x ≡ false → (if x then a else b) ≡ b
@@ -73,19 +74,19 @@ old_by true a b h = refl
 old_by false a b h = cc
 
 -- a name that may not follow
-pub no_new_name : (sessions : ℕ) (names : List (List ℕ)) (m n : ℕ) (text line after t : List ℕ) → m ≡ suc n → lines_of text ≡ with_line line (lines_of after) → name_in line ≡ Some t → is_new_name names t ≡ false → read_after sessions names m text ≡ None
+pub no_new_name : (rules : Rules) (sessions : ℕ) (names : List (List ℕ)) (m n : ℕ) (text line after t : List ℕ) → m ≡ suc n → lines_of text ≡ with_line line (lines_of after) → name_in line ≡ Some t → is_new_name names t ≡ false → read_after rules sessions names m text ≡ None
 unfolding after_by
-no_new_name sessions names m n text line after t count is read other =
-    name_line_read sessions names m n text line after (Some t) count is read
-    ∙ ap (λ (o : Option Journal). if length (lines_of after).rest == 0 then o else None) (new_by (is_new_name names t) (journal_after sessions (names ++ t ∷ []) n (lines_of after).whole) None other)
+no_new_name rules sessions names m n text line after t count is read other =
+    name_line_read rules sessions names m n text line after (Some t) count is read
+    ∙ ap (λ (o : Option Journal). if length (lines_of after).rest == 0 then o else None) (new_by (is_new_name names t) (journal_after rules sessions (names ++ t ∷ []) n (lines_of after).whole) None other)
     ∙ neither (length (lines_of after).rest == 0)
 
 -- a name that may follow
-pub name_more : (sessions : ℕ) (names : List (List ℕ)) (m n : ℕ) (text line after t : List ℕ) → m ≡ suc n → lines_of text ≡ with_line line (lines_of after) → name_in line ≡ Some t → is_new_name names t ≡ true → read_after sessions (names ++ t ∷ []) n after ≡ read_after sessions names m text
+pub name_more : (rules : Rules) (sessions : ℕ) (names : List (List ℕ)) (m n : ℕ) (text line after t : List ℕ) → m ≡ suc n → lines_of text ≡ with_line line (lines_of after) → name_in line ≡ Some t → is_new_name names t ≡ true → read_after rules sessions (names ++ t ∷ []) n after ≡ read_after rules sessions names m text
 unfolding after_by
-name_more sessions names m n text line after t count is read new =
-    sym (name_line_read sessions names m n text line after (Some t) count is read
-    ∙ ap (λ (o : Option Journal). if length (lines_of after).rest == 0 then o else None) (old_by (is_new_name names t) (journal_after sessions (names ++ t ∷ []) n (lines_of after).whole) None new))
+name_more rules sessions names m n text line after t count is read new =
+    sym (name_line_read rules sessions names m n text line after (Some t) count is read
+    ∙ ap (λ (o : Option Journal). if length (lines_of after).rest == 0 then o else None) (old_by (is_new_name names t) (journal_after rules sessions (names ++ t ∷ []) n (lines_of after).whole) None new))
 
 one_more : (before names : List (List ℕ)) (t : List ℕ) → are_new_names before names ≡ true → is_text t ≡ true → is_new_name (before ++ names) t ≡ true → are_new_names before (names ++ t ∷ []) ≡ true
 one_more before [] t h text new = and_from (is_text t && is_new_name before t) true (and_from (is_text t) (is_new_name before t) text (ap (λ (ns : List (List ℕ)). is_new_name ns t) (sym (append-nil before)) ∙ new)) refl
@@ -104,20 +105,20 @@ entries_read : List (List ℕ) → Option (List Entry)
 entries_read [] = Some []
 entries_read (line ∷ lines) = option_and_then (λ e. option_map (λ es. e ∷ es) (entries_read lines)) (entry_in line)
 
-journal_from : ℕ → List (List ℕ) → List Entry → Journal
-journal_from sessions names es = record { sessions = sessions; names = names; entries = es }
+journal_from : Rules → ℕ → List (List ℕ) → List Entry → Journal
+journal_from rules sessions names es = record { rules = rules; sessions = sessions; names = names; entries = es }
 
-with_by : (sessions : ℕ) (names : List (List ℕ)) (o : Option Entry) (w : Option Journal) (x : Option (List Entry)) → w ≡ option_map (journal_from sessions names) x →
-    option_and_then (λ e. option_map (entry_first e) w) o ≡ option_map (journal_from sessions names) (option_and_then (λ e. option_map (λ es. e ∷ es) x) o)
+with_by : (rules : Rules) (sessions : ℕ) (names : List (List ℕ)) (o : Option Entry) (w : Option Journal) (x : Option (List Entry)) → w ≡ option_map (journal_from rules sessions names) x →
+    option_and_then (λ e. option_map (entry_first e) w) o ≡ option_map (journal_from rules sessions names) (option_and_then (λ e. option_map (λ es. e ∷ es) x) o)
 unfolding journal_from
-with_by sessions names None w x is = refl
-with_by sessions names (Some e) w None is = ap (option_map (entry_first e)) is
-with_by sessions names (Some e) w (Some es) is = ap (option_map (entry_first e)) is
+with_by rules sessions names None w x is = refl
+with_by rules sessions names (Some e) w None is = ap (option_map (entry_first e)) is
+with_by rules sessions names (Some e) w (Some es) is = ap (option_map (entry_first e)) is
 
-with_read : (sessions : ℕ) (names lines : List (List ℕ)) → journal_with sessions names lines ≡ option_map (journal_from sessions names) (entries_read lines)
+with_read : (rules : Rules) (sessions : ℕ) (names lines : List (List ℕ)) → journal_with rules sessions names lines ≡ option_map (journal_from rules sessions names) (entries_read lines)
 unfolding entries_read journal_from
-with_read sessions names [] = refl
-with_read sessions names (line ∷ lines) = with_by sessions names (entry_in line) (journal_with sessions names lines) (entries_read lines) (with_read sessions names lines)
+with_read rules sessions names [] = refl
+with_read rules sessions names (line ∷ lines) = with_by rules sessions names (entry_in line) (journal_with rules sessions names lines) (entries_read lines) (with_read rules sessions names lines)
 
 joined : Journal → List Entry → Journal
 joined j es = record j { entries = j.entries ++ es }
@@ -134,14 +135,14 @@ unfolding entries_read joined
 on_read j [] = ap (λ (ds : List Entry). let r : Option Journal = Some (record j { entries = ds }) in r) (sym (append-nil j.entries))
 on_read j (line ∷ lines) = on_by j (entry_in line) (λ e. read_on (with_entry j e) lines) (entries_read lines) (λ e. on_read (with_entry j e) lines)
 
-same_from : (sessions : ℕ) (names : List (List ℕ)) (x : Option (List Entry)) → option_map (joined (new_journal names sessions)) x ≡ option_map (journal_from sessions names) x
+same_from : (rules : Rules) (sessions : ℕ) (names : List (List ℕ)) (x : Option (List Entry)) → option_map (joined (new_journal rules names sessions)) x ≡ option_map (journal_from rules sessions names) x
 unfolding journal_from joined
-same_from sessions names None = refl
-same_from sessions names (Some es) = refl
+same_from rules sessions names None = refl
+same_from rules sessions names (Some es) = refl
 
 -- the journal that begins with these names and goes on with a text's entries
-pub names_done : (sessions : ℕ) (names : List (List ℕ)) (n : ℕ) (text : List ℕ) (j : Journal) → j ≡ new_journal names sessions → n ≡ 0 → read_text j text ≡ read_after sessions names n text
-names_done sessions names n text j is none =
+pub names_done : (rules : Rules) (sessions : ℕ) (names : List (List ℕ)) (n : ℕ) (text : List ℕ) (j : Journal) → j ≡ new_journal rules names sessions → n ≡ 0 → read_text j text ≡ read_after rules sessions names n text
+names_done rules sessions names n text j is none =
     ap (λ (i : Journal). read_text i text) is
-    ∙ ap (λ (o : Option Journal). if length (lines_of text).rest == 0 then o else None) (on_read (new_journal names sessions) (lines_of text).whole ∙ same_from sessions names (entries_read (lines_of text).whole) ∙ sym (with_read sessions names (lines_of text).whole))
-    ∙ ap (λ (k : ℕ). read_after sessions names k text) (sym none)
+    ∙ ap (λ (o : Option Journal). if length (lines_of text).rest == 0 then o else None) (on_read (new_journal rules names sessions) (lines_of text).whole ∙ same_from rules sessions names (entries_read (lines_of text).whole) ∙ sym (with_read rules sessions names (lines_of text).whole))
+    ∙ ap (λ (k : ℕ). read_after rules sessions names k text) (sym none)

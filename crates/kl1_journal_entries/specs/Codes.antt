@@ -4,9 +4,11 @@ use Rattle.std.proofs.Common.{refl, inl, inr}
 use Rattle.std.specs.Coded.{Coded, code_by, coded×, coded⊎, coded_list, coded_ℕ}
 use Rattle.kl1_model.specs.declared.message.Message.{Message}
 use Rattle.kl1_model.specs.declared.message.Message.TheVariants.{Stop, Start, Abort, Allow}
+use Rattle.kl1_model.specs.declared.rules.Rules.{Rules}
+use Rattle.kl1_model.specs.declared.rules.Rules.TheVariants.{One, Two, Three}
 use Rattle.kl1_model.specs.Term.{Term}
 use Rattle.kl1_model.specs.code.TermCode.{term_code}
-use Rattle.kl1_model_history.specs.Journal.{Entry, loads, starts, sends, steps, Journal}
+use Rattle.kl1_model_history.specs.Journal.{Entry, loads, starts, sends, steps, answers, Journal}
 use Rattle.kl1_journal_entries.specs.Lined.{Rows}
 
 -- a message as the number of `allow`, or a number for each other
@@ -34,21 +36,45 @@ message_same Abort = refl
 abbrev pub message_code : Coded Message
 message_code = code_by (ℕ ⊎ ℕ) (coded⊎ coded_ℕ coded_ℕ) message_parts message_of message_same
 
+-- rules as a number
+abbrev pub rules_number : Rules → ℕ
+rules_number One = 1
+rules_number Two = 2
+rules_number Three = 3
+
+-- the rules with a number
+abbrev pub rules_from : ℕ → Rules
+rules_from (suc (suc (suc n))) = Three
+rules_from (suc (suc n)) = Two
+rules_from n = One
+
+-- rules are those of their number
+pub rules_same : (r : Rules) → rules_from (rules_number r) ≡ r
+rules_same One = refl
+rules_same Two = refl
+rules_same Three = refl
+
+-- rules are stored as their number
+abbrev pub rules_code : Coded Rules
+rules_code = code_by ℕ coded_ℕ rules_number rules_from rules_same
+
 -- the parts of an entry
 abbrev pub Parts : Type 0
-Parts = (List ℕ ⊎ (ℕ × (ℕ × (ℕ × Term)))) ⊎ ((ℕ × Message) ⊎ (ℕ × ℕ))
+Parts = (List ℕ ⊎ ((ℕ × (ℕ × (ℕ × Term))) ⊎ (ℕ × (ℕ × Term)))) ⊎ ((ℕ × Message) ⊎ (ℕ × ℕ))
 
 -- an entry as its parts
 abbrev pub parts_of : Entry → Parts
 parts_of (loads text) = inl (inl text)
-parts_of (starts a l h t) = inl (inr (a, (l, (h, t))))
+parts_of (starts a l h t) = inl (inr (inl (a, (l, (h, t)))))
+parts_of (answers n r t) = inl (inr (inr (n, (r, t))))
 parts_of (sends n m) = inr (inl (n, m))
 parts_of (steps g c) = inr (inr (g, c))
 
 -- the entry of these parts
 abbrev pub entry_of_parts : Parts → Entry
 entry_of_parts (inl (inl text)) = loads text
-entry_of_parts (inl (inr p)) = starts p.0 p.1.0 p.1.1.0 p.1.1.1
+entry_of_parts (inl (inr (inl p))) = starts p.0 p.1.0 p.1.1.0 p.1.1.1
+entry_of_parts (inl (inr (inr p))) = answers p.0 p.1.0 p.1.1
 entry_of_parts (inr (inl p)) = sends p.0 p.1
 entry_of_parts (inr (inr p)) = steps p.0 p.1
 
@@ -56,18 +82,19 @@ entry_of_parts (inr (inr p)) = steps p.0 p.1
 pub parts_same : (e : Entry) → entry_of_parts (parts_of e) ≡ e
 parts_same (loads text) = refl
 parts_same (starts a l h t) = refl
+parts_same (answers n r t) = refl
 parts_same (sends n m) = refl
 parts_same (steps g c) = refl
 
 -- an entry is stored as its parts
 abbrev pub entry_code : Coded Entry
-entry_code = code_by Parts (coded⊎ (coded⊎ (coded_list coded_ℕ) (coded× coded_ℕ (coded× coded_ℕ (coded× coded_ℕ term_code)))) (coded⊎ (coded× coded_ℕ message_code) (coded× coded_ℕ coded_ℕ))) parts_of entry_of_parts parts_same
+entry_code = code_by Parts (coded⊎ (coded⊎ (coded_list coded_ℕ) (coded⊎ (coded× coded_ℕ (coded× coded_ℕ (coded× coded_ℕ term_code))) (coded× coded_ℕ (coded× coded_ℕ term_code)))) (coded⊎ (coded× coded_ℕ message_code) (coded× coded_ℕ coded_ℕ))) parts_of entry_of_parts parts_same
 
--- a journal is stored as its sessions, names and entries
+-- a journal is stored as its rules, sessions, names and entries
 abbrev pub journal_code : Coded Journal
 journal_code =
-    code_by (ℕ × (List (List ℕ) × List Entry)) (coded× coded_ℕ (coded× (coded_list (coded_list coded_ℕ)) (coded_list entry_code)))
-    (λ j. (j.sessions, (j.names, j.entries))) (λ p. record { sessions = p.0; names = p.1.0; entries = p.1.1 }) (λ j. refl)
+    code_by (Rules × (ℕ × (List (List ℕ) × List Entry))) (coded× rules_code (coded× coded_ℕ (coded× (coded_list (coded_list coded_ℕ)) (coded_list entry_code))))
+    (λ j. (j.rules, (j.sessions, (j.names, j.entries)))) (λ p. record { rules = p.0; sessions = p.1.0; names = p.1.1.0; entries = p.1.1.1 }) (λ j. refl)
 
 -- a journal with room is stored as the journal and the room
 abbrev pub rows_code : Coded Rows

@@ -2,17 +2,20 @@
 use Rattle.std.specs.Prelude.{ℕ, ◌+◌, ◌*◌, nat_le, ◌&&◌, Bool, if◌then◌else◌, length, Option, Some, None, option_and_then}
 use Rattle.kl1_model.specs.Goal.{is_goal}
 use Rattle.kl1_model.specs.Meaning.{is_writable, is_numbered}
-use Rattle.kl1_model.specs.Event.{Event, load, start, control, reduce, read, login, logout, reset, is_number, most_line_bytes}
+use Rattle.kl1_model.specs.Event.{Event, load, start, control, reduce, read, login, logout, reset, answer, is_number}
+use Rattle.kl1_model.specs.declared.limits.TheConstants.{MOST_LINE_BYTES}
 use Rattle.kl1_model.specs.Opening.{start_line}
 use Rattle.kl1_model.specs.Sending.{may_send}
-use Rattle.kl1_model_history.specs.Journal.{Entry, loads, starts, sends, steps, Journal, with_entry}
+use Rattle.kl1_model.specs.Answering.{answer_line}
+use Rattle.kl1_model_history.specs.Journal.{Entry, loads, starts, sends, steps, answers, Journal, with_entry}
 
 -- whether an entry has numbers below 2 ^ 63, a goal that can be written and read back, and a line that isn't too long
 abbrev pub is_lined : Entry → Bool
-is_lined (loads text) = nat_le (5 + 2 * length text) most_line_bytes
-is_lined (starts allowance low high t) = is_number allowance && is_number low && is_number high && is_goal t && is_writable t && is_numbered t && nat_le (length (start_line allowance low high t)) most_line_bytes
+is_lined (loads text) = nat_le (5 + 2 * length text) MOST_LINE_BYTES
+is_lined (starts allowance low high t) = is_number allowance && is_number low && is_number high && is_goal t && is_writable t && is_numbered t && nat_le (length (start_line allowance low high t)) MOST_LINE_BYTES
 is_lined (sends n m) = may_send n m
 is_lined (steps goal clause) = is_number goal && is_number clause
+is_lined (answers n report t) = is_number n && is_number report && is_goal t && is_writable t && is_numbered t && nat_le (length (answer_line n report t)) MOST_LINE_BYTES
 
 -- the entry that an event is, if it is one
 abbrev pub entry_of : Event → Option Entry
@@ -24,6 +27,7 @@ entry_of (read q) = None
 entry_of login = None
 entry_of logout = None
 entry_of reset = None
+entry_of (answer n report t) = Some (answers n report t)
 
 -- an entry, if it is lined
 abbrev pub if_lined : Entry → Option Entry

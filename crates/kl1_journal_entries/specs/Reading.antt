@@ -1,6 +1,7 @@
 -- How the text of a journal is read.
 use Rattle.std.specs.Prelude.{ℕ, ◌∷◌, [], List, Bool, false, if◌then◌else◌, ◌==◌, length, bytes_eq, codes, Option, Some, None, option_map, option_and_then}
 use Rattle.kl1_model.specs.declared.message.Message.TheVariants.{Stop, Start, Abort, Allow}
+use Rattle.kl1_model.specs.declared.rules.Rules.{Rules}
 use Rattle.kl1_model.specs.Line.{before_space, behind_space, number_in}
 use Rattle.kl1_model_history.specs.Journal.{Entry, sends, Journal, with_entry}
 use Rattle.kl1_model_history.specs.JournalText as model
@@ -13,7 +14,7 @@ with_line line ls = record { whole = line ∷ ls.whole; rest = ls.rest }
 
 -- the heading that this one is
 abbrev pub heading_view : Heading → model.Heading
-heading_view h = record { sessions = h.sessions; names = h.names }
+heading_view h = record { rules = h.rules; sessions = h.sessions; names = h.names }
 
 -- two numbers that a line has
 abbrev pub two_in : List ℕ → Option (ℕ × ℕ)
@@ -42,6 +43,6 @@ read_on j (line ∷ lines) = option_and_then (λ e. read_on (with_entry j e) lin
 abbrev pub read_text : Journal → List ℕ → Option Journal
 read_text j text = if length (lines_of text).rest == 0 then read_on j (lines_of text).whole else None
 
--- the journal of these sessions and names, after which a text has this number of names and then entries, if it has
-abbrev pub read_after : ℕ → List (List ℕ) → ℕ → List ℕ → Option Journal
-read_after sessions names n text = if length (lines_of text).rest == 0 then journal_after sessions names n (lines_of text).whole else None
+-- the journal of these rules, sessions and names, after which a text has this number of names and then entries, if it has
+abbrev pub read_after : Rules → ℕ → List (List ℕ) → ℕ → List ℕ → Option Journal
+read_after rules sessions names n text = if length (lines_of text).rest == 0 then journal_after rules sessions names n (lines_of text).whole else None

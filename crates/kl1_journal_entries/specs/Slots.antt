@@ -1,12 +1,12 @@
 -- What the row of a journal means.
 use Rattle.std.specs.Prelude.{◌≡◌, ℕ, ◌<◌, ◌≤◌, ◌^◌, List, [], length, slice_get, Option, Some, None}
 use Rattle.std.specs.List.{AllByRecursion}
-use Rattle.kl1_model.specs.Limits.{most_sessions}
+use Rattle.kl1_model.specs.declared.limits.TheConstants.{MOST_SESSIONS}
 use Rattle.kl1_model.specs.declared.message.Message.TheVariants.{Stop, Start, Abort}
 use Rattle.kl1_model.specs.Term.{Term, atom}
 use Rattle.kl1_model.specs.Print.{print}
 use Rattle.kl1_model.specs.Module.{Reading, good, bad, read_goal}
-use Rattle.kl1_model_history.specs.Journal.{Entry, loads, starts, sends, steps}
+use Rattle.kl1_model_history.specs.Journal.{Entry, loads, starts, sends, steps, answers}
 use Rattle.kl1_model_history.specs.laws.TextLaws.{HasLine, AreNames}
 use Rattle.kl1_journal_entries.specs.declared.slot.Slot.{Slot}
 use Rattle.kl1_journal_entries.specs.declared.slot.Slot.TheVariants as slot
@@ -30,6 +30,7 @@ entry_of_whole (whole.Load source) = loads source.items
 entry_of_whole (whole.Start allowance low high goal) = starts allowance low high (goal_in goal.items)
 entry_of_whole (whole.Control n m) = sends n m
 entry_of_whole (whole.Step goal clause) = steps goal clause
+entry_of_whole (whole.Answer n report goal) = answers n report (goal_in goal.items)
 
 -- the entry that is kept at a place
 abbrev pub kept_at : Option Whole → Entry
@@ -52,12 +53,13 @@ IsPlace n (slot.Resume k) = k < 2 ^ 32
 IsPlace n (slot.Abort k) = k < 2 ^ 32
 IsPlace n (slot.Kept k) = k < n
 
--- the text that is kept of a start is the print of its goal
+-- the text that is kept of a start and an answer is the print of their goal
 abbrev pub IsPrinted : Whole → Type 0
 IsPrinted (whole.Load source) = Unit {0}
 IsPrinted (whole.Start allowance low high goal) = print (goal_in goal.items) ≡ goal.items
 IsPrinted (whole.Control n m) = Unit {0}
 IsPrinted (whole.Step goal clause) = Unit {0}
+IsPrinted (whole.Answer n report goal) = print (goal_in goal.items) ≡ goal.items
 
 -- what is kept whole has a line, and of a goal it has the print
 pub record IsSound (w : Whole) : Type 0 where
@@ -78,7 +80,7 @@ IsSoundForm (form.Long w) = IsSound w
 
 -- what holds of the parts of each journal
 pub record IsHeld (sessions : ℕ) (names : List (List ℕ)) (slots : List Slot) (wholes : List Whole) : Type 0 where
-  pub few_sessions : sessions ≤ most_sessions
+  pub few_sessions : sessions ≤ MOST_SESSIONS
   pub are_names : AreNames names
   pub places : AllByRecursion (IsPlace (length wholes)) slots
   pub sound : AllByRecursion IsSound wholes

@@ -33,6 +33,12 @@ pub enum Entry<'a> {
         goal: GoalNo,
         clause: ClauseNo,
     },
+    /// A goal, which is given as its print, as the answer to a report of a shoen, the first being 1.
+    Answer {
+        shoen: ShoenNo,
+        report: u64,
+        goal: &'a [u8],
+    },
 }
 
 /// An entry that is kept whole.
@@ -60,6 +66,15 @@ pub(crate) fn shown_whole(whole: &Whole) -> Entry<'_>
         Whole::Step { goal, clause } => Entry::Reduce {
             goal: GoalNo(*goal),
             clause: ClauseNo(*clause),
+        },
+        Whole::Answer {
+            shoen,
+            report,
+            goal,
+        } => Entry::Answer {
+            shoen: ShoenNo(*shoen),
+            report: *report,
+            goal: goal.as_slice(),
         },
     }
 }

@@ -1,25 +1,56 @@
 // The first line of a journal's text.
 
 ghost use Rattle.std.specs.Prelude.{◌≡◌, ◌+◌, ◌≤◌, ◌++◌, length, bytes_eq, option_map, IfSome};
-ghost use Rattle.kl1_model.specs.Limits.{most_sessions, most_names};
-ghost use Rattle.kl1_model_history.specs.JournalText.{first_line, heading_in};
+ghost use Rattle.kl1_model.specs.declared.limits.TheConstants.{MOST_SESSIONS, MOST_NAMES};
+ghost use Rattle.kl1_model_history.specs.JournalText.{version, first_line, rules_of, heading_in};
+ghost use Rattle.kl1_text.specs.declared.short_bytes.TheConstants.{MOST_SHORT_BYTES};
 ghost use Rattle.kl1_journal_entries.specs.Reading.{heading_view};
 
 use itoa::Buffer;
 use kl1_command_lines::{is_same, number_in, split_name};
+use kl1_model::Rules;
 use kl1_model::limits::{MOST_NAMES, MOST_SESSIONS};
 use kl1_text::ShortBytes;
 
-/// What the first line of a journal's text says: how many sessions are open, and how many names follow.
+/// What the first line of a journal's text says: the rules of the account, how many sessions are open, and how many names follow.
 #[derive(Clone, Copy)]
 pub struct Heading {
+    pub rules: Rules,
     pub sessions: u64,
     pub names: u64,
 }
 
+/// The version of a journal, by the rules of its account.
+pub(crate) fn version(rules: Rules) -> &'static [u8]
+    ensures value { result.now ≡ version rules }
+    ensures one { length result.now ≡ 1 }
+{
+    match rules {
+        Rules::One => b"1",
+        Rules::Two => b"2",
+        Rules::Three => b"3",
+    }
+}
+
+/// The rules of an account whose journal has a version, if it is one.
+fn rules_of(word: &[u8]) -> Option<Rules>
+    ensures { result ≡ rules_of word.now }
+{
+    if is_same(word, version(Rules::One)) {
+        return Some(Rules::One);
+    }
+    if is_same(word, version(Rules::Two)) {
+        return Some(Rules::Two);
+    }
+    if is_same(word, version(Rules::Three)) {
+        return Some(Rules::Three);
+    }
+    None
+}
+
 /// Puts bytes after others.
 fn put_short(out: &mut ShortBytes, bytes: &[u8])
-    requires { length out.old + length bytes.now ≤ 128 }
+    requires { length out.old + length bytes.now ≤ MOST_SHORT_BYTES }
     ensures { out.new ≡ out.old ++ bytes.now }
 {
     let mut rest = bytes;
@@ -29,12 +60,14 @@ fn put_short(out: &mut ShortBytes, bytes: &[u8])
     }
 }
 
-/// Whether a line is the first line of a journal with this number of open sessions and of names.
-fn is_first_line(line: &[u8], sessions: u64, names: u64) -> bool
-    ensures { result ≡ bytes_eq (first_line sessions names) line.now }
+/// Whether a line is the first line of a journal of these rules with this number of open sessions and of names.
+fn is_first_line(line: &[u8], rules: Rules, sessions: u64, names: u64) -> bool
+    ensures { result ≡ bytes_eq (first_line rules sessions names) line.now }
 {
     let mut first = ShortBytes::new();
-    put_short(&mut first, b"journal 1 ");
+    put_short(&mut first, b"journal ");
+    put_short(&mut first, version(rules));
+    put_short(&mut first, b" ");
     put_short(&mut first, Buffer::new().format(sessions).as_bytes());
     put_short(&mut first, b" ");
     put_short(&mut first, Buffer::new().format(names).as_bytes());
@@ -44,19 +77,24 @@ fn is_first_line(line: &[u8], sessions: u64, names: u64) -> bool
 /// What a line says as the first line of a journal, if it is one.
 pub fn heading_of(line: &[u8]) -> Option<Heading>
     ensures value { option_map heading_view result ≡ heading_in line.now }
-    ensures sessions { IfSome result (λ h. h.sessions ≤ most_sessions) }
-    ensures names { IfSome result (λ h. h.names ≤ most_names) }
+    ensures sessions { IfSome result (λ h. h.sessions ≤ MOST_SESSIONS) }
+    ensures names { IfSome result (λ h. h.names ≤ MOST_NAMES) }
 {
     let (_, behind) = split_name(line);
-    let (_, rest) = split_name(behind);
+    let (number, rest) = split_name(behind);
+    let rules = rules_of(number)?;
     let (first, second) = split_name(rest);
     let sessions = number_in(first)?;
     let names = number_in(second)?;
     if sessions <= MOST_SESSIONS
         && names <= MOST_NAMES as u64
-        && is_first_line(line, sessions, names)
+        && is_first_line(line, rules, sessions, names)
     {
-        Some(Heading { sessions, names })
+        Some(Heading {
+            rules,
+            sessions,
+            names,
+        })
     } else {
         None
     }

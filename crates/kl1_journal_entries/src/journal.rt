@@ -1,7 +1,7 @@
 // The journal of an account.
 
 ghost use Rattle.std.specs.Prelude.{◌≡◌, ◌<◌, ◌≤◌, [], IfOk, OnOk, IfSome};
-ghost use Rattle.kl1_model.specs.Limits.{most_sessions};
+ghost use Rattle.kl1_model.specs.declared.limits.TheConstants.{MOST_SESSIONS};
 ghost use Rattle.kl1_model_history.specs.Journal.{new_journal};
 ghost use Rattle.kl1_model_history.specs.laws.TextLaws.{AreNames, IsWritten};
 ghost use Rattle.kl1_journal_entries.specs.Lined.{with_prepared};
@@ -9,13 +9,16 @@ ghost use Rattle.kl1_journal_entries.specs.Lined.{with_prepared};
 use crate::prepared::{Form, Prepared};
 use crate::slot::Slot;
 use crate::whole::Whole;
+use kl1_model::Rules;
 use kl1_text::AtomText;
 use std::alloc::{AllocError, Global};
 use std::marker::Model;
 
-/// The journal of an account: how many sessions are open, the names that were used at the last reset, and the entries since.
+/// The journal of an account: the rules that it keeps to, how many sessions are open, the names that were used at the last reset, and the
+/// entries since.
 #[derive(Drop)]
 pub struct Journal {
+    pub(crate) rules: Rules,
     pub(crate) sessions: u64,
     pub(crate) names: Vec<AtomText>,
     pub(crate) slots: Vec<Slot>,
@@ -33,7 +36,7 @@ impl Model for Journal {
     ghost coded = { rows_code };
 
     ghost view = { λ j. record {
-      journal = record { sessions = j.sessions; names = j.names.items; entries = map (entry_at j.wholes.items) j.slots.items };
+      journal = record { rules = j.rules; sessions = j.sessions; names = j.names.items; entries = map (entry_at j.wholes.items) j.slots.items };
       room = min (min (vec_capacity j.slots - vec_len j.slots) (vec_capacity j.wholes - vec_len j.wholes)) (2 ^ 32 - vec_len j.wholes);
     } };
 
@@ -41,11 +44,12 @@ impl Model for Journal {
 }
 
 impl Journal {
-    /// A journal without sessions, names and entries.
-    pub fn new(alloc: Global) -> Self
-        ensures { result.journal ≡ new_journal [] 0 }
+    /// A journal of an account that keeps to these rules, without sessions, names and entries.
+    pub fn new(alloc: Global, rules: Rules) -> Self
+        ensures { result.journal ≡ new_journal rules [] 0 }
     {
         Journal {
+            rules,
             sessions: 0,
             names: Vec::new(alloc),
             slots: Vec::new(alloc),
@@ -53,14 +57,20 @@ impl Journal {
         }
     }
 
-    /// A journal of these names and this number of open sessions, without entries.
-    pub fn with_names(alloc: Global, names: &[AtomText], sessions: u64) -> Result<Self, AllocError>
+    /// A journal of these rules, these names and this number of open sessions, without entries.
+    pub fn with_names(
+        alloc: Global,
+        rules: Rules,
+        names: &[AtomText],
+        sessions: u64,
+    ) -> Result<Self, AllocError>
         requires names { AreNames names.now }
-        requires sessions { sessions ≤ most_sessions }
-        ensures { IfOk result (λ j. j.journal ≡ new_journal names.now sessions) }
+        requires sessions { sessions ≤ MOST_SESSIONS }
+        ensures { IfOk result (λ j. j.journal ≡ new_journal rules names.now sessions) }
     {
         let names = Vec::from_slice(alloc, names)?;
         Ok(Journal {
+            rules,
             sessions,
             names,
             slots: Vec::new(alloc),
@@ -100,11 +110,18 @@ impl Journal {
 
     /// Sets how many sessions are open.
     pub fn set_sessions(&mut self, sessions: u64)
-        requires { sessions ≤ most_sessions }
+        requires { sessions ≤ MOST_SESSIONS }
         ensures journal { self.new.journal ≡ record self.old.journal { sessions = sessions } }
         ensures room { self.new.room ≡ self.old.room }
     {
         self.sessions = sessions;
+    }
+
+    /// The rules that the account keeps to.
+    pub fn rules(&self) -> Rules
+        ensures { result ≡ self.now.journal.rules }
+    {
+        self.rules
     }
 
     /// How many sessions are open.

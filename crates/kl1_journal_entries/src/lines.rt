@@ -6,8 +6,9 @@ ghost use Rattle.kl1_model_history.specs.JournalText.{hex_digit, hex_text, messa
 ghost use Rattle.kl1_journal_entries.specs.Shown.{entry_shown, HasPrint};
 
 use crate::entry::Entry;
+use crate::heading::version;
 use itoa::Buffer;
-use kl1_model::Message;
+use kl1_model::{Message, Rules};
 use kl1_text::{AtomText, put_atom};
 use std::alloc::AllocError;
 
@@ -95,6 +96,16 @@ fn put_start(
     out.extend_from_slice(print)
 }
 
+/// Puts the line of an answer whose goal has this print.
+fn put_answer(out: &mut Vec<u8>, shoen: u64, report: u64, print: &[u8]) -> Result<(), AllocError>
+    ensures { OnOk result (out.new.items ≡ out.old.items ++ (codes "answer " ++ decimal shoen ++ codes " " ++ decimal report ++ codes " " ++ print.now)) }
+{
+    out.extend_from_slice(b"answer ")?;
+    put_two(out, shoen, report)?;
+    out.extend_from_slice(b" ")?;
+    out.extend_from_slice(print)
+}
+
 /// Puts the line of an entry.
 pub(crate) fn put_entry(out: &mut Vec<u8>, entry: Entry<'_>) -> Result<(), AllocError>
     requires { HasPrint entry }
@@ -116,6 +127,11 @@ pub(crate) fn put_entry(out: &mut Vec<u8>, entry: Entry<'_>) -> Result<(), Alloc
             out.extend_from_slice(b"reduce ")?;
             put_two(out, goal.0, clause.0)
         }
+        Entry::Answer {
+            shoen,
+            report,
+            goal,
+        } => put_answer(out, shoen.0, report, goal),
     }
 }
 
@@ -128,9 +144,16 @@ pub(crate) fn put_name(out: &mut Vec<u8>, name: &AtomText) -> Result<(), AllocEr
 }
 
 /// Puts the first line of a journal.
-pub(crate) fn put_first(out: &mut Vec<u8>, sessions: u64, names: u64) -> Result<(), AllocError>
-    ensures { OnOk result (out.new.items ≡ out.old.items ++ first_line sessions names) }
+pub(crate) fn put_first(
+    out: &mut Vec<u8>,
+    rules: Rules,
+    sessions: u64,
+    names: u64,
+) -> Result<(), AllocError>
+    ensures { OnOk result (out.new.items ≡ out.old.items ++ first_line rules sessions names) }
 {
-    out.extend_from_slice(b"journal 1 ")?;
+    out.extend_from_slice(b"journal ")?;
+    out.extend_from_slice(version(rules))?;
+    out.extend_from_slice(b" ")?;
     put_two(out, sessions, names)
 }

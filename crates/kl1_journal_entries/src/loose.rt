@@ -4,7 +4,7 @@ ghost use Rattle.std.specs.Prelude.{◌≡◌, ◌<◌, Some, option_map, IfOk, 
 ghost use Rattle.std.specs.List.{list_all};
 ghost use Rattle.kl1_model.specs.Line.{before_space, behind_space, number_in};
 ghost use Rattle.kl1_model_history.specs.Journal.{event_in, sends, steps};
-ghost use Rattle.kl1_model_history.specs.JournalText.{is_hex_digit, hex_value, hex_bytes, load_in, of_two, start_in, entry_by};
+ghost use Rattle.kl1_model_history.specs.JournalText.{is_hex_digit, hex_value, hex_bytes, load_in, of_two, start_in, answer_in, entry_by};
 ghost use Rattle.kl1_user_events.specs.Views.{event_of};
 ghost use Rattle.kl1_journal_entries.specs.Reading.{two_in, message_by};
 
@@ -90,6 +90,29 @@ fn start_in(alloc: Global, rest: &[u8]) -> Result<Option<Event>, AllocError>
     }
 }
 
+/// An answer of two numbers and a goal.
+fn answer_in(alloc: Global, rest: &[u8]) -> Result<Option<Event>, AllocError>
+    ensures { IfOk result (λ e. option_map event_of e ≡ option_map event_in (answer_in rest.now)) }
+{
+    let (first, rest) = split_name(rest);
+    let Some(shoen) = number_in(first) else {
+        return Ok(None);
+    };
+    let (second, text) = split_name(rest);
+    let Some(report) = number_in(second) else {
+        return Ok(None);
+    };
+    match read_goal(alloc, text) {
+        Ok(goal) => Ok(Some(Event::Answer {
+            shoen: ShoenNo(shoen),
+            report,
+            goal,
+        })),
+        Err(ReadFault::Bad { line: _line }) => Ok(None),
+        Err(ReadFault::Memory) => Err(AllocError),
+    }
+}
+
 /// The two numbers of a line.
 fn two_in(rest: &[u8]) -> Option<(u64, u64)>
     ensures { result ≡ two_in rest.now }
@@ -151,6 +174,9 @@ fn event_by(alloc: Global, word: &[u8], rest: &[u8]) -> Result<Option<Event>, Al
     }
     if is_same(word, b"start") {
         return start_in(alloc, rest);
+    }
+    if is_same(word, b"answer") {
+        return answer_in(alloc, rest);
     }
     Ok(message_in(word, rest))
 }

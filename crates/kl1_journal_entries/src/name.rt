@@ -1,7 +1,7 @@
 // The lines of names in a journal's text.
 
 ghost use Rattle.std.specs.Prelude.{◌≡◌, ◌<◌, ◌++◌, length, bytes_eq, IsNone, IfSome};
-ghost use Rattle.kl1_model.specs.Limits.{most_name_bytes};
+ghost use Rattle.kl1_model.specs.declared.limits.TheConstants.{MOST_NAME_BYTES};
 ghost use Rattle.kl1_model_history.specs.JournalText.{unquoted, name_by, name_line, name_in};
 
 use crate::text::bytes_from;
@@ -13,7 +13,7 @@ use kl1_text::{AtomText, ShortBytes};
 /// a name.
 fn unquoted(bytes: &[u8]) -> Option<ShortBytes>
     ensures some { IfSome result (λ out. out ≡ unquoted bytes.now) }
-    ensures none { IsNone result → most_name_bytes < length (unquoted bytes.now) }
+    ensures none { IsNone result → MOST_NAME_BYTES < length (unquoted bytes.now) }
 {
     let mut out = ShortBytes::new();
     let mut rest = bytes;
@@ -30,7 +30,7 @@ fn unquoted(bytes: &[u8]) -> Option<ShortBytes>
 /// Bytes, if they are few enough for a name.
 fn copied(bytes: &[u8]) -> Option<ShortBytes>
     ensures some { IfSome result (λ out. out ≡ bytes.now) }
-    ensures none { IsNone result → most_name_bytes < length bytes.now }
+    ensures none { IsNone result → MOST_NAME_BYTES < length bytes.now }
 {
     if bytes.len() > MOST_NAME_BYTES {
         return None;
@@ -47,7 +47,7 @@ fn copied(bytes: &[u8]) -> Option<ShortBytes>
 /// The bytes of the name that a printed atom may be; `None` if they are too many for a name.
 fn name_by(printed: &[u8]) -> Option<ShortBytes>
     ensures some { IfSome result (λ out. out ≡ name_by printed.now) }
-    ensures none { IsNone result → most_name_bytes < length (name_by printed.now) }
+    ensures none { IsNone result → MOST_NAME_BYTES < length (name_by printed.now) }
 {
     match printed {
         [b'\'', rest @ ..] => unquoted(rest),

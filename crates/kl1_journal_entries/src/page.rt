@@ -24,7 +24,12 @@ impl Journal {
     {
         let mut line = Vec::new(alloc);
         if place == 0 {
-            put_first(&mut line, self.sessions, self.names.len() as u64)?;
+            put_first(
+                &mut line,
+                self.rules,
+                self.sessions,
+                self.names.len() as u64,
+            )?;
             return Ok(line);
         }
         let place = (place - 1) as usize;

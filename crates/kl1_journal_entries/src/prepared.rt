@@ -2,9 +2,10 @@
 
 ghost use Rattle.std.specs.Prelude.{◌≡◌, ◌≤◌, ◌+◌, nat_le, length, decimal, is_some, option_map, IfOk, IsOk, None};
 ghost use Rattle.kl1_model.specs.Print.{print};
-ghost use Rattle.kl1_model.specs.Event.{is_number, most_line_bytes};
+ghost use Rattle.kl1_model.specs.Event.{is_number};
+ghost use Rattle.kl1_model.specs.declared.limits.TheConstants.{MOST_LINE_BYTES};
 ghost use Rattle.kl1_model.specs.Sending.{may_send};
-ghost use Rattle.kl1_model_history.specs.Journal.{loads, starts, sends, steps};
+ghost use Rattle.kl1_model_history.specs.Journal.{loads, starts, sends, steps, answers};
 ghost use Rattle.kl1_model_history.specs.JournalText.{entry_line};
 ghost use Rattle.kl1_user_events.specs.Views.{event_of};
 ghost use Rattle.kl1_journal_entries.specs.Lined.{entry_of, is_lined, if_lined, lined_entry};
@@ -115,6 +116,11 @@ pub fn entry_for(alloc: Global, event: &Event) -> Result<Prepared, AllocError>
         Event::Login => Ok(nothing()),
         Event::Logout => Ok(nothing()),
         Event::Reset => Ok(nothing()),
+        Event::Answer {
+            shoen,
+            report,
+            goal,
+        } => answer_for(alloc, shoen.0, *report, goal),
     }
 }
 
@@ -158,7 +164,7 @@ fn digits(number: u64) -> usize
 
 /// Whether the line of a start whose goal's print has `bytes` bytes isn't too long.
 fn fits_line(allowance: u64, low: u64, high: u64, bytes: usize) -> bool
-    ensures { result ≡ nat_le (9 + length (decimal allowance) + length (decimal low) + length (decimal high) + bytes) most_line_bytes }
+    ensures { result ≡ nat_le (9 + length (decimal allowance) + length (decimal low) + length (decimal high) + bytes) MOST_LINE_BYTES }
 {
     bytes <= MOST_LINE_BYTES
         && 9 + digits(allowance) + digits(low) + digits(high) + bytes <= MOST_LINE_BYTES
@@ -257,4 +263,51 @@ pub fn step_for(goal: u64, clause: u64) -> Prepared
         _ => Form::Long(Whole::Step { goal, clause }),
     };
     Prepared { form }
+}
+
+/// Whether the line of an answer whose goal's print has `bytes` bytes isn't too long.
+fn fits_answer(shoen: u64, report: u64, bytes: usize) -> bool
+    ensures { result ≡ nat_le (9 + length (decimal shoen) + length (decimal report) + bytes) MOST_LINE_BYTES }
+{
+    bytes <= MOST_LINE_BYTES && 9 + digits(shoen) + digits(report) + bytes <= MOST_LINE_BYTES
+}
+
+/// Whether the numbers of an answer may stand in a line, its goal, whose print is `text`, can be written and read back, and the line isn't
+/// too long.
+fn is_answer_lined(
+    alloc: Global,
+    shoen: u64,
+    report: u64,
+    goal: &Term,
+    text: &[u8],
+) -> Result<bool, AllocError>
+    requires { text.now ≡ print goal.now }
+    ensures { IfOk result (λ may. may ≡ is_lined (answers shoen report goal.now)) }
+{
+    let writable = goal.is_writable(alloc)?;
+    Ok(
+        is_number(shoen)
+            && is_number(report)
+            && is_goal(goal)
+            && writable
+            && goal.is_numbered()
+            && fits_answer(shoen, report, text.len()),
+    )
+}
+
+/// An answer, if its line can be read back.
+fn answer_for(alloc: Global, shoen: u64, report: u64, goal: &Term) -> Result<Prepared, AllocError>
+    ensures { IfOk result (λ p. p ≡ if_lined (answers shoen report goal.now)) }
+{
+    let text = print_whole(alloc, goal)?;
+    if !is_answer_lined(alloc, shoen, report, goal, text.as_slice())? {
+        return Ok(nothing());
+    }
+    Ok(Prepared {
+        form: Form::Long(Whole::Answer {
+            shoen,
+            report,
+            goal: text,
+        }),
+    })
 }

@@ -2,7 +2,7 @@
 
 ghost use Rattle.std.specs.Prelude.{◌≡◌, ◌≤◌, [], Some, IfOk, bytes_eq, option_map, option_and_then};
 ghost use Rattle.std.specs.List.{list_any};
-ghost use Rattle.kl1_model.specs.Limits.{most_sessions, most_names};
+ghost use Rattle.kl1_model.specs.declared.limits.TheConstants.{MOST_SESSIONS, MOST_NAMES};
 ghost use Rattle.kl1_model.specs.Text.{is_built_in};
 ghost use Rattle.kl1_model_history.specs.Journal.{event_in};
 ghost use Rattle.kl1_model_history.specs.JournalText.{is_new_name, entry_in, journal_in};
@@ -91,9 +91,9 @@ fn read_names<'a>(
     heading: Heading,
     text: &'a [u8],
 ) -> Result<Option<Begun<'a>>, AllocError>
-    requires sessions { heading.sessions ≤ most_sessions }
-    requires names { heading.names ≤ most_names }
-    ensures { IfOk result (λ begun. option_and_then begun_at begun ≡ read_after heading.sessions [] heading.names text.now) }
+    requires sessions { heading.sessions ≤ MOST_SESSIONS }
+    requires names { heading.names ≤ MOST_NAMES }
+    ensures { IfOk result (λ begun. option_and_then begun_at begun ≡ read_after heading.rules heading.sessions [] heading.names text.now) }
 {
     let mut names: Vec<AtomText> = Vec::new(alloc);
     let mut rest = text;
@@ -110,7 +110,7 @@ fn read_names<'a>(
         names.push(name)?;
         rest = after;
     }
-    let journal = Journal::with_names(alloc, names.as_slice(), heading.sessions)?;
+    let journal = Journal::with_names(alloc, heading.rules, names.as_slice(), heading.sessions)?;
     Ok(Some(Begun { journal, rest }))
 }
 

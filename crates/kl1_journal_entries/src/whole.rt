@@ -8,7 +8,7 @@ pub(crate) enum Whole {
     Load {
         source: Vec<u8>,
     },
-    /// `goal` is the goal's print.
+    /// `goal` is the goal's print, here and in an answer.
     Start {
         allowance: u64,
         low: u64,
@@ -22,5 +22,10 @@ pub(crate) enum Whole {
     Step {
         goal: u64,
         clause: u64,
+    },
+    Answer {
+        shoen: u64,
+        report: u64,
+        goal: Vec<u8>,
     },
 }

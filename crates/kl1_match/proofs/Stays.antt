@@ -1,5 +1,6 @@
 -- A goal that waits for no variable that was bound keeps its clause and its variables.
 use Rattle.std.proofs.Common.{◌≡◌, ℕ, List, [], ◌∷◌, refl, sym, ap, ap₂, ◌∙◌}
+use Rattle.kl1_model.specs.declared.rules.Rules.{Rules}
 use Rattle.kl1_model.specs.Term.{Term, variable, integer, atom, structure, Terms, none, more, substituted, each_substituted, Replacement, replaced}
 use Rattle.kl1_model.specs.Module.{Module}
 use Rattle.kl1_model.specs.code.Waits.{LeavesEach, term_clause, awaited_by_term}
@@ -64,9 +65,9 @@ leaves_unbound f old new b (v ∷ vs) p q = (
 )
 
 -- a goal none of whose variables was bound is as it was
-pub stored_stays : {N : Type 0} (f : N → List ℕ) (modules : List Module) (old new : Held N) (x : Cell N) → Becomes f old new → IsIn old x →
-    AreUnbound old (awaited_by_term modules (term_of f old x)) → AreUnbound new (awaited_by_term modules (term_of f old x)) → IsAsItWas modules (term_of f old x) (term_of f new x)
-stored_stays f modules old new x b i p q =
+pub stored_stays : {N : Type 0} (f : N → List ℕ) (rules : Rules) (modules : List Module) (old new : Held N) (x : Cell N) → Becomes f old new → IsIn old x →
+    AreUnbound old (awaited_by_term rules modules (term_of f old x)) → AreUnbound new (awaited_by_term rules modules (term_of f old x)) → IsAsItWas rules modules (term_of f old x) (term_of f new x)
+stored_stays f rules modules old new x b i p q =
     let t = term_of f old x in
-    let r = term_stays modules b.by t (leaves_unbound f old new b (awaited_by_term modules t) p q) in
-    record { clause = ap (term_clause modules) (b.means x i) ∙ r.0; awaited = ap (awaited_by_term modules) (b.means x i) ∙ r.1 }
+    let r = term_stays rules modules b.by t (leaves_unbound f old new b (awaited_by_term rules modules t) p q) in
+    record { clause = ap (term_clause rules modules) (b.means x i) ∙ r.0; awaited = ap (awaited_by_term rules modules) (b.means x i) ∙ r.1 }

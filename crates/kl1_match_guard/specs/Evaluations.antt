@@ -1,7 +1,7 @@
 -- What terms come to as expressions.
 use Rattle.std.specs.Prelude.{◌≡◌, ℕ, ◌≤◌, List, vec_capacity}
 use Rattle.kl1_model.specs.declared.built_in.BuiltIn.{BuiltIn}
-use Rattle.kl1_model.specs.Limits.{most_operators}
+use Rattle.kl1_model.specs.declared.limits.TheConstants.{MOST_OPERATORS}
 use Rattle.kl1_model.specs.Term.{Term}
 use Rattle.kl1_model.specs.Arithmetic as model
 use Rattle.kl1_text.specs.Reading.{Reads}
@@ -27,4 +27,4 @@ IsAwaited IsFree IsNoExpression = Unit {0}
 
 -- room for as many operations as an expression may have
 abbrev pub HasRoom : {A S : Type 0} → Scratch A S → Type 0
-HasRoom scratch = most_operators ≤ vec_capacity scratch.stack
+HasRoom scratch = MOST_OPERATORS ≤ vec_capacity scratch.stack

@@ -1,7 +1,7 @@
 // What terms come to as expressions.
 
 ghost use Rattle.std.specs.Prelude.{◌≡◌, ◌≤◌, [], IfOk, IfSome, IsOk, OnOk, vec_capacity};
-ghost use Rattle.kl1_model.specs.Limits.{most_operators};
+ghost use Rattle.kl1_model.specs.declared.limits.TheConstants.{MOST_OPERATORS};
 ghost use Rattle.kl1_match_guard.specs.Evaluations.{EvaluatesAs, IsAwaited, HasRoom};
 
 use crate::arithmetic::operate;
@@ -48,7 +48,7 @@ fn scan<N: NameValue, T: View<N>>(
 ) -> Evaluated<T::Variable>
     requires whole { T.IsAt view.now whole }
     requires empty { stack.old.items ≡ [] }
-    requires room { most_operators ≤ vec_capacity stack.old }
+    requires room { MOST_OPERATORS ≤ vec_capacity stack.old }
     ensures value { EvaluatesAs N.built (T.number view.now) (λ f. T.term f view.now whole) result }
     ensures awaits { IsAwaited (T.IsFree view.now) result }
     ensures capacity { vec_capacity stack.new ≡ vec_capacity stack.old }

@@ -3,6 +3,7 @@ use Rattle.std.proofs.Common.{◌≡◌, ℕ, suc, ◌≤◌, ◌==◌, ◌&&◌
 use Rattle.std.specs.Prelude.{Option, Some, None, is_some, find, option_map}
 use Rattle.std.specs.List.{list_all}
 use Rattle.std.proofs.lemmas.Bool.{cond-true, cond-false, eq-eqb, ne_eqb}
+use Rattle.kl1_model.specs.declared.rules.Rules.{Rules}
 use Rattle.kl1_model.specs.Term.{Term, Terms, Replacement}
 use Rattle.kl1_model.specs.Module.{Clause, Module}
 use Rattle.kl1_model.specs.Match.{Answer, yes, no, wait, Call, call_of, clauses_of, Candidate, candidate_by, candidates_within, candidates_from, candidates_of, fails, is_no, places_of, verdict}
@@ -113,16 +114,16 @@ clause_found : (failed : Bool) (ks : List Candidate) → AreFrom 1 ks → find (
 clause_found true ks a = refl
 clause_found false ks a = found_first false ks a
 
-pub term_clause-call : (modules : List Module) (t : Term) (k : Call) → call_of t ≡ Some k → term_clause modules t ≡ least_clause (clauses_of modules k) k.arguments
-term_clause-call modules t k e =
-    ap (λ o. find (λ clause. is_some (term_move modules t clause o)) (0 ∷ call_clauses modules o)) e
+pub term_clause-call : (rules : Rules) (modules : List Module) (t : Term) (k : Call) → call_of t ≡ Some k → term_clause rules modules t ≡ least_clause (clauses_of modules k) k.arguments
+term_clause-call rules modules t k e =
+    ap (λ o. find (λ clause. is_some (term_move rules modules t clause o)) (0 ∷ call_clauses modules o)) e
     ∙ clause_found (fails modules k) (candidates_of modules k) (are_from 1 (clauses_of modules k) k.arguments)
     ∙ sym (least-chosen 1 (clauses_of modules k) k.arguments)
 
-pub term_clause-built_in : (modules : List Module) (t : Term) (m : Move) → call_of t ≡ None → built_in_move t ≡ Some m → term_clause modules t ≡ Some 0
-term_clause-built_in modules t m e b =
-    ap (λ o. find (λ clause. is_some (term_move modules t clause o)) (0 ∷ call_clauses modules o)) e ∙ ap (λ q. find (λ clause. is_some (if clause == 0 then q else None)) (0 ∷ [])) b
+pub term_clause-built_in : (rules : Rules) (modules : List Module) (t : Term) (m : Move) → call_of t ≡ None → built_in_move rules t ≡ Some m → term_clause rules modules t ≡ Some 0
+term_clause-built_in rules modules t m e b =
+    ap (λ o. find (λ clause. is_some (term_move rules modules t clause o)) (0 ∷ call_clauses modules o)) e ∙ ap (λ q. find (λ clause. is_some (if clause == 0 then q else None)) (0 ∷ [])) b
 
-pub term_clause-none : (modules : List Module) (t : Term) → call_of t ≡ None → built_in_move t ≡ None → term_clause modules t ≡ None
-term_clause-none modules t e b =
-    ap (λ o. find (λ clause. is_some (term_move modules t clause o)) (0 ∷ call_clauses modules o)) e ∙ ap (λ q. find (λ clause. is_some (if clause == 0 then q else None)) (0 ∷ [])) b
+pub term_clause-none : (rules : Rules) (modules : List Module) (t : Term) → call_of t ≡ None → built_in_move rules t ≡ None → term_clause rules modules t ≡ None
+term_clause-none rules modules t e b =
+    ap (λ o. find (λ clause. is_some (term_move rules modules t clause o)) (0 ∷ call_clauses modules o)) e ∙ ap (λ q. find (λ clause. is_some (if clause == 0 then q else None)) (0 ∷ [])) b

@@ -5,6 +5,7 @@ use Rattle.kl1_model.specs.Text.{is_name_byte}
 use Rattle.kl1_model.specs.Term.{Term, variable, integer, atom, structure, none, more, substituted}
 use Rattle.kl1_model.specs.Look.{Spelling, spelled, awaits_code, misspelled, spelled_before, spelled_by, spelling, Look, right, waits_on, wrong, right_if, then_look, callee_look, goal_look, priority_look, allowance_look, number_of_term, ExecuteArguments, arguments_look}
 use Rattle.kl1_model.specs.code.Waits.{LeavesEach, awaited_by_spelling, awaited_by_look}
+use Rattle.kl1_model.specs.laws.WaitsLaws.{SubstitutesStay}
 
 -- ---- lists of codes
 
@@ -75,7 +76,7 @@ two_stay : (s : ℕ → Term) (c d : Bool) (a b : Term) → LeavesEach s (awaite
 two_stay s true d a b l = callee_stays s a b l
 two_stay s false d a b l = refl
 
-goal_stays : (s : ℕ → Term) (t : Term) → LeavesEach s (awaited_by_look (goal_look t)) → goal_look (substituted s t) ≡ goal_look t
+pub goal_stays : (s : ℕ → Term) (t : Term) → LeavesEach s (awaited_by_look (goal_look t)) → goal_look (substituted s t) ≡ goal_look t
 goal_stays s (variable v) l = ap goal_look l.0
 goal_stays s (integer i) l = refl
 goal_stays s (atom a) l = refl
@@ -84,6 +85,10 @@ goal_stays s (structure f (more a none)) l = refl
 goal_stays s (structure f (more a (more b none))) l =
     two_stay s (bytes_eq f (codes ":")) (bytes_eq f (codes "=") || bytes_eq f (codes ":=") || bytes_eq f (codes "atom_from")) a b l
 goal_stays s (structure f (more a (more b (more c us)))) l = refl
+
+-- what is found of the term that a substitute waits for stays as well
+pub substitutes_stay : SubstitutesStay
+substitutes_stay s t l = goal_stays s t l
 
 priority_stays : (s : ℕ → Term) (t : Term) → LeavesEach s (awaited_by_look (priority_look t)) → priority_look (substituted s t) ≡ priority_look t
 priority_stays s (variable v) l = ap priority_look l.0

@@ -4,7 +4,7 @@ use Rattle.std.proofs.Common.{refl, ap, ap₂, sym, ◌∙◌}
 use Rattle.std.proofs.lemmas.Bool.{and_parts, not-true}
 use Rattle.std.proofs.lemmas.Option.{none-some, same_Some, some_pair_parts, option_and_then_some}
 use Rattle.std.proofs.lemmas.Slice.Eq.{bytes_eq-Decides}
-use Rattle.kl1_model.specs.Limits.{number_limit}
+use Rattle.kl1_model.specs.declared.limits.TheConstants.{NUMBER_LIMIT}
 use Rattle.kl1_model.specs.declared.sign.Sign.TheVariants.{Neck, Becomes, SameValue, OtherValue, NotOver, Differs, NotUnder, Colon, Equals, Under, Over, Plus, Star, Slash, At, Bar, Comma, Open, Close, OpenList, CloseList}
 use Rattle.kl1_model.specs.declared.relation.Relation.{Relation}
 use Rattle.kl1_model.specs.declared.relation.Relation.TheVariants.{Equal, NotEqual, Assign, Less, Greater, AtMost, AtLeast, SameNumber, OtherNumber}
@@ -201,7 +201,7 @@ module _ (inner : Inner) (sound : IsSound inner) where
 
   pub primary_sound : (ts : List Numbered) (p : Primary) (us : List Numbered) → primary_at inner ts ≡ Some (p, us) → primary_tokens p us ≡ ts
   primary_sound (variable_token v ∷ ts) p us h = answered primary_tokens (numbered v) p ts us h
-  primary_sound (digits_token n ∷ ts) p us h = positive_sound n ts (nat_lt n number_limit) p us h
+  primary_sound (digits_token n ∷ ts) p us h = positive_sound n ts (nat_lt n NUMBER_LIMIT) p us h
   primary_sound (minus_token true ∷ ts) p us h = negative_sound ts p us h
   primary_sound (name_token a quotes false ∷ ts) p us h = answered primary_tokens (constant a quotes) p ts us h
   primary_sound (name_token f quotes true ∷ ts) p us h = call_sound f quotes ts p us h

@@ -5,7 +5,7 @@ use Rattle.std.proofs.lemmas.Bool.{eqb-true, eqb-false, eq-eqb, ne_eqb}
 use Rattle.kl1_model.specs.declared.type_test.TypeTest.{TypeTest}
 use Rattle.kl1_model.specs.declared.type_test.TypeTest.TheVariants as look_for
 use Rattle.kl1_model.specs.declared.operator.Operator.{Operator}
-use Rattle.kl1_model.specs.Limits.{most_operators}
+use Rattle.kl1_model.specs.declared.limits.TheConstants.{MOST_OPERATORS}
 use Rattle.kl1_model.specs.Term.{Term, variable, integer, atom, structure, Terms, none, more, count_of, same_term, same_terms, substituted, each_substituted}
 use Rattle.kl1_model.specs.Meaning.{highest, highest_in}
 use Rattle.kl1_model.specs.Same.{clash, any_clash, same, differs, unknown, passive}
@@ -134,7 +134,7 @@ computed_renamed r (waits_for v) = refl
 computed_renamed r wrong_type = refl
 
 pub comes_renamed : (r : ℕ → ℕ) (t : Term) → evaluated (renamed r t) ≡ evaluated_renamed r (evaluated t)
-comes_renamed r t = ap computed (scanned r most_operators t) ∙ computed_renamed r (scan most_operators t)
+comes_renamed r t = ap computed (scanned r MOST_OPERATORS t) ∙ computed_renamed r (scan MOST_OPERATORS t)
 
 -- ---- looks at a structure
 

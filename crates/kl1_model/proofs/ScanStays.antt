@@ -2,7 +2,7 @@
 use Rattle.std.proofs.Common.{◌≡◌, ℕ, zero, suc, refl, sym, ap, ◌∙◌, subst}
 use Rattle.std.specs.Prelude.{Option, Some, None}
 use Rattle.kl1_model.specs.declared.operator.Operator.{Operator}
-use Rattle.kl1_model.specs.Limits.{most_operators}
+use Rattle.kl1_model.specs.declared.limits.TheConstants.{MOST_OPERATORS}
 use Rattle.kl1_model.specs.Term.{Term, variable, integer, atom, structure, Terms, none, more, substituted, each_substituted}
 use Rattle.kl1_model.specs.Arithmetic.{Scan, ArithmeticExpression, found, waits_for, wrong_type, operator_named, with_left, with_right, scan, scan_operation, computed, evaluated}
 use Rattle.kl1_model.specs.code.Waits.{LeavesEach, awaited_by_evaluated}
@@ -47,4 +47,4 @@ computed_left s wrong_type l = tt
 
 -- a term comes to the same until the variable that it waits for is replaced
 pub evaluated_stays : (s : ℕ → Term) (t : Term) → LeavesEach s (awaited_by_evaluated (evaluated t)) → evaluated (substituted s t) ≡ evaluated t
-evaluated_stays s t l = ap computed (scan_stays s most_operators t (computed_left s (scan most_operators t) l))
+evaluated_stays s t l = ap computed (scan_stays s MOST_OPERATORS t (computed_left s (scan MOST_OPERATORS t) l))

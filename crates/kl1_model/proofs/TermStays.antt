@@ -3,7 +3,9 @@ use Rattle.std.proofs.Common.{◌≡◌, ℕ, ◌==◌, Bool, true, false, if◌
 use Rattle.std.specs.Prelude.{not, ◌&&◌, codes, bytes_eq, Option, Some, None, option_map, is_some, find, filter}
 use Rattle.std.proofs.lemmas.Bool.{cond-false}
 use Rattle.kl1_model.specs.Goal.{is_called, is_execute}
-use Rattle.kl1_model.specs.Look.{Spelling, spelled, awaits_code, misspelled, spelling, most_spelled, Look, right, waits_on, wrong, ExecuteArguments, arguments_look}
+use Rattle.kl1_model.specs.Look.{Spelling, spelled, awaits_code, misspelled, spelling, Look, right, waits_on, wrong, ExecuteArguments, arguments_look}
+use Rattle.kl1_model.specs.declared.rules.Rules.{Rules}
+use Rattle.kl1_model.specs.State.{most_spelled}
 use Rattle.kl1_model.specs.Term.{Term, variable, integer, atom, structure, Terms, none, more, count_of, substituted, each_substituted, Replacement, replaced}
 use Rattle.kl1_model.specs.Module.{Module, is_of}
 use Rattle.kl1_model.specs.Match.{Call, call_of, module_of, clauses_in, clauses_of}
@@ -178,46 +180,46 @@ execute_awaited_stays s (atom m) (structure p (more a (more b (more c (more d (m
     six_awaited_stay s (is_execute m (structure p (more a (more b (more c (more d (more e (more g none)))))))) (record { goal = a; low = b; high = c; allowance = d; control = e; reports = g }) k
 execute_awaited_stays s (atom m) (structure p (more a (more b (more c (more d (more e (more g (more h us)))))))) l k = no_awaited s (bytes_eq m (codes "shoen") && is_called (codes "execute") 6 p (count_of (each_substituted s (more a (more b (more c (more d (more e (more g (more h us)))))))))) (bytes_eq m (codes "shoen") && is_called (codes "execute") 6 p (count_of (more a (more b (more c (more d (more e (more g (more h us)))))))))
 
-pair_stays_by : (s : ℕ → Term) (c d e g : Bool) (a b : Term) → LeavesEach s (if g then awaited_in_call a b else []) →
-    LeavesEach s (if d then awaited_by_evaluated (evaluated b) else if e then awaited_by_spelling (spelling most_spelled a) else if g then awaited_by_execute a b else []) →
-    is_some (if c then Some (unifies (substituted s a) (substituted s b)) else if d then assigned (substituted s a) (evaluated (substituted s b)) else if e then spells (substituted s b) (spelling most_spelled (substituted s a)) else if g then execute_move (substituted s a) (substituted s b) else None)
-    ≡ is_some (if c then Some (unifies a b) else if d then assigned a (evaluated b) else if e then spells b (spelling most_spelled a) else if g then execute_move a b else None)
-pair_stays_by s true d e g a b l k = refl
-pair_stays_by s false true e g a b l k = assigned_is (substituted s a) a (evaluated (substituted s b)) (evaluated b) (evaluated_stays s b k)
-pair_stays_by s false false true g a b l k = spells_is (substituted s b) b (spelling most_spelled (substituted s a)) (spelling most_spelled a) (spelling_stays s most_spelled a k)
-pair_stays_by s false false false true a b l k = execute_stays s a b l k
-pair_stays_by s false false false false a b l k = refl
+pair_stays_by : (rules : Rules) (s : ℕ → Term) (c d e g : Bool) (a b : Term) → LeavesEach s (if g then awaited_in_call a b else []) →
+    LeavesEach s (if d then awaited_by_evaluated (evaluated b) else if e then awaited_by_spelling (spelling (most_spelled rules) a) else if g then awaited_by_execute a b else []) →
+    is_some (if c then Some (unifies (substituted s a) (substituted s b)) else if d then assigned (substituted s a) (evaluated (substituted s b)) else if e then spells (substituted s b) (spelling (most_spelled rules) (substituted s a)) else if g then execute_move (substituted s a) (substituted s b) else None)
+    ≡ is_some (if c then Some (unifies a b) else if d then assigned a (evaluated b) else if e then spells b (spelling (most_spelled rules) a) else if g then execute_move a b else None)
+pair_stays_by rules s true d e g a b l k = refl
+pair_stays_by rules s false true e g a b l k = assigned_is (substituted s a) a (evaluated (substituted s b)) (evaluated b) (evaluated_stays s b k)
+pair_stays_by rules s false false true g a b l k = spells_is (substituted s b) b (spelling (most_spelled rules) (substituted s a)) (spelling (most_spelled rules) a) (spelling_stays s (most_spelled rules) a k)
+pair_stays_by rules s false false false true a b l k = execute_stays s a b l k
+pair_stays_by rules s false false false false a b l k = refl
 
-built_in_stays : (s : ℕ → Term) (t : Term) → LeavesEach s (awaited_at_head t) → LeavesEach s (awaited_by_built_in t) → is_some (built_in_move (substituted s t)) ≡ is_some (built_in_move t)
-built_in_stays s (variable v) l k = ap (λ t. is_some (built_in_move t)) l.0
-built_in_stays s (integer i) l k = refl
-built_in_stays s (atom a) l k = refl
-built_in_stays s (structure f none) l k = refl
-built_in_stays s (structure f (more a none)) l k = refl
-built_in_stays s (structure f (more a (more b none))) l k = pair_stays_by s (bytes_eq f (codes "=")) (bytes_eq f (codes ":=")) (bytes_eq f (codes "atom_from")) (bytes_eq f (codes ":")) a b l k
-built_in_stays s (structure f (more a (more b (more c us)))) l k = refl
+built_in_stays : (rules : Rules) (s : ℕ → Term) (t : Term) → LeavesEach s (awaited_at_head t) → LeavesEach s (awaited_by_built_in rules t) → is_some (built_in_move rules (substituted s t)) ≡ is_some (built_in_move rules t)
+built_in_stays rules s (variable v) l k = ap (λ t. is_some (built_in_move rules t)) l.0
+built_in_stays rules s (integer i) l k = refl
+built_in_stays rules s (atom a) l k = refl
+built_in_stays rules s (structure f none) l k = refl
+built_in_stays rules s (structure f (more a none)) l k = refl
+built_in_stays rules s (structure f (more a (more b none))) l k = pair_stays_by rules s (bytes_eq f (codes "=")) (bytes_eq f (codes ":=")) (bytes_eq f (codes "atom_from")) (bytes_eq f (codes ":")) a b l k
+built_in_stays rules s (structure f (more a (more b (more c us)))) l k = refl
 
-awaited_if_stays : (s : ℕ → Term) (d e g : Bool) (a b : Term) → LeavesEach s (if g then awaited_in_call a b else []) →
-    LeavesEach s (if d then awaited_by_evaluated (evaluated b) else if e then awaited_by_spelling (spelling most_spelled a) else if g then awaited_by_execute a b else []) →
-    (if d then awaited_by_evaluated (evaluated (substituted s b)) else if e then awaited_by_spelling (spelling most_spelled (substituted s a)) else if g then awaited_by_execute (substituted s a) (substituted s b) else [])
-    ≡ (if d then awaited_by_evaluated (evaluated b) else if e then awaited_by_spelling (spelling most_spelled a) else if g then awaited_by_execute a b else [])
-awaited_if_stays s true e g a b l k = ap awaited_by_evaluated (evaluated_stays s b k)
-awaited_if_stays s false true g a b l k = ap awaited_by_spelling (spelling_stays s most_spelled a k)
-awaited_if_stays s false false true a b l k = execute_awaited_stays s a b l k
-awaited_if_stays s false false false a b l k = refl
+awaited_if_stays : (rules : Rules) (s : ℕ → Term) (d e g : Bool) (a b : Term) → LeavesEach s (if g then awaited_in_call a b else []) →
+    LeavesEach s (if d then awaited_by_evaluated (evaluated b) else if e then awaited_by_spelling (spelling (most_spelled rules) a) else if g then awaited_by_execute a b else []) →
+    (if d then awaited_by_evaluated (evaluated (substituted s b)) else if e then awaited_by_spelling (spelling (most_spelled rules) (substituted s a)) else if g then awaited_by_execute (substituted s a) (substituted s b) else [])
+    ≡ (if d then awaited_by_evaluated (evaluated b) else if e then awaited_by_spelling (spelling (most_spelled rules) a) else if g then awaited_by_execute a b else [])
+awaited_if_stays rules s true e g a b l k = ap awaited_by_evaluated (evaluated_stays s b k)
+awaited_if_stays rules s false true g a b l k = ap awaited_by_spelling (spelling_stays s (most_spelled rules) a k)
+awaited_if_stays rules s false false true a b l k = execute_awaited_stays s a b l k
+awaited_if_stays rules s false false false a b l k = refl
 
-built_in_awaited_stays : (s : ℕ → Term) (t : Term) → LeavesEach s (awaited_at_head t) → LeavesEach s (awaited_by_built_in t) → awaited_by_built_in (substituted s t) ≡ awaited_by_built_in t
-built_in_awaited_stays s (variable v) l k = ap awaited_by_built_in l.0
-built_in_awaited_stays s (integer i) l k = refl
-built_in_awaited_stays s (atom a) l k = refl
-built_in_awaited_stays s (structure f none) l k = refl
-built_in_awaited_stays s (structure f (more a none)) l k = refl
-built_in_awaited_stays s (structure f (more a (more b none))) l k = awaited_if_stays s (bytes_eq f (codes ":=")) (bytes_eq f (codes "atom_from")) (bytes_eq f (codes ":")) a b l k
-built_in_awaited_stays s (structure f (more a (more b (more c us)))) l k = refl
+built_in_awaited_stays : (rules : Rules) (s : ℕ → Term) (t : Term) → LeavesEach s (awaited_at_head t) → LeavesEach s (awaited_by_built_in rules t) → awaited_by_built_in rules (substituted s t) ≡ awaited_by_built_in rules t
+built_in_awaited_stays rules s (variable v) l k = ap (awaited_by_built_in rules) l.0
+built_in_awaited_stays rules s (integer i) l k = refl
+built_in_awaited_stays rules s (atom a) l k = refl
+built_in_awaited_stays rules s (structure f none) l k = refl
+built_in_awaited_stays rules s (structure f (more a none)) l k = refl
+built_in_awaited_stays rules s (structure f (more a (more b none))) l k = awaited_if_stays rules s (bytes_eq f (codes ":=")) (bytes_eq f (codes "atom_from")) (bytes_eq f (codes ":")) a b l k
+built_in_awaited_stays rules s (structure f (more a (more b (more c us)))) l k = refl
 
 -- a term that is no call takes 0, or nothing
-no_call : (modules : List Module) (t : Term) → call_of t ≡ None → term_clause modules t ≡ (if is_some (built_in_move t) then Some 0 else None)
-no_call modules t e = ap (λ o. find (λ clause. is_some (term_move modules t clause o)) (0 ∷ call_clauses modules o)) e
+no_call : (rules : Rules) (modules : List Module) (t : Term) → call_of t ≡ None → term_clause rules modules t ≡ (if is_some (built_in_move rules t) then Some 0 else None)
+no_call rules modules t e = ap (λ o. find (λ clause. is_some (term_move rules modules t clause o)) (0 ∷ call_clauses modules o)) e
 
 -- ---- terms
 
@@ -229,27 +231,27 @@ clauses_stay_of modules s k = by_module (module_of modules k.module_name)
     by_module (Some m) = ap (λ n. filter (is_of k.name n) m.clauses) (count-each_substituted s k.arguments)
 
 -- how a term stays, by the call that it is
-by_call : (modules : List Module) (s : ℕ → Term) (t : Term) (o : Option Call) → call_of t ≡ o → call_of (substituted s t) ≡ option_map (call_substituted s) o → is_some (built_in_move (substituted s t)) ≡ is_some (built_in_move t) →
-    LeavesEach s (awaited_by_call modules o) → (term_clause modules (substituted s t) ≡ term_clause modules t) × (awaited_by_call modules (call_of (substituted s t)) ≡ awaited_by_call modules (call_of t))
-by_call modules s t None e h b l =
-    (no_call modules (substituted s t) h ∙ ap (λ c. if c then Some 0 else None) b ∙ sym (no_call modules t e), ap (awaited_by_call modules) h ∙ sym (ap (awaited_by_call modules) e))
-by_call modules s t (Some k) e h b l =
+by_call : (rules : Rules) (modules : List Module) (s : ℕ → Term) (t : Term) (o : Option Call) → call_of t ≡ o → call_of (substituted s t) ≡ option_map (call_substituted s) o → is_some (built_in_move rules (substituted s t)) ≡ is_some (built_in_move rules t) →
+    LeavesEach s (awaited_by_call modules o) → (term_clause rules modules (substituted s t) ≡ term_clause rules modules t) × (awaited_by_call modules (call_of (substituted s t)) ≡ awaited_by_call modules (call_of t))
+by_call rules modules s t None e h b l =
+    (no_call rules modules (substituted s t) h ∙ ap (λ c. if c then Some 0 else None) b ∙ sym (no_call rules modules t e), ap (awaited_by_call modules) h ∙ sym (ap (awaited_by_call modules) e))
+by_call rules modules s t (Some k) e h b l =
     let q = call_substituted s k in
     let c = clauses_stay_of modules s k in
     let r = clauses_stay s (clauses_of modules k) k.arguments l in (
-      term_clause-call modules (substituted s t) q h ∙ ap (λ cs. least_clause cs q.arguments) c ∙ r.0 ∙ sym (term_clause-call modules t k e),
+      term_clause-call rules modules (substituted s t) q h ∙ ap (λ cs. least_clause cs q.arguments) c ∙ r.0 ∙ sym (term_clause-call rules modules t k e),
       ap (awaited_by_call modules) h ∙ ap (λ cs. awaited_by_clauses cs q.arguments) c ∙ r.1 ∙ sym (ap (awaited_by_call modules) e),
     )
 
 pub term_stays : TermStays
-term_stays modules s t l =
+term_stays rules modules s t l =
     let calls = awaited_by_call modules (call_of t) in
-    let built = awaited_by_built_in t in
+    let built = awaited_by_built_in rules t in
     let front = left_front s (awaited_at_head t ++ calls) built l in
     let a = left_front s (awaited_at_head t) calls front in
     let k = left_back s (awaited_at_head t ++ calls) built l in
-    let r = by_call modules s t (call_of t) refl (head_stays s t a) (built_in_stays s t a k) (left_back s (awaited_at_head t) calls front) in
-    (r.0, ap₂ (λ (vs ws : List ℕ). vs ++ ws) (ap₂ (λ (vs ws : List ℕ). vs ++ ws) (head_awaited_stays s t a) r.1) (built_in_awaited_stays s t a k))
+    let r = by_call rules modules s t (call_of t) refl (head_stays s t a) (built_in_stays rules s t a k) (left_back s (awaited_at_head t) calls front) in
+    (r.0, ap₂ (λ (vs ws : List ℕ). vs ++ ws) (ap₂ (λ (vs ws : List ℕ). vs ++ ws) (head_awaited_stays s t a) r.1) (built_in_awaited_stays rules s t a k))
 
 -- ---- what replacements leave
 

@@ -3,13 +3,13 @@ use Rattle.std.proofs.Common.{◌≡◌, ℕ, suc, ◌==◌, ◌||◌, not, ◌&
 use Rattle.std.specs.Prelude.{nat_lt, map, Option, Some, None}
 use Rattle.std.specs.List.{AllByRecursion}
 use Rattle.std.proofs.lemmas.Bool.{and_parts}
-use Rattle.kl1_model.specs.Limits.{most_reports}
+use Rattle.kl1_model.specs.declared.limits.TheConstants.{MOST_REPORTS}
 use Rattle.kl1_model.specs.declared.life.Life.{Life}
 use Rattle.kl1_model.specs.declared.life.Life.TheVariants.{Terminated, Aborted}
 use Rattle.kl1_model.specs.Term.{Term, variable, integer, atom, structure, occurs}
 use Rattle.kl1_model.specs.Meaning.{nil, cell}
 use Rattle.kl1_model.specs.Module.{is_among}
-use Rattle.kl1_model.specs.State.{Task, monitor, reduces, Goal, Shoen, State, shoen_at, replace_in_task, replace_in_goal, replace_in_shoen, replace_in_state, change_shoen, is_monitor, is_living}
+use Rattle.kl1_model.specs.State.{Task, monitor, reduces, substitutes, Goal, Shoen, State, shoen_at, replace_in_task, replace_in_goal, replace_in_shoen, replace_in_state, change_shoen, is_monitor, is_living}
 use Rattle.kl1_model.specs.Tree.{path, is_on_path}
 use Rattle.kl1_model.specs.Report.{broken_at, reported_at, report_of, report, report_each, closed_at, close_of, close, exhausted_report, terminated_report, aborted_report}
 use Rattle.kl1_model.specs.Ending.{has_goal, has_living_child, lives, ends_now, without_monitor, ended_at, terminate, terminate_each, ending_of, settle, has_reached, newly_exhausted, after_reduction, aborted_below, ended_below, abort}
@@ -72,6 +72,7 @@ replaced_numbers v t (g ∷ gs) = ap (λ (ns : List ℕ). g.number ∷ ns) (repl
 task_kept : (v : ℕ) (t : Term) (task : Task) → is_monitor (replace_in_task v t task) ≡ is_monitor task
 task_kept v t monitor = refl
 task_kept v t (reduces u) = refl
+task_kept v t (substitutes u) = refl
 
 replaced_posts : (v : ℕ) (t : Term) (gs : List Goal) → posts_of (map (replace_in_goal v t) gs) ≡ posts_of gs
 replaced_posts v t [] = refl
@@ -92,7 +93,7 @@ reported_leaves n m (variable v) s =
     let bound = record (replace_in_state v (cell m (variable next)) s) { last_variable = next; reports = suc s.reports } in
     let k = leaves_replace v (cell m (variable next)) s in
     let b : Leaves s bound = record { marks = k.marks; goals = k.goals; posts = k.posts } in
-    leaves_if (occurs v m || not (nat_lt s.reports most_reports)) s (broken_at n s) (change_shoen n (λ h. record h { tail = variable next }) bound) (leaves_broken n s)
+    leaves_if (occurs v m || not (nat_lt s.reports MOST_REPORTS)) s (broken_at n s) (change_shoen n (λ h. record h { tail = variable next }) bound) (leaves_broken n s)
     (leaves_both s bound (change_shoen n (λ h. record h { tail = variable next }) bound) b (leaves_change n (λ h. record h { tail = variable next }) bound (λ h. refl)))
 reported_leaves n m (integer i) s = leaves_broken n s
 reported_leaves n m (atom a) s = leaves_broken n s

@@ -1,25 +1,25 @@
 -- Each event leaves the shoens of an account a tree, and charges just the path of the goal that it reduces.
 use Rattle.std.proofs.Common.{not, ◌||◌, ◌≡◌, ◌≤◌, ◌<◌, ℕ, zero, suc, ◌+◌, ◌==◌, Bool, true, false, if◌then◌else◌, List, [], ◌∷◌, ◌++◌, refl, sym, ap, ap₂, ◌∙◌, subst, arith}
-use Rattle.std.specs.Prelude.{nat_le, length, get_or, count_by, cond, Option, Some, None}
+use Rattle.std.specs.Prelude.{◌&&◌, nat_le, length, get_or, count_by, cond, Option, Some, None}
 use Rattle.std.specs.List.{AllByRecursion, list_any}
 use Rattle.std.proofs.Math.Bool.{or-true}
 use Rattle.std.proofs.lemmas.Bool.{false≢true, eqb-true}
 use Rattle.std.proofs.lemmas.List.{get_or_append_left, append-nil}
 use Rattle.std.proofs.lemmas.List.Sums.{sum_by-cons}
 use Rattle.std.proofs.lemmas.Option.{none-some, same_Some}
-use Rattle.kl1_model.specs.Limits.{most_names}
-use Rattle.kl1_model.specs.Term.{Term, atom, Replacement}
+use Rattle.kl1_model.specs.declared.limits.TheConstants.{MOST_NAMES}
+use Rattle.kl1_model.specs.Term.{Term, variable, atom, Replacement}
 use Rattle.kl1_model.specs.Unify.{mgu}
 use Rattle.kl1_model.specs.Module.{is_among}
 use Rattle.kl1_model.specs.Match.{Candidate}
-use Rattle.kl1_model.specs.State.{Goal, Shoen, State, shoen_at, goal_at, without_goal, with_name}
+use Rattle.kl1_model.specs.State.{Task, reduces, substitutes, Goal, Shoen, State, has_substitutes, shoen_at, goal_at, without_goal, with_name}
 use Rattle.kl1_model.specs.Tree.{parents_of, path_within, path, is_on_path, charged_of, charge, is_blocking_at}
 use Rattle.kl1_model.specs.Control.{Control}
 use Rattle.kl1_model.specs.Event.{with_entry}
-use Rattle.kl1_model.specs.Report.{report, exception, failure, exhaustion, started_report, exhausted_report}
+use Rattle.kl1_model.specs.Report.{report, is_reported, exception, exception_with, failure, exhaustion, started_report, exhausted_report}
 use Rattle.kl1_model.specs.Ending.{settle, after_reduction}
 use Rattle.kl1_model.specs.Opening.{opening_goals, with_shoen, open_shoen, has_room_for_child, child_shoen, open_child}
-use Rattle.kl1_model.specs.Reduction.{Move, commits, raises, unifies, names, opens, goes, moves, reads, goals_from, has_room_for, committed, unified, equation, or_exhaustion, moved, heard, acted}
+use Rattle.kl1_model.specs.Reduction.{Move, commits, raises, unifies, names, opens, goes, gives_way, moves, reads, goals_from, has_room_for, committed, replaced_by, substituted_by, raised, unified, equation, or_exhaustion, moved, heard, acted}
 use Rattle.kl1_model.specs.laws.TreeLaws.{AreNumbered, PathsFollowParents, ParentsAreLower, PathsGoOn, AreWithin, IsTree, ChargesPath, HeldBackBelow}
 use Rattle.kl1_model.proofs.TreeKeeps.{Keeps, keeps_same, keeps_both, kept_tree, keeps_if, keeps_all, keeps_report, keeps_fewer, keeps_settle, keeps_settle_charged, keeps_heard}
 
@@ -171,10 +171,6 @@ follows_kept owner s t k = record { more = []; parents = k.parents ∙ sym (appe
 pub follows_then : (owner : ℕ) (s t u : State) → Follows owner s t → Keeps t u → Follows owner s u
 follows_then owner s t u f k = record { more = f.more; parents = k.parents ∙ f.parents; work = k.work ∙ f.work; tree = λ few tree. kept_tree t u k (f.tree few tree) }
 
-follows_or : (c : Bool) (owner n : ℕ) (goal : Term) (s t : State) → Follows owner s t → Follows owner s (or_exhaustion c n goal t s)
-follows_or true owner n goal s t f = f
-follows_or false owner n goal s t f = follows_kept owner s (report n (exception exhaustion goal) s) (keeps_report n (exception exhaustion goal) s)
-
 opened_keeps : (h : Shoen) (goal : Term) (s : State) → Keeps (with_shoen h goal s) (open_shoen h goal s)
 opened_keeps h goal s =
     let a = with_shoen h goal s in
@@ -207,22 +203,57 @@ commit_follows g k s = record {
   };
 }
 
-unified_keeps : (n : ℕ) (goal : Term) (o : Option (List Replacement)) (s : State) → Keeps s (unified n goal o s)
-unified_keeps n goal None s = keeps_report n (exception failure goal) s
-unified_keeps n goal (Some rs) s = keeps_all rs s
+-- a goal in the place of another follows what comes before it
+replaced_follows : (g : Goal) (task : Task) (s t : State) → Keeps s t → Follows g.shoen s (replaced_by g task t)
+replaced_follows g task s t k = record {
+  more = [];
+  parents = k.parents ∙ sym (append-nil (parents_of s.shoens));
+  work = k.work;
+  tree = λ few tree.
+      let kept = kept_tree s t k tree in
+      record {
+        numbered = kept.numbered;
+        lower = kept.lower;
+        count = kept.count;
+        owners = both_within t.last_shoen t.goals _ kept.owners (subst (λ n. g.shoen ≤ n) (sym k.last) few, tt);
+        worked = kept.worked;
+      };
+}
+
+follows_if : (c : Bool) (owner : ℕ) (s t u : State) → Follows owner s t → Follows owner s u → Follows owner s (if c then t else u)
+follows_if true owner s t u f h = f
+follows_if false owner s t u f h = h
+
+raised_follows : (g : Goal) (kind : List ℕ) (t : Term) (s u : State) → Keeps s u → Follows g.shoen s (raised g kind t u)
+raised_follows g kind t s u k =
+    let new = suc u.last_variable in
+    let told = exception_with kind t (variable new) in
+    let v = record u { last_variable = new } in
+    let j : Keeps s v = record { parents = k.parents; work = k.work; last = k.last; owners = k.owners; numbered = k.numbered } in
+    follows_if (has_substitutes u.rules && is_reported g.shoen (exception kind t) u) g.shoen s (substituted_by g kind t u) (report g.shoen (exception kind t) u)
+    (replaced_follows g (substitutes (variable new)) s (report g.shoen told v) (keeps_both s v (report g.shoen told v) j (keeps_report g.shoen told v)))
+    (follows_kept g.shoen s (report g.shoen (exception kind t) u) (keeps_both s u (report g.shoen (exception kind t) u) k (keeps_report g.shoen (exception kind t) u)))
+
+follows_or : (c : Bool) (g : Goal) (t : Term) (s u : State) → Follows g.shoen s u → Follows g.shoen s (or_exhaustion c g t u s)
+follows_or true g t s u f = f
+follows_or false g t s u f = raised_follows g exhaustion t s s (keeps_same s)
+
+unified_follows : (g : Goal) (t : Term) (o : Option (List Replacement)) (s u : State) → Keeps s u → Follows g.shoen s (unified g t o u)
+unified_follows g t None s u k = raised_follows g failure t s u k
+unified_follows g t (Some rs) s u k = follows_then g.shoen s u (unified g t (Some rs) u) (follows_kept g.shoen s u k) (keeps_all rs u)
 
 move_follows : (g : Goal) (t : Term) (m : Move) (s : State) → Follows g.shoen s (moved g t m s)
-move_follows g t (commits k) s = follows_or (has_room_for s k.clause) g.shoen g.shoen t s (committed g k s) (commit_follows g k s)
-move_follows g t (raises kind) s = follows_kept g.shoen s (report g.shoen (exception kind t) s) (keeps_report g.shoen (exception kind t) s)
-move_follows g t (unifies a b) s = follows_kept g.shoen s (unified g.shoen t (mgu (equation a b)) s) (unified_keeps g.shoen t (mgu (equation a b)) s)
+move_follows g t (commits k) s = follows_or (has_room_for s k.clause) g t s (committed g k s) (commit_follows g k s)
+move_follows g t (raises kind) s = raised_follows g kind t s s (keeps_same s)
+move_follows g t (unifies a b) s = unified_follows g t (mgu (equation a b)) s s (keeps_same s)
 move_follows g t (names text a) s =
     let u = record s { names = with_name s.names text } in
     let k : Keeps s u = record { parents = refl; work = refl; last = refl; owners = λ n w. w; numbered = λ n w. w } in
-    let v = unified g.shoen t (mgu (equation a (atom text))) u in
-    follows_or (nat_le (length (with_name s.names text)) most_names) g.shoen g.shoen t s v (follows_kept g.shoen s v (keeps_both s u v k (unified_keeps g.shoen t (mgu (equation a (atom text))) u)))
+    follows_or (nat_le (length (with_name s.names text)) MOST_NAMES) g t s (unified g t (mgu (equation a (atom text))) u) (unified_follows g t (mgu (equation a (atom text))) s u k)
 move_follows g t (opens o) s =
-    follows_or (has_room_for_child s g.shoen) g.shoen g.shoen t s (open_child s g.shoen o) (opening_follows g.shoen (child_shoen s g.shoen o) o.goal s refl (λ few. few))
+    follows_or (has_room_for_child s g.shoen) g t s (open_child s g.shoen o) (opening_follows g.shoen (child_shoen s g.shoen o) o.goal s refl (λ few. few))
 move_follows g t goes s = follows_kept g.shoen s s (keeps_same s)
+move_follows g t gives_way s = replaced_follows g (reduces t) s s (keeps_same s)
 
 charged_tree : (n : ℕ) (s : State) → n ≤ s.last_shoen → IsTree s → IsTree (charge n s)
 charged_tree n s few tree = record { numbered = tree.numbered; lower = tree.lower; count = tree.count; owners = tree.owners; worked = (few, tree.worked) }

@@ -2,7 +2,7 @@
 use Rattle.std.proofs.Common.{◌≡◌, ◌≤◌, ℕ, suc, ◌==◌, ◌||◌, not, ◌&&◌, Bool, true, false, if◌then◌else◌, List, [], ◌∷◌, refl, sym, ap, ap₂, ◌∙◌, subst}
 use Rattle.std.specs.Prelude.{nat_lt, map, filter, length, get_or, Option, Some, None}
 use Rattle.std.specs.List.{AllByRecursion}
-use Rattle.kl1_model.specs.Limits.{most_reports}
+use Rattle.kl1_model.specs.declared.limits.TheConstants.{MOST_REPORTS}
 use Rattle.kl1_model.specs.declared.life.Life.TheVariants.{Terminated, Aborted}
 use Rattle.kl1_model.specs.declared.message.Message.{Message}
 use Rattle.kl1_model.specs.declared.message.Message.TheVariants.{Stop, Start, Abort, Allow}
@@ -103,7 +103,7 @@ reported_keeps n m (variable v) s =
     let bound = record (replace_in_state v (cell m (variable next)) s) { last_variable = next; reports = suc s.reports } in
     let k = keeps_replace v (cell m (variable next)) s in
     let b : Keeps s bound = record { parents = k.parents; work = k.work; last = k.last; owners = k.owners; numbered = k.numbered } in
-    keeps_if (occurs v m || not (nat_lt s.reports most_reports)) s (broken_at n s) (change_shoen n (λ h. record h { tail = variable next }) bound) (keeps_broken n s)
+    keeps_if (occurs v m || not (nat_lt s.reports MOST_REPORTS)) s (broken_at n s) (change_shoen n (λ h. record h { tail = variable next }) bound) (keeps_broken n s)
     (keeps_both s bound (change_shoen n (λ h. record h { tail = variable next }) bound) b (keeps_change n (λ h. record h { tail = variable next }) bound (λ h. refl) (λ h. refl)))
 reported_keeps n m (integer i) s = keeps_broken n s
 reported_keeps n m (atom a) s = keeps_broken n s

@@ -4,7 +4,7 @@ use Rattle.std.specs.Prelude.{nat_lt, nat_le, length, Option, Some, None, is_som
 use Rattle.std.specs.List.{AllByRecursion}
 use Rattle.std.proofs.lemmas.Bool.{false≢true, eq-eqb, ne_eqb}
 use Rattle.std.proofs.lemmas.Option.{none-some, same_Some}
-use Rattle.kl1_model.specs.Limits.{most_names, most_modules, most_sessions}
+use Rattle.kl1_model.specs.declared.limits.TheConstants.{MOST_NAMES, MOST_MODULES, MOST_SESSIONS, MOST_SOURCE_BYTES, MOST_ENTRIES}
 use Rattle.kl1_model.specs.declared.message.Message.{Message}
 use Rattle.kl1_model.specs.declared.message.Message.TheVariants.{Stop, Start, Abort, Allow}
 use Rattle.kl1_model.specs.Term.{Term, variable, integer, atom, structure, Replacement}
@@ -13,16 +13,17 @@ use Rattle.kl1_model.specs.Meaning.{cell, highest}
 use Rattle.kl1_model.specs.Nodes.{goal_nodes}
 use Rattle.kl1_model.specs.Module.{Module, Reading, good, bad, read_module}
 use Rattle.kl1_model.specs.Match.{Candidate, module_of}
-use Rattle.kl1_model.specs.State.{Goal, Origin, Shoen, State, goal_at, shoen_at, names_of, names_of_module, with_name, with_names, replace_in_state, replace_all, change_shoen, without_goal, is_living}
+use Rattle.kl1_model.specs.State.{Task, reduces, substitutes, Goal, Origin, Shoen, State, has_substitutes, goal_at, shoen_at, names_of, names_of_module, with_name, with_names, replace_in_state, replace_all, change_shoen, without_goal, is_living}
 use Rattle.kl1_model.specs.Tree.{parents_of, charge}
 use Rattle.kl1_model.specs.Control.{Control, awaits_message, tells, tells_other, ends, breaks_off, message_term, message_nodes}
-use Rattle.kl1_model.specs.Event.{exists, shoen_ended, syntax, too_many_names, limit_passed, journal_full, sessions_refused, Query, value, status, reports, modules, is_quiet, Event, load, start, control, reduce, read, login, logout, reset, loaded, opened, sent, reduced, welcome, bye, Transition, refuse, is_number, most_source_bytes, most_entries, with_entry, recorded, named, limited}
-use Rattle.kl1_model.specs.Report.{report, exception, failure, illegal_input, exhaustion, started_report, exhausted_report, stopped_report, resumed_report}
+use Rattle.kl1_model.specs.Event.{exists, shoen_ended, syntax, too_many_names, limit_passed, journal_full, sessions_refused, Query, value, status, reports, modules, is_quiet, Event, load, start, control, reduce, read, login, logout, reset, answer, loaded, opened, sent, reduced, welcome, bye, Transition, refuse, is_number, with_entry, recorded, named, limited}
+use Rattle.kl1_model.specs.Report.{report, is_reported, exception, exception_with, failure, illegal_input, exhaustion, started_report, exhausted_report, stopped_report, resumed_report}
 use Rattle.kl1_model.specs.Ending.{without_monitor}
 use Rattle.kl1_model.specs.Opening.{may_start, has_room_to_start, opening_goals, with_shoen, open_shoen, with_next_variables, started_shoen, start_goal, has_room_for_child, child_shoen, open_child}
-use Rattle.kl1_model.specs.Reduction.{Move, commits, raises, unifies, names, opens, goes, Action, moves, reads, action_of, goals_from, has_room_for, committed, unified, equation, or_exhaustion, moved, stopped_of, resumed_of, allowed_more, obeyed, with_control, heard, acted, reduced_by, reduce_goal}
+use Rattle.kl1_model.specs.Reduction.{Move, commits, raises, unifies, names, opens, goes, gives_way, Action, moves, reads, action_of, goals_from, has_room_for, committed, replaced_by, substituted_by, raised, unified, equation, or_exhaustion, moved, stopped_of, resumed_of, allowed_more, obeyed, with_control, heard, acted, reduced_by, reduce_goal}
 use Rattle.kl1_model.specs.Sending.{may_send, has_room_to_send, with_control_tail, sent_on, send_by, send_to}
-use Rattle.kl1_model.specs.Asking.{origin_at, value_of, status_of, reports_of, answer}
+use Rattle.kl1_model.specs.Asking.{origin_at, value_of, status_of, reports_of, reply_to}
+use Rattle.kl1_model.specs.Answering.{may_answer, has_room_to_answer, unanswered_at, answered, answer_by, answer_in, answer_to}
 use Rattle.kl1_model.specs.Step.{with_module, load_module, step}
 use Rattle.kl1_model.specs.laws.TreeLaws.{AreNumbered, IsTree, FreshIsOfLiving, EndedHaveNoGoals}
 use Rattle.kl1_model.proofs.TreeKeeps.{Keeps, kept_tree, keeps_fewer}
@@ -110,13 +111,37 @@ leaves_all : (rs : List Replacement) (s : State) → Leaves s (replace_all rs s)
 leaves_all [] s = leaves_same s
 leaves_all (r ∷ rs) s = leaves_both s (replace_in_state r.number r.by s) (replace_all rs (replace_in_state r.number r.by s)) (leaves_replace r.number r.by s) (leaves_all rs (replace_in_state r.number r.by s))
 
-unified_posted : (n : ℕ) (goal : Term) (o : Option (List Replacement)) (s : State) → IsPosted s → IsPosted (unified n goal o s)
-unified_posted n goal None s a = report_posted n (exception failure goal) s a
-unified_posted n goal (Some rs) s a = posted_left s (replace_all rs s) (leaves_all rs s) a
+-- the shoen of a goal lives
+abbrev Lives : Goal → State → Type 0
+Lives g s = lives_in (marks_of s.shoens) g.shoen ≡ true
 
-posted_or : (c : Bool) (n : ℕ) (goal : Term) (t s : State) → IsPosted t → IsPosted s → IsPosted (or_exhaustion c n goal t s)
-posted_or true n goal t s a b = a
-posted_or false n goal t s a b = report_posted n (exception exhaustion goal) s b
+lives_left : (g : Goal) (s t : State) → Leaves s t → Lives g s → Lives g t
+lives_left g s t k l = ap (λ ms. lives_in ms g.shoen) k.marks ∙ l
+
+replaced_posted : (g : Goal) (task : Task) (s : State) → Lives g s → IsPosted s → IsPosted (replaced_by g task s)
+replaced_posted g task s l a = both_posted (λ (p : Post). lives_in (marks_of s.shoens) p.shoen ≡ true) s.goals _ a (l, tt)
+
+posted_if : (c : Bool) (s t : State) → IsPosted s → IsPosted t → IsPosted (if c then s else t)
+posted_if true s t a b = a
+posted_if false s t a b = b
+
+raised_posted : (g : Goal) (kind : List ℕ) (t : Term) (s : State) → Lives g s → IsPosted s → IsPosted (raised g kind t s)
+raised_posted g kind t s l a =
+    let new = suc s.last_variable in
+    let told = exception_with kind t (variable new) in
+    let u = record s { last_variable = new } in
+    let k = leaves_report g.shoen told u in
+    posted_if (has_substitutes s.rules && is_reported g.shoen (exception kind t) s) (substituted_by g kind t s) (report g.shoen (exception kind t) s)
+    (replaced_posted g (substitutes (variable new)) (report g.shoen told u) (lives_left g u (report g.shoen told u) k l) (report_posted g.shoen told u a))
+    (report_posted g.shoen (exception kind t) s a)
+
+unified_posted : (g : Goal) (t : Term) (o : Option (List Replacement)) (s : State) → Lives g s → IsPosted s → IsPosted (unified g t o s)
+unified_posted g t None s l a = raised_posted g failure t s l a
+unified_posted g t (Some rs) s l a = posted_left s (replace_all rs s) (leaves_all rs s) a
+
+posted_or : (c : Bool) (g : Goal) (t : Term) (u s : State) → IsPosted u → Lives g s → IsPosted s → IsPosted (or_exhaustion c g t u s)
+posted_or true g t u s a l b = a
+posted_or false g t u s a l b = raised_posted g exhaustion t s l b
 
 from_posted_goals : (ms : Post → Type 0) (last shoen : ℕ) (ps : List ℕ) (ts : List Term) → ms (record { shoen = shoen; is_monitor = false }) → AllByRecursion ms (posts_of (goals_from last shoen ps ts))
 from_posted_goals P last shoen [] [] e = tt
@@ -129,15 +154,16 @@ commit_posted g k s l a =
     both_posted (λ (p : Post). lives_in (marks_of s.shoens) p.shoen ≡ true) s.goals _ a (from_posted_goals (λ (p : Post). lives_in (marks_of s.shoens) p.shoen ≡ true) s.last_goal g.shoen _ _ l)
 
 moved_posted : (g : Goal) (t : Term) (m : Move) (s : State) → lives_in (marks_of s.shoens) g.shoen ≡ true → IsTree s → IsPosted s → IsPosted (moved g t m s)
-moved_posted g t (commits k) s l tree a = posted_or (has_room_for s k.clause) g.shoen t (committed g k s) s (commit_posted g k s l a) a
-moved_posted g t (raises kind) s l tree a = report_posted g.shoen (exception kind t) s a
-moved_posted g t (unifies x y) s l tree a = unified_posted g.shoen t (mgu (equation x y)) s a
+moved_posted g t (commits k) s l tree a = posted_or (has_room_for s k.clause) g t (committed g k s) s (commit_posted g k s l a) l a
+moved_posted g t (raises kind) s l tree a = raised_posted g kind t s l a
+moved_posted g t (unifies x y) s l tree a = unified_posted g t (mgu (equation x y)) s l a
 moved_posted g t (names text x) s l tree a =
     let u = record s { names = with_name s.names text } in
-    posted_or (nat_le (length (with_name s.names text)) most_names) g.shoen t (unified g.shoen t (mgu (equation x (atom text))) u) s (unified_posted g.shoen t (mgu (equation x (atom text))) u a) a
+    posted_or (nat_le (length (with_name s.names text)) MOST_NAMES) g t (unified g t (mgu (equation x (atom text))) u) s (unified_posted g t (mgu (equation x (atom text))) u l a) l a
 moved_posted g t (opens o) s l tree a =
-    posted_or (has_room_for_child s g.shoen) g.shoen t (open_child s g.shoen o) s (open_posted (child_shoen s g.shoen o) o.goal s refl refl tree a) a
+    posted_or (has_room_for_child s g.shoen) g t (open_child s g.shoen o) s (open_posted (child_shoen s g.shoen o) o.goal s refl refl tree a) l a
 moved_posted g t goes s l tree a = a
+moved_posted g t gives_way s l tree a = replaced_posted g (reduces t) s l a
 
 acted_posted : (g : Goal) (x : Action) (s : State) → lives_in (marks_of s.shoens) g.shoen ≡ true → g.shoen ≤ s.last_shoen → IsTree s → IsPosted s → IsPosted (acted g x s)
 acted_posted g (moves t m) s l few tree a =
@@ -170,7 +196,7 @@ reduced_posts : (s : State) (g : Goal) (o : Option Action) → lives_in (marks_o
 reduced_posts s g None l few tree a = a
 reduced_posts s g (Some x) l few tree a =
     let k : Keeps s (with_entry s) = record { parents = refl; work = refl; last = refl; owners = λ n b. b; numbered = λ n b. b } in
-    posts_if (nat_lt s.entries most_entries) (record { state = acted g x (with_entry s); reply = reduced }) (refuse s journal_full) (acted_posted g x (with_entry s) l few (kept_tree s (with_entry s) k tree) a) a
+    posts_if (nat_lt s.entries MOST_ENTRIES) (record { state = acted g x (with_entry s); reply = reduced }) (refuse s journal_full) (acted_posted g x (with_entry s) l few (kept_tree s (with_entry s) k tree) a) a
 
 goal_posts : (s : State) (goal clause : ℕ) (o : Option Goal) → goal_at goal s.goals ≡ o → IsTree s → IsPosted s → Posts (reduce_goal s clause o)
 goal_posts s goal clause None e tree a = a
@@ -182,10 +208,10 @@ load_posts s (bad line) a = a
 load_posts s (good m) a =
     let x : Transition = record { state = with_entry (with_module s m); reply = loaded m.name } in
     let b = recorded s x in
-    let c = limited s (nat_lt (length s.modules) most_modules) b in
+    let c = limited s (nat_lt (length s.modules) MOST_MODULES) b in
     posts_if (is_some (module_of s.modules m.name)) (refuse s exists) (named s (with_names s.names (names_of_module m)) c) a
-    (posts_if (nat_le (length (with_names s.names (names_of_module m))) most_names) c (refuse s too_many_names)
-    (posts_if (nat_lt (length s.modules) most_modules) b (refuse s limit_passed) (posts_if (nat_lt s.entries most_entries) x (refuse s journal_full) a a) a) a)
+    (posts_if (nat_le (length (with_names s.names (names_of_module m))) MOST_NAMES) c (refuse s too_many_names)
+    (posts_if (nat_lt (length s.modules) MOST_MODULES) b (refuse s limit_passed) (posts_if (nat_lt s.entries MOST_ENTRIES) x (refuse s journal_full) a a) a) a)
 
 started_posted : (s : State) (allowance low high : ℕ) (t : Term) → IsTree s → IsPosted s → IsPosted (start_goal s allowance low high t)
 started_posted s allowance low high t tree a =
@@ -202,8 +228,8 @@ start_posts s allowance low high t tree a =
     let b = recorded s x in
     let c = limited s (has_room_to_start s t) b in
     posts_if (may_start allowance low high t) (named s (with_names s.names (names_of t)) c) (refuse s syntax)
-    (posts_if (nat_le (length (with_names s.names (names_of t))) most_names) c (refuse s too_many_names)
-    (posts_if (has_room_to_start s t) b (refuse s limit_passed) (posts_if (nat_lt s.entries most_entries) x (refuse s journal_full) (started_posted s allowance low high t tree a) a) a) a) a
+    (posts_if (nat_le (length (with_names s.names (names_of t))) MOST_NAMES) c (refuse s too_many_names)
+    (posts_if (has_room_to_start s t) b (refuse s limit_passed) (posts_if (nat_lt s.entries MOST_ENTRIES) x (refuse s journal_full) (started_posted s allowance low high t tree a) a) a) a) a
 
 sent_leaves : (n : ℕ) (m : Message) (t : Term) (s : State) → Leaves s (sent_on n m t s)
 sent_leaves n m (variable v) s =
@@ -223,7 +249,7 @@ send_by_posts s n m h (Some o) a =
     let x : Transition = record { state = with_entry (sent_on n m o.control s); reply = sent } in
     let b = recorded s x in
     posts_if (is_living h.life) (limited s (has_room_to_send s m) b) (refuse s shoen_ended)
-    (posts_if (has_room_to_send s m) b (refuse s limit_passed) (posts_if (nat_lt s.entries most_entries) x (refuse s journal_full) (posted_left s (sent_on n m o.control s) (sent_leaves n m o.control s) a) a) a) a
+    (posts_if (has_room_to_send s m) b (refuse s limit_passed) (posts_if (nat_lt s.entries MOST_ENTRIES) x (refuse s journal_full) (posted_left s (sent_on n m o.control s) (sent_leaves n m o.control s) a) a) a) a
 
 send_posts : (s : State) (n : ℕ) (m : Message) (o : Option Shoen) → IsPosted s → Posts (send_to s n m o)
 send_posts s n m None a = a
@@ -241,25 +267,49 @@ reports_posts : (s : State) (from : ℕ) (o : Option Origin) → IsPosted s → 
 reports_posts s from None a = a
 reports_posts s from (Some o) a = a
 
-answer_posts : (s : State) (q : Query) → IsPosted s → Posts (answer s q)
-answer_posts s (value n) a = posts_if (is_number n) (value_of s (origin_at n s.shoens)) (refuse s syntax) (value_posts s (origin_at n s.shoens) a) a
-answer_posts s (status n) a = posts_if (is_number n) (status_of s (shoen_at n s.shoens)) (refuse s syntax) (status_posts s (shoen_at n s.shoens) a) a
-answer_posts s (reports n from) a = posts_if (is_number n && is_number from && nat_le 1 from) (reports_of s from (origin_at n s.shoens)) (refuse s syntax) (reports_posts s from (origin_at n s.shoens) a) a
-answer_posts s modules a = a
-answer_posts s is_quiet a = a
+query_posts : (s : State) (q : Query) → IsPosted s → Posts (reply_to s q)
+query_posts s (value n) a = posts_if (is_number n) (value_of s (origin_at n s.shoens)) (refuse s syntax) (value_posts s (origin_at n s.shoens) a) a
+query_posts s (status n) a = posts_if (is_number n) (status_of s (shoen_at n s.shoens)) (refuse s syntax) (status_posts s (shoen_at n s.shoens) a) a
+query_posts s (reports n from) a = posts_if (is_number n && is_number from && nat_le 1 from) (reports_of s from (origin_at n s.shoens)) (refuse s syntax) (reports_posts s from (origin_at n s.shoens) a) a
+query_posts s modules a = a
+query_posts s is_quiet a = a
+
+answered_leaves : (v : ℕ) (t : Term) (s : State) → Leaves s (answered v t s)
+answered_leaves v t s =
+    let k = leaves_replace v (with_next_variables s.last_variable t) s in
+    record { marks = k.marks; goals = k.goals; posts = k.posts }
+
+answer_by_posts : (s : State) (t : Term) (o : Option ℕ) → IsPosted s → Posts (answer_by s t o)
+answer_by_posts s t None a = a
+answer_by_posts s t (Some v) a = posted_left s (answered v t s) (answered_leaves v t s) a
+
+answer_in_posts : (s : State) (report : ℕ) (t : Term) (h : Shoen) (o : Option Origin) → IsPosted s → Posts (answer_in s report t h o)
+answer_in_posts s report t h None a = a
+answer_in_posts s report t h (Some o) a =
+    let x = answer_by s t (unanswered_at o.reports report) in
+    let b = recorded s x in
+    let c = limited s (has_room_to_answer s t) b in
+    posts_if (is_living h.life) (named s (with_names s.names (names_of t)) c) (refuse s shoen_ended)
+    (posts_if (nat_le (length (with_names s.names (names_of t))) MOST_NAMES) c (refuse s too_many_names)
+    (posts_if (has_room_to_answer s t) b (refuse s limit_passed) (posts_if (nat_lt s.entries MOST_ENTRIES) x (refuse s journal_full) (answer_by_posts s t (unanswered_at o.reports report) a) a) a) a) a
+
+answer_to_posts : (s : State) (report : ℕ) (t : Term) (o : Option Shoen) → IsPosted s → Posts (answer_to s report t o)
+answer_to_posts s report t None a = a
+answer_to_posts s report t (Some h) a = answer_in_posts s report t h h.origin a
 
 step_posts : (s : State) (e : Event) → IsTree s → IsPosted s → Posts (step s e)
-step_posts s (load text) tree a = posts_if (nat_le (length text) most_source_bytes) (load_module s (read_module text)) (refuse s syntax) (load_posts s (read_module text) a) a
+step_posts s (load text) tree a = posts_if (nat_le (length text) MOST_SOURCE_BYTES) (load_module s (read_module text)) (refuse s syntax) (load_posts s (read_module text) a) a
 step_posts s (start allowance low high t) tree a = start_posts s allowance low high t tree a
 step_posts s (control n m) tree a = posts_if (may_send n m) (send_to s n m (shoen_at n s.shoens)) (refuse s syntax) (send_posts s n m (shoen_at n s.shoens) a) a
 step_posts s (reduce goal clause) tree a = posts_if (is_number goal && is_number clause) (reduce_goal s clause (goal_at goal s.goals)) (refuse s syntax) (goal_posts s goal clause (goal_at goal s.goals) refl tree a) a
-step_posts s (read q) tree a = answer_posts s q a
-step_posts s login tree a = posts_if (nat_lt s.sessions most_sessions) (record { state = record s { sessions = suc s.sessions }; reply = welcome s.own_name }) (refuse s sessions_refused) a a
+step_posts s (read q) tree a = query_posts s q a
+step_posts s login tree a = posts_if (nat_lt s.sessions MOST_SESSIONS) (record { state = record s { sessions = suc s.sessions }; reply = welcome s.own_name }) (refuse s sessions_refused) a a
 step_posts s logout tree a = posts_if (nat_lt 0 s.sessions) (record { state = record s { sessions = s.sessions - 1 }; reply = bye }) (refuse s sessions_refused) a a
 step_posts s reset tree a = tt
+step_posts s (answer n report t) tree a = posts_if (has_substitutes s.rules && may_answer n report t) (answer_to s report t (shoen_at n s.shoens)) (refuse s syntax) (answer_to_posts s report t (shoen_at n s.shoens) a) a
 
 pub ended_have_no_goals : EndedHaveNoGoals
 ended_have_no_goals s e tree a = from_posted (step s e).state (step_posts s e tree (to_posted s a))
 
 pub fresh_is_of_living : FreshIsOfLiving
-fresh_is_of_living name = tt
+fresh_is_of_living rules name = tt

@@ -4,27 +4,29 @@ use Rattle.std.proofs.lemmas.Bool.{false≢true}
 use Rattle.std.specs.Prelude.{nat_lt, nat_le, length, Option, Some, None, option_map, is_some}
 use Rattle.std.proofs.lemmas.Option.{none-some, same_Some}
 use Rattle.kl1_model.specs.declared.message.Message.{Message}
-use Rattle.kl1_model.specs.Limits.{most_modules, most_sessions}
+use Rattle.kl1_model.specs.declared.limits.TheConstants.{MOST_MODULES, MOST_SESSIONS, MOST_SOURCE_BYTES, MOST_NAMES, MOST_ENTRIES}
 use Rattle.kl1_model.specs.Term.{Term, variable, integer, atom, structure}
 use Rattle.kl1_model.specs.Meaning.{cell, highest}
 use Rattle.kl1_model.specs.Nodes.{goal_nodes}
 use Rattle.kl1_model.specs.Module.{Module, Reading, good, bad, read_module}
 use Rattle.kl1_model.specs.Match.{call_of, module_of}
-use Rattle.kl1_model.specs.State.{Task, monitor, reduces, Goal, Origin, Shoen, State, fresh_with, goal_at, shoen_at, names_of, names_of_module, with_names, replace_in_state, change_shoen, is_monitor, is_living}
+use Rattle.kl1_model.specs.Look.{goal_look}
+use Rattle.kl1_model.specs.State.{Task, monitor, reduces, substitutes, Goal, Origin, Shoen, State, has_substitutes, fresh_with, goal_at, shoen_at, names_of, names_of_module, with_names, replace_in_state, change_shoen, is_monitor, is_living}
 use Rattle.kl1_model.specs.Tree.{is_on_path, charged_of, is_enabled}
 use Rattle.kl1_model.specs.Control.{Control, awaits_message, tells, tells_other, ends, breaks_off, control_of, message_term, message_nodes}
-use Rattle.kl1_model.specs.Event.{Refusal, syntax, source, exists, no_shoen, shoen_ended, step_refused, too_many_names, limit_passed, journal_full, sessions_refused, Query, value, status, reports, modules, is_quiet, load, start, control, reduce, read, login, logout, reset, Reply, loaded, opened, sent, reduced, welcome, bye, Transition, refuse, is_number, most_source_bytes, most_names, most_entries, with_entry, recorded, named, limited}
-use Rattle.kl1_model.specs.Reduction.{Move, Action, moves, reads, term_move, read_action, monitor_action, task_action, action_of, acted, reduced_by, reduce_goal}
+use Rattle.kl1_model.specs.Event.{Refusal, syntax, source, exists, no_shoen, shoen_ended, step_refused, too_many_names, limit_passed, journal_full, sessions_refused, answer_refused, Query, value, status, reports, modules, is_quiet, load, start, control, reduce, read, login, logout, reset, answer, Reply, loaded, opened, sent, reduced, welcome, bye, Transition, refuse, is_number, with_entry, recorded, named, limited}
+use Rattle.kl1_model.specs.Reduction.{Move, Action, moves, reads, term_move, substitute_move, read_action, monitor_action, task_action, action_of, acted, reduced_by, reduce_goal}
 use Rattle.kl1_model.specs.Opening.{may_start, has_room_to_start, with_next_variables, started_shoen, start_goal}
 use Rattle.kl1_model.specs.Sending.{may_send, has_room_to_send, with_control_tail, sent_on, send_by, send_to}
-use Rattle.kl1_model.specs.Asking.{origin_at, value_of, status_of, reports_of, answer}
+use Rattle.kl1_model.specs.Asking.{origin_at, value_of, status_of, reports_of, reply_to}
+use Rattle.kl1_model.specs.Answering.{may_answer, has_room_to_answer, unanswered_at, answered, answer_by, answer_in, answer_to}
 use Rattle.kl1_model.specs.Step.{with_module, load_module, log_in, log_out, step}
 use Rattle.kl1_model.specs.laws.TreeLaws.{IsTree, FreshIsTree, TreesStay, ReductionsCharge, MonitorsChargeNobody, OthersChargeNobody, is_refused, RefusalsChangeNothing}
 use Rattle.kl1_model.proofs.TreeKeeps.{Keeps, keeps_same, keeps_both, kept_tree, keeps_change, keeps_replace}
 use Rattle.kl1_model.proofs.TreeGrows.{Follows, follows_kept, follows_then, opening_follows, acted_move, acted_reading, charged_among, charged_kept, with_entry_keeps, found_within}
 
 pub fresh_is_tree : FreshIsTree
-fresh_is_tree name = record { numbered = tt; lower = λ k. omega arith; count = refl; owners = tt; worked = tt }
+fresh_is_tree rules name = record { numbered = tt; lower = λ k. omega arith; count = refl; owners = tt; worked = tt }
 
 -- ---- what is refused changes nothing, and what follows an event that is no reduction
 
@@ -57,12 +59,12 @@ comes_load s (bad line) = comes_refused s (source line)
 comes_load s (good m) =
     let x : Transition = record { state = with_entry (with_module s m); reply = loaded m.name } in
     let a = recorded s x in
-    let b = limited s (nat_lt (length s.modules) most_modules) a in
+    let b = limited s (nat_lt (length s.modules) MOST_MODULES) a in
     let c = named s (with_names s.names (names_of_module m)) b in
     comes_if (is_some (module_of s.modules m.name)) s (refuse s exists) c (comes_refused s exists)
-    (comes_or (nat_le (length (with_names s.names (names_of_module m))) most_names) s b too_many_names
-    (comes_or (nat_lt (length s.modules) most_modules) s a limit_passed
-    (comes_or (nat_lt s.entries most_entries) s x journal_full (comes_loaded s m))))
+    (comes_or (nat_le (length (with_names s.names (names_of_module m))) MOST_NAMES) s b too_many_names
+    (comes_or (nat_lt (length s.modules) MOST_MODULES) s a limit_passed
+    (comes_or (nat_lt s.entries MOST_ENTRIES) s x journal_full (comes_loaded s m))))
 
 start_follows : (s : State) (allowance low high : ℕ) (t : Term) → Follows 0 s (start_goal s allowance low high t)
 start_follows s allowance low high t =
@@ -87,9 +89,9 @@ comes_start s allowance low high t =
     let b = limited s (has_room_to_start s t) a in
     let c = named s (with_names s.names (names_of t)) b in
     comes_or (may_start allowance low high t) s c syntax
-    (comes_or (nat_le (length (with_names s.names (names_of t))) most_names) s b too_many_names
+    (comes_or (nat_le (length (with_names s.names (names_of t))) MOST_NAMES) s b too_many_names
     (comes_or (has_room_to_start s t) s a limit_passed
-    (comes_or (nat_lt s.entries most_entries) s x journal_full (comes_started s allowance low high t))))
+    (comes_or (nat_lt s.entries MOST_ENTRIES) s x journal_full (comes_started s allowance low high t))))
 
 sent_keeps : (n : ℕ) (m : Message) (t : Term) (s : State) → Keeps s (sent_on n m t s)
 sent_keeps n m (variable v) s =
@@ -115,7 +117,7 @@ comes_send_by s n m h (Some o) =
     let x : Transition = record { state = with_entry (sent_on n m o.control s); reply = sent } in
     let a = recorded s x in
     comes_or (is_living h.life) s (limited s (has_room_to_send s m) a) shoen_ended
-    (comes_or (has_room_to_send s m) s a limit_passed (comes_or (nat_lt s.entries most_entries) s x journal_full (comes_sent s n m o.control)))
+    (comes_or (has_room_to_send s m) s a limit_passed (comes_or (nat_lt s.entries MOST_ENTRIES) s x journal_full (comes_sent s n m o.control)))
 
 comes_send : (s : State) (n : ℕ) (m : Message) (o : Option Shoen) → Comes s (send_to s n m o)
 comes_send s n m None = comes_refused s no_shoen
@@ -133,12 +135,42 @@ comes_reports : (s : State) (from : ℕ) (o : Option Origin) → Comes s (report
 comes_reports s from None = comes_refused s no_shoen
 comes_reports s from (Some o) = comes_said s _
 
-comes_answer : (s : State) (q : Query) → Comes s (answer s q)
-comes_answer s (value n) = comes_or (is_number n) s (value_of s (origin_at n s.shoens)) syntax (comes_value s (origin_at n s.shoens))
-comes_answer s (status n) = comes_or (is_number n) s (status_of s (shoen_at n s.shoens)) syntax (comes_status s (shoen_at n s.shoens))
-comes_answer s (reports n from) = comes_or (is_number n && is_number from && nat_le 1 from) s (reports_of s from (origin_at n s.shoens)) syntax (comes_reports s from (origin_at n s.shoens))
-comes_answer s modules = comes_said s _
-comes_answer s is_quiet = comes_said s _
+comes_query : (s : State) (q : Query) → Comes s (reply_to s q)
+comes_query s (value n) = comes_or (is_number n) s (value_of s (origin_at n s.shoens)) syntax (comes_value s (origin_at n s.shoens))
+comes_query s (status n) = comes_or (is_number n) s (status_of s (shoen_at n s.shoens)) syntax (comes_status s (shoen_at n s.shoens))
+comes_query s (reports n from) = comes_or (is_number n && is_number from && nat_le 1 from) s (reports_of s from (origin_at n s.shoens)) syntax (comes_reports s from (origin_at n s.shoens))
+comes_query s modules = comes_said s _
+comes_query s is_quiet = comes_said s _
+
+answered_keeps : (v : ℕ) (t : Term) (s : State) → Keeps s (answered v t s)
+answered_keeps v t s =
+    let k = keeps_replace v (with_next_variables s.last_variable t) s in
+    record { parents = k.parents; work = k.work; last = k.last; owners = k.owners; numbered = k.numbered }
+
+comes_answer_by : (s : State) (t : Term) (o : Option ℕ) → Comes s (answer_by s t o)
+comes_answer_by s t None = comes_refused s answer_refused
+comes_answer_by s t (Some v) = record {
+  follows = follows_kept 0 s (with_entry (answered v t s)) (keeps_both s (answered v t s) (with_entry (answered v t s)) (answered_keeps v t s) (with_entry_keeps (answered v t s)));
+  kept = λ e. absurd (false≢true e);
+}
+
+comes_answer_in : (s : State) (report : ℕ) (t : Term) (h : Shoen) (o : Option Origin) → Comes s (answer_in s report t h o)
+comes_answer_in s report t h None = comes_refused s no_shoen
+comes_answer_in s report t h (Some o) =
+    let x = answer_by s t (unanswered_at o.reports report) in
+    let a = recorded s x in
+    let b = limited s (has_room_to_answer s t) a in
+    comes_or (is_living h.life) s (named s (with_names s.names (names_of t)) b) shoen_ended
+    (comes_or (nat_le (length (with_names s.names (names_of t))) MOST_NAMES) s b too_many_names
+    (comes_or (has_room_to_answer s t) s a limit_passed
+    (comes_or (nat_lt s.entries MOST_ENTRIES) s x journal_full (comes_answer_by s t (unanswered_at o.reports report)))))
+
+comes_answer_to : (s : State) (report : ℕ) (t : Term) (o : Option Shoen) → Comes s (answer_to s report t o)
+comes_answer_to s report t None = comes_refused s no_shoen
+comes_answer_to s report t (Some h) = comes_answer_in s report t h h.origin
+
+comes_answer : (s : State) (n report : ℕ) (t : Term) → Comes s (step s (answer n report t))
+comes_answer s n report t = comes_or (has_substitutes s.rules && may_answer n report t) s (answer_to s report t (shoen_at n s.shoens)) syntax (comes_answer_to s report t (shoen_at n s.shoens))
 
 -- ---- reductions
 
@@ -187,17 +219,19 @@ monitor_no_move (Some h) clause t m e = no_move (control_of h.control) t m (some
 task_moves : (s : State) (n : ℕ) (task : Task) (clause : ℕ) (t : Term) (m : Move) → task_action s n task clause ≡ Some (moves t m) → is_monitor task ≡ true → ⊥
 task_moves s n monitor clause t m e h = monitor_no_move (shoen_at n s.shoens) clause t m e
 task_moves s n (reduces u) clause t m e h = false≢true h
+task_moves s n (substitutes u) clause t m e h = false≢true h
 
 task_reads : (s : State) (n : ℕ) (task : Task) (clause : ℕ) (c : Control) → task_action s n task clause ≡ Some (reads c) → is_monitor task ≡ false → ⊥
 task_reads s n monitor clause c e h = false≢true (sym h)
-task_reads s n (reduces u) clause c e h = no_reading c (term_move s.modules u clause (call_of u)) u e
+task_reads s n (reduces u) clause c e h = no_reading c (term_move s.rules s.modules u clause (call_of u)) u e
+task_reads s n (substitutes u) clause c e h = no_reading c (substitute_move (goal_look u)) u (some_if (clause == 0) (option_map (moves u) (substitute_move (goal_look u))) (reads c) e)
 
 reduces_by : (s : State) (g : Goal) (clause : ℕ) (o : Option Action) → action_of s g clause ≡ o → Reduces s g (reduced_by s g o)
 reduces_by s g clause None e = reduces_refused s g step_refused
 reduces_by s g clause (Some (moves t m)) e =
     let x : Transition = record { state = acted g (moves t m) (with_entry s); reply = reduced } in
     let k = with_entry_keeps s in
-    reduces_or (nat_lt s.entries most_entries) s g x journal_full (record {
+    reduces_or (nat_lt s.entries MOST_ENTRIES) s g x journal_full (record {
       tree = λ tree few. (acted_move g t m (with_entry s) few (kept_tree s (with_entry s) k tree)).0;
       kept = λ r. absurd (false≢true r);
       charges = λ tree few h r a. (acted_move g t m (with_entry s) few (kept_tree s (with_entry s) k tree)).1 a;
@@ -207,7 +241,7 @@ reduces_by s g clause (Some (reads c)) e =
     let t = acted g (reads c) (with_entry s) in
     let x : Transition = record { state = t; reply = reduced } in
     let k = keeps_both s (with_entry s) t (with_entry_keeps s) (acted_reading g c (with_entry s)) in
-    reduces_or (nat_lt s.entries most_entries) s g x journal_full (record {
+    reduces_or (nat_lt s.entries MOST_ENTRIES) s g x journal_full (record {
       tree = λ tree few. kept_tree s t k tree;
       kept = λ r. absurd (false≢true r);
       charges = λ tree few h r a. absurd (task_reads s g.shoen g.task clause c (some_if (is_enabled s g) (task_action s g.shoen g.task clause) (reads c) e) h);
@@ -246,7 +280,7 @@ reduction_kept s goal clause (Some g) e r = (reduces_goal s goal clause g e).kep
 -- ---- all events
 
 comes_load_event : (s : State) (text : List ℕ) → Comes s (step s (load text))
-comes_load_event s text = comes_or (nat_le (length text) most_source_bytes) s (load_module s (read_module text)) syntax (comes_load s (read_module text))
+comes_load_event s text = comes_or (nat_le (length text) MOST_SOURCE_BYTES) s (load_module s (read_module text)) syntax (comes_load s (read_module text))
 
 comes_control : (s : State) (n : ℕ) (m : Message) → Comes s (step s (control n m))
 comes_control s n m = comes_or (may_send n m) s (send_to s n m (shoen_at n s.shoens)) syntax (comes_send s n m (shoen_at n s.shoens))
@@ -259,12 +293,12 @@ comes_with s n r e = record {
 }
 
 comes_login : (s : State) → Comes s (log_in s)
-comes_login s = comes_or (nat_lt s.sessions most_sessions) s (record { state = record s { sessions = suc s.sessions }; reply = welcome s.own_name }) sessions_refused (comes_with s (suc s.sessions) (welcome s.own_name) refl)
+comes_login s = comes_or (nat_lt s.sessions MOST_SESSIONS) s (record { state = record s { sessions = suc s.sessions }; reply = welcome s.own_name }) sessions_refused (comes_with s (suc s.sessions) (welcome s.own_name) refl)
 
 comes_logout : (s : State) → Comes s (log_out s)
 comes_logout s = comes_or (nat_lt 0 s.sessions) s (record { state = record s { sessions = s.sessions - 1 }; reply = bye }) sessions_refused (comes_with s (s.sessions - 1) bye refl)
 
-reset_tree : (s : State) → IsTree (fresh_with s.own_name s.names s.sessions)
+reset_tree : (s : State) → IsTree (fresh_with s.rules s.own_name s.names s.sessions)
 reset_tree s = record { numbered = tt; lower = λ k. omega arith; count = refl; owners = tt; worked = tt }
 
 tree_from : (s : State) (x : Transition) → Comes s x → IsTree s → IsTree x.state
@@ -275,10 +309,11 @@ trees_stay s (load text) tree = tree_from s (step s (load text)) (comes_load_eve
 trees_stay s (start allowance low high t) tree = tree_from s (step s (start allowance low high t)) (comes_start s allowance low high t) tree
 trees_stay s (control n m) tree = tree_from s (step s (control n m)) (comes_control s n m) tree
 trees_stay s (reduce goal clause) tree = reduction_tree s goal clause (goal_at goal s.goals) refl tree
-trees_stay s (read q) tree = tree_from s (answer s q) (comes_answer s q) tree
+trees_stay s (read q) tree = tree_from s (reply_to s q) (comes_query s q) tree
 trees_stay s login tree = tree_from s (log_in s) (comes_login s) tree
 trees_stay s logout tree = tree_from s (log_out s) (comes_logout s) tree
 trees_stay s reset tree = reset_tree s
+trees_stay s (answer n report t) tree = tree_from s (step s (answer n report t)) (comes_answer s n report t) tree
 
 charged_from : (s : State) (x : Transition) (a : ℕ) → Comes s x → IsTree s → charged_of x.state a ≡ charged_of s a
 charged_from s x a c tree = charged_among s x.state c.follows.more a tree c.follows.parents c.follows.work
@@ -288,17 +323,19 @@ others_charge_nobody s (load text) tree e a = charged_from s (step s (load text)
 others_charge_nobody s (start allowance low high t) tree e a = charged_from s (step s (start allowance low high t)) a (comes_start s allowance low high t) tree
 others_charge_nobody s (control n m) tree e a = charged_from s (step s (control n m)) a (comes_control s n m) tree
 others_charge_nobody s (reduce goal clause) tree e a = absurd (false≢true (sym e))
-others_charge_nobody s (read q) tree e a = charged_from s (answer s q) a (comes_answer s q) tree
+others_charge_nobody s (read q) tree e a = charged_from s (reply_to s q) a (comes_query s q) tree
 others_charge_nobody s login tree e a = charged_from s (log_in s) a (comes_login s) tree
 others_charge_nobody s logout tree e a = charged_from s (log_out s) a (comes_logout s) tree
 others_charge_nobody s reset tree e a = refl
+others_charge_nobody s (answer n report t) tree e a = charged_from s (step s (answer n report t)) a (comes_answer s n report t) tree
 
 pub refusals_change_nothing : RefusalsChangeNothing
 refusals_change_nothing s (load text) e = (comes_load_event s text).kept e
 refusals_change_nothing s (start allowance low high t) e = (comes_start s allowance low high t).kept e
 refusals_change_nothing s (control n m) e = (comes_control s n m).kept e
 refusals_change_nothing s (reduce goal clause) e = reduction_kept s goal clause (goal_at goal s.goals) refl e
-refusals_change_nothing s (read q) e = (comes_answer s q).kept e
+refusals_change_nothing s (read q) e = (comes_query s q).kept e
 refusals_change_nothing s login e = (comes_login s).kept e
 refusals_change_nothing s logout e = (comes_logout s).kept e
 refusals_change_nothing s reset e = absurd (false≢true e)
+refusals_change_nothing s (answer n report t) e = (comes_answer s n report t).kept e

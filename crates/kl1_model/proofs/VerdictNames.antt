@@ -5,7 +5,7 @@ use Rattle.std.proofs.lemmas.Bool.{cond-true, cond-false, le-leb, leb-true, fals
 use Rattle.std.proofs.lemmas.Bool.Decides.{leb_tells}
 use Rattle.std.proofs.lemmas.List.{map-append}
 use Rattle.kl1_model.specs.declared.operator.Operator.{Operator}
-use Rattle.kl1_model.specs.Limits.{most_operators}
+use Rattle.kl1_model.specs.declared.limits.TheConstants.{MOST_OPERATORS}
 use Rattle.kl1_model.specs.Term.{Term, variable, integer, atom, structure, Terms, none, more, terms_of, Replacement}
 use Rattle.kl1_model.specs.Meaning.{highest, highest_in}
 use Rattle.kl1_model.specs.code.Awaited.{awaited, all_awaited}
@@ -169,7 +169,7 @@ computed_up_to most (waits_for v) a = (a, tt)
 computed_up_to most wrong_type a = tt
 
 expression_up_to : (most : ℕ) (t : Term) → highest t ≤ most → EachUpTo most (awaited_by_evaluated (evaluated t))
-expression_up_to most t few = computed_up_to most (scan most_operators t) (scan_up_to most most_operators t few)
+expression_up_to most t few = computed_up_to most (scan MOST_OPERATORS t) (scan_up_to most MOST_OPERATORS t few)
 
 sides_up_to : (most : ℕ) (x y : Evaluated) → EachUpTo most (awaited_by_evaluated x) → EachUpTo most (awaited_by_evaluated y) → EachUpTo most (awaited_by_sides x y)
 sides_up_to most (awaits v) y a b = a

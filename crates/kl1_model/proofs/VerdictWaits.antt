@@ -10,7 +10,7 @@ use Rattle.kl1_model.specs.declared.comparison.Comparison.{Comparison}
 use Rattle.kl1_model.specs.declared.type_test.TypeTest.{TypeTest}
 use Rattle.kl1_model.specs.declared.number.Number.{Number}
 use Rattle.kl1_model.specs.declared.number.Number.TheVariants.{Value, Overflow, ZeroDivisor}
-use Rattle.kl1_model.specs.Limits.{most_operators}
+use Rattle.kl1_model.specs.declared.limits.TheConstants.{MOST_OPERATORS}
 use Rattle.kl1_model.specs.Term.{Term, variable, integer, atom, structure, Terms, none, more, terms_of, count_of, substituted, each_substituted, Replacement}
 use Rattle.kl1_model.specs.Meaning.{variables_of, variables_in, highest_in}
 use Rattle.kl1_model.specs.Module.{is_among, has_only}
@@ -251,7 +251,7 @@ test_own last (looks i t) a = look_own last i t a
 test_own last (is_same t u) a = same_own last t u (passive t u) refl a.0 a.1
 test_own last (is_other t u) a = other_own last t u (passive t u) refl a.0 a.1
 test_own last (compares c t u) a =
-    sides_own last c (evaluated t) (evaluated u) (computed_above last (scan most_operators t) (scan_above last most_operators t a.0)) (computed_above last (scan most_operators u) (scan_above last most_operators u a.1))
+    sides_own last c (evaluated t) (evaluated u) (computed_above last (scan MOST_OPERATORS t) (scan_above last MOST_OPERATORS t a.0)) (computed_above last (scan MOST_OPERATORS u) (scan_above last MOST_OPERATORS u a.1))
 
 not_below : (last v : ℕ) → suc last ≤ v → nat_le v last ≡ false
 not_below last v h = false_from_ne_true (nat_le v last) (λ e. let less = leb-true v last e in omega (arith, h, less))

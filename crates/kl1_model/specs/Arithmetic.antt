@@ -1,8 +1,7 @@
 -- Expressions of arithmetic: how a term is scanned, and what it comes to.
 use Rattle.std.specs.Prelude.{ℕ, suc, nat_lt, if◌then◌else◌, Bool, ℤ, pos, negsuc, ◌+ℤ◌, ◌-ℤ◌, ◌*ℤ◌, int_div, int_rem, List, [], ◌∷◌, codes, bytes_eq, find, Option, Some}
 use Rattle.std.specs.Ordering.{int_eq}
-pub use Rattle.kl1_model.specs.Limits.{most_operators}
-use Rattle.kl1_model.specs.Limits.{number_limit}
+use Rattle.kl1_model.specs.declared.limits.TheConstants.{MOST_OPERATORS, NUMBER_LIMIT}
 use Rattle.kl1_model.specs.declared.operator.Operator.{Operator}
 use Rattle.kl1_model.specs.declared.operator.Operator.TheVariants.{Plus, Minus, Times, Divide, Modulo}
 use Rattle.kl1_model.specs.declared.number.Number.{Number}
@@ -63,8 +62,8 @@ abbrev mutual
 
 -- whether an integer has 64 bits
 abbrev pub fits : ℤ → Bool
-fits (pos n) = nat_lt n number_limit
-fits (negsuc n) = nat_lt n number_limit
+fits (pos n) = nat_lt n NUMBER_LIMIT
+fits (negsuc n) = nat_lt n NUMBER_LIMIT
 
 -- a result, which has 64 bits or overflows
 abbrev pub fitted : ℤ → Number
@@ -110,4 +109,4 @@ computed wrong_type = is_no_expression
 
 -- what a term comes to as an expression, which has at most 64 operators
 abbrev pub evaluated : Term → Evaluated
-evaluated t = computed (scan most_operators t)
+evaluated t = computed (scan MOST_OPERATORS t)

@@ -1,6 +1,6 @@
 -- What is asked of an account, and the answers.
 use Rattle.std.specs.Prelude.{ℕ, ◌-◌, nat_le, ◌&&◌, if◌then◌else◌, List, [], ◌∷◌, ◌++◌, length, map, take, drop, codes, bytes_eq, decimal, Option, Some, None, option_and_then}
-use Rattle.kl1_model.specs.Limits.{most_listed}
+use Rattle.kl1_model.specs.declared.limits.TheConstants.{MOST_LISTED}
 use Rattle.kl1_model.specs.declared.life.Life.{Life}
 use Rattle.kl1_model.specs.declared.life.Life.TheVariants.{Living, Terminated, Aborted}
 use Rattle.kl1_model.specs.declared.condition.Condition.{Condition}
@@ -51,16 +51,16 @@ abbrev mutual
 -- for a shoen that the console started: its reports from number `from` on, counted from 1, each printed and cut; at most 64
 abbrev pub reports_of : State → ℕ → Option Origin → Transition
 reports_of s from None = refuse s no_shoen
-reports_of s from (Some o) = record { state = s; reply = listed (map cut_print (take most_listed (drop (from - 1) (elements_of o.reports)))) }
+reports_of s from (Some o) = record { state = s; reply = listed (map cut_print (take MOST_LISTED (drop (from - 1) (elements_of o.reports)))) }
 
 -- a module with how many bytes its source has, and how many clauses
 abbrev pub module_line : Module → List ℕ
 module_line m = atom_text m.name ++ codes " " ++ decimal (length m.source) ++ codes " " ++ decimal (length m.clauses)
 
--- the answer to a query, which changes nothing
-abbrev pub answer : State → Query → Transition
-answer s (value n) = if is_number n then value_of s (origin_at n s.shoens) else refuse s syntax
-answer s (status n) = if is_number n then status_of s (shoen_at n s.shoens) else refuse s syntax
-answer s (reports n from) = if is_number n && is_number from && nat_le 1 from then reports_of s from (origin_at n s.shoens) else refuse s syntax
-answer s modules = record { state = s; reply = listed (map module_line s.modules) }
-answer s is_quiet = record { state = s; reply = quiet_is (quiet s) }
+-- the reply to a query, which changes nothing
+abbrev pub reply_to : State → Query → Transition
+reply_to s (value n) = if is_number n then value_of s (origin_at n s.shoens) else refuse s syntax
+reply_to s (status n) = if is_number n then status_of s (shoen_at n s.shoens) else refuse s syntax
+reply_to s (reports n from) = if is_number n && is_number from && nat_le 1 from then reports_of s from (origin_at n s.shoens) else refuse s syntax
+reply_to s modules = record { state = s; reply = listed (map module_line s.modules) }
+reply_to s is_quiet = record { state = s; reply = quiet_is (quiet s) }

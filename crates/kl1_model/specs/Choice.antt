@@ -3,7 +3,7 @@ use Rattle.std.specs.Prelude.{ℕ, ◌==◌, nat_lt, not, ◌&&◌, ◌||◌, Bo
 use Rattle.std.specs.List.{list_any}
 use Rattle.kl1_model.specs.Match.{call_of, Call, candidates_of}
 use Rattle.kl1_model.specs.Module.{Module}
-use Rattle.kl1_model.specs.State.{Task, monitor, reduces, Goal, State}
+use Rattle.kl1_model.specs.State.{Task, monitor, reduces, substitutes, Goal, State}
 use Rattle.kl1_model.specs.Reduction.{action_of}
 
 -- the numbers of a call's candidates
@@ -15,6 +15,7 @@ call_clauses modules (Some call) = map (λ k. k.number) (candidates_of modules c
 abbrev pub task_clauses : List Module → Task → List ℕ
 task_clauses modules monitor = 0 ∷ []
 task_clauses modules (reduces t) = 0 ∷ call_clauses modules (call_of t)
+task_clauses modules (substitutes t) = 0 ∷ []
 
 -- the clause by which a goal can step: the least that is allowed
 abbrev pub clause_for : State → Goal → Option ℕ

@@ -1,7 +1,6 @@
 -- Events, replies and refusals.
 use Rattle.std.specs.Prelude.{ℕ, suc, nat_le, nat_lt, ◌&&◌, Bool, if◌then◌else◌, List, length}
-pub use Rattle.kl1_model.specs.Limits.{most_source_bytes, most_entries, most_line_bytes, most_priority, most_names}
-use Rattle.kl1_model.specs.Limits.{number_limit}
+use Rattle.kl1_model.specs.declared.limits.TheConstants.{MOST_SOURCE_BYTES, MOST_ENTRIES, MOST_LINE_BYTES, MOST_PRIORITY, MOST_NAMES, NUMBER_LIMIT}
 use Rattle.kl1_model.specs.declared.message.Message.{Message}
 use Rattle.kl1_model.specs.declared.condition.Condition.{Condition}
 use Rattle.kl1_model.specs.Term.{Term}
@@ -19,6 +18,7 @@ pub data Refusal : Type 0 where
   limit_passed : Refusal
   journal_full : Refusal
   sessions_refused : Refusal
+  answer_refused : Refusal
 
 -- what is asked of an account without a change: the goal of a shoen as started, with what is bound now; the state of a shoen; the
 -- reports of a shoen from one on, the first being 1; the modules; and whether no goal can step
@@ -30,8 +30,8 @@ pub data Query : Type 0 where
   is_quiet : Query
 
 -- what may be done to an account: a module loaded from its source; a goal started with an allowance and priorities from low to high;
--- a message sent to a shoen; a goal reduced by a clause's number, or by 0; a query; a session opened, and one closed; and the account
--- made fresh again, with its names and sessions
+-- a message sent to a shoen; a goal reduced by a clause's number, or by 0; a query; a session opened, and one closed; the account made
+-- fresh again, with its names and sessions; and a goal given as the answer to a report of a shoen, the first being 1
 pub data Event : Type 0 where
   load : List ℕ → Event
   start : ℕ → ℕ → ℕ → Term → Event
@@ -41,10 +41,11 @@ pub data Event : Type 0 where
   login : Event
   logout : Event
   reset : Event
+  answer : ℕ → ℕ → Term → Event
 
--- an answer: the name of the module loaded, the number of the shoen opened, a message sent, a reduction done, the steps done by
--- a run, the printed goal, a shoen's state with what it was charged, its allowance and its goals alive, a list of texts, whether no
--- goal can step, a session opened in the account of a name, a session closed, the account made fresh again, or a refusal
+-- a reply: the name of the module loaded, the number of the shoen opened, a message or an answer sent, a reduction done, the steps
+-- done by a run, the printed goal, a shoen's state with what it was charged, its allowance and its goals alive, a list of texts, whether
+-- no goal can step, a session opened in the account of a name, a session closed, the account made fresh again, or a refusal
 pub data Reply : Type 0 where
   loaded : List ℕ → Reply
   opened : ℕ → Reply
@@ -71,7 +72,7 @@ refuse s r = record { state = s; reply = refused r }
 
 -- a number that a command may have: below 2 ^ 63
 abbrev pub is_number : ℕ → Bool
-is_number n = nat_lt n number_limit
+is_number n = nat_lt n NUMBER_LIMIT
 
 -- one entry more is counted
 abbrev pub with_entry : State → State
@@ -79,11 +80,11 @@ with_entry s = record s { entries = suc s.entries }
 
 -- a change that is an entry of the journal: refused if the journal is full
 abbrev pub recorded : State → Transition → Transition
-recorded s after = if nat_lt s.entries most_entries then after else refuse s journal_full
+recorded s after = if nat_lt s.entries MOST_ENTRIES then after else refuse s journal_full
 
 -- a change after which these names are used: refused if they are too many
 abbrev pub named : State → List (List ℕ) → Transition → Transition
-named s names after = if nat_le (length names) most_names then after else refuse s too_many_names
+named s names after = if nat_le (length names) MOST_NAMES then after else refuse s too_many_names
 
 -- a change that keeps to the limits of an account, as a test tells: refused if it doesn't
 abbrev pub limited : State → Bool → Transition → Transition
@@ -91,4 +92,4 @@ limited s keeps after = if keeps then after else refuse s limit_passed
 
 -- whether priorities from low to high are a range
 abbrev pub is_range : ℕ → ℕ → Bool
-is_range low high = nat_le low high && nat_le high most_priority
+is_range low high = nat_le low high && nat_le high MOST_PRIORITY

@@ -1,4 +1,3 @@
-pub mod Limits
 pub mod Text
 pub mod Name
 pub mod Term
@@ -29,6 +28,7 @@ pub mod Reduction
 pub mod Choice
 pub mod Sending
 pub mod Asking
+pub mod Answering
 pub mod Step
 pub mod Line
 pub mod Record

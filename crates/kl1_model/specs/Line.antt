@@ -1,7 +1,7 @@
 -- Lines of a text, their words and their numbers.
 use Rattle.std.specs.Prelude.{ℕ, zero, suc, ◌==◌, nat_le, nat_lt, ◌&&◌, ◌||◌, Bool, true, false, if◌then◌else◌, List, [], ◌∷◌, ◌++◌, length, Option, Some, None}
 use Rattle.std.specs.List.{list_all}
-use Rattle.kl1_model.specs.Limits.{most_digits, number_limit}
+use Rattle.kl1_model.specs.declared.limits.TheConstants.{MOST_DIGITS, NUMBER_LIMIT}
 use Rattle.kl1_model.specs.Token.{is_digit, number_of}
 
 -- the bytes before the first line feed
@@ -64,7 +64,7 @@ is_blank_line line = list_all is_space line
 
 -- the number that a word is: digits, at least one and not too many, of a value below the limit of numbers
 abbrev pub number_in : List ℕ → Option ℕ
-number_in w = if nat_le 1 (length w) && nat_le (length w) most_digits && list_all is_digit w && nat_lt (number_of w) number_limit then Some (number_of w) else None
+number_in w = if nat_le 1 (length w) && nat_le (length w) MOST_DIGITS && list_all is_digit w && nat_lt (number_of w) NUMBER_LIMIT then Some (number_of w) else None
 
 -- a number, if it is at most `most`
 abbrev pub up_to : ℕ → Option ℕ → Option ℕ

@@ -1,7 +1,6 @@
 -- Built-in goals that look at terms: `atom_from` spells a name, and `shoen:execute` opens a shoen.
 use Rattle.std.specs.Prelude.{ℕ, suc, nat_le, ◌||◌, Bool, if◌then◌else◌, pos, List, [], ◌∷◌, codes, bytes_eq}
-pub use Rattle.kl1_model.specs.Limits.{most_spelled}
-use Rattle.kl1_model.specs.Limits.{most_priority}
+use Rattle.kl1_model.specs.declared.limits.TheConstants.{MOST_PRIORITY}
 use Rattle.kl1_model.specs.Text.{is_name_byte}
 use Rattle.kl1_model.specs.Term.{Term, variable, integer, atom, structure, none, more}
 
@@ -72,7 +71,7 @@ goal_look _ = wrong
 -- a priority: an integer from 0 to 4,095
 abbrev pub priority_look : Term → Look
 priority_look (variable v) = waits_on v
-priority_look (integer (pos n)) = right_if (nat_le n most_priority)
+priority_look (integer (pos n)) = right_if (nat_le n MOST_PRIORITY)
 priority_look _ = wrong
 
 -- an allowance: an integer from 0

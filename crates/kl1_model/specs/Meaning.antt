@@ -1,7 +1,6 @@
 -- The terms that trees mean, and what holds of a term that a text can write.
 use Rattle.std.specs.Prelude.{ℕ, suc, max, nat_le, nat_lt, ◌&&◌, Bool, true, if◌then◌else◌, ℤ, pos, negsuc, neg_ℤ, List, [], ◌∷◌, ◌++◌, codes, bytes_eq}
-pub use Rattle.kl1_model.specs.Limits.{most_depth, most_arguments}
-use Rattle.kl1_model.specs.Limits.{number_limit}
+use Rattle.kl1_model.specs.declared.limits.TheConstants.{MOST_DEPTH, MOST_ARGUMENTS, NUMBER_LIMIT}
 use Rattle.kl1_model.specs.Text.{is_text}
 use Rattle.kl1_model.specs.Term.{Term, variable, integer, atom, structure, Terms, none, more, count_of}
 use Rattle.kl1_model.specs.declared.relation.Relation.{Relation}
@@ -118,16 +117,16 @@ depth t = (depths t).whole
 
 -- an integer of 64 bits with sign
 abbrev pub is_word : ℤ → Bool
-is_word (pos n) = nat_lt n number_limit
-is_word (negsuc n) = nat_lt n number_limit
+is_word (pos n) = nat_lt n NUMBER_LIMIT
+is_word (negsuc n) = nat_lt n NUMBER_LIMIT
 
--- whether a term has names of at most 63 bytes, integers of 64 bits, and structures of 1 to 8 arguments
+-- whether a term has names of at most 127 bytes, integers of 64 bits, and structures of 1 to 8 arguments
 abbrev mutual
   pub is_narrow : Term → Bool
   is_narrow (variable n) = true
   is_narrow (integer i) = is_word i
   is_narrow (atom a) = is_text a
-  is_narrow (structure f ts) = is_text f && nat_le 1 (count_of ts) && nat_le (count_of ts) most_arguments && are_narrow ts
+  is_narrow (structure f ts) = is_text f && nat_le 1 (count_of ts) && nat_le (count_of ts) MOST_ARGUMENTS && are_narrow ts
 
   pub are_narrow : Terms → Bool
   are_narrow none = true
@@ -135,7 +134,7 @@ abbrev mutual
 
 -- whether a text can write the term
 abbrev pub is_writable : Term → Bool
-is_writable t = is_narrow t && nat_le (depth t) most_depth
+is_writable t = is_narrow t && nat_le (depth t) MOST_DEPTH
 
 -- the variables of a term as they stand in its text, each as often as it stands there
 abbrev mutual

@@ -1,8 +1,7 @@
 -- Modules and goals as texts mean them, and the line of the first bad item.
 use Rattle.std.specs.Prelude.{ℕ, suc, ◌==◌, nat_le, nat_lt, not, ◌&&◌, ◌||◌, Bool, true, false, if◌then◌else◌, List, [], ◌∷◌, ◌++◌, length, codes, bytes_eq, Option, Some, None, is_some, is_none, option_map, option_and_then, unwrap_or, map}
 use Rattle.std.specs.List.{list_any, list_all}
-pub use Rattle.kl1_model.specs.Limits.{most_clauses}
-use Rattle.kl1_model.specs.Limits.{most_priority}
+use Rattle.kl1_model.specs.declared.limits.TheConstants.{MOST_CLAUSES, MOST_PRIORITY}
 use Rattle.kl1_model.specs.declared.sign.Sign.TheVariants.{Neck}
 use Rattle.kl1_model.specs.Term.{Term, atom, Terms, none, list_of, count_of}
 use Rattle.kl1_model.specs.Token.{Token, name_token, sign_token, end_token, Placed, Tokens, tokens_of_text}
@@ -115,7 +114,7 @@ with_priority n t = record { goal = t; priority = Some n }
 
 -- whether a goal may name this priority: it is none that is built in
 abbrev pub may_name : ℕ → Term → Bool
-may_name n t = not (is_built_in_goal t) && nat_le n most_priority
+may_name n t = not (is_built_in_goal t) && nat_le n MOST_PRIORITY
 
 -- a goal of the body, in a module of this name
 abbrev pub fit_goal : List ℕ → GoalTree → Option BodyGoal
@@ -171,7 +170,7 @@ continues before c = unwrap_or (option_map (is_of c.name (count_of c.patterns)) 
 -- arguments stand together, and the one after an `otherwise` is of the same predicate as the one before it
 abbrev pub may_follow : List Clause → Bool → Clause → Bool
 may_follow before behind c =
-    nat_lt (length before) most_clauses && (continues before c || not behind && not (list_any (is_of c.name (count_of c.patterns)) before))
+    nat_lt (length before) MOST_CLAUSES && (continues before c || not behind && not (list_any (is_of c.name (count_of c.patterns)) before))
 
 -- the section of a clause that follows these: the last one's or, after an `otherwise`, the next; a predicate's first is 0
 abbrev pub section_after : List Clause → Bool → Clause → ℕ

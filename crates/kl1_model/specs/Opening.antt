@@ -1,6 +1,6 @@
 -- Starting a goal in a shoen of its own, and opening a shoen.
 use Rattle.std.specs.Prelude.{ℕ, suc, ◌+◌, ◌==◌, nat_le, nat_lt, min, max, ◌&&◌, Bool, false, if◌then◌else◌, List, [], ◌∷◌, ◌++◌, length, codes, decimal, Option, Some, None}
-use Rattle.kl1_model.specs.Limits.{monitor_priority, most_goals, most_variables, most_nodes, most_shoens, most_shoen_depth}
+use Rattle.kl1_model.specs.declared.limits.TheConstants.{MONITOR_PRIORITY, MOST_GOALS, MOST_VARIABLES, MOST_NODES, MOST_SHOENS, MOST_SHOEN_DEPTH, MOST_LINE_BYTES}
 use Rattle.kl1_model.specs.declared.life.Life.TheVariants.{Living}
 use Rattle.kl1_model.specs.Term.{Term, variable, substituted}
 use Rattle.kl1_model.specs.Print.{print}
@@ -10,7 +10,7 @@ use Rattle.kl1_model.specs.Nodes.{goal_nodes}
 use Rattle.kl1_model.specs.State.{monitor, reduces, Goal, Shoen, State, shoen_at, names_of, with_names}
 use Rattle.kl1_model.specs.Tree.{depth_of, goals_alive}
 use Rattle.kl1_model.specs.Look.{ExecuteArguments, number_of_term}
-use Rattle.kl1_model.specs.Event.{is_number, is_range, most_line_bytes}
+use Rattle.kl1_model.specs.Event.{is_number, is_range}
 use Rattle.kl1_model.specs.Report.{report, started_report, exhausted_report}
 
 -- the line of a journal for a start
@@ -21,12 +21,12 @@ start_line allowance low high t = codes "start " ++ decimal allowance ++ codes "
 abbrev pub may_start : ℕ → ℕ → ℕ → Term → Bool
 may_start allowance low high t =
     is_number allowance && is_range low high
-    && is_goal t && is_writable t && is_numbered t && nat_le (length (start_line allowance low high t)) most_line_bytes
+    && is_goal t && is_writable t && is_numbered t && nat_le (length (start_line allowance low high t)) MOST_LINE_BYTES
 
 -- the goals of a shoen that opens: its monitor with the next goal number, and its goal with the one after
 abbrev pub opening_goals : ℕ → Shoen → Term → List Goal
 opening_goals last h goal =
-    record { number = suc last; task = monitor; shoen = h.number; priority = monitor_priority }
+    record { number = suc last; task = monitor; shoen = h.number; priority = MONITOR_PRIORITY }
     ∷ record { number = suc (suc last); task = reduces goal; shoen = h.number; priority = h.high } ∷ []
 
 -- an account with one more shoen, with its monitor and its goal
@@ -70,8 +70,8 @@ started_shoen s allowance low high goal control tail =
 -- tails
 abbrev pub has_room_to_start : State → Term → Bool
 has_room_to_start s t =
-    nat_lt (goals_alive s) most_goals && nat_le (s.variables + suc (suc (highest t))) most_variables
-    && nat_le (s.nodes + goal_nodes t) most_nodes && nat_lt s.last_shoen most_shoens
+    nat_lt (goals_alive s) MOST_GOALS && nat_le (s.variables + suc (suc (highest t))) MOST_VARIABLES
+    && nat_le (s.nodes + goal_nodes t) MOST_NODES && nat_lt s.last_shoen MOST_SHOENS
 
 -- a start: the goal's names are used and its variables take the next numbers, then the control tail, then the report tail;
 -- then the shoen opens
@@ -116,7 +116,7 @@ child_shoen s parent o =
 
 -- whether a shoen may open a child, within the limits on shoens and depth
 abbrev pub has_room_for_child : State → ℕ → Bool
-has_room_for_child s parent = nat_lt s.last_shoen most_shoens && nat_lt (depth_of s.shoens parent) most_shoen_depth
+has_room_for_child s parent = nat_lt s.last_shoen MOST_SHOENS && nat_lt (depth_of s.shoens parent) MOST_SHOEN_DEPTH
 
 -- a child opened in a shoen
 abbrev pub open_child : State → ℕ → ExecuteArguments → State

@@ -1,7 +1,7 @@
 -- How terms are printed: whole, and cut.
 use Rattle.std.specs.Prelude.{ℕ, nat_le, ◌&&◌, Bool, true, false, if◌then◌else◌, List, [], ◌∷◌, ◌++◌, length, take, codes, bytes_eq, decimal, not}
 use Rattle.std.specs.Fmt.{signed_decimal}
-use Rattle.kl1_model.specs.Limits.{most_printed_bytes}
+use Rattle.kl1_model.specs.declared.limits.TheConstants.{MOST_PRINTED_BYTES}
 use Rattle.kl1_model.specs.declared.pair_form.PairForm.{PairForm}
 use Rattle.kl1_model.specs.declared.pair_form.PairForm.TheVariants.{Cell, Qualified, Call}
 use Rattle.kl1_model.specs.Name.{name_text, atom_text}
@@ -87,4 +87,4 @@ cut_text most text = if nat_le (length text) most then text else take most text 
 
 -- the text of a term in a reply: at most 4,000 bytes, and three dots if it is longer
 abbrev pub cut_print : Term → List ℕ
-cut_print t = cut_text most_printed_bytes (print t)
+cut_print t = cut_text MOST_PRINTED_BYTES (print t)

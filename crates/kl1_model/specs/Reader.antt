@@ -1,6 +1,6 @@
 -- The reader: from the tokens of an item to its tree.
 use Rattle.std.specs.Prelude.{ℕ, zero, suc, nat_lt, not, ◌&&◌, Bool, true, false, if◌then◌else◌, List, [], ◌∷◌, length, codes, bytes_eq, Option, Some, None, option_map, option_and_then}
-use Rattle.kl1_model.specs.Limits.{number_limit}
+use Rattle.kl1_model.specs.declared.limits.TheConstants.{NUMBER_LIMIT}
 use Rattle.kl1_model.specs.declared.sign.Sign.TheVariants.{Neck, Becomes, SameValue, OtherValue, NotOver, Differs, NotUnder, Colon, Equals, Under, Over, Plus, Star, Slash, At, Bar, Comma, Open, Close, OpenList, CloseList}
 use Rattle.kl1_model.specs.declared.relation.Relation.{Relation}
 use Rattle.kl1_model.specs.declared.relation.Relation.TheVariants.{Equal, NotEqual, Assign, Less, Greater, AtMost, AtLeast, SameNumber, OtherNumber}
@@ -139,7 +139,7 @@ negative_at _ = None
 -- a primary, if one is in front
 abbrev pub primary_at : Inner → List Numbered → Answer Primary
 primary_at inner (variable_token v ∷ ts) = Some (numbered v, ts)
-primary_at inner (digits_token n ∷ ts) = if nat_lt n number_limit then Some (positive n, ts) else None
+primary_at inner (digits_token n ∷ ts) = if nat_lt n NUMBER_LIMIT then Some (positive n, ts) else None
 primary_at inner (minus_token true ∷ ts) = negative_at ts
 primary_at inner (name_token a quotes false ∷ ts) = Some (constant a quotes, ts)
 primary_at inner (name_token f quotes true ∷ ts) = then_read (arguments_at inner ts) (λ s us. Some (call f quotes s, us))

@@ -1,6 +1,6 @@
 -- How the bytes of a script are cut into records.
 use Rattle.std.specs.Prelude.{ℕ, zero, suc, ◌==◌, nat_le, ◌&&◌, Bool, true, false, if◌then◌else◌, List, [], ◌∷◌, length, take, drop, codes, bytes_eq, Option, Some, None}
-use Rattle.kl1_model.specs.Limits.{most_command_bytes, most_source_bytes}
+use Rattle.kl1_model.specs.declared.limits.TheConstants.{MOST_COMMAND_BYTES, MOST_SOURCE_BYTES}
 use Rattle.kl1_model.specs.Line.{before_feed, behind_feed, without_return, line_in, before_space, behind_space, word_in, behind_word_in, is_blank_line, up_to, only_number}
 
 -- what is asked of an account: to load a source; that, with other bytes after the source, which is refused; or what another line says
@@ -25,7 +25,7 @@ record_first r rs = record { list = r ∷ rs.list; is_truncated = rs.is_truncate
 
 -- how many bytes of source follow a line, if it is a good load: the word `load` and one number
 abbrev pub source_bytes_in : List ℕ → Option ℕ
-source_bytes_in line = if nat_le (length line) most_command_bytes && bytes_eq (word_in line) (codes "load") then up_to most_source_bytes (only_number (behind_word_in line)) else None
+source_bytes_in line = if nat_le (length line) MOST_COMMAND_BYTES && bytes_eq (word_in line) (codes "load") then up_to MOST_SOURCE_BYTES (only_number (behind_word_in line)) else None
 
 -- a load of this source, before these bytes: nothing or one carriage return may stand before the next line feed
 abbrev pub load_before : List ℕ → List ℕ → Request

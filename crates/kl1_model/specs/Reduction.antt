@@ -1,7 +1,8 @@
 -- Reductions: what a goal can do, and what comes of it.
 use Rattle.std.specs.Prelude.{ℕ, suc, ◌+◌, ◌==◌, nat_le, min, ◌&&◌, Bool, true, false, if◌then◌else◌, List, [], ◌∷◌, ◌++◌, length, map, find, codes, bytes_eq, Option, Some, None, option_map}
-use Rattle.kl1_model.specs.Limits.{most_goals, most_variables, most_nodes, most_names, most_allowance}
-use Rattle.kl1_model.specs.Term.{Term, integer, atom, structure, none, more, Replacement}
+use Rattle.kl1_model.specs.declared.limits.TheConstants.{MOST_GOALS, MOST_VARIABLES, MOST_NODES, MOST_NAMES, MOST_ALLOWANCE}
+use Rattle.kl1_model.specs.Term.{Term, variable, integer, atom, structure, none, more, Replacement}
+use Rattle.kl1_model.specs.declared.rules.Rules.{Rules}
 use Rattle.kl1_model.specs.declared.number.Number.{Number}
 use Rattle.kl1_model.specs.declared.number.Number.TheVariants.{Value, Overflow, ZeroDivisor}
 use Rattle.kl1_model.specs.declared.message.Message.{Message}
@@ -13,20 +14,20 @@ use Rattle.kl1_model.specs.Nodes.{goals_nodes}
 use Rattle.kl1_model.specs.Module.{Clause, goals_of, Module}
 use Rattle.kl1_model.specs.Match.{Call, call_of, Candidate, candidates_of, fails}
 use Rattle.kl1_model.specs.Instance.{body_instance, body_priorities, fresh_variables}
-use Rattle.kl1_model.specs.Look.{Spelling, spelled, awaits_code, misspelled, spelling, most_spelled, Look, right, waits_on, wrong, ExecuteArguments, arguments_look}
+use Rattle.kl1_model.specs.Look.{Spelling, spelled, awaits_code, misspelled, spelling, Look, right, waits_on, wrong, goal_look, ExecuteArguments, arguments_look}
 use Rattle.kl1_model.specs.Control.{Control, awaits_message, tells, tells_other, ends, breaks_off, control_of}
-use Rattle.kl1_model.specs.State.{Task, monitor, reduces, Goal, Shoen, State, shoen_at, replace_all, change_shoen, without_goal, with_name}
+use Rattle.kl1_model.specs.State.{Task, monitor, reduces, substitutes, Goal, Shoen, State, has_substitutes, most_spelled, shoen_at, replace_all, change_shoen, without_goal, with_name}
 use Rattle.kl1_model.specs.Tree.{goals_alive, charge, is_enabled}
 use Rattle.kl1_model.specs.Event.{step_refused, reduced, Transition, refuse, with_entry, recorded}
 pub use Rattle.kl1_model.specs.Report.{failure, overflow, illegal_input, exhaustion}
-use Rattle.kl1_model.specs.Report.{report, exception, stopped_report, resumed_report}
+use Rattle.kl1_model.specs.Report.{report, is_reported, exception, exception_with, stopped_report, resumed_report}
 use Rattle.kl1_model.specs.Ending.{without_monitor, settle, after_reduction, abort}
 use Rattle.kl1_model.specs.Opening.{clipped_to, has_room_for_child, open_child}
 
 -- ---- what goals can do
 
 -- what a term can do as a goal: commit to a clause, raise an exception of a kind, unify two terms, use a text as a name and unify a
--- term with it, open a shoen, or succeed without effect, as `true` does
+-- term with it, open a shoen, succeed without effect, as `true` does, or, as a substitute, give way to a goal of the term that it waited for
 pub data Move : Type 0 where
   commits : Candidate → Move
   raises : List ℕ → Move
@@ -34,6 +35,7 @@ pub data Move : Type 0 where
   names : List ℕ → Term → Move
   opens : ExecuteArguments → Move
   goes : Move
+  gives_way : Move
 
 -- ---- a goal of a user's predicate
 
@@ -91,24 +93,32 @@ execute_move a b = None
 -- ---- built-in goals together: `true`, `=`, and those above
 
 -- what a built-in goal of two terms does
-abbrev pub pair_move : List ℕ → Term → Term → Option Move
-pair_move f a b =
+abbrev pub pair_move : Rules → List ℕ → Term → Term → Option Move
+pair_move rules f a b =
     if bytes_eq f (codes "=") then Some (unifies a b)
     else if bytes_eq f (codes ":=") then assigned a (evaluated b)
-    else if bytes_eq f (codes "atom_from") then spells b (spelling most_spelled a)
+    else if bytes_eq f (codes "atom_from") then spells b (spelling (most_spelled rules) a)
     else if bytes_eq f (codes ":") then execute_move a b
     else None
 
 -- what a built-in goal does
-abbrev pub built_in_move : Term → Option Move
-built_in_move (atom a) = if bytes_eq a (codes "true") then Some goes else None
-built_in_move (structure f (more a (more b none))) = pair_move f a b
-built_in_move t = None
+abbrev pub built_in_move : Rules → Term → Option Move
+built_in_move rules (atom a) = if bytes_eq a (codes "true") then Some goes else None
+built_in_move rules (structure f (more a (more b none))) = pair_move rules f a b
+built_in_move rules t = None
 
 -- what a term can do by the clause numbered `clause`; a built-in goal takes 0 alone
-abbrev pub term_move : List Module → Term → ℕ → Option Call → Option Move
-term_move modules t clause None = if clause == 0 then built_in_move t else None
-term_move modules t clause (Some call) = call_move modules call clause
+abbrev pub term_move : Rules → List Module → Term → ℕ → Option Call → Option Move
+term_move rules modules t clause None = if clause == 0 then built_in_move rules t else None
+term_move rules modules t clause (Some call) = call_move modules call clause
+
+-- ---- substitutes
+
+-- what a substitute does by the look at the term that it waits for, as at the goal of a new shoen
+abbrev pub substitute_move : Look → Option Move
+substitute_move right = Some gives_way
+substitute_move (waits_on v) = None
+substitute_move wrong = Some (raises illegal_input)
 
 -- ---- goals and monitors of an account
 
@@ -133,7 +143,8 @@ monitor_action (Some h) clause = if clause == 0 then read_action (control_of h.c
 -- what a goal of shoen `shoen` can do by its task and the clause numbered `clause`
 abbrev pub task_action : State → ℕ → Task → ℕ → Option Action
 task_action s shoen monitor clause = monitor_action (shoen_at shoen s.shoens) clause
-task_action s shoen (reduces t) clause = option_map (moves t) (term_move s.modules t clause (call_of t))
+task_action s shoen (reduces t) clause = option_map (moves t) (term_move s.rules s.modules t clause (call_of t))
+task_action s shoen (substitutes t) clause = if clause == 0 then option_map (moves t) (substitute_move (goal_look t)) else None
 
 -- what a goal can do by the clause numbered `clause`, or nothing if that isn't allowed
 abbrev pub action_of : State → Goal → ℕ → Option Action
@@ -155,8 +166,8 @@ goals_from last shoen (p ∷ ps) (t ∷ ts) = record { number = suc last; task =
 -- whether the body of a clause keeps to the limits on goals, variables and structures, in place of a goal that has been removed
 abbrev pub has_room_for : State → Clause → Bool
 has_room_for s c =
-    nat_le (goals_alive s + length c.body) most_goals && nat_le (s.variables + fresh_variables c) most_variables
-    && nat_le (s.nodes + goals_nodes (goals_of c.body)) most_nodes
+    nat_le (goals_alive s + length c.body) MOST_GOALS && nat_le (s.variables + fresh_variables c) MOST_VARIABLES
+    && nat_le (s.nodes + goals_nodes (goals_of c.body)) MOST_NODES
 
 -- a goal's place taken by the body of a clause
 abbrev pub committed : Goal → Candidate → State → State
@@ -170,34 +181,54 @@ committed g k s =
       nodes = s.nodes + goals_nodes (goals_of k.clause.body);
     }
 
--- ---- what comes of other moves
+-- ---- exceptions, and what comes of other moves
 
--- what a unification does: its replacements everywhere, or an exception
-abbrev pub unified : ℕ → Term → Option (List Replacement) → State → State
-unified n goal None s = report n (exception failure goal) s
-unified n goal (Some rs) s = replace_all rs s
+-- a goal's place taken by a goal of another task, which has the next number
+abbrev pub replaced_by : Goal → Task → State → State
+replaced_by g task s = record s {
+  goals = s.goals ++ record { number = suc s.last_goal; task = task; shoen = g.shoen; priority = g.priority } ∷ [];
+  last_goal = suc s.last_goal;
+}
+
+-- an exception of a kind of a goal of this term: its shoen reports it with the next variable, and a substitute for the goal waits for that
+abbrev pub substituted_by : Goal → List ℕ → Term → State → State
+substituted_by g kind t s =
+    let new = suc s.last_variable in
+    replaced_by g (substitutes (variable new)) (report g.shoen (exception_with kind t (variable new)) (record s { last_variable = new }))
+
+-- an exception of a kind of a goal of this term, which has been removed: its shoen reports it; if there are substitutes, one takes the
+-- place of the goal, unless the report is dropped
+abbrev pub raised : Goal → List ℕ → Term → State → State
+raised g kind t s =
+    if has_substitutes s.rules && is_reported g.shoen (exception kind t) s then substituted_by g kind t s else report g.shoen (exception kind t) s
+
+-- what a unification for a goal of this term does: its replacements everywhere, or an exception
+abbrev pub unified : Goal → Term → Option (List Replacement) → State → State
+unified g t None s = raised g failure t s
+unified g t (Some rs) s = replace_all rs s
 
 -- one equation
 abbrev pub equation : Term → Term → List Equation
 equation a b = record { left = a; right = b } ∷ []
 
 -- an effect that keeps to a limit, as a test tells, or the exception of a goal by which the limit would be passed
-abbrev pub or_exhaustion : Bool → ℕ → Term → State → State → State
-or_exhaustion true n goal after s = after
-or_exhaustion false n goal after s = report n (exception exhaustion goal) s
+abbrev pub or_exhaustion : Bool → Goal → Term → State → State → State
+or_exhaustion true g t after s = after
+or_exhaustion false g t after s = raised g exhaustion t s
 
 -- a text used as a name, which stays used even if the unification with a term fails
-abbrev pub named_by : ℕ → Term → List ℕ → Term → State → State
-named_by n goal text a s = unified n goal (mgu (equation a (atom text))) (record s { names = with_name s.names text })
+abbrev pub named_by : Goal → Term → List ℕ → Term → State → State
+named_by g t text a s = unified g t (mgu (equation a (atom text))) (record s { names = with_name s.names text })
 
 -- the effect of a move of a goal that has been removed
 abbrev pub moved : Goal → Term → Move → State → State
-moved g t (commits k) s = or_exhaustion (has_room_for s k.clause) g.shoen t (committed g k s) s
-moved g t (raises kind) s = report g.shoen (exception kind t) s
-moved g t (unifies a b) s = unified g.shoen t (mgu (equation a b)) s
-moved g t (names text a) s = or_exhaustion (nat_le (length (with_name s.names text)) most_names) g.shoen t (named_by g.shoen t text a s) s
-moved g t (opens o) s = or_exhaustion (has_room_for_child s g.shoen) g.shoen t (open_child s g.shoen o) s
+moved g t (commits k) s = or_exhaustion (has_room_for s k.clause) g t (committed g k s) s
+moved g t (raises kind) s = raised g kind t s
+moved g t (unifies a b) s = unified g t (mgu (equation a b)) s
+moved g t (names text a) s = or_exhaustion (nat_le (length (with_name s.names text)) MOST_NAMES) g t (named_by g t text a s) s
+moved g t (opens o) s = or_exhaustion (has_room_for_child s g.shoen) g t (open_child s g.shoen o) s
 moved g t goes s = s
+moved g t gives_way s = replaced_by g (reduces t) s
 
 -- ---- what comes of a message
 
@@ -213,7 +244,7 @@ resumed_of (Some h) n s = if h.is_stopped then report n resumed_report (change_s
 
 -- a shoen whose allowance grows by `extra`, up to the greatest there is
 abbrev pub allowed_more : ℕ → Shoen → Shoen
-allowed_more extra h = record h { allowance = min (h.allowance + extra) most_allowance }
+allowed_more extra h = record h { allowance = min (h.allowance + extra) MOST_ALLOWANCE }
 
 -- the effect of a message to a shoen
 abbrev pub obeyed : ℕ → Message → State → State

@@ -1,7 +1,7 @@
 -- Reports of a shoen, and the end of its report stream.
-use Rattle.std.specs.Prelude.{ℕ, suc, nat_lt, not, ◌||◌, true, if◌then◌else◌, List, [], ◌∷◌, codes, Option, Some, None}
-use Rattle.kl1_model.specs.Limits.{most_reports}
-use Rattle.kl1_model.specs.Term.{Term, variable, atom, occurs}
+use Rattle.std.specs.Prelude.{ℕ, suc, nat_lt, not, ◌&&◌, ◌||◌, Bool, true, false, if◌then◌else◌, List, [], ◌∷◌, codes, Option, Some, None}
+use Rattle.kl1_model.specs.declared.limits.TheConstants.{MOST_REPORTS}
+use Rattle.kl1_model.specs.Term.{Term, variable, atom, structure, none, more, occurs}
 use Rattle.kl1_model.specs.Meaning.{pair, nil, cell}
 use Rattle.kl1_model.specs.State.{Shoen, State, shoen_at, replace_in_state, change_shoen}
 
@@ -15,7 +15,7 @@ broken_at n s = change_shoen n (λ h. record h { is_broken = true }) s
 abbrev pub reported_at : ℕ → Term → Term → State → State
 reported_at n message (variable v) s =
     let next = suc s.last_variable in
-    if occurs v message || not (nat_lt s.reports most_reports) then broken_at n s
+    if occurs v message || not (nat_lt s.reports MOST_REPORTS) then broken_at n s
     else change_shoen n (λ h. record h { tail = variable next }) (record (replace_in_state v (cell message (variable next)) s) { last_variable = next; reports = suc s.reports })
 reported_at n message t s = broken_at n s
 
@@ -27,6 +27,20 @@ report_of (Some h) n message s = if h.is_broken then s else reported_at n messag
 -- a report of shoen `n`
 abbrev pub report : ℕ → Term → State → State
 report n message s = report_of (shoen_at n s.shoens) n message s
+
+-- whether a report is made on an unbroken stream with this tail by an account that has made this number of reports
+abbrev pub is_reported_at : Term → Term → ℕ → Bool
+is_reported_at message (variable v) made = not (occurs v message) && nat_lt made MOST_REPORTS
+is_reported_at message t made = false
+
+-- whether a report of a shoen is made
+abbrev pub is_reported_of : Option Shoen → Term → ℕ → Bool
+is_reported_of None message made = false
+is_reported_of (Some h) message made = not h.is_broken && is_reported_at message h.tail made
+
+-- whether a report of shoen `n` is made, and not dropped
+abbrev pub is_reported : ℕ → Term → State → Bool
+is_reported n message s = is_reported_of (shoen_at n s.shoens) message s.reports
 
 -- a report with this message of each of these shoens, in order
 abbrev pub report_each : List ℕ → Term → State → State
@@ -50,6 +64,10 @@ close n s = close_of (shoen_at n s.shoens) s
 -- an exception of a kind, with the goal
 abbrev pub exception : List ℕ → Term → Term
 exception kind goal = pair (codes "exception") (atom kind) goal
+
+-- an exception of a kind, with the goal, and with what a substitute waits for
+abbrev pub exception_with : List ℕ → Term → Term → Term
+exception_with kind goal new = structure (codes "exception") (more (atom kind) (more goal (more new none)))
 
 -- the kind of exception of a goal that fails and of a unification that does
 abbrev pub failure : List ℕ

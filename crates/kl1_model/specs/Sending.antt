@@ -1,6 +1,6 @@
 -- Messages from the console.
 use Rattle.std.specs.Prelude.{ℕ, suc, ◌+◌, nat_le, ◌&&◌, Bool, true, if◌then◌else◌, Option, Some, None, option_map}
-use Rattle.kl1_model.specs.Limits.{most_variables, most_nodes}
+use Rattle.kl1_model.specs.declared.limits.TheConstants.{MOST_VARIABLES, MOST_NODES}
 use Rattle.kl1_model.specs.declared.message.Message.{Message}
 use Rattle.kl1_model.specs.declared.message.Message.TheVariants.{Stop, Start, Abort, Allow}
 use Rattle.kl1_model.specs.Term.{Term, variable}
@@ -22,7 +22,7 @@ may_send n m = is_number n && is_message m
 
 -- whether a message stays within the limits on variables and structures
 abbrev pub has_room_to_send : State → Message → Bool
-has_room_to_send s m = nat_le (suc s.variables) most_variables && nat_le (s.nodes + message_nodes m) most_nodes
+has_room_to_send s m = nat_le (suc s.variables) MOST_VARIABLES && nat_le (s.nodes + message_nodes m) MOST_NODES
 
 -- what the console keeps, with this tail of the control stream
 abbrev pub origin_with : Term → Origin → Origin

@@ -3,14 +3,19 @@ use Rattle.std.specs.Prelude.{ℕ, ◌==◌, not, ◌||◌, Bool, true, false, i
 use Rattle.std.specs.List.{list_any}
 use Rattle.kl1_model.specs.declared.life.Life.{Life}
 use Rattle.kl1_model.specs.declared.life.Life.TheVariants.{Living, Terminated, Aborted}
+use Rattle.kl1_model.specs.declared.rules.Rules.{Rules}
+use Rattle.kl1_model.specs.declared.rules.Rules.TheVariants.{One, Two, Three}
+use Rattle.kl1_model.specs.declared.limits.TheConstants.{MOST_NAME_BYTES, MOST_SPELLED_BEFORE}
 use Rattle.kl1_model.specs.Text.{is_built_in}
 use Rattle.kl1_model.specs.Term.{Term, variable, integer, atom, structure, Terms, none, more, terms_of, replace, Replacement}
 use Rattle.kl1_model.specs.Module.{Clause, goals_of, Module}
 
--- what a goal does: it reads its shoen's control stream, or it is a term to be reduced
+-- what a goal does: it reads its shoen's control stream; or it is a term to be reduced; or it is a substitute for a goal that raised an
+-- exception, and waits for this term to be a goal
 pub data Task : Type 0 where
   monitor : Task
   reduces : Term → Task
+  substitutes : Term → Task
 
 -- a goal: its number, its task, the number of its shoen, and its priority
 pub record Goal : Type 0 where
@@ -42,12 +47,13 @@ pub record Shoen : Type 0 where
   pub is_broken : Bool
   pub origin : Option Origin
 
--- an account: its own name; its goals and shoens in order of their numbers; its modules in order of loading; for each reduction that was
--- charged, the number of its goal's shoen; the names it has used, in order of first use; the last number of a variable, a goal and
--- a shoen; how many variables and structures its starts, messages from the console and commits had, how many reports it made, how
--- many entries its journal has, and how many sessions are open
+-- an account: its own name, and the rules that it keeps to; its goals and shoens in order of their numbers; its
+-- modules in order of loading; for each reduction that was charged, the number of its goal's shoen; the names it has used, in order of first use; the last number of a
+-- variable, a goal and a shoen; how many variables and structures its starts, messages and answers from the console and commits had,
+-- how many reports it made, how many entries its journal has, and how many sessions are open
 pub record State : Type 0 where
   pub own_name : List ℕ
+  pub rules : Rules
   pub goals : List Goal
   pub shoens : List Shoen
   pub work : List ℕ
@@ -62,10 +68,23 @@ pub record State : Type 0 where
   pub entries : ℕ
   pub sessions : ℕ
 
--- an account of this name in which nothing has happened
-abbrev pub fresh : List ℕ → State
-fresh name = record {
+-- whether a substitute waits in place of a goal that raises an exception
+abbrev pub has_substitutes : Rules → Bool
+has_substitutes One = false
+has_substitutes Two = true
+has_substitutes Three = true
+
+-- the greatest number of codes from which `atom_from` makes a name
+abbrev pub most_spelled : Rules → ℕ
+most_spelled One = MOST_SPELLED_BEFORE
+most_spelled Two = MOST_SPELLED_BEFORE
+most_spelled Three = MOST_NAME_BYTES
+
+-- an account of this name, which keeps to these rules, in which nothing has happened
+abbrev pub fresh : Rules → List ℕ → State
+fresh rules name = record {
   own_name = name;
+  rules = rules;
   goals = [];
   shoens = [];
   work = [];
@@ -81,9 +100,10 @@ fresh name = record {
   sessions = 0;
 }
 
--- an account of this name in which nothing has happened but that it has used these names, with this number of open sessions
-abbrev pub fresh_with : List ℕ → List (List ℕ) → ℕ → State
-fresh_with name names sessions = record (fresh name) { names = names; sessions = sessions }
+-- an account of this name, which keeps to these rules, in which nothing has happened but that it has used these names, with this number
+-- of open sessions
+abbrev pub fresh_with : Rules → List ℕ → List (List ℕ) → ℕ → State
+fresh_with rules name names sessions = record (fresh rules name) { names = names; sessions = sessions }
 
 -- the goal with number `n`
 abbrev pub goal_at : ℕ → List Goal → Option Goal
@@ -97,6 +117,7 @@ shoen_at n shoens = find (λ h. h.number == n) shoens
 abbrev pub replace_in_task : ℕ → Term → Task → Task
 replace_in_task v t monitor = monitor
 replace_in_task v t (reduces u) = reduces (replace v t u)
+replace_in_task v t (substitutes u) = substitutes (replace v t u)
 
 -- one variable replaced in a goal
 abbrev pub replace_in_goal : ℕ → Term → Goal → Goal
@@ -166,6 +187,7 @@ with_names names (a ∷ others) = with_names (with_name names a) others
 abbrev pub is_monitor : Task → Bool
 is_monitor monitor = true
 is_monitor (reduces t) = false
+is_monitor (substitutes t) = false
 
 -- whether a shoen lives
 abbrev pub is_living : Life → Bool

@@ -1,7 +1,7 @@
 -- Names: their bytes, and the names that are built in.
 use Rattle.std.specs.Prelude.{ℕ, nat_le, ◌&&◌, Bool, List, [], ◌∷◌, length, codes, bytes_eq}
 use Rattle.std.specs.List.{list_all, list_any}
-pub use Rattle.kl1_model.specs.Limits.{most_name_bytes}
+use Rattle.kl1_model.specs.declared.limits.TheConstants.{MOST_NAME_BYTES}
 use Rattle.kl1_model.specs.declared.built_in.BuiltIn.{BuiltIn}
 use Rattle.kl1_model.specs.declared.built_in.BuiltIn.TheVariants.{EmptyList, ListCell, Colon, Equal, NotEqual, Assign, Less, Greater, AtMost, AtLeast, SameNumber, OtherNumber, Plus, Minus, Times, Divide, Modulo, True, Otherwise, Wait, Integer, Atom, ListTest, AtomFrom, Shoen, Execute, Module, Priority, Started, Stopped, Resumed, Exhausted, Exception, Terminated, Aborted, Failure, Overflow, IllegalInput, Exhaustion, Stop, Start, Abort, Allow}
 
@@ -9,9 +9,9 @@ use Rattle.kl1_model.specs.declared.built_in.BuiltIn.TheVariants.{EmptyList, Lis
 abbrev pub is_name_byte : ℕ → Bool
 is_name_byte b = nat_le 32 b && nat_le b 126
 
--- a name: at most 63 bytes of printable ASCII; no bytes at all is a name too
+-- a name: at most 127 bytes of printable ASCII; no bytes at all is a name too
 abbrev pub is_text : List ℕ → Bool
-is_text bs = nat_le (length bs) most_name_bytes && list_all is_name_byte bs
+is_text bs = nat_le (length bs) MOST_NAME_BYTES && list_all is_name_byte bs
 
 -- the bytes of each built-in name
 abbrev pub text_of : BuiltIn → List ℕ

@@ -1,7 +1,7 @@
 -- Tokens: how a text is cut into names, variables, numbers and signs, with the lines on which they stand.
 use Rattle.std.specs.Prelude.{ℕ, zero, suc, ◌+◌, ◌-◌, ◌*◌, ◌==◌, nat_le, nat_eq, ◌&&◌, ◌||◌, Bool, true, false, if◌then◌else◌, List, [], ◌∷◌, ◌++◌, length, drop, codes, Option, Some, None, find, fold}
 use Rattle.std.specs.List.{starts_with}
-use Rattle.kl1_model.specs.Limits.{most_name_bytes, number_limit}
+use Rattle.kl1_model.specs.declared.limits.TheConstants.{MOST_NAME_BYTES, MOST_VARIABLE_BYTES, NUMBER_LIMIT}
 use Rattle.kl1_model.specs.declared.sign.Sign.{Sign}
 use Rattle.kl1_model.specs.declared.sign.Sign.TheVariants.{Neck, Becomes, SameValue, OtherValue, NotOver, Differs, NotUnder, Colon, Equals, Under, Over, Plus, Star, Slash, At, Bar, Comma, Open, Close, OpenList, CloseList}
 use Rattle.kl1_model.specs.Text.{is_name_byte}
@@ -117,13 +117,13 @@ abbrev pub first_is : (ℕ → Bool) → List ℕ → Bool
 first_is test [] = false
 first_is test (b ∷ bs) = test b
 
--- this token, or no token if its spelling has more than 63 bytes
-abbrev pub bounded : List ℕ → Token (List ℕ) → List ℕ → Front
-bounded text t rest = if nat_le (length text) most_name_bytes then token t rest else broken
+-- this token, or no token if its spelling has more than `most` bytes
+abbrev pub bounded : ℕ → List ℕ → Token (List ℕ) → List ℕ → Front
+bounded most text t rest = if nat_le (length text) most then token t rest else broken
 
 -- a name, with what is after it
 abbrev pub name_front : Bool → List ℕ → List ℕ → Front
-name_front quotes text rest = bounded text (name_token text quotes (first_is (λ b. b == 40) rest)) rest
+name_front quotes text rest = bounded MOST_NAME_BYTES text (name_token text quotes (first_is (λ b. b == 40) rest)) rest
 
 -- a name in quotes, if a quote ends it
 abbrev pub quoted_front : Option (List ℕ × List ℕ) → Front
@@ -132,7 +132,7 @@ quoted_front (Some q) = name_front true q.0 q.1
 
 -- digits are at most 2 ^ 63, which only a negative integer reaches
 abbrev pub digits_front : ℕ → List ℕ → Front
-digits_front n rest = if nat_le n number_limit then token (digits_token n) rest else broken
+digits_front n rest = if nat_le n NUMBER_LIMIT then token (digits_token n) rest else broken
 
 -- a comment, if it holds no byte that no text may hold
 abbrev pub comment_front : Option (List ℕ) → Front
@@ -182,7 +182,7 @@ front_by ends_line b bs = line_end bs
 front_by blanks b bs = blank bs
 front_by comments b bs = comment_front (behind_comment bs)
 front_by names b bs = name_front false (b ∷ word_of bs) (behind_word bs)
-front_by variables b bs = bounded (b ∷ word_of bs) (variable_token (b ∷ word_of bs)) (behind_word bs)
+front_by variables b bs = bounded MOST_VARIABLE_BYTES (b ∷ word_of bs) (variable_token (b ∷ word_of bs)) (behind_word bs)
 front_by numbers b bs = digits_front (number_of (b ∷ digits_of bs)) (behind_digits bs)
 front_by quotes b bs = quoted_front (quoted_from false [] bs)
 front_by dots b bs = dot_front bs

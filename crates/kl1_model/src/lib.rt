@@ -11,6 +11,7 @@ mod number;
 mod operator;
 mod pair_form;
 mod relation;
+mod rules;
 mod sign;
 mod type_test;
 
@@ -23,5 +24,6 @@ pub use number::Number;
 pub use operator::Operator;
 pub use pair_form::PairForm;
 pub use relation::Relation;
+pub use rules::Rules;
 pub use sign::Sign;
 pub use type_test::TypeTest;

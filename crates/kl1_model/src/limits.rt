@@ -1,7 +1,10 @@
-//! Each number of the language and of the server, once, with its unit. `specs/Limits.antt` states them for contracts.
+//! Each number of the language and of the server, once, with its unit.
 
 /// The most bytes of a name.
-pub const MOST_NAME_BYTES: usize = 63;
+pub const MOST_NAME_BYTES: usize = 127;
+
+/// The most bytes of a variable's name in a text.
+pub const MOST_VARIABLE_BYTES: usize = 63;
 
 /// The most arguments of a structure.
 pub const MOST_ARGUMENTS: usize = 8;
@@ -49,7 +52,7 @@ pub const MOST_PRINTED_BYTES: usize = 4_000;
 pub const MOST_ACCOUNT_NAME_BYTES: usize = 16;
 
 /// The most accounts of a script, of a server and of a table of names.
-pub const MOST_ACCOUNTS: usize = 16;
+pub const MOST_ACCOUNTS: usize = 32;
 
 /// The most bytes of a script, and of a journal's text that is replayed.
 pub const MOST_SCRIPT_BYTES: usize = 16_777_216;
@@ -96,5 +99,5 @@ pub const MOST_LISTED: usize = 64;
 /// The greatest allowance of a shoen, in reductions.
 pub const MOST_ALLOWANCE: u64 = (1 << 63) - 1;
 
-/// The most codes from which `atom_from` makes a name.
-pub const MOST_SPELLED: usize = 63;
+/// The most codes from which `atom_from` makes a name by the first and the second rules.
+pub const MOST_SPELLED_BEFORE: usize = 63;

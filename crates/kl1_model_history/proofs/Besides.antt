@@ -1,29 +1,28 @@
 -- What an event does is the same for whatever own name and sessions.
-use Rattle.std.proofs.Common.{◌≡◌, ℕ, suc, ◌+◌, ◌==◌, ◌||◌, not, ◌&&◌, Bool, true, false, if◌then◌else◌, List, [], ◌∷◌, ◌++◌, refl, sym, ap, ap₂, ◌∙◌, subst}
-use Rattle.std.specs.Prelude.{nat_lt, nat_le, map, filter, length, Option, Some, None, is_some}
-use Rattle.kl1_model.specs.Limits.{most_reports, most_modules, most_names, most_entries, most_source_bytes}
-use Rattle.kl1_model.specs.declared.life.Life.TheVariants.{Terminated, Aborted}
+use Rattle.std.proofs.Common.{◌≡◌, ℕ, suc, ◌+◌, ◌==◌, ◌||◌, not, ◌&&◌, Bool, true, false, if◌then◌else◌, List, [], ◌∷◌, refl, ap, ◌∙◌}
+use Rattle.std.specs.Prelude.{nat_lt, nat_le, length, Option, Some, None, is_some}
+use Rattle.kl1_model.specs.declared.limits.TheConstants.{MOST_REPORTS, MOST_MODULES, MOST_NAMES, MOST_ENTRIES, MOST_SOURCE_BYTES}
 use Rattle.kl1_model.specs.declared.message.Message.{Message}
 use Rattle.kl1_model.specs.declared.message.Message.TheVariants.{Stop, Start, Abort, Allow}
 use Rattle.kl1_model.specs.Term.{Term, variable, integer, atom, structure, Replacement, occurs}
-use Rattle.kl1_model.specs.Meaning.{nil, cell, highest}
+use Rattle.kl1_model.specs.Meaning.{cell, highest}
 use Rattle.kl1_model.specs.Nodes.{goal_nodes}
 use Rattle.kl1_model.specs.Unify.{mgu}
 use Rattle.kl1_model.specs.Module.{Module, Reading, good, bad, read_module}
 use Rattle.kl1_model.specs.Match.{module_of}
-use Rattle.kl1_model.specs.State.{State, Goal, Task, monitor, reduces, Shoen, Origin, goal_at, shoen_at, names_of, names_of_module, with_name, with_names, replace_in_state, replace_all, change_shoen, is_living, without_goal}
+use Rattle.kl1_model.specs.State.{State, Goal, substitutes, has_substitutes, Shoen, Origin, goal_at, shoen_at, names_of, names_of_module, with_name, with_names, replace_in_state, replace_all, change_shoen, is_living, without_goal}
 use Rattle.kl1_model.specs.Tree.{path, charge}
-use Rattle.kl1_model.specs.Control.{Control, awaits_message, tells, tells_other, ends, breaks_off, message_term, message_nodes}
-use Rattle.kl1_model.specs.Report.{broken_at, reported_at, report_of, report, report_each, closed_at, close_of, close, exception, failure, overflow, illegal_input, exhaustion, started_report, stopped_report, resumed_report, exhausted_report, terminated_report, aborted_report}
+use Rattle.kl1_model.specs.Control.{Control, awaits_message, tells, tells_other, ends, breaks_off}
+use Rattle.kl1_model.specs.Report.{broken_at, reported_at, report_of, report, is_reported, report_each, closed_at, close_of, close, exception, exception_with, failure, illegal_input, exhaustion, started_report, stopped_report, resumed_report, exhausted_report, terminated_report, aborted_report}
 use Rattle.kl1_model.specs.Ending.{ends_now, ended_at, ending_of, without_monitor, terminate, terminate_each, settle, newly_exhausted, after_reduction, ended_below, abort}
 use Rattle.kl1_model.specs.Opening.{may_start, has_room_to_start, with_shoen, open_shoen, with_next_variables, started_shoen, start_goal, child_shoen, has_room_for_child, open_child}
-use Rattle.kl1_model.specs.Reduction.{Move, commits, raises, unifies, names, opens, goes, Action, moves, reads, action_of, has_room_for, committed, unified, equation, or_exhaustion, named_by, moved, stopped_of, resumed_of, allowed_more, obeyed, with_control, heard, acted, reduced_by, reduce_goal}
+use Rattle.kl1_model.specs.Reduction.{Move, commits, raises, unifies, names, opens, goes, gives_way, Action, moves, reads, action_of, has_room_for, committed, replaced_by, substituted_by, raised, unified, equation, or_exhaustion, named_by, moved, stopped_of, resumed_of, obeyed, with_control, heard, acted, reduced_by, reduce_goal}
 use Rattle.kl1_model.specs.Sending.{may_send, has_room_to_send, sent_on, send_by, send_to}
-use Rattle.kl1_model.specs.Event.{Refusal, syntax, source, exists, no_shoen, shoen_ended, step_refused, too_many_names, limit_passed, journal_full, Query, value, status, reports, modules, is_quiet, Event, load, start, control, reduce, read, Reply, loaded, opened, sent, reduced, Transition, refuse, is_number, with_entry, recorded}
-use Rattle.kl1_model.specs.Asking.{origin_at, value_of, status_of, reports_of, answer}
+use Rattle.kl1_model.specs.Event.{Refusal, syntax, exists, shoen_ended, too_many_names, limit_passed, journal_full, start, Reply, loaded, opened, sent, reduced, Transition, refuse, is_number, with_entry, recorded}
+use Rattle.kl1_model.specs.Answering.{may_answer, has_room_to_answer, unanswered_at, answer_by, answer_in, answer_to}
 use Rattle.kl1_model.specs.Step.{with_module, load_module, step}
 use Rattle.kl1_model_history.specs.laws.HistoryLaws.{beside, stepped_beside, StaysBeside}
-use Rattle.kl1_model_history.specs.Journal.{Entry, loads, starts, sends, steps}
+use Rattle.kl1_model_history.specs.Journal.{loads, starts, sends, steps, answers}
 
 -- either of two
 either : (c : Bool) (name : List ℕ) (n : ℕ) (a b s t : State) → a ≡ beside name n s → b ≡ beside name n t → (if c then a else b) ≡ beside name n (if c then s else t)
@@ -42,7 +41,7 @@ reported : (k : ℕ) (m t : Term) (name : List ℕ) (n : ℕ) (s : State) → re
 reported k m (variable v) name n s =
     let next = suc s.last_variable in
     let change : State → State = λ z. change_shoen k (λ h. record h { tail = variable next }) (record (replace_in_state v (cell m (variable next)) z) { last_variable = next; reports = suc z.reports }) in
-    either (occurs v m || not (nat_lt s.reports most_reports)) name n (broken_at k (beside name n s)) (change (beside name n s)) (broken_at k s) (change s) refl refl
+    either (occurs v m || not (nat_lt s.reports MOST_REPORTS)) name n (broken_at k (beside name n s)) (change (beside name n s)) (broken_at k s) (change s) refl refl
 reported k m (integer i) name n s = refl
 reported k m (atom a) name n s = refl
 reported k m (structure f ts) name n s = refl
@@ -111,24 +110,36 @@ open_beside h goal name n s =
     either (h.allowance == 0) name n (report h.number exhausted_report (report h.number started_report (with_shoen h goal (beside name n s)))) (report h.number started_report (with_shoen h goal (beside name n s))) (report h.number exhausted_report opened) opened
     (ap (report h.number exhausted_report) one ∙ report_beside h.number exhausted_report name n opened) one
 
-unified_beside : (k : ℕ) (goal : Term) (o : Option (List Replacement)) (name : List ℕ) (n : ℕ) (s : State) → unified k goal o (beside name n s) ≡ beside name n (unified k goal o s)
-unified_beside k goal None name n s = report_beside k (exception failure goal) name n s
-unified_beside k goal (Some rs) name n s = replaced rs name n s
+substituted_beside : (g : Goal) (kind : List ℕ) (t : Term) (name : List ℕ) (n : ℕ) (s : State) → substituted_by g kind t (beside name n s) ≡ beside name n (substituted_by g kind t s)
+substituted_beside g kind t name n s =
+    let new = suc s.last_variable in
+    ap (replaced_by g (substitutes (variable new))) (report_beside g.shoen (exception_with kind t (variable new)) name n (record s { last_variable = new }))
 
-exhausted_or : (c : Bool) (k : ℕ) (goal : Term) (name : List ℕ) (n : ℕ) (a t s : State) → a ≡ beside name n t → or_exhaustion c k goal a (beside name n s) ≡ beside name n (or_exhaustion c k goal t s)
-exhausted_or true k goal name n a t s e = e
-exhausted_or false k goal name n a t s e = report_beside k (exception exhaustion goal) name n s
+raised_beside : (g : Goal) (kind : List ℕ) (t : Term) (name : List ℕ) (n : ℕ) (s : State) → raised g kind t (beside name n s) ≡ beside name n (raised g kind t s)
+raised_beside g kind t name n s =
+    let told = exception kind t in
+    either (has_substitutes s.rules && is_reported g.shoen told s) name n (substituted_by g kind t (beside name n s)) (report g.shoen told (beside name n s)) (substituted_by g kind t s) (report g.shoen told s)
+    (substituted_beside g kind t name n s) (report_beside g.shoen told name n s)
+
+unified_beside : (g : Goal) (t : Term) (o : Option (List Replacement)) (name : List ℕ) (n : ℕ) (s : State) → unified g t o (beside name n s) ≡ beside name n (unified g t o s)
+unified_beside g t None name n s = raised_beside g failure t name n s
+unified_beside g t (Some rs) name n s = replaced rs name n s
+
+exhausted_or : (c : Bool) (g : Goal) (goal : Term) (name : List ℕ) (n : ℕ) (a t s : State) → a ≡ beside name n t → or_exhaustion c g goal a (beside name n s) ≡ beside name n (or_exhaustion c g goal t s)
+exhausted_or true g goal name n a t s e = e
+exhausted_or false g goal name n a t s e = raised_beside g exhaustion goal name n s
 
 moved_beside : (g : Goal) (t : Term) (m : Move) (name : List ℕ) (n : ℕ) (s : State) → moved g t m (beside name n s) ≡ beside name n (moved g t m s)
-moved_beside g t (commits k) name n s = exhausted_or (has_room_for s k.clause) g.shoen t name n (committed g k (beside name n s)) (committed g k s) s refl
-moved_beside g t (raises kind) name n s = report_beside g.shoen (exception kind t) name n s
-moved_beside g t (unifies a b) name n s = unified_beside g.shoen t (mgu (equation a b)) name n s
+moved_beside g t (commits k) name n s = exhausted_or (has_room_for s k.clause) g t name n (committed g k (beside name n s)) (committed g k s) s refl
+moved_beside g t (raises kind) name n s = raised_beside g kind t name n s
+moved_beside g t (unifies a b) name n s = unified_beside g t (mgu (equation a b)) name n s
 moved_beside g t (names text a) name n s =
-    exhausted_or (nat_le (length (with_name s.names text)) most_names) g.shoen t name n (named_by g.shoen t text a (beside name n s)) (named_by g.shoen t text a s) s
-    (unified_beside g.shoen t (mgu (equation a (atom text))) name n (record s { names = with_name s.names text }))
+    exhausted_or (nat_le (length (with_name s.names text)) MOST_NAMES) g t name n (named_by g t text a (beside name n s)) (named_by g t text a s) s
+    (unified_beside g t (mgu (equation a (atom text))) name n (record s { names = with_name s.names text }))
 moved_beside g t (opens o) name n s =
-    exhausted_or (has_room_for_child s g.shoen) g.shoen t name n (open_child (beside name n s) g.shoen o) (open_child s g.shoen o) s (open_beside (child_shoen s g.shoen o) o.goal name n s)
+    exhausted_or (has_room_for_child s g.shoen) g t name n (open_child (beside name n s) g.shoen o) (open_child s g.shoen o) s (open_beside (child_shoen s g.shoen o) o.goal name n s)
 moved_beside g t goes name n s = refl
+moved_beside g t gives_way name n s = refl
 
 stopped_beside : (o : Option Shoen) (k : ℕ) (name : List ℕ) (n : ℕ) (s : State) → stopped_of o k (beside name n s) ≡ beside name n (stopped_of o k s)
 stopped_beside None k name n s = refl
@@ -176,23 +187,23 @@ done : (name : List ℕ) (n : ℕ) (a t : State) (r : Reply) → a ≡ beside na
 done name n a t r e = ap (λ z. let x : Transition = record { state = z; reply = r } in x) e
 
 recorded_beside : (s : State) (a x : Transition) (name : List ℕ) (n : ℕ) → a ≡ stepped_beside name n x → recorded (beside name n s) a ≡ stepped_beside name n (recorded s x)
-recorded_beside s a x name n e = refused_or (nat_lt s.entries most_entries) journal_full name n a x s e
+recorded_beside s a x name n e = refused_or (nat_lt s.entries MOST_ENTRIES) journal_full name n a x s e
 
 load_beside : (r : Reading Module) (name : List ℕ) (n : ℕ) (s : State) → load_module (beside name n s) r ≡ stepped_beside name n (load_module s r)
 load_beside (bad line) name n s = refl
 load_beside (good m) name n s =
     let x : Transition = record { state = with_entry (with_module s m); reply = loaded m.name } in
     let y = recorded s x in
-    let z = if nat_lt (length s.modules) most_modules then y else refuse s limit_passed in
-    let w = if nat_le (length (with_names s.names (names_of_module m))) most_names then z else refuse s too_many_names in
+    let z = if nat_lt (length s.modules) MOST_MODULES then y else refuse s limit_passed in
+    let w = if nat_le (length (with_names s.names (names_of_module m))) MOST_NAMES then z else refuse s too_many_names in
     let b = beside name n s in
     let xb : Transition = record { state = with_entry (with_module b m); reply = loaded m.name } in
     let yb = recorded b xb in
-    let zb = if nat_lt (length s.modules) most_modules then yb else refuse b limit_passed in
-    let wb = if nat_le (length (with_names s.names (names_of_module m))) most_names then zb else refuse b too_many_names in
+    let zb = if nat_lt (length s.modules) MOST_MODULES then yb else refuse b limit_passed in
+    let wb = if nat_le (length (with_names s.names (names_of_module m))) MOST_NAMES then zb else refuse b too_many_names in
     either_stepped (is_some (module_of s.modules m.name)) name n (refuse b exists) wb (refuse s exists) w refl
-    (refused_or (nat_le (length (with_names s.names (names_of_module m))) most_names) too_many_names name n zb z s
-    (refused_or (nat_lt (length s.modules) most_modules) limit_passed name n yb y s (recorded_beside s xb x name n refl)))
+    (refused_or (nat_le (length (with_names s.names (names_of_module m))) MOST_NAMES) too_many_names name n zb z s
+    (refused_or (nat_lt (length s.modules) MOST_MODULES) limit_passed name n yb y s (recorded_beside s xb x name n refl)))
 
 start_beside : (allowance low high : ℕ) (t : Term) (name : List ℕ) (n : ℕ) (s : State) → start_goal (beside name n s) allowance low high t ≡ beside name n (start_goal s allowance low high t)
 start_beside allowance low high t name n s =
@@ -215,10 +226,10 @@ starting_beside allowance low high t name n s =
     let yb = recorded b xb in
     let z = if has_room_to_start s t then y else refuse s limit_passed in
     let zb = if has_room_to_start s t then yb else refuse b limit_passed in
-    let w = if nat_le (length (with_names s.names (names_of t))) most_names then z else refuse s too_many_names in
-    let wb = if nat_le (length (with_names s.names (names_of t))) most_names then zb else refuse b too_many_names in
+    let w = if nat_le (length (with_names s.names (names_of t))) MOST_NAMES then z else refuse s too_many_names in
+    let wb = if nat_le (length (with_names s.names (names_of t))) MOST_NAMES then zb else refuse b too_many_names in
     refused_or (may_start allowance low high t) syntax name n wb w s
-    (refused_or (nat_le (length (with_names s.names (names_of t))) most_names) too_many_names name n zb z s
+    (refused_or (nat_le (length (with_names s.names (names_of t))) MOST_NAMES) too_many_names name n zb z s
     (refused_or (has_room_to_start s t) limit_passed name n yb y s
     (recorded_beside s xb x name n (done name n (with_entry (start_goal b allowance low high t)) (with_entry (start_goal s allowance low high t)) (opened (suc s.last_shoen)) (ap with_entry (start_beside allowance low high t name n s))))))
 
@@ -251,8 +262,33 @@ reduce_beside : (clause : ℕ) (g : Option Goal) (name : List ℕ) (n : ℕ) (s 
 reduce_beside clause None name n s = refl
 reduce_beside clause (Some g) name n s = reduced_by_beside g (action_of s g clause) name n s
 
+answer_by_beside : (t : Term) (o : Option ℕ) (name : List ℕ) (n : ℕ) (s : State) → answer_by (beside name n s) t o ≡ stepped_beside name n (answer_by s t o)
+answer_by_beside t None name n s = refl
+answer_by_beside t (Some v) name n s = refl
+
+answer_in_beside : (report : ℕ) (t : Term) (h : Shoen) (o : Option Origin) (name : List ℕ) (n : ℕ) (s : State) → answer_in (beside name n s) report t h o ≡ stepped_beside name n (answer_in s report t h o)
+answer_in_beside report t h None name n s = refl
+answer_in_beside report t h (Some o) name n s =
+    let b = beside name n s in
+    let x = answer_by s t (unanswered_at o.reports report) in
+    let xb = answer_by b t (unanswered_at o.reports report) in
+    let y = recorded s x in
+    let yb = recorded b xb in
+    let z = if has_room_to_answer s t then y else refuse s limit_passed in
+    let zb = if has_room_to_answer s t then yb else refuse b limit_passed in
+    let w = if nat_le (length (with_names s.names (names_of t))) MOST_NAMES then z else refuse s too_many_names in
+    let wb = if nat_le (length (with_names s.names (names_of t))) MOST_NAMES then zb else refuse b too_many_names in
+    refused_or (is_living h.life) shoen_ended name n wb w s
+    (refused_or (nat_le (length (with_names s.names (names_of t))) MOST_NAMES) too_many_names name n zb z s
+    (refused_or (has_room_to_answer s t) limit_passed name n yb y s (recorded_beside s xb x name n (answer_by_beside t (unanswered_at o.reports report) name n s))))
+
+answer_beside : (report : ℕ) (t : Term) (o : Option Shoen) (name : List ℕ) (n : ℕ) (s : State) → answer_to (beside name n s) report t o ≡ stepped_beside name n (answer_to s report t o)
+answer_beside report t None name n s = refl
+answer_beside report t (Some h) name n s = answer_in_beside report t h h.origin name n s
+
 pub stays_beside : StaysBeside
-stays_beside name n s (loads text) = refused_or (nat_le (length text) most_source_bytes) syntax name n (load_module (beside name n s) (read_module text)) (load_module s (read_module text)) s (load_beside (read_module text) name n s)
+stays_beside name n s (loads text) = refused_or (nat_le (length text) MOST_SOURCE_BYTES) syntax name n (load_module (beside name n s) (read_module text)) (load_module s (read_module text)) s (load_beside (read_module text) name n s)
 stays_beside name n s (starts allowance low high t) = starting_beside allowance low high t name n s
 stays_beside name n s (sends k m) = refused_or (may_send k m) syntax name n (send_to (beside name n s) k m (shoen_at k s.shoens)) (send_to s k m (shoen_at k s.shoens)) s (send_beside k m (shoen_at k s.shoens) name n s)
 stays_beside name n s (steps goal clause) = refused_or (is_number goal && is_number clause) syntax name n (reduce_goal (beside name n s) clause (goal_at goal s.goals)) (reduce_goal s clause (goal_at goal s.goals)) s (reduce_beside clause (goal_at goal s.goals) name n s)
+stays_beside name n s (answers k report t) = refused_or (has_substitutes s.rules && may_answer k report t) syntax name n (answer_to (beside name n s) report t (shoen_at k s.shoens)) (answer_to s report t (shoen_at k s.shoens)) s (answer_beside report t (shoen_at k s.shoens) name n s)

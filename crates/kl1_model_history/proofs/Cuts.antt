@@ -1,8 +1,8 @@
 -- The cut of a stream doesn't depend on where it comes in pieces.
-use Rattle.std.proofs.Common.{◌≡◌, ℕ, zero, suc, ◌+◌, ◌<◌, ◌≤◌, ◌⊎◌, inl, inr, Bool, true, false, List, [], ◌∷◌, ◌++◌, length, take, drop, min, codes, decimal, Option, Some, None, refl, ap, sym, ◌∙◌, arith, append_assoc, length-append, length-take, length-drop}
+use Rattle.std.proofs.Common.{◌≡◌, ℕ, zero, suc, ◌+◌, ◌<◌, ◌≤◌, ◌⊎◌, inl, inr, Bool, true, false, List, [], ◌∷◌, ◌++◌, length, take, drop, codes, decimal, Option, Some, None, refl, ap, sym, ◌∙◌, arith, append_assoc, length-append, length-take, length-drop}
 use Rattle.std.proofs.lemmas.List.{append-nil, take_all, take-take, take-append-le, drop-append-le, drop-take}
 use Rattle.std.proofs.lemmas.Bool.{true≢false, cases_lt, ne_eqb}
-use Rattle.kl1_model.specs.Limits.{most_command_bytes, most_source_bytes}
+use Rattle.kl1_model.specs.declared.limits.TheConstants.{MOST_COMMAND_BYTES, MOST_SOURCE_BYTES}
 use Rattle.kl1_model.specs.Line.{before_feed, behind_feed, without_return, line_in}
 use Rattle.kl1_model.specs.Record.{spoiled_load, other_line, load_before, source_bytes_in}
 use Rattle.kl1_model_history.specs.Cut.{has_feed, Cut, request_first, only_rest, unfinished_line, unfinished_load, line_request, load_request, load_cut, line_cut, cut_within, cut_of}
@@ -58,7 +58,7 @@ cut_at a b h =
     cut_line (a ++ 10 ∷ b) (feed_at a b h) ∙ by_line ∙ ap (λ x. line_cut cut_of (without_return a) x (source_bytes_in (without_return a))) (behind_at a b h)
 
 -- a kept load goes on as the load did
-pub cut_load : (n : ℕ) (bytes : List ℕ) → n ≤ most_source_bytes → cut_of (codes "load " ++ decimal n ++ 10 ∷ bytes) ≡ load_cut cut_of n bytes
+pub cut_load : (n : ℕ) (bytes : List ℕ) → n ≤ MOST_SOURCE_BYTES → cut_of (codes "load " ++ decimal n ++ 10 ∷ bytes) ≡ load_cut cut_of n bytes
 cut_load n bytes h =
     let text : List ℕ = codes "load " ++ decimal n ++ 10 ∷ bytes in
     cut_line text (load_feed n bytes h) ∙ ap (λ x. line_cut cut_of x (behind_feed text) (source_bytes_in x)) (load_line n bytes h) ∙ ap (λ x. line_cut cut_of (codes "load " ++ decimal n) x (source_bytes_in (codes "load " ++ decimal n))) (load_behind n bytes h) ∙ ap (λ x. line_cut cut_of (codes "load " ++ decimal n) bytes x) (source_of_load n h)
@@ -81,10 +81,10 @@ load_spoiled text behind h =
     rw (ne_eqb (length (without_return behind)) 0 (λ e. omega (arith, some, e))) refl
 
 -- a line that is too long
-pub long_line : (f : List ℕ → Cut) (a b : List ℕ) → most_command_bytes + 2 ≤ length a → line_cut f (without_return a) b (source_bytes_in (without_return a)) ≡ request_first (other_line (take (most_command_bytes + 1) a)) (f b)
+pub long_line : (f : List ℕ → Cut) (a b : List ℕ) → MOST_COMMAND_BYTES + 2 ≤ length a → line_cut f (without_return a) b (source_bytes_in (without_return a)) ≡ request_first (other_line (take (MOST_COMMAND_BYTES + 1) a)) (f b)
 long_line f a b h =
-    let long : most_command_bytes < length (without_return a) = omega (arith, return_length a) in
-    let front : take (most_command_bytes + 1) (without_return a) ≡ take (most_command_bytes + 1) a = return_front (most_command_bytes + 1) a (omega (arith, h)) in
+    let long : MOST_COMMAND_BYTES < length (without_return a) = omega (arith, return_length a) in
+    let front : take (MOST_COMMAND_BYTES + 1) (without_return a) ≡ take (MOST_COMMAND_BYTES + 1) a = return_front (MOST_COMMAND_BYTES + 1) a (omega (arith, h)) in
     ap (λ x. line_cut f (without_return a) b x) (source_too_long (without_return a) long) ∙ ap (λ x. request_first (other_line x) (f b)) front
 
 -- the front of a text whose front was taken before
@@ -98,28 +98,28 @@ regrouped : (p a b : List ℕ) → p ++ (a ++ 10 ∷ b) ≡ (p ++ a) ++ 10 ∷ b
 regrouped p a b = sym (append_assoc p a (10 ∷ b))
 
 -- a long line and then a line feed
-long_at : (p a b : List ℕ) → has_feed p ≡ false → has_feed a ≡ false → most_command_bytes + 2 ≤ length p → cut_of (p ++ (a ++ 10 ∷ b)) ≡ request_first (other_line (take (most_command_bytes + 1) p)) (cut_of b)
+long_at : (p a b : List ℕ) → has_feed p ≡ false → has_feed a ≡ false → MOST_COMMAND_BYTES + 2 ≤ length p → cut_of (p ++ (a ++ 10 ∷ b)) ≡ request_first (other_line (take (MOST_COMMAND_BYTES + 1) p)) (cut_of b)
 long_at p a b h k many =
     let none : has_feed (p ++ a) ≡ false = feed_append p a h ∙ k in
-    let long : most_command_bytes + 2 ≤ length (p ++ a) = omega (arith, length-append p a) in
-    ap cut_of (regrouped p a b) ∙ cut_at (p ++ a) b none ∙ long_line cut_of (p ++ a) b long ∙ ap (λ x. request_first (other_line x) (cut_of b)) (take-append-le (most_command_bytes + 1) p a (omega (arith, many)))
+    let long : MOST_COMMAND_BYTES + 2 ≤ length (p ++ a) = omega (arith, length-append p a) in
+    ap cut_of (regrouped p a b) ∙ cut_at (p ++ a) b none ∙ long_line cut_of (p ++ a) b long ∙ ap (λ x. request_first (other_line x) (cut_of b)) (take-append-le (MOST_COMMAND_BYTES + 1) p a (omega (arith, many)))
 
 -- a long line that is kept goes on as it would have
-long_goes_on : (p q : List ℕ) → has_feed p ≡ false → most_command_bytes + 2 ≤ length p → (has_feed q ≡ false) ⊎ Fed q → cut_of (p ++ q) ≡ cut_of (unfinished_line p ++ q)
+long_goes_on : (p q : List ℕ) → has_feed p ≡ false → MOST_COMMAND_BYTES + 2 ≤ length p → (has_feed q ≡ false) ⊎ Fed q → cut_of (p ++ q) ≡ cut_of (unfinished_line p ++ q)
 long_goes_on p q h many (inl none) =
     let whole : has_feed (p ++ q) ≡ false = feed_append p q h ∙ none in
-    let cut : has_feed (unfinished_line p ++ q) ≡ false = feed_append (unfinished_line p) q (feed_front (most_command_bytes + 2) p h) ∙ none in
-    cut_waits (p ++ q) whole ∙ ap only_rest (sym (take_front (most_command_bytes + 2) p q)) ∙ sym (cut_waits (unfinished_line p ++ q) cut)
+    let cut : has_feed (unfinished_line p ++ q) ≡ false = feed_append (unfinished_line p) q (feed_front (MOST_COMMAND_BYTES + 2) p h) ∙ none in
+    cut_waits (p ++ q) whole ∙ ap only_rest (sym (take_front (MOST_COMMAND_BYTES + 2) p q)) ∙ sym (cut_waits (unfinished_line p ++ q) cut)
 long_goes_on p q h many (inr f) =
-    let kept : has_feed (unfinished_line p) ≡ false = feed_front (most_command_bytes + 2) p h in
-    let long : most_command_bytes + 2 ≤ length (unfinished_line p) = omega (arith, length-take (most_command_bytes + 2) p, many) in
-    let same : take (most_command_bytes + 1) p ≡ take (most_command_bytes + 1) (unfinished_line p) = sym (take-take (most_command_bytes + 1) (most_command_bytes + 2) p (omega arith)) in
+    let kept : has_feed (unfinished_line p) ≡ false = feed_front (MOST_COMMAND_BYTES + 2) p h in
+    let long : MOST_COMMAND_BYTES + 2 ≤ length (unfinished_line p) = omega (arith, length-take (MOST_COMMAND_BYTES + 2) p, many) in
+    let same : take (MOST_COMMAND_BYTES + 1) p ≡ take (MOST_COMMAND_BYTES + 1) (unfinished_line p) = sym (take-take (MOST_COMMAND_BYTES + 1) (MOST_COMMAND_BYTES + 2) p (omega arith)) in
     ap (λ x. cut_of (p ++ x)) f.is ∙ long_at p f.line f.behind h f.none many ∙ ap (λ x. request_first (other_line x) (cut_of f.behind)) same ∙ sym (long_at (unfinished_line p) f.line f.behind kept f.none long) ∙ ap (λ x. cut_of (unfinished_line p ++ x)) (sym f.is)
 
 -- an unfinished line that is kept goes on as it would have
 pub line_goes_on : (p q : List ℕ) → has_feed p ≡ false → cut_of (p ++ q) ≡ cut_of (unfinished_line p ++ q)
-line_goes_on p q h = elim (cases_lt (length p) (most_command_bytes + 2)) [
-  | inl few ↦ ap (λ x. cut_of (x ++ q)) (sym (take_all (most_command_bytes + 2) p (omega arith)))
+line_goes_on p q h = elim (cases_lt (length p) (MOST_COMMAND_BYTES + 2)) [
+  | inl few ↦ ap (λ x. cut_of (x ++ q)) (sym (take_all (MOST_COMMAND_BYTES + 2) p (omega arith)))
   | inr many ↦ long_goes_on p q h many (fed_or q)
 ]
 
@@ -151,7 +151,7 @@ load_goes_on f n p q h = elim (cases_lt (length p) (n + 2)) [
 ]
 
 -- after the line of a load, for texts of which shorter ones cut anywhere
-load_after : (n : ℕ) (p q : List ℕ) → n ≤ most_source_bytes → (has_feed (drop n p) ≡ false) ⊎ Fed (drop n p) → ((bs : List ℕ) → length bs ≤ length p → cut_of (bs ++ q) ≡ cut_after (cut_of bs) q) → load_cut cut_of n (p ++ q) ≡ cut_after (load_cut cut_of n p) q
+load_after : (n : ℕ) (p q : List ℕ) → n ≤ MOST_SOURCE_BYTES → (has_feed (drop n p) ≡ false) ⊎ Fed (drop n p) → ((bs : List ℕ) → length bs ≤ length p → cut_of (bs ++ q) ≡ cut_after (cut_of bs) q) → load_cut cut_of n (p ++ q) ≡ cut_after (load_cut cut_of n p) q
 load_after n p q few (inl none) next =
     let again : cut_of (unfinished_load n p ++ q) ≡ load_cut cut_of n (take (n + 2) p ++ q) = ap cut_of (append_assoc (codes "load " ++ decimal n) (10 ∷ take (n + 2) p) q) ∙ cut_load n (take (n + 2) p ++ q) few in
     load_goes_on cut_of n p q none ∙ sym again ∙ ap (λ c. cut_after c q) (sym (load_waits cut_of n p none))

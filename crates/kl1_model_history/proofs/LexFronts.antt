@@ -5,7 +5,7 @@ use Rattle.std.proofs.Common.{refl, ap, sym, ◌∙◌, arith}
 use Rattle.std.proofs.lemmas.Bool.{and_parts, le-leb, eqb-true}
 use Rattle.std.proofs.lemmas.List.{append_assoc, append-nil}
 use Rattle.std.proofs.lemmas.Fmt.{length-decimal-le}
-use Rattle.kl1_model.specs.Limits.{most_name_bytes, number_limit}
+use Rattle.kl1_model.specs.declared.limits.TheConstants.{MOST_NAME_BYTES, MOST_VARIABLE_BYTES, NUMBER_LIMIT}
 use Rattle.kl1_model.specs.declared.sign.Sign.TheVariants.{Colon}
 use Rattle.kl1_model.specs.Text.{is_name_byte, is_text}
 use Rattle.kl1_model.specs.Name.{is_small_letter, is_word_byte, is_bare, doubled, quoted, name_text}
@@ -56,10 +56,10 @@ pub record Calm (bs : List ℕ) : Type 0 where
   pub no_open : first_is (λ b. b == 40) bs ≡ false
 
 -- the front of a name that isn't too long
-short_front : (quotes : Bool) (text rest : List ℕ) → nat_le (length text) most_name_bytes ≡ true → name_front quotes text rest ≡ token (name_token text quotes (first_is (λ b. b == 40) rest)) rest
+short_front : (quotes : Bool) (text rest : List ℕ) → nat_le (length text) MOST_NAME_BYTES ≡ true → name_front quotes text rest ≡ token (name_token text quotes (first_is (λ b. b == 40) rest)) rest
 short_front quotes text rest short = ap (λ x. if x then token (name_token text quotes (first_is (λ b. b == 40) rest)) rest else broken) short
 
-bare_front : (f rest : List ℕ) → is_bare f ≡ true → nat_le (length f) most_name_bytes ≡ true → first_is is_word_byte rest ≡ false → front_of (f ++ rest) ≡ token (name_token f false (first_is (λ b. b == 40) rest)) rest
+bare_front : (f rest : List ℕ) → is_bare f ≡ true → nat_le (length f) MOST_NAME_BYTES ≡ true → first_is is_word_byte rest ≡ false → front_of (f ++ rest) ≡ token (name_token f false (first_is (λ b. b == 40) rest)) rest
 bare_front [] rest bare short none = cc
 bare_front (b ∷ bs) rest bare short none =
     let both = and_parts (is_small_letter b) (list_all is_word_byte bs) bare in
@@ -90,7 +90,7 @@ doubled_ends (b ∷ bs) text rest all none =
     ∙ doubled_ends bs (text ++ b ∷ []) rest both.1 none
     ∙ ap (λ x. Some (x, rest)) (append_assoc text (b ∷ []) bs)
 
-quoted_name_front : (f rest : List ℕ) → list_all is_name_byte f ≡ true → nat_le (length f) most_name_bytes ≡ true → first_is (λ b. b == 39) rest ≡ false → front_of (quoted f ++ rest) ≡ token (name_token f true (first_is (λ b. b == 40) rest)) rest
+quoted_name_front : (f rest : List ℕ) → list_all is_name_byte f ≡ true → nat_le (length f) MOST_NAME_BYTES ≡ true → first_is (λ b. b == 39) rest ≡ false → front_of (quoted f ++ rest) ≡ token (name_token f true (first_is (λ b. b == 40) rest)) rest
 quoted_name_front f rest all short none =
     ap (λ x. front_of (39 ∷ x)) (append_assoc (doubled f) (39 ∷ []) rest)
     ∙ ap quoted_front (doubled_ends f [] rest all none)
@@ -98,9 +98,9 @@ quoted_name_front f rest all short none =
 
 -- a name with its quotes, if it needs them
 name_front_by : (x : Bool) (f rest : List ℕ) → is_bare f ≡ x → is_text f ≡ true → first_is is_word_byte rest ≡ false → first_is (λ b. b == 39) rest ≡ false → front_of ((if x then f else quoted f) ++ rest) ≡ token (name_token f (not x) (first_is (λ b. b == 40) rest)) rest
-name_front_by true f rest is fine no_word no_quote = bare_front f rest is (and_parts (nat_le (length f) most_name_bytes) (list_all is_name_byte f) fine).0 no_word
+name_front_by true f rest is fine no_word no_quote = bare_front f rest is (and_parts (nat_le (length f) MOST_NAME_BYTES) (list_all is_name_byte f) fine).0 no_word
 name_front_by false f rest is fine no_word no_quote =
-    let both = and_parts (nat_le (length f) most_name_bytes) (list_all is_name_byte f) fine in
+    let both = and_parts (nat_le (length f) MOST_NAME_BYTES) (list_all is_name_byte f) fine in
     quoted_name_front f rest both.1 both.0 no_quote
 
 -- a name before arguments
@@ -115,7 +115,7 @@ lexes_name f rest ts fine calm behind =
     behind
 
 -- digits that write a number
-digits_in_front : (n : ℕ) (ds rest : List ℕ) → Writes n ds → nat_le n number_limit ≡ true → first_is is_digit rest ≡ false → front_of (ds ++ rest) ≡ token (digits_token n) rest
+digits_in_front : (n : ℕ) (ds rest : List ℕ) → Writes n ds → nat_le n NUMBER_LIMIT ≡ true → first_is is_digit rest ≡ false → front_of (ds ++ rest) ≡ token (digits_token n) rest
 digits_in_front n [] rest writes few none = absurd (omega (arith, writes.some))
 digits_in_front n (d ∷ ds) rest writes few none =
     let both = and_parts (is_digit d) (list_all is_digit ds) writes.digits in
@@ -126,28 +126,28 @@ digits_in_front n (d ∷ ds) rest writes few none =
     ∙ ap (λ x. if x then token (digits_token n) rest else broken) few
 
 -- a number of at most number_limit
-pub lexes_digits : (n : ℕ) (rest : List ℕ) (ts : List Numbered) → n ≤ number_limit → first_is is_digit rest ≡ false → Lexes rest ts → Lexes (decimal n ++ rest) (digits_token n ∷ ts)
+pub lexes_digits : (n : ℕ) (rest : List ℕ) (ts : List Numbered) → n ≤ NUMBER_LIMIT → first_is is_digit rest ≡ false → Lexes rest ts → Lexes (decimal n ++ rest) (digits_token n ∷ ts)
 lexes_digits n rest ts few none behind =
-    lexes_token (digits_token n) (digits_in_front n (decimal n) rest (decimal_writes n (omega arith)) (le-leb n number_limit few) none) behind
+    lexes_token (digits_token n) (digits_in_front n (decimal n) rest (decimal_writes n (omega arith)) (le-leb n NUMBER_LIMIT few) none) behind
 
 first_digit : (n : ℕ) (ds rest : List ℕ) → Writes n ds → first_is is_digit (ds ++ rest) ≡ true
 first_digit n [] rest writes = absurd (omega (arith, writes.some))
 first_digit n (d ∷ ds) rest writes = (and_parts (is_digit d) (list_all is_digit ds) writes.digits).0
 
 -- a number of at most number_limit after a `-`
-pub lexes_negative : (n : ℕ) (rest : List ℕ) (ts : List Numbered) → n ≤ number_limit → first_is is_digit rest ≡ false → Lexes rest ts → Lexes (45 ∷ (decimal n ++ rest)) (minus_token true ∷ digits_token n ∷ ts)
+pub lexes_negative : (n : ℕ) (rest : List ℕ) (ts : List Numbered) → n ≤ NUMBER_LIMIT → first_is is_digit rest ≡ false → Lexes rest ts → Lexes (45 ∷ (decimal n ++ rest)) (minus_token true ∷ digits_token n ∷ ts)
 lexes_negative n rest ts few none behind =
     lexes_token (minus_token true) (ap (λ x. token (minus_token x) (decimal n ++ rest)) (first_digit n (decimal n) rest (decimal_writes n (omega arith)))) (lexes_digits n rest ts few none behind)
 
 -- a variable
-pub lexes_variable : (v : ℕ) (rest : List ℕ) (ts : List Numbered) → v < number_limit → first_is is_word_byte rest ≡ false → Lexes rest ts → Lexes (spelling v ++ rest) (variable_token v ∷ ts)
+pub lexes_variable : (v : ℕ) (rest : List ℕ) (ts : List Numbered) → v < NUMBER_LIMIT → first_is is_word_byte rest ≡ false → Lexes rest ts → Lexes (spelling v ++ rest) (variable_token v ∷ ts)
 lexes_variable v rest ts few none behind =
     let words = digits_are_words (decimal v) (decimal_writes v (omega arith)).digits in
     let short = length-decimal-le 20 v (omega arith) (omega arith) (omega arith) in
     lexes_token (variable_token v)
-    (ap (λ w. bounded (95 ∷ w) (variable_token (95 ∷ w)) (behind_word (decimal v ++ rest))) (word_stops (decimal v) rest words none)
-    ∙ ap (λ w. bounded (spelling v) (variable_token (spelling v)) w) (behind_word_is (decimal v) rest words none)
-    ∙ ap (λ x. if x then token (variable_token (spelling v)) rest else broken) (le-leb (length (spelling v)) most_name_bytes (omega (arith, short))))
+    (ap (λ w. bounded MOST_VARIABLE_BYTES (95 ∷ w) (variable_token (95 ∷ w)) (behind_word (decimal v ++ rest))) (word_stops (decimal v) rest words none)
+    ∙ ap (λ w. bounded MOST_VARIABLE_BYTES (spelling v) (variable_token (spelling v)) w) (behind_word_is (decimal v) rest words none)
+    ∙ ap (λ x. if x then token (variable_token (spelling v)) rest else broken) (le-leb (length (spelling v)) MOST_VARIABLE_BYTES (omega (arith, short))))
     behind
 
 -- a colon before what begins with neither `-` nor `=`

@@ -1,4 +1,5 @@
 pub mod Besides
+pub mod RulesKept
 pub mod Replays
 pub mod LexFronts
 pub mod LexWords

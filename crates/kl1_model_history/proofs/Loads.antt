@@ -5,7 +5,7 @@ use Rattle.std.specs.List.{list_all, list_any}
 use Rattle.std.proofs.lemmas.List.{append-nil}
 use Rattle.std.proofs.lemmas.Bool.{true≢false, and_parts, and_from, le-leb, lt-ltb, leb-true, ltb-true, eqb-true, ne_eqb}
 use Rattle.std.proofs.lemmas.Fmt.{decimal_by_steps, length-decimal-le}
-use Rattle.kl1_model.specs.Limits.{most_command_bytes, most_source_bytes, most_digits, number_limit}
+use Rattle.kl1_model.specs.declared.limits.TheConstants.{MOST_COMMAND_BYTES, MOST_SOURCE_BYTES, MOST_DIGITS, NUMBER_LIMIT}
 use Rattle.kl1_model.specs.Token.{is_digit, number_of}
 use Rattle.kl1_model.specs.Line.{is_space, first_word, behind_first, word_in, behind_word_in, number_in, up_to, only_number, without_return, line_in, behind_feed}
 use Rattle.kl1_model.specs.Record.{source_bytes_in}
@@ -100,25 +100,25 @@ decimal_writes = decimal_by_steps Writes one_digit more_digits
 load_words : (ds : List ℕ) → list_all is_digit ds ≡ true → only_number (32 ∷ ds) ≡ number_in ds
 load_words ds h = rw (behind_of_digits ds h, word_of_digits ds h) refl
 
-number_of_decimal : (n : ℕ) → n ≤ most_source_bytes → number_in (decimal n) ≡ Some n
+number_of_decimal : (n : ℕ) → n ≤ MOST_SOURCE_BYTES → number_in (decimal n) ≡ Some n
 number_of_decimal n h =
     let w : Writes n (decimal n) = decimal_writes n (omega (arith, h)) in
     let few : length (decimal n) ≤ 5 = length-decimal-le 5 n (lit< tt) (omega (arith, h)) (omega (arith, h)) in
-    rw (le-leb 1 (length (decimal n)) w.some, le-leb (length (decimal n)) most_digits (omega (arith, few)), w.all, w.value, lt-ltb n number_limit (omega (arith, h))) refl
+    rw (le-leb 1 (length (decimal n)) w.some, le-leb (length (decimal n)) MOST_DIGITS (omega (arith, few)), w.all, w.value, lt-ltb n NUMBER_LIMIT (omega (arith, h))) refl
 
 -- the line of a load, without its end, asks for `n` bytes
-pub source_of_load : (n : ℕ) → n ≤ most_source_bytes → source_bytes_in (codes "load " ++ decimal n) ≡ Some n
+pub source_of_load : (n : ℕ) → n ≤ MOST_SOURCE_BYTES → source_bytes_in (codes "load " ++ decimal n) ≡ Some n
 source_of_load n h =
     let w : Writes n (decimal n) = decimal_writes n (omega (arith, h)) in
     let few : length (decimal n) ≤ 5 = length-decimal-le 5 n (lit< tt) (omega (arith, h)) (omega (arith, h)) in
-    let short : nat_le (length (codes "load " ++ decimal n)) most_command_bytes ≡ true = le-leb (length (codes "load " ++ decimal n)) most_command_bytes (omega (arith, few)) in
-    rw (short, load_words (decimal n) w.all, number_of_decimal n h, le-leb n most_source_bytes h) refl
+    let short : nat_le (length (codes "load " ++ decimal n)) MOST_COMMAND_BYTES ≡ true = le-leb (length (codes "load " ++ decimal n)) MOST_COMMAND_BYTES (omega (arith, few)) in
+    rw (short, load_words (decimal n) w.all, number_of_decimal n h, le-leb n MOST_SOURCE_BYTES h) refl
 
 -- and stands in front of what follows
-load_no_feed : (n : ℕ) → n ≤ most_source_bytes → has_feed (codes "load " ++ decimal n) ≡ false
+load_no_feed : (n : ℕ) → n ≤ MOST_SOURCE_BYTES → has_feed (codes "load " ++ decimal n) ≡ false
 load_no_feed n h = digits_no_feed (decimal n) (decimal_writes n (omega (arith, h))).all
 
-pub load_line : (n : ℕ) (bs : List ℕ) → n ≤ most_source_bytes → line_in (codes "load " ++ decimal n ++ 10 ∷ bs) ≡ codes "load " ++ decimal n
+pub load_line : (n : ℕ) (bs : List ℕ) → n ≤ MOST_SOURCE_BYTES → line_in (codes "load " ++ decimal n ++ 10 ∷ bs) ≡ codes "load " ++ decimal n
 load_line n bs h =
     let w : Writes n (decimal n) = decimal_writes n (omega (arith, h)) in
     ap without_return (before_at (codes "load " ++ decimal n) bs (load_no_feed n h)) ∙ no_return (decimal n) w.all w.some
@@ -127,10 +127,10 @@ load_line n bs h =
     no_return [] all some = absurd (omega arith)
     no_return (d ∷ ds) all some = ap (λ x. codes "load " ++ x) (digits_no_return (d ∷ ds) all)
 
-pub load_behind : (n : ℕ) (bs : List ℕ) → n ≤ most_source_bytes → behind_feed (codes "load " ++ decimal n ++ 10 ∷ bs) ≡ bs
+pub load_behind : (n : ℕ) (bs : List ℕ) → n ≤ MOST_SOURCE_BYTES → behind_feed (codes "load " ++ decimal n ++ 10 ∷ bs) ≡ bs
 load_behind n bs h = behind_at (codes "load " ++ decimal n) bs (load_no_feed n h)
 
-pub load_feed : (n : ℕ) (bs : List ℕ) → n ≤ most_source_bytes → has_feed (codes "load " ++ decimal n ++ 10 ∷ bs) ≡ true
+pub load_feed : (n : ℕ) (bs : List ℕ) → n ≤ MOST_SOURCE_BYTES → has_feed (codes "load " ++ decimal n ++ 10 ∷ bs) ≡ true
 load_feed n bs h = feed_at (codes "load " ++ decimal n) bs (load_no_feed n h)
 
 -- a line asks for no more bytes than a source may have
@@ -142,13 +142,13 @@ up_to_less most (Some m) n h = by (nat_le m most) refl
     by true e = let i : m ≡ n = let j : Some m ≡ Some n = rw e at h in cc in omega (arith, leb-true m most e, i)
     by false e = let none : Option ℕ = None in let j : none ≡ Some n = rw e at h in cc
 
-pub source_bounded : (line : List ℕ) (n : ℕ) → source_bytes_in line ≡ Some n → n ≤ most_source_bytes
-source_bounded line n h = by (nat_le (length line) most_command_bytes && bytes_eq (word_in line) (codes "load")) refl
+pub source_bounded : (line : List ℕ) (n : ℕ) → source_bytes_in line ≡ Some n → n ≤ MOST_SOURCE_BYTES
+source_bounded line n h = by (nat_le (length line) MOST_COMMAND_BYTES && bytes_eq (word_in line) (codes "load")) refl
   where
-    by : (v : Bool) → (nat_le (length line) most_command_bytes && bytes_eq (word_in line) (codes "load")) ≡ v → n ≤ most_source_bytes
-    by true e = up_to_less most_source_bytes (only_number (behind_word_in line)) n (rw e at h)
+    by : (v : Bool) → (nat_le (length line) MOST_COMMAND_BYTES && bytes_eq (word_in line) (codes "load")) ≡ v → n ≤ MOST_SOURCE_BYTES
+    by true e = up_to_less MOST_SOURCE_BYTES (only_number (behind_word_in line)) n (rw e at h)
     by false e = let none : Option ℕ = None in let j : none ≡ Some n = rw e at h in cc
 
 -- a line that is too long asks for none
-pub source_too_long : (line : List ℕ) → most_command_bytes < length line → source_bytes_in line ≡ None
-source_too_long line h = rw (Rattle.std.proofs.lemmas.Bool.lt-leb (length line) most_command_bytes h) refl
+pub source_too_long : (line : List ℕ) → MOST_COMMAND_BYTES < length line → source_bytes_in line ≡ None
+source_too_long line h = rw (Rattle.std.proofs.lemmas.Bool.lt-leb (length line) MOST_COMMAND_BYTES h) refl

@@ -5,7 +5,7 @@ use Rattle.std.proofs.Common.{refl, ap, sym, ◌∙◌}
 use Rattle.std.proofs.lemmas.Bool.{and_from, and_parts}
 use Rattle.std.proofs.lemmas.List.Folds.{list_all-append}
 use Rattle.std.proofs.lemmas.Option.{none-some, same_Some, cond_some, option_and_then_some}
-use Rattle.kl1_model.specs.Limits.{most_arguments, most_depth}
+use Rattle.kl1_model.specs.declared.limits.TheConstants.{MOST_ARGUMENTS, MOST_DEPTH}
 use Rattle.kl1_model.specs.Text.{is_text}
 use Rattle.kl1_model.specs.Term.{Term, atom, count_of, list_of, terms_of}
 use Rattle.kl1_model.specs.Token.{Token, tokens_of_text}
@@ -28,7 +28,7 @@ passed true o a h = (refl, h)
 passed false o a h = absurd (none-some a h)
 
 writable_narrow : (t : Term) → is_writable t ≡ true → is_narrow t ≡ true
-writable_narrow t h = (and_parts (is_narrow t) (nat_le (depth t) most_depth) h).0
+writable_narrow t h = (and_parts (is_narrow t) (nat_le (depth t) MOST_DEPTH) h).0
 
 -- what holds of whatever a function gives holds of each that it gives
 each_holds : {A B : Type 0} (f : A → Option B) (ok : B → Bool) → ((x : A) (y : B) → f x ≡ Some y → ok y ≡ true) → (xs : List A) (ys : List B) → each_of f xs ≡ Some ys → list_all ok ys ≡ true
@@ -81,8 +81,8 @@ head_narrow : (h : Head) → is_narrow (head_term h) ≡ true → (is_text (head
 head_narrow (bare_head p quotes) is = (is, refl)
 head_narrow (head_with p quotes s) is =
     let ts = series_terms s in
-    let front = and_parts (is_text p && nat_le 1 (count_of ts) && nat_le (count_of ts) most_arguments) (are_narrow ts) is in
-    let named = and_parts (is_text p && nat_le 1 (count_of ts)) (nat_le (count_of ts) most_arguments) front.0 in
+    let front = and_parts (is_text p && nat_le 1 (count_of ts) && nat_le (count_of ts) MOST_ARGUMENTS) (are_narrow ts) is in
+    let named = and_parts (is_text p && nat_le 1 (count_of ts)) (nat_le (count_of ts) MOST_ARGUMENTS) front.0 in
     ((and_parts (is_text p) (nat_le 1 (count_of ts)) named.0).0, front.1)
 
 -- whether the names of a clause are texts

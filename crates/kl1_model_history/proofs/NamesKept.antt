@@ -1,21 +1,21 @@
 -- Which names an account has used after what is done to it.
-use Rattle.std.specs.Prelude.{◌≡◌, ℕ, suc, ◌==◌, nat_lt, nat_le, not, ◌||◌, Bool, true, false, if◌then◌else◌, List, [], ◌∷◌, length, Option, Some, None}
+use Rattle.std.specs.Prelude.{◌≡◌, ℕ, suc, ◌==◌, nat_lt, nat_le, not, ◌&&◌, ◌||◌, Bool, true, false, if◌then◌else◌, List, [], ◌∷◌, length, Option, Some, None}
 use Rattle.std.proofs.Common.{refl, sym, ◌∙◌, subst}
 use Rattle.std.proofs.lemmas.Bool.{leb-true}
-use Rattle.kl1_model.specs.Limits.{most_reports, most_names}
+use Rattle.kl1_model.specs.declared.limits.TheConstants.{MOST_REPORTS, MOST_NAMES}
 use Rattle.kl1_model.specs.declared.message.Message.{Message}
 use Rattle.kl1_model.specs.declared.message.Message.TheVariants.{Stop, Start, Abort, Allow}
 use Rattle.kl1_model.specs.Text.{is_text}
 use Rattle.kl1_model.specs.Term.{Term, variable, integer, atom, structure, Replacement, occurs}
 use Rattle.kl1_model.specs.Meaning.{cell}
 use Rattle.kl1_model.specs.Unify.{mgu}
-use Rattle.kl1_model.specs.State.{State, Goal, Shoen, shoen_at, with_name, replace_in_state, replace_all, change_shoen, without_goal}
+use Rattle.kl1_model.specs.State.{State, Goal, has_substitutes, Shoen, shoen_at, with_name, replace_in_state, replace_all, change_shoen, without_goal}
 use Rattle.kl1_model.specs.Tree.{path, charge}
 use Rattle.kl1_model.specs.Control.{Control, awaits_message, tells, tells_other, ends, breaks_off}
-use Rattle.kl1_model.specs.Report.{broken_at, reported_at, report_of, report, report_each, closed_at, close_of, close, exception, failure, illegal_input, exhaustion, started_report, stopped_report, resumed_report, exhausted_report, terminated_report, aborted_report}
+use Rattle.kl1_model.specs.Report.{broken_at, reported_at, report_of, report, is_reported, report_each, closed_at, close_of, close, exception, exception_with, failure, illegal_input, exhaustion, started_report, stopped_report, resumed_report, exhausted_report, terminated_report, aborted_report}
 use Rattle.kl1_model.specs.Ending.{ended_at, ending_of, without_monitor, terminate, terminate_each, settle, newly_exhausted, after_reduction, ended_below, abort}
 use Rattle.kl1_model.specs.Opening.{with_shoen, open_shoen, child_shoen, has_room_for_child, open_child}
-use Rattle.kl1_model.specs.Reduction.{Move, commits, raises, unifies, names, opens, goes, Action, moves, reads, has_room_for, committed, unified, equation, or_exhaustion, named_by, moved, stopped_of, resumed_of, obeyed, with_control, heard, acted}
+use Rattle.kl1_model.specs.Reduction.{Move, commits, raises, unifies, names, opens, goes, gives_way, Action, moves, reads, has_room_for, committed, substituted_by, raised, unified, equation, or_exhaustion, named_by, moved, stopped_of, resumed_of, obeyed, with_control, heard, acted}
 use Rattle.kl1_model.specs.Sending.{sent_on}
 use Rattle.kl1_model_history.specs.laws.TextLaws.{AreNames}
 use Rattle.kl1_model_history.proofs.NewNames.{with_name_new}
@@ -37,7 +37,7 @@ reported : (k : ℕ) (m t : Term) (s : State) → Has s.names (reported_at k m t
 reported k m (variable v) s =
     let next = suc s.last_variable in
     let changed = change_shoen k (λ h. record h { tail = variable next }) (record (replace_in_state v (cell m (variable next)) s) { last_variable = next; reports = suc s.reports }) in
-    either (occurs v m || not (nat_lt s.reports most_reports)) s.names (broken_at k s) changed refl refl
+    either (occurs v m || not (nat_lt s.reports MOST_REPORTS)) s.names (broken_at k s) changed refl refl
 reported k m (integer i) s = refl
 reported k m (atom a) s = refl
 reported k m (structure f ts) s = refl
@@ -95,13 +95,20 @@ open_has h goal s =
     let one = report_has h.number started_report (with_shoen h goal s) in
     either (h.allowance == 0) s.names (report h.number exhausted_report opened) opened (report_has h.number exhausted_report opened ∙ one) one
 
-unified_has : (k : ℕ) (goal : Term) (o : Option (List Replacement)) (s : State) → Has s.names (unified k goal o s)
-unified_has k goal None s = report_has k (exception failure goal) s
-unified_has k goal (Some rs) s = replaced rs s
+raised_has : (g : Goal) (kind : List ℕ) (t : Term) (s : State) → Has s.names (raised g kind t s)
+raised_has g kind t s =
+    let new = suc s.last_variable in
+    let told = exception kind t in
+    either (has_substitutes s.rules && is_reported g.shoen told s) s.names (substituted_by g kind t s) (report g.shoen told s)
+    (report_has g.shoen (exception_with kind t (variable new)) (record s { last_variable = new })) (report_has g.shoen told s)
 
-exhausted_or : (c : Bool) (k : ℕ) (goal : Term) (after s : State) → Has s.names after → Has s.names (or_exhaustion c k goal after s)
-exhausted_or true k goal after s e = e
-exhausted_or false k goal after s e = report_has k (exception exhaustion goal) s
+unified_has : (g : Goal) (t : Term) (o : Option (List Replacement)) (s : State) → Has s.names (unified g t o s)
+unified_has g t None s = raised_has g failure t s
+unified_has g t (Some rs) s = replaced rs s
+
+exhausted_or : (c : Bool) (g : Goal) (t : Term) (after s : State) → Has s.names after → Has s.names (or_exhaustion c g t after s)
+exhausted_or true g t after s e = e
+exhausted_or false g t after s e = raised_has g exhaustion t s
 
 -- an account whose names may have been used
 abbrev pub IsNamed : State → Type 0
@@ -111,26 +118,27 @@ IsNamed s = AreNames s.names
 pub same_names : (s t : State) → t.names ≡ s.names → IsNamed s → IsNamed t
 same_names s t e h = subst AreNames (sym e) h
 
-named_or : (c : Bool) (k : ℕ) (goal : Term) (after s : State) → (c ≡ true → IsNamed after) → IsNamed s → IsNamed (or_exhaustion c k goal after s)
-named_or true k goal after s go h = go refl
-named_or false k goal after s go h = same_names s (report k (exception exhaustion goal) s) (report_has k (exception exhaustion goal) s) h
+named_or : (c : Bool) (g : Goal) (t : Term) (after s : State) → (c ≡ true → IsNamed after) → IsNamed s → IsNamed (or_exhaustion c g t after s)
+named_or true g t after s go h = go refl
+named_or false g t after s go h = same_names s (raised g exhaustion t s) (raised_has g exhaustion t s) h
 
 -- a name more, if there is room for it
-text_named : (g : Goal) (t : Term) (text : List ℕ) (a : Term) (s : State) → is_text text ≡ true → IsNamed s → nat_le (length (with_name s.names text)) most_names ≡ true → IsNamed (named_by g.shoen t text a s)
+text_named : (g : Goal) (t : Term) (text : List ℕ) (a : Term) (s : State) → is_text text ≡ true → IsNamed s → nat_le (length (with_name s.names text)) MOST_NAMES ≡ true → IsNamed (named_by g t text a s)
 text_named g t text a s fine h room =
     let u = record s { names = with_name s.names text } in
     let o = mgu (equation a (atom text)) in
-    let n : IsNamed u = record { few = leb-true (length (with_name s.names text)) most_names room; new = with_name_new s.names text h.new fine } in
-    same_names u (unified g.shoen t o u) (unified_has g.shoen t o u) n
+    let n : IsNamed u = record { few = leb-true (length (with_name s.names text)) MOST_NAMES room; new = with_name_new s.names text h.new fine } in
+    same_names u (unified g t o u) (unified_has g t o u) n
 
 moved_named : (g : Goal) (t : Term) (m : Move) (s : State) → NamesText m → IsNamed s → IsNamed (moved g t m s)
-moved_named g t (commits k) s fine h = same_names s (moved g t (commits k) s) (exhausted_or (has_room_for s k.clause) g.shoen t (committed g k s) s refl) h
-moved_named g t (raises kind) s fine h = same_names s (moved g t (raises kind) s) (report_has g.shoen (exception kind t) s) h
-moved_named g t (unifies a b) s fine h = same_names s (moved g t (unifies a b) s) (unified_has g.shoen t (mgu (equation a b)) s) h
-moved_named g t (names text a) s fine h = named_or (nat_le (length (with_name s.names text)) most_names) g.shoen t (named_by g.shoen t text a s) s (text_named g t text a s fine h) h
+moved_named g t (commits k) s fine h = same_names s (moved g t (commits k) s) (exhausted_or (has_room_for s k.clause) g t (committed g k s) s refl) h
+moved_named g t (raises kind) s fine h = same_names s (moved g t (raises kind) s) (raised_has g kind t s) h
+moved_named g t (unifies a b) s fine h = same_names s (moved g t (unifies a b) s) (unified_has g t (mgu (equation a b)) s) h
+moved_named g t (names text a) s fine h = named_or (nat_le (length (with_name s.names text)) MOST_NAMES) g t (named_by g t text a s) s (text_named g t text a s fine h) h
 moved_named g t (opens o) s fine h =
-    same_names s (moved g t (opens o) s) (exhausted_or (has_room_for_child s g.shoen) g.shoen t (open_child s g.shoen o) s (open_has (child_shoen s g.shoen o) o.goal s)) h
+    same_names s (moved g t (opens o) s) (exhausted_or (has_room_for_child s g.shoen) g t (open_child s g.shoen o) s (open_has (child_shoen s g.shoen o) o.goal s)) h
 moved_named g t goes s fine h = h
+moved_named g t gives_way s fine h = h
 
 stopped_has : (o : Option Shoen) (k : ℕ) (s : State) → Has s.names (stopped_of o k s)
 stopped_has None k s = refl

@@ -5,7 +5,7 @@ use Rattle.std.proofs.Common.{refl, sym, ap, ◌∙◌}
 use Rattle.std.proofs.lemmas.Bool.{and_parts, and_from, or_parts, leb-true, not_from_false}
 use Rattle.std.proofs.lemmas.List.{append_assoc, append-nil}
 use Rattle.std.proofs.lemmas.List.Folds.{list_all-append}
-use Rattle.kl1_model.specs.Limits.{most_arguments, most_names}
+use Rattle.kl1_model.specs.declared.limits.TheConstants.{MOST_ARGUMENTS, MOST_NAMES}
 use Rattle.kl1_model.specs.Text.{is_text, is_built_in}
 use Rattle.kl1_model.specs.Term.{Term, variable, integer, atom, structure, Terms, none, more, count_of}
 use Rattle.kl1_model.specs.Meaning.{is_narrow, are_narrow}
@@ -41,7 +41,7 @@ with_names_new names (a ∷ others) all texts =
 
 -- no names have been used
 pub no_names : AreNames []
-no_names = record { few = leb-true 0 most_names refl; new = refl }
+no_names = record { few = leb-true 0 MOST_NAMES refl; new = refl }
 
 -- the names of a term that a text can write are texts
 mutual
@@ -50,8 +50,8 @@ mutual
   names_are_texts (integer i) h = refl
   names_are_texts (atom a) h = and_from (is_text a) true h refl
   names_are_texts (structure f ts) h =
-      let front = and_parts (is_text f && nat_le 1 (count_of ts) && nat_le (count_of ts) most_arguments) (are_narrow ts) h in
-      let named = and_parts (is_text f && nat_le 1 (count_of ts)) (nat_le (count_of ts) most_arguments) front.0 in
+      let front = and_parts (is_text f && nat_le 1 (count_of ts) && nat_le (count_of ts) MOST_ARGUMENTS) (are_narrow ts) h in
+      let named = and_parts (is_text f && nat_le 1 (count_of ts)) (nat_le (count_of ts) MOST_ARGUMENTS) front.0 in
       and_from (is_text f) (list_all is_text (names_in ts)) (and_parts (is_text f) (nat_le 1 (count_of ts)) named.0).0 (names_in_are_texts ts front.1)
 
   pub names_in_are_texts : (ts : Terms) → are_narrow ts ≡ true → list_all is_text (names_in ts) ≡ true

@@ -5,7 +5,7 @@ use Rattle.std.proofs.Common.{refl, subst, sym, ◌∙◌, arith}
 use Rattle.std.proofs.lemmas.Bool.{ltb-true}
 use Rattle.std.proofs.lemmas.List.{append_assoc}
 use Rattle.std.proofs.lemmas.Slice.Eq.{bytes_eq-Decides}
-use Rattle.kl1_model.specs.Limits.{number_limit}
+use Rattle.kl1_model.specs.declared.limits.TheConstants.{NUMBER_LIMIT}
 use Rattle.kl1_model.specs.declared.sign.Sign.TheVariants.{Bar, Comma, Open, Close, OpenList, CloseList}
 use Rattle.kl1_model.specs.Text.{is_text}
 use Rattle.kl1_model.specs.Name.{is_bare, name_text, atom_text}
@@ -53,7 +53,7 @@ plain_agrees t text p h whole =
     }
 
 -- a variable
-pub variable_agrees : (v : ℕ) → v < number_limit → Agrees (variable v) (plain (codes "_" ++ decimal v)) (planted_plain (single (numbered v)))
+pub variable_agrees : (v : ℕ) → v < NUMBER_LIMIT → Agrees (variable v) (plain (codes "_" ++ decimal v)) (planted_plain (single (numbered v)))
 variable_agrees v few =
     plain_agrees (variable v) (codes "_" ++ decimal v) (single (numbered v)) (record { means = refl; sound = refl })
     (λ bs ts calm behind. lexes_variable v bs ts few calm.no_word behind)
@@ -62,10 +62,10 @@ variable_agrees v few =
 pub integer_agrees : (i : ℤ) → is_word i ≡ true → Agrees (integer i) (plain (signed_decimal i)) (planted_plain (single (planted_integer i)))
 integer_agrees (pos n) few =
     plain_agrees (integer (pos n)) (decimal n) (single (positive n)) (record { means = refl; sound = few })
-    (λ bs ts calm behind. lexes_digits n bs ts (omega (arith, ltb-true n number_limit few)) (no_word_no_digit bs calm.no_word) behind)
+    (λ bs ts calm behind. lexes_digits n bs ts (omega (arith, ltb-true n NUMBER_LIMIT few)) (no_word_no_digit bs calm.no_word) behind)
 integer_agrees (negsuc n) few =
     plain_agrees (integer (negsuc n)) (45 ∷ decimal (suc n)) (single (negative (suc n))) (record { means = refl; sound = refl })
-    (λ bs ts calm behind. lexes_negative (suc n) bs ts (omega (arith, ltb-true n number_limit few)) (no_word_no_digit bs calm.no_word) behind)
+    (λ bs ts calm behind. lexes_negative (suc n) bs ts (omega (arith, ltb-true n NUMBER_LIMIT few)) (no_word_no_digit bs calm.no_word) behind)
 
 nil_agrees : Agrees (atom (codes "[]")) (printed_atom (codes "[]")) (planted_atom (codes "[]"))
 nil_agrees =

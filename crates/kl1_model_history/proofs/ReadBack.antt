@@ -4,7 +4,7 @@ use Rattle.std.proofs.Common.{refl, ap, sym, ◌∙◌, arith}
 use Rattle.std.proofs.lemmas.Bool.{and_parts, and_from, ltb-true}
 use Rattle.std.proofs.lemmas.List.{append-nil}
 use Rattle.std.proofs.lemmas.Option.{same_Some}
-use Rattle.kl1_model.specs.Limits.{number_limit}
+use Rattle.kl1_model.specs.declared.limits.TheConstants.{NUMBER_LIMIT}
 use Rattle.kl1_model.specs.Term.{Term}
 use Rattle.kl1_model.specs.Token.{Token, Placed, Tokens, tokens_of_text}
 use Rattle.kl1_model.specs.Grammar.{Numbered, part_tokens}
@@ -26,17 +26,17 @@ record Printable (t : Term) : Type 0 where
   pub writable : is_writable t ≡ true
   pub narrow : is_narrow t ≡ true
   pub numbered : is_numbered t ≡ true
-  pub few : highest t < number_limit
+  pub few : highest t < NUMBER_LIMIT
 
 printable : (t : Term) → is_printable t ≡ true → Printable t
 printable t h =
-    let front = and_parts (is_writable t && is_numbered t) (nat_lt (highest t) number_limit) h in
+    let front = and_parts (is_writable t && is_numbered t) (nat_lt (highest t) NUMBER_LIMIT) h in
     let both = and_parts (is_writable t) (is_numbered t) front.0 in
     record {
       writable = both.0;
       narrow = (and_parts (is_narrow t) (nat_le (depth t) 256) both.0).0;
       numbered = both.1;
-      few = ltb-true (highest t) number_limit front.1;
+      few = ltb-true (highest t) NUMBER_LIMIT front.1;
     }
 
 -- the tokens of a term's tree

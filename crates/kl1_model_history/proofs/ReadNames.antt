@@ -4,7 +4,7 @@ use Rattle.std.specs.List.{list_all, AllByRecursion}
 use Rattle.std.proofs.Common.{refl, sym, ap, ◌∙◌, arith, inl, inr}
 use Rattle.std.proofs.lemmas.Bool.{and_parts, and_from, le-leb, leb-true, eqb-true, or_cases}
 use Rattle.std.proofs.lemmas.List.Folds.{list_all-append}
-use Rattle.kl1_model.specs.Limits.{most_name_bytes, number_limit}
+use Rattle.kl1_model.specs.declared.limits.TheConstants.{MOST_NAME_BYTES, MOST_VARIABLE_BYTES, NUMBER_LIMIT}
 use Rattle.kl1_model.specs.declared.sign.Sign.{Sign}
 use Rattle.kl1_model.specs.declared.sign.Sign.TheVariants.{Neck}
 use Rattle.kl1_model.specs.Text.{is_name_byte, is_text}
@@ -113,12 +113,12 @@ either_front : (x : Bool) (f g : Front) → FrontHas f → FrontHas g → FrontH
 either_front true f g p q = p
 either_front false f g p q = q
 
-name_has : (x in_quotes : Bool) (text rest : List ℕ) (applied : Bool) → nat_le (length text) most_name_bytes ≡ x → list_all is_name_byte text ≡ true → FrontHas (if x then token (name_token text in_quotes applied) rest else broken)
-name_has true in_quotes text rest applied is h = and_from (nat_le (length text) most_name_bytes) (list_all is_name_byte text) is h
+name_has : (x in_quotes : Bool) (text rest : List ℕ) (applied : Bool) → nat_le (length text) MOST_NAME_BYTES ≡ x → list_all is_name_byte text ≡ true → FrontHas (if x then token (name_token text in_quotes applied) rest else broken)
+name_has true in_quotes text rest applied is h = and_from (nat_le (length text) MOST_NAME_BYTES) (list_all is_name_byte text) is h
 name_has false in_quotes text rest applied is h = tt
 
 name_front_has : (in_quotes : Bool) (text rest : List ℕ) → list_all is_name_byte text ≡ true → FrontHas (name_front in_quotes text rest)
-name_front_has in_quotes text rest h = name_has (nat_le (length text) most_name_bytes) in_quotes text rest (first_is (λ b. b == 40) rest) refl h
+name_front_has in_quotes text rest h = name_has (nat_le (length text) MOST_NAME_BYTES) in_quotes text rest (first_is (λ b. b == 40) rest) refl h
 
 -- the text between quotes, if it ends, is bytes of names
 abbrev AreQuoted : Option (List ℕ × List ℕ) → Type 0
@@ -166,8 +166,8 @@ by_has ends_line b bs h = tt
 by_has blanks b bs h = tt
 by_has comments b bs h = comment_has (behind_comment bs)
 by_has names b bs h = name_front_has false (b ∷ word_of bs) (behind_word bs) (and_from (is_name_byte b) (list_all is_name_byte (word_of bs)) (between 97 122 b (h refl) (omega arith) (omega arith)) (words_are_names (word_of bs) (words bs)))
-by_has variables b bs h = either_front (nat_le (length (b ∷ word_of bs)) most_name_bytes) (token (variable_token (b ∷ word_of bs)) (behind_word bs)) broken tt tt
-by_has numbers b bs h = either_front (nat_le (number_of (b ∷ digits_of bs)) number_limit) (token (digits_token (number_of (b ∷ digits_of bs))) (behind_digits bs)) broken tt tt
+by_has variables b bs h = either_front (nat_le (length (b ∷ word_of bs)) MOST_VARIABLE_BYTES) (token (variable_token (b ∷ word_of bs)) (behind_word bs)) broken tt tt
+by_has numbers b bs h = either_front (nat_le (number_of (b ∷ digits_of bs)) NUMBER_LIMIT) (token (digits_token (number_of (b ∷ digits_of bs))) (behind_digits bs)) broken tt tt
 by_has quotes b bs h = quoted_has (quoted_from false [] bs) (quoted_all false [] bs refl)
 by_has dots b bs h = dot_has bs
 by_has subtracts b bs h = tt

@@ -6,7 +6,7 @@ use Rattle.std.proofs.lemmas.Bool.{and_parts, and_from, leb-true, ltb-true, ltb-
 use Rattle.std.proofs.lemmas.List.Folds.{list_all-append}
 use Rattle.std.proofs.lemmas.Slice.Eq.{bytes_eq-Decides}
 use Rattle.std.proofs.lemmas.Fmt.{decimal_injective}
-use Rattle.kl1_model.specs.Limits.{number_limit}
+use Rattle.kl1_model.specs.declared.limits.TheConstants.{NUMBER_LIMIT}
 use Rattle.kl1_model.specs.Term.{Term, variable, integer, atom, structure, Terms, none, more}
 use Rattle.kl1_model.specs.Token.{name_token, variable_token, digits_token, minus_token, sign_token, end_token}
 use Rattle.kl1_model.specs.Grammar.{Numbered}
@@ -52,7 +52,7 @@ not_alone : (ds : List ℕ) → 1 ≤ length ds → bytes_eq (95 ∷ ds) (codes 
 not_alone [] some = absurd (omega arith)
 not_alone (d ∷ ds) some = refl
 
-number_is : (k v : ℕ) → 1 ≤ v → v ≤ suc k → k < number_limit → variable_number (spellings 1 k) (spelling v) ≡ v
+number_is : (k v : ℕ) → 1 ≤ v → v ≤ suc k → k < NUMBER_LIMIT → variable_number (spellings 1 k) (spelling v) ≡ v
 number_is k v some within few =
     ap (λ x. if x then suc (length (spellings 1 k)) else place_of (spellings 1 k) (spelling v)) (not_alone (decimal v) (decimal_writes v (omega arith)).some)
     ∙ place_is k 1 (v - 1) v (omega arith) (omega arith) (omega arith)
@@ -68,7 +68,7 @@ seen_by false k v is within =
     let most : k ≡ max k v = omega arith in
     ap (spellings 1) most
 
-seen_is : (k v : ℕ) → 1 ≤ v → v ≤ suc k → k < number_limit → seen_after (spellings 1 k) (spelling v) ≡ spellings 1 (max k v)
+seen_is : (k v : ℕ) → 1 ≤ v → v ≤ suc k → k < NUMBER_LIMIT → seen_after (spellings 1 k) (spelling v) ≡ spellings 1 (max k v)
 seen_is k v some within few =
     ap (λ n. if nat_lt n (variable_number (spellings 1 k) (spelling v)) then spellings 1 k ++ spelling v ∷ [] else spellings 1 k) (length_spellings 1 k)
     ∙ ap (λ n. if nat_lt k n then spellings 1 k ++ spelling v ∷ [] else spellings 1 k) (number_is k v some within few)
@@ -76,18 +76,18 @@ seen_is k v some within few =
 
 -- whether each number is below number_limit
 abbrev pub are_few : List ℕ → Bool
-are_few vs = list_all (λ v. nat_lt v number_limit) vs
+are_few vs = list_all (λ v. nat_lt v NUMBER_LIMIT) vs
 
 -- tokens whose variables are numbered by first occurrence have their numbers again
-pub numbered_again : (ts : List Numbered) (k : ℕ) → numbered_after k (numbers_of ts) ≡ true → are_few (numbers_of ts) ≡ true → k < number_limit → numbered_from (spellings 1 k) (spelled ts) ≡ ts
+pub numbered_again : (ts : List Numbered) (k : ℕ) → numbered_after k (numbers_of ts) ≡ true → are_few (numbers_of ts) ≡ true → k < NUMBER_LIMIT → numbered_from (spellings 1 k) (spelled ts) ≡ ts
 numbered_again [] k h few small = refl
 numbered_again (variable_token v ∷ ts) k h few small =
     let here = and_parts (nat_le 1 v && nat_le v (suc k)) (numbered_after (max k v) (numbers_of ts)) h in
     let between = and_parts (nat_le 1 v) (nat_le v (suc k)) here.0 in
     let some = leb-true 1 v between.0 in
     let within = leb-true v (suc k) between.1 in
-    let less = and_parts (nat_lt v number_limit) (are_few (numbers_of ts)) few in
-    let most = ltb-true v number_limit less.0 in
+    let less = and_parts (nat_lt v NUMBER_LIMIT) (are_few (numbers_of ts)) few in
+    let most = ltb-true v NUMBER_LIMIT less.0 in
     ap (λ n. variable_token n ∷ numbered_from (seen_after (spellings 1 k) (spelling v)) (spelled ts)) (number_is k v some within small)
     ∙ ap (λ seen. variable_token v ∷ numbered_from seen (spelled ts)) (seen_is k v some within small)
     ∙ ap (λ x. variable_token v ∷ x) (numbered_again ts (max k v) here.1 less.1 (omega arith))
@@ -99,14 +99,14 @@ numbered_again (end_token ∷ ts) k h few small = ap (λ x. end_token ∷ x) (nu
 
 -- if the greatest number is below number_limit, each is
 mutual
-  pub few_variables : (t : Term) → highest t < number_limit → are_few (variables_of t) ≡ true
-  few_variables (variable n) few = and_from (nat_lt n number_limit) true (lt-ltb n number_limit few) refl
+  pub few_variables : (t : Term) → highest t < NUMBER_LIMIT → are_few (variables_of t) ≡ true
+  few_variables (variable n) few = and_from (nat_lt n NUMBER_LIMIT) true (lt-ltb n NUMBER_LIMIT few) refl
   few_variables (integer i) few = refl
   few_variables (atom a) few = refl
   few_variables (structure f ts) few = few_variables_in ts few
 
-  few_variables_in : (ts : Terms) → highest_in ts < number_limit → are_few (variables_in ts) ≡ true
+  few_variables_in : (ts : Terms) → highest_in ts < NUMBER_LIMIT → are_few (variables_in ts) ≡ true
   few_variables_in none few = refl
   few_variables_in (more t ts) few =
-      list_all-append (λ v. nat_lt v number_limit) (variables_of t) (variables_in ts)
+      list_all-append (λ v. nat_lt v NUMBER_LIMIT) (variables_of t) (variables_in ts)
       ∙ and_from (are_few (variables_of t)) (are_few (variables_in ts)) (few_variables t (omega arith)) (few_variables_in ts (omega arith))

@@ -5,7 +5,7 @@ use Rattle.std.specs.Fmt.{signed_decimal}
 use Rattle.std.proofs.Common.{refl, ◌∙◌, arith}
 use Rattle.std.proofs.lemmas.Bool.{and_parts, and_from, leb-true, le-leb, ltb-true}
 use Rattle.std.proofs.lemmas.List.Folds.{list_all-append}
-use Rattle.kl1_model.specs.Limits.{most_arguments, most_name_bytes, number_limit}
+use Rattle.kl1_model.specs.declared.limits.TheConstants.{MOST_ARGUMENTS, MOST_NAME_BYTES, NUMBER_LIMIT}
 use Rattle.kl1_model.specs.declared.pair_form.PairForm.{PairForm}
 use Rattle.kl1_model.specs.declared.pair_form.PairForm.TheVariants.{Cell, Qualified, Call}
 use Rattle.kl1_model.specs.Text.{is_name_byte, is_text}
@@ -40,8 +40,8 @@ decimal_plain : (n : ℕ) → n < 2 ^ 64 → IsPlain (decimal n)
 decimal_plain n few = digits_plain (decimal n) (decimal_writes n few).digits
 
 integer_plain : (i : ℤ) → is_word i ≡ true → IsPlain (signed_decimal i)
-integer_plain (pos n) few = let less = ltb-true n number_limit few in decimal_plain n (omega arith)
-integer_plain (negsuc n) few = let less = ltb-true n number_limit few in decimal_plain (suc n) (omega arith)
+integer_plain (pos n) few = let less = ltb-true n NUMBER_LIMIT few in decimal_plain n (omega arith)
+integer_plain (negsuc n) few = let less = ltb-true n NUMBER_LIMIT few in decimal_plain (suc n) (omega arith)
 
 byte_plain : (x : Bool) (b : ℕ) → is_name_byte b ≡ true → IsPlain (if x then 39 ∷ 39 ∷ [] else b ∷ [])
 byte_plain true b h = refl
@@ -58,7 +58,7 @@ name_case true f all = all
 name_case false f all = both_plain (doubled f) (codes "'") (doubled_plain f all) refl
 
 name_plain : (f : List ℕ) → is_text f ≡ true → IsPlain (name_text f)
-name_plain f fine = name_case (is_bare f) f (and_parts (nat_le (length f) most_name_bytes) (list_all is_name_byte f) fine).1
+name_plain f fine = name_case (is_bare f) f (and_parts (nat_le (length f) MOST_NAME_BYTES) (list_all is_name_byte f) fine).1
 
 -- both texts of a term are printable ASCII
 record ArePlain (p : Printed) : Type 0 where
@@ -104,21 +104,21 @@ structure_plain f (more a (more b none)) fine hs = pair_plain (form_of f a b) f 
 structure_plain f (more a (more b (more c ts))) fine hs = call_plain f (printed_each (more a (more b (more c ts)))) fine (commas_plain (more a (more b (more c ts))) hs)
 
 mutual
-  are_plain : (t : Term) → is_narrow t ≡ true → highest t < number_limit → ArePlain (printed t)
+  are_plain : (t : Term) → is_narrow t ≡ true → highest t < NUMBER_LIMIT → ArePlain (printed t)
   are_plain (variable v) narrow few = alone_plain (codes "_" ++ decimal v) (both_plain (codes "_") (decimal v) refl (decimal_plain v (omega arith)))
   are_plain (integer i) narrow few = alone_plain (signed_decimal i) (integer_plain i narrow)
   are_plain (atom a) narrow few = atom_case (bytes_eq a (codes "[]")) a refl narrow
   are_plain (structure f ts) narrow few =
-      let front = and_parts (is_text f && nat_le 1 (count_of ts) && nat_le (count_of ts) most_arguments) (are_narrow ts) narrow in
-      let named = and_parts (is_text f && nat_le 1 (count_of ts)) (nat_le (count_of ts) most_arguments) front.0 in
+      let front = and_parts (is_text f && nat_le 1 (count_of ts) && nat_le (count_of ts) MOST_ARGUMENTS) (are_narrow ts) narrow in
+      let named = and_parts (is_text f && nat_le 1 (count_of ts)) (nat_le (count_of ts) MOST_ARGUMENTS) front.0 in
       structure_plain f ts (and_parts (is_text f) (nat_le 1 (count_of ts)) named.0).0 (each_plain ts front.1 few)
 
-  each_plain : (ts : Terms) → are_narrow ts ≡ true → highest_in ts < number_limit → EachPlain ts
+  each_plain : (ts : Terms) → are_narrow ts ≡ true → highest_in ts < NUMBER_LIMIT → EachPlain ts
   each_plain none narrow few = tt
   each_plain (more t ts) narrow few =
       let both = and_parts (is_narrow t) (are_narrow ts) narrow in
       (are_plain t both.0 (omega arith), each_plain ts both.1 (omega arith))
 
 -- the print of a term is printable ASCII
-pub prints_are_plain : (t : Term) → is_narrow t ≡ true → highest t < number_limit → list_all is_name_byte (print t) ≡ true
+pub prints_are_plain : (t : Term) → is_narrow t ≡ true → highest t < NUMBER_LIMIT → list_all is_name_byte (print t) ≡ true
 prints_are_plain t narrow few = (are_plain t narrow few).whole

@@ -5,7 +5,7 @@ use Rattle.std.proofs.lemmas.Bool.{and_parts, and_from, lt-ltb}
 use Rattle.std.proofs.lemmas.List.{append-nil, length-map}
 use Rattle.std.proofs.lemmas.Option.{none-some, same_Some}
 use Rattle.std.proofs.lemmas.Slice.Eq.{bytes_eq-Decides}
-use Rattle.kl1_model.specs.Limits.{number_limit}
+use Rattle.kl1_model.specs.declared.limits.TheConstants.{NUMBER_LIMIT}
 use Rattle.kl1_model.specs.Term.{Term}
 use Rattle.kl1_model.specs.Token.{Token, Placed, tokens_of_text}
 use Rattle.kl1_model.specs.Grammar.{Expression}
@@ -67,13 +67,13 @@ goal_read ts None t h = started (first_line ts None) (term_of_tokens (bare_token
 goal_read ts (Some line) t h = absurd (none-some t (started (first_line ts (Some line)) None t h).found)
 
 -- a goal that was read can be read from its print
-pub goals_read_are_printable : (bs : List ℕ) (t : Term) → length bs < number_limit → read_goal bs ≡ good t → (is_printable t ≡ true) × (is_goal t ≡ true)
+pub goals_read_are_printable : (bs : List ℕ) (t : Term) → length bs < NUMBER_LIMIT → read_goal bs ≡ good t → (is_printable t ≡ true) × (is_goal t ≡ true)
 goals_read_are_printable bs t short h =
     let ts = tokens_of_text bs in
     let s = goal_read ts.placed ts.broken_at t h in
     let c = term_counted (bare_tokens ts.placed) t s.found in
-    let few : highest t < number_limit = omega (arith, c.few, length-map ts.placed (λ (p : Placed). p.token), few_tokens bs) in
-    (and_from (is_writable t && is_numbered t) (nat_lt (highest t) number_limit) (and_from (is_writable t) (is_numbered t) s.writable c.numbered) (lt-ltb (highest t) number_limit few), s.goal)
+    let few : highest t < NUMBER_LIMIT = omega (arith, c.few, length-map ts.placed (λ (p : Placed). p.token), few_tokens bs) in
+    (and_from (is_writable t && is_numbered t) (nat_lt (highest t) NUMBER_LIMIT) (and_from (is_writable t) (is_numbered t) s.writable c.numbered) (lt-ltb (highest t) NUMBER_LIMIT few), s.goal)
 
 strict_case : (x : Bool) (bs : List ℕ) (t u : Term) → bytes_eq (print t) bs ≡ x → if◌then◌else◌ {A = Option Term} x (Some t) None ≡ Some u → (good t ≡ good u) × (print u ≡ bs)
 strict_case true bs t u is h =
@@ -86,7 +86,7 @@ strict_read (good u) bs t h = strict_case (bytes_eq (print u) bs) bs u t refl h
 strict_read (bad line) bs t h = absurd (none-some t h)
 
 -- a text is of the strict form exactly if it is the print of such a goal
-pub strict_texts_are_prints : (bs : List ℕ) (t : Term) → length bs < number_limit → ((strict_goal bs ≡ Some t) ↔ ((is_printable t ≡ true) × (is_goal t ≡ true) × (print t ≡ bs)))
+pub strict_texts_are_prints : (bs : List ℕ) (t : Term) → length bs < NUMBER_LIMIT → ((strict_goal bs ≡ Some t) ↔ ((is_printable t ≡ true) × (is_goal t ≡ true) × (print t ≡ bs)))
 strict_texts_are_prints bs t short = (
   λ h.
       let s = strict_read (read_goal bs) bs t h in

@@ -5,7 +5,7 @@ use Rattle.std.proofs.Common.{refl, subst, sym, ◌∙◌, arith}
 use Rattle.std.proofs.lemmas.Bool.{and_parts, not-true, leb-true, ne_eqb, true≢false}
 use Rattle.std.proofs.lemmas.List.{append_assoc}
 use Rattle.std.proofs.lemmas.Slice.Eq.{bytes_eq-Decides}
-use Rattle.kl1_model.specs.Limits.{number_limit}
+use Rattle.kl1_model.specs.declared.limits.TheConstants.{NUMBER_LIMIT}
 use Rattle.kl1_model.specs.declared.pair_form.PairForm.{PairForm}
 use Rattle.kl1_model.specs.declared.pair_form.PairForm.TheVariants.{Cell, Qualified, Call}
 use Rattle.kl1_model.specs.declared.sign.Sign.TheVariants.{Colon}
@@ -125,7 +125,7 @@ structure_agrees f (more a (more b (more c ts))) fine some hs = arguments_agree 
 
 -- every writable term with variables below number_limit
 mutual
-  pub agrees : (t : Term) → is_narrow t ≡ true → highest t < number_limit → Agrees t (printed t) (planted t)
+  pub agrees : (t : Term) → is_narrow t ≡ true → highest t < NUMBER_LIMIT → Agrees t (printed t) (planted t)
   agrees (variable v) narrow few = variable_agrees v few
   agrees (integer i) narrow few = integer_agrees i narrow
   agrees (atom a) narrow few = atom_agrees (bytes_eq a (codes "[]")) a refl narrow
@@ -135,7 +135,7 @@ mutual
       let some = and_parts (is_text f) (nat_le 1 (count_of ts)) named.0 in
       structure_agrees f ts some.0 some.1 (agree_each ts front.1 few)
 
-  agree_each : (ts : Terms) → are_narrow ts ≡ true → highest_in ts < number_limit → EachAgrees ts
+  agree_each : (ts : Terms) → are_narrow ts ≡ true → highest_in ts < NUMBER_LIMIT → EachAgrees ts
   agree_each none narrow few = tt
   agree_each (more t ts) narrow few =
       let both = and_parts (is_narrow t) (are_narrow ts) narrow in

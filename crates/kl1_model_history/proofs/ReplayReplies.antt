@@ -5,12 +5,13 @@ use Rattle.std.proofs.Common.{refl, sym, ap, ◌∙◌, arith}
 use Rattle.std.proofs.lemmas.Bool.{and_parts, and_from, not_from_false}
 use Rattle.std.proofs.lemmas.List.{append_assoc, append-nil}
 use Rattle.kl1_model.specs.Text.{is_text}
+use Rattle.kl1_model.specs.declared.rules.Rules.{Rules}
 use Rattle.kl1_model.specs.State.{State, fresh_with}
-use Rattle.kl1_model.specs.Event.{Event, load, start, control, reduce, read, login, logout, reset, Transition}
+use Rattle.kl1_model.specs.Event.{Event, load, start, control, reduce, read, login, logout, reset, answer, Transition}
 use Rattle.kl1_model.specs.Step.{step}
 use Rattle.kl1_model.specs.laws.TreeLaws.{is_refused}
 use Rattle.kl1_model_history.specs.Command.{reply_lines, written_lines}
-use Rattle.kl1_model_history.specs.Journal.{Entry, loads, starts, sends, steps, event_in, Journal, with_entry, with_event, after_entries, Kept}
+use Rattle.kl1_model_history.specs.Journal.{Entry, loads, starts, sends, steps, answers, event_in, Journal, with_entry, with_event, after_entries, Kept}
 use Rattle.kl1_model_history.specs.JournalText.{entry_line, name_line, is_new_name, Lines}
 use Rattle.kl1_model_history.specs.laws.HistoryLaws.{beside, IsReplay}
 use Rattle.kl1_model_history.specs.laws.TextLaws.{HasLine, are_new_names}
@@ -42,25 +43,25 @@ entries_written (e ∷ es) k n total s h a is =
     ∙ sym (append_assoc (written_lines (reply_lines x.reply)) (written_replies x.state es) (written_end total))
 
 -- the lines of names
-names_written : (names before : List (List ℕ)) (k sessions : ℕ) (lines : List (List ℕ)) (out : List ℕ) → are_new_names before names ≡ true → ((k : ℕ) → written_entries k 0 (fresh_with replay_name (before ++ names) sessions) lines [] ≡ out) →
-    written_names (length names) k sessions before (map name_line names ++ lines) [] ≡ out
-names_written [] before k sessions lines out new h = ap (λ names. written_entries k 0 (fresh_with replay_name names sessions) lines []) (sym (append-nil before)) ∙ h k
-names_written (t ∷ ts) before k sessions lines out new h =
+names_written : (names before : List (List ℕ)) (k : ℕ) (rules : Rules) (sessions : ℕ) (lines : List (List ℕ)) (out : List ℕ) → are_new_names before names ≡ true → ((k : ℕ) → written_entries k 0 (fresh_with rules replay_name (before ++ names) sessions) lines [] ≡ out) →
+    written_names (length names) k rules sessions before (map name_line names ++ lines) [] ≡ out
+names_written [] before k rules sessions lines out new h = ap (λ names. written_entries k 0 (fresh_with rules replay_name names sessions) lines []) (sym (append-nil before)) ∙ h k
+names_written (t ∷ ts) before k rules sessions lines out new h =
     let all = and_parts (is_text t && is_new_name before t) (are_new_names (before ++ t ∷ []) ts) new in
     let both = and_parts (is_text t) (is_new_name before t) all.0 in
-    let next : List (List ℕ) → List ℕ = λ more. written_names (length ts) (suc k) sessions more (map name_line ts ++ lines) [] in
+    let next : List (List ℕ) → List ℕ = λ more. written_names (length ts) (suc k) rules sessions more (map name_line ts ++ lines) [] in
     ap (written_name next k before) (names_read_back t both.0)
     ∙ ap (λ c. if c then next (before ++ t ∷ []) else written_fault k) both.1
-    ∙ names_written ts (before ++ t ∷ []) (suc k) sessions lines out all.1
-    (λ k. ap (λ names. written_entries k 0 (fresh_with replay_name names sessions) lines []) (append_assoc before (t ∷ []) ts) ∙ h k)
+    ∙ names_written ts (before ++ t ∷ []) (suc k) rules sessions lines out all.1
+    (λ k. ap (λ names. written_entries k 0 (fresh_with rules replay_name names sessions) lines []) (append_assoc before (t ∷ []) ts) ∙ h k)
 
 pub replies_of_replays : RepliesOfReplays
 replies_of_replays j w a =
     let lines = map name_line j.names ++ map entry_line j.entries in
     let out = written_replies (replayed_from j) j.entries ++ written_end (length j.entries) in
     ap (λ (ls : Lines). written_replay ls.whole ls.rest) (text_lines j w)
-    ∙ ap (λ h. written_after h lines []) (headings_read_back j.sessions (length j.names) w.sessions w.names.few)
-    ∙ names_written j.names [] 2 j.sessions (map entry_line j.entries) out w.names.new (λ k. entries_written j.entries k 0 (length j.entries) (replayed_from j) w.entries a (omega arith))
+    ∙ ap (λ h. written_after h lines []) (headings_read_back j.rules j.sessions (length j.names) w.sessions w.names.few)
+    ∙ names_written j.names [] 2 j.rules j.sessions (map entry_line j.entries) out w.names.new (λ k. entries_written j.entries k 0 (length j.entries) (replayed_from j) w.entries a (omega arith))
 
 -- ---- journals that can be replayed
 
@@ -89,7 +90,7 @@ entry_accepted : (k : Kept) (e : Entry) → IsReplay k → is_refused (step k.st
 entry_accepted k e r b a =
     let j = k.journal in
     let own = k.state.own_name in
-    let s = fresh_with own j.names j.sessions in
+    let s = fresh_with j.rules own j.names j.sessions in
     let first : are_accepted s j.entries ≡ true = accepted_beside own j.sessions (replayed_from j) j.entries ∙ a in
     let last : is_refused (step (after_entries s j.entries) (event_in e)).reply ≡ false = ap (λ z. is_refused (step z (event_in e)).reply) r.is ∙ b in
     accepted_beside replay_name j.sessions s (j.entries ++ e ∷ []) ∙ accepted_more s j.entries e first last
@@ -103,13 +104,14 @@ event_accepted k (read q) r b a = a
 event_accepted k login r b a = accepted_beside replay_name (step k.state login).state.sessions (replayed_from k.journal) k.journal.entries ∙ a
 event_accepted k logout r b a = accepted_beside replay_name (step k.state logout).state.sessions (replayed_from k.journal) k.journal.entries ∙ a
 event_accepted k reset r b a = refl
+event_accepted k (answer n report t) r b a = entry_accepted k (answers n report t) r b a
 
 noted_accepted : (c : Bool) (k : Kept) (e : Event) → IsReplay k → is_refused (step k.state e).reply ≡ c → IsAccepted k.journal → IsAccepted (if c then k.journal else with_event k.journal e (step k.state e).state)
 noted_accepted true k e r b a = a
 noted_accepted false k e r b a = event_accepted k e r b a
 
 pub fresh_is_replayable : FreshIsReplayable
-fresh_is_replayable name = record { is = fresh_is_replay name; accepted = refl }
+fresh_is_replayable rules name = record { is = fresh_is_replay rules name; accepted = refl }
 
 pub replayable_stays : ReplayableStays
 replayable_stays k e r = record {

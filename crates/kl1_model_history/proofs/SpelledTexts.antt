@@ -3,7 +3,9 @@ use Rattle.std.specs.Prelude.{◌≡◌, ℕ, zero, suc, ◌≤◌, ◌==◌, na
 use Rattle.std.specs.List.{list_all}
 use Rattle.std.proofs.Common.{refl, arith}
 use Rattle.std.proofs.lemmas.Bool.{and_from, le-leb}
-use Rattle.kl1_model.specs.Limits.{most_name_bytes}
+use Rattle.kl1_model.specs.declared.limits.TheConstants.{MOST_NAME_BYTES, MOST_SPELLED_BEFORE}
+use Rattle.kl1_model.specs.declared.rules.Rules.{Rules}
+use Rattle.kl1_model.specs.declared.rules.Rules.TheVariants.{One, Two, Three}
 use Rattle.kl1_model.specs.Text.{is_name_byte, is_text}
 use Rattle.kl1_model.specs.Term.{Term, variable, integer, atom, structure, none, more}
 use Rattle.kl1_model.specs.Arithmetic.{Evaluated, comes_to, awaits, is_no_expression, evaluated}
@@ -12,12 +14,12 @@ use Rattle.kl1_model.specs.declared.number.Number.TheVariants.{Value, Overflow, 
 use Rattle.kl1_model.specs.Goal.{is_execute}
 use Rattle.kl1_model.specs.Module.{Module}
 use Rattle.kl1_model.specs.Match.{Call, call_of, Candidate, candidates_of, fails}
-use Rattle.kl1_model.specs.Look.{Spelling, spelled, awaits_code, misspelled, spelled_before, spelled_by, spelling, most_spelled, Look, right, waits_on, wrong, ExecuteArguments, arguments_look}
+use Rattle.kl1_model.specs.Look.{Spelling, spelled, awaits_code, misspelled, spelled_before, spelled_by, spelling, Look, right, waits_on, wrong, goal_look, ExecuteArguments, arguments_look}
 use Rattle.kl1_model.specs.Control.{Control, awaits_message, tells, tells_other, ends, breaks_off, control_of}
-use Rattle.kl1_model.specs.State.{Task, monitor, reduces, Goal, Shoen, State, shoen_at}
+use Rattle.kl1_model.specs.State.{Task, monitor, reduces, substitutes, Goal, Shoen, State, shoen_at, most_spelled}
 use Rattle.kl1_model.specs.Tree.{is_enabled}
 use Rattle.kl1_model.specs.Report.{failure}
-use Rattle.kl1_model.specs.Reduction.{Move, commits, raises, unifies, names, opens, goes, call_move, becomes, assigned, spells, ordered, execute_arguments, order_move, execute_move, pair_move, built_in_move, term_move, Action, moves, reads, read_action, monitor_action, task_action, action_of}
+use Rattle.kl1_model.specs.Reduction.{Move, commits, raises, unifies, names, opens, goes, gives_way, call_move, becomes, assigned, spells, ordered, execute_arguments, order_move, execute_move, pair_move, built_in_move, term_move, substitute_move, Action, moves, reads, read_action, monitor_action, task_action, action_of}
 
 -- a text that is spelled is bytes of names, and no more of them than cells
 abbrev IsSpelled : ℕ → Spelling → Type 0
@@ -65,6 +67,7 @@ NamesText (raises kind) = Unit {0}
 NamesText (unifies a b) = Unit {0}
 NamesText (opens o) = Unit {0}
 NamesText goes = Unit {0}
+NamesText gives_way = Unit {0}
 
 -- what a move names is a text, if there is a move
 abbrev MayName : Option Move → Type 0
@@ -75,10 +78,15 @@ either_names : (x : Bool) (m n : Option Move) → MayName m → MayName n → Ma
 either_names true m n g h = g
 either_names false m n g h = h
 
-spelled_names : (a : Term) (s : Spelling) → IsSpelled most_spelled s → MayName (spells a s)
-spelled_names a (spelled text) h = and_from (nat_le (length text) most_name_bytes) (list_all is_name_byte text) (le-leb (length text) most_name_bytes h.1) h.0
-spelled_names a (awaits_code v) h = tt
-spelled_names a misspelled h = tt
+most_in_names : (rules : Rules) → most_spelled rules ≤ MOST_NAME_BYTES
+most_in_names One = let le : MOST_SPELLED_BEFORE ≤ MOST_NAME_BYTES = omega arith in le
+most_in_names Two = let le : MOST_SPELLED_BEFORE ≤ MOST_NAME_BYTES = omega arith in le
+most_in_names Three = let le : MOST_NAME_BYTES ≤ MOST_NAME_BYTES = omega arith in le
+
+spelled_names : (most : ℕ) (a : Term) (s : Spelling) → most ≤ MOST_NAME_BYTES → IsSpelled most s → MayName (spells a s)
+spelled_names most a (spelled text) le h = and_from (nat_le (length text) MOST_NAME_BYTES) (list_all is_name_byte text) (le-leb (length text) MOST_NAME_BYTES (let few = h.1 in omega arith)) h.0
+spelled_names most a (awaits_code v) le h = tt
+spelled_names most a misspelled le h = tt
 
 become_names : (a : Term) (n : Number) → NamesText (becomes a n)
 become_names a (Value z) = tt
@@ -105,24 +113,25 @@ execute_names (variable v) b = tt
 execute_names (integer i) b = tt
 execute_names (structure f ts) b = tt
 
-pair_names : (f : List ℕ) (a b : Term) → MayName (pair_move f a b)
-pair_names f a b =
+pair_names : (rules : Rules) (f : List ℕ) (a b : Term) → MayName (pair_move rules f a b)
+pair_names rules f a b =
     let last = if bytes_eq f (codes ":") then execute_move a b else None in
-    let third = if bytes_eq f (codes "atom_from") then spells b (spelling most_spelled a) else last in
+    let most = most_spelled rules in
+    let third = if bytes_eq f (codes "atom_from") then spells b (spelling most a) else last in
     let second = if bytes_eq f (codes ":=") then assigned a (evaluated b) else third in
     either_names (bytes_eq f (codes "=")) (Some (unifies a b)) second tt
     (either_names (bytes_eq f (codes ":=")) (assigned a (evaluated b)) third (assigned_names a (evaluated b))
-    (either_names (bytes_eq f (codes "atom_from")) (spells b (spelling most_spelled a)) last (spelled_names b (spelling most_spelled a) (is_spelled most_spelled a))
+    (either_names (bytes_eq f (codes "atom_from")) (spells b (spelling most a)) last (spelled_names most b (spelling most a) (most_in_names rules) (is_spelled most a))
     (either_names (bytes_eq f (codes ":")) (execute_move a b) None (execute_names a b) tt)))
 
-built_in_names : (t : Term) → MayName (built_in_move t)
-built_in_names (atom a) = either_names (bytes_eq a (codes "true")) (Some goes) None tt tt
-built_in_names (structure f (more a (more b none))) = pair_names f a b
-built_in_names (variable v) = tt
-built_in_names (integer i) = tt
-built_in_names (structure f none) = tt
-built_in_names (structure f (more a none)) = tt
-built_in_names (structure f (more a (more b (more c ts)))) = tt
+built_in_names : (rules : Rules) (t : Term) → MayName (built_in_move rules t)
+built_in_names rules (atom a) = either_names (bytes_eq a (codes "true")) (Some goes) None tt tt
+built_in_names rules (structure f (more a (more b none))) = pair_names rules f a b
+built_in_names rules (variable v) = tt
+built_in_names rules (integer i) = tt
+built_in_names rules (structure f none) = tt
+built_in_names rules (structure f (more a none)) = tt
+built_in_names rules (structure f (more a (more b (more c ts)))) = tt
 
 commit_names : (o : Option Candidate) → MayName (option_map (λ k. commits k) o)
 commit_names None = tt
@@ -134,9 +143,14 @@ call_names modules call clause =
     let found = find (λ k. k.number == clause) (candidates_of modules call) in
     either_names (clause == 0) failing (option_map (λ k. commits k) found) (either_names (fails modules call) (Some (raises failure)) None tt tt) (commit_names found)
 
-term_names : (modules : List Module) (t : Term) (clause : ℕ) (o : Option Call) → MayName (term_move modules t clause o)
-term_names modules t clause None = either_names (clause == 0) (built_in_move t) None (built_in_names t) tt
-term_names modules t clause (Some call) = call_names modules call clause
+term_names : (rules : Rules) (modules : List Module) (t : Term) (clause : ℕ) (o : Option Call) → MayName (term_move rules modules t clause o)
+term_names rules modules t clause None = either_names (clause == 0) (built_in_move rules t) None (built_in_names rules t) tt
+term_names rules modules t clause (Some call) = call_names modules call clause
+
+substitute_names : (l : Look) → MayName (substitute_move l)
+substitute_names right = tt
+substitute_names (waits_on v) = tt
+substitute_names wrong = tt
 
 -- what an action names is a text
 abbrev pub ActionText : Action → Type 0
@@ -169,7 +183,8 @@ monitor_acts (Some h) clause = either_acts (clause == 0) (read_action (control_o
 
 task_acts : (s : State) (shoen : ℕ) (task : Task) (clause : ℕ) → MayAct (task_action s shoen task clause)
 task_acts s shoen monitor clause = monitor_acts (shoen_at shoen s.shoens) clause
-task_acts s shoen (reduces t) clause = moves_act t (term_move s.modules t clause (call_of t)) (term_names s.modules t clause (call_of t))
+task_acts s shoen (reduces t) clause = moves_act t (term_move s.rules s.modules t clause (call_of t)) (term_names s.rules s.modules t clause (call_of t))
+task_acts s shoen (substitutes t) clause = either_acts (clause == 0) (option_map (moves t) (substitute_move (goal_look t))) None (moves_act t (substitute_move (goal_look t)) (substitute_names (goal_look t))) tt
 
 -- what a goal can do names texts alone
 pub actions_name_texts : (s : State) (g : Goal) (clause : ℕ) → MayAct (action_of s g clause)

@@ -6,12 +6,12 @@ use Rattle.std.proofs.lemmas.Bool.{and_parts, and_from, or_left, or_right, le-le
 use Rattle.std.proofs.lemmas.List.{append_assoc, length-append}
 use Rattle.std.proofs.lemmas.Option.{none-some, same_Some}
 use Rattle.std.proofs.lemmas.Slice.Eq.{bytes_eq-Decides}
-use Rattle.kl1_model.specs.Limits.{number_limit, most_line_bytes}
+use Rattle.kl1_model.specs.declared.limits.TheConstants.{NUMBER_LIMIT, MOST_LINE_BYTES, MOST_DEPTH}
 use Rattle.kl1_model.specs.declared.message.Message.{Message}
 use Rattle.kl1_model.specs.declared.message.Message.TheVariants.{Stop, Start, Abort, Allow}
 use Rattle.kl1_model.specs.Term.{Term}
 use Rattle.kl1_model.specs.Text.{is_name_byte}
-use Rattle.kl1_model.specs.Meaning.{most_depth, depth, is_narrow, is_writable, is_numbered, highest}
+use Rattle.kl1_model.specs.Meaning.{depth, is_narrow, is_writable, is_numbered, highest}
 use Rattle.kl1_model.specs.Goal.{is_goal}
 use Rattle.kl1_model.specs.Print.{print}
 use Rattle.kl1_model.specs.Token.{is_digit}
@@ -19,16 +19,15 @@ use Rattle.kl1_model.specs.Line.{before_space, behind_space, number_in}
 use Rattle.kl1_model.specs.Module.{Reading, good, read_goal}
 use Rattle.kl1_model.specs.Event.{is_number}
 use Rattle.kl1_model.specs.Sending.{is_message, may_send}
-use Rattle.kl1_model.specs.Opening.{start_line}
 use Rattle.kl1_model.specs.laws.ReadLaws.{is_printable}
-use Rattle.kl1_model_history.specs.Journal.{Entry, loads, starts, sends, steps}
-use Rattle.kl1_model_history.specs.JournalText.{hex_digit, is_hex_digit, hex_text, hex_value, hex_bytes, entry_line, of_two, start_of, start_in, entry_by, if_line}
+use Rattle.kl1_model_history.specs.Journal.{Entry, loads, starts, sends, steps, answers}
+use Rattle.kl1_model_history.specs.JournalText.{hex_digit, is_hex_digit, hex_text, hex_value, hex_bytes, entry_line, of_two, start_of, start_in, answer_of, answer_in, entry_by, if_line}
 use Rattle.kl1_model_history.specs.laws.TextLaws.{AreBytes, HasLine, EntriesReadBack, StrictLinesAreEntries}
 use Rattle.kl1_model_history.proofs.ReadBack.{printed_goals_read_back}
 use Rattle.kl1_model_history.proofs.ReadPlain.{prints_are_plain}
 use Rattle.kl1_model_history.proofs.Words.{few_digits, number_back, before_front, behind_front, decimal_no_space, highest_fits}
 
-two_back : (make : ℕ → ℕ → Entry) (a b : ℕ) → a < number_limit → b < number_limit → of_two make (decimal a ++ 32 ∷ decimal b) ≡ Some (make a b)
+two_back : (make : ℕ → ℕ → Entry) (a b : ℕ) → a < NUMBER_LIMIT → b < NUMBER_LIMIT → of_two make (decimal a ++ 32 ∷ decimal b) ≡ Some (make a b)
 two_back make a b p q =
     rw (before_front (decimal a) (decimal b) (decimal_no_space a p), behind_front (decimal a) (decimal b) (decimal_no_space a p), number_back a p, number_back b q) refl
 
@@ -61,26 +60,30 @@ hex_back (b ∷ bs) a = ap₂ (λ (x : ℕ) (xs : List ℕ). x ∷ xs) (byte_bac
 
 -- the facts of a start
 pub record Starts (allowance low high : ℕ) (t : Term) : Type 0 where
-  pub first : allowance < number_limit
-  pub second : low < number_limit
-  pub third : high < number_limit
+  pub first : allowance < NUMBER_LIMIT
+  pub second : low < NUMBER_LIMIT
+  pub third : high < NUMBER_LIMIT
   pub goal : is_goal t ≡ true
   pub printable : is_printable t ≡ true
   pub plain : list_all is_name_byte (print t) ≡ true
 
--- the goal of a start
+-- a goal that reads back
 record Printable (t : Term) : Type 0 where
   back : is_printable t ≡ true
   plain : list_all is_name_byte (print t) ≡ true
 
-printable_here : (allowance low high : ℕ) (t : Term) → is_writable t ≡ true → is_numbered t ≡ true → length (start_line allowance low high t) ≤ most_line_bytes → Printable t
-printable_here allowance low high t writable numbered short =
-    let front = codes "start " ++ decimal allowance ++ codes " " ++ decimal low ++ codes " " ++ decimal high ++ codes " " in
-    let few : highest t < number_limit = omega (arith, highest_fits t numbered, length-append front (print t)) in
+-- a goal that ends a line that isn't too long
+printable_here : (front : List ℕ) (t : Term) → is_writable t ≡ true → is_numbered t ≡ true → length (front ++ print t) ≤ MOST_LINE_BYTES → Printable t
+printable_here front t writable numbered short =
+    let few : highest t < NUMBER_LIMIT = omega (arith, highest_fits t numbered, length-append front (print t)) in
     record {
-      back = and_from (is_writable t && is_numbered t) (nat_lt (highest t) number_limit) (and_from (is_writable t) (is_numbered t) writable numbered) (lt-ltb (highest t) number_limit few);
-      plain = prints_are_plain t (and_parts (is_narrow t) (nat_le (depth t) most_depth) writable).0 few;
+      back = and_from (is_writable t && is_numbered t) (nat_lt (highest t) NUMBER_LIMIT) (and_from (is_writable t) (is_numbered t) writable numbered) (lt-ltb (highest t) NUMBER_LIMIT few);
+      plain = prints_are_plain t (and_parts (is_narrow t) (nat_le (depth t) MOST_DEPTH) writable).0 few;
     }
+
+-- what a start's line has before its goal
+abbrev start_front : ℕ → ℕ → ℕ → List ℕ
+start_front allowance low high = codes "start " ++ decimal allowance ++ codes " " ++ decimal low ++ codes " " ++ decimal high ++ codes " "
 
 -- a start that has a line
 pub starts_here : (allowance low high : ℕ) (t : Term) → HasLine (starts allowance low high t) → Starts allowance low high t
@@ -89,8 +92,30 @@ starts_here allowance low high t h = record {
   second = h.1;
   third = h.2;
   goal = h.3;
-  printable = (printable_here allowance low high t h.4 h.5 h.6).back;
-  plain = (printable_here allowance low high t h.4 h.5 h.6).plain;
+  printable = (printable_here (start_front allowance low high) t h.4 h.5 h.6).back;
+  plain = (printable_here (start_front allowance low high) t h.4 h.5 h.6).plain;
+}
+
+-- the facts of an answer
+pub record Answers (n report : ℕ) (t : Term) : Type 0 where
+  pub first : n < NUMBER_LIMIT
+  pub second : report < NUMBER_LIMIT
+  pub goal : is_goal t ≡ true
+  pub printable : is_printable t ≡ true
+  pub plain : list_all is_name_byte (print t) ≡ true
+
+-- what an answer's line has before its goal
+abbrev answer_front : ℕ → ℕ → List ℕ
+answer_front n report = codes "answer " ++ decimal n ++ codes " " ++ decimal report ++ codes " "
+
+-- an answer that has a line
+pub answers_here : (n report : ℕ) (t : Term) → HasLine (answers n report t) → Answers n report t
+answers_here n report t h = record {
+  first = h.0;
+  second = h.1;
+  goal = h.2;
+  printable = (printable_here (answer_front n report) t h.3 h.4 h.5).back;
+  plain = (printable_here (answer_front n report) t h.3 h.4 h.5).plain;
 }
 
 by_parts : (x y z : Option ℕ) (r : Reading Term) (a l h : ℕ) (t : Term) → x ≡ Some a → y ≡ Some l → z ≡ Some h → r ≡ good t →
@@ -113,6 +138,25 @@ start_back allowance low high t s =
     (ap (λ x. number_in (before_space x)) is_c ∙ ap number_in (before_front (decimal high) last (decimal_no_space high s.third)) ∙ number_back high s.third)
     (ap read_goal is_last ∙ printed_goals_read_back t s.printable s.goal)
 
+by_two : (x y : Option ℕ) (r : Reading Term) (n report : ℕ) (t : Term) → x ≡ Some n → y ≡ Some report → r ≡ good t → option_and_then (λ n. option_and_then (λ report. answer_of n report r) y) x ≡ Some (answers n report t)
+by_two x y r n report t p q e = rw (p, q, e) refl
+
+-- an answer by its numbers and its goal
+answer_back : (n report : ℕ) (t : Term) → Answers n report t → answer_in (decimal n ++ 32 ∷ (decimal report ++ 32 ∷ print t)) ≡ Some (answers n report t)
+answer_back n report t s =
+    let last = print t in
+    let b = decimal report ++ 32 ∷ last in
+    let rest = decimal n ++ 32 ∷ b in
+    let is_b : behind_space rest ≡ b = behind_front (decimal n) b (decimal_no_space n s.first) in
+    let is_last : behind_space (behind_space rest) ≡ last = ap behind_space is_b ∙ behind_front (decimal report) last (decimal_no_space report s.second) in
+    by_two (number_in (before_space rest)) (number_in (before_space (behind_space rest))) (read_goal (behind_space (behind_space rest))) n report t
+    (ap number_in (before_front (decimal n) b (decimal_no_space n s.first)) ∙ number_back n s.first)
+    (ap (λ x. number_in (before_space x)) is_b ∙ ap number_in (before_front (decimal report) last (decimal_no_space report s.second)) ∙ number_back report s.second)
+    (ap read_goal is_last ∙ printed_goals_read_back t s.printable s.goal)
+
+three_parts : (a b p : List ℕ) → a ++ 32 ∷ [] ++ b ++ 32 ∷ [] ++ p ≡ a ++ 32 ∷ (b ++ 32 ∷ p)
+three_parts a b p = simp append_assoc refl
+
 four_parts : (a l h p : List ℕ) → a ++ 32 ∷ [] ++ l ++ 32 ∷ [] ++ h ++ 32 ∷ [] ++ p ≡ a ++ 32 ∷ (l ++ 32 ∷ (h ++ 32 ∷ p))
 four_parts a l h p = simp append_assoc refl
 
@@ -120,12 +164,12 @@ two_parts : (a b : List ℕ) → a ++ 32 ∷ [] ++ b ≡ a ++ 32 ∷ b
 two_parts a b = append_assoc a (32 ∷ []) b
 
 -- the number of a message's shoen
-pub sent_number : (n : ℕ) (m : Message) → may_send n m ≡ true → n < number_limit
-sent_number n m h = ltb-true n number_limit (and_parts (is_number n) (is_message m) h).0
+pub sent_number : (n : ℕ) (m : Message) → may_send n m ≡ true → n < NUMBER_LIMIT
+sent_number n m h = ltb-true n NUMBER_LIMIT (and_parts (is_number n) (is_message m) h).0
 
 -- how much more a message allows
-pub sent_more : (n k : ℕ) → may_send n (Allow k) ≡ true → k < number_limit
-sent_more n k h = ltb-true k number_limit (and_parts (is_number n) (is_number k) h).1
+pub sent_more : (n k : ℕ) → may_send n (Allow k) ≡ true → k < NUMBER_LIMIT
+sent_more n k h = ltb-true k NUMBER_LIMIT (and_parts (is_number n) (is_number k) h).1
 
 -- the entry by the words of its line
 by_back : (e : Entry) → HasLine e → entry_by (before_space (entry_line e)) (behind_space (entry_line e)) ≡ Some e
@@ -135,6 +179,7 @@ by_back (sends n Stop) h = ap (option_map (λ k. sends k Stop)) (number_back n (
 by_back (sends n Start) h = ap (option_map (λ k. sends k Start)) (number_back n (sent_number n Start h))
 by_back (sends n Abort) h = ap (option_map (λ k. sends k Abort)) (number_back n (sent_number n Abort h))
 by_back (sends n (Allow k)) h = ap (of_two (λ n k. sends n (Allow k))) (two_parts (decimal n) (decimal k)) ∙ two_back (λ n k. sends n (Allow k)) n k (sent_number n (Allow k) h) (sent_more n k h)
+by_back (answers n report t) h = ap answer_in (three_parts (decimal n) (decimal report) (print t)) ∙ answer_back n report t (answers_here n report t h)
 by_back (steps goal clause) h = ap (of_two steps) (two_parts (decimal goal) (decimal clause)) ∙ two_back steps goal clause h.0 h.1
 
 -- two digits each
@@ -142,17 +187,18 @@ pub length_hex : (bs : List ℕ) → length (hex_text bs) ≡ 2 * length bs
 length_hex [] = refl
 length_hex (b ∷ bs) = omega (arith, length_hex bs)
 
-length_two : (a b : ℕ) → a < number_limit → b < number_limit → length (decimal a ++ codes " " ++ decimal b) ≤ 39
+length_two : (a b : ℕ) → a < NUMBER_LIMIT → b < NUMBER_LIMIT → length (decimal a ++ codes " " ++ decimal b) ≤ 39
 length_two a b p q = omega (arith, length-append (decimal a ++ codes " ") (decimal b), length-append (decimal a) (codes " "), few_digits a p, few_digits b q)
 
 -- the line of an entry isn't too long
-fits : (e : Entry) → HasLine e → length (entry_line e) ≤ most_line_bytes
+fits : (e : Entry) → HasLine e → length (entry_line e) ≤ MOST_LINE_BYTES
 fits (loads text) h = h.1
 fits (starts allowance low high t) h = h.6
 fits (sends n Stop) h = omega (arith, few_digits n (sent_number n Stop h))
 fits (sends n Start) h = omega (arith, few_digits n (sent_number n Start h))
 fits (sends n Abort) h = omega (arith, few_digits n (sent_number n Abort h))
 fits (sends n (Allow k)) h = omega (arith, length_two n k (sent_number n (Allow k) h) (sent_more n k h))
+fits (answers n report t) h = h.5
 fits (steps goal clause) h = omega (arith, length_two goal clause h.0 h.1)
 
 line_same : (e : Entry) → if_line (entry_line e) e ≡ Some e
@@ -161,7 +207,7 @@ line_same e = rw ((bytes_eq-Decides (entry_line e) (entry_line e)).1 refl) refl
 pub entries_read_back : EntriesReadBack
 entries_read_back e h =
     let line = entry_line e in
-    ap (λ x. if◌then◌else◌ {A = Option Entry} x (option_and_then (if_line line) (entry_by (before_space line) (behind_space line))) None) (le-leb (length line) most_line_bytes (fits e h))
+    ap (λ x. if◌then◌else◌ {A = Option Entry} x (option_and_then (if_line line) (entry_by (before_space line) (behind_space line))) None) (le-leb (length line) MOST_LINE_BYTES (fits e h))
     ∙ ap (option_and_then (if_line line)) (by_back e h)
     ∙ line_same e
 
@@ -178,4 +224,4 @@ strict_short true line o f h = strict_by line o f h
 strict_short false line o f h = absurd (none-some f h)
 
 pub strict_lines_are_entries : StrictLinesAreEntries
-strict_lines_are_entries line e h = strict_short (nat_le (length line) most_line_bytes) line (entry_by (before_space line) (behind_space line)) e h
+strict_lines_are_entries line e h = strict_short (nat_le (length line) MOST_LINE_BYTES) line (entry_by (before_space line) (behind_space line)) e h

@@ -6,6 +6,7 @@ use Rattle.std.proofs.lemmas.Bool.{and_parts, and_from, eqb-true}
 use Rattle.std.proofs.lemmas.List.{append_assoc, append-nil}
 use Rattle.std.proofs.lemmas.List.Folds.{list_all-append}
 use Rattle.std.proofs.lemmas.Option.{none-some, same_Some}
+use Rattle.kl1_model.specs.declared.rules.Rules.{Rules}
 use Rattle.kl1_model.specs.Text.{is_text}
 use Rattle.kl1_model_history.specs.Command.{written_lines}
 use Rattle.kl1_model_history.specs.Journal.{Entry, Journal, new_journal}
@@ -16,39 +17,39 @@ use Rattle.kl1_model_history.proofs.TextNames.{names_read_back, strict_lines_are
 use Rattle.kl1_model_history.proofs.TextLines.{lines_of_lines, texts_are_lines}
 use Rattle.kl1_model_history.proofs.TextUnbroken.{entry_unbroken, name_unbroken, first_unbroken}
 
--- the journal of these sessions, names and entries
-abbrev journal_from : ℕ → List (List ℕ) → List Entry → Journal
-journal_from sessions names entries = record { sessions = sessions; names = names; entries = entries }
+-- the journal of these rules, sessions, names and entries
+abbrev journal_from : Rules → ℕ → List (List ℕ) → List Entry → Journal
+journal_from rules sessions names entries = record { rules = rules; sessions = sessions; names = names; entries = entries }
 
 -- one entry of a journal that is read
 entry_then : (e : Entry) (o : Option Entry) (rest : Option Journal) (j : Journal) → o ≡ Some e → rest ≡ Some j → option_and_then (λ e. option_map (entry_first e) rest) o ≡ Some (entry_first e j)
 entry_then e o rest j p q = rw (p, q) refl
 
-with_back : (sessions : ℕ) (names : List (List ℕ)) (es : List Entry) → AllByRecursion HasLine es → journal_with sessions names (map entry_line es) ≡ Some (journal_from sessions names es)
-with_back sessions names [] h = refl
-with_back sessions names (e ∷ es) h =
-    entry_then e (entry_in (entry_line e)) (journal_with sessions names (map entry_line es)) (journal_from sessions names es) (entries_read_back e h.0) (with_back sessions names es h.1)
+with_back : (rules : Rules) (sessions : ℕ) (names : List (List ℕ)) (es : List Entry) → AllByRecursion HasLine es → journal_with rules sessions names (map entry_line es) ≡ Some (journal_from rules sessions names es)
+with_back rules sessions names [] h = refl
+with_back rules sessions names (e ∷ es) h =
+    entry_then e (entry_in (entry_line e)) (journal_with rules sessions names (map entry_line es)) (journal_from rules sessions names es) (entries_read_back e h.0) (with_back rules sessions names es h.1)
 
 -- one name of a journal that is read
 name_then : (o : Option (List ℕ)) (t : List ℕ) (test : List ℕ → Bool) (go : List ℕ → Option Journal) → o ≡ Some t → test t ≡ true → option_and_then (λ t. if test t then go t else None) o ≡ go t
 name_then o t test go p q = ap (option_and_then (λ t. if test t then go t else None)) p ∙ ap (λ x. if◌then◌else◌ {A = Option Journal} x (go t) None) q
 
-after_back : (sessions : ℕ) (before names : List (List ℕ)) (es : List Entry) → are_new_names before names ≡ true → AllByRecursion HasLine es →
-    journal_after sessions before (length names) (map name_line names ++ map entry_line es) ≡ Some (journal_from sessions (before ++ names) es)
-after_back sessions before [] es new h = with_back sessions before es h ∙ ap (λ x. Some (journal_from sessions x es)) (sym (append-nil before))
-after_back sessions before (t ∷ ts) es new h =
+after_back : (rules : Rules) (sessions : ℕ) (before names : List (List ℕ)) (es : List Entry) → are_new_names before names ≡ true → AllByRecursion HasLine es →
+    journal_after rules sessions before (length names) (map name_line names ++ map entry_line es) ≡ Some (journal_from rules sessions (before ++ names) es)
+after_back rules sessions before [] es new h = with_back rules sessions before es h ∙ ap (λ x. Some (journal_from rules sessions x es)) (sym (append-nil before))
+after_back rules sessions before (t ∷ ts) es new h =
     let all = and_parts (is_text t && is_new_name before t) (are_new_names (before ++ t ∷ []) ts) new in
     let both = and_parts (is_text t) (is_new_name before t) all.0 in
-    name_then (name_in (name_line t)) t (is_new_name before) (λ t. journal_after sessions (before ++ t ∷ []) (length ts) (map name_line ts ++ map entry_line es)) (names_read_back t both.0) both.1
-    ∙ after_back sessions (before ++ t ∷ []) ts es all.1 h
-    ∙ ap (λ x. Some (journal_from sessions x es)) (append_assoc before (t ∷ []) ts)
+    name_then (name_in (name_line t)) t (is_new_name before) (λ t. journal_after rules sessions (before ++ t ∷ []) (length ts) (map name_line ts ++ map entry_line es)) (names_read_back t both.0) both.1
+    ∙ after_back rules sessions (before ++ t ∷ []) ts es all.1 h
+    ∙ ap (λ x. Some (journal_from rules sessions x es)) (append_assoc before (t ∷ []) ts)
 
 -- the lines of a journal
 of_back : (j : Journal) → IsWritten j → journal_of (journal_lines j) ≡ Some j
 of_back j w =
     let lines = map name_line j.names ++ map entry_line j.entries in
-    ap (option_and_then (λ (h : Heading). journal_after h.sessions [] h.names lines)) (headings_read_back j.sessions (length j.names) w.sessions w.names.few)
-    ∙ after_back j.sessions [] j.names j.entries w.names.new w.entries
+    ap (option_and_then (λ (h : Heading). journal_after h.rules h.sessions [] h.names lines)) (headings_read_back j.rules j.sessions (length j.names) w.sessions w.names.few)
+    ∙ after_back j.rules j.sessions [] j.names j.entries w.names.new w.entries
 
 names_unbroken : (before names : List (List ℕ)) → are_new_names before names ≡ true → list_all is_unbroken (map name_line names) ≡ true
 names_unbroken before [] h = refl
@@ -67,7 +68,7 @@ lines_unbroken j w =
     let entries = map entry_line j.entries in
     let few = w.sessions in
     let less = w.names.few in
-    and_from (is_unbroken (first_line j.sessions (length j.names))) (list_all is_unbroken (names ++ entries)) (first_unbroken j.sessions (length j.names) (omega arith) (omega arith))
+    and_from (is_unbroken (first_line j.rules j.sessions (length j.names))) (list_all is_unbroken (names ++ entries)) (first_unbroken j.rules j.sessions (length j.names) (omega arith) (omega arith))
     (list_all-append is_unbroken names entries ∙ and_from (list_all is_unbroken names) (list_all is_unbroken entries) (names_unbroken [] j.names w.names.new) (entries_unbroken j.entries w.entries))
 
 -- the lines of a journal's text
@@ -77,74 +78,78 @@ text_lines j w = ap lines_of (sym (append-nil (journal_text j))) ∙ lines_of_li
 pub journals_read_back : JournalsReadBack
 journals_read_back j w = ap (λ (ls : Lines). if◌then◌else◌ {A = Option Journal} (length ls.rest == 0) (journal_of ls.whole) None) (text_lines j w) ∙ of_back j w
 
--- what is known of a journal that was read with these sessions and names
-record ReadWith (sessions : ℕ) (names lines : List (List ℕ)) (j : Journal) : Type 0 where
+-- what is known of a journal that was read with these rules, sessions and names
+record ReadWith (rules : Rules) (sessions : ℕ) (names lines : List (List ℕ)) (j : Journal) : Type 0 where
+  same_rules : j.rules ≡ rules
   same_sessions : j.sessions ≡ sessions
   same_names : j.names ≡ names
   same_lines : map entry_line j.entries ≡ lines
 
-entry_read : (line : List ℕ) (e : Entry) (sessions : ℕ) (names lines : List (List ℕ)) (i j : Journal) → entry_line e ≡ line → ReadWith sessions names lines i → entry_first e i ≡ j → ReadWith sessions names (line ∷ lines) j
-entry_read line e sessions names lines i j is r same = subst (ReadWith sessions names (line ∷ lines)) same (record {
+entry_read : (line : List ℕ) (e : Entry) (rules : Rules) (sessions : ℕ) (names lines : List (List ℕ)) (i j : Journal) → entry_line e ≡ line → ReadWith rules sessions names lines i → entry_first e i ≡ j → ReadWith rules sessions names (line ∷ lines) j
+entry_read line e rules sessions names lines i j is r same = subst (ReadWith rules sessions names (line ∷ lines)) same (record {
+  same_rules = r.same_rules;
   same_sessions = r.same_sessions;
   same_names = r.same_names;
   same_lines = ap₂ (λ (x : List ℕ) (xs : List (List ℕ)). x ∷ xs) is r.same_lines;
 })
 
-rest_read : (line : List ℕ) (e : Entry) (sessions : ℕ) (names lines : List (List ℕ)) (o : Option Journal) (j : Journal) → entry_line e ≡ line → ((i : Journal) → o ≡ Some i → ReadWith sessions names lines i) → option_map (entry_first e) o ≡ Some j → ReadWith sessions names (line ∷ lines) j
-rest_read line e sessions names lines None j is r h = absurd (none-some j h)
-rest_read line e sessions names lines (Some i) j is r h = entry_read line e sessions names lines i j is (r i refl) (same_Some (entry_first e i) j h)
+rest_read : (line : List ℕ) (e : Entry) (rules : Rules) (sessions : ℕ) (names lines : List (List ℕ)) (o : Option Journal) (j : Journal) → entry_line e ≡ line → ((i : Journal) → o ≡ Some i → ReadWith rules sessions names lines i) → option_map (entry_first e) o ≡ Some j → ReadWith rules sessions names (line ∷ lines) j
+rest_read line e rules sessions names lines None j is r h = absurd (none-some j h)
+rest_read line e rules sessions names lines (Some i) j is r h = entry_read line e rules sessions names lines i j is (r i refl) (same_Some (entry_first e i) j h)
 
-line_read : (line : List ℕ) (sessions : ℕ) (names lines : List (List ℕ)) (x : Option Entry) (o : Option Journal) (j : Journal) → ((e : Entry) → x ≡ Some e → entry_line e ≡ line) → ((i : Journal) → o ≡ Some i → ReadWith sessions names lines i) → option_and_then (λ e. option_map (entry_first e) o) x ≡ Some j → ReadWith sessions names (line ∷ lines) j
-line_read line sessions names lines None o j is r h = absurd (none-some j h)
-line_read line sessions names lines (Some e) o j is r h = rest_read line e sessions names lines o j (is e refl) r h
+line_read : (line : List ℕ) (rules : Rules) (sessions : ℕ) (names lines : List (List ℕ)) (x : Option Entry) (o : Option Journal) (j : Journal) → ((e : Entry) → x ≡ Some e → entry_line e ≡ line) → ((i : Journal) → o ≡ Some i → ReadWith rules sessions names lines i) → option_and_then (λ e. option_map (entry_first e) o) x ≡ Some j → ReadWith rules sessions names (line ∷ lines) j
+line_read line rules sessions names lines None o j is r h = absurd (none-some j h)
+line_read line rules sessions names lines (Some e) o j is r h = rest_read line e rules sessions names lines o j (is e refl) r h
 
-with_strict : (sessions : ℕ) (names lines : List (List ℕ)) (j : Journal) → journal_with sessions names lines ≡ Some j → ReadWith sessions names lines j
-with_strict sessions names [] j h = subst (ReadWith sessions names []) (same_Some (new_journal names sessions) j h) (record { same_sessions = refl; same_names = refl; same_lines = refl })
-with_strict sessions names (line ∷ lines) j h =
-    line_read line sessions names lines (entry_in line) (journal_with sessions names lines) j (strict_lines_are_entries line) (with_strict sessions names lines) h
+with_strict : (rules : Rules) (sessions : ℕ) (names lines : List (List ℕ)) (j : Journal) → journal_with rules sessions names lines ≡ Some j → ReadWith rules sessions names lines j
+with_strict rules sessions names [] j h = subst (ReadWith rules sessions names []) (same_Some (new_journal rules names sessions) j h) (record { same_rules = refl; same_sessions = refl; same_names = refl; same_lines = refl })
+with_strict rules sessions names (line ∷ lines) j h =
+    line_read line rules sessions names lines (entry_in line) (journal_with rules sessions names lines) j (strict_lines_are_entries line) (with_strict rules sessions names lines) h
 
--- what is known of a journal that was read with these sessions and names and this number of names more
-record ReadAfter (sessions : ℕ) (before : List (List ℕ)) (n : ℕ) (lines : List (List ℕ)) (j : Journal) : Type 0 where
+-- what is known of a journal that was read with these rules, sessions and names and this number of names more
+record ReadAfter (rules : Rules) (sessions : ℕ) (before : List (List ℕ)) (n : ℕ) (lines : List (List ℕ)) (j : Journal) : Type 0 where
   more : List (List ℕ)
   count : length more ≡ n
   same_names : j.names ≡ before ++ more
+  same_rules : j.rules ≡ rules
   same_sessions : j.sessions ≡ sessions
   same_lines : map name_line more ++ map entry_line j.entries ≡ lines
 
-name_more : (line t : List ℕ) (sessions : ℕ) (before : List (List ℕ)) (n : ℕ) (lines : List (List ℕ)) (j : Journal) → name_line t ≡ line → ReadAfter sessions (before ++ t ∷ []) n lines j → ReadAfter sessions before (suc n) (line ∷ lines) j
-name_more line t sessions before n lines j is r = record {
+name_more : (line t : List ℕ) (rules : Rules) (sessions : ℕ) (before : List (List ℕ)) (n : ℕ) (lines : List (List ℕ)) (j : Journal) → name_line t ≡ line → ReadAfter rules sessions (before ++ t ∷ []) n lines j → ReadAfter rules sessions before (suc n) (line ∷ lines) j
+name_more line t rules sessions before n lines j is r = record {
   more = t ∷ r.more;
   count = ap suc r.count;
   same_names = r.same_names ∙ append_assoc before (t ∷ []) r.more;
+  same_rules = r.same_rules;
   same_sessions = r.same_sessions;
   same_lines = ap₂ (λ (x : List ℕ) (xs : List (List ℕ)). x ∷ xs) is r.same_lines;
 }
 
-name_by : (b : Bool) (line t : List ℕ) (sessions : ℕ) (before : List (List ℕ)) (n : ℕ) (lines : List (List ℕ)) (j : Journal) → name_line t ≡ line → (journal_after sessions (before ++ t ∷ []) n lines ≡ Some j → ReadAfter sessions (before ++ t ∷ []) n lines j) → (if b then journal_after sessions (before ++ t ∷ []) n lines else None) ≡ Some j → ReadAfter sessions before (suc n) (line ∷ lines) j
-name_by true line t sessions before n lines j is r h = name_more line t sessions before n lines j is (r h)
-name_by false line t sessions before n lines j is r h = absurd (none-some j h)
+name_by : (b : Bool) (line t : List ℕ) (rules : Rules) (sessions : ℕ) (before : List (List ℕ)) (n : ℕ) (lines : List (List ℕ)) (j : Journal) → name_line t ≡ line → (journal_after rules sessions (before ++ t ∷ []) n lines ≡ Some j → ReadAfter rules sessions (before ++ t ∷ []) n lines j) → (if b then journal_after rules sessions (before ++ t ∷ []) n lines else None) ≡ Some j → ReadAfter rules sessions before (suc n) (line ∷ lines) j
+name_by true line t rules sessions before n lines j is r h = name_more line t rules sessions before n lines j is (r h)
+name_by false line t rules sessions before n lines j is r h = absurd (none-some j h)
 
-name_read : (line : List ℕ) (sessions : ℕ) (before : List (List ℕ)) (n : ℕ) (lines : List (List ℕ)) (x : Option (List ℕ)) (j : Journal) → ((t : List ℕ) → x ≡ Some t → name_line t ≡ line) → ((t : List ℕ) → journal_after sessions (before ++ t ∷ []) n lines ≡ Some j → ReadAfter sessions (before ++ t ∷ []) n lines j) → option_and_then (λ t. if is_new_name before t then journal_after sessions (before ++ t ∷ []) n lines else None) x ≡ Some j → ReadAfter sessions before (suc n) (line ∷ lines) j
-name_read line sessions before n lines None j is r h = absurd (none-some j h)
-name_read line sessions before n lines (Some t) j is r h = name_by (is_new_name before t) line t sessions before n lines j (is t refl) (r t) h
+name_read : (line : List ℕ) (rules : Rules) (sessions : ℕ) (before : List (List ℕ)) (n : ℕ) (lines : List (List ℕ)) (x : Option (List ℕ)) (j : Journal) → ((t : List ℕ) → x ≡ Some t → name_line t ≡ line) → ((t : List ℕ) → journal_after rules sessions (before ++ t ∷ []) n lines ≡ Some j → ReadAfter rules sessions (before ++ t ∷ []) n lines j) → option_and_then (λ t. if is_new_name before t then journal_after rules sessions (before ++ t ∷ []) n lines else None) x ≡ Some j → ReadAfter rules sessions before (suc n) (line ∷ lines) j
+name_read line rules sessions before n lines None j is r h = absurd (none-some j h)
+name_read line rules sessions before n lines (Some t) j is r h = name_by (is_new_name before t) line t rules sessions before n lines j (is t refl) (r t) h
 
-after_strict : (sessions : ℕ) (before : List (List ℕ)) (n : ℕ) (lines : List (List ℕ)) (j : Journal) → journal_after sessions before n lines ≡ Some j → ReadAfter sessions before n lines j
-after_strict sessions before zero lines j h =
-    let r = with_strict sessions before lines j h in
-    record { more = []; count = refl; same_names = r.same_names ∙ sym (append-nil before); same_sessions = r.same_sessions; same_lines = r.same_lines }
-after_strict sessions before (suc n) [] j h = absurd (none-some j h)
-after_strict sessions before (suc n) (line ∷ lines) j h =
-    name_read line sessions before n lines (name_in line) j (λ t is. (strict_lines_are_names line t is).1) (λ t. after_strict sessions (before ++ t ∷ []) n lines j) h
+after_strict : (rules : Rules) (sessions : ℕ) (before : List (List ℕ)) (n : ℕ) (lines : List (List ℕ)) (j : Journal) → journal_after rules sessions before n lines ≡ Some j → ReadAfter rules sessions before n lines j
+after_strict rules sessions before zero lines j h =
+    let r = with_strict rules sessions before lines j h in
+    record { more = []; count = refl; same_names = r.same_names ∙ sym (append-nil before); same_rules = r.same_rules; same_sessions = r.same_sessions; same_lines = r.same_lines }
+after_strict rules sessions before (suc n) [] j h = absurd (none-some j h)
+after_strict rules sessions before (suc n) (line ∷ lines) j h =
+    name_read line rules sessions before n lines (name_in line) j (λ t is. (strict_lines_are_names line t is).1) (λ t. after_strict rules sessions (before ++ t ∷ []) n lines j) h
 
-lines_are : (line : List ℕ) (h : Heading) (lines : List (List ℕ)) (j : Journal) → first_line h.sessions h.names ≡ line → ReadAfter h.sessions [] h.names lines j → journal_lines j ≡ line ∷ lines
+lines_are : (line : List ℕ) (h : Heading) (lines : List (List ℕ)) (j : Journal) → first_line h.rules h.sessions h.names ≡ line → ReadAfter h.rules h.sessions [] h.names lines j → journal_lines j ≡ line ∷ lines
 lines_are line h lines j is r =
     ap₂ (λ (x : List ℕ) (xs : List (List ℕ)). x ∷ xs)
-    (ap₂ first_line r.same_sessions (ap (length {A = List ℕ}) r.same_names ∙ r.count) ∙ is)
+    (ap (λ rules. first_line rules j.sessions (length j.names)) r.same_rules ∙ ap₂ (first_line h.rules) r.same_sessions (ap (length {A = List ℕ}) r.same_names ∙ r.count) ∙ is)
     (ap (λ (x : List (List ℕ)). map name_line x ++ map entry_line j.entries) r.same_names ∙ r.same_lines)
 
-heading_read : (line : List ℕ) (x : Option Heading) (lines : List (List ℕ)) (j : Journal) → ((h : Heading) → x ≡ Some h → first_line h.sessions h.names ≡ line) → option_and_then (λ (h : Heading). journal_after h.sessions [] h.names lines) x ≡ Some j → journal_lines j ≡ line ∷ lines
+heading_read : (line : List ℕ) (x : Option Heading) (lines : List (List ℕ)) (j : Journal) → ((h : Heading) → x ≡ Some h → first_line h.rules h.sessions h.names ≡ line) → option_and_then (λ (h : Heading). journal_after h.rules h.sessions [] h.names lines) x ≡ Some j → journal_lines j ≡ line ∷ lines
 heading_read line None lines j is e = absurd (none-some j e)
-heading_read line (Some h) lines j is e = lines_are line h lines j (is h refl) (after_strict h.sessions [] h.names lines j e)
+heading_read line (Some h) lines j is e = lines_are line h lines j (is h refl) (after_strict h.rules h.sessions [] h.names lines j e)
 
 of_strict : (lines : List (List ℕ)) (j : Journal) → journal_of lines ≡ Some j → journal_lines j ≡ lines
 of_strict [] j h = absurd (none-some j h)

@@ -6,11 +6,13 @@ use Rattle.std.proofs.lemmas.List.{append_assoc}
 use Rattle.std.specs.List.{list_all}
 use Rattle.std.proofs.lemmas.Option.{none-some, same_Some}
 use Rattle.std.proofs.lemmas.Slice.Eq.{bytes_eq-Decides}
-use Rattle.kl1_model.specs.Limits.{number_limit, most_names, most_sessions}
+use Rattle.kl1_model.specs.declared.rules.Rules.{Rules}
+use Rattle.kl1_model.specs.declared.rules.Rules.TheVariants.{One, Two, Three}
+use Rattle.kl1_model.specs.declared.limits.TheConstants.{NUMBER_LIMIT, MOST_NAMES, MOST_SESSIONS}
 use Rattle.kl1_model.specs.Text.{is_text}
 use Rattle.kl1_model.specs.Name.{is_small_letter, is_word_byte, is_bare, doubled, quoted, name_text}
 use Rattle.kl1_model.specs.Line.{before_space, behind_space, number_in}
-use Rattle.kl1_model_history.specs.JournalText.{name_line, unquoted, name_by, if_name_line, first_line, Heading, if_first_line}
+use Rattle.kl1_model_history.specs.JournalText.{name_line, unquoted, name_by, if_name_line, version, first_line, Heading, if_first_line, rules_of, heading_with}
 use Rattle.kl1_model_history.specs.laws.TextLaws.{NamesReadBack, StrictLinesAreNames, HeadingsReadBack, StrictLinesAreHeadings}
 use Rattle.kl1_model_history.proofs.Words.{number_back, before_front, behind_front, decimal_no_space}
 
@@ -64,46 +66,60 @@ strict_lines_are_names line t h =
     let u = name_by (behind_space line) in
     name_strict (is_text u && bytes_eq (name_line u) line) line u t refl h
 
-heading_by : (line : List ℕ) (x y : Option ℕ) (m n : ℕ) → x ≡ Some m → y ≡ Some n → option_and_then (λ sessions. option_and_then (λ names. if_first_line line sessions names) y) x ≡ if_first_line line m n
-heading_by line x y m n p q = rw (p, q) refl
+heading_by : (line : List ℕ) (rules : Rules) (x y : Option ℕ) (m n : ℕ) → x ≡ Some m → y ≡ Some n → option_and_then (λ sessions. option_and_then (λ names. if_first_line line rules sessions names) y) x ≡ if_first_line line rules m n
+heading_by line rules x y m n p q = rw (p, q) refl
 
 -- a heading whose numbers are small
-heading_same : (m n : ℕ) → m ≤ most_sessions → n ≤ most_names → if_first_line (first_line m n) m n ≡ Some (record { sessions = m; names = n })
-heading_same m n p q =
-    let line = first_line m n in
-    ap (λ x. if◌then◌else◌ {A = Option Heading} x (Some (record { sessions = m; names = n })) None)
-    (and_from (nat_le m most_sessions && nat_le n most_names) (bytes_eq line line) (and_from (nat_le m most_sessions) (nat_le n most_names) (le-leb m most_sessions p) (le-leb n most_names q)) ((bytes_eq-Decides line line).1 refl))
+heading_same : (rules : Rules) (m n : ℕ) → m ≤ MOST_SESSIONS → n ≤ MOST_NAMES → if_first_line (first_line rules m n) rules m n ≡ Some (record { rules = rules; sessions = m; names = n })
+heading_same rules m n p q =
+    let line = first_line rules m n in
+    ap (λ x. if◌then◌else◌ {A = Option Heading} x (Some (record { rules = rules; sessions = m; names = n })) None)
+    (and_from (nat_le m MOST_SESSIONS && nat_le n MOST_NAMES) (bytes_eq line line) (and_from (nat_le m MOST_SESSIONS) (nat_le n MOST_NAMES) (le-leb m MOST_SESSIONS p) (le-leb n MOST_NAMES q)) ((bytes_eq-Decides line line).1 refl))
+
+-- the version of a journal, and what stands after it in the first line
+version_back : (rules : Rules) (rest : List ℕ) → (line : List ℕ) → line ≡ codes "journal " ++ version rules ++ 32 ∷ rest → (rules_of (before_space (behind_space line)) ≡ Some rules) × (behind_space (behind_space line) ≡ rest)
+version_back One rest line is = (ap (λ x. rules_of (before_space (behind_space x))) is, ap (λ x. behind_space (behind_space x)) is)
+version_back Two rest line is = (ap (λ x. rules_of (before_space (behind_space x))) is, ap (λ x. behind_space (behind_space x)) is)
+version_back Three rest line is = (ap (λ x. rules_of (before_space (behind_space x))) is, ap (λ x. behind_space (behind_space x)) is)
+
+first_parts : (v m n : List ℕ) → codes "journal " ++ v ++ 32 ∷ [] ++ m ++ 32 ∷ [] ++ n ≡ codes "journal " ++ v ++ 32 ∷ (m ++ 32 ∷ n)
+first_parts v m n = simp append_assoc refl
 
 pub headings_read_back : HeadingsReadBack
-headings_read_back m n p q =
-    let few : m < number_limit = omega arith in
-    let less : n < number_limit = omega arith in
+headings_read_back rules m n p q =
+    let few : m < NUMBER_LIMIT = omega arith in
+    let less : n < NUMBER_LIMIT = omega arith in
     let rest = decimal m ++ 32 ∷ decimal n in
-    let line = first_line m n in
-    let is_rest : behind_space (behind_space line) ≡ rest = append_assoc (decimal m) (32 ∷ []) (decimal n) in
-    heading_by line (number_in (before_space (behind_space (behind_space line)))) (number_in (behind_space (behind_space (behind_space line)))) m n
+    let line = first_line rules m n in
+    let both = version_back rules rest line (first_parts (version rules) (decimal m) (decimal n)) in
+    let is_rest : behind_space (behind_space line) ≡ rest = both.1 in
+    ap (option_and_then (heading_with line (behind_space (behind_space line)))) both.0
+    ∙ heading_by line rules (number_in (before_space (behind_space (behind_space line)))) (number_in (behind_space (behind_space (behind_space line)))) m n
     (ap (λ x. number_in (before_space x)) is_rest ∙ ap number_in (before_front (decimal m) (decimal n) (decimal_no_space m few)) ∙ number_back m few)
     (ap (λ x. number_in (behind_space x)) is_rest ∙ ap number_in (behind_front (decimal m) (decimal n) (decimal_no_space m few)) ∙ number_back n less)
-    ∙ heading_same m n p q
+    ∙ heading_same rules m n p q
 
 -- what is known of a heading that was read
 abbrev IsHeading : List ℕ → Heading → Type 0
-IsHeading line h = (h.sessions ≤ most_sessions) × (h.names ≤ most_names) × (first_line h.sessions h.names ≡ line)
+IsHeading line h = (h.sessions ≤ MOST_SESSIONS) × (h.names ≤ MOST_NAMES) × (first_line h.rules h.sessions h.names ≡ line)
 
-heading_strict : (b : Bool) (line : List ℕ) (m n : ℕ) (h : Heading) → nat_le m most_sessions && nat_le n most_names && bytes_eq (first_line m n) line ≡ b → if◌then◌else◌ {A = Option Heading} b (Some (record { sessions = m; names = n })) None ≡ Some h → IsHeading line h
-heading_strict true line m n h is e =
-    let all = and_parts (nat_le m most_sessions && nat_le n most_names) (bytes_eq (first_line m n) line) is in
-    let both = and_parts (nat_le m most_sessions) (nat_le n most_names) all.0 in
-    let same = same_Some (record { sessions = m; names = n }) h e in
-    subst (IsHeading line) same (leb-true m most_sessions both.0, leb-true n most_names both.1, (bytes_eq-Decides (first_line m n) line).0 all.1)
-heading_strict false line m n h is e = absurd (none-some h e)
+heading_strict : (b : Bool) (line : List ℕ) (rules : Rules) (m n : ℕ) (h : Heading) → nat_le m MOST_SESSIONS && nat_le n MOST_NAMES && bytes_eq (first_line rules m n) line ≡ b →
+    if◌then◌else◌ {A = Option Heading} b (Some (record { rules = rules; sessions = m; names = n })) None ≡ Some h → IsHeading line h
+heading_strict true line rules m n h is e =
+    let all = and_parts (nat_le m MOST_SESSIONS && nat_le n MOST_NAMES) (bytes_eq (first_line rules m n) line) is in
+    let both = and_parts (nat_le m MOST_SESSIONS) (nat_le n MOST_NAMES) all.0 in
+    let same = same_Some (record { rules = rules; sessions = m; names = n }) h e in
+    subst (IsHeading line) same (leb-true m MOST_SESSIONS both.0, leb-true n MOST_NAMES both.1, (bytes_eq-Decides (first_line rules m n) line).0 all.1)
+heading_strict false line rules m n h is e = absurd (none-some h e)
 
-heading_from : (line : List ℕ) (x y : Option ℕ) (h : Heading) → option_and_then (λ sessions. option_and_then (λ names. if_first_line line sessions names) y) x ≡ Some h → IsHeading line h
-heading_from line None y h e = absurd (none-some h e)
-heading_from line (Some m) None h e = absurd (none-some h e)
-heading_from line (Some m) (Some n) h e = heading_strict (nat_le m most_sessions && nat_le n most_names && bytes_eq (first_line m n) line) line m n h refl e
+heading_from : (line : List ℕ) (rules : Rules) (x y : Option ℕ) (h : Heading) → option_and_then (λ sessions. option_and_then (λ names. if_first_line line rules sessions names) y) x ≡ Some h → IsHeading line h
+heading_from line rules None y h e = absurd (none-some h e)
+heading_from line rules (Some m) None h e = absurd (none-some h e)
+heading_from line rules (Some m) (Some n) h e = heading_strict (nat_le m MOST_SESSIONS && nat_le n MOST_NAMES && bytes_eq (first_line rules m n) line) line rules m n h refl e
+
+heading_of : (line rest : List ℕ) (o : Option Rules) (h : Heading) → option_and_then (heading_with line rest) o ≡ Some h → IsHeading line h
+heading_of line rest None h e = absurd (none-some h e)
+heading_of line rest (Some rules) h e = heading_from line rules (number_in (before_space rest)) (number_in (behind_space rest)) h e
 
 pub strict_lines_are_headings : StrictLinesAreHeadings
-strict_lines_are_headings line h e =
-    let rest = behind_space (behind_space line) in
-    heading_from line (number_in (before_space rest)) (number_in (behind_space rest)) h e
+strict_lines_are_headings line h e = heading_of line (behind_space (behind_space line)) (rules_of (before_space (behind_space line))) h e

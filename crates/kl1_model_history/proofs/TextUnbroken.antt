@@ -5,19 +5,21 @@ use Rattle.std.proofs.Common.{refl, sym, ap, ◌∙◌, arith}
 use Rattle.std.proofs.lemmas.Bool.{and_parts, and_from, leb-true, ne_eqb, not_from_false}
 use Rattle.std.proofs.lemmas.List.Folds.{list_all-append}
 use Rattle.std.proofs.lemmas.Slice.Eq.{bytes_eq-Decides}
-use Rattle.kl1_model.specs.Limits.{number_limit}
+use Rattle.kl1_model.specs.declared.rules.Rules.{Rules}
+use Rattle.kl1_model.specs.declared.rules.Rules.TheVariants.{One, Two, Three}
+use Rattle.kl1_model.specs.declared.limits.TheConstants.{NUMBER_LIMIT}
 use Rattle.kl1_model.specs.declared.message.Message.TheVariants.{Stop, Start, Abort, Allow}
 use Rattle.kl1_model.specs.Text.{is_name_byte, is_text}
 use Rattle.kl1_model.specs.Name.{atom_text}
 use Rattle.kl1_model.specs.Token.{is_digit}
 use Rattle.kl1_model.specs.Term.{Term, atom}
 use Rattle.kl1_model.specs.Print.{Printed, plain, print}
-use Rattle.kl1_model_history.specs.Journal.{Entry, loads, starts, sends, steps}
+use Rattle.kl1_model_history.specs.Journal.{Entry, loads, starts, sends, steps, answers}
 use Rattle.kl1_model_history.specs.JournalText.{hex_digit, hex_text, entry_line, name_line, first_line}
 use Rattle.kl1_model_history.specs.laws.TextLaws.{HasLine, is_unbroken}
 use Rattle.kl1_model_history.proofs.LexWords.{decimal_writes}
 use Rattle.kl1_model_history.proofs.ReadPlain.{prints_are_plain}
-use Rattle.kl1_model_history.proofs.TextEntries.{Starts, starts_here, sent_number, sent_more}
+use Rattle.kl1_model_history.proofs.TextEntries.{Starts, starts_here, Answers, answers_here, sent_number, sent_more}
 
 -- bytes without a line feed
 abbrev IsUnbroken : List ℕ → Type 0
@@ -45,10 +47,10 @@ each_unbroken test none (b ∷ bs) h =
 plain_unbroken : (bs : List ℕ) → list_all is_name_byte bs ≡ true → IsUnbroken bs
 plain_unbroken bs h = each_unbroken is_name_byte name_byte_unbroken bs h
 
-decimal_unbroken : (n : ℕ) → n < number_limit → IsUnbroken (decimal n)
+decimal_unbroken : (n : ℕ) → n < NUMBER_LIMIT → IsUnbroken (decimal n)
 decimal_unbroken n small = each_unbroken is_digit digit_unbroken (decimal n) (decimal_writes n (omega arith)).digits
 
-two_unbroken : (a b : ℕ) → a < number_limit → b < number_limit → IsUnbroken (decimal a ++ codes " " ++ decimal b)
+two_unbroken : (a b : ℕ) → a < NUMBER_LIMIT → b < NUMBER_LIMIT → IsUnbroken (decimal a ++ codes " " ++ decimal b)
 two_unbroken a b p q =
     both_unbroken (decimal a ++ codes " ") (decimal b) (both_unbroken (decimal a) (codes " ") (decimal_unbroken a p) refl) (decimal_unbroken b q)
 
@@ -71,6 +73,11 @@ start_unbroken allowance low high t s =
     (both_unbroken front (codes " ") (both_unbroken (numbers ++ codes " ") (decimal high) (both_unbroken numbers (codes " ") (two_unbroken allowance low s.first s.second) refl) (decimal_unbroken high s.third)) refl)
     (plain_unbroken (print t) s.plain)
 
+answer_unbroken : (n report : ℕ) (t : Term) → Answers n report t → IsUnbroken (entry_line (answers n report t))
+answer_unbroken n report t s =
+    let numbers = decimal n ++ codes " " ++ decimal report in
+    both_unbroken (numbers ++ codes " ") (print t) (both_unbroken numbers (codes " ") (two_unbroken n report s.first s.second) refl) (plain_unbroken (print t) s.plain)
+
 -- the line of an entry has no line feed
 pub entry_unbroken : (e : Entry) → HasLine e → IsUnbroken (entry_line e)
 entry_unbroken (loads text) h = hex_unbroken text
@@ -80,6 +87,7 @@ entry_unbroken (sends n Start) h = decimal_unbroken n (sent_number n Start h)
 entry_unbroken (sends n Abort) h = decimal_unbroken n (sent_number n Abort h)
 entry_unbroken (sends n (Allow k)) h = two_unbroken n k (sent_number n (Allow k) h) (sent_more n k h)
 entry_unbroken (steps goal clause) h = two_unbroken goal clause h.0 h.1
+entry_unbroken (answers n report t) h = answer_unbroken n report t (answers_here n report t h)
 
 atom_printed : (x : Bool) (t : List ℕ) → bytes_eq t (codes "[]") ≡ x → print (atom t) ≡ atom_text t
 atom_printed true t is = rw ((bytes_eq-Decides t (codes "[]")).0 is) refl
@@ -91,5 +99,7 @@ name_unbroken t h =
     plain_unbroken (atom_text t) (ap (list_all is_name_byte) (sym (atom_printed (bytes_eq t (codes "[]")) t refl)) ∙ prints_are_plain (atom t) h (omega arith))
 
 -- the first line has no line feed
-pub first_unbroken : (sessions names : ℕ) → sessions < number_limit → names < number_limit → IsUnbroken (first_line sessions names)
-first_unbroken sessions names p q = two_unbroken sessions names p q
+pub first_unbroken : (rules : Rules) (sessions names : ℕ) → sessions < NUMBER_LIMIT → names < NUMBER_LIMIT → IsUnbroken (first_line rules sessions names)
+first_unbroken One sessions names p q = two_unbroken sessions names p q
+first_unbroken Two sessions names p q = two_unbroken sessions names p q
+first_unbroken Three sessions names p q = two_unbroken sessions names p q

@@ -6,7 +6,7 @@ use Rattle.std.proofs.Common.{refl, ap, arith}
 use Rattle.std.proofs.lemmas.Bool.{and_parts, leb-true, le-leb, lt-ltb, ne_eqb}
 use Rattle.std.proofs.lemmas.List.{length-append}
 use Rattle.std.proofs.lemmas.Fmt.{length-decimal-le}
-use Rattle.kl1_model.specs.Limits.{most_digits, number_limit}
+use Rattle.kl1_model.specs.declared.limits.TheConstants.{MOST_DIGITS, NUMBER_LIMIT}
 use Rattle.kl1_model.specs.declared.pair_form.PairForm.{PairForm}
 use Rattle.kl1_model.specs.declared.pair_form.PairForm.TheVariants.{Cell, Qualified, Call}
 use Rattle.kl1_model.specs.Name.{name_text, atom_text}
@@ -19,14 +19,14 @@ use Rattle.kl1_model_history.proofs.LexWords.{decimal_writes}
 use Rattle.kl1_model_history.proofs.ReadCounts.{numbered_upto, highest_upto}
 
 -- a number below number_limit has at most 19 digits
-pub few_digits : (n : ℕ) → n < number_limit → length (decimal n) ≤ 19
+pub few_digits : (n : ℕ) → n < NUMBER_LIMIT → length (decimal n) ≤ 19
 few_digits n small = length-decimal-le 19 n (omega arith) (omega arith) (omega arith)
 
 -- a number of a line is the number that its digits write
-pub number_back : (n : ℕ) → n < number_limit → number_in (decimal n) ≡ Some n
+pub number_back : (n : ℕ) → n < NUMBER_LIMIT → number_in (decimal n) ≡ Some n
 number_back n small =
     let w = decimal_writes n (omega arith) in
-    rw (le-leb 1 (length (decimal n)) w.some, le-leb (length (decimal n)) most_digits (few_digits n small), w.digits, w.value, lt-ltb n number_limit small) refl
+    rw (le-leb 1 (length (decimal n)) w.some, le-leb (length (decimal n)) MOST_DIGITS (few_digits n small), w.digits, w.value, lt-ltb n NUMBER_LIMIT small) refl
 
 -- bytes without a space
 abbrev pub NoSpace : List ℕ → Type 0
@@ -50,7 +50,7 @@ no_space [] a = tt
 no_space (b ∷ bs) a = let p = and_parts (is_digit b) (list_all is_digit bs) a in (digit_no_space b p.0, no_space bs p.1)
 
 -- digits are no spaces
-pub decimal_no_space : (n : ℕ) → n < number_limit → NoSpace (decimal n)
+pub decimal_no_space : (n : ℕ) → n < NUMBER_LIMIT → NoSpace (decimal n)
 decimal_no_space n small = no_space (decimal n) (decimal_writes n (omega arith)).digits
 
 -- both texts of a term have no fewer bytes than this

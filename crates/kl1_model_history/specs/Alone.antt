@@ -1,7 +1,7 @@
 -- The events of one account among those of several, and what they do to it alone.
 use Rattle.std.specs.Prelude.{ℕ, ◌==◌, if◌then◌else◌, List, [], ◌∷◌}
 use Rattle.kl1_model.specs.Event.{Event, Reply}
-use Rattle.kl1_model_history.specs.Journal.{Kept, Done, done}
+use Rattle.kl1_model_history.specs.Journal.{Kept, done}
 
 -- an event, and the number of its account, from 0
 pub record Deed : Type 0 where

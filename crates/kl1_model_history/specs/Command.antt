@@ -6,10 +6,10 @@ use Rattle.kl1_model.specs.declared.condition.Condition.{Condition}
 use Rattle.kl1_model.specs.declared.condition.Condition.TheVariants.{Terminated, Aborted, Stopped, Exhausted, Running}
 use Rattle.kl1_model.specs.Term.{Term}
 use Rattle.kl1_model.specs.Name.{atom_text}
-use Rattle.kl1_model.specs.Limits.{most_command_bytes, most_listed, most_steps}
+use Rattle.kl1_model.specs.declared.limits.TheConstants.{MOST_COMMAND_BYTES, MOST_LISTED, MOST_STEPS}
 use Rattle.kl1_model.specs.Line.{word_in, behind_word_in, number_in, up_to, only_number, is_blank_line}
 use Rattle.kl1_model.specs.Module.{Reading, good, bad, read_goal}
-use Rattle.kl1_model.specs.Event.{Refusal, syntax, source, exists, no_shoen, shoen_ended, step_refused, too_many_names, limit_passed, journal_full, sessions_refused, value, status, reports, modules, is_quiet, Event, load, start, control, reduce, read, login, logout, reset, Reply, loaded, opened, sent, reduced, ran, shown, status_is, listed, quiet_is, welcome, bye, was_reset, refused, is_range}
+use Rattle.kl1_model.specs.Event.{Refusal, syntax, source, exists, no_shoen, shoen_ended, step_refused, too_many_names, limit_passed, journal_full, sessions_refused, answer_refused, value, status, reports, modules, is_quiet, Event, load, start, control, reduce, read, login, logout, reset, answer, Reply, loaded, opened, sent, reduced, ran, shown, status_is, listed, quiet_is, welcome, bye, was_reset, refused, is_range}
 use Rattle.kl1_model.specs.Choice.{Chosen, first}
 use Rattle.kl1_model.specs.Record.{Request, load_of, spoiled_load, other_line}
 use Rattle.kl1_model_history.specs.Journal.{Kept, Done, done}
@@ -34,6 +34,17 @@ start_command line =
     let c = behind_word_in b in
     option_and_then (λ allowance. option_and_then (λ low. option_and_then (λ high. start_with allowance low high (read_goal (behind_word_in c))) (number_in (word_in c))) (number_in (word_in b))) (number_in (word_in line))
 
+-- an answer with its goal as it was read, to a report whose number is at least 1
+abbrev pub answer_with : ℕ → ℕ → Reading Term → Option Command
+answer_with n report (bad line) = None
+answer_with n report (good t) = if nat_le 1 report then Some (does (answer n report t)) else None
+
+-- a shoen's number and a report's, from 1, and then a goal
+abbrev pub answer_command : List ℕ → Option Command
+answer_command line =
+    let b = behind_word_in line in
+    option_and_then (λ n. option_and_then (λ report. answer_with n report (read_goal (behind_word_in b))) (number_in (word_in b))) (number_in (word_in line))
+
 -- a goal's number and a clause's, and nothing else
 abbrev pub reduce_command : List ℕ → Option Command
 reduce_command line = option_and_then (λ goal. option_map (λ clause. does (reduce goal clause)) (only_number (behind_word_in line))) (number_in (word_in line))
@@ -56,7 +67,7 @@ reports_command line = option_and_then (λ n. option_and_then (reports_from n) (
 
 -- a page of the journal from one line on, if that is at least 1, and with at least one line and not too many
 abbrev pub journal_from : ℕ → ℕ → Option Command
-journal_from from count = if nat_le 1 from && nat_le 1 count && nat_le count most_listed then Some (shows from count) else None
+journal_from from count = if nat_le 1 from && nat_le 1 count && nat_le count MOST_LISTED then Some (shows from count) else None
 
 -- a line's number, from 1, and how many lines at most, and nothing else
 abbrev pub journal_command : List ℕ → Option Command
@@ -82,6 +93,7 @@ pub data Verb : Type 0 where
   logs_in : Verb
   logs_out : Verb
   resets : Verb
+  answers : Verb
   unknown : Verb
 
 -- the verb that a word is
@@ -103,6 +115,7 @@ verb_of w =
     else if bytes_eq w (codes "login") then logs_in
     else if bytes_eq w (codes "logout") then logs_out
     else if bytes_eq w (codes "reset") then resets
+    else if bytes_eq w (codes "answer") then answers
     else unknown
 
 -- the command of a line by its first word and what is after it
@@ -110,7 +123,7 @@ abbrev pub command_by : Verb → List ℕ → Option Command
 command_by starts rest = start_command rest
 command_by (sends m) rest = send_command m rest
 command_by allows rest = allow_command rest
-command_by runs rest = option_map run (up_to most_steps (only_number rest))
+command_by runs rest = option_map run (up_to MOST_STEPS (only_number rest))
 command_by asks_value rest = option_map (λ n. does (read (value n))) (only_number rest)
 command_by asks_status rest = option_map (λ n. does (read (status n))) (only_number rest)
 command_by asks_reports rest = reports_command rest
@@ -121,11 +134,12 @@ command_by shows_journal rest = journal_command rest
 command_by logs_in rest = alone_command login rest
 command_by logs_out rest = alone_command logout rest
 command_by resets rest = alone_command reset rest
+command_by answers rest = answer_command rest
 command_by unknown rest = None
 
 -- the command that a line is, without its end, if it is one; a line that is too long is none, nor is a `load` line without its source
 abbrev pub parse : List ℕ → Option Command
-parse line = if nat_le (length line) most_command_bytes then command_by (verb_of (word_in line)) (behind_word_in line) else None
+parse line = if nat_le (length line) MOST_COMMAND_BYTES then command_by (verb_of (word_in line)) (behind_word_in line) else None
 
 -- the command that is asked for, if there is one
 abbrev pub command_of : Request → Option Command
@@ -179,6 +193,7 @@ refusal_text too_many_names = codes "7 names"
 refusal_text limit_passed = codes "8 limit"
 refusal_text journal_full = codes "9 journal"
 refusal_text sessions_refused = codes "12 sessions"
+refusal_text answer_refused = codes "13 answer"
 
 -- the word for the state of a shoen
 abbrev pub condition_word : Condition → List ℕ

@@ -1,7 +1,7 @@
 -- What a stream of bytes asks for in its complete lines and loads, and what is left of it after them.
 use Rattle.std.specs.Prelude.{ℕ, zero, suc, ◌+◌, ◌==◌, Bool, true, false, if◌then◌else◌, List, [], ◌∷◌, ◌++◌, length, take, drop, min, codes, decimal, Option, Some, None}
 use Rattle.std.specs.List.{list_any}
-use Rattle.kl1_model.specs.Limits.{most_command_bytes}
+use Rattle.kl1_model.specs.declared.limits.TheConstants.{MOST_COMMAND_BYTES}
 use Rattle.kl1_model.specs.Line.{behind_feed, without_return, line_in}
 use Rattle.kl1_model.specs.Record.{Request, load_of, spoiled_load, other_line, load_before, source_bytes_in}
 
@@ -24,7 +24,7 @@ only_rest bytes = record { requests = []; rest = bytes }
 
 -- what is kept of an unfinished line: enough to tell whether it is too long, whatever follows
 abbrev pub unfinished_line : List ℕ → List ℕ
-unfinished_line bytes = take (most_command_bytes + 2) bytes
+unfinished_line bytes = take (MOST_COMMAND_BYTES + 2) bytes
 
 -- what is kept of an unfinished load of n bytes: its line, as `load N`, these n bytes and the two that follow them
 abbrev pub unfinished_load : ℕ → List ℕ → List ℕ
@@ -32,7 +32,7 @@ unfinished_load n bytes = codes "load " ++ decimal n ++ 10 ∷ take (n + 2) byte
 
 -- what a line asks for that is no good load; a line that is too long is cut to one byte more than a line may have
 abbrev pub line_request : List ℕ → Request
-line_request line = other_line (take (most_command_bytes + 1) line)
+line_request line = other_line (take (MOST_COMMAND_BYTES + 1) line)
 
 -- what a load asks for, by its source and the bytes between that and the next line feed
 abbrev pub load_request : List ℕ → List ℕ → Request

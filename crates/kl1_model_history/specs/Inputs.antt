@@ -1,6 +1,6 @@
 -- The inputs of a stream, and its rest.
 use Rattle.std.specs.Prelude.{ℕ, nat_le, nat_lt, ◌&&◌, if◌then◌else◌, List, length, map, codes, bytes_eq, Option, Some, None}
-use Rattle.kl1_model.specs.Limits.{most_command_bytes}
+use Rattle.kl1_model.specs.declared.limits.TheConstants.{MOST_COMMAND_BYTES}
 use Rattle.kl1_model.specs.Line.{word_in, behind_word_in, is_blank_line}
 use Rattle.kl1_model.specs.Record.{Request, load_of, spoiled_load, other_line}
 use Rattle.kl1_model.specs.Event.{Refusal, syntax}
@@ -30,7 +30,7 @@ input_by (Some c) = command c
 abbrev pub input_of : Request → Input
 input_of (load_of text) = input_by (command_of (load_of text))
 input_of spoiled_load = input_by (command_of spoiled_load)
-input_of (other_line line) = if nat_le (length line) most_command_bytes && bytes_eq (word_in line) (codes "login") then login_in (behind_word_in line) else input_by (parse line)
+input_of (other_line line) = if nat_le (length line) MOST_COMMAND_BYTES && bytes_eq (word_in line) (codes "login") then login_in (behind_word_in line) else input_by (parse line)
 
 -- the inputs of a cut
 abbrev pub inputs_in : Cut → List Input

@@ -1,19 +1,21 @@
 -- The journal of an account, and what it says of the account.
 use Rattle.std.specs.Prelude.{ℕ, if◌then◌else◌, List, [], ◌∷◌, ◌++◌}
 use Rattle.kl1_model.specs.declared.message.Message.{Message}
+use Rattle.kl1_model.specs.declared.rules.Rules.{Rules}
 use Rattle.kl1_model.specs.Term.{Term}
 use Rattle.kl1_model.specs.State.{State, fresh, fresh_with}
-use Rattle.kl1_model.specs.Event.{Event, load, start, control, reduce, read, login, logout, reset, Reply, Transition}
+use Rattle.kl1_model.specs.Event.{Event, load, start, control, reduce, read, login, logout, reset, answer, Reply, Transition}
 use Rattle.kl1_model.specs.Step.{step}
 use Rattle.kl1_model.specs.laws.TreeLaws.{is_refused}
 
 -- an entry of a journal: a module loaded from its source; a goal started with an allowance and priorities from low to high; a message
--- sent to a shoen; a goal reduced by a clause's number, or by 0
+-- sent to a shoen; a goal reduced by a clause's number, or by 0; a goal given as the answer to a report of a shoen, the first being 1
 pub data Entry : Type 0 where
   loads : List ℕ → Entry
   starts : ℕ → ℕ → ℕ → Term → Entry
   sends : ℕ → Message → Entry
   steps : ℕ → ℕ → Entry
+  answers : ℕ → ℕ → Term → Entry
 
 -- the event of an entry
 abbrev pub event_in : Entry → Event
@@ -21,23 +23,27 @@ event_in (loads text) = load text
 event_in (starts allowance low high t) = start allowance low high t
 event_in (sends n m) = control n m
 event_in (steps goal clause) = reduce goal clause
+event_in (answers n report t) = answer n report t
 
--- a journal: how many sessions are open, the names that were used at the last reset, in order of first use, and the entries since
+-- a journal: the rules that its account keeps to, how many sessions are open, the names that were used at the last reset, in order of
+-- first use, and the entries since
 pub record Journal : Type 0 where
+  pub rules : Rules
   pub sessions : ℕ
   pub names : List (List ℕ)
   pub entries : List Entry
 
--- the journal of an account that has used these names and has this number of open sessions, and in which nothing has happened since
-abbrev pub new_journal : List (List ℕ) → ℕ → Journal
-new_journal names sessions = record { sessions = sessions; names = names; entries = [] }
+-- the journal of an account that keeps to these rules, has used these names and has this number of open sessions, and in which nothing
+-- has happened since
+abbrev pub new_journal : Rules → List (List ℕ) → ℕ → Journal
+new_journal rules names sessions = record { rules = rules; sessions = sessions; names = names; entries = [] }
 
 -- a journal with one entry more
 abbrev pub with_entry : Journal → Entry → Journal
 with_entry j e = record j { entries = j.entries ++ e ∷ [] }
 
--- a journal after an accepted event that led to this account: a load, a start, a message and a reduction are entries, a query is
--- none; a session opened or closed changes the number of sessions; a reset begins the journal anew
+-- a journal after an accepted event that led to this account: a load, a start, a message, a reduction and an answer are entries, a
+-- query is none; a session opened or closed changes the number of sessions; a reset begins the journal anew
 abbrev pub with_event : Journal → Event → State → Journal
 with_event j (load text) s = with_entry j (loads text)
 with_event j (start allowance low high t) s = with_entry j (starts allowance low high t)
@@ -46,7 +52,8 @@ with_event j (reduce goal clause) s = with_entry j (steps goal clause)
 with_event j (read q) s = j
 with_event j login s = record j { sessions = s.sessions }
 with_event j logout s = record j { sessions = s.sessions }
-with_event j reset s = new_journal s.names s.sessions
+with_event j reset s = new_journal s.rules s.names s.sessions
+with_event j (answer n report t) s = with_entry j (answers n report t)
 
 -- a journal after what became of an event: a refused event leaves it, and an accepted one is noted in it
 abbrev pub noted : Journal → Event → Transition → Journal
@@ -57,10 +64,10 @@ abbrev pub after_entries : State → List Entry → State
 after_entries s [] = s
 after_entries s (e ∷ es) = after_entries (step s (event_in e)).state es
 
--- the replay of a journal: the account of this name after the entries, from one in which nothing has happened but that it has used the
--- journal's names and has its sessions
+-- the replay of a journal: the account of this name, which keeps to the journal's rules, after the entries, from one in which nothing has
+-- happened but that it has used the journal's names and has its sessions
 abbrev pub replay : List ℕ → Journal → State
-replay name j = after_entries (fresh_with name j.names j.sessions) j.entries
+replay name j = after_entries (fresh_with j.rules name j.names j.sessions) j.entries
 
 -- an account with its journal
 pub record Kept : Type 0 where
@@ -72,9 +79,9 @@ pub record Done : Type 0 where
   pub kept : Kept
   pub reply : Reply
 
--- an account of this name in which nothing has happened, with its journal
-abbrev pub fresh_kept : List ℕ → Kept
-fresh_kept name = record { state = fresh name; journal = new_journal [] 0 }
+-- an account of this name, which keeps to these rules, in which nothing has happened, with its journal
+abbrev pub fresh_kept : Rules → List ℕ → Kept
+fresh_kept rules name = record { state = fresh rules name; journal = new_journal rules [] 0 }
 
 -- an account with its journal after what became of an event
 abbrev pub kept_after : Kept → Event → Transition → Done

@@ -3,7 +3,9 @@ use Rattle.std.specs.Prelude.{ℕ, zero, suc, ◌+◌, ◌*◌, ◌-◌, ◌/◌
 use Rattle.std.specs.List.{list_all, list_any}
 use Rattle.kl1_model.specs.declared.message.Message.{Message}
 use Rattle.kl1_model.specs.declared.message.Message.TheVariants.{Stop, Start, Abort, Allow}
-use Rattle.kl1_model.specs.Limits.{most_line_bytes, most_names, most_sessions}
+use Rattle.kl1_model.specs.declared.rules.Rules.{Rules}
+use Rattle.kl1_model.specs.declared.rules.Rules.TheVariants.{One, Two, Three}
+use Rattle.kl1_model.specs.declared.limits.TheConstants.{MOST_LINE_BYTES, MOST_NAMES, MOST_SESSIONS}
 use Rattle.kl1_model.specs.Text.{is_text, is_built_in}
 use Rattle.kl1_model.specs.Term.{Term}
 use Rattle.kl1_model.specs.Name.{atom_text}
@@ -11,7 +13,8 @@ use Rattle.kl1_model.specs.Token.{is_digit}
 use Rattle.kl1_model.specs.Line.{before_space, behind_space, number_in}
 use Rattle.kl1_model.specs.Module.{Reading, good, bad, read_goal}
 use Rattle.kl1_model.specs.Opening.{start_line}
-use Rattle.kl1_model_history.specs.Journal.{Entry, loads, starts, sends, steps, Journal, new_journal}
+use Rattle.kl1_model.specs.Answering.{answer_line}
+use Rattle.kl1_model_history.specs.Journal.{Entry, loads, starts, sends, steps, answers, Journal, new_journal}
 
 -- ---- the lines of a journal
 
@@ -37,18 +40,25 @@ entry_line (loads text) = codes "load " ++ hex_text text
 entry_line (starts allowance low high t) = start_line allowance low high t
 entry_line (sends n m) = message_line n m
 entry_line (steps goal clause) = codes "reduce " ++ decimal goal ++ codes " " ++ decimal clause
+entry_line (answers n report t) = answer_line n report t
 
 -- the line of a name that was used at the last reset
 abbrev pub name_line : List ℕ → List ℕ
 name_line t = codes "name " ++ atom_text t
 
+-- the version of a journal, by the rules that its account keeps to
+abbrev pub version : Rules → List ℕ
+version One = codes "1"
+version Two = codes "2"
+version Three = codes "3"
+
 -- the first line of a journal: its version, how many sessions are open, and how many names follow
-abbrev pub first_line : ℕ → ℕ → List ℕ
-first_line sessions names = codes "journal 1 " ++ decimal sessions ++ codes " " ++ decimal names
+abbrev pub first_line : Rules → ℕ → ℕ → List ℕ
+first_line rules sessions names = codes "journal " ++ version rules ++ codes " " ++ decimal sessions ++ codes " " ++ decimal names
 
 -- the lines of a journal
 abbrev pub journal_lines : Journal → List (List ℕ)
-journal_lines j = first_line j.sessions (length j.names) ∷ map name_line j.names ++ map entry_line j.entries
+journal_lines j = first_line j.rules j.sessions (length j.names) ∷ map name_line j.names ++ map entry_line j.entries
 
 -- at most this number of a journal's lines from one on, the first being 1
 abbrev pub page_of : Journal → ℕ → ℕ → List (List ℕ)
@@ -90,12 +100,24 @@ start_in rest =
     let c = behind_space b in
     option_and_then (λ allowance. option_and_then (λ low. option_and_then (λ high. start_of allowance low high (read_goal (behind_space c))) (number_in (before_space c))) (number_in (before_space b))) (number_in (before_space rest))
 
+-- an answer with its goal as it was read
+abbrev pub answer_of : ℕ → ℕ → Reading Term → Option Entry
+answer_of n report (bad line) = None
+answer_of n report (good t) = Some (answers n report t)
+
+-- an answer of two numbers and a goal
+abbrev pub answer_in : List ℕ → Option Entry
+answer_in rest =
+    let b = behind_space rest in
+    option_and_then (λ n. option_and_then (λ report. answer_of n report (read_goal (behind_space b))) (number_in (before_space b))) (number_in (before_space rest))
+
 -- the entry that a line may be, by its first word and what is after that
 abbrev pub entry_by : List ℕ → List ℕ → Option Entry
 entry_by w rest =
     if bytes_eq w (codes "reduce") then of_two steps rest
     else if bytes_eq w (codes "load") then load_in rest
     else if bytes_eq w (codes "start") then start_in rest
+    else if bytes_eq w (codes "answer") then answer_in rest
     else if bytes_eq w (codes "stop") then option_map (λ n. sends n Stop) (number_in rest)
     else if bytes_eq w (codes "resume") then option_map (λ n. sends n Start) (number_in rest)
     else if bytes_eq w (codes "abort") then option_map (λ n. sends n Abort) (number_in rest)
@@ -108,7 +130,7 @@ if_line line e = if bytes_eq (entry_line e) line then Some e else None
 
 -- the entry whose line this is, if there is one; a line of too many bytes is none
 abbrev pub entry_in : List ℕ → Option Entry
-entry_in line = if nat_le (length line) most_line_bytes then option_and_then (if_line line) (entry_by (before_space line) (behind_space line)) else None
+entry_in line = if nat_le (length line) MOST_LINE_BYTES then option_and_then (if_line line) (entry_by (before_space line) (behind_space line)) else None
 
 -- ---- the name that a line has, and the first line
 
@@ -135,23 +157,36 @@ name_in line = if_name_line line (name_by (behind_space line))
 abbrev pub is_new_name : List (List ℕ) → List ℕ → Bool
 is_new_name names t = not (is_built_in t) && not (list_any (bytes_eq t) names)
 
--- what the first line of a journal says: how many sessions are open, and how many names follow
+-- what the first line of a journal says: the rules of the account, how many sessions are open, and how many names follow
 pub record Heading : Type 0 where
+  pub rules : Rules
   pub sessions : ℕ
   pub names : ℕ
 
 -- a heading, if its numbers are allowed and this is its line
-abbrev pub if_first_line : List ℕ → ℕ → ℕ → Option Heading
-if_first_line line sessions names =
-    if nat_le sessions most_sessions && nat_le names most_names && bytes_eq (first_line sessions names) line
-    then Some (record { sessions = sessions; names = names })
+abbrev pub if_first_line : List ℕ → Rules → ℕ → ℕ → Option Heading
+if_first_line line rules sessions names =
+    if nat_le sessions MOST_SESSIONS && nat_le names MOST_NAMES && bytes_eq (first_line rules sessions names) line
+    then Some (record { rules = rules; sessions = sessions; names = names })
     else None
+
+-- the rules of an account whose journal has this version, if it is one
+abbrev pub rules_of : List ℕ → Option Rules
+rules_of w =
+    if bytes_eq w (version One) then Some One
+    else if bytes_eq w (version Two) then Some Two
+    else if bytes_eq w (version Three) then Some Three
+    else None
+
+-- the heading whose line this is, with these rules, if there is one
+abbrev pub heading_with : List ℕ → List ℕ → Rules → Option Heading
+heading_with line rest rules = option_and_then (λ sessions. option_and_then (λ names. if_first_line line rules sessions names) (number_in (behind_space rest))) (number_in (before_space rest))
 
 -- the heading whose line this is, if there is one
 abbrev pub heading_in : List ℕ → Option Heading
 heading_in line =
-    let rest = behind_space (behind_space line) in
-    option_and_then (λ sessions. option_and_then (λ names. if_first_line line sessions names) (number_in (behind_space rest))) (number_in (before_space rest))
+    let rest = behind_space line in
+    option_and_then (heading_with line (behind_space rest)) (rules_of (before_space rest))
 
 -- ---- the lines of a text
 
@@ -180,21 +215,22 @@ lines_of (b ∷ bs) = elim (b == 10) [ true ↦ line_first (lines_of bs) | false
 abbrev pub entry_first : Entry → Journal → Journal
 entry_first e j = record j { entries = e ∷ j.entries }
 
--- the journal of this number of sessions and these names whose entries' lines these are, if there is one
-abbrev pub journal_with : ℕ → List (List ℕ) → List (List ℕ) → Option Journal
-journal_with sessions names [] = Some (new_journal names sessions)
-journal_with sessions names (line ∷ lines) = option_and_then (λ e. option_map (entry_first e) (journal_with sessions names lines)) (entry_in line)
+-- the journal of these rules, this number of sessions and these names whose entries' lines these are, if there is one
+abbrev pub journal_with : Rules → ℕ → List (List ℕ) → List (List ℕ) → Option Journal
+journal_with rules sessions names [] = Some (new_journal rules names sessions)
+journal_with rules sessions names (line ∷ lines) = option_and_then (λ e. option_map (entry_first e) (journal_with rules sessions names lines)) (entry_in line)
 
--- the journal of these sessions and names, after which this number of lines of names stands and then those of entries, if there is one
-abbrev pub journal_after : ℕ → List (List ℕ) → ℕ → List (List ℕ) → Option Journal
-journal_after sessions names zero lines = journal_with sessions names lines
-journal_after sessions names (suc n) [] = None
-journal_after sessions names (suc n) (line ∷ lines) = option_and_then (λ t. if is_new_name names t then journal_after sessions (names ++ t ∷ []) n lines else None) (name_in line)
+-- the journal of these rules, sessions and names, after which this number of lines of names stands and then those of entries, if there is
+-- one
+abbrev pub journal_after : Rules → ℕ → List (List ℕ) → ℕ → List (List ℕ) → Option Journal
+journal_after rules sessions names zero lines = journal_with rules sessions names lines
+journal_after rules sessions names (suc n) [] = None
+journal_after rules sessions names (suc n) (line ∷ lines) = option_and_then (λ t. if is_new_name names t then journal_after rules sessions (names ++ t ∷ []) n lines else None) (name_in line)
 
 -- the journal whose lines these are, if there is one
 abbrev pub journal_of : List (List ℕ) → Option Journal
 journal_of [] = None
-journal_of (line ∷ lines) = option_and_then (λ h. journal_after h.sessions [] h.names lines) (heading_in line)
+journal_of (line ∷ lines) = option_and_then (λ h. journal_after h.rules h.sessions [] h.names lines) (heading_in line)
 
 -- the journal that a text is, if it is one: each line ends with a line feed
 abbrev pub journal_in : List ℕ → Option Journal

@@ -1,12 +1,13 @@
 -- What is written for the text of a journal that is replayed.
 use Rattle.std.specs.Prelude.{ℕ, zero, suc, if◌then◌else◌, List, [], ◌∷◌, ◌++◌, codes, decimal, Option, Some, None}
+use Rattle.kl1_model.specs.declared.rules.Rules.{Rules}
 use Rattle.kl1_model.specs.State.{State, fresh_with}
 use Rattle.kl1_model.specs.Event.{Transition}
 use Rattle.kl1_model.specs.Step.{step}
 use Rattle.kl1_model.specs.laws.TreeLaws.{is_refused}
 use Rattle.kl1_model_history.specs.Command.{reply_lines, written_line, written_lines}
 use Rattle.kl1_model_history.specs.Journal.{Entry, event_in}
-use Rattle.kl1_model_history.specs.JournalText.{Heading, Lines, entry_in, name_in, is_new_name, heading_in, lines_of}
+use Rattle.kl1_model_history.specs.JournalText.{Heading, entry_in, name_in, is_new_name, heading_in, lines_of}
 
 -- what is written for the line of this number, from 1, if it isn't of the form or its entry is refused
 abbrev pub written_fault : ℕ → List ℕ
@@ -45,15 +46,15 @@ written_name next k names None = written_fault k
 written_name next k names (Some t) = if is_new_name names t then next (names ++ t ∷ []) else written_fault k
 
 -- what is written for n lines of names, the first of which is line k, after the names before them, and then for the lines of entries
-abbrev pub written_names : ℕ → ℕ → ℕ → List (List ℕ) → List (List ℕ) → List ℕ → List ℕ
-written_names zero k sessions names lines rest = written_entries k 0 (fresh_with replay_name names sessions) lines rest
-written_names (suc n) k sessions names [] rest = written_fault k
-written_names (suc n) k sessions names (line ∷ lines) rest = written_name (λ more. written_names n (suc k) sessions more lines rest) k names (name_in line)
+abbrev pub written_names : ℕ → ℕ → Rules → ℕ → List (List ℕ) → List (List ℕ) → List ℕ → List ℕ
+written_names zero k rules sessions names lines rest = written_entries k 0 (fresh_with rules replay_name names sessions) lines rest
+written_names (suc n) k rules sessions names [] rest = written_fault k
+written_names (suc n) k rules sessions names (line ∷ lines) rest = written_name (λ more. written_names n (suc k) rules sessions more lines rest) k names (name_in line)
 
 -- what is written for lines after the first, by what that says
 abbrev pub written_after : Option Heading → List (List ℕ) → List ℕ → List ℕ
 written_after None lines rest = written_fault 1
-written_after (Some h) lines rest = written_names h.names 2 h.sessions [] lines rest
+written_after (Some h) lines rest = written_names h.names 2 h.rules h.sessions [] lines rest
 
 -- what is written for the lines of a text, and the bytes left after them
 abbrev pub written_replay : List (List ℕ) → List ℕ → List ℕ

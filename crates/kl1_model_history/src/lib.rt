@@ -1,16 +1,17 @@
 //! Definitions of journals, commands, scripts and replays, and of what an account does alone; and that an account is the replay of its journal.
 #![tactic(auto)]
 
-ghost use Rattle.kl1_model_history.specs.laws.HistoryLaws.{StaysBeside, FreshIsReplay, ReplaysStay, NamesStay};
+ghost use Rattle.kl1_model_history.specs.laws.HistoryLaws.{StaysBeside, FreshIsReplay, ReplaysStay, NamesStay, RulesStay};
 ghost use Rattle.kl1_model_history.specs.laws.ReplayLaws.{RepliesOfReplays, FreshIsReplayable, ReplayableStays};
 ghost use Rattle.kl1_model_history.specs.laws.TextLaws.{EntriesReadBack, StrictLinesAreEntries, NamesReadBack, StrictLinesAreNames, HeadingsReadBack, StrictLinesAreHeadings, LinesOfLines, TextsAreLines, JournalsReadBack, StrictTextsAreJournals, FreshIsWritten, WrittenStays};
 
 /// An account is the replay of its journal: so is a fresh one, and it stays so through each event. What an entry does
-/// depends neither on the own name nor on the number of open sessions, and no event changes the own name. It does nothing: its
-/// contract is this law.
+/// depends neither on the own name nor on the number of open sessions, and no event changes the own name or the rules. It does
+/// nothing: its contract is for callers' proofs.
 pub fn replays_stay()
     ensures beside { StaysBeside }
     ensures names { NamesStay }
+    ensures rules { RulesStay }
     ensures fresh { FreshIsReplay }
     ensures stay { ReplaysStay }
 {}

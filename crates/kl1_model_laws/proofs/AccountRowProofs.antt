@@ -3,6 +3,7 @@ use Rattle.std.specs.Prelude.{◌≡◌, ◌^◌, refl, codes, [], ◌∷◌, So
 use Rattle.kl1_model.specs.Term.{variable, integer}
 use Rattle.kl1_model.specs.Print.{print}
 use Rattle.kl1_model.specs.declared.life.Life.TheVariants.{Terminated}
+use Rattle.kl1_model.specs.declared.rules.Rules.TheVariants.{One}
 use Rattle.kl1_model.specs.State.{fresh, shoen_at}
 use Rattle.kl1_model.specs.Event.{load, start, reduce, reduced, ran, quiet_is, refused, syntax, exists, step_refused, journal_full}
 use Rattle.kl1_model.specs.Step.{step, origin_at}
@@ -107,31 +108,31 @@ first_that_fails_row : first (after_lines (having one_fact) (codes "start 10 0 1
 unfolding digits tokens_within expression_at series_by grouped_by body_by mgu_within walk path_within
 first_that_fails_row = refl
 
-allowance_of_64_bits_row : (step (fresh (codes "alice")) (start (2 ^ 63) 0 1 true_term)).reply ≡ refused syntax
+allowance_of_64_bits_row : (step (fresh One (codes "alice")) (start (2 ^ 63) 0 1 true_term)).reply ≡ refused syntax
 unfolding digits tokens_within expression_at series_by grouped_by body_by mgu_within walk path_within
 allowance_of_64_bits_row = refl
 
-low_over_high_row : (step (fresh (codes "alice")) (start 1 2 1 true_term)).reply ≡ refused syntax
+low_over_high_row : (step (fresh One (codes "alice")) (start 1 2 1 true_term)).reply ≡ refused syntax
 unfolding digits tokens_within expression_at series_by grouped_by body_by mgu_within walk path_within
 low_over_high_row = refl
 
-variables_not_in_order_row : (step (fresh (codes "alice")) (start 1 0 1 (equals (variable 2) (variable 1)))).reply ≡ refused syntax
+variables_not_in_order_row : (step (fresh One (codes "alice")) (start 1 0 1 (equals (variable 2) (variable 1)))).reply ≡ refused syntax
 unfolding digits tokens_within expression_at series_by grouped_by body_by mgu_within walk path_within
 variables_not_in_order_row = refl
 
-variable_0_row : (step (fresh (codes "alice")) (start 1 0 1 (equals (variable 0) (variable 1)))).reply ≡ refused syntax
+variable_0_row : (step (fresh One (codes "alice")) (start 1 0 1 (equals (variable 0) (variable 1)))).reply ≡ refused syntax
 unfolding digits tokens_within expression_at series_by grouped_by body_by mgu_within walk path_within
 variable_0_row = refl
 
-integer_of_65_bits_row : (step (fresh (codes "alice")) (start 1 0 1 (equals (variable 1) (integer (pos (2 ^ 63)))))).reply ≡ refused syntax
+integer_of_65_bits_row : (step (fresh One (codes "alice")) (start 1 0 1 (equals (variable 1) (integer (pos (2 ^ 63)))))).reply ≡ refused syntax
 unfolding digits tokens_within expression_at series_by grouped_by body_by mgu_within walk path_within
 integer_of_65_bits_row = refl
 
-goal_number_of_64_bits_row : (step (fresh (codes "alice")) (reduce (2 ^ 63) 0)).reply ≡ refused syntax
+goal_number_of_64_bits_row : (step (fresh One (codes "alice")) (reduce (2 ^ 63) 0)).reply ≡ refused syntax
 unfolding digits tokens_within expression_at series_by grouped_by body_by mgu_within walk path_within
 goal_number_of_64_bits_row = refl
 
-source_of_65537_bytes_row : (step (fresh (codes "alice")) (load (replicate 65537 32))).reply ≡ refused syntax
+source_of_65537_bytes_row : (step (fresh One (codes "alice")) (load (replicate 65537 32))).reply ≡ refused syntax
 unfolding digits tokens_within expression_at series_by grouped_by body_by mgu_within walk path_within
 source_of_65537_bytes_row = refl
 
@@ -175,43 +176,43 @@ refused_start_takes_no_names_row : (after_lines (having app_text) (codes "start 
 unfolding digits tokens_within expression_at series_by grouped_by body_by mgu_within walk path_within
 refused_start_takes_no_names_row = refl
 
-sum_that_overflows_row : stream 1 (after_lines (fresh (codes "alice")) (codes "start 10 0 10 X := 9223372036854775807 + 1" ∷ codes "run 10" ∷ [])) ≡ codes "[started,exception(overflow,':='(_1,'+'(9223372036854775807,1))),terminated]"
+sum_that_overflows_row : stream 1 (after_lines (fresh One (codes "alice")) (codes "start 10 0 10 X := 9223372036854775807 + 1" ∷ codes "run 10" ∷ [])) ≡ codes "[started,exception(overflow,':='(_1,'+'(9223372036854775807,1))),terminated]"
 unfolding digits tokens_within expression_at series_by grouped_by body_by mgu_within walk path_within
 sum_that_overflows_row = refl
 
-expression_of_a_wrong_type_row : stream 1 (after_lines (fresh (codes "alice")) (codes "start 10 0 10 X := a + Y" ∷ codes "run 10" ∷ [])) ≡ codes "[started,exception(illegal_input,':='(_1,'+'(a,_2))),terminated]"
+expression_of_a_wrong_type_row : stream 1 (after_lines (fresh One (codes "alice")) (codes "start 10 0 10 X := a + Y" ∷ codes "run 10" ∷ [])) ≡ codes "[started,exception(illegal_input,':='(_1,'+'(a,_2))),terminated]"
 unfolding digits tokens_within expression_at series_by grouped_by body_by mgu_within walk path_within
 expression_of_a_wrong_type_row = refl
 
-division_by_zero_row : stream 1 (after_lines (fresh (codes "alice")) (codes "start 10 0 10 X := 1 / 0" ∷ codes "run 10" ∷ [])) ≡ codes "[started,exception(illegal_input,':='(_1,'/'(1,0))),terminated]"
+division_by_zero_row : stream 1 (after_lines (fresh One (codes "alice")) (codes "start 10 0 10 X := 1 / 0" ∷ codes "run 10" ∷ [])) ≡ codes "[started,exception(illegal_input,':='(_1,'/'(1,0))),terminated]"
 unfolding digits tokens_within expression_at series_by grouped_by body_by mgu_within walk path_within
 division_by_zero_row = refl
 
-result_that_clashes_row : stream 1 (after_lines (fresh (codes "alice")) (codes "start 10 0 10 3 := 1 + 1" ∷ codes "run 10" ∷ [])) ≡ codes "[started,exception(failure,':='(3,'+'(1,1))),terminated]"
+result_that_clashes_row : stream 1 (after_lines (fresh One (codes "alice")) (codes "start 10 0 10 3 := 1 + 1" ∷ codes "run 10" ∷ [])) ≡ codes "[started,exception(failure,':='(3,'+'(1,1))),terminated]"
 unfolding digits tokens_within expression_at series_by grouped_by body_by mgu_within walk path_within
 result_that_clashes_row = refl
 
-result_that_agrees_row : stream 1 (after_lines (fresh (codes "alice")) (codes "start 10 0 10 2 := 1 + 1" ∷ codes "run 10" ∷ [])) ≡ codes "[started,terminated]"
+result_that_agrees_row : stream 1 (after_lines (fresh One (codes "alice")) (codes "start 10 0 10 2 := 1 + 1" ∷ codes "run 10" ∷ [])) ≡ codes "[started,terminated]"
 unfolding digits tokens_within expression_at series_by grouped_by body_by mgu_within walk path_within
 result_that_agrees_row = refl
 
-result_in_the_goal_row : option_map (λ o. print o.goal) (origin_at 1 (after_lines (fresh (codes "alice")) (codes "start 10 0 10 X := 2 * 3" ∷ codes "run 10" ∷ [])).shoens) ≡ Some (codes "':='(6,'*'(2,3))")
+result_in_the_goal_row : option_map (λ o. print o.goal) (origin_at 1 (after_lines (fresh One (codes "alice")) (codes "start 10 0 10 X := 2 * 3" ∷ codes "run 10" ∷ [])).shoens) ≡ Some (codes "':='(6,'*'(2,3))")
 unfolding digits tokens_within expression_at series_by grouped_by body_by mgu_within walk path_within
 result_in_the_goal_row = refl
 
-expression_that_waits_row : (line_done (after_lines (fresh (codes "alice")) (codes "start 10 0 10 X := 1 + Y" ∷ [])) (parse (codes "quiet"))).reply ≡ quiet_is true
+expression_that_waits_row : (line_done (after_lines (fresh One (codes "alice")) (codes "start 10 0 10 X := 1 + Y" ∷ [])) (parse (codes "quiet"))).reply ≡ quiet_is true
 unfolding digits tokens_within expression_at series_by grouped_by body_by mgu_within walk path_within
 expression_that_waits_row = refl
 
-expression_by_clause_0_row : (line_done (after_lines (fresh (codes "alice")) (codes "start 10 0 10 X := 1 + Y" ∷ [])) (parse (codes "reduce 2 0"))).reply ≡ refused step_refused
+expression_by_clause_0_row : (line_done (after_lines (fresh One (codes "alice")) (codes "start 10 0 10 X := 1 + Y" ∷ [])) (parse (codes "reduce 2 0"))).reply ≡ refused step_refused
 unfolding digits tokens_within expression_at series_by grouped_by body_by mgu_within walk path_within
 expression_by_clause_0_row = refl
 
-built_in_goal_by_clause_1_row : (line_done (after_lines (fresh (codes "alice")) (codes "start 10 0 10 X := 1 + 1" ∷ [])) (parse (codes "reduce 2 1"))).reply ≡ refused step_refused
+built_in_goal_by_clause_1_row : (line_done (after_lines (fresh One (codes "alice")) (codes "start 10 0 10 X := 1 + 1" ∷ [])) (parse (codes "reduce 2 1"))).reply ≡ refused step_refused
 unfolding digits tokens_within expression_at series_by grouped_by body_by mgu_within walk path_within
 built_in_goal_by_clause_1_row = refl
 
-built_in_goal_by_clause_0_row : (line_done (after_lines (fresh (codes "alice")) (codes "start 10 0 10 X := 1 + 1" ∷ [])) (parse (codes "reduce 2 0"))).reply ≡ reduced
+built_in_goal_by_clause_0_row : (line_done (after_lines (fresh One (codes "alice")) (codes "start 10 0 10 X := 1 + 1" ∷ [])) (parse (codes "reduce 2 0"))).reply ≡ reduced
 unfolding digits tokens_within expression_at series_by grouped_by body_by mgu_within walk path_within
 built_in_goal_by_clause_0_row = refl
 
@@ -263,11 +264,11 @@ clause_0_of_a_goal_that_waits_row : (line_done (after_lines (having one_fact) (c
 unfolding digits tokens_within expression_at series_by grouped_by body_by mgu_within walk path_within
 clause_0_of_a_goal_that_waits_row = refl
 
-variable_in_its_own_expression_row : (line_done (after_lines (fresh (codes "alice")) (codes "start 10 0 10 X := X + 1" ∷ [])) (parse (codes "quiet"))).reply ≡ quiet_is true
+variable_in_its_own_expression_row : (line_done (after_lines (fresh One (codes "alice")) (codes "start 10 0 10 X := X + 1" ∷ [])) (parse (codes "quiet"))).reply ≡ quiet_is true
 unfolding digits tokens_within expression_at series_by grouped_by body_by mgu_within walk path_within
 variable_in_its_own_expression_row = refl
 
-equation_of_an_equation_row : stream 1 (after_lines (fresh (codes "alice")) (codes "start 10 0 10 (a = b) = c" ∷ codes "run 10" ∷ [])) ≡ codes "[started,exception(failure,'='('='(a,b),c)),terminated]"
+equation_of_an_equation_row : stream 1 (after_lines (fresh One (codes "alice")) (codes "start 10 0 10 (a = b) = c" ∷ codes "run 10" ∷ [])) ≡ codes "[started,exception(failure,'='('='(a,b),c)),terminated]"
 unfolding digits tokens_within expression_at series_by grouped_by body_by mgu_within walk path_within
 equation_of_an_equation_row = refl
 

@@ -1,20 +1,21 @@
--- What reports, replacements and changes of a shoen's streams leave as it is.
-use Rattle.std.proofs.Common.{◌≡◌, ℕ, suc, ◌+◌, ◌==◌, ◌||◌, not, ◌&&◌, Bool, true, false, if◌then◌else◌, List, [], ◌∷◌, refl, sym, ap, ap₂, ◌∙◌}
+-- What reports, replacements and changes of a shoen's streams leave as it is, and what a goal in the place of another does.
+use Rattle.std.proofs.Common.{◌≡◌, ℕ, suc, ◌+◌, ◌==◌, ◌||◌, not, ◌&&◌, Bool, true, false, if◌then◌else◌, List, [], ◌∷◌, ◌++◌, refl, sym, ap, ap₂, ◌∙◌}
 use Rattle.std.specs.Prelude.{nat_lt, map, Option, Some, None, option_map, unwrap_or}
 use Rattle.std.specs.List.{list_any}
-use Rattle.kl1_model.specs.Limits.{most_reports}
+use Rattle.kl1_model.specs.declared.limits.TheConstants.{MOST_REPORTS}
 use Rattle.kl1_model.specs.declared.life.Life.{Life}
 use Rattle.kl1_model.specs.Term.{Term, variable, integer, atom, structure, Replacement, occurs}
 use Rattle.kl1_model.specs.Meaning.{nil, cell, highest}
-use Rattle.kl1_model.specs.State.{Task, monitor, reduces, Goal, Shoen, State, shoen_at, replace_in_task, replace_in_goal, replace_in_shoen, replace_in_state, replace_all, change_shoen, is_monitor, is_living, names_of, with_names}
-use Rattle.kl1_model.specs.Report.{broken_at, reported_at, report_of, report, report_each, closed_at, close_of, close, exception, failure, started_report, exhausted_report, stopped_report, resumed_report}
+use Rattle.kl1_model.specs.State.{Task, monitor, reduces, substitutes, Goal, Shoen, State, has_substitutes, shoen_at, replace_in_task, replace_in_goal, replace_in_shoen, replace_in_state, replace_all, change_shoen, is_monitor, is_living, names_of, with_names}
+use Rattle.kl1_model.specs.Report.{broken_at, reported_at, report_of, report, is_reported, report_each, closed_at, close_of, close, exception, exception_with, failure, exhaustion, started_report, exhausted_report, stopped_report, resumed_report}
 use Rattle.kl1_model.specs.Ending.{has_goal, has_living_child, lives, ends_now}
 use Rattle.kl1_model.specs.Nodes.{goal_nodes}
 use Rattle.kl1_model.specs.Control.{message_term, message_nodes}
 use Rattle.kl1_model.specs.Opening.{with_shoen, open_shoen, with_next_variables, started_shoen, start_goal}
 use Rattle.kl1_model.specs.Sending.{with_control_tail, sent_on}
 use Rattle.kl1_model.specs.declared.message.Message.{Message}
-use Rattle.kl1_model.specs.Reduction.{unified, stopped_of, resumed_of}
+use Rattle.kl1_model.specs.Reduction.{replaced_by, substituted_by, raised, unified, or_exhaustion, stopped_of, resumed_of}
+use Rattle.kl1_model.specs.Answering.{answered}
 
 -- a shoen's number, its parent's, and its life
 pub record Node : Type 0 where
@@ -74,6 +75,7 @@ replaced_nodes v t (h ∷ hs) = ap (λ (ms : List Node). node_of h ∷ ms) (repl
 task_kept : (v : ℕ) (t : Term) (task : Task) → is_monitor (replace_in_task v t task) ≡ is_monitor task
 task_kept v t monitor = refl
 task_kept v t (reduces u) = refl
+task_kept v t (substitutes u) = refl
 
 replaced_duties : (v : ℕ) (t : Term) (gs : List Goal) → duties_of (map (replace_in_goal v t) gs) ≡ duties_of gs
 replaced_duties v t [] = refl
@@ -98,7 +100,7 @@ reported_alike n m (variable v) s =
     let bound = record (replace_in_state v (cell m (variable next)) s) { last_variable = next; reports = suc s.reports } in
     let k = alike_replace v (cell m (variable next)) s in
     let b : Alike s bound = record { nodes = k.nodes; duties = k.duties; modules = refl; last = refl; entries = refl; work = refl } in
-    alike_if (occurs v m || not (nat_lt s.reports most_reports)) s (broken_at n s) (change_shoen n (λ h. record h { tail = variable next }) bound) (alike_broken n s)
+    alike_if (occurs v m || not (nat_lt s.reports MOST_REPORTS)) s (broken_at n s) (change_shoen n (λ h. record h { tail = variable next }) bound) (alike_broken n s)
     (alike_both s bound (change_shoen n (λ h. record h { tail = variable next }) bound) b (alike_change n (λ h. record h { tail = variable next }) bound (λ h. refl)))
 reported_alike n m (integer i) s = alike_broken n s
 reported_alike n m (atom a) s = alike_broken n s
@@ -144,10 +146,6 @@ alike_resumed (Some h) n s =
     let t = change_shoen n (λ h. record h { is_stopped = false }) s in
     alike_if h.is_stopped s (report n resumed_report t) s (alike_both s t (report n resumed_report t) (alike_change n (λ h. record h { is_stopped = false }) s (λ h. refl)) (alike_report n resumed_report t)) (alike_same s)
 
-pub alike_unified : (n : ℕ) (goal : Term) (o : Option (List Replacement)) (s : State) → Alike s (unified n goal o s)
-alike_unified n goal None s = alike_report n (exception failure goal) s
-alike_unified n goal (Some rs) s = alike_all rs s
-
 pub alike_open : (h : Shoen) (goal : Term) (s : State) → Alike (with_shoen h goal s) (open_shoen h goal s)
 alike_open h goal s =
     let t = with_shoen h goal s in
@@ -180,6 +178,74 @@ alike_sent n m (variable v) s =
 alike_sent n m (integer i) s = alike_same s
 alike_sent n m (atom a) s = alike_same s
 alike_sent n m (structure f ts) s = alike_same s
+
+pub alike_answered : (v : ℕ) (t : Term) (s : State) → Alike s (answered v t s)
+alike_answered v t s =
+    let k = alike_replace v (with_next_variables s.last_variable t) s in record { nodes = k.nodes; duties = k.duties; modules = refl; last = refl; entries = refl; work = refl }
+
+-- ---- a goal in the place of another
+
+-- the duty of a goal of shoen n, which is no monitor and has the next number
+abbrev pub next_duty : ℕ → ℕ → Duty
+next_duty last n = record { number = suc last; shoen = n; is_monitor = false }
+
+-- an effect leaves what `Alike` says, but shoen n has one goal more, which is no monitor and has the next number
+pub record Placed (n : ℕ) (s t : State) : Type 0 where
+  pub nodes : nodes_of t.shoens ≡ nodes_of s.shoens
+  pub duties : duties_of t.goals ≡ duties_of s.goals ++ next_duty s.last_goal n ∷ []
+  pub modules : t.modules ≡ s.modules
+  pub last : t.last_goal ≡ suc s.last_goal
+  pub entries : t.entries ≡ s.entries
+  pub work : t.work ≡ s.work
+
+pub duties_append : (gs hs : List Goal) → duties_of (gs ++ hs) ≡ duties_of gs ++ duties_of hs
+duties_append [] hs = refl
+duties_append (g ∷ gs) hs = ap (λ (ds : List Duty). duty_of g ∷ ds) (duties_append gs hs)
+
+-- a goal in the place of another, after what leaves nodes and duties
+pub placed_after : (g : Goal) (task : Task) (s t : State) → is_monitor task ≡ false → Alike s t → Placed g.shoen s (replaced_by g task t)
+placed_after g task s t plain k = record {
+  nodes = k.nodes;
+  duties = duties_append t.goals _ ∙ ap (λ b. duties_of t.goals ++ (record { number = suc t.last_goal; shoen = g.shoen; is_monitor = b }) ∷ []) plain
+      ∙ ap₂ (λ (ds : List Duty) (last : ℕ). ds ++ next_duty last g.shoen ∷ []) k.duties k.last;
+  modules = k.modules;
+  last = ap suc k.last;
+  entries = k.entries;
+  work = k.work;
+}
+
+pub placed_substitute : (g : Goal) (kind : List ℕ) (t : Term) (s : State) → Placed g.shoen s (substituted_by g kind t s)
+placed_substitute g kind t s =
+    let new = suc s.last_variable in
+    let told = exception_with kind t (variable new) in
+    let u = record s { last_variable = new } in
+    let b : Alike s u = record { nodes = refl; duties = refl; modules = refl; last = refl; entries = refl; work = refl } in
+    placed_after g (substitutes (variable new)) s (report g.shoen told u) refl (alike_both s u (report g.shoen told u) b (alike_report g.shoen told u))
+
+-- a fact holds after whatever leaves nodes and duties, and after that and a goal in the place of this one
+pub record Lasts (P : State → Type 0) (g : Goal) (s : State) : Type 0 where
+  pub alike : (t : State) → Alike s t → P t
+  pub placed : (t : State) → Placed g.shoen s t → P t
+
+by_report : (P : State → Type 0) (c : Bool) (t u : State) → P t → P u → P (if c then t else u)
+by_report P true t u p q = p
+by_report P false t u p q = q
+
+-- so it holds after an exception of this goal
+pub by_raised : (P : State → Type 0) (g : Goal) (kind : List ℕ) (t : Term) (s : State) → Lasts P g s → P (raised g kind t s)
+by_raised P g kind t s k =
+    by_report P (has_substitutes s.rules && is_reported g.shoen (exception kind t) s) (substituted_by g kind t s) (report g.shoen (exception kind t) s)
+    (k.placed (substituted_by g kind t s) (placed_substitute g kind t s)) (k.alike (report g.shoen (exception kind t) s) (alike_report g.shoen (exception kind t) s))
+
+-- and after a unification for it
+pub by_unified : (P : State → Type 0) (g : Goal) (t : Term) (o : Option (List Replacement)) (s : State) → Lasts P g s → P (unified g t o s)
+by_unified P g t None s k = by_raised P g failure t s k
+by_unified P g t (Some rs) s k = k.alike (replace_all rs s) (alike_all rs s)
+
+-- and after an effect that keeps to a limit, if it holds after the effect
+pub by_limit : (P : State → Type 0) (c : Bool) (g : Goal) (t : Term) (u s : State) → (c ≡ true → P u) → Lasts P g s → P (or_exhaustion c g t u s)
+by_limit P true g t u s f k = f refl
+by_limit P false g t u s f k = by_raised P g exhaustion t s k
 
 -- ---- who is due, by nodes and duties
 

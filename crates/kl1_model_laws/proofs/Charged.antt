@@ -4,7 +4,7 @@ use Rattle.std.specs.Prelude.{nat_le, nat_lt, min, map, length, get_or, count_by
 use Rattle.std.specs.List.{AllByRecursion}
 use Rattle.std.proofs.lemmas.Bool.{true≢false, eq-eqb, ne_eqb, or_from, ltb-true}
 use Rattle.std.proofs.lemmas.List.Sums.{sum_by-cons, count_by-le-length}
-use Rattle.kl1_model.specs.Limits.{most_reports, most_names, most_entries, most_allowance}
+use Rattle.kl1_model.specs.declared.limits.TheConstants.{MOST_REPORTS, MOST_NAMES, MOST_ENTRIES, MOST_ALLOWANCE}
 use Rattle.kl1_model.specs.declared.life.Life.TheVariants.{Terminated, Aborted}
 use Rattle.kl1_model.specs.declared.message.Message.{Message}
 use Rattle.kl1_model.specs.declared.message.Message.TheVariants.{Stop, Start, Abort, Allow}
@@ -13,13 +13,14 @@ use Rattle.kl1_model.specs.Meaning.{nil, cell}
 use Rattle.kl1_model.specs.Unify.{mgu}
 use Rattle.kl1_model.specs.Module.{is_among}
 use Rattle.kl1_model.specs.Control.{Control, awaits_message, tells, tells_other, ends, breaks_off}
-use Rattle.kl1_model.specs.State.{Goal, Shoen, State, shoen_at, replace_in_shoen, replace_in_state, replace_all, change_shoen, without_goal, with_name, is_monitor, is_living}
+use Rattle.kl1_model.specs.State.{Goal, Shoen, State, has_substitutes, shoen_at, replace_in_shoen, replace_in_state, replace_all, change_shoen, without_goal, with_name, is_monitor, is_living}
 use Rattle.kl1_model.specs.Tree.{parents_of, path_within, path, is_on_path, charged_of, charge, is_enabled}
 use Rattle.kl1_model.specs.Event.{with_entry}
-use Rattle.kl1_model.specs.Report.{broken_at, reported_at, report_of, report, report_each, closed_at, close_of, close, exception, failure, illegal_input, exhaustion, started_report, exhausted_report, stopped_report, resumed_report, terminated_report, aborted_report}
+use Rattle.kl1_model.specs.Report.{broken_at, reported_at, report_of, report, is_reported, report_each, closed_at, close_of, close, exception, exception_with, failure, illegal_input, exhaustion, started_report, exhausted_report, stopped_report, resumed_report, terminated_report, aborted_report}
 use Rattle.kl1_model.specs.Ending.{ended_at, ending_of, without_monitor, terminate, terminate_each, settle, newly_exhausted, after_reduction, aborted_below, ended_below, abort}
 use Rattle.kl1_model.specs.Opening.{with_shoen, open_shoen, with_next_variables, start_goal, has_room_for_child, child_shoen, open_child}
-use Rattle.kl1_model.specs.Reduction.{Move, commits, raises, unifies, names, opens, goes, moves, reads, has_room_for, committed, unified, equation, or_exhaustion, moved, stopped_of, resumed_of, allowed_more, obeyed, with_control, heard, acted}
+use Rattle.kl1_model.specs.Reduction.{Move, commits, raises, unifies, names, opens, goes, gives_way, moves, reads, has_room_for, committed, substituted_by, raised, unified, equation, or_exhaustion, named_by, moved, stopped_of, resumed_of, allowed_more, obeyed, with_control, heard, acted}
+use Rattle.kl1_model.specs.Answering.{answered}
 use Rattle.kl1_model.specs.Sending.{with_control_tail, sent_on}
 use Rattle.kl1_model.specs.laws.TreeLaws.{AreNumbered, ParentsAreLower, IsTree}
 use Rattle.kl1_model.proofs.TreeKeeps.{kept_tree}
@@ -28,7 +29,7 @@ use Rattle.kl1_model_laws.specs.Reached.{reached}
 use Rattle.kl1_model_laws.specs.AllowanceLaws.{NoneIsChargedMore}
 use Rattle.kl1_model_laws.proofs.Allowances.{found_number, enabled_has_allowance}
 use Rattle.kl1_model_laws.proofs.Reaching.{Keeping, holds_reached}
-use Rattle.kl1_model_laws.proofs.Alike.{Node, nodes_of, Alike, begun, begun_shoen, alike_start, alike_sent}
+use Rattle.kl1_model_laws.proofs.Alike.{Node, nodes_of, Alike, begun, begun_shoen, alike_start, alike_sent, alike_answered}
 use Rattle.kl1_model_laws.proofs.Modules.{move_has, reading_has}
 use Rattle.kl1_model_laws.proofs.Each.{all_map, all_append, all_weaker, found_shoen}
 
@@ -70,7 +71,7 @@ reported : (b : ℕ → ℕ) (n : ℕ) (m t : Term) (s : State) → Cap b s → 
 reported b n m (variable v) s a =
     let next = suc s.last_variable in
     let bound = record (replace_in_state v (cell m (variable next)) s) { last_variable = next; reports = suc s.reports } in
-    cap_if (occurs v m || not (nat_lt s.reports most_reports)) b (broken_at n s) (change_shoen n (λ h. record h { tail = variable next }) bound) (cap_broken b n s a)
+    cap_if (occurs v m || not (nat_lt s.reports MOST_REPORTS)) b (broken_at n s) (change_shoen n (λ h. record h { tail = variable next }) bound) (cap_broken b n s a)
     (changed b n (λ h. record h { tail = variable next }) bound (λ h p. p) (replaced b v (cell m (variable next)) s a))
 reported b n m (integer i) s a = cap_broken b n s a
 reported b n m (atom c) s a = cap_broken b n s a
@@ -140,29 +141,36 @@ cap_resumed b (Some h) n s a =
 at_least : (x a extra most : ℕ) → x ≤ a → x ≤ most → x ≤ min (a + extra) most
 at_least x a extra most e f = omega (arith, e, f)
 
-cap_obeyed : (b : ℕ → ℕ) → ((n : ℕ) → b n ≤ most_allowance) → (n : ℕ) (m : Message) (s : State) → Cap b s → Cap b (obeyed n m s)
+cap_obeyed : (b : ℕ → ℕ) → ((n : ℕ) → b n ≤ MOST_ALLOWANCE) → (n : ℕ) (m : Message) (s : State) → Cap b s → Cap b (obeyed n m s)
 cap_obeyed b most n Stop s a = cap_stopped b (shoen_at n s.shoens) n s a
 cap_obeyed b most n Start s a = cap_resumed b (shoen_at n s.shoens) n s a
 cap_obeyed b most n Abort s a = cap_abort b n s a
-cap_obeyed b most n (Allow extra) s a = changed b n (allowed_more extra) s (λ h p. at_least (b h.number) h.allowance extra most_allowance p (most h.number)) a
+cap_obeyed b most n (Allow extra) s a = changed b n (allowed_more extra) s (λ h p. at_least (b h.number) h.allowance extra MOST_ALLOWANCE p (most h.number)) a
 
 cap_rest : (b : ℕ → ℕ) (n : ℕ) (rest : Term) (s : State) → Cap b s → Cap b (with_control n rest s)
 cap_rest b n rest s a = changed b n (λ h. record h { control = rest }) s (λ h p. p) a
 
-cap_heard : (b : ℕ → ℕ) → ((n : ℕ) → b n ≤ most_allowance) → (n : ℕ) (c : Control) (s : State) → Cap b s → Cap b (heard n c s)
+cap_heard : (b : ℕ → ℕ) → ((n : ℕ) → b n ≤ MOST_ALLOWANCE) → (n : ℕ) (c : Control) (s : State) → Cap b s → Cap b (heard n c s)
 cap_heard b most n (awaits_message v) s a = a
 cap_heard b most n (tells m rest) s a = cap_obeyed b most n m (with_control n rest s) (cap_rest b n rest s a)
 cap_heard b most n (tells_other m rest) s a = cap_report b n (exception illegal_input m) (with_control n rest s) (cap_rest b n rest s a)
 cap_heard b most n ends s a = a
 cap_heard b most n (breaks_off t) s a = cap_report b n (exception illegal_input t) (without_monitor n s) a
 
-cap_unified : (b : ℕ → ℕ) (n : ℕ) (goal : Term) (o : Option (List Replacement)) (s : State) → Cap b s → Cap b (unified n goal o s)
-cap_unified b n goal None s a = cap_report b n (exception failure goal) s a
-cap_unified b n goal (Some rs) s a = cap_all b rs s a
+-- a substitute leaves the shoens as the report does
+cap_raised : (b : ℕ → ℕ) (g : Goal) (kind : List ℕ) (t : Term) (s : State) → Cap b s → Cap b (raised g kind t s)
+cap_raised b g kind t s a =
+    let new = suc s.last_variable in
+    cap_if (has_substitutes s.rules && is_reported g.shoen (exception kind t) s) b (substituted_by g kind t s) (report g.shoen (exception kind t) s)
+    (cap_report b g.shoen (exception_with kind t (variable new)) (record s { last_variable = new }) a) (cap_report b g.shoen (exception kind t) s a)
 
-cap_or : (c : Bool) (b : ℕ → ℕ) (n : ℕ) (goal : Term) (t s : State) → Cap b t → Cap b s → Cap b (or_exhaustion c n goal t s)
-cap_or true b n goal t s p q = p
-cap_or false b n goal t s p q = cap_report b n (exception exhaustion goal) s q
+cap_unified : (b : ℕ → ℕ) (g : Goal) (t : Term) (o : Option (List Replacement)) (s : State) → Cap b s → Cap b (unified g t o s)
+cap_unified b g t None s a = cap_raised b g failure t s a
+cap_unified b g t (Some rs) s a = cap_all b rs s a
+
+cap_or : (c : Bool) (b : ℕ → ℕ) (g : Goal) (t : Term) (u s : State) → Cap b u → Cap b s → Cap b (or_exhaustion c g t u s)
+cap_or true b g t u s p q = p
+cap_or false b g t u s p q = cap_raised b g exhaustion t s q
 
 -- a shoen that opens has been charged nothing
 cap_open : (b : ℕ → ℕ) (h : Shoen) (goal : Term) (s : State) → b h.number ≡ 0 → Cap b s → Cap b (open_shoen h goal s)
@@ -175,14 +183,15 @@ cap_open b h goal s e a =
     cap_if (h.allowance == 0) b (report h.number exhausted_report u) u (cap_report b h.number exhausted_report u q) q
 
 cap_moved : (b : ℕ → ℕ) (g : Goal) (t : Term) (m : Move) (s : State) → b (suc s.last_shoen) ≡ 0 → Cap b s → Cap b (moved g t m s)
-cap_moved b g t (commits k) s e a = cap_or (has_room_for s k.clause) b g.shoen t (committed g k s) s a a
-cap_moved b g t (raises kind) s e a = cap_report b g.shoen (exception kind t) s a
-cap_moved b g t (unifies x y) s e a = cap_unified b g.shoen t (mgu (equation x y)) s a
+cap_moved b g t (commits k) s e a = cap_or (has_room_for s k.clause) b g t (committed g k s) s a a
+cap_moved b g t (raises kind) s e a = cap_raised b g kind t s a
+cap_moved b g t (unifies x y) s e a = cap_unified b g t (mgu (equation x y)) s a
 cap_moved b g t (names text x) s e a =
     let u = record s { names = with_name s.names text } in
-    cap_or (nat_le (length (with_name s.names text)) most_names) b g.shoen t (unified g.shoen t (mgu (equation x (atom text))) u) s (cap_unified b g.shoen t (mgu (equation x (atom text))) u a) a
-cap_moved b g t (opens o) s e a = cap_or (has_room_for_child s g.shoen) b g.shoen t (open_child s g.shoen o) s (cap_open b (child_shoen s g.shoen o) o.goal s e a) a
+    cap_or (nat_le (length (with_name s.names text)) MOST_NAMES) b g t (named_by g t text x s) s (cap_unified b g t (mgu (equation x (atom text))) u a) a
+cap_moved b g t (opens o) s e a = cap_or (has_room_for_child s g.shoen) b g t (open_child s g.shoen o) s (cap_open b (child_shoen s g.shoen o) o.goal s e a) a
 cap_moved b g t goes s e a = a
+cap_moved b g t gives_way s e a = a
 
 -- ---- who was charged
 
@@ -241,7 +250,7 @@ all_found b (k ∷ hs) a = (
 record IsWithin (s : State) : Type 0 where
   capped : Cap (charged_of s) s
   worked : length s.work ≤ s.entries
-  entries : s.entries ≤ most_entries
+  entries : s.entries ≤ MOST_ENTRIES
 
 -- what a shoen is charged with one reduction more of a goal
 abbrev charged_more : State → Goal → ℕ → ℕ
@@ -266,10 +275,10 @@ new_free s g tree few =
     new_case (is_on_path s.shoens (suc s.last_shoen) g.shoen) (charged_of s (suc s.last_shoen)) (above_path (parents_of s.shoens) tree.lower g.shoen g.shoen (suc s.last_shoen) (omega (arith, few)))
     (not_charged s (suc s.last_shoen) tree (omega arith))
 
-entries_fit : most_entries ≤ most_allowance
+entries_fit : MOST_ENTRIES ≤ MOST_ALLOWANCE
 entries_fit = omega arith
 
-moving_within : (s : State) (n : ℕ) (g : Goal) (t : Term) (m : Move) → IsTree s → g.shoen ≤ s.last_shoen → is_monitor g.task ≡ false → is_enabled s g ≡ true → nat_lt s.entries most_entries ≡ true → IsWithin s → IsWithin (acted g (moves t m) (with_entry s))
+moving_within : (s : State) (n : ℕ) (g : Goal) (t : Term) (m : Move) → IsTree s → g.shoen ≤ s.last_shoen → is_monitor g.task ≡ false → is_enabled s g ≡ true → nat_lt s.entries MOST_ENTRIES ≡ true → IsWithin s → IsWithin (acted g (moves t m) (with_entry s))
 moving_within s n g t m tree few plain on free w =
     let e = with_entry s in
     let entered = kept_tree s e (with_entry_keeps s) tree in
@@ -277,7 +286,7 @@ moving_within s n g t m tree few plain on free w =
     let end = acted g (moves t m) e in
     let charges = (acted_move g t m e few entered).1 in
     let has = move_has g t m e in
-    let room = ltb-true s.entries most_entries free in
+    let room = ltb-true s.entries MOST_ENTRIES free in
     let same : end.entries ≡ suc s.entries = has.entries in
     let work : length end.work ≡ suc (length s.work) = ap length has.work in
     let before = w.worked in
@@ -288,13 +297,13 @@ moving_within s n g t m tree few plain on free w =
       entries = omega (arith, same, room);
     }
 
-reading_within : (s : State) (g : Goal) (c : Control) → nat_lt s.entries most_entries ≡ true → IsWithin s → IsWithin (acted g (reads c) (with_entry s))
+reading_within : (s : State) (g : Goal) (c : Control) → nat_lt s.entries MOST_ENTRIES ≡ true → IsWithin s → IsWithin (acted g (reads c) (with_entry s))
 reading_within s g c free w =
     let e = with_entry s in
     let end = acted g (reads c) e in
     let keeps = acted_reading g c e in
     let has = reading_has g c e in
-    let room = ltb-true s.entries most_entries free in
+    let room = ltb-true s.entries MOST_ENTRIES free in
     let same : end.entries ≡ suc s.entries = has.entries in
     let work : length end.work ≡ length s.work = ap length has.work in
     let before = w.worked in
@@ -307,7 +316,7 @@ reading_within s g c free w =
       entries = omega (arith, same, room);
     }
 
-start_within : (s : State) (allowance low high : ℕ) (t : Term) → IsTree s → nat_lt s.entries most_entries ≡ true → IsWithin s → IsWithin (with_entry (start_goal s allowance low high t))
+start_within : (s : State) (allowance low high : ℕ) (t : Term) → IsTree s → nat_lt s.entries MOST_ENTRIES ≡ true → IsWithin s → IsWithin (with_entry (start_goal s allowance low high t))
 start_within s allowance low high t tree free w =
     let h = begun_shoen s allowance low high t in
     let goal = with_next_variables s.last_variable t in
@@ -315,7 +324,7 @@ start_within s allowance low high t tree free w =
     let end = start_goal s allowance low high t in
     let follows = opening_follows 0 h goal u refl (λ few. few) in
     let alike = alike_start s allowance low high t in
-    let room = ltb-true s.entries most_entries free in
+    let room = ltb-true s.entries MOST_ENTRIES free in
     let same : end.entries ≡ s.entries = alike.entries in
     let work : length end.work ≡ length s.work = ap length alike.work in
     let before = w.worked in
@@ -334,11 +343,11 @@ cap_sent b n m (integer i) s a = a
 cap_sent b n m (atom c) s a = a
 cap_sent b n m (structure f ts) s a = a
 
-sent_within : (s : State) (n : ℕ) (m : Message) (t : Term) → nat_lt s.entries most_entries ≡ true → IsWithin s → IsWithin (with_entry (sent_on n m t s))
+sent_within : (s : State) (n : ℕ) (m : Message) (t : Term) → nat_lt s.entries MOST_ENTRIES ≡ true → IsWithin s → IsWithin (with_entry (sent_on n m t s))
 sent_within s n m t free w =
     let end = sent_on n m t s in
     let alike = alike_sent n m t s in
-    let room = ltb-true s.entries most_entries free in
+    let room = ltb-true s.entries MOST_ENTRIES free in
     let same : end.entries ≡ s.entries = alike.entries in
     let work : length end.work ≡ length s.work = ap length alike.work in
     let before = w.worked in
@@ -348,19 +357,33 @@ sent_within s n m t free w =
       entries = omega (arith, same, room);
     }
 
+answered_within : (s : State) (v : ℕ) (t : Term) → nat_lt s.entries MOST_ENTRIES ≡ true → IsWithin s → IsWithin (with_entry (answered v t s))
+answered_within s v t free w =
+    let end = answered v t s in
+    let alike = alike_answered v t s in
+    let room = ltb-true s.entries MOST_ENTRIES free in
+    let before = w.worked in
+    record {
+      capped = all_weaker (λ k. charged_of s k.number ≤ k.allowance) (λ k. charged_of end k.number ≤ k.allowance) (λ k p. let x = charged_alike s end k.number alike in omega (arith, x, p)) end.shoens (replaced (charged_of s) v (with_next_variables s.last_variable t) s w.capped);
+      worked = omega (arith, before);
+      entries = omega (arith, room);
+    }
+
 keeping : Keeping IsWithin
 keeping = record {
-  fresh = λ name names sessions. record { capped = tt; worked = omega arith; entries = omega arith };
+  fresh = λ rules name names sessions. record { capped = tt; worked = omega arith; entries = omega arith };
   seats = λ s n w. record { capped = w.capped; worked = w.worked; entries = w.entries };
-  loads = λ s source m is free w. let room = ltb-true s.entries most_entries free in let before = w.worked in record { capped = w.capped; worked = omega (arith, before); entries = omega (arith, room) };
+  loads = λ s source m is free w. let room = ltb-true s.entries MOST_ENTRIES free in let before = w.worked in record { capped = w.capped; worked = omega (arith, before); entries = omega (arith, room) };
   starts = λ s allowance low high t tree may room free w. start_within s allowance low high t tree free w;
   sends = λ s n m h o tree there is free w. sent_within s n m o.control free w;
   moving = λ s n clause g t m tree there task is enabled free w. moving_within s n g t m tree (found_within s.last_shoen n s.goals g there tree.owners) (ap is_monitor task) enabled free w;
+  substituting = λ s n g t m tree there task is enabled free w. moving_within s n g t m tree (found_within s.last_shoen n s.goals g there tree.owners) (ap is_monitor task) enabled free w;
+  answers = λ s n number v t h o tree there origin may room is free w. answered_within s v t free w;
   reading = λ s n g h c tree there found is free w. reading_within s g c free w;
 }
 
 pub none_is_charged_more : NoneIsChargedMore
-none_is_charged_more name es n h there =
-    let s = reached name es in
-    let w = holds_reached IsWithin keeping name es in
+none_is_charged_more rules name es n h there =
+    let s = reached rules name es in
+    let w = holds_reached IsWithin keeping rules name es in
     subst (λ (k : ℕ). charged_of s k ≤ h.allowance) (found_number n s.shoens h there) (found_shoen (λ k. charged_of s k.number ≤ k.allowance) n s.shoens h there w.capped)

@@ -4,7 +4,8 @@ use Rattle.std.specs.Prelude.{nat_le, nat_lt, map, filter, count_by, cond, Some}
 use Rattle.std.proofs.lemmas.Bool.{and_parts, eqb-true, leb-true, ltb-true}
 use Rattle.std.proofs.lemmas.List.Sums.{sum_by-cons}
 use Rattle.std.proofs.lemmas.Option.{none-some, same_Some}
-use Rattle.kl1_model.specs.Limits.{most_goals, most_variables, most_nodes, most_shoens, most_names}
+use Rattle.kl1_model.specs.declared.rules.Rules.{Rules}
+use Rattle.kl1_model.specs.declared.limits.TheConstants.{MOST_GOALS, MOST_VARIABLES, MOST_NODES, MOST_SHOENS, MOST_NAMES}
 use Rattle.kl1_model.specs.Term.{Term, atom, substituted}
 use Rattle.kl1_model.specs.Meaning.{highest}
 use Rattle.kl1_model.specs.Nodes.{goal_nodes, goals_nodes}
@@ -12,18 +13,18 @@ use Rattle.kl1_model.specs.Module.{BodyGoal, goals_of}
 use Rattle.kl1_model.specs.Match.{Candidate}
 use Rattle.kl1_model.specs.Unify.{mgu}
 use Rattle.kl1_model.specs.Instance.{body_variable, body_instance, body_priorities, fresh_variables}
-use Rattle.kl1_model.specs.State.{Goal, Shoen, State, goal_at, shoen_at, with_name, without_goal, is_monitor}
+use Rattle.kl1_model.specs.State.{reduces, Goal, Shoen, State, goal_at, shoen_at, with_name, without_goal, is_monitor}
 use Rattle.kl1_model.specs.Tree.{charge, goals_alive}
 use Rattle.kl1_model.specs.Event.{Event, with_entry}
-use Rattle.kl1_model.specs.Report.{exception}
 use Rattle.kl1_model.specs.Opening.{opening_goals, with_shoen, with_next_variables, start_goal, has_room_to_start, has_room_for_child, child_shoen, open_child}
-use Rattle.kl1_model.specs.Reduction.{Move, commits, raises, unifies, names, opens, goes, moves, priority_of, goals_from, has_room_for, committed, unified, equation, moved, heard, acted}
+use Rattle.kl1_model.specs.Reduction.{Move, commits, raises, unifies, names, opens, goes, gives_way, moves, priority_of, goals_from, has_room_for, committed, replaced_by, equation, named_by, moved, heard, acted}
+use Rattle.kl1_model.specs.Answering.{answered}
 use Rattle.kl1_model.specs.Sending.{sent_on}
 use Rattle.kl1_model_laws.specs.Reached.{reached}
 use Rattle.kl1_model_laws.specs.GoalLaws.{GoalsAreFew}
 use Rattle.kl1_model_laws.proofs.Reaching.{Keeping, holds_reached}
-use Rattle.kl1_model_laws.proofs.Alike.{Duty, duty_of, duties_of, alike_report, alike_unified, alike_open, begun, begun_shoen, alike_start, alike_sent}
-use Rattle.kl1_model_laws.proofs.Duties.{Of, of_alike, filtered, of_gone, of_settle, of_settle_charged, of_heard, of_or}
+use Rattle.kl1_model_laws.proofs.Alike.{Duty, duty_of, duties_of, duties_append, next_duty, Lasts, placed_after, by_raised, by_unified, by_limit, alike_same, alike_open, begun, begun_shoen, alike_start, alike_sent, alike_answered}
+use Rattle.kl1_model_laws.proofs.Duties.{Of, of_alike, of_placed, filtered, of_gone, of_settle, of_settle_charged, of_heard}
 
 -- how many goals are no monitors, by their duties
 abbrev pub alive_in : List Duty → ℕ
@@ -88,7 +89,7 @@ rises_more b (d ∷ ds) es last top r q = (r.0, rises_more d.number ds es last t
 
 -- goals have rising numbers, and those alive are few
 pub record AreCounted (ds : List Duty) (last : ℕ) : Type 0 where
-  pub few : alive_in ds ≤ most_goals
+  pub few : alive_in ds ≤ MOST_GOALS
   pub rising : Rises 0 ds last
 
 pub counted_fewer : (p : Duty → Bool) (ds : List Duty) (last : ℕ) → AreCounted ds last → AreCounted (filter p ds) last
@@ -147,17 +148,13 @@ mapped_length : {A B : Type 0} (f : A → B) (xs : List A) → length (map f xs)
 mapped_length f [] = refl
 mapped_length f (x ∷ xs) = ap suc (mapped_length f xs)
 
-pub duties_append : (gs hs : List Goal) → duties_of (gs ++ hs) ≡ duties_of gs ++ duties_of hs
-duties_append [] hs = refl
-duties_append (g ∷ gs) hs = ap (λ (ds : List Duty). duty_of g ∷ ds) (duties_append gs hs)
-
 commit_counted : (g : Goal) (k : Candidate) (s : State) → has_room_for s k.clause ≡ true → Of AreCounted s → Of AreCounted (committed g k s)
 commit_counted g k s room counted =
     let body = body_instance k.clause k.places s.last_variable in
     let ps = map (priority_of (shoen_at g.shoen s.shoens) g.priority) (body_priorities k.clause) in
     let new = goals_from s.last_goal g.shoen ps body in
-    let parts = and_parts (nat_le (goals_alive s + length k.clause.body) most_goals && nat_le (s.variables + fresh_variables k.clause) most_variables) (nat_le (s.nodes + goals_nodes (goals_of k.clause.body)) most_nodes) room in
-    let fit = leb-true (goals_alive s + length k.clause.body) most_goals (and_parts (nat_le (goals_alive s + length k.clause.body) most_goals) (nat_le (s.variables + fresh_variables k.clause) most_variables) parts.0).0 in
+    let parts = and_parts (nat_le (goals_alive s + length k.clause.body) MOST_GOALS && nat_le (s.variables + fresh_variables k.clause) MOST_VARIABLES) (nat_le (s.nodes + goals_nodes (goals_of k.clause.body)) MOST_NODES) room in
+    let fit = leb-true (goals_alive s + length k.clause.body) MOST_GOALS (and_parts (nat_le (goals_alive s + length k.clause.body) MOST_GOALS) (nat_le (s.variables + fresh_variables k.clause) MOST_VARIABLES) parts.0).0 in
     let here = alive_is s in
     let a = alive_append (duties_of s.goals) (duties_of new) in
     let b = alive_most (duties_of new) in
@@ -169,7 +166,7 @@ commit_counted g k s room counted =
       rising = rises_more 0 (duties_of s.goals) (duties_of new) s.last_goal (s.last_goal + length body) counted.rising (from_rises s.last_goal g.shoen ps body);
     })
 
-open_counted : (h : Shoen) (goal : Term) (s : State) → alive_in (duties_of s.goals) + 1 ≤ most_goals → Of AreCounted s → Of AreCounted (with_shoen h goal s)
+open_counted : (h : Shoen) (goal : Term) (s : State) → alive_in (duties_of s.goals) + 1 ≤ MOST_GOALS → Of AreCounted s → Of AreCounted (with_shoen h goal s)
 open_counted h goal s room counted =
     let new = opening_goals s.last_goal h goal in
     let a = alive_append (duties_of s.goals) (duties_of new) in
@@ -182,18 +179,35 @@ open_counted h goal s room counted =
       rising = rises_more 0 (duties_of s.goals) (duties_of new) s.last_goal (suc (suc s.last_goal)) counted.rising (first, (next, top));
     })
 
-moved_counted : (g : Goal) (t : Term) (m : Move) (s : State) → alive_in (duties_of s.goals) + 1 ≤ most_goals → Of AreCounted s → Of AreCounted (moved g t m s)
-moved_counted g t (commits k) s e a = of_or AreCounted (has_room_for s k.clause) g.shoen t (committed g k s) s (λ room. commit_counted g k s room a) a
-moved_counted g t (raises kind) s e a = of_alike AreCounted s (moved g t (raises kind) s) (alike_report g.shoen (exception kind t) s) a
-moved_counted g t (unifies x y) s e a = of_alike AreCounted s (moved g t (unifies x y) s) (alike_unified g.shoen t (mgu (equation x y)) s) a
+placed_counted : (n last : ℕ) (ds : List Duty) → alive_in ds + 1 ≤ MOST_GOALS → AreCounted ds last → AreCounted (ds ++ next_duty last n ∷ []) (suc last)
+placed_counted n last ds room counted =
+    let a = alive_append ds (next_duty last n ∷ []) in
+    let one : alive_in (next_duty last n ∷ []) ≤ 1 = alive_most (next_duty last n ∷ []) in
+    let next : last < suc last = omega arith in
+    let top : suc last ≤ suc last = omega arith in
+    record { few = omega (arith, room, a, one); rising = rises_more 0 ds (next_duty last n ∷ []) last (suc last) counted.rising (next, top) }
+
+-- a goal in the place of one that was removed counts as that did
+lasts_counted : (g : Goal) (s : State) → alive_in (duties_of s.goals) + 1 ≤ MOST_GOALS → Of AreCounted s → Lasts (Of AreCounted) g s
+lasts_counted g s room a = record {
+  alike = λ t k. of_alike AreCounted s t k a;
+  placed = λ t k. of_placed AreCounted g.shoen s t k (placed_counted g.shoen s.last_goal (duties_of s.goals) room a);
+}
+
+moved_counted : (g : Goal) (t : Term) (m : Move) (s : State) → alive_in (duties_of s.goals) + 1 ≤ MOST_GOALS → Of AreCounted s → Of AreCounted (moved g t m s)
+moved_counted g t (commits k) s e a = by_limit (Of AreCounted) (has_room_for s k.clause) g t (committed g k s) s (λ room. commit_counted g k s room a) (lasts_counted g s e a)
+moved_counted g t (raises kind) s e a = by_raised (Of AreCounted) g kind t s (lasts_counted g s e a)
+moved_counted g t (unifies x y) s e a = by_unified (Of AreCounted) g t (mgu (equation x y)) s (lasts_counted g s e a)
 moved_counted g t (names text x) s e a =
     let u = record s { names = with_name s.names text } in
-    let v = unified g.shoen t (mgu (equation x (atom text))) u in
-    of_or AreCounted (nat_le (length (with_name s.names text)) most_names) g.shoen t v s (λ _. of_alike AreCounted u v (alike_unified g.shoen t (mgu (equation x (atom text))) u) a) a
+    by_limit (Of AreCounted) (nat_le (length (with_name s.names text)) MOST_NAMES) g t (named_by g t text x s) s
+    (λ _. by_unified (Of AreCounted) g t (mgu (equation x (atom text))) u (lasts_counted g u e a)) (lasts_counted g s e a)
 moved_counted g t (opens o) s e a =
     let h = child_shoen s g.shoen o in
-    of_or AreCounted (has_room_for_child s g.shoen) g.shoen t (open_child s g.shoen o) s (λ _. of_alike AreCounted (with_shoen h o.goal s) (open_child s g.shoen o) (alike_open h o.goal s) (open_counted h o.goal s e a)) a
+    by_limit (Of AreCounted) (has_room_for_child s g.shoen) g t (open_child s g.shoen o) s
+    (λ _. of_alike AreCounted (with_shoen h o.goal s) (open_child s g.shoen o) (alike_open h o.goal s) (open_counted h o.goal s e a)) (lasts_counted g s e a)
 moved_counted g t goes s e a = a
+moved_counted g t gives_way s e a = (lasts_counted g s e a).placed (replaced_by g (reduces t) s) (placed_after g (reduces t) s s refl (alike_same s))
 
 pub acted_counted : (g : Goal) (t : Term) (m : Move) (s : State) → goal_at g.number s.goals ≡ Some g → is_monitor g.task ≡ false → Of AreCounted s → Of AreCounted (acted g (moves t m) s)
 acted_counted g t m s there plain a =
@@ -202,16 +216,16 @@ acted_counted g t m s there plain a =
     let c = filtered (λ d. not (d.number == g.number)) s.goals in
     let d = a.few in
     of_settle_charged AreCounted counted_fewer g.shoen (moved g t m worked) (moved_counted g t m worked
-    (subst (λ ds. alive_in ds + 1 ≤ most_goals) (sym c) (omega (arith, b, d))) (of_gone AreCounted counted_fewer g.number s a))
+    (subst (λ ds. alive_in ds + 1 ≤ MOST_GOALS) (sym c) (omega (arith, b, d))) (of_gone AreCounted counted_fewer g.number s a))
 
 pub start_counted : (s : State) (allowance low high : ℕ) (t : Term) → has_room_to_start s t ≡ true → Of AreCounted s → Of AreCounted (start_goal s allowance low high t)
 start_counted s allowance low high t room a =
     let h = begun_shoen s allowance low high t in
     let goal = with_next_variables s.last_variable t in
-    let x = and_parts (nat_lt (goals_alive s) most_goals && nat_le (s.variables + suc (suc (highest t))) most_variables && nat_le (s.nodes + goal_nodes t) most_nodes) (nat_lt s.last_shoen most_shoens) room in
-    let y = and_parts (nat_lt (goals_alive s) most_goals && nat_le (s.variables + suc (suc (highest t))) most_variables) (nat_le (s.nodes + goal_nodes t) most_nodes) x.0 in
-    let z = and_parts (nat_lt (goals_alive s) most_goals) (nat_le (s.variables + suc (suc (highest t))) most_variables) y.0 in
-    let few = ltb-true (goals_alive s) most_goals z.0 in
+    let x = and_parts (nat_lt (goals_alive s) MOST_GOALS && nat_le (s.variables + suc (suc (highest t))) MOST_VARIABLES && nat_le (s.nodes + goal_nodes t) MOST_NODES) (nat_lt s.last_shoen MOST_SHOENS) room in
+    let y = and_parts (nat_lt (goals_alive s) MOST_GOALS && nat_le (s.variables + suc (suc (highest t))) MOST_VARIABLES) (nat_le (s.nodes + goal_nodes t) MOST_NODES) x.0 in
+    let z = and_parts (nat_lt (goals_alive s) MOST_GOALS) (nat_le (s.variables + suc (suc (highest t))) MOST_VARIABLES) y.0 in
+    let few = ltb-true (goals_alive s) MOST_GOALS z.0 in
     let here = alive_is s in
     of_alike AreCounted (with_shoen h goal (begun s t)) (start_goal s allowance low high t) (alike_start s allowance low high t) (open_counted h goal (begun s t) (omega (arith, few, here)) a)
 
@@ -220,17 +234,19 @@ fresh_counted = record { few = omega arith; rising = omega arith }
 
 keeping : Keeping (Of AreCounted)
 keeping = record {
-  fresh = λ name names sessions. fresh_counted;
+  fresh = λ rules name names sessions. fresh_counted;
   seats = λ s n a. a;
   loads = λ s source m is free a. a;
   starts = λ s allowance low high t tree may room free a. start_counted s allowance low high t room a;
   sends = λ s n m h o tree there is free a. of_alike AreCounted s (sent_on n m o.control s) (alike_sent n m o.control s) a;
   moving = λ s n clause g t m tree there task is enabled free a. acted_counted g t m (with_entry s) (found_goal n s.goals g there) (ap is_monitor task) a;
+  substituting = λ s n g t m tree there task is enabled free a. acted_counted g t m (with_entry s) (found_goal n s.goals g there) (ap is_monitor task) a;
+  answers = λ s n number v t h o tree there origin may room is free a. of_alike AreCounted s (answered v t s) (alike_answered v t s) a;
   reading = λ s n g h c tree there found is free a. of_settle AreCounted counted_fewer g.shoen (heard g.shoen c (with_entry s)) (of_heard AreCounted counted_fewer g.shoen c (with_entry s) a);
 }
 
-pub goals_are_counted : (name : List ℕ) (es : List Event) → Of AreCounted (reached name es)
-goals_are_counted name es = holds_reached (Of AreCounted) keeping name es
+pub goals_are_counted : (rules : Rules) (name : List ℕ) (es : List Event) → Of AreCounted (reached rules name es)
+goals_are_counted rules name es = holds_reached (Of AreCounted) keeping rules name es
 
 pub goals_are_few : GoalsAreFew
-goals_are_few name es = let a = goals_are_counted name es in let b = a.few in let c = alive_is (reached name es) in omega (arith, b, c)
+goals_are_few rules name es = let a = goals_are_counted rules name es in let b = a.few in let c = alive_is (reached rules name es) in omega (arith, b, c)

@@ -1,16 +1,15 @@
 -- What holds of an account's goals, if it holds of fewer of them.
-use Rattle.std.proofs.Common.{◌≡◌, ℕ, ◌==◌, ◌&&◌, not, Bool, true, false, if◌then◌else◌, List, [], ◌∷◌, refl, sym, ap, subst}
+use Rattle.std.proofs.Common.{◌≡◌, ℕ, suc, ◌==◌, ◌&&◌, not, Bool, true, false, if◌then◌else◌, List, [], ◌∷◌, ◌++◌, refl, sym, ap, subst}
 use Rattle.std.specs.Prelude.{filter}
 use Rattle.kl1_model.specs.declared.message.Message.{Message}
 use Rattle.kl1_model.specs.declared.message.Message.TheVariants.{Stop, Start, Abort, Allow}
 use Rattle.kl1_model.specs.Control.{Control, awaits_message, tells, tells_other, ends, breaks_off}
-use Rattle.kl1_model.specs.Term.{Term}
 use Rattle.kl1_model.specs.State.{Goal, State, shoen_at, without_goal}
 use Rattle.kl1_model.specs.Tree.{path, is_on_path}
-use Rattle.kl1_model.specs.Report.{report, report_each, exception, illegal_input, exhaustion, exhausted_report, terminated_report, aborted_report}
+use Rattle.kl1_model.specs.Report.{report_each, exception, illegal_input, exhausted_report, terminated_report, aborted_report}
 use Rattle.kl1_model.specs.Ending.{ended_at, ending_of, without_monitor, terminate, terminate_each, settle, newly_exhausted, after_reduction, ended_below, abort}
-use Rattle.kl1_model.specs.Reduction.{or_exhaustion, obeyed, with_control, heard}
-use Rattle.kl1_model_laws.proofs.Alike.{Duty, duty_of, duties_of, Alike, alike_report, alike_report_each, alike_closing, alike_stopped, alike_resumed}
+use Rattle.kl1_model.specs.Reduction.{obeyed, with_control, heard}
+use Rattle.kl1_model_laws.proofs.Alike.{Duty, duty_of, duties_of, next_duty, Alike, Placed, alike_report, alike_report_each, alike_closing, alike_stopped, alike_resumed}
 
 -- a fact of an account that speaks of the duties of its goals and the last number of a goal alone
 abbrev pub Of : (List Duty → ℕ → Type 0) → State → Type 0
@@ -18,6 +17,10 @@ Of D s = D (duties_of s.goals) s.last_goal
 
 pub of_alike : (D : List Duty → ℕ → Type 0) (s t : State) → Alike s t → Of D s → Of D t
 of_alike D s t k a = subst (λ ds. D ds t.last_goal) (sym k.duties) (subst (D (duties_of s.goals)) (sym k.last) a)
+
+-- with one goal more
+pub of_placed : (D : List Duty → ℕ → Type 0) (n : ℕ) (s t : State) → Placed n s t → D (duties_of s.goals ++ next_duty s.last_goal n ∷ []) (suc s.last_goal) → Of D t
+of_placed D n s t k a = subst (λ ds. D ds t.last_goal) (sym k.duties) (subst (D (duties_of s.goals ++ next_duty s.last_goal n ∷ [])) (sym k.last) a)
 
 filter_case : (c : Bool) (g : Goal) (gs : List Goal) (ds : List Duty) → duties_of gs ≡ ds → duties_of (if c then g ∷ gs else gs) ≡ (if c then duty_of g ∷ ds else ds)
 filter_case true g gs ds e = ap (λ (more : List Duty). duty_of g ∷ more) e
@@ -69,8 +72,3 @@ module _ (D : List Duty → ℕ → Type 0) (fewer : (p : Duty → Bool) (ds : L
   of_heard k (tells_other m rest) s a = of_alike D (with_control k rest s) (heard k (tells_other m rest) s) (alike_report k (exception illegal_input m) (with_control k rest s)) a
   of_heard k ends s a = of_monitor k s a
   of_heard k (breaks_off t) s a = of_alike D (without_monitor k s) (heard k (breaks_off t) s) (alike_report k (exception illegal_input t) (without_monitor k s)) (of_monitor k s a)
-
--- an effect, or the report of an exception
-pub of_or : (D : List Duty → ℕ → Type 0) (c : Bool) (k : ℕ) (goal : Term) (t s : State) → (c ≡ true → Of D t) → Of D s → Of D (or_exhaustion c k goal t s)
-of_or D true k goal t s f a = f refl
-of_or D false k goal t s f a = of_alike D s (report k (exception exhaustion goal) s) (alike_report k (exception exhaustion goal) s) a

@@ -1,6 +1,6 @@
 -- What holds of each variable of a goal holds of each variable of what its step makes of it.
-use Rattle.std.proofs.Common.{◌≡◌, ◌≤◌, ◌<◌, ℕ, suc, ◌==◌, ◌&&◌, Bool, true, false, if◌then◌else◌, List, [], ◌∷◌, ◌++◌, max, refl, ap, ap₂, subst, arith}
-use Rattle.std.specs.Prelude.{nat_le, find, codes, bytes_eq, Option, Some, None, option_map}
+use Rattle.std.proofs.Common.{◌≡◌, ◌≤◌, ◌<◌, ℕ, zero, suc, ◌-◌, ◌==◌, ◌&&◌, Bool, true, false, if◌then◌else◌, List, [], ◌∷◌, ◌++◌, max, refl, ap, ap₂, subst, arith}
+use Rattle.std.specs.Prelude.{nat_le, find, slice_get, codes, bytes_eq, Option, Some, None, option_map, option_and_then}
 use Rattle.std.specs.List.{AllByRecursion}
 use Rattle.std.proofs.lemmas.Bool.{and_parts, leb-true, cond_both, ne_eqb}
 use Rattle.std.proofs.Math.Nat.{le-max_left, le-max_right}
@@ -13,8 +13,12 @@ use Rattle.kl1_model.specs.Unify.{Equation, argument_equations, replace_in_all, 
 use Rattle.kl1_model.specs.Goal.{is_execute}
 use Rattle.kl1_model.specs.Module.{Clause, Module}
 use Rattle.kl1_model.specs.Match.{Answer, yes, no, wait, Match, with_answer, match_pattern, match_patterns, term_at, places_of, verdict, Call, call_of, clauses_of, is_no, Candidate, candidate_by, candidates_within, candidates_from, candidates_of, fails}
-use Rattle.kl1_model.specs.Look.{Spelling, spelled, awaits_code, misspelled, spelling, most_spelled, Look, right, waits_on, wrong, ExecuteArguments, arguments_look}
-use Rattle.kl1_model.specs.Reduction.{Move, commits, raises, unifies, names, opens, goes, failure, call_move, becomes, assigned, spells, ordered, execute_arguments, order_move, execute_move, pair_move, built_in_move, term_move, equation}
+use Rattle.kl1_model.specs.Look.{Spelling, spelled, awaits_code, misspelled, spelling, Look, right, waits_on, wrong, ExecuteArguments, arguments_look}
+use Rattle.kl1_model.specs.declared.rules.Rules.{Rules}
+use Rattle.kl1_model.specs.State.{most_spelled}
+use Rattle.kl1_model.specs.Reduction.{Move, commits, raises, unifies, names, opens, goes, gives_way, failure, call_move, becomes, assigned, spells, ordered, execute_arguments, order_move, execute_move, pair_move, built_in_move, term_move, substitute_move, equation}
+use Rattle.kl1_model.specs.Asking.{elements_of, elements_in}
+use Rattle.kl1_model.specs.Answering.{unanswered, unanswered_at}
 use Rattle.kl1_model_laws.proofs.UnifySound.{HoldsInEachCase, holds_of_solution}
 
 -- ---- terms
@@ -240,6 +244,7 @@ InMove P (unifies a b) = Holds P a × Holds P b
 InMove P (names text a) = Holds P a
 InMove P (opens o) = InOrder P o
 InMove P goes = Unit {0}
+InMove P gives_way = Unit {0}
 
 -- a fact holds of the terms of a move that may be there
 abbrev MayMove : (ℕ → Type 0) → Option Move → Type 0
@@ -289,24 +294,24 @@ in_execute P (variable v) b h = tt
 in_execute P (integer i) b h = tt
 in_execute P (structure f ts) b h = tt
 
-in_pair : (P : ℕ → Type 0) (f : List ℕ) (a b : Term) → Holds P a → Holds P b → MayMove P (pair_move f a b)
-in_pair P f a b g h =
+in_pair : (P : ℕ → Type 0) (rules : Rules) (f : List ℕ) (a b : Term) → Holds P a → Holds P b → MayMove P (pair_move rules f a b)
+in_pair P rules f a b g h =
     let last = if bytes_eq f (codes ":") then execute_move a b else None in
-    let third = if bytes_eq f (codes "atom_from") then spells b (spelling most_spelled a) else last in
+    let third = if bytes_eq f (codes "atom_from") then spells b (spelling (most_spelled rules) a) else last in
     let second = if bytes_eq f (codes ":=") then assigned a (evaluated b) else third in
     if_moves (bytes_eq f (codes "=")) P (Some (unifies a b)) second (g, h)
     (if_moves (bytes_eq f (codes ":=")) P (assigned a (evaluated b)) third (in_assigned P a (evaluated b) g)
-    (if_moves (bytes_eq f (codes "atom_from")) P (spells b (spelling most_spelled a)) last (in_spelled P b (spelling most_spelled a) h)
+    (if_moves (bytes_eq f (codes "atom_from")) P (spells b (spelling (most_spelled rules) a)) last (in_spelled P b (spelling (most_spelled rules) a) h)
     (if_moves (bytes_eq f (codes ":")) P (execute_move a b) None (in_execute P a b h) tt)))
 
-in_built_in : (P : ℕ → Type 0) (t : Term) → Holds P t → MayMove P (built_in_move t)
-in_built_in P (atom a) h = if_moves (bytes_eq a (codes "true")) P (Some goes) None tt tt
-in_built_in P (structure f (more a (more b none))) h = in_pair P f a b h.0 h.1.0
-in_built_in P (variable v) h = tt
-in_built_in P (integer i) h = tt
-in_built_in P (structure f none) h = tt
-in_built_in P (structure f (more a none)) h = tt
-in_built_in P (structure f (more a (more b (more c ts)))) h = tt
+in_built_in : (P : ℕ → Type 0) (rules : Rules) (t : Term) → Holds P t → MayMove P (built_in_move rules t)
+in_built_in P rules (atom a) h = if_moves (bytes_eq a (codes "true")) P (Some goes) None tt tt
+in_built_in P rules (structure f (more a (more b none))) h = in_pair P rules f a b h.0 h.1.0
+in_built_in P rules (variable v) h = tt
+in_built_in P rules (integer i) h = tt
+in_built_in P rules (structure f none) h = tt
+in_built_in P rules (structure f (more a none)) h = tt
+in_built_in P rules (structure f (more a (more b (more c ts)))) h = tt
 
 -- a fact holds of the arguments of a call that may be there
 abbrev MayCall : (ℕ → Type 0) → Option Call → Type 0
@@ -337,13 +342,67 @@ in_called P modules call clause h =
     if_moves (clause == 0) P failing (option_map (λ k. commits k) found) (if_moves (fails modules call) P (Some (raises failure)) None tt tt)
     (found_place P (λ k. k.number == clause) (candidates_of modules call) (from P 1 (clauses_of modules call) call.arguments h))
 
-in_term : (P : ℕ → Type 0) (modules : List Module) (t : Term) (clause : ℕ) (o : Option Call) → Holds P t → MayCall P o → MayMove P (term_move modules t clause o)
-in_term P modules t clause None h c = if_moves (clause == 0) P (built_in_move t) None (in_built_in P t h) tt
-in_term P modules t clause (Some call) h c = in_called P modules call clause c
+in_term : (P : ℕ → Type 0) (rules : Rules) (modules : List Module) (t : Term) (clause : ℕ) (o : Option Call) → Holds P t → MayCall P o → MayMove P (term_move rules modules t clause o)
+in_term P rules modules t clause None h c = if_moves (clause == 0) P (built_in_move rules t) None (in_built_in P rules t h) tt
+in_term P rules modules t clause (Some call) h c = in_called P modules call clause c
 
 -- what holds of the variables of a goal holds of those of its move
-pub in_move : (P : ℕ → Type 0) (modules : List Module) (t : Term) (clause : ℕ) (m : Move) → Holds P t → term_move modules t clause (call_of t) ≡ Some m → InMove P m
-in_move P modules t clause m h e = subst (MayMove P) e (in_term P modules t clause (call_of t) h (in_call P t h))
+pub in_move : (P : ℕ → Type 0) (rules : Rules) (modules : List Module) (t : Term) (clause : ℕ) (m : Move) → Holds P t → term_move rules modules t clause (call_of t) ≡ Some m → InMove P m
+in_move P rules modules t clause m h e = subst (MayMove P) e (in_term P rules modules t clause (call_of t) h (in_call P t h))
+
+in_look : (P : ℕ → Type 0) (l : Look) → MayMove P (substitute_move l)
+in_look P right = tt
+in_look P (waits_on v) = tt
+in_look P wrong = tt
+
+-- what a substitute does has no terms but the one that it waited for
+pub in_substitute : (P : ℕ → Type 0) (l : Look) (m : Move) → substitute_move l ≡ Some m → InMove P m
+in_substitute P l m e = subst (MayMove P) e (in_look P l)
+
+-- ---- reports
+
+-- a fact holds of the variables of terms
+abbrev pub Each : (ℕ → Type 0) → List Term → Type 0
+Each P ts = AllByRecursion (Holds P) ts
+
+if_each : (c : Bool) (P : ℕ → Type 0) (ts us : List Term) → Each P ts → Each P us → Each P (if c then ts else us)
+if_each true P ts us a b = a
+if_each false P ts us a b = b
+
+mutual
+  listed_holds : (P : ℕ → Type 0) (t : Term) → Holds P t → Each P (elements_of t)
+  listed_holds P (variable v) h = tt
+  listed_holds P (integer i) h = tt
+  listed_holds P (atom a) h = tt
+  listed_holds P (structure f ts) h = listed_each P f ts h
+
+  listed_each : (P : ℕ → Type 0) (f : List ℕ) (ts : Terms) → HoldsEach P ts → Each P (elements_in f ts)
+  listed_each P f none h = tt
+  listed_each P f (more t none) h = tt
+  listed_each P f (more t (more u none)) h = if_each (bytes_eq f (codes ".")) P (t ∷ elements_of u) [] (h.0, listed_holds P u h.1.0) tt
+  listed_each P f (more t (more u (more w ts))) h = tt
+
+-- a fact holds of a variable that may be there
+abbrev MayBe : (ℕ → Type 0) → Option ℕ → Type 0
+MayBe P None = Unit {0}
+MayBe P (Some v) = P v
+
+if_maybe : (c : Bool) (P : ℕ → Type 0) (v : ℕ) → P v → MayBe P (if c then Some v else None)
+if_maybe true P v h = h
+if_maybe false P v h = tt
+
+in_report : (P : ℕ → Type 0) (t : Term) → Holds P t → MayBe P (unanswered t)
+in_report P (structure f (more kind (more goal (more (variable v) none)))) h = if_maybe (bytes_eq f (codes "exception")) P v h.1.1.0
+in_report P t h = tt
+
+in_reports : (P : ℕ → Type 0) (ts : List Term) (n : ℕ) → Each P ts → MayBe P (option_and_then unanswered (slice_get ts n))
+in_reports P [] n a = tt
+in_reports P (t ∷ ts) zero a = in_report P t a.0
+in_reports P (t ∷ ts) (suc n) a = in_reports P ts n a.1
+
+-- what holds of the variables of reports holds of the one that a substitute waits for by one of them
+pub holds_unanswered : (P : ℕ → Type 0) (reports : Term) (n v : ℕ) → Holds P reports → unanswered_at reports n ≡ Some v → P v
+holds_unanswered P reports n v h e = subst (MayBe P) e (in_reports P (elements_of reports) (n - 1) (listed_holds P reports h))
 
 pub holds_term_at : (P : ℕ → Type 0) (ps : List Replacement) (v : ℕ) → Places P ps → Holds P (term_at ps v nil)
 holds_term_at P [] v a = tt

@@ -5,30 +5,31 @@ use Rattle.std.specs.List.{AllByRecursion}
 use Rattle.std.proofs.Math.Bool.{or-true}
 use Rattle.std.proofs.lemmas.Bool.{false≢true, eqb-true, eqb-false, eq-eqb, ne_eqb, cases_eq}
 use Rattle.std.proofs.lemmas.Option.{none-some, same_Some}
-use Rattle.kl1_model.specs.Limits.{most_names}
+use Rattle.kl1_model.specs.declared.limits.TheConstants.{MOST_NAMES}
 use Rattle.kl1_model.specs.declared.message.Message.TheVariants.{Stop, Start, Abort, Allow}
-use Rattle.kl1_model.specs.Term.{Term, atom, Replacement}
+use Rattle.kl1_model.specs.Term.{Term, variable, atom, Replacement}
 use Rattle.kl1_model.specs.Unify.{mgu}
 use Rattle.kl1_model.specs.Module.{is_among}
 use Rattle.kl1_model.specs.Match.{Candidate}
 use Rattle.kl1_model.specs.Control.{Control, awaits_message, tells, tells_other, ends, breaks_off}
-use Rattle.kl1_model.specs.State.{Goal, Shoen, State, goal_at, shoen_at, with_name, without_goal, is_monitor, is_living}
+use Rattle.kl1_model.specs.State.{Task, reduces, substitutes, Goal, Shoen, State, has_substitutes, goal_at, shoen_at, replace_all, with_name, without_goal, is_monitor, is_living}
 use Rattle.kl1_model.specs.Tree.{parents_of, path_within, is_on_path, charge}
 use Rattle.kl1_model.specs.Event.{with_entry}
-use Rattle.kl1_model.specs.Report.{report, exception, failure, illegal_input, exhaustion}
+use Rattle.kl1_model.specs.Report.{report, is_reported, exception, exception_with, failure, illegal_input, exhaustion}
 use Rattle.kl1_model.specs.Ending.{has_goal, has_living_child, lives, ends_now, without_monitor, settle}
 use Rattle.kl1_model.specs.Opening.{opening_goals, with_shoen, with_next_variables, start_goal, has_room_to_start, has_room_for_child, child_shoen, open_child}
-use Rattle.kl1_model.specs.Reduction.{Move, commits, raises, unifies, names, opens, goes, moves, goals_from, has_room_for, committed, unified, equation, or_exhaustion, moved, allowed_more, with_control, heard, acted}
+use Rattle.kl1_model.specs.Reduction.{Move, commits, raises, unifies, names, opens, goes, gives_way, moves, goals_from, has_room_for, committed, replaced_by, substituted_by, raised, unified, equation, or_exhaustion, named_by, moved, allowed_more, with_control, heard, acted}
+use Rattle.kl1_model.specs.Answering.{answered}
 use Rattle.kl1_model.specs.Sending.{sent_on}
 use Rattle.kl1_model.specs.laws.TreeLaws.{AreWithin, IsTree}
-use Rattle.kl1_model.proofs.TreeKeeps.{Keeps, keeps_both, kept_tree, keeps_change, keeps_all, keeps_report, keeps_fewer, keeps_abort, keeps_heard}
+use Rattle.kl1_model.proofs.TreeKeeps.{Keeps, keeps_same, keeps_both, kept_tree, keeps_change, keeps_all, keeps_report, keeps_fewer, keeps_abort, keeps_heard}
 use Rattle.kl1_model.proofs.TreeGrows.{opening_follows, found_within, with_entry_keeps}
 use Rattle.kl1_model_laws.specs.Reached.{reached}
 use Rattle.kl1_model_laws.specs.EndingLaws.{LivingHaveGoals}
 use Rattle.kl1_model_laws.proofs.Reaching.{Keeping, holds_reached}
-use Rattle.kl1_model_laws.proofs.Alike.{Node, node_of, nodes_of, Duty, duties_of, Alike, alike_report, alike_stopped, alike_resumed, alike_change, alike_unified, alike_open, begun, begun_shoen, alike_start, alike_sent, lives_in, has_duty, has_child, lives_by, goal_by, child_by}
+use Rattle.kl1_model_laws.proofs.Alike.{Node, node_of, nodes_of, Duty, duties_of, duties_append, next_duty, Alike, Placed, Lasts, placed_after, by_raised, by_unified, by_limit, alike_same, alike_report, alike_stopped, alike_resumed, alike_change, alike_open, begun, begun_shoen, alike_start, alike_sent, alike_answered, lives_in, has_duty, has_child, lives_by, goal_by, child_by}
 use Rattle.kl1_model_laws.proofs.Duties.{Of, filtered, of_alike, of_settle, of_heard}
-use Rattle.kl1_model_laws.proofs.Counts.{Rises, AreCounted, counted_fewer, acted_counted, start_counted, fresh_counted, found_goal, duties_append}
+use Rattle.kl1_model_laws.proofs.Counts.{Rises, AreCounted, counted_fewer, acted_counted, start_counted, fresh_counted, found_goal}
 use Rattle.kl1_model_laws.proofs.Endings.{Idle, Stays, not_due, stays_alike, goal_aside, zero_not_due, path_begins, settle_none_due, settle_charged_none_due}
 use Rattle.kl1_model_laws.proofs.Aborts.{abort_idle}
 
@@ -139,23 +140,35 @@ IdleBut k s = (m : ℕ) → (m ≡ k → ⊥) → ends_now m s ≡ false
 but_alike : (k : ℕ) (s t : State) → Alike s t → IdleBut k s → IdleBut k t
 but_alike k s t a idle m other = not_due s t m (stays_alike s t a m) (idle m other)
 
-but_or : (c : Bool) (k n : ℕ) (goal : Term) (t s : State) → IdleBut k t → IdleBut k s → IdleBut k (or_exhaustion c n goal t s)
-but_or true k n goal t s a b = a
-but_or false k n goal t s a b = but_alike k s (report n (exception exhaustion goal) s) (alike_report n (exception exhaustion goal) s) b
+-- a goal more leaves who lives, and no shoen loses a goal
+placed_stays : (n : ℕ) (s t : State) → Placed n s t → (m : ℕ) → Stays s t m
+placed_stays n s t k m = record {
+  lives = λ e. lives_by m s ∙ sym (ap (λ ms. lives_in ms m) k.nodes) ∙ sym (lives_by m t) ∙ e;
+  goals = λ e. goal_by m t ∙ ap (λ ds. has_duty ds m) k.duties ∙ more_duties m (duties_of s.goals) (next_duty s.last_goal n ∷ []) ∙ ap (λ b. b || has_duty (next_duty s.last_goal n ∷ []) m) (sym (goal_by m s) ∙ e);
+  children = λ e. child_by m t ∙ ap (λ ms. has_child ms m) k.nodes ∙ sym (child_by m s) ∙ e;
+}
+
+lasts_idle : (g : Goal) (s : State) → IdleBut g.shoen s → Lasts (IdleBut g.shoen) g s
+lasts_idle g s idle = record {
+  alike = λ t k. but_alike g.shoen s t k idle;
+  placed = λ t k m other. not_due s t m (placed_stays g.shoen s t k m) (idle m other);
+}
 
 moved_idle : (g : Goal) (t : Term) (m : Move) (s : State) → IdleBut g.shoen s → IdleBut g.shoen (moved g t m s)
-moved_idle g t (commits k) s idle = but_or (has_room_for s k.clause) g.shoen g.shoen t (committed g k s) s (λ m other. not_due s (committed g k s) m (commit_stays g k s m) (idle m other)) idle
-moved_idle g t (raises kind) s idle = but_alike g.shoen s (moved g t (raises kind) s) (alike_report g.shoen (exception kind t) s) idle
-moved_idle g t (unifies x y) s idle = but_alike g.shoen s (moved g t (unifies x y) s) (alike_unified g.shoen t (mgu (equation x y)) s) idle
+moved_idle g t (commits k) s idle =
+    by_limit (IdleBut g.shoen) (has_room_for s k.clause) g t (committed g k s) s (λ _ m other. not_due s (committed g k s) m (commit_stays g k s m) (idle m other)) (lasts_idle g s idle)
+moved_idle g t (raises kind) s idle = by_raised (IdleBut g.shoen) g kind t s (lasts_idle g s idle)
+moved_idle g t (unifies x y) s idle = by_unified (IdleBut g.shoen) g t (mgu (equation x y)) s (lasts_idle g s idle)
 moved_idle g t (names text x) s idle =
     let u = record s { names = with_name s.names text } in
-    let v = unified g.shoen t (mgu (equation x (atom text))) u in
-    but_or (nat_le (length (with_name s.names text)) most_names) g.shoen g.shoen t v s (but_alike g.shoen u v (alike_unified g.shoen t (mgu (equation x (atom text))) u) idle) idle
+    by_limit (IdleBut g.shoen) (nat_le (length (with_name s.names text)) MOST_NAMES) g t (named_by g t text x s) s
+    (λ _. by_unified (IdleBut g.shoen) g t (mgu (equation x (atom text))) u (lasts_idle g u idle)) (lasts_idle g s idle)
 moved_idle g t (opens o) s idle =
     let h = child_shoen s g.shoen o in
-    but_or (has_room_for_child s g.shoen) g.shoen g.shoen t (open_child s g.shoen o) s
-    (but_alike g.shoen (with_shoen h o.goal s) (open_child s g.shoen o) (alike_open h o.goal s) (λ m other. open_idle h o.goal s m (λ _. idle m other))) idle
+    by_limit (IdleBut g.shoen) (has_room_for_child s g.shoen) g t (open_child s g.shoen o) s
+    (λ _. but_alike g.shoen (with_shoen h o.goal s) (open_child s g.shoen o) (alike_open h o.goal s) (λ m other. open_idle h o.goal s m (λ _. idle m other))) (lasts_idle g s idle)
 moved_idle g t goes s idle = idle
+moved_idle g t gives_way s idle = (lasts_idle g s idle).placed (replaced_by g (reduces t) s) (placed_after g (reduces t) s s refl (alike_same s))
 
 -- ---- trees
 
@@ -169,26 +182,45 @@ from_within n last shoen [] (t ∷ ts) few = tt
 from_within n last shoen (p ∷ ps) [] few = tt
 from_within n last shoen (p ∷ ps) (t ∷ ts) few = (few, from_within n (suc last) shoen ps ts few)
 
-unified_keeps : (n : ℕ) (goal : Term) (o : Option (List Replacement)) (s : State) → Keeps s (unified n goal o s)
-unified_keeps n goal None s = keeps_report n (exception failure goal) s
-unified_keeps n goal (Some rs) s = keeps_all rs s
+tree_if : (c : Bool) (t u : State) → IsTree t → IsTree u → IsTree (if c then t else u)
+tree_if true t u a b = a
+tree_if false t u a b = b
 
-tree_or : (c : Bool) (n : ℕ) (goal : Term) (t s : State) → IsTree t → IsTree s → IsTree (or_exhaustion c n goal t s)
-tree_or true n goal t s a b = a
-tree_or false n goal t s a b = kept_tree s (report n (exception exhaustion goal) s) (keeps_report n (exception exhaustion goal) s) b
+tree_replaced : (g : Goal) (task : Task) (s t : State) → g.shoen ≤ s.last_shoen → Keeps s t → IsTree s → IsTree (replaced_by g task t)
+tree_replaced g task s t few k tree =
+    let kept = kept_tree s t k tree in
+    record { numbered = kept.numbered; lower = kept.lower; count = kept.count; owners = both_within t.last_shoen t.goals _ kept.owners (subst (λ n. g.shoen ≤ n) (sym k.last) few, tt); worked = kept.worked }
+
+tree_raised : (g : Goal) (kind : List ℕ) (t : Term) (s : State) → g.shoen ≤ s.last_shoen → IsTree s → IsTree (raised g kind t s)
+tree_raised g kind t s few tree =
+    let new = suc s.last_variable in
+    let told = exception_with kind t (variable new) in
+    let u = record s { last_variable = new } in
+    let k : Keeps s u = record { parents = refl; work = refl; last = refl; owners = λ n w. w; numbered = λ n w. w } in
+    tree_if (has_substitutes s.rules && is_reported g.shoen (exception kind t) s) (substituted_by g kind t s) (report g.shoen (exception kind t) s)
+    (tree_replaced g (substitutes (variable new)) s (report g.shoen told u) few (keeps_both s u (report g.shoen told u) k (keeps_report g.shoen told u)) tree)
+    (kept_tree s (report g.shoen (exception kind t) s) (keeps_report g.shoen (exception kind t) s) tree)
+
+tree_unified : (g : Goal) (t : Term) (o : Option (List Replacement)) (s : State) → g.shoen ≤ s.last_shoen → IsTree s → IsTree (unified g t o s)
+tree_unified g t None s few tree = tree_raised g failure t s few tree
+tree_unified g t (Some rs) s few tree = kept_tree s (replace_all rs s) (keeps_all rs s) tree
+
+tree_or : (c : Bool) (g : Goal) (t : Term) (u s : State) → g.shoen ≤ s.last_shoen → IsTree u → IsTree s → IsTree (or_exhaustion c g t u s)
+tree_or true g t u s few a b = a
+tree_or false g t u s few a b = tree_raised g exhaustion t s few b
 
 moved_tree : (g : Goal) (t : Term) (m : Move) (s : State) → g.shoen ≤ s.last_shoen → IsTree s → IsTree (moved g t m s)
-moved_tree g t (commits k) s few tree = tree_or (has_room_for s k.clause) g.shoen t (committed g k s) s
+moved_tree g t (commits k) s few tree = tree_or (has_room_for s k.clause) g t (committed g k s) s few
     (record { numbered = tree.numbered; lower = tree.lower; count = tree.count; owners = both_within s.last_shoen s.goals _ tree.owners (from_within s.last_shoen s.last_goal g.shoen _ _ few); worked = tree.worked }) tree
-moved_tree g t (raises kind) s few tree = kept_tree s (moved g t (raises kind) s) (keeps_report g.shoen (exception kind t) s) tree
-moved_tree g t (unifies x y) s few tree = kept_tree s (moved g t (unifies x y) s) (unified_keeps g.shoen t (mgu (equation x y)) s) tree
+moved_tree g t (raises kind) s few tree = tree_raised g kind t s few tree
+moved_tree g t (unifies x y) s few tree = tree_unified g t (mgu (equation x y)) s few tree
 moved_tree g t (names text x) s few tree =
     let u = record s { names = with_name s.names text } in
-    let v = unified g.shoen t (mgu (equation x (atom text))) u in
     let k : Keeps s u = record { parents = refl; work = refl; last = refl; owners = λ n w. w; numbered = λ n w. w } in
-    tree_or (nat_le (length (with_name s.names text)) most_names) g.shoen t v s (kept_tree s v (keeps_both s u v k (unified_keeps g.shoen t (mgu (equation x (atom text))) u)) tree) tree
-moved_tree g t (opens o) s few tree = tree_or (has_room_for_child s g.shoen) g.shoen t (open_child s g.shoen o) s ((opening_follows g.shoen (child_shoen s g.shoen o) o.goal s refl (λ few. few)).tree few tree) tree
+    tree_or (nat_le (length (with_name s.names text)) MOST_NAMES) g t (named_by g t text x s) s few (tree_unified g t (mgu (equation x (atom text))) u few (kept_tree s u k tree)) tree
+moved_tree g t (opens o) s few tree = tree_or (has_room_for_child s g.shoen) g t (open_child s g.shoen o) s few ((opening_follows g.shoen (child_shoen s g.shoen o) o.goal s refl (λ few. few)).tree few tree) tree
 moved_tree g t goes s few tree = tree
+moved_tree g t gives_way s few tree = tree_replaced g (reduces t) s s few (keeps_same s) tree
 
 -- ---- a reduction
 
@@ -253,21 +285,27 @@ start_busy s allowance low high t room b =
       idle = idle_alike (with_shoen h goal (begun s t)) (start_goal s allowance low high t) (alike_start s allowance low high t) (λ m. open_idle h goal (begun s t) m (λ _. b.idle m));
     }
 
+acted_busy : (s : State) (n : ℕ) (g : Goal) (t : Term) (m : Move) → IsTree s → goal_at n s.goals ≡ Some g → is_monitor g.task ≡ false → IsBusy s → IsBusy (acted g (moves t m) (with_entry s))
+acted_busy s n g t m tree there plain b =
+    let own = found_goal n s.goals g there in
+    let few = found_within s.last_shoen n s.goals g there tree.owners in
+    let entered = kept_tree s (with_entry s) (with_entry_keeps s) tree in record {
+      counted = acted_counted g t m (with_entry s) own plain b.counted;
+      idle = acted_idle g t m (with_entry s) own few entered b.counted b.idle;
+    }
+
 keeping : Keeping IsBusy
 keeping = record {
-  fresh = λ name names sessions. record { counted = fresh_counted; idle = λ m. refl };
+  fresh = λ rules name names sessions. record { counted = fresh_counted; idle = λ m. refl };
   seats = λ s n b. record { counted = b.counted; idle = b.idle };
   loads = λ s source m is free b. record { counted = b.counted; idle = b.idle };
   starts = λ s allowance low high t tree may room free b. let d = start_busy s allowance low high t room b in record { counted = d.counted; idle = d.idle };
   sends = λ s n m h o tree there is free b.
       let k = alike_sent n m o.control s in record { counted = of_alike AreCounted s (sent_on n m o.control s) k b.counted; idle = idle_alike s (sent_on n m o.control s) k b.idle };
-  moving = λ s n clause g t m tree there task is enabled free b.
-      let own = found_goal n s.goals g there in
-      let few = found_within s.last_shoen n s.goals g there tree.owners in
-      let entered = kept_tree s (with_entry s) (with_entry_keeps s) tree in record {
-        counted = acted_counted g t m (with_entry s) own (ap is_monitor task) b.counted;
-        idle = acted_idle g t m (with_entry s) own few entered b.counted b.idle;
-      };
+  moving = λ s n clause g t m tree there task is enabled free b. acted_busy s n g t m tree there (ap is_monitor task) b;
+  substituting = λ s n g t m tree there task is enabled free b. acted_busy s n g t m tree there (ap is_monitor task) b;
+  answers = λ s n number v t h o tree there origin may room is free b.
+      let k = alike_answered v t s in record { counted = of_alike AreCounted s (answered v t s) k b.counted; idle = idle_alike s (answered v t s) k b.idle };
   reading = λ s n g h c tree there found is free b.
       let entered = kept_tree s (with_entry s) (with_entry_keeps s) tree in record {
         counted = of_settle AreCounted counted_fewer g.shoen (heard g.shoen c (with_entry s)) (of_heard AreCounted counted_fewer g.shoen c (with_entry s) b.counted);
@@ -282,7 +320,7 @@ has_one true false false e f = absurd (false≢true (sym f))
 has_one false false false e f = absurd (false≢true e)
 
 pub living_have_goals : LivingHaveGoals
-living_have_goals name es n living =
-    let s = reached name es in
-    let b = holds_reached IsBusy keeping name es in
+living_have_goals rules name es n living =
+    let s = reached rules name es in
+    let b = holds_reached IsBusy keeping rules name es in
     has_one (lives n s) (has_goal n s) (has_living_child n s) living (b.idle n)

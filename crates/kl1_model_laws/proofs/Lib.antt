@@ -9,6 +9,8 @@ pub mod AccountRowProofs
 pub mod HistoryRowProofs
 pub mod GuardRowProofs
 pub mod ShoenRowProofs
+pub mod SubstituteRowProofs
+pub mod SpellingRowProofs
 pub mod StreamRowProofs
 pub mod SectionOrder
 pub mod Allowances

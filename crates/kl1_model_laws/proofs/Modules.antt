@@ -2,7 +2,7 @@
 use Rattle.std.proofs.Common.{◌≡◌, ℕ, Bool, true, false, if◌then◌else◌, List, [], ◌∷◌, ◌++◌, refl, sym, ◌∙◌, subst}
 use Rattle.std.specs.Prelude.{nat_le, filter, length, bytes_eq, Option, Some}
 use Rattle.std.specs.List.{AllByRecursion}
-use Rattle.kl1_model.specs.Limits.{most_names}
+use Rattle.kl1_model.specs.declared.limits.TheConstants.{MOST_NAMES}
 use Rattle.kl1_model.specs.declared.message.Message.{Message}
 use Rattle.kl1_model.specs.declared.message.Message.TheVariants.{Stop, Start, Abort, Allow}
 use Rattle.kl1_model.specs.Term.{Term, atom, count_of}
@@ -13,10 +13,10 @@ use Rattle.kl1_model.specs.Control.{Control, awaits_message, tells, tells_other,
 use Rattle.kl1_model.specs.State.{Goal, State, shoen_at, with_name, without_goal}
 use Rattle.kl1_model.specs.Tree.{path, charge}
 use Rattle.kl1_model.specs.Event.{with_entry}
-use Rattle.kl1_model.specs.Report.{report, report_each, exception, exhaustion, illegal_input, exhausted_report, terminated_report, aborted_report}
+use Rattle.kl1_model.specs.Report.{report_each, exception, illegal_input, exhausted_report, terminated_report, aborted_report}
 use Rattle.kl1_model.specs.Ending.{ended_at, ending_of, without_monitor, terminate, terminate_each, newly_exhausted, ended_below, settle, after_reduction}
 use Rattle.kl1_model.specs.Opening.{start_goal, has_room_for_child, child_shoen, open_child}
-use Rattle.kl1_model.specs.Reduction.{Move, commits, raises, unifies, names, opens, goes, moves, reads, has_room_for, committed, unified, equation, or_exhaustion, moved, obeyed, with_control, heard, acted}
+use Rattle.kl1_model.specs.Reduction.{Move, commits, raises, unifies, names, opens, goes, gives_way, moves, reads, has_room_for, committed, equation, named_by, moved, obeyed, with_control, heard, acted}
 use Rattle.kl1_model.specs.Sending.{sent_on}
 use Rattle.kl1_model.specs.laws.WaitsLaws.{are_in_order}
 use Rattle.kl1_model.proofs.OpenSections.{candidates_are_open}
@@ -24,7 +24,7 @@ use Rattle.kl1_model_laws.specs.Reached.{reached}
 use Rattle.kl1_model_laws.specs.SectionLaws.{CandidatesOfCallsAreOpen}
 use Rattle.kl1_model_laws.proofs.SectionOrder.{sections_are_in_order}
 use Rattle.kl1_model_laws.proofs.Reaching.{Keeping, holds_reached}
-use Rattle.kl1_model_laws.proofs.Alike.{Alike, alike_report, alike_report_each, alike_closing, alike_stopped, alike_resumed, alike_unified, alike_open, alike_start, alike_sent}
+use Rattle.kl1_model_laws.proofs.Alike.{Alike, alike_report, alike_report_each, alike_closing, alike_stopped, alike_resumed, Lasts, by_raised, by_unified, by_limit, alike_open, alike_start, alike_sent}
 
 -- an effect leaves the modules, charged reductions, and how many entries there are
 pub record Has (s t : State) : Type 0 where
@@ -62,22 +62,26 @@ heard_has k (tells_other m rest) s = let a = alike_report k (exception illegal_i
 heard_has k ends s = record { modules = refl; entries = refl; work = refl }
 heard_has k (breaks_off t) s = let a = alike_report k (exception illegal_input t) (without_monitor k s) in record { modules = a.modules; entries = a.entries; work = a.work }
 
-or_has : (c : Bool) (k : ℕ) (goal : Term) (t s : State) → Has s t → Has s (or_exhaustion c k goal t s)
-or_has true k goal t s e = e
-or_has false k goal t s e = has_alike s (report k (exception exhaustion goal) s) (alike_report k (exception exhaustion goal) s)
+-- an effect that follows one, and puts a goal in the place of another or none
+lasts_has : (g : Goal) (s t : State) → Has s t → Lasts (Has s) g t
+lasts_has g s t p = record {
+  alike = λ u k. has_both s t u p (has_alike t u k);
+  placed = λ u k. has_both s t u p (record { modules = k.modules; entries = k.entries; work = k.work });
+}
 
 moved_has : (g : Goal) (t : Term) (m : Move) (s : State) → Has s (moved g t m s)
-moved_has g t (commits k) s = or_has (has_room_for s k.clause) g.shoen t (committed g k s) s (record { modules = refl; entries = refl; work = refl })
-moved_has g t (raises kind) s = has_alike s (moved g t (raises kind) s) (alike_report g.shoen (exception kind t) s)
-moved_has g t (unifies a b) s = has_alike s (moved g t (unifies a b) s) (alike_unified g.shoen t (mgu (equation a b)) s)
+moved_has g t (commits k) s = by_limit (Has s) (has_room_for s k.clause) g t (committed g k s) s (λ _. record { modules = refl; entries = refl; work = refl }) (lasts_has g s s (has_same s))
+moved_has g t (raises kind) s = by_raised (Has s) g kind t s (lasts_has g s s (has_same s))
+moved_has g t (unifies a b) s = by_unified (Has s) g t (mgu (equation a b)) s (lasts_has g s s (has_same s))
 moved_has g t (names text a) s =
     let u = record s { names = with_name s.names text } in
-    let b = alike_unified g.shoen t (mgu (equation a (atom text))) u in
-    or_has (nat_le (length (with_name s.names text)) most_names) g.shoen t (unified g.shoen t (mgu (equation a (atom text))) u) s (record { modules = b.modules; entries = b.entries; work = b.work })
+    by_limit (Has s) (nat_le (length (with_name s.names text)) MOST_NAMES) g t (named_by g t text a s) s
+    (λ _. by_unified (Has s) g t (mgu (equation a (atom text))) u (lasts_has g s u (record { modules = refl; entries = refl; work = refl }))) (lasts_has g s s (has_same s))
 moved_has g t (opens o) s =
     let b = alike_open (child_shoen s g.shoen o) o.goal s in
-    or_has (has_room_for_child s g.shoen) g.shoen t (open_child s g.shoen o) s (record { modules = b.modules; entries = b.entries; work = b.work })
+    by_limit (Has s) (has_room_for_child s g.shoen) g t (open_child s g.shoen o) s (λ _. record { modules = b.modules; entries = b.entries; work = b.work }) (lasts_has g s s (has_same s))
 moved_has g t goes s = has_same s
+moved_has g t gives_way s = record { modules = refl; entries = refl; work = refl }
 
 settle_charged_has : (k : ℕ) (s : State) → Has s (after_reduction k s)
 settle_charged_has k s =
@@ -116,12 +120,14 @@ by_modules s t e a = subst (λ ms. AllByRecursion IsOrdered ms) (sym e) a
 
 keeping : Keeping AreOrdered
 keeping = record {
-  fresh = λ name names sessions. tt;
+  fresh = λ rules name names sessions. tt;
   seats = λ s n a. a;
   loads = λ s source m e free a. one_more s.modules m a (λ name count. sections_are_in_order source name count m e);
   starts = λ s allowance low high t tree may room free a. by_modules s (start_goal s allowance low high t) (alike_start s allowance low high t).modules a;
   sends = λ s n m h o tree there e free a. by_modules s (sent_on n m o.control s) (alike_sent n m o.control s).modules a;
   moving = λ s n clause g t m tree there task e enabled free a. by_modules s (acted g (moves t m) (with_entry s)) (move_has g t m (with_entry s)).modules a;
+  substituting = λ s n g t m tree there task e enabled free a. by_modules s (acted g (moves t m) (with_entry s)) (move_has g t m (with_entry s)).modules a;
+  answers = λ s n number v t h o tree there origin may room e free a. a;
   reading = λ s n g h c tree there found e free a. by_modules s (acted g (reads c) (with_entry s)) (reading_has g c (with_entry s)).modules a;
 }
 
@@ -134,6 +140,6 @@ found_ordered [] call a = refl
 found_ordered (m ∷ ms) call a = found_case (bytes_eq m.name call.module_name) m (module_of ms call.module_name) call a.0 (found_ordered ms call a.1)
 
 pub candidates_of_calls_are_open : CandidatesOfCallsAreOpen
-candidates_of_calls_are_open name es call =
-    let ms = (reached name es).modules in
-    candidates_are_open 1 (clauses_of ms call) call.arguments (found_ordered ms call (holds_reached AreOrdered keeping name es))
+candidates_of_calls_are_open rules name es call =
+    let ms = (reached rules name es).modules in
+    candidates_are_open 1 (clauses_of ms call) call.arguments (found_ordered ms call (holds_reached AreOrdered keeping rules name es))

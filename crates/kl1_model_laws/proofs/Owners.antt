@@ -3,14 +3,14 @@ use Rattle.std.proofs.Common.{◌≡◌, ◌≤◌, ◌<◌, ℕ, suc, ◌==◌,
 use Rattle.std.specs.Prelude.{nat_lt, map, filter, codes, Option, Some, None, option_map}
 use Rattle.std.specs.List.{AllByRecursion}
 use Rattle.std.proofs.lemmas.Bool.{eqb-true, ne_eqb}
-use Rattle.kl1_model.specs.Limits.{most_reports}
+use Rattle.kl1_model.specs.declared.limits.TheConstants.{MOST_REPORTS}
 use Rattle.kl1_model.specs.declared.life.Life.TheVariants.{Terminated, Aborted}
 use Rattle.kl1_model.specs.declared.message.Message.{Message}
 use Rattle.kl1_model.specs.declared.message.Message.TheVariants.{Stop, Start, Abort, Allow}
 use Rattle.kl1_model.specs.Term.{Term, variable, integer, atom, structure, none, more, occurs, replace, Replacement}
 use Rattle.kl1_model.specs.Meaning.{nil, cell}
 use Rattle.kl1_model.specs.Control.{message_term, Control, awaits_message, tells, tells_other, ends, breaks_off, control_of, control_by, Word, says, says_other, unsaid, word_of}
-use Rattle.kl1_model.specs.State.{Task, monitor, reduces, Goal, Origin, Shoen, State, is_monitor, shoen_at, replace_in_task, replace_in_goal, replace_in_origin, replace_in_shoen, replace_in_state, replace_all, change_shoen, is_living}
+use Rattle.kl1_model.specs.State.{Task, monitor, reduces, substitutes, Goal, Origin, Shoen, State, is_monitor, shoen_at, replace_in_task, replace_in_goal, replace_in_origin, replace_in_shoen, replace_in_state, replace_all, change_shoen, is_living}
 use Rattle.kl1_model.specs.Tree.{path, is_on_path}
 use Rattle.kl1_model.specs.Report.{broken_at, reported_at, report_of, report, report_each, closed_at, close_of, close, exception, illegal_input, exhausted_report, stopped_report, resumed_report}
 use Rattle.kl1_model.specs.Ending.{ended_at, ending_of, without_monitor, terminate, terminate_each, settle, newly_exhausted, after_reduction, aborted_below, ended_below, abort}
@@ -34,8 +34,9 @@ IsFree c last t = Holds (Free c last) t
 abbrev pub TaskFree : (ℕ → ℕ) → ℕ → Task → Type 0
 TaskFree c last monitor = Unit {0}
 TaskFree c last (reduces t) = IsFree c last t
+TaskFree c last (substitutes t) = IsFree c last t
 
--- a control stream of the console: messages, and then a tail that is this shoen's alone
+-- a control stream of the console: messages, and then a tail that is this shoen's alone; and its reports have free variables alone
 pub record Console (c : ℕ → ℕ) (last n : ℕ) (t : Term) (o : Origin) : Type 0 where
   pub tail : ℕ
   pub messages : List Message
@@ -44,6 +45,7 @@ pub record Console (c : ℕ → ℕ) (last n : ℕ) (t : Term) (o : Origin) : Ty
   pub owner : c tail ≡ n
   pub some : 0 < n
   pub low : tail ≤ last
+  pub reports : IsFree c last o.reports
 
 -- a control stream: of the console, or with free variables alone
 abbrev pub ControlOf : (ℕ → ℕ) → ℕ → ℕ → Term → Option Origin → Type 0
@@ -99,27 +101,39 @@ control_replaced c last v n u t (Some o) e k a =
       owner = a.owner;
       some = a.some;
       low = a.low;
+      reports = holds_replace (Free c last) v u o.reports k a.reports;
     }
 
 task_replaced : (c : ℕ → ℕ) (last v : ℕ) (u : Term) (task : Task) → IsFree c last u → TaskFree c last task → TaskFree c last (replace_in_task v u task)
 task_replaced c last v u monitor k a = tt
 task_replaced c last v u (reduces t) k a = holds_replace (Free c last) v u t k a
+task_replaced c last v u (substitutes t) k a = holds_replace (Free c last) v u t k a
 
 -- ---- a higher last number
-
-control_raised : (c : ℕ → ℕ) (last top n : ℕ) (t : Term) (o : Option Origin) → last ≤ top → ControlOf c last n t o → ControlOf c top n t o
-control_raised c last top n t None e a = holds_weaker (Free c last) (Free c top) (λ v f. (f.0, let x = f.1 in omega (arith, x, e))) t a
-control_raised c last top n t (Some o) e a = record { tail = a.tail; messages = a.messages; is = a.is; stream = a.stream; owner = a.owner; some = a.some; low = let x = a.low in omega (arith, x, e) }
 
 pub term_raised : (c : ℕ → ℕ) (last top : ℕ) (t : Term) → last ≤ top → IsFree c last t → IsFree c top t
 term_raised c last top t e a = holds_weaker (Free c last) (Free c top) (λ v f. (f.0, let x = f.1 in omega (arith, x, e))) t a
 
+control_raised : (c : ℕ → ℕ) (last top n : ℕ) (t : Term) (o : Option Origin) → last ≤ top → ControlOf c last n t o → ControlOf c top n t o
+control_raised c last top n t None e a = term_raised c last top t e a
+control_raised c last top n t (Some o) e a = record {
+  tail = a.tail;
+  messages = a.messages;
+  is = a.is;
+  stream = a.stream;
+  owner = a.owner;
+  some = a.some;
+  low = let x = a.low in omega (arith, x, e);
+  reports = term_raised c last top o.reports e a.reports;
+}
+
 task_raised : (c : ℕ → ℕ) (last top : ℕ) (task : Task) → last ≤ top → TaskFree c last task → TaskFree c top task
 task_raised c last top monitor e a = tt
 task_raised c last top (reduces t) e a = term_raised c last top t e a
+task_raised c last top (substitutes t) e a = term_raised c last top t e a
 
-pub raised : (c : ℕ → ℕ) (last top : ℕ) (gs : List Goal) (hs : List Shoen) → last ≤ top → AreOwned c last gs hs → AreOwned c top gs hs
-raised c last top gs hs e a = record {
+pub own_higher : (c : ℕ → ℕ) (last top : ℕ) (gs : List Goal) (hs : List Shoen) → last ≤ top → AreOwned c last gs hs → AreOwned c top gs hs
+own_higher c last top gs hs e a = record {
   goals = all_weaker (λ g. TaskFree c last g.task) (λ g. TaskFree c top g.task) (λ g f. task_raised c last top g.task e f) gs a.goals;
   shoens = all_weaker (Owned c last) (Owned c top) (λ h f. record { tail = term_raised c last top h.tail e f.tail; control = control_raised c last top h.number h.control h.origin e f.control }) hs a.shoens;
   above = λ v low. a.above v (omega (arith, low, e));
@@ -127,8 +141,8 @@ raised c last top gs hs e a = record {
 
 -- ---- effects
 
-replaced : (c : ℕ → ℕ) (last v : ℕ) (u : Term) (gs : List Goal) (hs : List Shoen) → c v ≡ 0 → IsFree c last u → AreOwned c last gs hs → AreOwned c last (map (replace_in_goal v u) gs) (map (replace_in_shoen v u) hs)
-replaced c last v u gs hs e k a = record {
+pub own_replace : (c : ℕ → ℕ) (last v : ℕ) (u : Term) (gs : List Goal) (hs : List Shoen) → c v ≡ 0 → IsFree c last u → AreOwned c last gs hs → AreOwned c last (map (replace_in_goal v u) gs) (map (replace_in_shoen v u) hs)
+own_replace c last v u gs hs e k a = record {
   goals = all_map (λ g. TaskFree c last g.task) (λ g. TaskFree c last g.task) (replace_in_goal v u) (λ g f. task_replaced c last v u g.task k f) gs a.goals;
   shoens = all_map (Owned c last) (Owned c last) (replace_in_shoen v u) (λ h f. record { tail = holds_replace (Free c last) v u h.tail k f.tail; control = control_replaced c last v h.number u h.control h.origin e k f.control }) hs a.shoens;
   above = a.above;
@@ -159,8 +173,8 @@ reported c n m (variable v) s f g a =
     let by = cell m (variable next) in
     let whole : IsFree c next by = (term_raised c s.last_variable next m (omega arith) f, (new, tt)) in
     let bound = record (replace_in_state v by s) { last_variable = next; reports = suc s.reports } in
-    let b : Of c bound = replaced c next v by s.goals s.shoens g.0 whole (raised c s.last_variable next s.goals s.shoens (omega arith) a) in
-    own_if (occurs v m || not (nat_lt s.reports most_reports)) c (broken_at n s) (change_shoen n (λ h. record h { tail = variable next }) bound) (own_broken c n s a)
+    let b : Of c bound = own_replace c next v by s.goals s.shoens g.0 whole (own_higher c s.last_variable next s.goals s.shoens (omega arith) a) in
+    own_if (occurs v m || not (nat_lt s.reports MOST_REPORTS)) c (broken_at n s) (change_shoen n (λ h. record h { tail = variable next }) bound) (own_broken c n s a)
     (changed c n (λ h. record h { tail = variable next }) bound (λ h p. record { tail = new; control = p.control }) b)
 reported c n m (integer i) s f g a = own_broken c n s a
 reported c n m (atom b) s f g a = own_broken c n s a
@@ -173,12 +187,33 @@ report_found c (Some h) n m s e f a = own_if h.is_broken c s (reported_at n m h.
 pub own_report : (c : ℕ → ℕ) (n : ℕ) (m : Term) (s : State) → IsFree c s.last_variable m → Of c s → Of c (report n m s)
 own_report c n m s f a = report_found c (shoen_at n s.shoens) n m s refl f a
 
+last_if : (b : Bool) (n : ℕ) (s t : State) → n ≤ s.last_variable → n ≤ t.last_variable → n ≤ (if b then s else t).last_variable
+last_if true n s t e f = e
+last_if false n s t e f = f
+
+reported_last : (n : ℕ) (m t : Term) (s : State) → s.last_variable ≤ (reported_at n m t s).last_variable
+reported_last n m (variable v) s =
+    let next = suc s.last_variable in
+    let bound = record (replace_in_state v (cell m (variable next)) s) { last_variable = next; reports = suc s.reports } in
+    last_if (occurs v m || not (nat_lt s.reports MOST_REPORTS)) s.last_variable (broken_at n s) (change_shoen n (λ h. record h { tail = variable next }) bound) (omega arith) (omega arith)
+reported_last n m (integer i) s = omega arith
+reported_last n m (atom b) s = omega arith
+reported_last n m (structure k ts) s = omega arith
+
+last_found : (o : Option Shoen) (n : ℕ) (m : Term) (s : State) → s.last_variable ≤ (report_of o n m s).last_variable
+last_found None n m s = omega arith
+last_found (Some h) n m s = last_if h.is_broken s.last_variable s (reported_at n m h.tail s) (omega arith) (reported_last n m h.tail s)
+
+-- the last number of a variable is no lower after a report
+pub report_last : (n : ℕ) (m : Term) (s : State) → s.last_variable ≤ (report n m s).last_variable
+report_last n m s = last_found (shoen_at n s.shoens) n m s
+
 own_each : (c : ℕ → ℕ) (ns : List ℕ) (text : List ℕ) (s : State) → Of c s → Of c (report_each ns (atom text) s)
 own_each c [] text s a = a
 own_each c (n ∷ ns) text s a = own_each c ns text (report n (atom text) s) (own_report c n (atom text) s tt a)
 
 closed : (c : ℕ → ℕ) (t : Term) (s : State) → IsFree c s.last_variable t → Of c s → Of c (closed_at t s)
-closed c (variable v) s g a = replaced c s.last_variable v nil s.goals s.shoens g.0 tt a
+closed c (variable v) s g a = own_replace c s.last_variable v nil s.goals s.shoens g.0 tt a
 closed c (integer i) s g a = a
 closed c (atom b) s g a = a
 closed c (structure k ts) s g a = a
@@ -192,7 +227,7 @@ own_closing c n text s a = let t = report n (atom text) s in close_found c (shoe
 
 pub own_all : (c : ℕ → ℕ) (rs : List Replacement) (s : State) → EachReplaced (Free c s.last_variable) rs → Of c s → Of c (replace_all rs s)
 own_all c [] s f a = a
-own_all c (r ∷ rs) s f a = own_all c rs (replace_in_state r.number r.by s) f.1 (replaced c s.last_variable r.number r.by s.goals s.shoens f.0.0.0 f.0.1 a)
+own_all c (r ∷ rs) s f a = own_all c rs (replace_in_state r.number r.by s) f.1 (own_replace c s.last_variable r.number r.by s.goals s.shoens f.0.0.0 f.0.1 a)
 
 pub fewer : (c : ℕ → ℕ) (p : Goal → Bool) (s : State) → Of c s → Of c (record s { goals = filter p s.goals })
 fewer c p s a = record { goals = all_fewer (λ g. TaskFree c s.last_variable g.task) p s.goals a.goals; shoens = a.shoens; above = a.above }
@@ -289,14 +324,14 @@ same_front c last n (tells_other m rest) p = p
 same_front c last n ends p = tt
 same_front c last n (breaks_off t) p = p
 
-front_message : (c : ℕ → ℕ) (last n v : ℕ) (o : Origin) (ms : List Message) → o.control ≡ variable v → c v ≡ n → 0 < n → v ≤ last → FrontOf c last n (Some o) (control_of (messages_then ms (variable v)))
-front_message c last n v o [] e f some low = tt
-front_message c last n v o (m ∷ ms) e f some low =
-    subst (FrontOf c last n (Some o)) (sym (tells_message m (messages_then ms (variable v)))) (record { tail = v; messages = ms; is = e; stream = refl; owner = f; some = some; low = low })
+front_message : (c : ℕ → ℕ) (last n v : ℕ) (o : Origin) (ms : List Message) → o.control ≡ variable v → c v ≡ n → 0 < n → v ≤ last → IsFree c last o.reports → FrontOf c last n (Some o) (control_of (messages_then ms (variable v)))
+front_message c last n v o [] e f some low g = tt
+front_message c last n v o (m ∷ ms) e f some low g =
+    subst (FrontOf c last n (Some o)) (sym (tells_message m (messages_then ms (variable v)))) (record { tail = v; messages = ms; is = e; stream = refl; owner = f; some = some; low = low; reports = g })
 
 front_of : (c : ℕ → ℕ) (last n : ℕ) (t : Term) (o : Option Origin) → ControlOf c last n t o → FrontOf c last n o (control_of t)
 front_of c last n t None p = same_front c last n (control_of t) (front_free c last t p)
-front_of c last n t (Some o) p = subst (λ t. FrontOf c last n (Some o) (control_of t)) (sym p.stream) (front_message c last n p.tail o p.messages p.is p.owner p.some p.low)
+front_of c last n t (Some o) p = subst (λ t. FrontOf c last n (Some o) (control_of t)) (sym p.stream) (front_message c last n p.tail o p.messages p.is p.owner p.some p.low p.reports)
 
 only_changed : (b : Bool) (P : Shoen → Type 0) (f : Shoen → Shoen) (n : ℕ) (k h : Shoen) → k.number == n ≡ b → (k.number ≡ n → k ≡ h) → P (f h) → P k → P (if b then f k else k)
 only_changed true P f n k h e u p q = subst (λ (x : Shoen). P (f x)) (sym (u (eqb-true k.number n e))) p

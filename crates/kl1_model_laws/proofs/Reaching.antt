@@ -1,20 +1,24 @@
 -- What holds of a fresh account, and is kept by what each event does, holds of each account that events make of a fresh one.
 use Rattle.std.proofs.Common.{◌≡◌, ℕ, suc, ◌-◌, ◌==◌, ◌&&◌, Bool, true, false, if◌then◌else◌, List, [], ◌∷◌, refl, subst}
 use Rattle.std.specs.Prelude.{nat_lt, nat_le, length, Option, Some, None, is_some, option_map}
+use Rattle.std.proofs.lemmas.Bool.{and_parts}
 use Rattle.std.proofs.lemmas.Option.{none-some, same_Some}
-use Rattle.kl1_model.specs.Limits.{most_names, most_modules, most_sessions}
+use Rattle.kl1_model.specs.declared.rules.Rules.{Rules}
+use Rattle.kl1_model.specs.declared.limits.TheConstants.{MOST_NAMES, MOST_MODULES, MOST_SESSIONS, MOST_SOURCE_BYTES, MOST_ENTRIES}
 use Rattle.kl1_model.specs.declared.message.Message.{Message}
 use Rattle.kl1_model.specs.Term.{Term}
 use Rattle.kl1_model.specs.Module.{Module, Reading, good, bad, read_module}
 use Rattle.kl1_model.specs.Match.{module_of, call_of}
-use Rattle.kl1_model.specs.State.{Task, monitor, reduces, Goal, Origin, Shoen, State, fresh, fresh_with, goal_at, shoen_at, names_of, names_of_module, with_names, is_living}
-use Rattle.kl1_model.specs.Event.{exists, shoen_ended, syntax, too_many_names, limit_passed, journal_full, sessions_refused, Query, value, status, reports, modules, is_quiet, Event, load, start, control, reduce, read, login, logout, reset, loaded, opened, sent, reduced, welcome, bye, Refusal, Transition, refuse, is_number, most_source_bytes, most_entries, with_entry, recorded, named, limited}
+use Rattle.kl1_model.specs.State.{Task, monitor, reduces, substitutes, Goal, Origin, Shoen, State, fresh, fresh_with, goal_at, shoen_at, names_of, names_of_module, with_names, has_substitutes, is_living}
+use Rattle.kl1_model.specs.Event.{exists, shoen_ended, syntax, too_many_names, limit_passed, journal_full, sessions_refused, Query, value, status, reports, modules, is_quiet, Event, load, start, control, reduce, read, login, logout, reset, answer, loaded, opened, sent, reduced, welcome, bye, Refusal, Transition, refuse, is_number, with_entry, recorded, named, limited}
+use Rattle.kl1_model.specs.Look.{goal_look}
 use Rattle.kl1_model.specs.Tree.{is_enabled}
 use Rattle.kl1_model.specs.Control.{Control, awaits_message, tells, tells_other, ends, breaks_off, control_of}
 use Rattle.kl1_model.specs.Opening.{may_start, has_room_to_start, start_goal}
-use Rattle.kl1_model.specs.Reduction.{Move, Action, moves, reads, term_move, read_action, monitor_action, task_action, action_of, acted, reduced_by, reduce_goal}
+use Rattle.kl1_model.specs.Reduction.{Move, Action, moves, reads, term_move, substitute_move, read_action, monitor_action, task_action, action_of, acted, reduced_by, reduce_goal}
 use Rattle.kl1_model.specs.Sending.{may_send, has_room_to_send, sent_on, send_by, send_to}
-use Rattle.kl1_model.specs.Asking.{origin_at, value_of, status_of, reports_of, answer}
+use Rattle.kl1_model.specs.Asking.{origin_at, value_of, status_of, reports_of, reply_to}
+use Rattle.kl1_model.specs.Answering.{may_answer, has_room_to_answer, unanswered_at, answered, answer_by, answer_in, answer_to}
 use Rattle.kl1_model.specs.Step.{with_module, load_module, step}
 use Rattle.kl1_model.specs.laws.TreeLaws.{IsTree}
 use Rattle.kl1_model.proofs.TreeSteps.{fresh_is_tree, trees_stay}
@@ -22,13 +26,15 @@ use Rattle.kl1_model_laws.specs.Reached.{after, reached}
 
 -- what is done to an account keeps a fact of it
 pub record Keeping (P : State → Type 0) : Type 0 where
-  pub fresh : (name : List ℕ) (names : List (List ℕ)) (sessions : ℕ) → P (fresh_with name names sessions)
+  pub fresh : (rules : Rules) (name : List ℕ) (names : List (List ℕ)) (sessions : ℕ) → P (fresh_with rules name names sessions)
   pub seats : (s : State) (n : ℕ) → P s → P (record s { sessions = n })
-  pub loads : (s : State) (source : List ℕ) (m : Module) → read_module source ≡ good m → nat_lt s.entries most_entries ≡ true → P s → P (with_entry (with_module s m))
-  pub starts : (s : State) (allowance low high : ℕ) (t : Term) → IsTree s → may_start allowance low high t ≡ true → has_room_to_start s t ≡ true → nat_lt s.entries most_entries ≡ true → P s → P (with_entry (start_goal s allowance low high t))
-  pub sends : (s : State) (n : ℕ) (m : Message) (h : Shoen) (o : Origin) → IsTree s → shoen_at n s.shoens ≡ Some h → h.origin ≡ Some o → nat_lt s.entries most_entries ≡ true → P s → P (with_entry (sent_on n m o.control s))
-  pub moving : (s : State) (n clause : ℕ) (g : Goal) (t : Term) (m : Move) → IsTree s → goal_at n s.goals ≡ Some g → g.task ≡ reduces t → term_move s.modules t clause (call_of t) ≡ Some m → is_enabled s g ≡ true → nat_lt s.entries most_entries ≡ true → P s → P (acted g (moves t m) (with_entry s))
-  pub reading : (s : State) (n : ℕ) (g : Goal) (h : Shoen) (c : Control) → IsTree s → goal_at n s.goals ≡ Some g → shoen_at g.shoen s.shoens ≡ Some h → control_of h.control ≡ c → nat_lt s.entries most_entries ≡ true → P s → P (acted g (reads c) (with_entry s))
+  pub loads : (s : State) (source : List ℕ) (m : Module) → read_module source ≡ good m → nat_lt s.entries MOST_ENTRIES ≡ true → P s → P (with_entry (with_module s m))
+  pub starts : (s : State) (allowance low high : ℕ) (t : Term) → IsTree s → may_start allowance low high t ≡ true → has_room_to_start s t ≡ true → nat_lt s.entries MOST_ENTRIES ≡ true → P s → P (with_entry (start_goal s allowance low high t))
+  pub sends : (s : State) (n : ℕ) (m : Message) (h : Shoen) (o : Origin) → IsTree s → shoen_at n s.shoens ≡ Some h → h.origin ≡ Some o → nat_lt s.entries MOST_ENTRIES ≡ true → P s → P (with_entry (sent_on n m o.control s))
+  pub moving : (s : State) (n clause : ℕ) (g : Goal) (t : Term) (m : Move) → IsTree s → goal_at n s.goals ≡ Some g → g.task ≡ reduces t → term_move s.rules s.modules t clause (call_of t) ≡ Some m → is_enabled s g ≡ true → nat_lt s.entries MOST_ENTRIES ≡ true → P s → P (acted g (moves t m) (with_entry s))
+  pub substituting : (s : State) (n : ℕ) (g : Goal) (t : Term) (m : Move) → IsTree s → goal_at n s.goals ≡ Some g → g.task ≡ substitutes t → substitute_move (goal_look t) ≡ Some m → is_enabled s g ≡ true → nat_lt s.entries MOST_ENTRIES ≡ true → P s → P (acted g (moves t m) (with_entry s))
+  pub answers : (s : State) (n report v : ℕ) (t : Term) (h : Shoen) (o : Origin) → IsTree s → shoen_at n s.shoens ≡ Some h → h.origin ≡ Some o → may_answer n report t ≡ true → has_room_to_answer s t ≡ true → unanswered_at o.reports report ≡ Some v → nat_lt s.entries MOST_ENTRIES ≡ true → P s → P (with_entry (answered v t s))
+  pub reading : (s : State) (n : ℕ) (g : Goal) (h : Shoen) (c : Control) → IsTree s → goal_at n s.goals ≡ Some g → shoen_at g.shoen s.shoens ≡ Some h → control_of h.control ≡ c → nat_lt s.entries MOST_ENTRIES ≡ true → P s → P (acted g (reads c) (with_entry s))
 
 some_if : {A : Type 0} (c : Bool) (o : Option A) (a : A) → (if c then o else None) ≡ Some a → o ≡ Some a
 some_if true o a e = e
@@ -56,11 +62,11 @@ module _ (P : State → Type 0) (k : Keeping P) where
   holds_load s source (good m) e p =
       let x : Transition = record { state = with_entry (with_module s m); reply = loaded m.name } in
       let a = recorded s x in
-      let b = limited s (nat_lt (length s.modules) most_modules) a in
+      let b = limited s (nat_lt (length s.modules) MOST_MODULES) a in
       holds_or (is_some (module_of s.modules m.name)) s (named s (with_names s.names (names_of_module m)) b) exists p
-      (holds_if (nat_le (length (with_names s.names (names_of_module m))) most_names) s b too_many_names p λ _.
-      holds_if (nat_lt (length s.modules) most_modules) s a limit_passed p λ _.
-      holds_if (nat_lt s.entries most_entries) s x journal_full p λ free. k.loads s source m e free p)
+      (holds_if (nat_le (length (with_names s.names (names_of_module m))) MOST_NAMES) s b too_many_names p λ _.
+      holds_if (nat_lt (length s.modules) MOST_MODULES) s a limit_passed p λ _.
+      holds_if (nat_lt s.entries MOST_ENTRIES) s x journal_full p λ free. k.loads s source m e free p)
 
   holds_start : (s : State) (allowance low high : ℕ) (t : Term) → IsTree s → P s → Holds (step s (start allowance low high t))
   holds_start s allowance low high t tree p =
@@ -68,9 +74,9 @@ module _ (P : State → Type 0) (k : Keeping P) where
       let a = recorded s x in
       let b = limited s (has_room_to_start s t) a in
       holds_if (may_start allowance low high t) s (named s (with_names s.names (names_of t)) b) syntax p λ may.
-      holds_if (nat_le (length (with_names s.names (names_of t))) most_names) s b too_many_names p λ _.
+      holds_if (nat_le (length (with_names s.names (names_of t))) MOST_NAMES) s b too_many_names p λ _.
       holds_if (has_room_to_start s t) s a limit_passed p λ room.
-      holds_if (nat_lt s.entries most_entries) s x journal_full p λ free. k.starts s allowance low high t tree may room free p
+      holds_if (nat_lt s.entries MOST_ENTRIES) s x journal_full p λ free. k.starts s allowance low high t tree may room free p
 
   holds_by : (s : State) (n : ℕ) (m : Message) (h : Shoen) (o : Option Origin) → h.origin ≡ o → shoen_at n s.shoens ≡ Some h → IsTree s → P s → Holds (send_by s n m h o)
   holds_by s n m h None e there tree p = p
@@ -79,11 +85,36 @@ module _ (P : State → Type 0) (k : Keeping P) where
       let a = recorded s x in
       holds_if (is_living h.life) s (limited s (has_room_to_send s m) a) shoen_ended p λ _.
       holds_if (has_room_to_send s m) s a limit_passed p λ _.
-      holds_if (nat_lt s.entries most_entries) s x journal_full p λ free. k.sends s n m h o tree there e free p
+      holds_if (nat_lt s.entries MOST_ENTRIES) s x journal_full p λ free. k.sends s n m h o tree there e free p
 
   holds_send : (s : State) (n : ℕ) (m : Message) (o : Option Shoen) → shoen_at n s.shoens ≡ o → IsTree s → P s → Holds (send_to s n m o)
   holds_send s n m None e tree p = p
   holds_send s n m (Some h) e tree p = holds_by s n m h h.origin refl e tree p
+
+  -- an answer that may be given
+  record Answers (s : State) (n report : ℕ) (t : Term) : Type 0 where
+    tree : IsTree s
+    may : may_answer n report t ≡ true
+    holds : P s
+
+  answers_by : (s : State) (n report : ℕ) (t : Term) (h : Shoen) (o : Origin) (v : Option ℕ) → unanswered_at o.reports report ≡ v → h.origin ≡ Some o → shoen_at n s.shoens ≡ Some h → has_room_to_answer s t ≡ true → nat_lt s.entries MOST_ENTRIES ≡ true → Answers s n report t → Holds (answer_by s t v)
+  answers_by s n report t h o None e origin there room free a = a.holds
+  answers_by s n report t h o (Some v) e origin there room free a = k.answers s n report v t h o a.tree there origin a.may room e free a.holds
+
+  answers_in : (s : State) (n report : ℕ) (t : Term) (h : Shoen) (o : Option Origin) → h.origin ≡ o → shoen_at n s.shoens ≡ Some h → Answers s n report t → Holds (answer_in s report t h o)
+  answers_in s n report t h None e there a = a.holds
+  answers_in s n report t h (Some o) e there a =
+      let x : Transition = answer_by s t (unanswered_at o.reports report) in
+      let y = recorded s x in
+      let z = limited s (has_room_to_answer s t) y in
+      holds_if (is_living h.life) s (named s (with_names s.names (names_of t)) z) shoen_ended a.holds λ _.
+      holds_if (nat_le (length (with_names s.names (names_of t))) MOST_NAMES) s z too_many_names a.holds λ _.
+      holds_if (has_room_to_answer s t) s y limit_passed a.holds λ room.
+      holds_if (nat_lt s.entries MOST_ENTRIES) s x journal_full a.holds λ free. answers_by s n report t h o (unanswered_at o.reports report) refl e there room free a
+
+  answers_to : (s : State) (n report : ℕ) (t : Term) (o : Option Shoen) → shoen_at n s.shoens ≡ o → Answers s n report t → Holds (answer_to s report t o)
+  answers_to s n report t None e a = a.holds
+  answers_to s n report t (Some h) e a = answers_in s n report t h h.origin refl e a
 
   -- an account in which a goal has done what it can
   abbrev Acts : State → Goal → Action → Type 0
@@ -94,7 +125,7 @@ module _ (P : State → Type 0) (k : Keeping P) where
     there : goal_at n s.goals ≡ Some g
     tree : IsTree s
     enabled : is_enabled s g ≡ true
-    free : nat_lt s.entries most_entries ≡ true
+    free : nat_lt s.entries MOST_ENTRIES ≡ true
     holds : P s
 
   acts_read : (s : State) (n : ℕ) (g : Goal) (h : Shoen) (a : Action) (c : Control) → control_of h.control ≡ c → read_action c ≡ Some a → shoen_at g.shoen s.shoens ≡ Some h → Ready s n g → Acts s g a
@@ -108,18 +139,23 @@ module _ (P : State → Type 0) (k : Keeping P) where
   acts_monitor s n clause g a None found is r = absurd (none-some a is)
   acts_monitor s n clause g a (Some h) found is r = acts_read s n g h a (control_of h.control) refl (some_if (clause == 0) (read_action (control_of h.control)) a is) found r
 
-  acts_move : (s : State) (n clause : ℕ) (g : Goal) (a : Action) (t : Term) (o : Option Move) → term_move s.modules t clause (call_of t) ≡ o → option_map (moves t) o ≡ Some a → g.task ≡ reduces t → Ready s n g → Acts s g a
+  acts_move : (s : State) (n clause : ℕ) (g : Goal) (a : Action) (t : Term) (o : Option Move) → term_move s.rules s.modules t clause (call_of t) ≡ o → option_map (moves t) o ≡ Some a → g.task ≡ reduces t → Ready s n g → Acts s g a
   acts_move s n clause g a t None e is task r = absurd (none-some a is)
   acts_move s n clause g a t (Some m) e is task r = subst (Acts s g) (same_Some (moves t m) a is) (k.moving s n clause g t m r.tree r.there task e r.enabled r.free r.holds)
 
+  acts_substitute : (s : State) (n : ℕ) (g : Goal) (a : Action) (t : Term) (o : Option Move) → substitute_move (goal_look t) ≡ o → option_map (moves t) o ≡ Some a → g.task ≡ substitutes t → Ready s n g → Acts s g a
+  acts_substitute s n g a t None e is task r = absurd (none-some a is)
+  acts_substitute s n g a t (Some m) e is task r = subst (Acts s g) (same_Some (moves t m) a is) (k.substituting s n g t m r.tree r.there task e r.enabled r.free r.holds)
+
   acts_task : (s : State) (n clause : ℕ) (g : Goal) (a : Action) (task : Task) → g.task ≡ task → task_action s g.shoen task clause ≡ Some a → Ready s n g → Acts s g a
   acts_task s n clause g a monitor e is r = acts_monitor s n clause g a (shoen_at g.shoen s.shoens) refl is r
-  acts_task s n clause g a (reduces t) e is r = acts_move s n clause g a t (term_move s.modules t clause (call_of t)) refl is e r
+  acts_task s n clause g a (reduces t) e is r = acts_move s n clause g a t (term_move s.rules s.modules t clause (call_of t)) refl is e r
+  acts_task s n clause g a (substitutes t) e is r = acts_substitute s n g a t (substitute_move (goal_look t)) refl (some_if (clause == 0) (option_map (moves t) (substitute_move (goal_look t))) a is) e r
 
   holds_action : (s : State) (n clause : ℕ) (g : Goal) (o : Option Action) → action_of s g clause ≡ o → goal_at n s.goals ≡ Some g → IsTree s → P s → Holds (reduced_by s g o)
   holds_action s n clause g None e there tree p = p
   holds_action s n clause g (Some a) e there tree p =
-      holds_if (nat_lt s.entries most_entries) s (record { state = acted g a (with_entry s); reply = reduced }) journal_full p λ free.
+      holds_if (nat_lt s.entries MOST_ENTRIES) s (record { state = acted g a (with_entry s); reply = reduced }) journal_full p λ free.
       acts_task s n clause g a g.task refl (some_if (is_enabled s g) (task_action s g.shoen g.task clause) a e)
       (record { there = there; tree = tree; enabled = is_if (is_enabled s g) (task_action s g.shoen g.task clause) a e; free = free; holds = p })
 
@@ -139,7 +175,7 @@ module _ (P : State → Type 0) (k : Keeping P) where
   holds_reports s from None p = p
   holds_reports s from (Some o) p = p
 
-  holds_answer : (s : State) (q : Query) → P s → Holds (answer s q)
+  holds_answer : (s : State) (q : Query) → P s → Holds (reply_to s q)
   holds_answer s (value n) p = holds_if (is_number n) s (value_of s (origin_at n s.shoens)) syntax p λ _. holds_value s (origin_at n s.shoens) p
   holds_answer s (status n) p = holds_if (is_number n) s (status_of s (shoen_at n s.shoens)) syntax p λ _. holds_status s (shoen_at n s.shoens) p
   holds_answer s (reports n from) p =
@@ -148,19 +184,22 @@ module _ (P : State → Type 0) (k : Keeping P) where
   holds_answer s is_quiet p = p
 
   pub holds_step : (s : State) (e : Event) → IsTree s → P s → P (step s e).state
-  holds_step s (load text) tree p = holds_if (nat_le (length text) most_source_bytes) s (load_module s (read_module text)) syntax p λ _. holds_load s text (read_module text) refl p
+  holds_step s (load text) tree p = holds_if (nat_le (length text) MOST_SOURCE_BYTES) s (load_module s (read_module text)) syntax p λ _. holds_load s text (read_module text) refl p
   holds_step s (start allowance low high t) tree p = holds_start s allowance low high t tree p
   holds_step s (control n m) tree p = holds_if (may_send n m) s (send_to s n m (shoen_at n s.shoens)) syntax p λ _. holds_send s n m (shoen_at n s.shoens) refl tree p
   holds_step s (reduce goal clause) tree p =
       holds_if (is_number goal && is_number clause) s (reduce_goal s clause (goal_at goal s.goals)) syntax p λ _. holds_goal s goal clause (goal_at goal s.goals) refl tree p
   holds_step s (read q) tree p = holds_answer s q p
-  holds_step s login tree p = holds_if (nat_lt s.sessions most_sessions) s (record { state = record s { sessions = suc s.sessions }; reply = welcome s.own_name }) sessions_refused p λ _. k.seats s (suc s.sessions) p
+  holds_step s login tree p = holds_if (nat_lt s.sessions MOST_SESSIONS) s (record { state = record s { sessions = suc s.sessions }; reply = welcome s.own_name }) sessions_refused p λ _. k.seats s (suc s.sessions) p
   holds_step s logout tree p = holds_if (nat_lt 0 s.sessions) s (record { state = record s { sessions = s.sessions - 1 }; reply = bye }) sessions_refused p λ _. k.seats s (s.sessions - 1) p
-  holds_step s reset tree p = k.fresh s.own_name s.names s.sessions
+  holds_step s reset tree p = k.fresh s.rules s.own_name s.names s.sessions
+  holds_step s (answer n report t) tree p =
+      holds_if (has_substitutes s.rules && may_answer n report t) s (answer_to s report t (shoen_at n s.shoens)) syntax p λ may.
+      answers_to s n report t (shoen_at n s.shoens) refl (record { tree = tree; may = (and_parts (has_substitutes s.rules) (may_answer n report t) may).1; holds = p })
 
   holds_after : (s : State) (es : List Event) → IsTree s → P s → P (after s es)
   holds_after s [] tree p = p
   holds_after s (e ∷ es) tree p = holds_after (step s e).state es (trees_stay s e tree) (holds_step s e tree p)
 
-  pub holds_reached : (name : List ℕ) (es : List Event) → P (reached name es)
-  holds_reached name es = holds_after (fresh name) es (fresh_is_tree name) (k.fresh name [] 0)
+  pub holds_reached : (rules : Rules) (name : List ℕ) (es : List Event) → P (reached rules name es)
+  holds_reached rules name es = holds_after (fresh rules name) es (fresh_is_tree rules name) (k.fresh rules name [] 0)

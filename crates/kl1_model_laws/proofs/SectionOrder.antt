@@ -9,7 +9,8 @@ use Rattle.std.proofs.lemmas.Option.{same_Some, none-some}
 use Rattle.kl1_model.specs.Term.{count_of}
 use Rattle.kl1_model.specs.Token.{tokens_of_text}
 use Rattle.kl1_model.specs.laws.WaitsLaws.{are_in_order}
-use Rattle.kl1_model.specs.Module.{Clause, Module, Reading, good, bad, Item, items_of, is_of, last_of, may_follow, continues, section_after, most_clauses, with_clause, is_otherwise, otherwise_on, if_good, clauses_ended, clauses_from, clause_of, module_with, module_named, module_of_items, named_module}
+use Rattle.kl1_model.specs.Module.{Clause, Module, Reading, good, bad, Item, items_of, is_of, last_of, may_follow, continues, section_after, with_clause, is_otherwise, otherwise_on, if_good, clauses_ended, clauses_from, clause_of, module_with, module_named, module_of_items, named_module}
+use Rattle.kl1_model.specs.declared.limits.TheConstants.{MOST_CLAUSES}
 use Rattle.kl1_model.proofs.OpenSections.{candidates_are_open}
 use Rattle.kl1_model_laws.specs.SectionLaws.{SectionsAreInOrder, CandidatesOfModulesAreOpen}
 
@@ -90,7 +91,7 @@ module _ (name : List ℕ) (count : ℕ) where
       let own = and_parts (bytes_eq c.name name) (count_of c.patterns == count) is in
       let name_is : c.name ≡ name = (bytes_eq-Decides c.name name).0 own.0 in
       let count_is : count_of c.patterns ≡ count = eqb-true (count_of c.patterns) count own.1 in
-      let asked : goes_on before opens c.name (count_of c.patterns) ≡ true = (and_parts (nat_lt (length before) most_clauses) (goes_on before opens c.name (count_of c.patterns)) h).1 in
+      let asked : goes_on before opens c.name (count_of c.patterns) ≡ true = (and_parts (nat_lt (length before) MOST_CLAUSES) (goes_on before opens c.name (count_of c.patterns)) h).1 in
       let goes : goes_on before opens name count ≡ true = sym (ap (λ (n : List ℕ). goes_on before opens n (count_of c.patterns)) name_is ∙ ap (goes_on before opens name) count_is) ∙ asked in
       let same : continues before c ≡ unwrap_or (option_map (is_of name count) (last_of before)) false = ap (λ (n : List ℕ). unwrap_or (option_map (is_of n (count_of c.patterns)) (last_of before)) false) name_is ∙ ap (λ (k : ℕ). unwrap_or (option_map (is_of name k) (last_of before)) false) count_is in
       let d : Clause = record c { section = section_after before opens c } in

@@ -2,11 +2,10 @@
 use Rattle.std.specs.Prelude.{◌≡◌, codes, [], ◌∷◌, ◌++◌, refl, replicate}
 use Rattle.std.specs.Fmt.{digits}
 use Rattle.kl1_model.specs.Record.{other_line}
-use Rattle.kl1_model.specs.Event as event
 use Rattle.kl1_model.specs.Event.{syntax}
-use Rattle.kl1_model_history.specs.Cut.{Cut, cut_within, cut_of}
+use Rattle.kl1_model_history.specs.Cut.{cut_within, cut_of}
 use Rattle.kl1_model_history.specs.Inputs.{login, refused}
-use Rattle.kl1_model_laws.specs.StreamRows.{Come, come, asks, leaves, quiet_asked, logout_asked, load_asked, StreamRowsHold}
+use Rattle.kl1_model_laws.specs.StreamRows.{come, asks, leaves, quiet_asked, logout_asked, load_asked, StreamRowsHold}
 
 nothing_row : come [] ≡ asks []
 unfolding digits cut_within

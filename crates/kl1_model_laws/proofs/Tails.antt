@@ -4,7 +4,7 @@ use Rattle.std.specs.Prelude.{nat_le, map, length, Option, Some, None, option_ma
 use Rattle.std.specs.List.{AllByRecursion}
 use Rattle.std.proofs.lemmas.Bool.{and_parts, eqb-true, eqb-false, eq-eqb, ne_eqb, leb-false}
 use Rattle.std.proofs.Math.Nat.{le-max_left, le-max_right}
-use Rattle.kl1_model.specs.Limits.{most_names}
+use Rattle.kl1_model.specs.declared.limits.TheConstants.{MOST_NAMES, MOST_LINE_BYTES}
 use Rattle.kl1_model.specs.declared.message.Message.{Message}
 use Rattle.kl1_model.specs.Term.{Term, variable, atom, terms_of, replace, Replacement, substituted}
 use Rattle.kl1_model.specs.Meaning.{nil, cell, highest, highest_in, is_numbered, is_writable}
@@ -13,13 +13,15 @@ use Rattle.kl1_model.specs.Unify.{mgu}
 use Rattle.kl1_model.specs.Module.{goals_of}
 use Rattle.kl1_model.specs.Match.{Candidate, call_of, term_at}
 use Rattle.kl1_model.specs.Instance.{head_variables, fresh_variables, body_variable, body_instance, body_priorities}
+use Rattle.kl1_model.specs.Look.{goal_look}
 use Rattle.kl1_model.specs.Control.{message_term, Control, control_of}
-use Rattle.kl1_model.specs.State.{Task, monitor, reduces, Goal, Origin, Shoen, State, goal_at, shoen_at, replace_in_task, replace_in_goal, replace_in_origin, replace_in_shoen, without_goal, with_name}
+use Rattle.kl1_model.specs.State.{Task, monitor, reduces, substitutes, Goal, Origin, Shoen, State, has_substitutes, goal_at, shoen_at, replace_in_task, replace_in_goal, replace_in_origin, replace_in_shoen, without_goal, with_name}
 use Rattle.kl1_model.specs.Tree.{charge}
-use Rattle.kl1_model.specs.Event.{is_number, is_range, most_line_bytes, with_entry}
-use Rattle.kl1_model.specs.Report.{report, exception, failure, exhaustion, started_report, exhausted_report}
+use Rattle.kl1_model.specs.Event.{is_number, is_range, with_entry}
+use Rattle.kl1_model.specs.Report.{report, is_reported, exception, exception_with, failure, exhaustion, started_report, exhausted_report}
 use Rattle.kl1_model.specs.Opening.{start_line, may_start, opening_goals, with_shoen, open_shoen, with_next_variables, start_goal, has_room_for_child, child_shoen, open_child}
-use Rattle.kl1_model.specs.Reduction.{Move, commits, raises, unifies, names, opens, goes, moves, reads, priority_of, goals_from, has_room_for, committed, unified, equation, or_exhaustion, moved, heard, acted, term_move}
+use Rattle.kl1_model.specs.Reduction.{Move, commits, raises, unifies, names, opens, goes, gives_way, moves, reads, priority_of, goals_from, has_room_for, committed, replaced_by, substituted_by, raised, unified, equation, or_exhaustion, named_by, moved, heard, acted, term_move, substitute_move}
+use Rattle.kl1_model.specs.Answering.{answer_line, may_answer, unanswered_at, answered}
 use Rattle.kl1_model.specs.Sending.{origin_with, with_control_tail, sent_on}
 use Rattle.kl1_model.specs.laws.TreeLaws.{IsTree}
 use Rattle.kl1_model.proofs.TreeKeeps.{kept_tree}
@@ -29,19 +31,39 @@ use Rattle.kl1_model_laws.specs.ControlLaws.{is_unbound, messages_then, ControlT
 use Rattle.kl1_model_laws.proofs.Allowances.{found_number}
 use Rattle.kl1_model_laws.proofs.Reaching.{Keeping, holds_reached}
 use Rattle.kl1_model_laws.proofs.Alike.{begun, begun_shoen}
-use Rattle.kl1_model_laws.proofs.Holds.{Holds, holds_weaker, holds_unchanged, holds_substituted, holds_highest, holds_both, holds_positive, holds_solved, Places, InMove, in_move, holds_term_at}
+use Rattle.kl1_model_laws.proofs.Holds.{Holds, holds_weaker, holds_unchanged, holds_substituted, holds_highest, holds_both, holds_positive, holds_solved, Places, InMove, in_move, in_substitute, holds_unanswered, holds_term_at}
 use Rattle.kl1_model_laws.proofs.Each.{all_weaker, all_append, found_shoen, the_goal, Only, only}
-use Rattle.kl1_model_laws.proofs.Owners.{Free, IsFree, TaskFree, Console, ControlOf, Owned, Of, stream_replaced, stream_longer, term_raised, raised, own_if, own_report, own_all, fewer, own_settle, own_settle_charged, own_heard}
+use Rattle.kl1_model_laws.proofs.Owners.{Free, IsFree, TaskFree, Console, ControlOf, Owned, Of, stream_replaced, stream_longer, term_raised, own_higher, own_replace, own_if, own_report, report_last, own_all, fewer, own_settle, own_settle_charged, own_heard}
 
 -- ---- moves
 
-own_unified : (c : ℕ → ℕ) (n : ℕ) (goal a b : Term) (o : Option (List Replacement)) (s : State) → mgu (equation a b) ≡ o → IsFree c s.last_variable goal → IsFree c s.last_variable a → IsFree c s.last_variable b → Of c s → Of c (unified n goal o s)
-own_unified c n goal a b None s e f g h own = own_report c n (exception failure goal) s (tt, (f, tt)) own
-own_unified c n goal a b (Some rs) s e f g h own = own_all c rs s (holds_solved (Free c s.last_variable) a b rs g h e) own
+-- a goal in the place of another, with free variables alone
+own_placed : (c : ℕ → ℕ) (g : Goal) (task : Task) (s : State) → TaskFree c s.last_variable task → Of c s → Of c (replaced_by g task s)
+own_placed c g task s f a = record { goals = all_append (λ k. TaskFree c s.last_variable k.task) s.goals _ a.goals (f, tt); shoens = a.shoens; above = a.above }
 
-own_or : (b : Bool) (c : ℕ → ℕ) (n : ℕ) (goal : Term) (t s : State) → IsFree c s.last_variable goal → Of c t → Of c s → Of c (or_exhaustion b n goal t s)
-own_or true c n goal t s f a b = a
-own_or false c n goal t s f a b = own_report c n (exception exhaustion goal) s (tt, (f, tt)) b
+-- an exception, with what a substitute waits for
+own_substituted : (c : ℕ → ℕ) (g : Goal) (kind : List ℕ) (t : Term) (s : State) → IsFree c s.last_variable t → Of c s → Of c (substituted_by g kind t s)
+own_substituted c g kind t s f a =
+    let new = suc s.last_variable in
+    let free : IsFree c new (variable new) = (a.above new (omega arith), omega arith) in
+    let told = exception_with kind t (variable new) in
+    let u = record s { last_variable = new } in
+    let b : Of c u = own_higher c s.last_variable new s.goals s.shoens (omega arith) a in
+    own_placed c g (substitutes (variable new)) (report g.shoen told u) (term_raised c new (report g.shoen told u).last_variable (variable new) (report_last g.shoen told u) free)
+    (own_report c g.shoen told u (tt, (term_raised c s.last_variable new t (omega arith) f, (free, tt))) b)
+
+own_raised : (c : ℕ → ℕ) (g : Goal) (kind : List ℕ) (t : Term) (s : State) → IsFree c s.last_variable t → Of c s → Of c (raised g kind t s)
+own_raised c g kind t s f a =
+    own_if (has_substitutes s.rules && is_reported g.shoen (exception kind t) s) c (substituted_by g kind t s) (report g.shoen (exception kind t) s)
+    (own_substituted c g kind t s f a) (own_report c g.shoen (exception kind t) s (tt, (f, tt)) a)
+
+own_unified : (c : ℕ → ℕ) (g : Goal) (t a b : Term) (o : Option (List Replacement)) (s : State) → mgu (equation a b) ≡ o → IsFree c s.last_variable t → IsFree c s.last_variable a → IsFree c s.last_variable b → Of c s → Of c (unified g t o s)
+own_unified c g t a b None s e f h k own = own_raised c g failure t s f own
+own_unified c g t a b (Some rs) s e f h k own = own_all c rs s (holds_solved (Free c s.last_variable) a b rs h k e) own
+
+own_or : (b : Bool) (c : ℕ → ℕ) (g : Goal) (t : Term) (u s : State) → IsFree c s.last_variable t → Of c u → Of c s → Of c (or_exhaustion b g t u s)
+own_or true c g t u s f a b = a
+own_or false c g t u s f a b = own_raised c g exhaustion t s f b
 
 -- a shoen that opens, with its goal
 own_open : (c : ℕ → ℕ) (h : Shoen) (goal : Term) (s : State) → Owned c s.last_variable h → IsFree c s.last_variable goal → Of c s → Of c (open_shoen h goal s)
@@ -85,7 +107,7 @@ own_commit c g k s places a =
     let last = s.last_variable in
     let top = highest_in (terms_of (goals_of k.clause.body)) in
     let next = last + fresh_variables k.clause in
-    let up = raised c last next s.goals s.shoens (omega arith) a in
+    let up = own_higher c last next s.goals s.shoens (omega arith) a in
     let body = body_holds (λ v. v ≤ top) (Free c next) (body_variable k.clause k.places last) (λ v low. body_case (nat_le v (head_variables k.clause)) c last top (head_variables k.clause) v k.places refl low a.above places) (goals_of k.clause.body) (each_below top (goals_of k.clause.body) (omega arith)) in
     let ps = map (priority_of (shoen_at g.shoen s.shoens) g.priority) (body_priorities k.clause) in
     record {
@@ -95,16 +117,17 @@ own_commit c g k s places a =
     }
 
 own_moved : (c : ℕ → ℕ) (g : Goal) (t : Term) (m : Move) (s : State) → IsFree c s.last_variable t → InMove (Free c s.last_variable) m → Of c s → Of c (moved g t m s)
-own_moved c g t (commits k) s f h a = own_or (has_room_for s k.clause) c g.shoen t (committed g k s) s f (own_commit c g k s h a) a
-own_moved c g t (raises kind) s f h a = own_report c g.shoen (exception kind t) s (tt, (f, tt)) a
-own_moved c g t (unifies x y) s f h a = own_unified c g.shoen t x y (mgu (equation x y)) s refl f h.0 h.1 a
+own_moved c g t (commits k) s f h a = own_or (has_room_for s k.clause) c g t (committed g k s) s f (own_commit c g k s h a) a
+own_moved c g t (raises kind) s f h a = own_raised c g kind t s f a
+own_moved c g t (unifies x y) s f h a = own_unified c g t x y (mgu (equation x y)) s refl f h.0 h.1 a
 own_moved c g t (names text x) s f h a =
     let u = record s { names = with_name s.names text } in
     let b : Of c u = record { goals = a.goals; shoens = a.shoens; above = a.above } in
-    own_or (nat_le (length (with_name s.names text)) most_names) c g.shoen t (unified g.shoen t (mgu (equation x (atom text))) u) s f (own_unified c g.shoen t x (atom text) (mgu (equation x (atom text))) u refl f h tt b) a
+    own_or (nat_le (length (with_name s.names text)) MOST_NAMES) c g t (named_by g t text x s) s f (own_unified c g t x (atom text) (mgu (equation x (atom text))) u refl f h tt b) a
 own_moved c g t (opens o) s f h a =
-    own_or (has_room_for_child s g.shoen) c g.shoen t (open_child s g.shoen o) s f (own_open c (child_shoen s g.shoen o) o.goal s (record { tail = h.2; control = h.1 }) h.0 a) a
+    own_or (has_room_for_child s g.shoen) c g t (open_child s g.shoen o) s f (own_open c (child_shoen s g.shoen o) o.goal s (record { tail = h.2; control = h.1 }) h.0 a) a
 own_moved c g t goes s f h a = a
+own_moved c g t gives_way s f h a = own_placed c g (reduces t) s f a
 
 own_acted : (c : ℕ → ℕ) (g : Goal) (t : Term) (m : Move) (s : State) → IsFree c s.last_variable t → InMove (Free c s.last_variable) m → Of c s → Of c (acted g (moves t m) s)
 own_acted c g t m s f h a =
@@ -134,6 +157,7 @@ term_beside c last v n top t e l a = holds_weaker (Free c last) (Free (with_tail
 task_beside : (c : ℕ → ℕ) (last v n top : ℕ) (task : Task) → last < v → last ≤ top → TaskFree c last task → TaskFree (with_tail c v n) top task
 task_beside c last v n top monitor e l a = tt
 task_beside c last v n top (reduces t) e l a = term_beside c last v n top t e l a
+task_beside c last v n top (substitutes t) e l a = term_beside c last v n top t e l a
 
 control_beside : (c : ℕ → ℕ) (last v n top k : ℕ) (t : Term) (o : Option Origin) → last < v → last ≤ top → ControlOf c last k t o → ControlOf (with_tail c v n) top k t o
 control_beside c last v n top k t None e l a = term_beside c last v n top t e l a
@@ -145,6 +169,7 @@ control_beside c last v n top k t (Some o) e l a = record {
   owner = other_tail c v n a.tail (λ same. let x = a.low in omega (arith, x, same, e)) ∙ a.owner;
   some = a.some;
   low = let x = a.low in omega (arith, x, l);
+  reports = term_beside c last v n top o.reports e l a.reports;
 }
 
 owned_beside : (c : ℕ → ℕ) (last v n top : ℕ) (h : Shoen) → last < v → last ≤ top → Owned c last h → Owned (with_tail c v n) top h
@@ -156,6 +181,11 @@ above_beside c last v n top l e f w g = other_tail c v n w (λ same. omega (arit
 task_unchanged : (c : ℕ → ℕ) (last v : ℕ) (u : Term) (task : Task) → (c v ≡ 0 → ⊥) → TaskFree c last task → replace_in_task v u task ≡ task
 task_unchanged c last v u monitor f a = refl
 task_unchanged c last v u (reduces t) f a = ap reduces (holds_unchanged (Free c last) v u (λ x. f x.0) t a)
+task_unchanged c last v u (substitutes t) f a = ap substitutes (holds_unchanged (Free c last) v u (λ x. f x.0) t a)
+
+-- a term without a control tail has none after a message either, and stays
+term_sent : (c : ℕ → ℕ) (last v next n : ℕ) (u t : Term) → (c v ≡ 0 → ⊥) → last < next → IsFree c last t → IsFree (with_tail c next n) next (replace v u t)
+term_sent c last v next n u t f e a = subst (IsFree (with_tail c next n) next) (sym (holds_unchanged (Free c last) v u (λ x. f x.0) t a)) (term_beside c last next n next t e (omega (arith, e)) a)
 
 goals_sent : (c : ℕ → ℕ) (last v next n : ℕ) (u : Term) (gs : List Goal) → (c v ≡ 0 → ⊥) → last < next → AllByRecursion (λ g. TaskFree c last g.task) gs → AllByRecursion (λ g. TaskFree (with_tail c next n) next g.task) (map (replace_in_goal v u) gs)
 goals_sent c last v next n u [] f e a = tt
@@ -164,8 +194,7 @@ goals_sent c last v next n u (g ∷ gs) f e a =
 
 -- a control stream of another shoen
 control_aside : (c : ℕ → ℕ) (last v next n k : ℕ) (u t : Term) (o : Option Origin) → (c v ≡ 0 → ⊥) → (c v ≡ k → ⊥) → last < next → ControlOf c last k t o → ControlOf (with_tail c next n) next k (replace v u t) (option_map (replace_in_origin v u) o)
-control_aside c last v next n k u t None f g e a =
-    subst (IsFree (with_tail c next n) next) (sym (holds_unchanged (Free c last) v u (λ x. f x.0) t a)) (term_beside c last next n next t e (omega (arith, e)) a)
+control_aside c last v next n k u t None f g e a = term_sent c last v next n u t f e a
 control_aside c last v next n k u t (Some o) f g e a =
     let stays : replace v u (variable a.tail) ≡ variable a.tail = ap (λ b. if b then u else variable a.tail) (ne_eqb a.tail v (λ same. g (ap c (sym same) ∙ a.owner))) in record {
       tail = a.tail;
@@ -175,12 +204,13 @@ control_aside c last v next n k u t (Some o) f g e a =
       owner = other_tail c next n a.tail (λ same. let x = a.low in omega (arith, x, same, e)) ∙ a.owner;
       some = a.some;
       low = let x = a.low in omega (arith, x, e);
+      reports = term_sent c last v next n u o.reports f e a.reports;
     }
 
 -- the control stream of the shoen to which a message is sent
-control_sent : (c : ℕ → ℕ) (last v next n : ℕ) (m : Message) (t : Term) (o : Origin) → o.control ≡ variable v → last < next → (k : Console c last n t o) →
+control_sent : (c : ℕ → ℕ) (last v next n : ℕ) (m : Message) (t : Term) (o : Origin) → o.control ≡ variable v → (c v ≡ 0 → ⊥) → last < next → (k : Console c last n t o) →
     Console (with_tail c next n) next n (replace v (cell (message_term m) (variable next)) t) (record (replace_in_origin v (cell (message_term m) (variable next)) o) { control = variable next })
-control_sent c last v next n m t o is e k =
+control_sent c last v next n m t o is f e k =
     let u = cell (message_term m) (variable next) in
     let same : variable k.tail ≡ variable v = sym k.is ∙ is in
     let put : replace v u (variable k.tail) ≡ u = ap (replace v u) same ∙ ap (λ b. if b then u else variable v) (eq-eqb v v refl) in record {
@@ -191,6 +221,7 @@ control_sent c last v next n m t o is e k =
       owner = own_tail c next n;
       some = k.some;
       low = omega arith;
+      reports = term_sent c last v next n u o.reports f e k.reports;
     }
 
 shoen_sent : (b : Bool) (c : ℕ → ℕ) (last v next n : ℕ) (m : Message) (k h : Shoen) (o : Origin) → k.number == n ≡ b → (k.number ≡ n → k ≡ h) → h.number ≡ n → h.origin ≡ Some o → o.control ≡ variable v → c v ≡ n → 0 < n → last < next → Owned c last k →
@@ -201,14 +232,14 @@ shoen_sent true c last v next n m k h o e only at there is owner some l a =
     let origin : k.origin ≡ Some o = ap (λ (x : Shoen). x.origin) (only number) ∙ there in
     let own : Console c last n k.control o = subst (λ (j : ℕ). Console c last j k.control o) number (subst (ControlOf c last k.number k.control) origin a.control) in
     record {
-      tail = subst (IsFree (with_tail c next n) next) (sym (holds_unchanged (Free c last) v u (λ x. let y = x.0 in omega (arith, y, owner, some)) k.tail a.tail)) (term_beside c last next n next k.tail l (omega (arith, l)) a.tail);
+      tail = term_sent c last v next n u k.tail (λ x. omega (arith, x, owner, some)) l a.tail;
       control = subst (λ (x : Option Origin). ControlOf (with_tail c next n) next k.number (replace v u k.control) (option_map (origin_with (variable next)) (option_map (replace_in_origin v u) x))) (sym origin)
-          (subst (λ (j : ℕ). Console (with_tail c next n) next j (replace v u k.control) (origin_with (variable next) (replace_in_origin v u o))) (sym number) (control_sent c last v next n m k.control o is l own));
+          (subst (λ (j : ℕ). Console (with_tail c next n) next j (replace v u k.control) (origin_with (variable next) (replace_in_origin v u o))) (sym number) (control_sent c last v next n m k.control o is (λ x. omega (arith, x, owner, some)) l own));
     }
 shoen_sent false c last v next n m k h o e only at there is owner some l a =
     let u = cell (message_term m) (variable next) in
     record {
-      tail = subst (IsFree (with_tail c next n) next) (sym (holds_unchanged (Free c last) v u (λ x. let y = x.0 in omega (arith, y, owner, some)) k.tail a.tail)) (term_beside c last next n next k.tail l (omega (arith, l)) a.tail);
+      tail = term_sent c last v next n u k.tail (λ x. omega (arith, x, owner, some)) l a.tail;
       control = control_aside c last v next n k.number u k.control k.origin (λ x. omega (arith, x, owner, some)) (λ x. eqb-false k.number n e (sym x ∙ owner)) l a.control;
     }
 
@@ -255,7 +286,7 @@ start_free c last n t numbered above =
 
 start_numbered : (allowance low high : ℕ) (t : Term) → may_start allowance low high t ≡ true → is_numbered t ≡ true
 start_numbered allowance low high t may =
-    let a = and_parts (is_number allowance && is_range low high && is_goal t && is_writable t && is_numbered t) (nat_le (length (start_line allowance low high t)) most_line_bytes) may in
+    let a = and_parts (is_number allowance && is_range low high && is_goal t && is_writable t && is_numbered t) (nat_le (length (start_line allowance low high t)) MOST_LINE_BYTES) may in
     (and_parts (is_number allowance && is_range low high && is_goal t && is_writable t) (is_numbered t) a.0).1
 
 own_start : (s : State) (allowance low high : ℕ) (t : Term) → may_start allowance low high t ≡ true → Tails s → Tails (start_goal s allowance low high t)
@@ -276,21 +307,56 @@ own_start s allowance low high t may p =
       shoens = all_weaker (Owned c last) (Owned d top) (λ k f. owned_beside c last (suc count) n top k less up f) s.shoens a.shoens;
       above = above_beside c last (suc count) n top up (omega arith) a.above;
     } in
+    let free : IsFree d top (variable top) = (other_tail c (suc count) n top (λ same. omega (arith, same)) ∙ a.above top (omega arith), omega arith) in
     let own : Owned d top h = record {
-      tail = (other_tail c (suc count) n top (λ same. omega (arith, same)) ∙ a.above top (omega arith), omega arith);
-      control = record { tail = suc count; messages = []; is = refl; stream = refl; owner = own_tail c (suc count) n; some = omega arith; low = omega arith };
+      tail = free;
+      control = record { tail = suc count; messages = []; is = refl; stream = refl; owner = own_tail c (suc count) n; some = omega arith; low = omega arith; reports = free };
     } in
     (d, own_open d h goal (begun s t) own (start_free c last n t (start_numbered allowance low high t may) a.above) b)
 
+-- ---- answers
+
+answer_numbered : (n report : ℕ) (t : Term) → may_answer n report t ≡ true → is_numbered t ≡ true
+answer_numbered n report t may =
+    let a = and_parts (is_number n && is_number report && nat_le 1 report && is_goal t && is_writable t && is_numbered t) (nat_le (length (answer_line n report t)) MOST_LINE_BYTES) may in
+    (and_parts (is_number n && is_number report && nat_le 1 report && is_goal t && is_writable t) (is_numbered t) a.0).1
+
+-- an answer's variables are new
+answer_free : (c : ℕ → ℕ) (last : ℕ) (t : Term) → is_numbered t ≡ true → ((w : ℕ) → last < w → c w ≡ 0) → IsFree c (last + highest t) (with_next_variables last t)
+answer_free c last t numbered above =
+    holds_substituted (λ v. (0 < v) × (v ≤ highest t)) (Free c (last + highest t)) (λ v. variable (last + v)) (λ v r. let x = r.0 in let y = r.1 in (above (last + v) (omega (arith, x)), omega (arith, y))) t
+    (holds_both (λ v. 0 < v) (λ v. v ≤ highest t) t (holds_positive t numbered) (holds_highest (highest t) t (omega arith)))
+
+own_answered : (s : State) (n report v : ℕ) (t : Term) (h : Shoen) (o : Origin) → shoen_at n s.shoens ≡ Some h → h.origin ≡ Some o → may_answer n report t ≡ true → unanswered_at o.reports report ≡ Some v → Tails s → Tails (answered v t s)
+own_answered s n report v t h o there e may is p =
+    let c = p.0 in
+    let a = p.1 in
+    let last = s.last_variable in
+    let top = last + highest t in
+    let up : last ≤ top = omega arith in
+    let told = (the_console c last n s.shoens h o there e a.shoens).reports in
+    let free = holds_unanswered (Free c last) o.reports report v told is in
+    let b = own_replace c top v (with_next_variables last t) s.goals s.shoens free.0 (answer_free c last t (answer_numbered n report t may) a.above) (own_higher c last top s.goals s.shoens up a) in
+    (c, record { goals = b.goals; shoens = b.shoens; above = b.above })
+
 -- ---- events
 
-own_moving : (s : State) (n clause : ℕ) (g : Goal) (t : Term) (m : Move) → goal_at n s.goals ≡ Some g → g.task ≡ reduces t → term_move s.modules t clause (call_of t) ≡ Some m → Tails s → Tails (acted g (moves t m) (with_entry s))
+own_acts : (c : ℕ → ℕ) (g : Goal) (t : Term) (m : Move) (s : State) → IsFree c s.last_variable t → InMove (Free c s.last_variable) m → Of c s → Tails (acted g (moves t m) (with_entry s))
+own_acts c g t m s f h a = (c, own_acted c g t m (with_entry s) f h (record { goals = a.goals; shoens = a.shoens; above = a.above }))
+
+own_moving : (s : State) (n clause : ℕ) (g : Goal) (t : Term) (m : Move) → goal_at n s.goals ≡ Some g → g.task ≡ reduces t → term_move s.rules s.modules t clause (call_of t) ≡ Some m → Tails s → Tails (acted g (moves t m) (with_entry s))
 own_moving s n clause g t m there task e p =
     let c = p.0 in
     let a = p.1 in
     let free : IsFree c s.last_variable t = subst (TaskFree c s.last_variable) task (the_goal (λ g. TaskFree c s.last_variable g.task) n s.goals g there a.goals) in
-    let b : Of c (with_entry s) = record { goals = a.goals; shoens = a.shoens; above = a.above } in
-    (c, own_acted c g t m (with_entry s) free (in_move (Free c s.last_variable) s.modules t clause m free e) b)
+    own_acts c g t m s free (in_move (Free c s.last_variable) s.rules s.modules t clause m free e) a
+
+own_substituting : (s : State) (n : ℕ) (g : Goal) (t : Term) (m : Move) → goal_at n s.goals ≡ Some g → g.task ≡ substitutes t → substitute_move (goal_look t) ≡ Some m → Tails s → Tails (acted g (moves t m) (with_entry s))
+own_substituting s n g t m there task e p =
+    let c = p.0 in
+    let a = p.1 in
+    let free : IsFree c s.last_variable t = subst (TaskFree c s.last_variable) task (the_goal (λ g. TaskFree c s.last_variable g.task) n s.goals g there a.goals) in
+    own_acts c g t m s free (in_substitute (Free c s.last_variable) (goal_look t) m e) a
 
 own_reading : (s : State) (g : Goal) (h : Shoen) (x : Control) → IsTree s → shoen_at g.shoen s.shoens ≡ Some h → control_of h.control ≡ x → Tails s → Tails (acted g (reads x) (with_entry s))
 own_reading s g h x tree there e p =
@@ -306,26 +372,28 @@ entered s p = let a = p.1 in (p.0, record { goals = a.goals; shoens = a.shoens; 
 
 keeping : Keeping Tails
 keeping = record {
-  fresh = λ name names sessions. (λ v. 0, record { goals = tt; shoens = tt; above = λ v e. refl });
+  fresh = λ rules name names sessions. (λ v. 0, record { goals = tt; shoens = tt; above = λ v e. refl });
   seats = λ s n p. let a = p.1 in (p.0, record { goals = a.goals; shoens = a.shoens; above = a.above });
   loads = λ s source m is free p. let a = p.1 in (p.0, record { goals = a.goals; shoens = a.shoens; above = a.above });
   starts = λ s allowance low high t tree may room free p. entered (start_goal s allowance low high t) (own_start s allowance low high t may p);
   sends = λ s n m h o tree there is free p. entered (sent_on n m o.control s) (own_sent s n m h o tree there is p);
   moving = λ s n clause g t m tree there task is enabled free p. own_moving s n clause g t m there task is p;
+  substituting = λ s n g t m tree there task is enabled free p. own_substituting s n g t m there task is p;
+  answers = λ s n number v t h o tree there origin may room is free p. entered (answered v t s) (own_answered s n number v t h o there origin may is p);
   reading = λ s n g h c tree there found is free p. own_reading s g h c tree found is p;
 }
 
 pub control_tails_are_unbound : ControlTailsAreUnbound
-control_tails_are_unbound name es n h o there e =
-    let s = reached name es in
-    let p = holds_reached Tails keeping name es in
+control_tails_are_unbound rules name es n h o there e =
+    let s = reached rules name es in
+    let p = holds_reached Tails keeping rules name es in
     let a = p.1 in
     ap is_unbound (the_console p.0 s.last_variable n s.shoens h o there e a.shoens).is
 
 pub control_streams_are_messages : ControlStreamsAreMessages
-control_streams_are_messages name es n h o there e =
-    let s = reached name es in
-    let p = holds_reached Tails keeping name es in
+control_streams_are_messages rules name es n h o there e =
+    let s = reached rules name es in
+    let p = holds_reached Tails keeping rules name es in
     let a = p.1 in
     let k = the_console p.0 s.last_variable n s.shoens h o there e a.shoens in
     (k.messages, k.stream ∙ ap (messages_then k.messages) (sym k.is))

@@ -3,6 +3,7 @@ use Rattle.std.specs.Prelude.{◌≡◌, ◌^◌, codes, List, [], ◌∷◌, �
 use Rattle.kl1_model.specs.Term.{Term, variable, integer, atom, structure, none, more}
 use Rattle.kl1_model.specs.Print.{print}
 use Rattle.kl1_model.specs.declared.life.Life.TheVariants.{Terminated}
+use Rattle.kl1_model.specs.declared.rules.Rules.TheVariants.{One}
 use Rattle.kl1_model.specs.State.{State, fresh, shoen_at, Origin}
 use Rattle.kl1_model.specs.Event.{Event, load, start, reduce, reduced, ran, quiet_is, refused, syntax, exists, step_refused, journal_full}
 use Rattle.kl1_model.specs.Step.{step, origin_at}
@@ -34,11 +35,11 @@ three_goals = lines (codes ":- module t." ∷ codes "p :- true | z:q(X), f(X) = 
 
 -- an account that has loaded a text
 abbrev pub having : List ℕ → State
-having text = (step (fresh (codes "alice")) (load text)).state
+having text = (step (fresh One (codes "alice")) (load text)).state
 
 -- an account in this state, with a journal in which nothing stands
 abbrev pub with_a_journal : State → Kept
-with_a_journal s = record { state = s; journal = new_journal [] 0 }
+with_a_journal s = record { state = s; journal = new_journal s.rules [] 0 }
 
 -- what a line's command does to an account in this state
 abbrev pub line_done : State → Option Command → Done
@@ -132,19 +133,19 @@ pub record AccountRowsHold : Type 0 where
   -- a goal that fails steps by clause 0
   pub first_that_fails : first (after_lines (having one_fact) (codes "start 10 0 10 t:q(X,c)" ∷ [])) ≡ Some (record { goal = 2; clause = 0 })
   -- an allowance of 2 ^ 63 is no event
-  pub allowance_of_64_bits : (step (fresh (codes "alice")) (start (2 ^ 63) 0 1 true_term)).reply ≡ refused syntax
+  pub allowance_of_64_bits : (step (fresh One (codes "alice")) (start (2 ^ 63) 0 1 true_term)).reply ≡ refused syntax
   -- a range from high to low is no event
-  pub low_over_high : (step (fresh (codes "alice")) (start 1 2 1 true_term)).reply ≡ refused syntax
+  pub low_over_high : (step (fresh One (codes "alice")) (start 1 2 1 true_term)).reply ≡ refused syntax
   -- a goal whose variables are not numbered by first occurrence is no event
-  pub variables_not_in_order : (step (fresh (codes "alice")) (start 1 0 1 (equals (variable 2) (variable 1)))).reply ≡ refused syntax
+  pub variables_not_in_order : (step (fresh One (codes "alice")) (start 1 0 1 (equals (variable 2) (variable 1)))).reply ≡ refused syntax
   -- a goal with a variable 0 is no event
-  pub variable_0 : (step (fresh (codes "alice")) (start 1 0 1 (equals (variable 0) (variable 1)))).reply ≡ refused syntax
+  pub variable_0 : (step (fresh One (codes "alice")) (start 1 0 1 (equals (variable 0) (variable 1)))).reply ≡ refused syntax
   -- a goal with an integer that is too large is no event
-  pub integer_of_65_bits : (step (fresh (codes "alice")) (start 1 0 1 (equals (variable 1) (integer (pos (2 ^ 63)))))).reply ≡ refused syntax
+  pub integer_of_65_bits : (step (fresh One (codes "alice")) (start 1 0 1 (equals (variable 1) (integer (pos (2 ^ 63)))))).reply ≡ refused syntax
   -- a goal's number of 2 ^ 63 is no event
-  pub goal_number_of_64_bits : (step (fresh (codes "alice")) (reduce (2 ^ 63) 0)).reply ≡ refused syntax
+  pub goal_number_of_64_bits : (step (fresh One (codes "alice")) (reduce (2 ^ 63) 0)).reply ≡ refused syntax
   -- a source of 65,537 bytes is no event
-  pub source_of_65537_bytes : (step (fresh (codes "alice")) (load (replicate 65537 32))).reply ≡ refused syntax
+  pub source_of_65537_bytes : (step (fresh One (codes "alice")) (load (replicate 65537 32))).reply ≡ refused syntax
   -- a full journal refuses a load
   pub full_journal_load : (step (with_entries 262144 (after_lines (having one_fact) (codes "start 10 0 10 t:q(X,c)" ∷ []))) (load app_text)).reply ≡ refused journal_full
   -- and before that a module that is there
@@ -166,25 +167,25 @@ pub record AccountRowsHold : Type 0 where
   -- a refused start takes no names
   pub refused_start_takes_no_names : (after_lines (having app_text) (codes "start 1 2 1 f(X,a) = g(f,b)" ∷ [])).names ≡ codes "app" ∷ []
   -- a result outside 64 bits is an exception
-  pub sum_that_overflows : stream 1 (after_lines (fresh (codes "alice")) (codes "start 10 0 10 X := 9223372036854775807 + 1" ∷ codes "run 10" ∷ [])) ≡ codes "[started,exception(overflow,':='(_1,'+'(9223372036854775807,1))),terminated]"
+  pub sum_that_overflows : stream 1 (after_lines (fresh One (codes "alice")) (codes "start 10 0 10 X := 9223372036854775807 + 1" ∷ codes "run 10" ∷ [])) ≡ codes "[started,exception(overflow,':='(_1,'+'(9223372036854775807,1))),terminated]"
   -- so is an expression of a wrong type
-  pub expression_of_a_wrong_type : stream 1 (after_lines (fresh (codes "alice")) (codes "start 10 0 10 X := a + Y" ∷ codes "run 10" ∷ [])) ≡ codes "[started,exception(illegal_input,':='(_1,'+'(a,_2))),terminated]"
+  pub expression_of_a_wrong_type : stream 1 (after_lines (fresh One (codes "alice")) (codes "start 10 0 10 X := a + Y" ∷ codes "run 10" ∷ [])) ≡ codes "[started,exception(illegal_input,':='(_1,'+'(a,_2))),terminated]"
   -- and a zero divisor
-  pub division_by_zero : stream 1 (after_lines (fresh (codes "alice")) (codes "start 10 0 10 X := 1 / 0" ∷ codes "run 10" ∷ [])) ≡ codes "[started,exception(illegal_input,':='(_1,'/'(1,0))),terminated]"
+  pub division_by_zero : stream 1 (after_lines (fresh One (codes "alice")) (codes "start 10 0 10 X := 1 / 0" ∷ codes "run 10" ∷ [])) ≡ codes "[started,exception(illegal_input,':='(_1,'/'(1,0))),terminated]"
   -- a result is unified, which may fail
-  pub result_that_clashes : stream 1 (after_lines (fresh (codes "alice")) (codes "start 10 0 10 3 := 1 + 1" ∷ codes "run 10" ∷ [])) ≡ codes "[started,exception(failure,':='(3,'+'(1,1))),terminated]"
+  pub result_that_clashes : stream 1 (after_lines (fresh One (codes "alice")) (codes "start 10 0 10 3 := 1 + 1" ∷ codes "run 10" ∷ [])) ≡ codes "[started,exception(failure,':='(3,'+'(1,1))),terminated]"
   -- or agree
-  pub result_that_agrees : stream 1 (after_lines (fresh (codes "alice")) (codes "start 10 0 10 2 := 1 + 1" ∷ codes "run 10" ∷ [])) ≡ codes "[started,terminated]"
+  pub result_that_agrees : stream 1 (after_lines (fresh One (codes "alice")) (codes "start 10 0 10 2 := 1 + 1" ∷ codes "run 10" ∷ [])) ≡ codes "[started,terminated]"
   -- a variable becomes its result
-  pub result_in_the_goal : option_map (λ o. print o.goal) (origin_at 1 (after_lines (fresh (codes "alice")) (codes "start 10 0 10 X := 2 * 3" ∷ codes "run 10" ∷ [])).shoens) ≡ Some (codes "':='(6,'*'(2,3))")
+  pub result_in_the_goal : option_map (λ o. print o.goal) (origin_at 1 (after_lines (fresh One (codes "alice")) (codes "start 10 0 10 X := 2 * 3" ∷ codes "run 10" ∷ [])).shoens) ≡ Some (codes "':='(6,'*'(2,3))")
   -- a goal waits while its expression does
-  pub expression_that_waits : (line_done (after_lines (fresh (codes "alice")) (codes "start 10 0 10 X := 1 + Y" ∷ [])) (parse (codes "quiet"))).reply ≡ quiet_is true
+  pub expression_that_waits : (line_done (after_lines (fresh One (codes "alice")) (codes "start 10 0 10 X := 1 + Y" ∷ [])) (parse (codes "quiet"))).reply ≡ quiet_is true
   -- and is refused
-  pub expression_by_clause_0 : (line_done (after_lines (fresh (codes "alice")) (codes "start 10 0 10 X := 1 + Y" ∷ [])) (parse (codes "reduce 2 0"))).reply ≡ refused step_refused
+  pub expression_by_clause_0 : (line_done (after_lines (fresh One (codes "alice")) (codes "start 10 0 10 X := 1 + Y" ∷ [])) (parse (codes "reduce 2 0"))).reply ≡ refused step_refused
   -- a built-in goal steps by clause 0 alone
-  pub built_in_goal_by_clause_1 : (line_done (after_lines (fresh (codes "alice")) (codes "start 10 0 10 X := 1 + 1" ∷ [])) (parse (codes "reduce 2 1"))).reply ≡ refused step_refused
+  pub built_in_goal_by_clause_1 : (line_done (after_lines (fresh One (codes "alice")) (codes "start 10 0 10 X := 1 + 1" ∷ [])) (parse (codes "reduce 2 1"))).reply ≡ refused step_refused
   -- by which it steps
-  pub built_in_goal_by_clause_0 : (line_done (after_lines (fresh (codes "alice")) (codes "start 10 0 10 X := 1 + 1" ∷ [])) (parse (codes "reduce 2 0"))).reply ≡ reduced
+  pub built_in_goal_by_clause_0 : (line_done (after_lines (fresh One (codes "alice")) (codes "start 10 0 10 X := 1 + 1" ∷ [])) (parse (codes "reduce 2 0"))).reply ≡ reduced
   -- a clause below `otherwise` is open while the one above rejects by the first place that was reached
   pub clause_below_opens : first (after_lines (having (lines (codes ":- module m." ∷ codes "p(f(X),X) :- X > 5 | true." ∷ codes "otherwise." ∷ codes "p(X,Y)." ∷ codes "g :- p(V,1), V = f(W)." ∷ []))) (codes "start 9 0 9 m:g" ∷ codes "run 1" ∷ [])) ≡ Some (record { goal = 3; clause = 2 })
   -- and closed when another goal binds a variable, so that an earlier place is reached, of which nothing is known
@@ -210,6 +211,6 @@ pub record AccountRowsHold : Type 0 where
   -- clause 0 of a call that waits is refused
   pub clause_0_of_a_goal_that_waits : (line_done (after_lines (having one_fact) (codes "start 10 0 10 t:q(X,b)" ∷ [])) (parse (codes "reduce 2 0"))).reply ≡ refused step_refused
   -- a left side that stands in the expression is waited for
-  pub variable_in_its_own_expression : (line_done (after_lines (fresh (codes "alice")) (codes "start 10 0 10 X := X + 1" ∷ [])) (parse (codes "quiet"))).reply ≡ quiet_is true
+  pub variable_in_its_own_expression : (line_done (after_lines (fresh One (codes "alice")) (codes "start 10 0 10 X := X + 1" ∷ [])) (parse (codes "quiet"))).reply ≡ quiet_is true
   -- parentheses make a relation an operand
-  pub equation_of_an_equation : stream 1 (after_lines (fresh (codes "alice")) (codes "start 10 0 10 (a = b) = c" ∷ codes "run 10" ∷ [])) ≡ codes "[started,exception(failure,'='('='(a,b),c)),terminated]"
+  pub equation_of_an_equation : stream 1 (after_lines (fresh One (codes "alice")) (codes "start 10 0 10 (a = b) = c" ∷ codes "run 10" ∷ [])) ≡ codes "[started,exception(failure,'='('='(a,b),c)),terminated]"

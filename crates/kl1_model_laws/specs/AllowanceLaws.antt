@@ -1,5 +1,6 @@
 -- No reduction is charged past an allowance.
 use Rattle.std.specs.Prelude.{◌≡◌, ◌≤◌, ◌<◌, ℕ, true, false, List, Some}
+use Rattle.kl1_model.specs.declared.rules.Rules.{Rules}
 use Rattle.kl1_model.specs.State.{Goal, Shoen, State, goal_at, shoen_at, is_monitor}
 use Rattle.kl1_model.specs.Tree.{is_on_path, charged_of}
 use Rattle.kl1_model.specs.Event.{Event, reduce, reduced}
@@ -21,4 +22,4 @@ ReductionsStayWithin =
 
 -- and no shoen of an account was charged more than its allowance, whatever was done to the account since it was fresh
 abbrev pub NoneIsChargedMore : Type 0
-NoneIsChargedMore = (name : List ℕ) (es : List Event) (n : ℕ) (h : Shoen) → shoen_at n (reached name es).shoens ≡ Some h → charged_of (reached name es) n ≤ h.allowance
+NoneIsChargedMore = (rules : Rules) (name : List ℕ) (es : List Event) (n : ℕ) (h : Shoen) → shoen_at n (reached rules name es).shoens ≡ Some h → charged_of (reached rules name es) n ≤ h.allowance

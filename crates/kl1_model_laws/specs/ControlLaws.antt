@@ -1,5 +1,6 @@
 -- The control streams of the shoens that the console started.
 use Rattle.std.specs.Prelude.{◌≡◌, ℕ, Bool, true, false, List, [], ◌∷◌, Some}
+use Rattle.kl1_model.specs.declared.rules.Rules.{Rules}
 use Rattle.kl1_model.specs.declared.message.Message.{Message}
 use Rattle.kl1_model.specs.Term.{Term, variable}
 use Rattle.kl1_model.specs.Meaning.{cell}
@@ -21,10 +22,10 @@ messages_then (m ∷ ms) t = cell (message_term m) (messages_then ms t)
 -- the tail of the control stream that the console keeps of a shoen that it started is unbound in each account, whatever was done to
 -- the account since it was fresh
 abbrev pub ControlTailsAreUnbound : Type 0
-ControlTailsAreUnbound = (name : List ℕ) (es : List Event) (n : ℕ) (h : Shoen) (o : Origin) → shoen_at n (reached name es).shoens ≡ Some h → h.origin ≡ Some o → is_unbound o.control ≡ true
+ControlTailsAreUnbound = (rules : Rules) (name : List ℕ) (es : List Event) (n : ℕ) (h : Shoen) (o : Origin) → shoen_at n (reached rules name es).shoens ≡ Some h → h.origin ≡ Some o → is_unbound o.control ≡ true
 
 -- and what its monitor has still to read is messages, and then that tail
 abbrev pub ControlStreamsAreMessages : Type 0
 ControlStreamsAreMessages =
-    (name : List ℕ) (es : List Event) (n : ℕ) (h : Shoen) (o : Origin) → shoen_at n (reached name es).shoens ≡ Some h → h.origin ≡ Some o →
+    (rules : Rules) (name : List ℕ) (es : List Event) (n : ℕ) (h : Shoen) (o : Origin) → shoen_at n (reached rules name es).shoens ≡ Some h → h.origin ≡ Some o →
     (ms : List Message) × (h.control ≡ messages_then ms o.control)

@@ -1,6 +1,7 @@
 -- Which shoens terminate: those that are due, and each of them.
 use Rattle.std.specs.Prelude.{⊤, ◌≡◌, ℕ, ◌||◌, true, false, List, [], ◌∷◌}
 use Rattle.std.specs.List.{AllByRecursion}
+use Rattle.kl1_model.specs.declared.rules.Rules.{Rules}
 use Rattle.kl1_model.specs.State.{State}
 use Rattle.kl1_model.specs.Tree.{path, is_on_path}
 use Rattle.kl1_model.specs.Event.{Event}
@@ -36,4 +37,4 @@ NoneIsLeftDueAlone = (n : ℕ) (s : State) → IsTree s → AllByRecursion (λ m
 
 -- each living shoen of each account has a goal or a living child, whatever was done to the account since it was fresh
 abbrev pub LivingHaveGoals : Type 0
-LivingHaveGoals = (name : List ℕ) (es : List Event) (n : ℕ) → lives n (reached name es) ≡ true → has_goal n (reached name es) || has_living_child n (reached name es) ≡ true
+LivingHaveGoals = (rules : Rules) (name : List ℕ) (es : List Event) (n : ℕ) → lives n (reached rules name es) ≡ true → has_goal n (reached rules name es) || has_living_child n (reached rules name es) ≡ true

@@ -18,6 +18,14 @@ abort_ends_what_is_below_script = codes "accounts alice" ++ 10 ∷ [] ++ codes "
 abbrev pub abort_ends_what_is_below_output : List ℕ
 abort_ends_what_is_below_output = codes "alice + loaded n" ++ 10 ∷ [] ++ codes "alice + shoen 1" ++ 10 ∷ [] ++ codes "alice + 4" ++ 10 ∷ [] ++ codes "alice + sent" ++ 10 ∷ [] ++ codes "alice + 1" ++ 10 ∷ [] ++ codes "alice + aborted 0 50 0" ++ 10 ∷ [] ++ codes "alice + aborted 4 100 0" ++ 10 ∷ [] ++ codes "alice + 2" ++ 10 ∷ [] ++ codes "alice started" ++ 10 ∷ [] ++ codes "alice aborted" ++ 10 ∷ [] ++ codes "alice - 5 ended" ++ 10 ∷ [] ++ codes "alice - 4 noshoen" ++ 10 ∷ []
 
+-- the bytes of abort_removes_substitutes.script
+abbrev pub abort_removes_substitutes_script : List ℕ
+abort_removes_substitutes_script = codes "accounts alice" ++ 10 ∷ [] ++ codes "alice start 10 0 9 1 = 2" ++ 10 ∷ [] ++ codes "alice run 9" ++ 10 ∷ [] ++ codes "alice abort 1" ++ 10 ∷ [] ++ codes "alice run 9" ++ 10 ∷ [] ++ codes "alice status 1" ++ 10 ∷ [] ++ codes "alice quiet" ++ 10 ∷ [] ++ codes "alice answer 1 2 true" ++ 10 ∷ [] ++ codes "alice reports 1 2" ++ 10 ∷ []
+
+-- the bytes of abort_removes_substitutes.expected
+abbrev pub abort_removes_substitutes_output : List ℕ
+abort_removes_substitutes_output = codes "alice + shoen 1" ++ 10 ∷ [] ++ codes "alice + 1" ++ 10 ∷ [] ++ codes "alice + sent" ++ 10 ∷ [] ++ codes "alice + 1" ++ 10 ∷ [] ++ codes "alice + aborted 1 10 0" ++ 10 ∷ [] ++ codes "alice + yes" ++ 10 ∷ [] ++ codes "alice - 5 ended" ++ 10 ∷ [] ++ codes "alice + 2" ++ 10 ∷ [] ++ codes "alice exception(failure,'='(1,2),_4)" ++ 10 ∷ [] ++ codes "alice aborted" ++ 10 ∷ []
+
 -- the bytes of abort_tells_nothing_below.script
 abbrev pub abort_tells_nothing_below_script : List ℕ
 abort_tells_nothing_below_script = codes "accounts alice" ++ 10 ∷ [] ++ codes "alice start 100 0 10 shoen:execute(X := Y,0,10,5,C,R)" ++ 10 ∷ [] ++ codes "alice run 9" ++ 10 ∷ [] ++ codes "alice abort 1" ++ 10 ∷ [] ++ codes "alice run 9" ++ 10 ∷ [] ++ codes "alice value 1" ++ 10 ∷ [] ++ codes "alice status 2" ++ 10 ∷ []
@@ -80,7 +88,7 @@ alice_beside_a_runaway_account_script = codes "accounts alice bob" ++ 10 ∷ [] 
 
 -- the bytes of alice_beside_a_runaway_account.expected
 abbrev pub alice_beside_a_runaway_account_output : List ℕ
-alice_beside_a_runaway_account_output = codes "bob + loaded r" ++ 10 ∷ [] ++ codes "alice + loaded app" ++ 10 ∷ [] ++ codes "bob + shoen 1" ++ 10 ∷ [] ++ codes "alice + shoen 1" ++ 10 ∷ [] ++ codes "bob + 9" ++ 10 ∷ [] ++ codes "alice + 2" ++ 10 ∷ [] ++ codes "bob + shoen 2" ++ 10 ∷ [] ++ codes "alice + shoen 2" ++ 10 ∷ [] ++ codes "bob + sent" ++ 10 ∷ [] ++ codes "alice + 3" ++ 10 ∷ [] ++ codes "bob + 2" ++ 10 ∷ [] ++ codes "alice + app:app([1],[2],[1,2])" ++ 10 ∷ [] ++ codes "bob + 2" ++ 10 ∷ [] ++ codes "bob exception(failure,'='(zeta,[a,b,c,d,e,f,g]))" ++ 10 ∷ [] ++ codes "bob terminated" ++ 10 ∷ [] ++ codes "alice + '='(zeta,zeta)" ++ 10 ∷ [] ++ codes "bob + reset" ++ 10 ∷ [] ++ codes "alice + terminated 4 100 0" ++ 10 ∷ [] ++ codes "bob - 4 noshoen" ++ 10 ∷ [] ++ codes "alice + yes" ++ 10 ∷ []
+alice_beside_a_runaway_account_output = codes "bob + loaded r" ++ 10 ∷ [] ++ codes "alice + loaded app" ++ 10 ∷ [] ++ codes "bob + shoen 1" ++ 10 ∷ [] ++ codes "alice + shoen 1" ++ 10 ∷ [] ++ codes "bob + 9" ++ 10 ∷ [] ++ codes "alice + 2" ++ 10 ∷ [] ++ codes "bob + shoen 2" ++ 10 ∷ [] ++ codes "alice + shoen 2" ++ 10 ∷ [] ++ codes "bob + sent" ++ 10 ∷ [] ++ codes "alice + 3" ++ 10 ∷ [] ++ codes "bob + 2" ++ 10 ∷ [] ++ codes "alice + app:app([1],[2],[1,2])" ++ 10 ∷ [] ++ codes "bob + 1" ++ 10 ∷ [] ++ codes "bob exception(failure,'='(zeta,[a,b,c,d,e,f,g]),_9)" ++ 10 ∷ [] ++ codes "alice + '='(zeta,zeta)" ++ 10 ∷ [] ++ codes "bob + reset" ++ 10 ∷ [] ++ codes "alice + terminated 4 100 0" ++ 10 ∷ [] ++ codes "bob - 4 noshoen" ++ 10 ∷ [] ++ codes "alice + yes" ++ 10 ∷ []
 
 -- the bytes of alice_by_herself.script
 abbrev pub alice_by_herself_script : List ℕ
@@ -137,6 +145,38 @@ allowance_runs_out_twice_script = codes "accounts alice" ++ 10 ∷ [] ++ codes "
 -- the bytes of allowance_runs_out_twice.expected
 abbrev pub allowance_runs_out_twice_output : List ℕ
 allowance_runs_out_twice_output = codes "alice + loaded r" ++ 10 ∷ [] ++ codes "alice + shoen 1" ++ 10 ∷ [] ++ codes "alice + 1" ++ 10 ∷ [] ++ codes "alice + sent" ++ 10 ∷ [] ++ codes "alice + 2" ++ 10 ∷ [] ++ codes "alice + 3" ++ 10 ∷ [] ++ codes "alice started" ++ 10 ∷ [] ++ codes "alice exhausted" ++ 10 ∷ [] ++ codes "alice exhausted" ++ 10 ∷ []
+
+-- the bytes of answer_of_the_program_is_no_goal.script
+abbrev pub answer_of_the_program_is_no_goal_script : List ℕ
+answer_of_the_program_is_no_goal_script = codes "accounts alice" ++ 10 ∷ [] ++ codes "alice load 113" ++ 10 ∷ [] ++ codes ":- module u." ++ 10 ∷ [] ++ codes "m :- true | shoen:execute(1 = 2,0,10,10,C,R), f(R)." ++ 10 ∷ [] ++ codes "f([started,exception(K,G,N)|T]) :- true | N = 0." ++ 10 ∷ [] ++ codes "alice start 100 0 10 u:m" ++ 10 ∷ [] ++ codes "alice run 100" ++ 10 ∷ [] ++ codes "alice status 2" ++ 10 ∷ [] ++ codes "alice status 1" ++ 10 ∷ []
+
+-- the bytes of answer_of_the_program_is_no_goal.expected
+abbrev pub answer_of_the_program_is_no_goal_output : List ℕ
+answer_of_the_program_is_no_goal_output = codes "alice + loaded u" ++ 10 ∷ [] ++ codes "alice + shoen 1" ++ 10 ∷ [] ++ codes "alice + 6" ++ 10 ∷ [] ++ codes "alice + running 2 10 1" ++ 10 ∷ [] ++ codes "alice + running 6 100 1" ++ 10 ∷ []
+
+-- the bytes of answer_opens_a_shoen.script
+abbrev pub answer_opens_a_shoen_script : List ℕ
+answer_opens_a_shoen_script = codes "accounts alice" ++ 10 ∷ [] ++ codes "alice start 100 0 10 1 = 2" ++ 10 ∷ [] ++ codes "alice run 10" ++ 10 ∷ [] ++ codes "alice answer 1 2 shoen:execute(true,0,9,9,C,R)" ++ 10 ∷ [] ++ codes "alice run 10" ++ 10 ∷ [] ++ codes "alice reports 1 1" ++ 10 ∷ [] ++ codes "alice status 2" ++ 10 ∷ [] ++ codes "alice status 1" ++ 10 ∷ []
+
+-- the bytes of answer_opens_a_shoen.expected
+abbrev pub answer_opens_a_shoen_output : List ℕ
+answer_opens_a_shoen_output = codes "alice + shoen 1" ++ 10 ∷ [] ++ codes "alice + 1" ++ 10 ∷ [] ++ codes "alice + sent" ++ 10 ∷ [] ++ codes "alice + 3" ++ 10 ∷ [] ++ codes "alice + 3" ++ 10 ∷ [] ++ codes "alice started" ++ 10 ∷ [] ++ codes "alice exception(failure,'='(1,2),shoen:execute(true,0,9,9,_6,[started,terminated]))" ++ 10 ∷ [] ++ codes "alice terminated" ++ 10 ∷ [] ++ codes "alice + terminated 1 9 0" ++ 10 ∷ [] ++ codes "alice + terminated 4 100 0" ++ 10 ∷ []
+
+-- the bytes of answer_that_fails_is_answered.script
+abbrev pub answer_that_fails_is_answered_script : List ℕ
+answer_that_fails_is_answered_script = codes "accounts alice" ++ 10 ∷ [] ++ codes "alice start 10 0 10 1 = 2" ++ 10 ∷ [] ++ codes "alice run 10" ++ 10 ∷ [] ++ codes "alice answer 1 2 2 = 3" ++ 10 ∷ [] ++ codes "alice run 10" ++ 10 ∷ [] ++ codes "alice reports 1 1" ++ 10 ∷ [] ++ codes "alice status 1" ++ 10 ∷ [] ++ codes "alice answer 1 2 true" ++ 10 ∷ [] ++ codes "alice answer 1 3 true" ++ 10 ∷ [] ++ codes "alice run 10" ++ 10 ∷ [] ++ codes "alice status 1" ++ 10 ∷ []
+
+-- the bytes of answer_that_fails_is_answered.expected
+abbrev pub answer_that_fails_is_answered_output : List ℕ
+answer_that_fails_is_answered_output = codes "alice + shoen 1" ++ 10 ∷ [] ++ codes "alice + 1" ++ 10 ∷ [] ++ codes "alice + sent" ++ 10 ∷ [] ++ codes "alice + 2" ++ 10 ∷ [] ++ codes "alice + 3" ++ 10 ∷ [] ++ codes "alice started" ++ 10 ∷ [] ++ codes "alice exception(failure,'='(1,2),'='(2,3))" ++ 10 ∷ [] ++ codes "alice exception(failure,'='(2,3),_6)" ++ 10 ∷ [] ++ codes "alice + running 3 10 1" ++ 10 ∷ [] ++ codes "alice - 13 answer" ++ 10 ∷ [] ++ codes "alice + sent" ++ 10 ∷ [] ++ codes "alice + 2" ++ 10 ∷ [] ++ codes "alice + terminated 5 10 0" ++ 10 ∷ []
+
+-- the bytes of answers_that_are_refused.script
+abbrev pub answers_that_are_refused_script : List ℕ
+answers_that_are_refused_script = codes "accounts alice" ++ 10 ∷ [] ++ codes "alice start 10 0 9 1 = 2" ++ 10 ∷ [] ++ codes "alice start 10 0 9 shoen:execute(1 = 2,0,9,9,C,R)" ++ 10 ∷ [] ++ codes "alice run 9" ++ 10 ∷ [] ++ codes "alice answer" ++ 10 ∷ [] ++ codes "alice answer 1" ++ 10 ∷ [] ++ codes "alice answer 1 2" ++ 10 ∷ [] ++ codes "alice answer 1 2 1" ++ 10 ∷ [] ++ codes "alice answer 1 2 m:P" ++ 10 ∷ [] ++ codes "alice answer 1 2 p" ++ 10 ∷ [] ++ codes "alice answer 1 0 true" ++ 10 ∷ [] ++ codes "alice answer 1 x true" ++ 10 ∷ [] ++ codes "alice answer 0 2 true" ++ 10 ∷ [] ++ codes "alice answer 3 2 true" ++ 10 ∷ [] ++ codes "alice answer 9 9 true" ++ 10 ∷ [] ++ codes "alice answer 1 9 true" ++ 10 ∷ [] ++ codes "alice answer 1 1 true" ++ 10 ∷ [] ++ codes "alice reports 1 1" ++ 10 ∷ [] ++ codes "alice modules" ++ 10 ∷ [] ++ codes "alice journal 1 64" ++ 10 ∷ []
+
+-- the bytes of answers_that_are_refused.expected
+abbrev pub answers_that_are_refused_output : List ℕ
+answers_that_are_refused_output = codes "alice + shoen 1" ++ 10 ∷ [] ++ codes "alice + shoen 2" ++ 10 ∷ [] ++ codes "alice + 3" ++ 10 ∷ [] ++ codes "alice - 1 syntax" ++ 10 ∷ [] ++ codes "alice - 1 syntax" ++ 10 ∷ [] ++ codes "alice - 1 syntax" ++ 10 ∷ [] ++ codes "alice - 1 syntax" ++ 10 ∷ [] ++ codes "alice - 1 syntax" ++ 10 ∷ [] ++ codes "alice - 1 syntax" ++ 10 ∷ [] ++ codes "alice - 1 syntax" ++ 10 ∷ [] ++ codes "alice - 1 syntax" ++ 10 ∷ [] ++ codes "alice - 4 noshoen" ++ 10 ∷ [] ++ codes "alice - 4 noshoen" ++ 10 ∷ [] ++ codes "alice - 4 noshoen" ++ 10 ∷ [] ++ codes "alice - 13 answer" ++ 10 ∷ [] ++ codes "alice - 13 answer" ++ 10 ∷ [] ++ codes "alice + 2" ++ 10 ∷ [] ++ codes "alice started" ++ 10 ∷ [] ++ codes "alice exception(failure,'='(1,2),_9)" ++ 10 ∷ [] ++ codes "alice + 0" ++ 10 ∷ [] ++ codes "alice + 6" ++ 10 ∷ [] ++ codes "alice journal 3 0 0" ++ 10 ∷ [] ++ codes "alice start 10 0 9 '='(1,2)" ++ 10 ∷ [] ++ codes "alice start 10 0 9 shoen:execute('='(1,2),0,9,9,_1,_2)" ++ 10 ∷ [] ++ codes "alice reduce 2 0" ++ 10 ∷ [] ++ codes "alice reduce 4 0" ++ 10 ∷ [] ++ codes "alice reduce 7 0" ++ 10 ∷ []
 
 -- the bytes of append_beside_another_account.script
 abbrev pub append_beside_another_account_script : List ℕ
@@ -272,7 +312,7 @@ codes_cell_by_cell_script = codes "accounts alice" ++ 10 ∷ [] ++ codes "alice 
 
 -- the bytes of codes_cell_by_cell.expected
 abbrev pub codes_cell_by_cell_output : List ℕ
-codes_cell_by_cell_output = codes "alice + shoen 1" ++ 10 ∷ [] ++ codes "alice + 0" ++ 10 ∷ [] ++ codes "alice + shoen 2" ++ 10 ∷ [] ++ codes "alice + 1" ++ 10 ∷ [] ++ codes "alice + 3" ++ 10 ∷ [] ++ codes "alice started" ++ 10 ∷ [] ++ codes "alice exception(illegal_input,atom_from([a|_6],_7))" ++ 10 ∷ [] ++ codes "alice terminated" ++ 10 ∷ []
+codes_cell_by_cell_output = codes "alice + shoen 1" ++ 10 ∷ [] ++ codes "alice + 0" ++ 10 ∷ [] ++ codes "alice + shoen 2" ++ 10 ∷ [] ++ codes "alice + 1" ++ 10 ∷ [] ++ codes "alice + 2" ++ 10 ∷ [] ++ codes "alice started" ++ 10 ∷ [] ++ codes "alice exception(illegal_input,atom_from([a|_6],_7),_11)" ++ 10 ∷ []
 
 -- the bytes of codes_that_are_wrong.script
 abbrev pub codes_that_are_wrong_script : List ℕ
@@ -280,7 +320,7 @@ codes_that_are_wrong_script = codes "accounts alice" ++ 10 ∷ [] ++ codes "alic
 
 -- the bytes of codes_that_are_wrong.expected
 abbrev pub codes_that_are_wrong_output : List ℕ
-codes_that_are_wrong_output = codes "alice + shoen 1" ++ 10 ∷ [] ++ codes "alice + shoen 2" ++ 10 ∷ [] ++ codes "alice + shoen 3" ++ 10 ∷ [] ++ codes "alice + shoen 4" ++ 10 ∷ [] ++ codes "alice + shoen 5" ++ 10 ∷ [] ++ codes "alice + 5" ++ 10 ∷ [] ++ codes "alice + 2" ++ 10 ∷ [] ++ codes "alice exception(illegal_input,atom_from([31],_5))" ++ 10 ∷ [] ++ codes "alice terminated" ++ 10 ∷ [] ++ codes "alice + shoen 6" ++ 10 ∷ [] ++ codes "alice + shoen 7" ++ 10 ∷ [] ++ codes "alice + shoen 8" ++ 10 ∷ [] ++ codes "alice + 0" ++ 10 ∷ [] ++ codes "alice + shoen 9" ++ 10 ∷ [] ++ codes "alice + shoen 10" ++ 10 ∷ [] ++ codes "alice + 2" ++ 10 ∷ [] ++ codes "alice + atom_from([],'')" ++ 10 ∷ [] ++ codes "alice + 2" ++ 10 ∷ [] ++ codes "alice exception(failure,atom_from([97],b))" ++ 10 ∷ [] ++ codes "alice terminated" ++ 10 ∷ []
+codes_that_are_wrong_output = codes "alice + shoen 1" ++ 10 ∷ [] ++ codes "alice + shoen 2" ++ 10 ∷ [] ++ codes "alice + shoen 3" ++ 10 ∷ [] ++ codes "alice + shoen 4" ++ 10 ∷ [] ++ codes "alice + shoen 5" ++ 10 ∷ [] ++ codes "alice + 5" ++ 10 ∷ [] ++ codes "alice + 1" ++ 10 ∷ [] ++ codes "alice exception(illegal_input,atom_from([31],_5),_23)" ++ 10 ∷ [] ++ codes "alice + shoen 6" ++ 10 ∷ [] ++ codes "alice + shoen 7" ++ 10 ∷ [] ++ codes "alice + shoen 8" ++ 10 ∷ [] ++ codes "alice + 0" ++ 10 ∷ [] ++ codes "alice + shoen 9" ++ 10 ∷ [] ++ codes "alice + shoen 10" ++ 10 ∷ [] ++ codes "alice + 2" ++ 10 ∷ [] ++ codes "alice + atom_from([],'')" ++ 10 ∷ [] ++ codes "alice + 1" ++ 10 ∷ [] ++ codes "alice exception(failure,atom_from([97],b),_54)" ++ 10 ∷ []
 
 -- the bytes of commands_that_are_none.script
 abbrev pub commands_that_are_none_script : List ℕ
@@ -328,7 +368,7 @@ cyclic_term_is_reported_script = codes "accounts alice" ++ 10 ∷ [] ++ codes "a
 
 -- the bytes of cyclic_term_is_reported.expected
 abbrev pub cyclic_term_is_reported_output : List ℕ
-cyclic_term_is_reported_output = codes "alice + shoen 1" ++ 10 ∷ [] ++ codes "alice + 1" ++ 10 ∷ [] ++ codes "alice + 2" ++ 10 ∷ [] ++ codes "alice exception(failure,'='(_1,f(_1)))" ++ 10 ∷ [] ++ codes "alice terminated" ++ 10 ∷ []
+cyclic_term_is_reported_output = codes "alice + shoen 1" ++ 10 ∷ [] ++ codes "alice + 1" ++ 10 ∷ [] ++ codes "alice + 1" ++ 10 ∷ [] ++ codes "alice exception(failure,'='(_1,f(_1)),_5)" ++ 10 ∷ []
 
 -- the bytes of doubled_account.script
 abbrev pub doubled_account_script : List ℕ
@@ -345,6 +385,14 @@ ended_or_exhausted_script = codes "accounts alice" ++ 10 ∷ [] ++ codes "alice 
 -- the bytes of ended_or_exhausted.expected
 abbrev pub ended_or_exhausted_output : List ℕ
 ended_or_exhausted_output = codes "alice + shoen 1" ++ 10 ∷ [] ++ codes "alice + 1" ++ 10 ∷ [] ++ codes "alice + 2" ++ 10 ∷ [] ++ codes "alice started" ++ 10 ∷ [] ++ codes "alice terminated" ++ 10 ∷ [] ++ codes "alice + terminated 1 1 0" ++ 10 ∷ [] ++ codes "alice + loaded r" ++ 10 ∷ [] ++ codes "alice + shoen 2" ++ 10 ∷ [] ++ codes "alice + 1" ++ 10 ∷ [] ++ codes "alice + 2" ++ 10 ∷ [] ++ codes "alice started" ++ 10 ∷ [] ++ codes "alice exhausted" ++ 10 ∷ [] ++ codes "alice + exhausted 1 1 2" ++ 10 ∷ [] ++ codes "alice + loaded s" ++ 10 ∷ [] ++ codes "alice + shoen 3" ++ 10 ∷ [] ++ codes "alice + 3" ++ 10 ∷ [] ++ codes "alice + terminated 1 1 0" ++ 10 ∷ [] ++ codes "alice + exhausted 3 3 1" ++ 10 ∷ [] ++ codes "alice + 2" ++ 10 ∷ [] ++ codes "alice started" ++ 10 ∷ [] ++ codes "alice exhausted" ++ 10 ∷ []
+
+-- the bytes of exception_is_answered.script
+abbrev pub exception_is_answered_script : List ℕ
+exception_is_answered_script = codes "accounts alice" ++ 10 ∷ [] ++ codes "alice load 20" ++ 10 ∷ [] ++ codes ":- module t." ++ 10 ∷ [] ++ codes "q(a,b)." ++ 10 ∷ [] ++ codes "alice start 10 0 10 t:q(X,c)" ++ 10 ∷ [] ++ codes "alice run 10" ++ 10 ∷ [] ++ codes "alice quiet" ++ 10 ∷ [] ++ codes "alice status 1" ++ 10 ∷ [] ++ codes "alice reports 1 1" ++ 10 ∷ [] ++ codes "alice answer 2 1 true" ++ 10 ∷ [] ++ codes "alice answer 1 1 true" ++ 10 ∷ [] ++ codes "alice answer 1 2 true" ++ 10 ∷ [] ++ codes "alice run 10" ++ 10 ∷ [] ++ codes "alice status 1" ++ 10 ∷ [] ++ codes "alice answer 1 2 true" ++ 10 ∷ [] ++ codes "alice journal 3 64" ++ 10 ∷ []
+
+-- the bytes of exception_is_answered.expected
+abbrev pub exception_is_answered_output : List ℕ
+exception_is_answered_output = codes "alice + loaded t" ++ 10 ∷ [] ++ codes "alice + shoen 1" ++ 10 ∷ [] ++ codes "alice + 1" ++ 10 ∷ [] ++ codes "alice + yes" ++ 10 ∷ [] ++ codes "alice + running 1 10 1" ++ 10 ∷ [] ++ codes "alice + 2" ++ 10 ∷ [] ++ codes "alice started" ++ 10 ∷ [] ++ codes "alice exception(failure,t:q(_1,c),_5)" ++ 10 ∷ [] ++ codes "alice - 4 noshoen" ++ 10 ∷ [] ++ codes "alice - 13 answer" ++ 10 ∷ [] ++ codes "alice + sent" ++ 10 ∷ [] ++ codes "alice + 2" ++ 10 ∷ [] ++ codes "alice + terminated 3 10 0" ++ 10 ∷ [] ++ codes "alice - 5 ended" ++ 10 ∷ [] ++ codes "alice + 5" ++ 10 ∷ [] ++ codes "alice start 10 0 10 t:q(_1,c)" ++ 10 ∷ [] ++ codes "alice reduce 2 0" ++ 10 ∷ [] ++ codes "alice answer 1 2 true" ++ 10 ∷ [] ++ codes "alice reduce 3 0" ++ 10 ∷ [] ++ codes "alice reduce 4 0" ++ 10 ∷ []
 
 -- the bytes of exhausted_innermost_first.script
 abbrev pub exhausted_innermost_first_script : List ℕ
@@ -364,11 +412,11 @@ exhausted_parent_holds_back_output = codes "alice + shoen 1" ++ 10 ∷ [] ++ cod
 
 -- the bytes of failed_goal_is_started_again.script
 abbrev pub failed_goal_is_started_again_script : List ℕ
-failed_goal_is_started_again_script = codes "accounts alice" ++ 10 ∷ [] ++ codes "alice load 279" ++ 10 ∷ [] ++ codes ":- module again." ++ 10 ∷ [] ++ codes "again(N,R) :- true | shoen:execute(again:work(N,R),0,10,100,C,S), watch(S,N,R)." ++ 10 ∷ [] ++ codes "work(0,R) :- true | R = done." ++ 10 ∷ [] ++ codes "watch([started|S],N,R) :- true | watch(S,N,R)." ++ 10 ∷ [] ++ codes "watch([exception(K,G)|S],N,R) :- true | M := N - 1, again(M,R)." ++ 10 ∷ [] ++ codes "watch([terminated|S],N,R) :- true | true." ++ 10 ∷ [] ++ codes "alice start 100 0 10 again:again(1,R)" ++ 10 ∷ [] ++ codes "alice run 100" ++ 10 ∷ [] ++ codes "alice value 1" ++ 10 ∷ [] ++ codes "alice status 2" ++ 10 ∷ [] ++ codes "alice status 3" ++ 10 ∷ [] ++ codes "alice status 1" ++ 10 ∷ [] ++ codes "alice reports 1 1" ++ 10 ∷ []
+failed_goal_is_started_again_script = codes "accounts alice" ++ 10 ∷ [] ++ codes "alice load 310" ++ 10 ∷ [] ++ codes ":- module again." ++ 10 ∷ [] ++ codes "again(N,R) :- true | shoen:execute(again:work(N,R),0,10,100,C,S), watch(S,N)." ++ 10 ∷ [] ++ codes "work(0,R) :- true | R = done." ++ 10 ∷ [] ++ codes "watch([started|S],N) :- true | watch(S,N)." ++ 10 ∷ [] ++ codes "watch([exception(K,again:work(L,R),New)|S],N) :- true | M := N - 1, New = again:work(M,R), watch(S,M)." ++ 10 ∷ [] ++ codes "watch([terminated|S],N) :- true | true." ++ 10 ∷ [] ++ codes "alice start 100 0 10 again:again(2,R)" ++ 10 ∷ [] ++ codes "alice run 100" ++ 10 ∷ [] ++ codes "alice value 1" ++ 10 ∷ [] ++ codes "alice status 2" ++ 10 ∷ [] ++ codes "alice status 3" ++ 10 ∷ [] ++ codes "alice status 1" ++ 10 ∷ [] ++ codes "alice reports 1 1" ++ 10 ∷ []
 
 -- the bytes of failed_goal_is_started_again.expected
 abbrev pub failed_goal_is_started_again_output : List ℕ
-failed_goal_is_started_again_output = codes "alice + loaded again" ++ 10 ∷ [] ++ codes "alice + shoen 1" ++ 10 ∷ [] ++ codes "alice + 13" ++ 10 ∷ [] ++ codes "alice + again:again(1,done)" ++ 10 ∷ [] ++ codes "alice + terminated 1 100 0" ++ 10 ∷ [] ++ codes "alice + terminated 2 100 0" ++ 10 ∷ [] ++ codes "alice + terminated 13 100 0" ++ 10 ∷ [] ++ codes "alice + 2" ++ 10 ∷ [] ++ codes "alice started" ++ 10 ∷ [] ++ codes "alice terminated" ++ 10 ∷ []
+failed_goal_is_started_again_output = codes "alice + loaded again" ++ 10 ∷ [] ++ codes "alice + shoen 1" ++ 10 ∷ [] ++ codes "alice + 17" ++ 10 ∷ [] ++ codes "alice + again:again(2,done)" ++ 10 ∷ [] ++ codes "alice + terminated 6 100 0" ++ 10 ∷ [] ++ codes "alice - 4 noshoen" ++ 10 ∷ [] ++ codes "alice + terminated 17 100 0" ++ 10 ∷ [] ++ codes "alice + 2" ++ 10 ∷ [] ++ codes "alice started" ++ 10 ∷ [] ++ codes "alice terminated" ++ 10 ∷ []
 
 -- the bytes of failure_is_reported.script
 abbrev pub failure_is_reported_script : List ℕ
@@ -376,7 +424,7 @@ failure_is_reported_script = codes "accounts alice" ++ 10 ∷ [] ++ codes "alice
 
 -- the bytes of failure_is_reported.expected
 abbrev pub failure_is_reported_output : List ℕ
-failure_is_reported_output = codes "alice + loaded t" ++ 10 ∷ [] ++ codes "alice + shoen 1" ++ 10 ∷ [] ++ codes "alice + 1" ++ 10 ∷ [] ++ codes "alice + 3" ++ 10 ∷ [] ++ codes "alice started" ++ 10 ∷ [] ++ codes "alice exception(failure,t:q(_1,c))" ++ 10 ∷ [] ++ codes "alice terminated" ++ 10 ∷ []
+failure_is_reported_output = codes "alice + loaded t" ++ 10 ∷ [] ++ codes "alice + shoen 1" ++ 10 ∷ [] ++ codes "alice + 1" ++ 10 ∷ [] ++ codes "alice + 2" ++ 10 ∷ [] ++ codes "alice started" ++ 10 ∷ [] ++ codes "alice exception(failure,t:q(_1,c),_5)" ++ 10 ∷ []
 
 -- the bytes of first_of_two_clauses.script
 abbrev pub first_of_two_clauses_script : List ℕ
@@ -488,7 +536,7 @@ journal_by_pages_script = codes "accounts alice bob" ++ 10 ∷ [] ++ codes "alic
 
 -- the bytes of journal_by_pages.expected
 abbrev pub journal_by_pages_output : List ℕ
-journal_by_pages_output = codes "alice + shoen 1" ++ 10 ∷ [] ++ codes "alice + shoen 2" ++ 10 ∷ [] ++ codes "alice + 2" ++ 10 ∷ [] ++ codes "alice + 1" ++ 10 ∷ [] ++ codes "alice journal 1 0 0" ++ 10 ∷ [] ++ codes "alice + 2" ++ 10 ∷ [] ++ codes "alice start 9 0 9 true" ++ 10 ∷ [] ++ codes "alice start 8 0 9 true" ++ 10 ∷ [] ++ codes "alice + 2" ++ 10 ∷ [] ++ codes "alice reduce 2 0" ++ 10 ∷ [] ++ codes "alice reduce 4 0" ++ 10 ∷ [] ++ codes "alice + 1" ++ 10 ∷ [] ++ codes "alice reduce 4 0" ++ 10 ∷ [] ++ codes "alice + 0" ++ 10 ∷ [] ++ codes "alice + 0" ++ 10 ∷ []
+journal_by_pages_output = codes "alice + shoen 1" ++ 10 ∷ [] ++ codes "alice + shoen 2" ++ 10 ∷ [] ++ codes "alice + 2" ++ 10 ∷ [] ++ codes "alice + 1" ++ 10 ∷ [] ++ codes "alice journal 3 0 0" ++ 10 ∷ [] ++ codes "alice + 2" ++ 10 ∷ [] ++ codes "alice start 9 0 9 true" ++ 10 ∷ [] ++ codes "alice start 8 0 9 true" ++ 10 ∷ [] ++ codes "alice + 2" ++ 10 ∷ [] ++ codes "alice reduce 2 0" ++ 10 ∷ [] ++ codes "alice reduce 4 0" ++ 10 ∷ [] ++ codes "alice + 1" ++ 10 ∷ [] ++ codes "alice reduce 4 0" ++ 10 ∷ [] ++ codes "alice + 0" ++ 10 ∷ [] ++ codes "alice + 0" ++ 10 ∷ []
 
 -- the bytes of journal_names_in_quotes.script
 abbrev pub journal_names_in_quotes_script : List ℕ
@@ -496,7 +544,7 @@ journal_names_in_quotes_script = codes "accounts alice bob" ++ 10 ∷ [] ++ code
 
 -- the bytes of journal_names_in_quotes.expected
 abbrev pub journal_names_in_quotes_output : List ℕ
-journal_names_in_quotes_output = codes "alice + shoen 1" ++ 10 ∷ [] ++ codes "alice + reset" ++ 10 ∷ [] ++ codes "alice + 7" ++ 10 ∷ [] ++ codes "alice journal 1 0 6" ++ 10 ∷ [] ++ codes "alice name f" ++ 10 ∷ [] ++ codes "alice name 'A b'" ++ 10 ∷ [] ++ codes "alice name 'it''s'" ++ 10 ∷ [] ++ codes "alice name ''" ++ 10 ∷ [] ++ codes "alice name '_'" ++ 10 ∷ [] ++ codes "alice name x1" ++ 10 ∷ []
+journal_names_in_quotes_output = codes "alice + shoen 1" ++ 10 ∷ [] ++ codes "alice + reset" ++ 10 ∷ [] ++ codes "alice + 7" ++ 10 ∷ [] ++ codes "alice journal 3 0 6" ++ 10 ∷ [] ++ codes "alice name f" ++ 10 ∷ [] ++ codes "alice name 'A b'" ++ 10 ∷ [] ++ codes "alice name 'it''s'" ++ 10 ∷ [] ++ codes "alice name ''" ++ 10 ∷ [] ++ codes "alice name '_'" ++ 10 ∷ [] ++ codes "alice name x1" ++ 10 ∷ []
 
 -- the bytes of journal_of_a_start.script
 abbrev pub journal_of_a_start_script : List ℕ
@@ -504,7 +552,7 @@ journal_of_a_start_script = codes "accounts alice bob" ++ 10 ∷ [] ++ codes "al
 
 -- the bytes of journal_of_a_start.expected
 abbrev pub journal_of_a_start_output : List ℕ
-journal_of_a_start_output = codes "alice + shoen 1" ++ 10 ∷ [] ++ codes "alice + 1" ++ 10 ∷ [] ++ codes "alice + 3" ++ 10 ∷ [] ++ codes "alice journal 1 0 0" ++ 10 ∷ [] ++ codes "alice start 10 0 10 '='(_1,1)" ++ 10 ∷ [] ++ codes "alice reduce 2 0" ++ 10 ∷ [] ++ codes "bob + 1" ++ 10 ∷ [] ++ codes "bob journal 1 0 0" ++ 10 ∷ []
+journal_of_a_start_output = codes "alice + shoen 1" ++ 10 ∷ [] ++ codes "alice + 1" ++ 10 ∷ [] ++ codes "alice + 3" ++ 10 ∷ [] ++ codes "alice journal 3 0 0" ++ 10 ∷ [] ++ codes "alice start 10 0 10 '='(_1,1)" ++ 10 ∷ [] ++ codes "alice reduce 2 0" ++ 10 ∷ [] ++ codes "bob + 1" ++ 10 ∷ [] ++ codes "bob journal 3 0 0" ++ 10 ∷ []
 
 -- the bytes of journal_of_each_event.script
 abbrev pub journal_of_each_event_script : List ℕ
@@ -512,7 +560,7 @@ journal_of_each_event_script = codes "accounts alice bob" ++ 10 ∷ [] ++ codes 
 
 -- the bytes of journal_of_each_event.expected
 abbrev pub journal_of_each_event_output : List ℕ
-journal_of_each_event_output = codes "alice + loaded e" ++ 10 ∷ [] ++ codes "alice - 3 exists" ++ 10 ∷ [] ++ codes "alice + shoen 1" ++ 10 ∷ [] ++ codes "alice + sent" ++ 10 ∷ [] ++ codes "alice + sent" ++ 10 ∷ [] ++ codes "alice + sent" ++ 10 ∷ [] ++ codes "alice + sent" ++ 10 ∷ [] ++ codes "alice + running 0 9 1" ++ 10 ∷ [] ++ codes "alice + welcome alice" ++ 10 ∷ [] ++ codes "alice + 4" ++ 10 ∷ [] ++ codes "alice - 5 ended" ++ 10 ∷ [] ++ codes "alice - 4 noshoen" ++ 10 ∷ [] ++ codes "alice + 11" ++ 10 ∷ [] ++ codes "alice journal 1 1 0" ++ 10 ∷ [] ++ codes "alice load 3a2d206d6f64756c6520652e" ++ 10 ∷ [] ++ codes "alice start 9 0 9 ':='(_1,_2)" ++ 10 ∷ [] ++ codes "alice stop 1" ++ 10 ∷ [] ++ codes "alice resume 1" ++ 10 ∷ [] ++ codes "alice allow 1 5" ++ 10 ∷ [] ++ codes "alice abort 1" ++ 10 ∷ [] ++ codes "alice reduce 1 0" ++ 10 ∷ [] ++ codes "alice reduce 1 0" ++ 10 ∷ [] ++ codes "alice reduce 1 0" ++ 10 ∷ [] ++ codes "alice reduce 1 0" ++ 10 ∷ []
+journal_of_each_event_output = codes "alice + loaded e" ++ 10 ∷ [] ++ codes "alice - 3 exists" ++ 10 ∷ [] ++ codes "alice + shoen 1" ++ 10 ∷ [] ++ codes "alice + sent" ++ 10 ∷ [] ++ codes "alice + sent" ++ 10 ∷ [] ++ codes "alice + sent" ++ 10 ∷ [] ++ codes "alice + sent" ++ 10 ∷ [] ++ codes "alice + running 0 9 1" ++ 10 ∷ [] ++ codes "alice + welcome alice" ++ 10 ∷ [] ++ codes "alice + 4" ++ 10 ∷ [] ++ codes "alice - 5 ended" ++ 10 ∷ [] ++ codes "alice - 4 noshoen" ++ 10 ∷ [] ++ codes "alice + 11" ++ 10 ∷ [] ++ codes "alice journal 3 1 0" ++ 10 ∷ [] ++ codes "alice load 3a2d206d6f64756c6520652e" ++ 10 ∷ [] ++ codes "alice start 9 0 9 ':='(_1,_2)" ++ 10 ∷ [] ++ codes "alice stop 1" ++ 10 ∷ [] ++ codes "alice resume 1" ++ 10 ∷ [] ++ codes "alice allow 1 5" ++ 10 ∷ [] ++ codes "alice abort 1" ++ 10 ∷ [] ++ codes "alice reduce 1 0" ++ 10 ∷ [] ++ codes "alice reduce 1 0" ++ 10 ∷ [] ++ codes "alice reduce 1 0" ++ 10 ∷ [] ++ codes "alice reduce 1 0" ++ 10 ∷ []
 
 -- the bytes of journal_of_reductions.script
 abbrev pub journal_of_reductions_script : List ℕ
@@ -650,6 +698,14 @@ names_before_the_first_space_script = codes "accounts alice bob" ++ 10 ∷ [] ++
 abbrev pub names_before_the_first_space_output : List ℕ
 names_before_the_first_space_output = codes "alice - 1 syntax" ++ 10 ∷ [] ++ codes "alice - 1 syntax" ++ 10 ∷ [] ++ codes "bob + 0" ++ 10 ∷ [] ++ codes "! account" ++ 10 ∷ [] ++ codes "! account" ++ 10 ∷ [] ++ codes "! account" ++ 10 ∷ [] ++ codes "alice + 0" ++ 10 ∷ [] ++ codes "alice - 1 syntax" ++ 10 ∷ []
 
+-- the bytes of names_from_127_and_128_codes.script
+abbrev pub names_from_127_and_128_codes_script : List ℕ
+names_from_127_and_128_codes_script = codes "accounts alice" ++ 10 ∷ [] ++ codes "alice start 10 0 10 atom_from([97,97,97,97,97,97,97,97,97,97,97,97,97,97,97,97,97,97,97,97,97,97,97,97,97,97,97,97,97,97,97,97,97,97,97,97,97,97,97,97,97,97,97,97,97,97,97,97,97,97,97,97,97,97,97,97,97,97,97,97,97,97,97,97,97,97,97,97,97,97,97,97,97,97,97,97,97,97,97,97,97,97,97,97,97,97,97,97,97,97,97,97,97,97,97,97,97,97,97,97,97,97,97,97,97,97,97,97,97,97,97,97,97,97,97,97,97,97,97,97,97,97,97,97,97,97,97],A)" ++ 10 ∷ [] ++ codes "alice run 10" ++ 10 ∷ [] ++ codes "alice value 1" ++ 10 ∷ [] ++ codes "alice status 1" ++ 10 ∷ [] ++ codes "alice start 10 0 10 atom_from([97,97,97,97,97,97,97,97,97,97,97,97,97,97,97,97,97,97,97,97,97,97,97,97,97,97,97,97,97,97,97,97,97,97,97,97,97,97,97,97,97,97,97,97,97,97,97,97,97,97,97,97,97,97,97,97,97,97,97,97,97,97,97,97,97,97,97,97,97,97,97,97,97,97,97,97,97,97,97,97,97,97,97,97,97,97,97,97,97,97,97,97,97,97,97,97,97,97,97,97,97,97,97,97,97,97,97,97,97,97,97,97,97,97,97,97,97,97,97,97,97,97,97,97,97,97,97,97],A)" ++ 10 ∷ [] ++ codes "alice run 10" ++ 10 ∷ [] ++ codes "alice status 2" ++ 10 ∷ []
+
+-- the bytes of names_from_127_and_128_codes.expected
+abbrev pub names_from_127_and_128_codes_output : List ℕ
+names_from_127_and_128_codes_output = codes "alice + shoen 1" ++ 10 ∷ [] ++ codes "alice + 1" ++ 10 ∷ [] ++ codes "alice + atom_from([97,97,97,97,97,97,97,97,97,97,97,97,97,97,97,97,97,97,97,97,97,97,97,97,97,97,97,97,97,97,97,97,97,97,97,97,97,97,97,97,97,97,97,97,97,97,97,97,97,97,97,97,97,97,97,97,97,97,97,97,97,97,97,97,97,97,97,97,97,97,97,97,97,97,97,97,97,97,97,97,97,97,97,97,97,97,97,97,97,97,97,97,97,97,97,97,97,97,97,97,97,97,97,97,97,97,97,97,97,97,97,97,97,97,97,97,97,97,97,97,97,97,97,97,97,97,97],aaaaaaaaaaaaaaaaaaaaaaaaaaaaaaaaaaaaaaaaaaaaaaaaaaaaaaaaaaaaaaaaaaaaaaaaaaaaaaaaaaaaaaaaaaaaaaaaaaaaaaaaaaaaaaaaaaaaaaaaaaaaaaa)" ++ 10 ∷ [] ++ codes "alice + terminated 1 10 0" ++ 10 ∷ [] ++ codes "alice + shoen 2" ++ 10 ∷ [] ++ codes "alice + 1" ++ 10 ∷ [] ++ codes "alice + running 1 10 1" ++ 10 ∷ []
+
 -- the bytes of names_from_codes.script
 abbrev pub names_from_codes_script : List ℕ
 names_from_codes_script = codes "accounts alice" ++ 10 ∷ [] ++ codes "alice start 10 0 10 atom_from([104,105],A)" ++ 10 ∷ [] ++ codes "alice run 10" ++ 10 ∷ [] ++ codes "alice value 1" ++ 10 ∷ [] ++ codes "alice start 10 0 10 X = ''" ++ 10 ∷ [] ++ codes "alice start 10 0 10 X = '[]'(a)" ++ 10 ∷ [] ++ codes "alice reduce 6 0" ++ 10 ∷ [] ++ codes "alice value 3" ++ 10 ∷ []
@@ -664,7 +720,7 @@ names_in_order_of_first_use_script = codes "accounts alice bob" ++ 10 ∷ [] ++ 
 
 -- the bytes of names_in_order_of_first_use.expected
 abbrev pub names_in_order_of_first_use_output : List ℕ
-names_in_order_of_first_use_output = codes "bob + shoen 1" ++ 10 ∷ [] ++ codes "alice + shoen 1" ++ 10 ∷ [] ++ codes "bob + reset" ++ 10 ∷ [] ++ codes "alice + reset" ++ 10 ∷ [] ++ codes "alice + 4" ++ 10 ∷ [] ++ codes "alice journal 1 0 3" ++ 10 ∷ [] ++ codes "alice name alpha" ++ 10 ∷ [] ++ codes "alice name f" ++ 10 ∷ [] ++ codes "alice name zeta" ++ 10 ∷ [] ++ codes "bob + 3" ++ 10 ∷ [] ++ codes "bob journal 1 0 2" ++ 10 ∷ [] ++ codes "bob name zeta" ++ 10 ∷ [] ++ codes "bob name alpha" ++ 10 ∷ []
+names_in_order_of_first_use_output = codes "bob + shoen 1" ++ 10 ∷ [] ++ codes "alice + shoen 1" ++ 10 ∷ [] ++ codes "bob + reset" ++ 10 ∷ [] ++ codes "alice + reset" ++ 10 ∷ [] ++ codes "alice + 4" ++ 10 ∷ [] ++ codes "alice journal 3 0 3" ++ 10 ∷ [] ++ codes "alice name alpha" ++ 10 ∷ [] ++ codes "alice name f" ++ 10 ∷ [] ++ codes "alice name zeta" ++ 10 ∷ [] ++ codes "bob + 3" ++ 10 ∷ [] ++ codes "bob journal 3 0 2" ++ 10 ∷ [] ++ codes "bob name zeta" ++ 10 ∷ [] ++ codes "bob name alpha" ++ 10 ∷ []
 
 -- the bytes of names_in_quotes.script
 abbrev pub names_in_quotes_script : List ℕ
@@ -674,13 +730,13 @@ names_in_quotes_script = codes "accounts alice" ++ 10 ∷ [] ++ codes "alice sta
 abbrev pub names_in_quotes_output : List ℕ
 names_in_quotes_output = codes "alice + shoen 1" ++ 10 ∷ [] ++ codes "alice + shoen 2" ++ 10 ∷ [] ++ codes "alice + 2" ++ 10 ∷ [] ++ codes "alice + '='('','')" ++ 10 ∷ [] ++ codes "alice + '='('[]'(a),'[]'(a))" ++ 10 ∷ []
 
--- the bytes of names_of_63_and_64_bytes.script
-abbrev pub names_of_63_and_64_bytes_script : List ℕ
-names_of_63_and_64_bytes_script = codes "accounts alice bob" ++ 10 ∷ [] ++ codes "alice load 78" ++ 10 ∷ [] ++ codes ":- module e1." ++ 10 ∷ [] ++ codes "aaaaaaaaaaaaaaaaaaaaaaaaaaaaaaaaaaaaaaaaaaaaaaaaaaaaaaaaaaaaaaa." ++ 10 ∷ [] ++ codes "alice load 79" ++ 10 ∷ [] ++ codes ":- module e2." ++ 10 ∷ [] ++ codes "aaaaaaaaaaaaaaaaaaaaaaaaaaaaaaaaaaaaaaaaaaaaaaaaaaaaaaaaaaaaaaaa." ++ 10 ∷ []
+-- the bytes of names_of_127_and_128_bytes.script
+abbrev pub names_of_127_and_128_bytes_script : List ℕ
+names_of_127_and_128_bytes_script = codes "accounts alice bob" ++ 10 ∷ [] ++ codes "alice load 142" ++ 10 ∷ [] ++ codes ":- module e1." ++ 10 ∷ [] ++ codes "aaaaaaaaaaaaaaaaaaaaaaaaaaaaaaaaaaaaaaaaaaaaaaaaaaaaaaaaaaaaaaaaaaaaaaaaaaaaaaaaaaaaaaaaaaaaaaaaaaaaaaaaaaaaaaaaaaaaaaaaaaaaaaa." ++ 10 ∷ [] ++ codes "alice load 143" ++ 10 ∷ [] ++ codes ":- module e2." ++ 10 ∷ [] ++ codes "aaaaaaaaaaaaaaaaaaaaaaaaaaaaaaaaaaaaaaaaaaaaaaaaaaaaaaaaaaaaaaaaaaaaaaaaaaaaaaaaaaaaaaaaaaaaaaaaaaaaaaaaaaaaaaaaaaaaaaaaaaaaaaaa." ++ 10 ∷ []
 
--- the bytes of names_of_63_and_64_bytes.expected
-abbrev pub names_of_63_and_64_bytes_output : List ℕ
-names_of_63_and_64_bytes_output = codes "alice + loaded e1" ++ 10 ∷ [] ++ codes "alice - 2 source 2" ++ 10 ∷ []
+-- the bytes of names_of_127_and_128_bytes.expected
+abbrev pub names_of_127_and_128_bytes_output : List ℕ
+names_of_127_and_128_bytes_output = codes "alice + loaded e1" ++ 10 ∷ [] ++ codes "alice - 2 source 2" ++ 10 ∷ []
 
 -- the bytes of nested_patterns.script
 abbrev pub nested_patterns_script : List ℕ
@@ -722,6 +778,14 @@ numbers_of_19_digits_script = codes "accounts alice bob" ++ 10 ∷ [] ++ codes "
 abbrev pub numbers_of_19_digits_output : List ℕ
 numbers_of_19_digits_output = codes "alice + 0" ++ 10 ∷ [] ++ codes "alice - 1 syntax" ++ 10 ∷ [] ++ codes "alice - 4 noshoen" ++ 10 ∷ [] ++ codes "alice - 1 syntax" ++ 10 ∷ [] ++ codes "alice + 0" ++ 10 ∷ [] ++ codes "alice - 1 syntax" ++ 10 ∷ [] ++ codes "alice - 1 syntax" ++ 10 ∷ [] ++ codes "alice - 1 syntax" ++ 10 ∷ [] ++ codes "alice - 1 syntax" ++ 10 ∷ [] ++ codes "alice + shoen 1" ++ 10 ∷ []
 
+-- the bytes of one_answer_for_two_exceptions.script
+abbrev pub one_answer_for_two_exceptions_script : List ℕ
+one_answer_for_two_exceptions_script = codes "accounts alice" ++ 10 ∷ [] ++ codes "alice load 189" ++ 10 ∷ [] ++ codes ":- module w." ++ 10 ∷ [] ++ codes "m(R,S) :- true | shoen:execute(1 = 2,0,9,9,C,R), shoen:execute(3 = 4,0,9,9,D,S), f(R,S)." ++ 10 ∷ [] ++ codes "f([started,exception(K,G,N)|T],[started,exception(L,H,M)|U]) :- true | N = M, N = true." ++ 10 ∷ [] ++ codes "alice start 100 0 10 w:m(R,S)" ++ 10 ∷ [] ++ codes "alice run 100" ++ 10 ∷ [] ++ codes "alice value 1" ++ 10 ∷ [] ++ codes "alice status 2" ++ 10 ∷ [] ++ codes "alice status 3" ++ 10 ∷ [] ++ codes "alice status 1" ++ 10 ∷ []
+
+-- the bytes of one_answer_for_two_exceptions.expected
+abbrev pub one_answer_for_two_exceptions_output : List ℕ
+one_answer_for_two_exceptions_output = codes "alice + loaded w" ++ 10 ∷ [] ++ codes "alice + shoen 1" ++ 10 ∷ [] ++ codes "alice + 12" ++ 10 ∷ [] ++ codes "alice + w:m([started,exception(failure,'='(1,2),true),terminated],[started,exception(failure,'='(3,4),true),terminated])" ++ 10 ∷ [] ++ codes "alice + terminated 3 9 0" ++ 10 ∷ [] ++ codes "alice + terminated 3 9 0" ++ 10 ∷ [] ++ codes "alice + terminated 12 100 0" ++ 10 ∷ []
+
 -- the bytes of one_text_in_two_accounts.script
 abbrev pub one_text_in_two_accounts_script : List ℕ
 one_text_in_two_accounts_script = codes "accounts alice bob" ++ 10 ∷ [] ++ codes "alice load 91" ++ 10 ∷ [] ++ codes ":- module app." ++ 10 ∷ [] ++ codes "app([],Y,Z) :- true | Z = Y." ++ 10 ∷ [] ++ codes "app([A|X],Y,Z) :- true | Z = [A|W], app(X,Y,W)." ++ 10 ∷ [] ++ codes "bob load 91" ++ 10 ∷ [] ++ codes ":- module app." ++ 10 ∷ [] ++ codes "app([],Y,Z) :- true | Z = Y." ++ 10 ∷ [] ++ codes "app([A|X],Y,Z) :- true | Z = [A|W], app(X,Y,W)." ++ 10 ∷ [] ++ codes "alice load 91" ++ 10 ∷ [] ++ codes ":- module app." ++ 10 ∷ [] ++ codes "app([],Y,Z) :- true | Z = Y." ++ 10 ∷ [] ++ codes "app([A|X],Y,Z) :- true | Z = [A|W], app(X,Y,W)." ++ 10 ∷ [] ++ codes "bob modules" ++ 10 ∷ []
@@ -744,7 +808,7 @@ orders_that_are_wrong_script = codes "accounts alice" ++ 10 ∷ [] ++ codes "ali
 
 -- the bytes of orders_that_are_wrong.expected
 abbrev pub orders_that_are_wrong_output : List ℕ
-orders_that_are_wrong_output = codes "alice + shoen 1" ++ 10 ∷ [] ++ codes "alice + 1" ++ 10 ∷ [] ++ codes "alice + 2" ++ 10 ∷ [] ++ codes "alice exception(illegal_input,shoen:execute(1,0,1,1,_1,_2))" ++ 10 ∷ [] ++ codes "alice terminated" ++ 10 ∷ [] ++ codes "alice + shoen 2" ++ 10 ∷ [] ++ codes "alice + shoen 3" ++ 10 ∷ [] ++ codes "alice + shoen 4" ++ 10 ∷ [] ++ codes "alice + shoen 5" ++ 10 ∷ [] ++ codes "alice + shoen 6" ++ 10 ∷ [] ++ codes "alice + shoen 7" ++ 10 ∷ [] ++ codes "alice + 6" ++ 10 ∷ [] ++ codes "alice + terminated 1 9 0" ++ 10 ∷ [] ++ codes "alice - 4 noshoen" ++ 10 ∷ []
+orders_that_are_wrong_output = codes "alice + shoen 1" ++ 10 ∷ [] ++ codes "alice + 1" ++ 10 ∷ [] ++ codes "alice + 1" ++ 10 ∷ [] ++ codes "alice exception(illegal_input,shoen:execute(1,0,1,1,_1,_2),_6)" ++ 10 ∷ [] ++ codes "alice + shoen 2" ++ 10 ∷ [] ++ codes "alice + shoen 3" ++ 10 ∷ [] ++ codes "alice + shoen 4" ++ 10 ∷ [] ++ codes "alice + shoen 5" ++ 10 ∷ [] ++ codes "alice + shoen 6" ++ 10 ∷ [] ++ codes "alice + shoen 7" ++ 10 ∷ [] ++ codes "alice + 6" ++ 10 ∷ [] ++ codes "alice + running 1 9 1" ++ 10 ∷ [] ++ codes "alice - 4 noshoen" ++ 10 ∷ []
 
 -- the bytes of orders_that_wait.script
 abbrev pub orders_that_wait_script : List ℕ
@@ -752,7 +816,7 @@ orders_that_wait_script = codes "accounts alice" ++ 10 ∷ [] ++ codes "alice st
 
 -- the bytes of orders_that_wait.expected
 abbrev pub orders_that_wait_output : List ℕ
-orders_that_wait_output = codes "alice + shoen 1" ++ 10 ∷ [] ++ codes "alice + shoen 2" ++ 10 ∷ [] ++ codes "alice + shoen 3" ++ 10 ∷ [] ++ codes "alice + shoen 4" ++ 10 ∷ [] ++ codes "alice + shoen 5" ++ 10 ∷ [] ++ codes "alice + shoen 6" ++ 10 ∷ [] ++ codes "alice + 0" ++ 10 ∷ [] ++ codes "alice + yes" ++ 10 ∷ [] ++ codes "alice + shoen 7" ++ 10 ∷ [] ++ codes "alice + 0" ++ 10 ∷ [] ++ codes "alice + shoen 8" ++ 10 ∷ [] ++ codes "alice + 1" ++ 10 ∷ [] ++ codes "alice + 2" ++ 10 ∷ [] ++ codes "alice exception(illegal_input,shoen:execute(true,x,_43,_44,_45,_46))" ++ 10 ∷ [] ++ codes "alice terminated" ++ 10 ∷ []
+orders_that_wait_output = codes "alice + shoen 1" ++ 10 ∷ [] ++ codes "alice + shoen 2" ++ 10 ∷ [] ++ codes "alice + shoen 3" ++ 10 ∷ [] ++ codes "alice + shoen 4" ++ 10 ∷ [] ++ codes "alice + shoen 5" ++ 10 ∷ [] ++ codes "alice + shoen 6" ++ 10 ∷ [] ++ codes "alice + 0" ++ 10 ∷ [] ++ codes "alice + yes" ++ 10 ∷ [] ++ codes "alice + shoen 7" ++ 10 ∷ [] ++ codes "alice + 0" ++ 10 ∷ [] ++ codes "alice + shoen 8" ++ 10 ∷ [] ++ codes "alice + 1" ++ 10 ∷ [] ++ codes "alice + 1" ++ 10 ∷ [] ++ codes "alice exception(illegal_input,shoen:execute(true,x,_43,_44,_45,_46),_50)" ++ 10 ∷ []
 
 -- the bytes of other_messages_are_skipped.script
 abbrev pub other_messages_are_skipped_script : List ℕ
@@ -784,7 +848,7 @@ overflow_is_reported_script = codes "accounts alice" ++ 10 ∷ [] ++ codes "alic
 
 -- the bytes of overflow_is_reported.expected
 abbrev pub overflow_is_reported_output : List ℕ
-overflow_is_reported_output = codes "alice + shoen 1" ++ 10 ∷ [] ++ codes "alice + 1" ++ 10 ∷ [] ++ codes "alice + 2" ++ 10 ∷ [] ++ codes "alice exception(overflow,':='(_1,'+'(9223372036854775807,1)))" ++ 10 ∷ [] ++ codes "alice terminated" ++ 10 ∷ []
+overflow_is_reported_output = codes "alice + shoen 1" ++ 10 ∷ [] ++ codes "alice + 1" ++ 10 ∷ [] ++ codes "alice + 1" ++ 10 ∷ [] ++ codes "alice exception(overflow,':='(_1,'+'(9223372036854775807,1)),_5)" ++ 10 ∷ []
 
 -- the bytes of places_of_one_variable.script
 abbrev pub places_of_one_variable_script : List ℕ
@@ -864,7 +928,7 @@ refused_reduction_leaves_the_journal_script = codes "accounts alice bob" ++ 10 �
 
 -- the bytes of refused_reduction_leaves_the_journal.expected
 abbrev pub refused_reduction_leaves_the_journal_output : List ℕ
-refused_reduction_leaves_the_journal_output = codes "alice + shoen 1" ++ 10 ∷ [] ++ codes "bob + shoen 1" ++ 10 ∷ [] ++ codes "alice + 2" ++ 10 ∷ [] ++ codes "alice journal 1 0 0" ++ 10 ∷ [] ++ codes "alice start 10 0 10 '='(_1,1)" ++ 10 ∷ [] ++ codes "alice - 6 step" ++ 10 ∷ [] ++ codes "alice + 2" ++ 10 ∷ [] ++ codes "alice journal 1 0 0" ++ 10 ∷ [] ++ codes "alice start 10 0 10 '='(_1,1)" ++ 10 ∷ [] ++ codes "bob + 1" ++ 10 ∷ [] ++ codes "! truncated" ++ 10 ∷ []
+refused_reduction_leaves_the_journal_output = codes "alice + shoen 1" ++ 10 ∷ [] ++ codes "bob + shoen 1" ++ 10 ∷ [] ++ codes "alice + 2" ++ 10 ∷ [] ++ codes "alice journal 3 0 0" ++ 10 ∷ [] ++ codes "alice start 10 0 10 '='(_1,1)" ++ 10 ∷ [] ++ codes "alice - 6 step" ++ 10 ∷ [] ++ codes "alice + 2" ++ 10 ∷ [] ++ codes "alice journal 3 0 0" ++ 10 ∷ [] ++ codes "alice start 10 0 10 '='(_1,1)" ++ 10 ∷ [] ++ codes "bob + 1" ++ 10 ∷ [] ++ codes "! truncated" ++ 10 ∷ []
 
 -- the bytes of report_that_holds_its_tail.script
 abbrev pub report_that_holds_its_tail_script : List ℕ
@@ -880,7 +944,7 @@ reset_after_each_event_script = codes "accounts alice bob" ++ 10 ∷ [] ++ codes
 
 -- the bytes of reset_after_each_event.expected
 abbrev pub reset_after_each_event_output : List ℕ
-reset_after_each_event_output = codes "alice + reset" ++ 10 ∷ [] ++ codes "alice + 1" ++ 10 ∷ [] ++ codes "alice journal 1 0 0" ++ 10 ∷ [] ++ codes "alice + loaded e" ++ 10 ∷ [] ++ codes "alice + reset" ++ 10 ∷ [] ++ codes "alice + 0" ++ 10 ∷ [] ++ codes "alice + loaded e" ++ 10 ∷ [] ++ codes "alice + shoen 1" ++ 10 ∷ [] ++ codes "alice + reset" ++ 10 ∷ [] ++ codes "alice - 4 noshoen" ++ 10 ∷ [] ++ codes "alice + shoen 1" ++ 10 ∷ [] ++ codes "alice + sent" ++ 10 ∷ [] ++ codes "alice + reset" ++ 10 ∷ [] ++ codes "alice + 0" ++ 10 ∷ [] ++ codes "alice + shoen 1" ++ 10 ∷ [] ++ codes "alice + reduced" ++ 10 ∷ [] ++ codes "alice + reset" ++ 10 ∷ [] ++ codes "alice - 4 noshoen" ++ 10 ∷ [] ++ codes "alice + shoen 1" ++ 10 ∷ [] ++ codes "alice + true" ++ 10 ∷ [] ++ codes "alice + reset" ++ 10 ∷ [] ++ codes "alice - 4 noshoen" ++ 10 ∷ [] ++ codes "alice - 6 step" ++ 10 ∷ [] ++ codes "alice + reset" ++ 10 ∷ [] ++ codes "alice + welcome alice" ++ 10 ∷ [] ++ codes "alice + reset" ++ 10 ∷ [] ++ codes "alice + 1" ++ 10 ∷ [] ++ codes "alice journal 1 1 2" ++ 10 ∷ [] ++ codes "alice + bye" ++ 10 ∷ [] ++ codes "alice + reset" ++ 10 ∷ [] ++ codes "alice - 12 sessions" ++ 10 ∷ [] ++ codes "alice + 3" ++ 10 ∷ [] ++ codes "alice journal 1 0 2" ++ 10 ∷ [] ++ codes "alice name e" ++ 10 ∷ [] ++ codes "alice name p" ++ 10 ∷ []
+reset_after_each_event_output = codes "alice + reset" ++ 10 ∷ [] ++ codes "alice + 1" ++ 10 ∷ [] ++ codes "alice journal 3 0 0" ++ 10 ∷ [] ++ codes "alice + loaded e" ++ 10 ∷ [] ++ codes "alice + reset" ++ 10 ∷ [] ++ codes "alice + 0" ++ 10 ∷ [] ++ codes "alice + loaded e" ++ 10 ∷ [] ++ codes "alice + shoen 1" ++ 10 ∷ [] ++ codes "alice + reset" ++ 10 ∷ [] ++ codes "alice - 4 noshoen" ++ 10 ∷ [] ++ codes "alice + shoen 1" ++ 10 ∷ [] ++ codes "alice + sent" ++ 10 ∷ [] ++ codes "alice + reset" ++ 10 ∷ [] ++ codes "alice + 0" ++ 10 ∷ [] ++ codes "alice + shoen 1" ++ 10 ∷ [] ++ codes "alice + reduced" ++ 10 ∷ [] ++ codes "alice + reset" ++ 10 ∷ [] ++ codes "alice - 4 noshoen" ++ 10 ∷ [] ++ codes "alice + shoen 1" ++ 10 ∷ [] ++ codes "alice + true" ++ 10 ∷ [] ++ codes "alice + reset" ++ 10 ∷ [] ++ codes "alice - 4 noshoen" ++ 10 ∷ [] ++ codes "alice - 6 step" ++ 10 ∷ [] ++ codes "alice + reset" ++ 10 ∷ [] ++ codes "alice + welcome alice" ++ 10 ∷ [] ++ codes "alice + reset" ++ 10 ∷ [] ++ codes "alice + 1" ++ 10 ∷ [] ++ codes "alice journal 3 1 2" ++ 10 ∷ [] ++ codes "alice + bye" ++ 10 ∷ [] ++ codes "alice + reset" ++ 10 ∷ [] ++ codes "alice - 12 sessions" ++ 10 ∷ [] ++ codes "alice + 3" ++ 10 ∷ [] ++ codes "alice journal 3 0 2" ++ 10 ∷ [] ++ codes "alice name e" ++ 10 ∷ [] ++ codes "alice name p" ++ 10 ∷ []
 
 -- the bytes of reset_keeps_names.script
 abbrev pub reset_keeps_names_script : List ℕ
@@ -888,7 +952,7 @@ reset_keeps_names_script = codes "accounts alice bob" ++ 10 ∷ [] ++ codes "ali
 
 -- the bytes of reset_keeps_names.expected
 abbrev pub reset_keeps_names_output : List ℕ
-reset_keeps_names_output = codes "alice + loaded e" ++ 10 ∷ [] ++ codes "alice + 1" ++ 10 ∷ [] ++ codes "alice e 12 0" ++ 10 ∷ [] ++ codes "alice + 2" ++ 10 ∷ [] ++ codes "alice journal 1 0 0" ++ 10 ∷ [] ++ codes "alice load 3a2d206d6f64756c6520652e" ++ 10 ∷ [] ++ codes "alice + reset" ++ 10 ∷ [] ++ codes "alice + 2" ++ 10 ∷ [] ++ codes "alice journal 1 0 1" ++ 10 ∷ [] ++ codes "alice name e" ++ 10 ∷ [] ++ codes "alice + 0" ++ 10 ∷ [] ++ codes "alice + loaded e" ++ 10 ∷ [] ++ codes "alice + 3" ++ 10 ∷ [] ++ codes "alice journal 1 0 1" ++ 10 ∷ [] ++ codes "alice name e" ++ 10 ∷ [] ++ codes "alice load 3a2d206d6f64756c6520652e" ++ 10 ∷ []
+reset_keeps_names_output = codes "alice + loaded e" ++ 10 ∷ [] ++ codes "alice + 1" ++ 10 ∷ [] ++ codes "alice e 12 0" ++ 10 ∷ [] ++ codes "alice + 2" ++ 10 ∷ [] ++ codes "alice journal 3 0 0" ++ 10 ∷ [] ++ codes "alice load 3a2d206d6f64756c6520652e" ++ 10 ∷ [] ++ codes "alice + reset" ++ 10 ∷ [] ++ codes "alice + 2" ++ 10 ∷ [] ++ codes "alice journal 3 0 1" ++ 10 ∷ [] ++ codes "alice name e" ++ 10 ∷ [] ++ codes "alice + 0" ++ 10 ∷ [] ++ codes "alice + loaded e" ++ 10 ∷ [] ++ codes "alice + 3" ++ 10 ∷ [] ++ codes "alice journal 3 0 1" ++ 10 ∷ [] ++ codes "alice name e" ++ 10 ∷ [] ++ codes "alice load 3a2d206d6f64756c6520652e" ++ 10 ∷ []
 
 -- the bytes of reset_of_another_account.script
 abbrev pub reset_of_another_account_script : List ℕ
@@ -896,7 +960,7 @@ reset_of_another_account_script = codes "accounts alice bob" ++ 10 ∷ [] ++ cod
 
 -- the bytes of reset_of_another_account.expected
 abbrev pub reset_of_another_account_output : List ℕ
-reset_of_another_account_output = codes "alice + shoen 1" ++ 10 ∷ [] ++ codes "bob + shoen 1" ++ 10 ∷ [] ++ codes "bob + welcome bob" ++ 10 ∷ [] ++ codes "bob + reset" ++ 10 ∷ [] ++ codes "bob - 4 noshoen" ++ 10 ∷ [] ++ codes "alice + running 0 9 1" ++ 10 ∷ [] ++ codes "alice + 2" ++ 10 ∷ [] ++ codes "alice journal 1 0 0" ++ 10 ∷ [] ++ codes "alice start 9 0 9 ':='(_1,_2)" ++ 10 ∷ [] ++ codes "bob + 1" ++ 10 ∷ [] ++ codes "bob journal 1 1 0" ++ 10 ∷ []
+reset_of_another_account_output = codes "alice + shoen 1" ++ 10 ∷ [] ++ codes "bob + shoen 1" ++ 10 ∷ [] ++ codes "bob + welcome bob" ++ 10 ∷ [] ++ codes "bob + reset" ++ 10 ∷ [] ++ codes "bob - 4 noshoen" ++ 10 ∷ [] ++ codes "alice + running 0 9 1" ++ 10 ∷ [] ++ codes "alice + 2" ++ 10 ∷ [] ++ codes "alice journal 3 0 0" ++ 10 ∷ [] ++ codes "alice start 9 0 9 ':='(_1,_2)" ++ 10 ∷ [] ++ codes "bob + 1" ++ 10 ∷ [] ++ codes "bob journal 3 1 0" ++ 10 ∷ []
 
 -- the bytes of reversed_list.script
 abbrev pub reversed_list_script : List ℕ
@@ -920,15 +984,7 @@ sessions_stay_through_a_reset_script = codes "accounts alice bob" ++ 10 ∷ [] +
 
 -- the bytes of sessions_stay_through_a_reset.expected
 abbrev pub sessions_stay_through_a_reset_output : List ℕ
-sessions_stay_through_a_reset_output = codes "alice + welcome alice" ++ 10 ∷ [] ++ codes "alice + welcome alice" ++ 10 ∷ [] ++ codes "alice + 1" ++ 10 ∷ [] ++ codes "alice journal 1 2 0" ++ 10 ∷ [] ++ codes "alice + shoen 1" ++ 10 ∷ [] ++ codes "alice + reset" ++ 10 ∷ [] ++ codes "alice + 1" ++ 10 ∷ [] ++ codes "alice journal 1 2 0" ++ 10 ∷ [] ++ codes "alice + welcome alice" ++ 10 ∷ [] ++ codes "alice + welcome alice" ++ 10 ∷ [] ++ codes "alice - 12 sessions" ++ 10 ∷ [] ++ codes "alice + bye" ++ 10 ∷ [] ++ codes "alice + 1" ++ 10 ∷ [] ++ codes "alice journal 1 3 0" ++ 10 ∷ []
-
--- the bytes of seventeen_accounts.script
-abbrev pub seventeen_accounts_script : List ℕ
-seventeen_accounts_script = codes "accounts a0 a1 a2 a3 a4 a5 a6 a7 a8 a9 a10 a11 a12 a13 a14 a15 b" ++ 10 ∷ [] ++ codes "a0 run 0" ++ 10 ∷ []
-
--- the bytes of seventeen_accounts.expected
-abbrev pub seventeen_accounts_output : List ℕ
-seventeen_accounts_output = codes "! accounts" ++ 10 ∷ []
+sessions_stay_through_a_reset_output = codes "alice + welcome alice" ++ 10 ∷ [] ++ codes "alice + welcome alice" ++ 10 ∷ [] ++ codes "alice + 1" ++ 10 ∷ [] ++ codes "alice journal 3 2 0" ++ 10 ∷ [] ++ codes "alice + shoen 1" ++ 10 ∷ [] ++ codes "alice + reset" ++ 10 ∷ [] ++ codes "alice + 1" ++ 10 ∷ [] ++ codes "alice journal 3 2 0" ++ 10 ∷ [] ++ codes "alice + welcome alice" ++ 10 ∷ [] ++ codes "alice + welcome alice" ++ 10 ∷ [] ++ codes "alice - 12 sessions" ++ 10 ∷ [] ++ codes "alice + bye" ++ 10 ∷ [] ++ codes "alice + 1" ++ 10 ∷ [] ++ codes "alice journal 3 3 0" ++ 10 ∷ []
 
 -- the bytes of shoens_32_deep.script
 abbrev pub shoens_32_deep_script : List ℕ
@@ -936,7 +992,7 @@ shoens_32_deep_script = codes "accounts alice" ++ 10 ∷ [] ++ codes "alice load
 
 -- the bytes of shoens_32_deep.expected
 abbrev pub shoens_32_deep_output : List ℕ
-shoens_32_deep_output = codes "alice + loaded d" ++ 10 ∷ [] ++ codes "alice + shoen 1" ++ 10 ∷ [] ++ codes "alice + 64" ++ 10 ∷ [] ++ codes "alice + terminated 64 1000 0" ++ 10 ∷ [] ++ codes "alice + terminated 2 1000 0" ++ 10 ∷ [] ++ codes "alice - 4 noshoen" ++ 10 ∷ []
+shoens_32_deep_output = codes "alice + loaded d" ++ 10 ∷ [] ++ codes "alice + shoen 1" ++ 10 ∷ [] ++ codes "alice + 64" ++ 10 ∷ [] ++ codes "alice + running 64 1000 1" ++ 10 ∷ [] ++ codes "alice + running 2 1000 1" ++ 10 ∷ [] ++ codes "alice - 4 noshoen" ++ 10 ∷ []
 
 -- the bytes of single_reductions.script
 abbrev pub single_reductions_script : List ℕ
@@ -945,14 +1001,6 @@ single_reductions_script = codes "accounts alice bob" ++ 10 ∷ [] ++ codes "ali
 -- the bytes of single_reductions.expected
 abbrev pub single_reductions_output : List ℕ
 single_reductions_output = codes "alice - 6 step" ++ 10 ∷ [] ++ codes "alice + shoen 1" ++ 10 ∷ [] ++ codes "alice + shoen 2" ++ 10 ∷ [] ++ codes "alice - 6 step" ++ 10 ∷ [] ++ codes "alice - 6 step" ++ 10 ∷ [] ++ codes "alice - 6 step" ++ 10 ∷ [] ++ codes "alice - 6 step" ++ 10 ∷ [] ++ codes "alice - 1 syntax" ++ 10 ∷ [] ++ codes "alice - 1 syntax" ++ 10 ∷ [] ++ codes "alice - 1 syntax" ++ 10 ∷ [] ++ codes "alice - 1 syntax" ++ 10 ∷ [] ++ codes "alice - 1 syntax" ++ 10 ∷ [] ++ codes "alice - 6 step" ++ 10 ∷ [] ++ codes "alice - 1 syntax" ++ 10 ∷ [] ++ codes "alice - 1 syntax" ++ 10 ∷ [] ++ codes "alice - 1 syntax" ++ 10 ∷ [] ++ codes "alice + '='(_5,b)" ++ 10 ∷ [] ++ codes "alice + reduced" ++ 10 ∷ [] ++ codes "alice + '='(b,b)" ++ 10 ∷ [] ++ codes "alice - 6 step" ++ 10 ∷ [] ++ codes "alice + '='(_1,a)" ++ 10 ∷ []
-
--- the bytes of sixteen_accounts.script
-abbrev pub sixteen_accounts_script : List ℕ
-sixteen_accounts_script = codes "accounts a0 a1 a2 a3 a4 a5 a6 a7 a8 a9 a10 a11 a12 a13 a14 a15" ++ 10 ∷ [] ++ codes "a0 run 0" ++ 10 ∷ [] ++ codes "a15 run 0" ++ 10 ∷ []
-
--- the bytes of sixteen_accounts.expected
-abbrev pub sixteen_accounts_output : List ℕ
-sixteen_accounts_output = codes "a0 + 0" ++ 10 ∷ [] ++ codes "a15 + 0" ++ 10 ∷ []
 
 -- the bytes of sixteen_accounts_interleaved.script
 abbrev pub sixteen_accounts_interleaved_script : List ℕ
@@ -1026,6 +1074,54 @@ stream_bound_by_the_program_script = codes "accounts alice" ++ 10 ∷ [] ++ code
 abbrev pub stream_bound_by_the_program_output : List ℕ
 stream_bound_by_the_program_output = codes "alice + shoen 1" ++ 10 ∷ [] ++ codes "alice + 2" ++ 10 ∷ [] ++ codes "alice + shoen:execute(true,0,10,5,_1,[x|_2])" ++ 10 ∷ [] ++ codes "alice + terminated 1 5 0" ++ 10 ∷ [] ++ codes "alice + 2" ++ 10 ∷ [] ++ codes "alice started" ++ 10 ∷ [] ++ codes "alice terminated" ++ 10 ∷ []
 
+-- the bytes of substitute_in_a_stopped_shoen.script
+abbrev pub substitute_in_a_stopped_shoen_script : List ℕ
+substitute_in_a_stopped_shoen_script = codes "accounts alice" ++ 10 ∷ [] ++ codes "alice start 10 0 9 1 = 2" ++ 10 ∷ [] ++ codes "alice run 9" ++ 10 ∷ [] ++ codes "alice stop 1" ++ 10 ∷ [] ++ codes "alice run 9" ++ 10 ∷ [] ++ codes "alice answer 1 2 true" ++ 10 ∷ [] ++ codes "alice run 9" ++ 10 ∷ [] ++ codes "alice quiet" ++ 10 ∷ [] ++ codes "alice status 1" ++ 10 ∷ [] ++ codes "alice resume 1" ++ 10 ∷ [] ++ codes "alice run 9" ++ 10 ∷ [] ++ codes "alice status 1" ++ 10 ∷ []
+
+-- the bytes of substitute_in_a_stopped_shoen.expected
+abbrev pub substitute_in_a_stopped_shoen_output : List ℕ
+substitute_in_a_stopped_shoen_output = codes "alice + shoen 1" ++ 10 ∷ [] ++ codes "alice + 1" ++ 10 ∷ [] ++ codes "alice + sent" ++ 10 ∷ [] ++ codes "alice + 1" ++ 10 ∷ [] ++ codes "alice + sent" ++ 10 ∷ [] ++ codes "alice + 0" ++ 10 ∷ [] ++ codes "alice + yes" ++ 10 ∷ [] ++ codes "alice + stopped 1 10 1" ++ 10 ∷ [] ++ codes "alice + sent" ++ 10 ∷ [] ++ codes "alice + 3" ++ 10 ∷ [] ++ codes "alice + terminated 3 10 0" ++ 10 ∷ []
+
+-- the bytes of substitute_in_an_exhausted_shoen.script
+abbrev pub substitute_in_an_exhausted_shoen_script : List ℕ
+substitute_in_an_exhausted_shoen_script = codes "accounts alice" ++ 10 ∷ [] ++ codes "alice start 1 0 9 1 = 2" ++ 10 ∷ [] ++ codes "alice run 9" ++ 10 ∷ [] ++ codes "alice status 1" ++ 10 ∷ [] ++ codes "alice reports 1 1" ++ 10 ∷ [] ++ codes "alice answer 1 2 true" ++ 10 ∷ [] ++ codes "alice run 9" ++ 10 ∷ [] ++ codes "alice allow 1 1" ++ 10 ∷ [] ++ codes "alice run 9" ++ 10 ∷ [] ++ codes "alice status 1" ++ 10 ∷ [] ++ codes "alice reports 1 4" ++ 10 ∷ [] ++ codes "alice allow 1 1" ++ 10 ∷ [] ++ codes "alice run 9" ++ 10 ∷ [] ++ codes "alice status 1" ++ 10 ∷ [] ++ codes "alice reports 1 5" ++ 10 ∷ []
+
+-- the bytes of substitute_in_an_exhausted_shoen.expected
+abbrev pub substitute_in_an_exhausted_shoen_output : List ℕ
+substitute_in_an_exhausted_shoen_output = codes "alice + shoen 1" ++ 10 ∷ [] ++ codes "alice + 1" ++ 10 ∷ [] ++ codes "alice + exhausted 1 1 1" ++ 10 ∷ [] ++ codes "alice + 3" ++ 10 ∷ [] ++ codes "alice started" ++ 10 ∷ [] ++ codes "alice exception(failure,'='(1,2),_4)" ++ 10 ∷ [] ++ codes "alice exhausted" ++ 10 ∷ [] ++ codes "alice + sent" ++ 10 ∷ [] ++ codes "alice + 0" ++ 10 ∷ [] ++ codes "alice + sent" ++ 10 ∷ [] ++ codes "alice + 2" ++ 10 ∷ [] ++ codes "alice + exhausted 2 2 1" ++ 10 ∷ [] ++ codes "alice + 1" ++ 10 ∷ [] ++ codes "alice exhausted" ++ 10 ∷ [] ++ codes "alice + sent" ++ 10 ∷ [] ++ codes "alice + 2" ++ 10 ∷ [] ++ codes "alice + terminated 3 3 0" ++ 10 ∷ [] ++ codes "alice + 1" ++ 10 ∷ [] ++ codes "alice terminated" ++ 10 ∷ []
+
+-- the bytes of substitute_of_an_integer.script
+abbrev pub substitute_of_an_integer_script : List ℕ
+substitute_of_an_integer_script = codes "accounts alice" ++ 10 ∷ [] ++ codes "alice load 116" ++ 10 ∷ [] ++ codes ":- module u." ++ 10 ∷ [] ++ codes "m(R) :- true | shoen:execute(1 = 2,0,10,10,C,R), f(R)." ++ 10 ∷ [] ++ codes "f([started,exception(K,G,N)|T]) :- true | N = 0." ++ 10 ∷ [] ++ codes "alice start 100 0 10 u:m(R)" ++ 10 ∷ [] ++ codes "alice run 100" ++ 10 ∷ [] ++ codes "alice value 1" ++ 10 ∷ []
+
+-- the bytes of substitute_of_an_integer.expected
+abbrev pub substitute_of_an_integer_output : List ℕ
+substitute_of_an_integer_output = codes "alice + loaded u" ++ 10 ∷ [] ++ codes "alice + shoen 1" ++ 10 ∷ [] ++ codes "alice + 6" ++ 10 ∷ [] ++ codes "alice + u:m([started,exception(failure,'='(1,2),0),exception(illegal_input,0,_9)|_10])" ++ 10 ∷ []
+
+-- the bytes of substitute_waits_for_the_predicate.script
+abbrev pub substitute_waits_for_the_predicate_script : List ℕ
+substitute_waits_for_the_predicate_script = codes "accounts alice" ++ 10 ∷ [] ++ codes "alice load 181" ++ 10 ∷ [] ++ codes ":- module h." ++ 10 ∷ [] ++ codes "m :- true | shoen:execute(1 = 2,0,9,9,C,R), f(R,P), b(P)@priority(0)." ++ 10 ∷ [] ++ codes "f([started,exception(K,G,N)|T],P) :- true | N = h:P." ++ 10 ∷ [] ++ codes "b(P) :- true | P = done." ++ 10 ∷ [] ++ codes "done :- true | true." ++ 10 ∷ [] ++ codes "alice start 100 0 10 h:m" ++ 10 ∷ [] ++ codes "alice run 5" ++ 10 ∷ [] ++ codes "alice status 2" ++ 10 ∷ [] ++ codes "alice quiet" ++ 10 ∷ [] ++ codes "alice reduce 8 0" ++ 10 ∷ [] ++ codes "alice run 2" ++ 10 ∷ [] ++ codes "alice reduce 8 1" ++ 10 ∷ [] ++ codes "alice run 100" ++ 10 ∷ [] ++ codes "alice status 2" ++ 10 ∷ [] ++ codes "alice status 1" ++ 10 ∷ []
+
+-- the bytes of substitute_waits_for_the_predicate.expected
+abbrev pub substitute_waits_for_the_predicate_output : List ℕ
+substitute_waits_for_the_predicate_output = codes "alice + loaded h" ++ 10 ∷ [] ++ codes "alice + shoen 1" ++ 10 ∷ [] ++ codes "alice + 5" ++ 10 ∷ [] ++ codes "alice + running 1 9 1" ++ 10 ∷ [] ++ codes "alice + no" ++ 10 ∷ [] ++ codes "alice - 6 step" ++ 10 ∷ [] ++ codes "alice + 2" ++ 10 ∷ [] ++ codes "alice - 6 step" ++ 10 ∷ [] ++ codes "alice + 3" ++ 10 ∷ [] ++ codes "alice + terminated 4 9 0" ++ 10 ∷ [] ++ codes "alice + terminated 10 100 0" ++ 10 ∷ []
+
+-- the bytes of thirty_three_accounts.script
+abbrev pub thirty_three_accounts_script : List ℕ
+thirty_three_accounts_script = codes "accounts a0 a1 a2 a3 a4 a5 a6 a7 a8 a9 a10 a11 a12 a13 a14 a15 a16 a17 a18 a19 a20 a21 a22 a23 a24 a25 a26 a27 a28 a29 a30 a31 b" ++ 10 ∷ [] ++ codes "a0 run 0" ++ 10 ∷ []
+
+-- the bytes of thirty_three_accounts.expected
+abbrev pub thirty_three_accounts_output : List ℕ
+thirty_three_accounts_output = codes "! accounts" ++ 10 ∷ []
+
+-- the bytes of thirty_two_accounts.script
+abbrev pub thirty_two_accounts_script : List ℕ
+thirty_two_accounts_script = codes "accounts a0 a1 a2 a3 a4 a5 a6 a7 a8 a9 a10 a11 a12 a13 a14 a15 a16 a17 a18 a19 a20 a21 a22 a23 a24 a25 a26 a27 a28 a29 a30 a31" ++ 10 ∷ [] ++ codes "a0 run 0" ++ 10 ∷ [] ++ codes "a31 run 0" ++ 10 ∷ []
+
+-- the bytes of thirty_two_accounts.expected
+abbrev pub thirty_two_accounts_output : List ℕ
+thirty_two_accounts_output = codes "a0 + 0" ++ 10 ∷ [] ++ codes "a31 + 0" ++ 10 ∷ []
+
 -- the bytes of truncated_load.script
 abbrev pub truncated_load_script : List ℕ
 truncated_load_script = codes "accounts alice" ++ 10 ∷ [] ++ codes "alice start 10 0 10 true" ++ 10 ∷ [] ++ codes "alice load 50" ++ 10 ∷ [] ++ codes "xxxxxxxxxxxxxxxxxxxxxxxxxxxxxxxxxxxxxxxxxxxxxxxxx"
@@ -1041,6 +1137,14 @@ truncated_load_of_another_name_script = codes "accounts alice bob" ++ 10 ∷ [] 
 -- the bytes of truncated_load_of_another_name.expected
 abbrev pub truncated_load_of_another_name_output : List ℕ
 truncated_load_of_another_name_output = codes "! truncated" ++ 10 ∷ []
+
+-- the bytes of two_answers_for_one_exception.script
+abbrev pub two_answers_for_one_exception_script : List ℕ
+two_answers_for_one_exception_script = codes "accounts alice" ++ 10 ∷ [] ++ codes "alice load 172" ++ 10 ∷ [] ++ codes ":- module v." ++ 10 ∷ [] ++ codes "m(R) :- true | shoen:execute(1 = 2,0,9,9,C,R), f(R)." ++ 10 ∷ [] ++ codes "f([started,exception(K,G,N)|T]) :- true | a(N), b(N)." ++ 10 ∷ [] ++ codes "a(N) :- true | N = true." ++ 10 ∷ [] ++ codes "b(N) :- true | N = (1 = 1)." ++ 10 ∷ [] ++ codes "alice start 100 0 10 v:m(R)" ++ 10 ∷ [] ++ codes "alice run 100" ++ 10 ∷ [] ++ codes "alice value 1" ++ 10 ∷ [] ++ codes "alice status 2" ++ 10 ∷ [] ++ codes "alice status 1" ++ 10 ∷ [] ++ codes "alice reports 1 2" ++ 10 ∷ [] ++ codes "alice answer 1 2 true" ++ 10 ∷ [] ++ codes "alice run 9" ++ 10 ∷ [] ++ codes "alice status 1" ++ 10 ∷ []
+
+-- the bytes of two_answers_for_one_exception.expected
+abbrev pub two_answers_for_one_exception_output : List ℕ
+two_answers_for_one_exception_output = codes "alice + loaded v" ++ 10 ∷ [] ++ codes "alice + shoen 1" ++ 10 ∷ [] ++ codes "alice + 10" ++ 10 ∷ [] ++ codes "alice + v:m([started,exception(failure,'='(1,2),true),terminated])" ++ 10 ∷ [] ++ codes "alice + terminated 3 9 0" ++ 10 ∷ [] ++ codes "alice + running 10 100 1" ++ 10 ∷ [] ++ codes "alice + 1" ++ 10 ∷ [] ++ codes "alice exception(failure,'='(true,'='(1,1)),_9)" ++ 10 ∷ [] ++ codes "alice + sent" ++ 10 ∷ [] ++ codes "alice + 2" ++ 10 ∷ [] ++ codes "alice + terminated 12 100 0" ++ 10 ∷ []
 
 -- the bytes of two_shoens_on_one_stream.script
 abbrev pub two_shoens_on_one_stream_script : List ℕ
@@ -1126,6 +1230,7 @@ words_and_line_ends_output = codes "alice + 0" ++ 10 ∷ [] ++ codes "alice - 1 
 pub record ExamplesHold : Type 0 where
   pub a_failure_stops_nothing_else : output a_failure_stops_nothing_else_script ≡ a_failure_stops_nothing_else_output
   pub abort_ends_what_is_below : output abort_ends_what_is_below_script ≡ abort_ends_what_is_below_output
+  pub abort_removes_substitutes : output abort_removes_substitutes_script ≡ abort_removes_substitutes_output
   pub abort_tells_nothing_below : output abort_tells_nothing_below_script ≡ abort_tells_nothing_below_output
   pub abort_with_two_children : output abort_with_two_children_script ≡ abort_with_two_children_output
   pub aborted_child_ends_its_parent : output aborted_child_ends_its_parent_script ≡ aborted_child_ends_its_parent_output
@@ -1141,6 +1246,10 @@ pub record ExamplesHold : Type 0 where
   pub allowance_of_0 : output allowance_of_0_script ≡ allowance_of_0_output
   pub allowance_runs_out : output allowance_runs_out_script ≡ allowance_runs_out_output
   pub allowance_runs_out_twice : output allowance_runs_out_twice_script ≡ allowance_runs_out_twice_output
+  pub answer_of_the_program_is_no_goal : output answer_of_the_program_is_no_goal_script ≡ answer_of_the_program_is_no_goal_output
+  pub answer_opens_a_shoen : output answer_opens_a_shoen_script ≡ answer_opens_a_shoen_output
+  pub answer_that_fails_is_answered : output answer_that_fails_is_answered_script ≡ answer_that_fails_is_answered_output
+  pub answers_that_are_refused : output answers_that_are_refused_script ≡ answers_that_are_refused_output
   pub append_beside_another_account : output append_beside_another_account_script ≡ append_beside_another_account_output
   pub append_by_single_reductions : output append_by_single_reductions_script ≡ append_by_single_reductions_output
   pub append_two_lists : output append_two_lists_script ≡ append_two_lists_output
@@ -1167,6 +1276,7 @@ pub record ExamplesHold : Type 0 where
   pub cyclic_term_is_reported : output cyclic_term_is_reported_script ≡ cyclic_term_is_reported_output
   pub doubled_account : output doubled_account_script ≡ doubled_account_output
   pub ended_or_exhausted : output ended_or_exhausted_script ≡ ended_or_exhausted_output
+  pub exception_is_answered : output exception_is_answered_script ≡ exception_is_answered_output
   pub exhausted_innermost_first : output exhausted_innermost_first_script ≡ exhausted_innermost_first_output
   pub exhausted_parent_holds_back : output exhausted_parent_holds_back_script ≡ exhausted_parent_holds_back_output
   pub failed_goal_is_started_again : output failed_goal_is_started_again_script ≡ failed_goal_is_started_again_output
@@ -1205,15 +1315,17 @@ pub record ExamplesHold : Type 0 where
   pub modules_loaded_at_that_moment : output modules_loaded_at_that_moment_script ≡ modules_loaded_at_that_moment_output
   pub modules_of_two_accounts : output modules_of_two_accounts_script ≡ modules_of_two_accounts_output
   pub names_before_the_first_space : output names_before_the_first_space_script ≡ names_before_the_first_space_output
+  pub names_from_127_and_128_codes : output names_from_127_and_128_codes_script ≡ names_from_127_and_128_codes_output
   pub names_from_codes : output names_from_codes_script ≡ names_from_codes_output
   pub names_in_order_of_first_use : output names_in_order_of_first_use_script ≡ names_in_order_of_first_use_output
   pub names_in_quotes : output names_in_quotes_script ≡ names_in_quotes_output
-  pub names_of_63_and_64_bytes : output names_of_63_and_64_bytes_script ≡ names_of_63_and_64_bytes_output
+  pub names_of_127_and_128_bytes : output names_of_127_and_128_bytes_script ≡ names_of_127_and_128_bytes_output
   pub nested_patterns : output nested_patterns_script ≡ nested_patterns_output
   pub no_accounts : output no_accounts_script ≡ no_accounts_output
   pub no_clause_for_a_goal_that_waits : output no_clause_for_a_goal_that_waits_script ≡ no_clause_for_a_goal_that_waits_output
   pub no_cyclic_terms : output no_cyclic_terms_script ≡ no_cyclic_terms_output
   pub numbers_of_19_digits : output numbers_of_19_digits_script ≡ numbers_of_19_digits_output
+  pub one_answer_for_two_exceptions : output one_answer_for_two_exceptions_script ≡ one_answer_for_two_exceptions_output
   pub one_text_in_two_accounts : output one_text_in_two_accounts_script ≡ one_text_in_two_accounts_output
   pub orders_of_each_kind : output orders_of_each_kind_script ≡ orders_of_each_kind_output
   pub orders_that_are_wrong : output orders_that_are_wrong_script ≡ orders_that_are_wrong_output
@@ -1239,10 +1351,8 @@ pub record ExamplesHold : Type 0 where
   pub reversed_list : output reversed_list_script ≡ reversed_list_output
   pub second_variable_wakes : output second_variable_wakes_script ≡ second_variable_wakes_output
   pub sessions_stay_through_a_reset : output sessions_stay_through_a_reset_script ≡ sessions_stay_through_a_reset_output
-  pub seventeen_accounts : output seventeen_accounts_script ≡ seventeen_accounts_output
   pub shoens_32_deep : output shoens_32_deep_script ≡ shoens_32_deep_output
   pub single_reductions : output single_reductions_script ≡ single_reductions_output
-  pub sixteen_accounts : output sixteen_accounts_script ≡ sixteen_accounts_output
   pub sixteen_accounts_interleaved : output sixteen_accounts_interleaved_script ≡ sixteen_accounts_interleaved_output
   pub slices_by_allowances : output slices_by_allowances_script ≡ slices_by_allowances_output
   pub stopped_and_resumed : output stopped_and_resumed_script ≡ stopped_and_resumed_output
@@ -1252,8 +1362,15 @@ pub record ExamplesHold : Type 0 where
   pub stopped_shoen_terminates : output stopped_shoen_terminates_script ≡ stopped_shoen_terminates_output
   pub stopped_while_exhausted : output stopped_while_exhausted_script ≡ stopped_while_exhausted_output
   pub stream_bound_by_the_program : output stream_bound_by_the_program_script ≡ stream_bound_by_the_program_output
+  pub substitute_in_a_stopped_shoen : output substitute_in_a_stopped_shoen_script ≡ substitute_in_a_stopped_shoen_output
+  pub substitute_in_an_exhausted_shoen : output substitute_in_an_exhausted_shoen_script ≡ substitute_in_an_exhausted_shoen_output
+  pub substitute_of_an_integer : output substitute_of_an_integer_script ≡ substitute_of_an_integer_output
+  pub substitute_waits_for_the_predicate : output substitute_waits_for_the_predicate_script ≡ substitute_waits_for_the_predicate_output
+  pub thirty_three_accounts : output thirty_three_accounts_script ≡ thirty_three_accounts_output
+  pub thirty_two_accounts : output thirty_two_accounts_script ≡ thirty_two_accounts_output
   pub truncated_load : output truncated_load_script ≡ truncated_load_output
   pub truncated_load_of_another_name : output truncated_load_of_another_name_script ≡ truncated_load_of_another_name_output
+  pub two_answers_for_one_exception : output two_answers_for_one_exception_script ≡ two_answers_for_one_exception_output
   pub two_shoens_on_one_stream : output two_shoens_on_one_stream_script ≡ two_shoens_on_one_stream_output
   pub unification_fails_whole : output unification_fails_whole_script ≡ unification_fails_whole_output
   pub unknown_predicates_fail : output unknown_predicates_fail_script ≡ unknown_predicates_fail_output

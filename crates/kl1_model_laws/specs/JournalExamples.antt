@@ -2,6 +2,46 @@
 use Rattle.std.specs.Prelude.{◌≡◌, ℕ, List, [], ◌∷◌, ◌++◌, codes}
 use Rattle.kl1_model_history.specs.Replay.{replay_output}
 
+-- the bytes of answer_in_another_spelling.journal
+abbrev pub answer_in_another_spelling_journal : List ℕ
+answer_in_another_spelling_journal = codes "journal 2 0 0" ++ 10 ∷ [] ++ codes "start 10 0 10 '='(1,2)" ++ 10 ∷ [] ++ codes "reduce 2 0" ++ 10 ∷ [] ++ codes "answer 1 2 X = 1" ++ 10 ∷ []
+
+-- the bytes of answer_in_another_spelling.expected
+abbrev pub answer_in_another_spelling_output : List ℕ
+answer_in_another_spelling_output = codes "+ shoen 1" ++ 10 ∷ [] ++ codes "+ reduced" ++ 10 ∷ [] ++ codes "fault 4" ++ 10 ∷ []
+
+-- the bytes of answer_in_version_1.journal
+abbrev pub answer_in_version_1_journal : List ℕ
+answer_in_version_1_journal = codes "journal 1 0 0" ++ 10 ∷ [] ++ codes "start 10 0 10 '='(_1,f(_1))" ++ 10 ∷ [] ++ codes "reduce 2 0" ++ 10 ∷ [] ++ codes "answer 1 2 true" ++ 10 ∷ [] ++ codes "reduce 3 0" ++ 10 ∷ [] ++ codes "reduce 4 0" ++ 10 ∷ []
+
+-- the bytes of answer_in_version_1.expected
+abbrev pub answer_in_version_1_output : List ℕ
+answer_in_version_1_output = codes "+ shoen 1" ++ 10 ∷ [] ++ codes "+ reduced" ++ 10 ∷ [] ++ codes "fault 4" ++ 10 ∷ []
+
+-- the bytes of answer_to_no_report.journal
+abbrev pub answer_to_no_report_journal : List ℕ
+answer_to_no_report_journal = codes "journal 2 0 0" ++ 10 ∷ [] ++ codes "start 10 0 10 true" ++ 10 ∷ [] ++ codes "answer 1 2 true" ++ 10 ∷ []
+
+-- the bytes of answer_to_no_report.expected
+abbrev pub answer_to_no_report_output : List ℕ
+answer_to_no_report_output = codes "+ shoen 1" ++ 10 ∷ [] ++ codes "fault 3" ++ 10 ∷ []
+
+-- the bytes of answer_to_report_0.journal
+abbrev pub answer_to_report_0_journal : List ℕ
+answer_to_report_0_journal = codes "journal 2 0 0" ++ 10 ∷ [] ++ codes "start 10 0 10 '='(1,2)" ++ 10 ∷ [] ++ codes "reduce 2 0" ++ 10 ∷ [] ++ codes "answer 1 0 true" ++ 10 ∷ []
+
+-- the bytes of answer_to_report_0.expected
+abbrev pub answer_to_report_0_output : List ℕ
+answer_to_report_0_output = codes "+ shoen 1" ++ 10 ∷ [] ++ codes "+ reduced" ++ 10 ∷ [] ++ codes "fault 4" ++ 10 ∷ []
+
+-- the bytes of append_two_lists.journal
+abbrev pub append_two_lists_journal : List ℕ
+append_two_lists_journal = codes "journal 1 0 0" ++ 10 ∷ [] ++ codes "load 3a2d206d6f64756c65206170702e0a617070285b5d2c592c5a29203a2d2074727565207c205a203d20592e0a617070285b417c585d2c592c5a29203a2d2074727565207c205a203d205b417c575d2c2061707028582c592c57292e" ++ 10 ∷ [] ++ codes "start 100 0 10 app:app([1],[2],_1)" ++ 10 ∷ [] ++ codes "reduce 2 2" ++ 10 ∷ [] ++ codes "reduce 3 0" ++ 10 ∷ [] ++ codes "reduce 4 1" ++ 10 ∷ [] ++ codes "reduce 5 0" ++ 10 ∷ []
+
+-- the bytes of append_two_lists.expected
+abbrev pub append_two_lists_output : List ℕ
+append_two_lists_output = codes "+ loaded app" ++ 10 ∷ [] ++ codes "+ shoen 1" ++ 10 ∷ [] ++ codes "+ reduced" ++ 10 ∷ [] ++ codes "+ reduced" ++ 10 ∷ [] ++ codes "+ reduced" ++ 10 ∷ [] ++ codes "+ reduced" ++ 10 ∷ [] ++ codes "+ end 6" ++ 10 ∷ []
+
 -- the bytes of bad_source.journal
 abbrev pub bad_source_journal : List ℕ
 bad_source_journal = codes "journal 1 0 0" ++ 10 ∷ [] ++ codes "load 3a" ++ 10 ∷ []
@@ -177,6 +217,22 @@ entry_without_a_feed_journal = codes "journal 1 0 0" ++ 10 ∷ [] ++ codes "star
 -- the bytes of entry_without_a_feed.expected
 abbrev pub entry_without_a_feed_output : List ℕ
 entry_without_a_feed_output = codes "+ shoen 1" ++ 10 ∷ [] ++ codes "fault 3" ++ 10 ∷ []
+
+-- the bytes of exception_and_answer.journal
+abbrev pub exception_and_answer_journal : List ℕ
+exception_and_answer_journal = codes "journal 2 0 0" ++ 10 ∷ [] ++ codes "start 10 0 10 '='(_1,f(_1))" ++ 10 ∷ [] ++ codes "reduce 2 0" ++ 10 ∷ [] ++ codes "answer 1 2 true" ++ 10 ∷ [] ++ codes "reduce 3 0" ++ 10 ∷ [] ++ codes "reduce 4 0" ++ 10 ∷ []
+
+-- the bytes of exception_and_answer.expected
+abbrev pub exception_and_answer_output : List ℕ
+exception_and_answer_output = codes "+ shoen 1" ++ 10 ∷ [] ++ codes "+ reduced" ++ 10 ∷ [] ++ codes "+ sent" ++ 10 ∷ [] ++ codes "+ reduced" ++ 10 ∷ [] ++ codes "+ reduced" ++ 10 ∷ [] ++ codes "+ end 5" ++ 10 ∷ []
+
+-- the bytes of exception_in_version_1.journal
+abbrev pub exception_in_version_1_journal : List ℕ
+exception_in_version_1_journal = codes "journal 1 0 0" ++ 10 ∷ [] ++ codes "start 10 0 10 '='(_1,f(_1))" ++ 10 ∷ [] ++ codes "reduce 2 0" ++ 10 ∷ [] ++ codes "abort 1" ++ 10 ∷ []
+
+-- the bytes of exception_in_version_1.expected
+abbrev pub exception_in_version_1_output : List ℕ
+exception_in_version_1_output = codes "+ shoen 1" ++ 10 ∷ [] ++ codes "+ reduced" ++ 10 ∷ [] ++ codes "fault 4" ++ 10 ∷ []
 
 -- the bytes of five_sessions.journal
 abbrev pub five_sessions_journal : List ℕ
@@ -356,7 +412,7 @@ heading_without_a_feed_output = codes "fault 1" ++ 10 ∷ []
 
 -- the bytes of later_version.journal
 abbrev pub later_version_journal : List ℕ
-later_version_journal = codes "journal 2 0 0" ++ 10 ∷ []
+later_version_journal = codes "journal 4 0 0" ++ 10 ∷ []
 
 -- the bytes of later_version.expected
 abbrev pub later_version_output : List ℕ
@@ -426,6 +482,14 @@ many_names_told_journal = codes "journal 1 0 1024" ++ 10 ∷ []
 abbrev pub many_names_told_output : List ℕ
 many_names_told_output = codes "fault 2" ++ 10 ∷ []
 
+-- the bytes of messages_of_a_program.journal
+abbrev pub messages_of_a_program_journal : List ℕ
+messages_of_a_program_journal = codes "journal 1 0 0" ++ 10 ∷ [] ++ codes "start 100 0 10 shoen:execute(true,0,10,5,[foo],_1)" ++ 10 ∷ [] ++ codes "reduce 2 0" ++ 10 ∷ [] ++ codes "reduce 3 0" ++ 10 ∷ [] ++ codes "reduce 3 0" ++ 10 ∷ [] ++ codes "reduce 4 0" ++ 10 ∷ []
+
+-- the bytes of messages_of_a_program.expected
+abbrev pub messages_of_a_program_output : List ℕ
+messages_of_a_program_output = codes "+ shoen 1" ++ 10 ∷ [] ++ codes "+ reduced" ++ 10 ∷ [] ++ codes "+ reduced" ++ 10 ∷ [] ++ codes "+ reduced" ++ 10 ∷ [] ++ codes "+ reduced" ++ 10 ∷ [] ++ codes "+ end 5" ++ 10 ∷ []
+
 -- the bytes of module_is_used.journal
 abbrev pub module_is_used_journal : List ℕ
 module_is_used_journal = codes "journal 1 0 0" ++ 10 ∷ [] ++ codes "load 3a2d206d6f64756c6520742e0a7128612c62292e" ++ 10 ∷ [] ++ codes "start 10 0 10 t:q(_1,c)" ++ 10 ∷ [] ++ codes "reduce 2 0" ++ 10 ∷ []
@@ -434,21 +498,37 @@ module_is_used_journal = codes "journal 1 0 0" ++ 10 ∷ [] ++ codes "load 3a2d2
 abbrev pub module_is_used_output : List ℕ
 module_is_used_output = codes "+ loaded t" ++ 10 ∷ [] ++ codes "+ shoen 1" ++ 10 ∷ [] ++ codes "+ reduced" ++ 10 ∷ [] ++ codes "+ end 3" ++ 10 ∷ []
 
--- the bytes of name_of_63_bytes.journal
-abbrev pub name_of_63_bytes_journal : List ℕ
-name_of_63_bytes_journal = codes "journal 1 0 1" ++ 10 ∷ [] ++ codes "name nnnnnnnnnnnnnnnnnnnnnnnnnnnnnnnnnnnnnnnnnnnnnnnnnnnnnnnnnnnnnnn" ++ 10 ∷ []
+-- the bytes of name_of_127_bytes.journal
+abbrev pub name_of_127_bytes_journal : List ℕ
+name_of_127_bytes_journal = codes "journal 1 0 1" ++ 10 ∷ [] ++ codes "name nnnnnnnnnnnnnnnnnnnnnnnnnnnnnnnnnnnnnnnnnnnnnnnnnnnnnnnnnnnnnnnnnnnnnnnnnnnnnnnnnnnnnnnnnnnnnnnnnnnnnnnnnnnnnnnnnnnnnnnnnnnnnnn" ++ 10 ∷ []
 
--- the bytes of name_of_63_bytes.expected
-abbrev pub name_of_63_bytes_output : List ℕ
-name_of_63_bytes_output = codes "+ end 0" ++ 10 ∷ []
+-- the bytes of name_of_127_bytes.expected
+abbrev pub name_of_127_bytes_output : List ℕ
+name_of_127_bytes_output = codes "+ end 0" ++ 10 ∷ []
 
--- the bytes of name_of_64_bytes.journal
-abbrev pub name_of_64_bytes_journal : List ℕ
-name_of_64_bytes_journal = codes "journal 1 0 1" ++ 10 ∷ [] ++ codes "name nnnnnnnnnnnnnnnnnnnnnnnnnnnnnnnnnnnnnnnnnnnnnnnnnnnnnnnnnnnnnnnn" ++ 10 ∷ []
+-- the bytes of name_of_128_bytes.journal
+abbrev pub name_of_128_bytes_journal : List ℕ
+name_of_128_bytes_journal = codes "journal 1 0 1" ++ 10 ∷ [] ++ codes "name nnnnnnnnnnnnnnnnnnnnnnnnnnnnnnnnnnnnnnnnnnnnnnnnnnnnnnnnnnnnnnnnnnnnnnnnnnnnnnnnnnnnnnnnnnnnnnnnnnnnnnnnnnnnnnnnnnnnnnnnnnnnnnnn" ++ 10 ∷ []
 
--- the bytes of name_of_64_bytes.expected
-abbrev pub name_of_64_bytes_output : List ℕ
-name_of_64_bytes_output = codes "fault 2" ++ 10 ∷ []
+-- the bytes of name_of_128_bytes.expected
+abbrev pub name_of_128_bytes_output : List ℕ
+name_of_128_bytes_output = codes "fault 2" ++ 10 ∷ []
+
+-- the bytes of name_of_64_codes_of_version_2.journal
+abbrev pub name_of_64_codes_of_version_2_journal : List ℕ
+name_of_64_codes_of_version_2_journal = codes "journal 2 0 0" ++ 10 ∷ [] ++ codes "start 10 0 10 atom_from([97,97,97,97,97,97,97,97,97,97,97,97,97,97,97,97,97,97,97,97,97,97,97,97,97,97,97,97,97,97,97,97,97,97,97,97,97,97,97,97,97,97,97,97,97,97,97,97,97,97,97,97,97,97,97,97,97,97,97,97,97,97,97,97],_1)" ++ 10 ∷ [] ++ codes "reduce 2 0" ++ 10 ∷ [] ++ codes "answer 1 2 true" ++ 10 ∷ []
+
+-- the bytes of name_of_64_codes_of_version_2.expected
+abbrev pub name_of_64_codes_of_version_2_output : List ℕ
+name_of_64_codes_of_version_2_output = codes "+ shoen 1" ++ 10 ∷ [] ++ codes "+ reduced" ++ 10 ∷ [] ++ codes "+ sent" ++ 10 ∷ [] ++ codes "+ end 3" ++ 10 ∷ []
+
+-- the bytes of name_of_64_codes_of_version_3.journal
+abbrev pub name_of_64_codes_of_version_3_journal : List ℕ
+name_of_64_codes_of_version_3_journal = codes "journal 3 0 0" ++ 10 ∷ [] ++ codes "start 10 0 10 atom_from([97,97,97,97,97,97,97,97,97,97,97,97,97,97,97,97,97,97,97,97,97,97,97,97,97,97,97,97,97,97,97,97,97,97,97,97,97,97,97,97,97,97,97,97,97,97,97,97,97,97,97,97,97,97,97,97,97,97,97,97,97,97,97,97],_1)" ++ 10 ∷ [] ++ codes "reduce 2 0" ++ 10 ∷ [] ++ codes "answer 1 2 true" ++ 10 ∷ []
+
+-- the bytes of name_of_64_codes_of_version_3.expected
+abbrev pub name_of_64_codes_of_version_3_output : List ℕ
+name_of_64_codes_of_version_3_output = codes "+ shoen 1" ++ 10 ∷ [] ++ codes "+ reduced" ++ 10 ∷ [] ++ codes "fault 4" ++ 10 ∷ []
 
 -- the bytes of name_that_is_missing.journal
 abbrev pub name_that_is_missing_journal : List ℕ
@@ -489,6 +569,14 @@ names_alone_journal = codes "journal 1 0 1" ++ 10 ∷ [] ++ codes "name e" ++ 10
 -- the bytes of names_alone.expected
 abbrev pub names_alone_output : List ℕ
 names_alone_output = codes "+ end 0" ++ 10 ∷ []
+
+-- the bytes of names_from_codes.journal
+abbrev pub names_from_codes_journal : List ℕ
+names_from_codes_journal = codes "journal 1 0 0" ++ 10 ∷ [] ++ codes "start 10 0 10 atom_from([104,105],_1)" ++ 10 ∷ [] ++ codes "reduce 2 0" ++ 10 ∷ [] ++ codes "start 10 0 10 '='(_1,'')" ++ 10 ∷ [] ++ codes "start 10 0 10 '='(_1,'[]'(a))" ++ 10 ∷ [] ++ codes "reduce 6 0" ++ 10 ∷ []
+
+-- the bytes of names_from_codes.expected
+abbrev pub names_from_codes_output : List ℕ
+names_from_codes_output = codes "+ shoen 1" ++ 10 ∷ [] ++ codes "+ reduced" ++ 10 ∷ [] ++ codes "+ shoen 2" ++ 10 ∷ [] ++ codes "+ shoen 3" ++ 10 ∷ [] ++ codes "+ reduced" ++ 10 ∷ [] ++ codes "+ end 5" ++ 10 ∷ []
 
 -- the bytes of names_in_quotes.journal
 abbrev pub names_in_quotes_journal : List ℕ
@@ -602,6 +690,14 @@ second_name_that_is_missing_journal = codes "journal 1 0 2" ++ 10 ∷ [] ++ code
 abbrev pub second_name_that_is_missing_output : List ℕ
 second_name_that_is_missing_output = codes "fault 3" ++ 10 ∷ []
 
+-- the bytes of shoens_in_shoens.journal
+abbrev pub shoens_in_shoens_journal : List ℕ
+shoens_in_shoens_journal = codes "journal 1 0 0" ++ 10 ∷ [] ++ codes "load 3a2d206d6f64756c65206e2e0a77283029203a2d2074727565207c20747275652c20747275652e0a77284e29203a2d204e203e2030207c204d203a3d204e202d20312c2077284d292e0a61203a2d2074727565207c2073686f656e3a65786563757465286e3a622c302c31302c35302c432c52292e0a62203a2d2074727565207c2073686f656e3a65786563757465286e3a772831292c302c31302c35302c432c52292e" ++ 10 ∷ [] ++ codes "start 100 0 10 n:a" ++ 10 ∷ [] ++ codes "reduce 2 1" ++ 10 ∷ [] ++ codes "reduce 3 0" ++ 10 ∷ [] ++ codes "reduce 5 1" ++ 10 ∷ [] ++ codes "reduce 6 0" ++ 10 ∷ [] ++ codes "reduce 8 2" ++ 10 ∷ [] ++ codes "reduce 9 0" ++ 10 ∷ [] ++ codes "reduce 10 1" ++ 10 ∷ [] ++ codes "reduce 11 0" ++ 10 ∷ [] ++ codes "reduce 12 0" ++ 10 ∷ []
+
+-- the bytes of shoens_in_shoens.expected
+abbrev pub shoens_in_shoens_output : List ℕ
+shoens_in_shoens_output = codes "+ loaded n" ++ 10 ∷ [] ++ codes "+ shoen 1" ++ 10 ∷ [] ++ codes "+ reduced" ++ 10 ∷ [] ++ codes "+ reduced" ++ 10 ∷ [] ++ codes "+ reduced" ++ 10 ∷ [] ++ codes "+ reduced" ++ 10 ∷ [] ++ codes "+ reduced" ++ 10 ∷ [] ++ codes "+ reduced" ++ 10 ∷ [] ++ codes "+ reduced" ++ 10 ∷ [] ++ codes "+ reduced" ++ 10 ∷ [] ++ codes "+ reduced" ++ 10 ∷ [] ++ codes "+ end 11" ++ 10 ∷ []
+
 -- the bytes of start_and_reduction.journal
 abbrev pub start_and_reduction_journal : List ℕ
 start_and_reduction_journal = codes "journal 1 0 0" ++ 10 ∷ [] ++ codes "start 10 0 10 '='(_1,1)" ++ 10 ∷ [] ++ codes "reduce 2 0" ++ 10 ∷ []
@@ -609,6 +705,22 @@ start_and_reduction_journal = codes "journal 1 0 0" ++ 10 ∷ [] ++ codes "start
 -- the bytes of start_and_reduction.expected
 abbrev pub start_and_reduction_output : List ℕ
 start_and_reduction_output = codes "+ shoen 1" ++ 10 ∷ [] ++ codes "+ reduced" ++ 10 ∷ [] ++ codes "+ end 2" ++ 10 ∷ []
+
+-- the bytes of start_and_reduction_of_version_2.journal
+abbrev pub start_and_reduction_of_version_2_journal : List ℕ
+start_and_reduction_of_version_2_journal = codes "journal 2 0 0" ++ 10 ∷ [] ++ codes "start 10 0 10 '='(_1,1)" ++ 10 ∷ [] ++ codes "reduce 2 0" ++ 10 ∷ []
+
+-- the bytes of start_and_reduction_of_version_2.expected
+abbrev pub start_and_reduction_of_version_2_output : List ℕ
+start_and_reduction_of_version_2_output = codes "+ shoen 1" ++ 10 ∷ [] ++ codes "+ reduced" ++ 10 ∷ [] ++ codes "+ end 2" ++ 10 ∷ []
+
+-- the bytes of start_and_reduction_of_version_3.journal
+abbrev pub start_and_reduction_of_version_3_journal : List ℕ
+start_and_reduction_of_version_3_journal = codes "journal 3 0 0" ++ 10 ∷ [] ++ codes "start 10 0 10 '='(_1,1)" ++ 10 ∷ [] ++ codes "reduce 2 0" ++ 10 ∷ []
+
+-- the bytes of start_and_reduction_of_version_3.expected
+abbrev pub start_and_reduction_of_version_3_output : List ℕ
+start_and_reduction_of_version_3_output = codes "+ shoen 1" ++ 10 ∷ [] ++ codes "+ reduced" ++ 10 ∷ [] ++ codes "+ end 2" ++ 10 ∷ []
 
 -- the bytes of start_without_a_goal.journal
 abbrev pub start_without_a_goal_journal : List ℕ
@@ -652,6 +764,11 @@ version_with_a_leading_zero_output = codes "fault 1" ++ 10 ∷ []
 
 -- each example journal has the output that stands beside it
 pub record JournalsHold : Type 0 where
+  pub answer_in_another_spelling : replay_output answer_in_another_spelling_journal ≡ answer_in_another_spelling_output
+  pub answer_in_version_1 : replay_output answer_in_version_1_journal ≡ answer_in_version_1_output
+  pub answer_to_no_report : replay_output answer_to_no_report_journal ≡ answer_to_no_report_output
+  pub answer_to_report_0 : replay_output answer_to_report_0_journal ≡ answer_to_report_0_output
+  pub append_two_lists : replay_output append_two_lists_journal ≡ append_two_lists_output
   pub bad_source : replay_output bad_source_journal ≡ bad_source_output
   pub built_in_name : replay_output built_in_name_journal ≡ built_in_name_output
   pub capital_without_quotes : replay_output capital_without_quotes_journal ≡ capital_without_quotes_output
@@ -674,6 +791,8 @@ pub record JournalsHold : Type 0 where
   pub entry_with_a_tab : replay_output entry_with_a_tab_journal ≡ entry_with_a_tab_output
   pub entry_with_two_blanks : replay_output entry_with_two_blanks_journal ≡ entry_with_two_blanks_output
   pub entry_without_a_feed : replay_output entry_without_a_feed_journal ≡ entry_without_a_feed_output
+  pub exception_and_answer : replay_output exception_and_answer_journal ≡ exception_and_answer_output
+  pub exception_in_version_1 : replay_output exception_in_version_1_journal ≡ exception_in_version_1_output
   pub five_sessions : replay_output five_sessions_journal ≡ five_sessions_output
   pub four_sessions : replay_output four_sessions_journal ≡ four_sessions_output
   pub goal_in_another_spelling : replay_output goal_in_another_spelling_journal ≡ goal_in_another_spelling_output
@@ -705,14 +824,18 @@ pub record JournalsHold : Type 0 where
   pub login_is_no_entry : replay_output login_is_no_entry_journal ≡ login_is_no_entry_output
   pub low_over_high : replay_output low_over_high_journal ≡ low_over_high_output
   pub many_names_told : replay_output many_names_told_journal ≡ many_names_told_output
+  pub messages_of_a_program : replay_output messages_of_a_program_journal ≡ messages_of_a_program_output
   pub module_is_used : replay_output module_is_used_journal ≡ module_is_used_output
-  pub name_of_63_bytes : replay_output name_of_63_bytes_journal ≡ name_of_63_bytes_output
-  pub name_of_64_bytes : replay_output name_of_64_bytes_journal ≡ name_of_64_bytes_output
+  pub name_of_127_bytes : replay_output name_of_127_bytes_journal ≡ name_of_127_bytes_output
+  pub name_of_128_bytes : replay_output name_of_128_bytes_journal ≡ name_of_128_bytes_output
+  pub name_of_64_codes_of_version_2 : replay_output name_of_64_codes_of_version_2_journal ≡ name_of_64_codes_of_version_2_output
+  pub name_of_64_codes_of_version_3 : replay_output name_of_64_codes_of_version_3_journal ≡ name_of_64_codes_of_version_3_output
   pub name_that_is_missing : replay_output name_that_is_missing_journal ≡ name_that_is_missing_output
   pub name_too_many : replay_output name_too_many_journal ≡ name_too_many_output
   pub name_twice : replay_output name_twice_journal ≡ name_twice_output
   pub name_with_a_return : replay_output name_with_a_return_journal ≡ name_with_a_return_output
   pub names_alone : replay_output names_alone_journal ≡ names_alone_output
+  pub names_from_codes : replay_output names_from_codes_journal ≡ names_from_codes_output
   pub names_in_quotes : replay_output names_in_quotes_journal ≡ names_in_quotes_output
   pub nothing : replay_output nothing_journal ≡ nothing_output
   pub number_that_is_too_large : replay_output number_that_is_too_large_journal ≡ number_that_is_too_large_output
@@ -727,7 +850,10 @@ pub record JournalsHold : Type 0 where
   pub reset_is_no_entry : replay_output reset_is_no_entry_journal ≡ reset_is_no_entry_output
   pub run_is_no_entry : replay_output run_is_no_entry_journal ≡ run_is_no_entry_output
   pub second_name_that_is_missing : replay_output second_name_that_is_missing_journal ≡ second_name_that_is_missing_output
+  pub shoens_in_shoens : replay_output shoens_in_shoens_journal ≡ shoens_in_shoens_output
   pub start_and_reduction : replay_output start_and_reduction_journal ≡ start_and_reduction_output
+  pub start_and_reduction_of_version_2 : replay_output start_and_reduction_of_version_2_journal ≡ start_and_reduction_of_version_2_output
+  pub start_and_reduction_of_version_3 : replay_output start_and_reduction_of_version_3_journal ≡ start_and_reduction_of_version_3_output
   pub start_without_a_goal : replay_output start_without_a_goal_journal ≡ start_without_a_goal_output
   pub step_that_is_refused : replay_output step_that_is_refused_journal ≡ step_that_is_refused_output
   pub too_many_names_told : replay_output too_many_names_told_journal ≡ too_many_names_told_output

@@ -3,6 +3,8 @@ pub mod JournalExamples
 pub mod AccountRows
 pub mod HistoryRows
 pub mod ShoenRows
+pub mod SubstituteRows
+pub mod SpellingRows
 pub mod ReadRows
 pub mod ReadFaults
 pub mod GuardRows

@@ -1,5 +1,6 @@
 -- The accounts that events make of a fresh one.
 use Rattle.std.specs.Prelude.{ℕ, List, [], ◌∷◌}
+use Rattle.kl1_model.specs.declared.rules.Rules.{Rules}
 use Rattle.kl1_model.specs.State.{State, fresh}
 use Rattle.kl1_model.specs.Event.{Event}
 use Rattle.kl1_model.specs.Step.{step}
@@ -9,6 +10,6 @@ abbrev pub after : State → List Event → State
 after s [] = s
 after s (e ∷ es) = after (step s e).state es
 
--- the account that events make of a fresh one of this name
-abbrev pub reached : List ℕ → List Event → State
-reached name es = after (fresh name) es
+-- the account that events make of a fresh one with these rules and this name
+abbrev pub reached : Rules → List ℕ → List Event → State
+reached rules name es = after (fresh rules name) es

@@ -36,13 +36,21 @@ long_name n = replicate n 97
 abbrev pub long_text : ℕ → List ℕ
 long_text n = codes ":- module z.\n" ++ long_name n ++ codes "."
 
--- a name of 63 bytes is one
+-- a name of 127 bytes is one
 abbrev pub LongNameIsRead : Type 0
-LongNameIsRead = read_module (long_text 63) ≡ good (record { name = codes "z"; source = long_text 63; clauses = record { name = long_name 63; patterns = none; tests = []; section = 0; body = without_priority true_goal ∷ [] } ∷ [] })
+LongNameIsRead = read_module (long_text 127) ≡ good (record { name = codes "z"; source = long_text 127; clauses = record { name = long_name 127; patterns = none; tests = []; section = 0; body = without_priority true_goal ∷ [] } ∷ [] })
 
--- a name of 64 bytes makes its line bad
+-- a name of 128 bytes makes its line bad
 abbrev pub LongerNameIsBad : Type 0
-LongerNameIsBad = read_module (long_text 64) ≡ bad 2
+LongerNameIsBad = read_module (long_text 128) ≡ bad 2
+
+-- a variable of 63 bytes is one
+abbrev pub LongVariableIsRead : Type 0
+LongVariableIsRead = read_goal (replicate 63 88 ++ codes " = 1") ≡ good (pair (codes "=") (variable 1) (integer (pos 1)))
+
+-- a variable of 64 bytes makes its line bad
+abbrev pub LongerVariableIsBad : Type 0
+LongerVariableIsBad = read_goal (replicate 64 88 ++ codes " = 1") ≡ bad 1
 
 -- a dot before a letter is no end and no sign
 abbrev pub DotInsideIsBad : Type 0

@@ -1,5 +1,6 @@
 -- The clauses of a predicate of a module that was read stand in order of their sections; so its candidates are the open ones.
 use Rattle.std.specs.Prelude.{◌≡◌, ℕ, IsTrue, List, filter}
+use Rattle.kl1_model.specs.declared.rules.Rules.{Rules}
 use Rattle.kl1_model.specs.Term.{Terms}
 use Rattle.kl1_model.specs.Module.{Module, is_of, good, read_module}
 use Rattle.kl1_model.specs.Match.{Call, clauses_of, candidates_from, candidates_of}
@@ -22,6 +23,6 @@ CandidatesOfModulesAreOpen =
 -- so it is of each call in each account, whatever was done to it since it was fresh
 abbrev pub CandidatesOfCallsAreOpen : Type 0
 CandidatesOfCallsAreOpen =
-    (name : List ℕ) (es : List Event) (call : Call) →
-    let clauses = clauses_of (reached name es).modules call in
-    candidates_of (reached name es).modules call ≡ filter (λ k. is_open clauses call.arguments k.clause) (accepting_from 1 clauses call.arguments)
+    (rules : Rules) (name : List ℕ) (es : List Event) (call : Call) →
+    let clauses = clauses_of (reached rules name es).modules call in
+    candidates_of (reached rules name es).modules call ≡ filter (λ k. is_open clauses call.arguments k.clause) (accepting_from 1 clauses call.arguments)

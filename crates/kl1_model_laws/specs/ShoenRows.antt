@@ -2,6 +2,7 @@
 use Rattle.std.specs.Prelude.{◌≡◌, ◌^◌, ℕ, zero, suc, codes, List, [], ◌∷◌, ◌++◌, Some, pos, replicate, decimal, length, map}
 use Rattle.kl1_model.specs.declared.message.Message.TheVariants.{Stop, Allow}
 use Rattle.kl1_model.specs.declared.condition.Condition.TheVariants.{Running}
+use Rattle.kl1_model.specs.declared.rules.Rules.TheVariants.{One}
 use Rattle.kl1_model.specs.Term.{Term, variable, integer, atom, structure, none, more}
 use Rattle.kl1_model.specs.Meaning.{nil, cell, pair}
 use Rattle.kl1_model.specs.Print.{print}
@@ -13,7 +14,7 @@ use Rattle.kl1_model_laws.specs.AccountRows.{after_events, after_lines, equals, 
 
 -- an account that is fresh
 abbrev pub nothing_done : State
-nothing_done = fresh (codes "alice")
+nothing_done = fresh One (codes "alice")
 
 -- an account whose starts, messages and commits had `variables` variables and `nodes` structures
 abbrev pub with_counts : ℕ → ℕ → State → State

@@ -4,7 +4,7 @@ use Rattle.kl1_model.specs.Record.{other_line}
 use Rattle.kl1_model.specs.Event as event
 use Rattle.kl1_model.specs.Event.{syntax}
 use Rattle.kl1_model_history.specs.Command.{does}
-use Rattle.kl1_model_history.specs.Cut.{Cut, cut_of}
+use Rattle.kl1_model_history.specs.Cut.{cut_of}
 use Rattle.kl1_model_history.specs.Inputs.{Input, login, command, refused, inputs, rest}
 
 -- what bytes come to: the inputs that they are, and their rest

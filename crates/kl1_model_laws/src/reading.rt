@@ -1,7 +1,7 @@
 // What reading and printing keep.
 
 ghost use Rattle.kl1_model.specs.laws.ReadLaws.{ExpressionsAreSound, ExpressionsAreComplete, ExpressionsAreUnambiguous, ClausesAreSound, ClausesAreComplete, ClausesAreUnambiguous, FrontsLeaveLess, StepsAreEnough, TokensGoOn, ReaderStepsAreEnough, ExpressionsLeaveLess, ExpressionsGoOn, SumsGoOn, ProductsGoOn, SeriesGoOn, BodiesGoOn, ClausesGoOn, PrintsArePlain, PrintsAreTokens, PrintsAreTerms, PrintedGoalsReadBack, PrintingIsOneToOne, GoalsReadArePrintable, StrictTextsArePrints, ClausesAreNumbered, ClausesAreGuarded};
-ghost use Rattle.kl1_model_laws.specs.ReadRows.{AppHasBytes, AppIsRead, TestIsBad, LongNameIsRead, LongerNameIsBad, DotInsideIsBad, CommentsAreBad, GoalIsRead, LeastIsRead, TooLargeIsBad, LooseMinusIsBad};
+ghost use Rattle.kl1_model_laws.specs.ReadRows.{AppHasBytes, AppIsRead, TestIsBad, LongNameIsRead, LongerNameIsBad, LongVariableIsRead, LongerVariableIsBad, DotInsideIsBad, CommentsAreBad, GoalIsRead, LeastIsRead, TooLargeIsBad, LooseMinusIsBad};
 ghost use Rattle.kl1_model_laws.specs.ReadFaults.{FirstLineOfItem, EndIsMissing, ByteIsBroken, CommentIsBroken, QuoteIsOpen, HeadRepeats, HeadIsOperator, HeadIsTrue, ClausesStandApart, ModuleIsShoen, ModuleIsEmpty, GoalIsUnqualified, GoalIsQualified, UnderscoresDiffer, SpellingsAreOne, ArgumentsAreTooMany, DepthIsRead, DepthIsTooLarge, ClausesAreRead, ClausesAreTooMany};
 
 /// The reader reads what the grammar writes, and nothing else: the tokens that it reads as a tree are that tree's,
@@ -72,6 +72,8 @@ pub fn worked_texts()
     ensures test { TestIsBad }
     ensures long_name { LongNameIsRead }
     ensures longer_name { LongerNameIsBad }
+    ensures long_variable { LongVariableIsRead }
+    ensures longer_variable { LongerVariableIsBad }
     ensures dot { DotInsideIsBad }
     ensures comments { CommentsAreBad }
     ensures goal { GoalIsRead }

@@ -31,14 +31,16 @@ pub fn reductions_charge_their_path()
 
 /// A goal is reduced only if each shoen on its path was charged less than its allowance, and if shoens are a tree, as
 /// `paths_go_on` says of each account, none of them is charged more than its allowance then. So no shoen of an account was charged
-/// more than its allowance, whatever was done to the account since it was fresh. It does nothing: its contract is this law.
+/// more than its allowance, whichever rules the account keeps to, and whatever was done to it since it was fresh. It does nothing:
+/// its contract is this law.
 pub fn reductions_stay_within_allowances()
     ensures before { ReductionsHaveAllowance }
     ensures after { ReductionsStayWithin }
     ensures most { NoneIsChargedMore }
 {}
 
-/// An account has at most 8,192 goals alive, whatever was done to it since it was fresh. It does nothing: its contract is this law.
+/// An account has at most 8,192 goals alive, whichever rules it keeps to, and whatever was done to it since it was fresh. It does
+/// nothing: its contract is this law.
 pub fn goals_alive_are_few()
     ensures { GoalsAreFew }
 {}
@@ -77,14 +79,15 @@ pub fn terminations_end_shoens_without_goals()
     ensures reached { ReachedGoOn }
 {}
 
-/// Each living shoen of an account has a goal or a living child, whatever was done to the account since it was fresh, so that none
-/// is left idle. It does nothing: its contract is this law.
+/// Each living shoen of an account has a goal or a living child, whichever rules the account keeps to, and whatever was done to it
+/// since it was fresh, so that none is left idle. It does nothing: its contract is this law.
 pub fn living_shoens_have_goals()
     ensures { LivingHaveGoals }
 {}
 
-/// The tail of the control stream that the console keeps of a shoen is unbound, whatever was done to the account since it was fresh;
-/// and what the shoen's monitor has still to read is messages, and then that tail. It does nothing: its contract is this law.
+/// The tail of the control stream that the console keeps of a shoen is unbound, whichever rules the account keeps to, and whatever
+/// was done to it since it was fresh; and what the shoen's monitor has still to read is messages, and then that tail. It does
+/// nothing: its contract is this law.
 pub fn control_tails_are_unbound()
     ensures tails { ControlTailsAreUnbound }
     ensures streams { ControlStreamsAreMessages }

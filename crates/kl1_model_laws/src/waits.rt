@@ -1,5 +1,5 @@
 //! Laws of verdicts and of what goals wait for.
-ghost use Rattle.kl1_model.specs.laws.WaitsLaws.{RejectsStays, RejectsNeverAccepts, AcceptsStays, SuspendsStays, SuspendsWaits, CandidatesAreOpen, ClausesStay, HeadStays, TermStays, ControlStays};
+ghost use Rattle.kl1_model.specs.laws.WaitsLaws.{RejectsStays, RejectsNeverAccepts, AcceptsStays, SuspendsStays, SuspendsWaits, CandidatesAreOpen, ClausesStay, HeadStays, TermStays, ControlStays, SubstitutesStay};
 ghost use Rattle.kl1_model.specs.laws.OutcomeLaws.{OutcomesAnswer, VerdictsAnswer, AcceptsPlaces, VerdictsName};
 ghost use Rattle.kl1_model_laws.specs.SectionLaws.{SectionsAreInOrder, CandidatesOfModulesAreOpen, CandidatesOfCallsAreOpen};
 
@@ -17,7 +17,7 @@ pub fn verdicts_wait_for_named_variables()
 
 /// The outcome of each test has the test's answer. The verdict that names variables, and in whose tests they have other numbers, has
 /// the answer of the plain verdict, for every clause and every goal; if it accepts, then with the terms at the same places; and it names the
-/// variables that the clause waits for.
+/// variables that the clause waits for. It does nothing: its contract is this law.
 pub fn outcomes_have_answers()
     ensures tests { OutcomesAnswer }
     ensures verdicts { VerdictsAnswer }
@@ -47,4 +47,10 @@ pub fn goals_wait_for_named_variables()
 /// its contract is this law.
 pub fn monitors_wait_for_one_variable()
     ensures { ControlStays }
+{}
+
+/// What is found of the term that a substitute waits for stays until the variable that it waits for is replaced. It does nothing:
+/// its contract is this law.
+pub fn substitutes_wait_for_one_variable()
+    ensures { SubstitutesStay }
 {}

@@ -12,7 +12,7 @@ mod working;
 pub use gate::Gate;
 pub use gathering::gather;
 pub use kl1_command::{Command, Performed};
-pub use kl1_pool_cell::{AccountName, CellNaming};
+pub use kl1_pool_cell::{AccountName, CellNaming, Rules};
 pub use kl1_pool_tickets::{Share, Totals};
 pub use parts::PoolParts;
 pub use place::Place;

@@ -7,19 +7,20 @@ ghost use Rattle.kl1_tally.specs.declared.amounts.TheConstants.{MOST_ACCOUNTS};
 
 use kl1_atoms::{AtomSeat, AtomTable};
 use kl1_codes::CodeTable;
-use kl1_pool_cell::AccountName;
+use kl1_pool_cell::{AccountName, Rules};
 use kl1_pool_tickets::Parts;
 use std::alloc::{AllocError, Global};
 use std::marker::Model;
 
-/// The names of accounts in which nothing has happened, with their seats in a table of names; a tally and a queue of tickets for them;
-/// and that table and a table of codes, lent. Contracts see which tables, which tally and which queue they are, and the numbers of
-/// accounts and shares.
+/// The names of accounts in which nothing has happened, with the rules that they keep to and their seats in a table of names; a
+/// tally and a queue of tickets for them; and that table and a table of codes, lent. Contracts see which tables, which tally and
+/// which queue they are, and the numbers of accounts and shares.
 #[derive(Drop)]
 pub struct PoolParts<'t> {
     pub(crate) table: &'t AtomTable,
     pub(crate) code_table: &'t CodeTable,
     pub(crate) accounts: Vec<AccountName>,
+    pub(crate) rules: Rules,
     pub(crate) seats: Vec<AtomSeat>,
     pub(crate) tickets: Parts,
 }
@@ -41,13 +42,14 @@ impl<'t> Model for PoolParts<'t> {
 }
 
 impl<'t> PoolParts<'t> {
-    /// Accounts of these names, 1 to 16 of them, in which nothing has happened, each with a seat of its own that knows the built-in
-    /// names alone; and a tally and a queue for them and for `shares` shares.
+    /// Accounts of these names, 1 to 32 of them, which keep to these rules, in which nothing has happened, each with a seat of its
+    /// own that knows the built-in names alone; and a tally and a queue for them and for `shares` shares.
     pub fn new(
         alloc: Global,
         table: &'t AtomTable,
         codes: &'t CodeTable,
         accounts: &[AccountName],
+        rules: Rules,
         seats: Vec<AtomSeat>,
         shares: usize,
     ) -> Result<PoolParts<'t>, AllocError>
@@ -65,6 +67,7 @@ impl<'t> PoolParts<'t> {
             table,
             code_table: codes,
             accounts: names,
+            rules,
             seats,
             tickets,
         })

@@ -8,7 +8,7 @@ ghost use Rattle.kl1_pool.specs.Parts.{IsFreshSeat};
 use crossbeam_utils::CachePadded;
 use kl1_atoms::AtomSeat;
 use kl1_journal::Kept;
-use kl1_pool_cell::{AccountName, Cell, CellNaming};
+use kl1_pool_cell::{AccountName, Cell, CellNaming, Rules};
 use kl1_pool_tickets::Booked;
 use kl1_tally::BookSeat;
 use std::alloc::{AllocError, Global};
@@ -25,10 +25,11 @@ pub(crate) trait Fresh: Drop {
     /// Which tally its book is of.
     ghost tally: { TableId };
 
-    /// An account of this name in which nothing has happened.
+    /// An account of this name, which keeps to these rules, in which nothing has happened.
     fn fresh(
         alloc: Global,
         name: AccountName,
+        rules: Rules,
         seat: AtomSeat,
         book: BookSeat,
     ) -> Result<Self, AllocError>
@@ -53,10 +54,11 @@ impl<'t, R: Wait, K: CellNaming> Fresh for Place<'t, R, K> {
     fn fresh(
         alloc: Global,
         name: AccountName,
+        rules: Rules,
         seat: AtomSeat,
         book: BookSeat,
     ) -> Result<Self, AllocError> {
-        let kept = Kept::new(alloc, name, seat)?;
+        let kept = Kept::new(alloc, name, rules, seat)?;
         let cell = CachePadded::new(Cell::new(kept, book));
         Ok(Place { cell })
     }

@@ -6,7 +6,7 @@ ghost use Rattle.kl1_pool.specs.Parts.{AreFreshSeats};
 
 use crate::place::Fresh;
 use kl1_atoms::AtomSeat;
-use kl1_pool_cell::AccountName;
+use kl1_pool_cell::{AccountName, Rules};
 use kl1_tally::BookSeat;
 use std::alloc::{AllocError, Global};
 use std::sync::Mutex;
@@ -22,11 +22,13 @@ fn last_of<T>(list: &mut Vec<T>) -> T
     last
 }
 
-/// An account for each book, in the order of the books, with the name and the seat at its place. It is generic in what accounts are
-/// made as since those that are made already are dropped if memory is refused, and a drop is proved for any type that can be dropped.
+/// An account for each book, in the order of the books, with the name and the seat at its place, which keeps to these rules. It is
+/// generic in what accounts are made as since those that are made already are dropped if memory is refused, and a drop is proved for
+/// any type that can be dropped.
 pub(crate) fn places_of<C: Fresh>(
     alloc: Global,
     mut names: Vec<AccountName>,
+    rules: Rules,
     mut seats: Vec<AtomSeat>,
     mut books: Vec<BookSeat>,
 ) -> Result<Vec<Mutex<C>>, AllocError>
@@ -39,7 +41,7 @@ pub(crate) fn places_of<C: Fresh>(
     while let Some(book) = books.pop() {
         let name = last_of(&mut names);
         let seat = last_of(&mut seats);
-        places.push_reserved(Mutex::new(C::fresh(alloc, name, seat, book)?));
+        places.push_reserved(Mutex::new(C::fresh(alloc, name, rules, seat, book)?));
     }
     places.as_mut_slice().reverse();
     Ok(places)

@@ -56,6 +56,7 @@ impl<'t, R: Wait, K: CellNaming> Pool<'t, R, K> {
             table,
             code_table,
             accounts,
+            rules,
             seats,
             tickets,
         } = parts;
@@ -64,7 +65,7 @@ impl<'t, R: Wait, K: CellNaming> Pool<'t, R, K> {
             books,
             shares,
         } = tickets.open::<K>(alloc)?;
-        let places = places_of::<Place<'t, R, K>>(alloc, accounts, seats, books)?;
+        let places = places_of::<Place<'t, R, K>>(alloc, accounts, rules, seats, books)?;
         Ok((
             Pool {
                 rt,

@@ -2,21 +2,23 @@
 use Rattle.std.proofs.Common.{◌≡◌, ℕ, suc, ◌+◌, ◌-◌, ◌<◌, ◌^◌, nat_le, nat_lt, ◌&&◌, Bool, true, false, if◌then◌else◌, List, [], ◌∷◌, ◌++◌, length, refl, ap, ◌∙◌, subst, arith}
 use Rattle.std.specs.Prelude.{Option, Some, None, is_some}
 use Rattle.std.proofs.lemmas.List.{length-append}
-use Rattle.kl1_model.specs.Limits.{most_modules, most_sessions, most_source_bytes, most_names, most_entries}
+use Rattle.kl1_model.specs.declared.limits.TheConstants.{MOST_MODULES, MOST_SESSIONS, MOST_SOURCE_BYTES, MOST_NAMES, MOST_ENTRIES}
 use Rattle.kl1_model.specs.Term.{Term}
 use Rattle.kl1_model.specs.declared.message.Message.{Message}
+use Rattle.kl1_model.specs.declared.rules.Rules.{Rules}
 use Rattle.kl1_model.specs.Module.{Module, Reading, good, bad, read_module}
 use Rattle.kl1_model.specs.Match.{module_of}
-use Rattle.kl1_model.specs.State.{Goal, Origin, Shoen, State, goal_at, shoen_at, names_of, names_of_module, with_names}
+use Rattle.kl1_model.specs.State.{Goal, Origin, Shoen, State, goal_at, shoen_at, has_substitutes, names_of, names_of_module, with_names}
 use Rattle.kl1_model.specs.Event as model
 use Rattle.kl1_model.specs.Event.{Refusal, Transition, refuse, is_number, with_entry, recorded, named, limited}
 use Rattle.kl1_model.specs.Reduction.{Action, reduce_goal, reduced_by, acted, action_of}
 use Rattle.kl1_model.specs.Opening.{may_start, has_room_to_start, start_goal}
 use Rattle.kl1_model.specs.Sending.{may_send, has_room_to_send, send_to, send_by, sent_on}
+use Rattle.kl1_model.specs.Answering.{may_answer, has_room_to_answer, unanswered_at, answer_by, answer_in, answer_to}
 use Rattle.kl1_model.specs.State.{is_living}
-use Rattle.kl1_model.specs.Asking.{answer, value_of, status_of, reports_of, origin_at}
+use Rattle.kl1_model.specs.Asking.{reply_to, value_of, status_of, reports_of, origin_at}
 use Rattle.kl1_model.specs.Step.{with_module, load_module, step}
-use Rattle.kl1_model_history.specs.Journal.{Entry, loads, starts, sends, steps, Journal, noted, new_journal}
+use Rattle.kl1_model_history.specs.Journal.{Entry, loads, starts, sends, steps, answers, Journal, noted, new_journal}
 use Rattle.kl1_model_history.specs.Journal.{Kept, Done, done}
 use Rattle.kl1_model_history.specs.Journal as history
 use Rattle.kl1_tally.specs.Seats.{Book}
@@ -35,6 +37,7 @@ reduces_more [] fs = let e : reduces_in fs ≡ 0 + reduces_in fs = omega arith i
 reduces_more (loads text ∷ es) fs = reduces_more es fs
 reduces_more (starts allowance low high t ∷ es) fs = reduces_more es fs
 reduces_more (sends n m ∷ es) fs = reduces_more es fs
+reduces_more (answers n report t ∷ es) fs = reduces_more es fs
 reduces_more (steps goal clause ∷ es) fs = let h = reduces_more es fs in let e : suc (reduces_in (es ++ fs)) ≡ suc (reduces_in es) + reduces_in fs = omega (arith, h) in e
 
 -- a book tells what it did and what the reply to an event adds, which is no run's
@@ -58,8 +61,8 @@ one_more p j b entry n is h room = record {
 }
 
 -- a journal that begins anew
-begun_anew : (p : Past) (j : Journal) (b : Book) (names : List (List ℕ)) (n : ℕ) → IsCounted p j b → IsCounted (past_by p j model.was_reset) (new_journal names n) (with_more b 0 0)
-begun_anew p j b names n h = record { events = omega (arith, h.events); steps = omega (arith, h.steps); few = omega (arith, h.few) }
+begun_anew : (p : Past) (j : Journal) (b : Book) (rules : Rules) (names : List (List ℕ)) (n : ℕ) → IsCounted p j b → IsCounted (past_by p j model.was_reset) (new_journal rules names n) (with_more b 0 0)
+begun_anew p j b rules names n h = record { events = omega (arith, h.events); steps = omega (arith, h.steps); few = omega (arith, h.few) }
 
 loaded_counts : (p : Past) (j : Journal) (b : Book) (text : List ℕ) (s : State) (r : Reading Module) → IsCounted p j b → b.events < 2 ^ 63 → Counts p j b (model.load text) (load_module s r)
 loaded_counts p j b text s (bad line) h room = (no_more p j b h, refl)
@@ -69,11 +72,11 @@ loaded_counts p j b text s (good m) h room =
     let done : Transition = record { state = with_entry (with_module s m); reply = model.loaded m.name } in
     let names = with_names s.names (names_of_module m) in
     let recorded_done = recorded s done in
-    let within = nat_lt (length s.modules) most_modules in
+    let within = nat_lt (length s.modules) MOST_MODULES in
     by_choice P (is_some (module_of s.modules m.name)) (refuse s model.exists) (named s names (limited s within recorded_done)) no
-    (by_choice P (nat_le (length names) most_names) (limited s within recorded_done) (refuse s model.too_many_names)
+    (by_choice P (nat_le (length names) MOST_NAMES) (limited s within recorded_done) (refuse s model.too_many_names)
     (by_choice P within recorded_done (refuse s model.limit_passed)
-    (by_choice P (nat_lt s.entries most_entries) done (refuse s model.journal_full) (one_more p j b (loads text) 0 refl h room, refl) no) no) no)
+    (by_choice P (nat_lt s.entries MOST_ENTRIES) done (refuse s model.journal_full) (one_more p j b (loads text) 0 refl h room, refl) no) no) no)
 
 started_counts : (p : Past) (j : Journal) (b : Book) (s : State) (allowance low high : ℕ) (t : Term) → IsCounted p j b → b.events < 2 ^ 63 → Counts p j b (model.start allowance low high t) (step s (model.start allowance low high t))
 started_counts p j b s allowance low high t h room =
@@ -83,9 +86,9 @@ started_counts p j b s allowance low high t h room =
     let names = with_names s.names (names_of t) in
     let within = has_room_to_start s t in
     by_choice P (may_start allowance low high t) (named s names (limited s within (recorded s done))) (refuse s model.syntax)
-    (by_choice P (nat_le (length names) most_names) (limited s within (recorded s done)) (refuse s model.too_many_names)
+    (by_choice P (nat_le (length names) MOST_NAMES) (limited s within (recorded s done)) (refuse s model.too_many_names)
     (by_choice P within (recorded s done) (refuse s model.limit_passed)
-    (by_choice P (nat_lt s.entries most_entries) done (refuse s model.journal_full) (one_more p j b (starts allowance low high t) 0 refl h room, refl) no) no) no) no
+    (by_choice P (nat_lt s.entries MOST_ENTRIES) done (refuse s model.journal_full) (one_more p j b (starts allowance low high t) 0 refl h room, refl) no) no) no) no
 
 sent_counts : (p : Past) (j : Journal) (b : Book) (s : State) (n : ℕ) (m : Message) (to : Shoen) (origin : Option Origin) → IsCounted p j b → b.events < 2 ^ 63 → Counts p j b (model.control n m) (send_by s n m to origin)
 sent_counts p j b s n m to None h room = (no_more p j b h, refl)
@@ -95,16 +98,37 @@ sent_counts p j b s n m to (Some o) h room =
     let done : Transition = record { state = with_entry (sent_on n m o.control s); reply = model.sent } in
     by_choice P (is_living to.life) (limited s (has_room_to_send s m) (recorded s done)) (refuse s model.shoen_ended)
     (by_choice P (has_room_to_send s m) (recorded s done) (refuse s model.limit_passed)
-    (by_choice P (nat_lt s.entries most_entries) done (refuse s model.journal_full) (one_more p j b (sends n m) 0 refl h room, refl) no) no) no
+    (by_choice P (nat_lt s.entries MOST_ENTRIES) done (refuse s model.journal_full) (one_more p j b (sends n m) 0 refl h room, refl) no) no) no
 
 told_counts : (p : Past) (j : Journal) (b : Book) (s : State) (n : ℕ) (m : Message) (to : Option Shoen) → IsCounted p j b → b.events < 2 ^ 63 → Counts p j b (model.control n m) (send_to s n m to)
 told_counts p j b s n m None h room = (no_more p j b h, refl)
 told_counts p j b s n m (Some to) h room = sent_counts p j b s n m to to.origin h room
 
+given_counts : (p : Past) (j : Journal) (b : Book) (s : State) (n report : ℕ) (t : Term) (v : Option ℕ) → IsCounted p j b → b.events < 2 ^ 63 → Counts p j b (model.answer n report t) (answer_by s t v)
+given_counts p j b s n report t None h room = (no_more p j b h, refl)
+given_counts p j b s n report t (Some v) h room = (one_more p j b (answers n report t) 0 refl h room, refl)
+
+answered_counts : (p : Past) (j : Journal) (b : Book) (s : State) (n report : ℕ) (t : Term) (to : Shoen) (origin : Option Origin) → IsCounted p j b → b.events < 2 ^ 63 → Counts p j b (model.answer n report t) (answer_in s report t to origin)
+answered_counts p j b s n report t to None h room = (no_more p j b h, refl)
+answered_counts p j b s n report t to (Some o) h room =
+    let P : Transition → Type 0 = Counts p j b (model.answer n report t) in
+    let no : IsCounted p j (with_more b 0 0) × (false ≡ false) = (no_more p j b h, refl) in
+    let done = answer_by s t (unanswered_at o.reports report) in
+    let names = with_names s.names (names_of t) in
+    let within = has_room_to_answer s t in
+    by_choice P (is_living to.life) (named s names (limited s within (recorded s done))) (refuse s model.shoen_ended)
+    (by_choice P (nat_le (length names) MOST_NAMES) (limited s within (recorded s done)) (refuse s model.too_many_names)
+    (by_choice P within (recorded s done) (refuse s model.limit_passed)
+    (by_choice P (nat_lt s.entries MOST_ENTRIES) done (refuse s model.journal_full) (given_counts p j b s n report t (unanswered_at o.reports report) h room) no) no) no) no
+
+replied_counts : (p : Past) (j : Journal) (b : Book) (s : State) (n report : ℕ) (t : Term) (to : Option Shoen) → IsCounted p j b → b.events < 2 ^ 63 → Counts p j b (model.answer n report t) (answer_to s report t to)
+replied_counts p j b s n report t None h room = (no_more p j b h, refl)
+replied_counts p j b s n report t (Some to) h room = answered_counts p j b s n report t to to.origin h room
+
 acted_counts : (p : Past) (j : Journal) (b : Book) (s : State) (goal clause : ℕ) (g : Goal) (a : Option Action) → IsCounted p j b → b.events < 2 ^ 63 → Counts p j b (model.reduce goal clause) (reduced_by s g a)
 acted_counts p j b s goal clause g None h room = (no_more p j b h, refl)
 acted_counts p j b s goal clause g (Some a) h room =
-    by_choice (Counts p j b (model.reduce goal clause)) (nat_lt s.entries most_entries) (record { state = acted g a (with_entry s); reply = model.reduced }) (refuse s model.journal_full) (one_more p j b (steps goal clause) 1 refl h room, refl) (no_more p j b h, refl)
+    by_choice (Counts p j b (model.reduce goal clause)) (nat_lt s.entries MOST_ENTRIES) (record { state = acted g a (with_entry s); reply = model.reduced }) (refuse s model.journal_full) (one_more p j b (steps goal clause) 1 refl h room, refl) (no_more p j b h, refl)
 
 reduced_counts : (p : Past) (j : Journal) (b : Book) (s : State) (goal clause : ℕ) (g : Option Goal) → IsCounted p j b → b.events < 2 ^ 63 → Counts p j b (model.reduce goal clause) (reduce_goal s clause g)
 reduced_counts p j b s goal clause None h room = (no_more p j b h, refl)
@@ -122,7 +146,7 @@ reports_count : (p : Past) (j : Journal) (b : Book) (q : model.Query) (s : State
 reports_count p j b q s from None h = (no_more p j b h, refl)
 reports_count p j b q s from (Some o) h = (no_more p j b h, refl)
 
-answer_counts : (p : Past) (j : Journal) (b : Book) (q : model.Query) (s : State) → IsCounted p j b → Counts p j b (model.read q) (answer s q)
+answer_counts : (p : Past) (j : Journal) (b : Book) (q : model.Query) (s : State) → IsCounted p j b → Counts p j b (model.read q) (reply_to s q)
 answer_counts p j b (model.value n) s h =
     by_choice (Counts p j b (model.read (model.value n))) (is_number n) (value_of s (origin_at n s.shoens)) (refuse s model.syntax) (value_counts p j b (model.value n) s (origin_at n s.shoens) h) (no_more p j b h, refl)
 answer_counts p j b (model.status n) s h =
@@ -135,18 +159,20 @@ answer_counts p j b model.is_quiet s h = (no_more p j b h, refl)
 -- what a book tells after an event, if it has room
 pub step_counts : (p : Past) (j : Journal) (b : Book) (s : State) (e : model.Event) → IsCounted p j b → HasRoom b e → Counts p j b e (step s e)
 step_counts p j b s (model.load text) h room =
-    by_choice (Counts p j b (model.load text)) (nat_le (length text) most_source_bytes) (load_module s (read_module text)) (refuse s model.syntax) (loaded_counts p j b text s (read_module text) h (room refl)) (no_more p j b h, refl)
+    by_choice (Counts p j b (model.load text)) (nat_le (length text) MOST_SOURCE_BYTES) (load_module s (read_module text)) (refuse s model.syntax) (loaded_counts p j b text s (read_module text) h (room refl)) (no_more p j b h, refl)
 step_counts p j b s (model.start allowance low high t) h room = started_counts p j b s allowance low high t h (room refl)
 step_counts p j b s (model.control n m) h room =
     by_choice (Counts p j b (model.control n m)) (may_send n m) (send_to s n m (shoen_at n s.shoens)) (refuse s model.syntax) (told_counts p j b s n m (shoen_at n s.shoens) h (room refl)) (no_more p j b h, refl)
+step_counts p j b s (model.answer n report t) h room =
+    by_choice (Counts p j b (model.answer n report t)) (has_substitutes s.rules && may_answer n report t) (answer_to s report t (shoen_at n s.shoens)) (refuse s model.syntax) (replied_counts p j b s n report t (shoen_at n s.shoens) h (room refl)) (no_more p j b h, refl)
 step_counts p j b s (model.reduce goal clause) h room =
     by_choice (Counts p j b (model.reduce goal clause)) (is_number goal && is_number clause) (reduce_goal s clause (goal_at goal s.goals)) (refuse s model.syntax) (reduced_counts p j b s goal clause (goal_at goal s.goals) h (room refl)) (no_more p j b h, refl)
 step_counts p j b s (model.read q) h room = answer_counts p j b q s h
 step_counts p j b s model.login h room =
-    by_choice (Counts p j b model.login) (nat_lt s.sessions most_sessions) (record { state = record s { sessions = suc s.sessions }; reply = model.welcome s.own_name }) (refuse s model.sessions_refused) (in_sessions p j b (suc s.sessions) h, refl) (no_more p j b h, refl)
+    by_choice (Counts p j b model.login) (nat_lt s.sessions MOST_SESSIONS) (record { state = record s { sessions = suc s.sessions }; reply = model.welcome s.own_name }) (refuse s model.sessions_refused) (in_sessions p j b (suc s.sessions) h, refl) (no_more p j b h, refl)
 step_counts p j b s model.logout h room =
     by_choice (Counts p j b model.logout) (nat_lt 0 s.sessions) (record { state = record s { sessions = s.sessions - 1 }; reply = model.bye }) (refuse s model.sessions_refused) (in_sessions p j b (s.sessions - 1) h, refl) (no_more p j b h, refl)
-step_counts p j b s model.reset h room = (begun_anew p j b s.names s.sessions h, refl)
+step_counts p j b s model.reset h room = (begun_anew p j b s.rules s.names s.sessions h, refl)
 
 -- so by what was done to an account with its journal
 pub done_counts : (p : Past) (b : Book) (k : Kept) (e : model.Event) (d : Done) → done k e ≡ d → IsCounted p k.journal b → HasRoom b e →

@@ -1,7 +1,7 @@
 -- What a book tells of a journal and of those before it.
 use Rattle.std.specs.Prelude.{◌≡◌, ℕ, suc, ◌+◌, ◌≤◌, ◌^◌, Bool, true, false, List, [], ◌∷◌, length}
 use Rattle.kl1_model.specs.Event as model
-use Rattle.kl1_model_history.specs.Journal.{Entry, loads, starts, sends, steps, Journal}
+use Rattle.kl1_model_history.specs.Journal.{Entry, loads, starts, sends, steps, answers, Journal}
 use Rattle.kl1_tally.specs.Seats.{Book}
 use Rattle.kl1_pool_cell.specs.declared.past.Past.{Past}
 
@@ -11,6 +11,7 @@ reduces_in [] = 0
 reduces_in (loads text ∷ es) = reduces_in es
 reduces_in (starts allowance low high t ∷ es) = reduces_in es
 reduces_in (sends n m ∷ es) = reduces_in es
+reduces_in (answers n report t ∷ es) = reduces_in es
 reduces_in (steps goal clause ∷ es) = suc (reduces_in es)
 
 -- no journal was ended yet
@@ -31,7 +32,7 @@ pub record IsCounted (p : Past) (j : Journal) (b : Book) : Type 0 where
 abbrev pub with_more : Book → ℕ → ℕ → Book
 with_more b e s = record { tally = b.tally; account = b.account; events = b.events + e; steps = b.steps + s }
 
--- how many events a reply tells: one of a load, a start, a message and a reduction, and those of a run
+-- how many events a reply tells: one of a load, a start, a message, an answer and a reduction, and those of a run
 abbrev pub events_by : model.Reply → ℕ
 events_by (model.loaded name) = 1
 events_by (model.opened n) = 1

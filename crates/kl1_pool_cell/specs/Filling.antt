@@ -18,6 +18,7 @@ abbrev pub is_entry : model.Event → Bool
 is_entry (model.load text) = true
 is_entry (model.start allowance low high t) = true
 is_entry (model.control n m) = true
+is_entry (model.answer n report t) = true
 is_entry (model.reduce goal clause) = true
 is_entry _ = false
 

@@ -73,7 +73,11 @@ fn is_entry(event: &Event) -> bool
 {
     matches!(
         event,
-        Event::Load { .. } | Event::Start { .. } | Event::Control { .. } | Event::Reduce { .. }
+        Event::Load { .. }
+            | Event::Start { .. }
+            | Event::Control { .. }
+            | Event::Answer { .. }
+            | Event::Reduce { .. }
     )
 }
 

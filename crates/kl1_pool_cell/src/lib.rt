@@ -13,7 +13,7 @@ mod running;
 pub use cell::Cell;
 pub use cell_naming::CellNaming;
 pub use counting::MOST_EVENTS;
-pub use kl1_journal::AccountName;
+pub use kl1_journal::{AccountName, Rules};
 pub use kl1_pool_tickets::Turn;
 pub use named_atoms::NamedAtoms;
 pub use past::Past;

@@ -28,10 +28,10 @@ use kl1_user_events::{Refusal, Reply};
 use std::sync::Wait;
 
 impl<'t, R: Wait, K: CellNaming> Cell<'t, R, K> {
-    /// What a command does to the account and its journal, and the answer. The book and `share` get what the answer tells: one event
-    /// for a load, a start and a message, one event and one step for a reduction, and both for each step of a run. An accepted reset
-    /// adds the journal that it ends to what was counted before. A run ends when the book tells `MOST_EVENTS`, as if the next step
-    /// was refused by a full journal, and so is what would be an entry.
+    /// What a command does to the account and its journal, and the reply. The book and `share` get what the reply tells: one event
+    /// for a load, a start, a message and an answer, one event and one step for a reduction, and both for each step of a run. An
+    /// accepted reset adds the journal that it ends to what was counted before. A run ends when the book tells `MOST_EVENTS`, as if
+    /// the next step was refused by a full journal, and so is what would be an entry.
     pub fn perform(
         &mut self,
         tally: &Tally,

@@ -2,3 +2,4 @@ pub mod Moves
 pub mod Apart
 pub mod Counting
 pub mod NewBooks
+pub mod Zeros

@@ -39,6 +39,7 @@ impl Model for Parts {
     ghost use Rattle.crossbeam_queue.specs.Passes.{view as knows};
     ghost use Rattle.kl1_tally.specs.Numbers.{up_from};
     ghost use Rattle.kl1_tally.specs.Seats.{new_book, new_share};
+    ghost use Rattle.kl1_tally.specs.declared.amounts.TheConstants.{MOST_ACCOUNTS};
     ghost use Rattle.kl1_pool_tickets.specs.Hands.{all_parts, hand};
     ghost use Rattle.kl1_pool_tickets.specs.Parts.{PartsValue};
 
@@ -46,7 +47,7 @@ impl Model for Parts {
 
     ghost view = { λ p. record { tally = p.tally.id; queue = p.queue.table.shared.table_id; accounts = p.tally.accounts; shares = p.tally.shares } };
 
-    ghost invariant = { λ p. (p.rest.table_id ≡ p.queue.table.shared.table_id) × (p.rest.me.1 ≡ []) × (knows p.rest ≡ hand all_parts [] []) × (p.books.items ≡ map (new_book p.tally.id) (up_from 0 p.tally.accounts)) × All (λ seat. seat ≡ new_share p.tally.id) p.seats.items × (vec_len p.books ≡ p.tally.accounts) × (vec_len p.seats ≡ p.tally.shares) × (p.tally.accounts ≤ 16) };
+    ghost invariant = { λ p. (p.rest.table_id ≡ p.queue.table.shared.table_id) × (p.rest.me.1 ≡ []) × (knows p.rest ≡ hand all_parts [] []) × (p.books.items ≡ map (new_book p.tally.id) (up_from 0 p.tally.accounts)) × All (λ seat. seat ≡ new_share p.tally.id) p.seats.items × (vec_len p.books ≡ p.tally.accounts) × (vec_len p.seats ≡ p.tally.shares) × (p.tally.accounts ≤ MOST_ACCOUNTS) };
 }
 
 /// The parts of a pool that a type names: what its threads share besides the accounts, the book of each account in the order of

@@ -1,7 +1,7 @@
 // The queue of places that are ready.
 
 ghost use Rattle.std.specs.Prelude.{◌≡◌, ◌+◌, ◌-◌, ◌<◌, ◌≤◌, [], ◌∷◌, ◌++◌, length, set, take, MatchOption, IfSome, IfNone, OnOk, OnErr};
-ghost use Rattle.kl1_model.specs.Limits.{monitor_priority};
+ghost use Rattle.kl1_model.specs.declared.limits.TheConstants.{MONITOR_PRIORITY};
 ghost use Rattle.kl1_queue.specs.Ranks.{rank_of, AreNone, IsFirst, IsPriority};
 
 use crate::rank_tree::RankTree;
@@ -104,7 +104,7 @@ impl ReadyQueue {
     #[inline]
     pub fn put(&mut self, place: usize, priority: u16)
         requires place { place < length self.old.ranks }
-        requires priority { priority ≤ monitor_priority }
+        requires priority { priority ≤ MONITOR_PRIORITY }
         ensures { self.new ≡ record self.old { ranks = set self.old.ranks place (priority + 1) } }
     {
         self.hold(place, priority + 1);

@@ -3,7 +3,7 @@ use Rattle.std.proofs.Common.{◌≡◌, ◌≢◌, ℕ, suc, max, ◌≤◌, �
 use Rattle.std.proofs.lemmas.Bool.{and_from, le-leb, lt-leb, and_left, and_right}
 use Rattle.std.proofs.lemmas.Option.{none-some}
 use Rattle.std.proofs.lemmas.List.{reverse-append, append-nil}
-use Rattle.kl1_model.specs.Limits.{most_arguments, most_depth}
+use Rattle.kl1_model.specs.declared.limits.TheConstants.{MOST_ARGUMENTS, MOST_DEPTH}
 use Rattle.kl1_model.specs.Term.{Term, structure, none, terms_of, count_of}
 use Rattle.kl1_model.specs.Text.{is_text}
 use Rattle.kl1_model.specs.code.TermCode.{NodeCode, nodes_of, nodes_of_all}
@@ -62,10 +62,10 @@ depths_of_many f (a ∷ []) h = refl
 depths_of_many f (a ∷ b ∷ []) h = absurd (h refl)
 depths_of_many f (a ∷ b ∷ c ∷ es) h = refl
 
-narrow_structure : (f : List ℕ) (es : List Term) → IsTrue (is_text f) → 1 ≤ length es → length es ≤ most_arguments → IsTrue (are_narrow (terms_of es)) → IsTrue (is_narrow (structure f (terms_of es)))
+narrow_structure : (f : List ℕ) (es : List Term) → IsTrue (is_text f) → 1 ≤ length es → length es ≤ MOST_ARGUMENTS → IsTrue (are_narrow (terms_of es)) → IsTrue (is_narrow (structure f (terms_of es)))
 narrow_structure f es t h k n =
     let c = count_length es in
-    and_from _ _ (and_from _ _ (and_from _ _ t (le-leb 1 (count_of (terms_of es)) (omega arith))) (le-leb (count_of (terms_of es)) most_arguments (omega arith))) n
+    and_from _ _ (and_from _ _ (and_from _ _ t (le-leb 1 (count_of (terms_of es)) (omega arith))) (le-leb (count_of (terms_of es)) MOST_ARGUMENTS (omega arith))) n
 
 many_nodes : (f : List ℕ) (es : List Term) (ns zs : List Node) → map code_of (reverse ns) ≡ nodes_of_all (terms_of es) → zs ≡ ns ++ Structure f (length es) ∷ [] → map code_of (reverse zs) ≡ nodes_of (structure f (terms_of es))
 many_nodes f es ns zs n e =
@@ -75,12 +75,12 @@ many_nodes f es ns zs n e =
     ∙ ap (λ cs. code_of (Structure f (count_of (terms_of es))) ∷ cs) n
 
 -- a structure of one argument or of more than two
-pub many_made : (f : List ℕ) (es : List Term) (ns zs : List Node) (deep : ℕ) → length es ≢ 2 → 1 ≤ length es → length es ≤ most_arguments → IsTrue (is_text f) → IsTrue (are_narrow (terms_of es)) → map code_of (reverse ns) ≡ nodes_of_all (terms_of es) → deep ≡ deepest (terms_of es) → deep < most_depth → zs ≡ ns ++ Structure f (length es) ∷ [] → Made zs (structure f (terms_of es)) (suc deep) (suc deep)
+pub many_made : (f : List ℕ) (es : List Term) (ns zs : List Node) (deep : ℕ) → length es ≢ 2 → 1 ≤ length es → length es ≤ MOST_ARGUMENTS → IsTrue (is_text f) → IsTrue (are_narrow (terms_of es)) → map code_of (reverse ns) ≡ nodes_of_all (terms_of es) → deep ≡ deepest (terms_of es) → deep < MOST_DEPTH → zs ≡ ns ++ Structure f (length es) ∷ [] → Made zs (structure f (terms_of es)) (suc deep) (suc deep)
 many_made f es ns zs deep other some few t n nodes d low e =
     made_of zs (structure f (terms_of es)) (suc deep) (suc deep) (many_nodes f es ns zs nodes e) (depths_of_many f es other ∙ ap (λ k. flat (suc k)) (sym d)) (narrow_structure f es t some few n) (omega arith) (omega arith)
 
 -- a structure of one argument or of more than two that is too deep
-pub many_too_deep : (f : List ℕ) (es : List Term) (deep : ℕ) → length es ≢ 2 → deep ≡ deepest (terms_of es) → most_depth ≤ deep → None ≡ writable (structure f (terms_of es))
+pub many_too_deep : (f : List ℕ) (es : List Term) (deep : ℕ) → length es ≢ 2 → deep ≡ deepest (terms_of es) → MOST_DEPTH ≤ deep → None ≡ writable (structure f (terms_of es))
 many_too_deep f es deep other d h =
     let whole : depth (structure f (terms_of es)) ≡ suc (deepest (terms_of es)) = ap (λ (x : Depth). x.whole) (depths_of_many f es other) in
     sym (too_deep (structure f (terms_of es)) (omega arith))
@@ -91,10 +91,10 @@ none_unwritable f [] h =
     not_writable (structure f none) (and_left _ _ (and_left _ _ (and_left _ _ (and_right (is_text f) false refl))))
 none_unwritable f (e ∷ es) h = absurd (omega arith)
 
-pub many_unwritable : (f : List ℕ) (es : List Term) → most_arguments < length es → None ≡ writable (structure f (terms_of es))
+pub many_unwritable : (f : List ℕ) (es : List Term) → MOST_ARGUMENTS < length es → None ≡ writable (structure f (terms_of es))
 many_unwritable f es h =
     let c = count_length es in
-    not_writable (structure f (terms_of es)) (and_left _ _ (and_left _ _ (and_right (is_text f && nat_le 1 (count_of (terms_of es))) (nat_le (count_of (terms_of es)) most_arguments) (lt-leb (count_of (terms_of es)) most_arguments (omega arith)))))
+    not_writable (structure f (terms_of es)) (and_left _ _ (and_left _ _ (and_right (is_text f && nat_le 1 (count_of (terms_of es))) (nat_le (count_of (terms_of es)) MOST_ARGUMENTS) (lt-leb (count_of (terms_of es)) MOST_ARGUMENTS (omega arith)))))
 
 -- the last element is taken from those that are left
 pub cells_gone : (whole : Term) (xs ys : List Term) (e t : Term) → cells (terms_of ys) t ≡ whole → ys ≡ xs ++ e ∷ [] → None ≡ writable (cell e t) → None ≡ writable whole

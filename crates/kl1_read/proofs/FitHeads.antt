@@ -4,7 +4,7 @@ use Rattle.std.proofs.lemmas.List.{at_drop_more}
 use Rattle.std.proofs.lemmas.Bool.{both_ways, not-true, and_parts, and_left, and_right, lt-leb, le-leb, and_from}
 use Rattle.std.proofs.lemmas.Slice.Eq.{bytes_eq-Decides}
 use Rattle.std.proofs.lemmas.Bool.Decides.{nat_tests}
-use Rattle.kl1_model.specs.Limits.{most_arguments, most_depth}
+use Rattle.kl1_model.specs.declared.limits.TheConstants.{MOST_ARGUMENTS, MOST_DEPTH}
 use Rattle.kl1_model.specs.Text.{is_text, text_of}
 use Rattle.kl1_model.specs.Term.{Term, structure, Terms, none, more, terms_of, count_of}
 use Rattle.kl1_model.specs.Meaning.{Depth, depths, depth, deepest, flat, cell_depth, is_narrow, are_narrow, is_writable}
@@ -49,12 +49,12 @@ name_unfit p [] h e = absurd (omega arith)
 name_unfit p (t ∷ ts) h e = sym (and_right (is_writable (structure p (terms_of (t ∷ ts)))) _ (named p (t ∷ ts) ∙ e))
 
 -- more than eight arguments
-pub many_unfit : (p : List ℕ) (ts : List Term) → most_arguments < length ts → false ≡ is_fit_name p ts
+pub many_unfit : (p : List ℕ) (ts : List Term) → MOST_ARGUMENTS < length ts → false ≡ is_fit_name p ts
 many_unfit p [] h = absurd (omega arith)
 many_unfit p (t ∷ ts) h =
     let xs : Terms = terms_of (t ∷ ts) in
-    let many : nat_le (count_of xs) most_arguments ≡ false = lt-leb (count_of xs) most_arguments (omega (arith, count_is (t ∷ ts))) in
-    sym (and_left (is_writable (structure p xs)) _ (and_left (is_narrow (structure p xs)) _ (and_left _ (are_narrow xs) (and_right (is_text p && nat_le 1 (count_of xs)) (nat_le (count_of xs) most_arguments) many))))
+    let many : nat_le (count_of xs) MOST_ARGUMENTS ≡ false = lt-leb (count_of xs) MOST_ARGUMENTS (omega (arith, count_is (t ∷ ts))) in
+    sym (and_left (is_writable (structure p xs)) _ (and_left (is_narrow (structure p xs)) _ (and_left _ (are_narrow xs) (and_right (is_text p && nat_le 1 (count_of xs)) (nat_le (count_of xs) MOST_ARGUMENTS) many))))
 
 all_true : (a b c : Bool) → a ≡ true → c ≡ true → b ≡ (a && b) && c
 all_true a b c h k = grind arith
@@ -62,21 +62,21 @@ all_true a b c h k = grind arith
 all_true_first : (a c : Bool) → a ≡ true → c ≡ (a && true) && c
 all_true_first a c h = grind arith
 
-below_most : (d : ℕ) → nat_lt d most_depth ≡ nat_le (suc d) most_depth
+below_most : (d : ℕ) → nat_lt d MOST_DEPTH ≡ nat_le (suc d) MOST_DEPTH
 below_most d = grind (arith, nat_tests)
 
 -- arguments of which the deepest is deep enough, or not
-pub depth_fits : (p : List ℕ) (ts : List Term) → 0 < length ts → length ts ≤ most_arguments → may_name_structure p (length ts) ≡ true → IsTrue (is_text p) → IsTrue (are_narrow (terms_of ts)) → nat_lt (deepest (terms_of ts)) most_depth ≡ is_fit_name p ts
+pub depth_fits : (p : List ℕ) (ts : List Term) → 0 < length ts → length ts ≤ MOST_ARGUMENTS → may_name_structure p (length ts) ≡ true → IsTrue (is_text p) → IsTrue (are_narrow (terms_of ts)) → nat_lt (deepest (terms_of ts)) MOST_DEPTH ≡ is_fit_name p ts
 depth_fits p [] h k may text narrow = absurd (omega arith)
 depth_fits p (t ∷ ts) h k may text narrow =
     let xs : Terms = terms_of (t ∷ ts) in
     let some : nat_le 1 (count_of xs) ≡ true = le-leb 1 (count_of xs) (omega (arith, count_is (t ∷ ts))) in
-    let few : nat_le (count_of xs) most_arguments ≡ true = le-leb (count_of xs) most_arguments (omega (arith, count_is (t ∷ ts))) in
+    let few : nat_le (count_of xs) MOST_ARGUMENTS ≡ true = le-leb (count_of xs) MOST_ARGUMENTS (omega (arith, count_is (t ∷ ts))) in
     let dot : bytes_eq p (codes ".") ≡ false = dot_by p (bytes_eq p (codes ".")) refl (name_free p (length (t ∷ ts)) may) in
     let whole : is_narrow (structure p xs) ≡ true = and_from _ _ (and_from _ _ (and_from (is_text p) _ text some) few) narrow in
     below_most (deepest xs)
-    ∙ ap (λ d. nat_le d most_depth) (sym (depth_is p xs dot))
-    ∙ all_true (is_narrow (structure p xs)) (nat_le (depth (structure p xs)) most_depth) (is_head (structure p xs)) whole (named p (t ∷ ts) ∙ may)
+    ∙ ap (λ d. nat_le d MOST_DEPTH) (sym (depth_is p xs dot))
+    ∙ all_true (is_narrow (structure p xs)) (nat_le (depth (structure p xs)) MOST_DEPTH) (is_head (structure p xs)) whole (named p (t ∷ ts) ∙ may)
 
 -- a name alone
 pub atom_fits : (p : List ℕ) (ts : List Term) → length ts ≡ 0 → IsTrue (is_text p) → may_name_atom p ≡ is_fit_name p ts

@@ -4,7 +4,7 @@ use Rattle.std.specs.List.{list_any}
 use Rattle.std.proofs.lemmas.Bool.{false≢true, true≢false, ltb-true}
 use Rattle.std.proofs.lemmas.List.{map-append, length-append}
 use Rattle.std.proofs.lemmas.Option.{none-some, same_Some}
-use Rattle.kl1_model.specs.Limits.{most_clauses}
+use Rattle.kl1_model.specs.declared.limits.TheConstants.{MOST_CLAUSES}
 use Rattle.kl1_model.specs.Term.{Term, terms_of, count_of}
 use Rattle.kl1_model.specs.Token.{Token}
 use Rattle.kl1_model.specs.Module.{Clause, Reading, bad, Item, is_of, last_of, continues, may_follow, section_after, with_clause, is_otherwise, if_good, otherwise_on, clause_of, clauses_from}
@@ -59,18 +59,18 @@ abbrev section_by : Bool → Bool → Bool → Bool → ℕ → Option ℕ
 section_by room on behind held last = if room && (on || not behind && not held) then Some (if on then (if behind then suc last else last) else 0) else None
 
 module _ (before : List ClauseParts) (behind : Bool) (c : ClauseParts) where
-  sections_are : (count : ℕ) → count ≡ length c.patterns.items → section_by (nat_lt (length before) most_clauses) (goes_on c.name count before) behind (holds c.name count before) (last_section before) ≡ section_for (map clause_of_parts before) behind (clause_of_parts c)
+  sections_are : (count : ℕ) → count ≡ length c.patterns.items → section_by (nat_lt (length before) MOST_CLAUSES) (goes_on c.name count before) behind (holds c.name count before) (last_section before) ≡ section_for (map clause_of_parts before) behind (clause_of_parts c)
   sections_are count n =
       let one = c.name in
       let many = count_of (terms_of c.patterns.items) in
       let on = goes_on one many before in
-      ap (λ k. section_by (nat_lt (length before) most_clauses) (goes_on one k before) behind (holds one k before) (last_section before)) (n ∙ sym (count_is c.patterns.items))
-      ∙ ap (λ k. section_by (nat_lt k most_clauses) on behind (holds one many before) (last_section before)) (sym (mapped before))
-      ∙ ap (λ h. section_by (nat_lt (length (map clause_of_parts before)) most_clauses) on behind h (last_section before)) (any_is one many before)
-      ∙ ap (section_by (nat_lt (length (map clause_of_parts before)) most_clauses) on behind (list_any (is_of one many) (map clause_of_parts before))) (sym (last_is before))
+      ap (λ k. section_by (nat_lt (length before) MOST_CLAUSES) (goes_on one k before) behind (holds one k before) (last_section before)) (n ∙ sym (count_is c.patterns.items))
+      ∙ ap (λ k. section_by (nat_lt k MOST_CLAUSES) on behind (holds one many before) (last_section before)) (sym (mapped before))
+      ∙ ap (λ h. section_by (nat_lt (length (map clause_of_parts before)) MOST_CLAUSES) on behind h (last_section before)) (any_is one many before)
+      ∙ ap (section_by (nat_lt (length (map clause_of_parts before)) MOST_CLAUSES) on behind (list_any (is_of one many) (map clause_of_parts before))) (sym (last_is before))
 
   -- there is no room
-  pub no_room : false ≡ nat_lt (length before) most_clauses → None ≡ section_for (map clause_of_parts before) behind (clause_of_parts c)
+  pub no_room : false ≡ nat_lt (length before) MOST_CLAUSES → None ≡ section_for (map clause_of_parts before) behind (clause_of_parts c)
   no_room full =
       ap (λ room. section_by room (goes_on c.name (length c.patterns.items) before) behind (holds c.name (length c.patterns.items) before) (last_section before)) full
       ∙ sections_are (length c.patterns.items) refl
@@ -80,7 +80,7 @@ module _ (before : List ClauseParts) (behind : Bool) (c : ClauseParts) where
   on_by false held last s e = absurd (none-some s (sym e))
 
   -- the last clause before is one of the same predicate
-  pub follows_last : (count s : ℕ) → true ≡ nat_lt (length before) most_clauses → count ≡ length c.patterns.items → Some s ≡ section_within c.name count before → Some (if behind then suc s else s) ≡ section_for (map clause_of_parts before) behind (clause_of_parts c)
+  pub follows_last : (count s : ℕ) → true ≡ nat_lt (length before) MOST_CLAUSES → count ≡ length c.patterns.items → Some s ≡ section_within c.name count before → Some (if behind then suc s else s) ≡ section_for (map clause_of_parts before) behind (clause_of_parts c)
   follows_last count s room n e =
       on_by (goes_on c.name count before) (holds c.name count before) (last_section before) s (e ∙ within_is c.name count before)
       ∙ ap (λ b. section_by b (goes_on c.name count before) behind (holds c.name count before) (last_section before)) room
@@ -91,7 +91,7 @@ module _ (before : List ClauseParts) (behind : Bool) (c : ClauseParts) where
   off_by false held last e = refl
 
   -- the last clause before is of another predicate
-  pub follows_others : (count : ℕ) → true ≡ nat_lt (length before) most_clauses → count ≡ length c.patterns.items → None ≡ section_within c.name count before → (if◌then◌else◌ {A = Option ℕ} (not behind && not (holds c.name count before)) (Some 0) None) ≡ section_for (map clause_of_parts before) behind (clause_of_parts c)
+  pub follows_others : (count : ℕ) → true ≡ nat_lt (length before) MOST_CLAUSES → count ≡ length c.patterns.items → None ≡ section_within c.name count before → (if◌then◌else◌ {A = Option ℕ} (not behind && not (holds c.name count before)) (Some 0) None) ≡ section_for (map clause_of_parts before) behind (clause_of_parts c)
   follows_others count room n e =
       off_by (goes_on c.name count before) (holds c.name count before) (last_section before) (e ∙ within_is c.name count before)
       ∙ ap (λ b. section_by b (goes_on c.name count before) behind (holds c.name count before) (last_section before)) room
@@ -102,10 +102,10 @@ within_few true last s e = same_Some s last e
 within_few false last s e = absurd (none-some s (sym e))
 
 -- a section more can be counted
-pub section_few : (name : List ℕ) (count : ℕ) (before : List ClauseParts) (s : ℕ) → Some s ≡ section_within name count before → last_section before ≤ length before → true ≡ nat_lt (length before) most_clauses → s ≤ most_clauses
+pub section_few : (name : List ℕ) (count : ℕ) (before : List ClauseParts) (s : ℕ) → Some s ≡ section_within name count before → last_section before ≤ length before → true ≡ nat_lt (length before) MOST_CLAUSES → s ≤ MOST_CLAUSES
 section_few name count before s e few room =
     let is : s ≡ last_section before = within_few (goes_on name count before) (last_section before) s (e ∙ within_is name count before) in
-    let less = ltb-true (length before) most_clauses (sym room) in
+    let less = ltb-true (length before) MOST_CLAUSES (sym room) in
     omega (arith, is, few, less)
 
 -- the section of a clause after others is that of the last clause

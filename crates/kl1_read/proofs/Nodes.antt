@@ -2,7 +2,7 @@
 use Rattle.std.proofs.Common.{◌≡◌, ℕ, ◌≤◌, ◌<◌, nat_le, List, [], ◌∷◌, ◌++◌, map, length, reverse, IsTrue, Option, Some, None, if◌then◌else◌, refl, ap, sym, ◌∙◌, arith}
 use Rattle.std.proofs.lemmas.List.{map-append, reverse-append, append-nil}
 use Rattle.std.proofs.lemmas.Bool.{and_parts, and_from, leb-true, le-leb, lt-leb, and_right}
-use Rattle.kl1_model.specs.Limits.{most_depth}
+use Rattle.kl1_model.specs.declared.limits.TheConstants.{MOST_DEPTH}
 use Rattle.kl1_model.specs.Term.{Term}
 use Rattle.kl1_model.specs.Text.{is_text}
 use Rattle.kl1_model.specs.code.TermCode.{nodes_of, term_from, term_from-nodes_of}
@@ -20,24 +20,24 @@ pub term_of_nodes : (nodes : List Node) (t : Term) → map code_of nodes ≡ nod
 term_of_nodes nodes t e = ap term_from e ∙ term_from-nodes_of t
 
 -- nodes of a term that a text can write, with its depths
-pub piece_of_nodes : (nodes : List Node) (t : Term) (whole rest : ℕ) → map code_of nodes ≡ nodes_of t → depths t ≡ record { whole = whole; rest = rest } → IsTrue (is_writable t) → whole ≤ most_depth → rest ≤ whole → IsPiece nodes whole rest
+pub piece_of_nodes : (nodes : List Node) (t : Term) (whole rest : ℕ) → map code_of nodes ≡ nodes_of t → depths t ≡ record { whole = whole; rest = rest } → IsTrue (is_writable t) → whole ≤ MOST_DEPTH → rest ≤ whole → IsPiece nodes whole rest
 piece_of_nodes nodes t whole rest e d w l m =
     let is = term_of_nodes nodes t e in
     record { one = e ∙ ap nodes_of (sym is); depth = ap depths is ∙ d; fits = rw is w; low = l; rest_low = m }
 
 -- what is narrow and not too deep can be written
-pub narrow_writable : (t : Term) → IsTrue (is_narrow t) → depth t ≤ most_depth → IsTrue (is_writable t)
-narrow_writable t n d = and_from (is_narrow t) (nat_le (depth t) most_depth) n (le-leb (depth t) most_depth d)
+pub narrow_writable : (t : Term) → IsTrue (is_narrow t) → depth t ≤ MOST_DEPTH → IsTrue (is_writable t)
+narrow_writable t n d = and_from (is_narrow t) (nat_le (depth t) MOST_DEPTH) n (le-leb (depth t) MOST_DEPTH d)
 
 pub writable_narrow : (t : Term) → IsTrue (is_writable t) → IsTrue (is_narrow t)
 writable_narrow t w = (and_parts (is_narrow t) _ w).0
 
-pub writable_low : (t : Term) → IsTrue (is_writable t) → depth t ≤ most_depth
-writable_low t w = leb-true (depth t) most_depth (and_parts (is_narrow t) _ w).1
+pub writable_low : (t : Term) → IsTrue (is_writable t) → depth t ≤ MOST_DEPTH
+writable_low t w = leb-true (depth t) MOST_DEPTH (and_parts (is_narrow t) _ w).1
 
 -- what is too deep can't be written
-pub too_deep : (t : Term) → most_depth < depth t → writable t ≡ None
-too_deep t h = ap (λ b. if◌then◌else◌ {A = Option Term} b (Some t) None) (and_right (is_narrow t) (nat_le (depth t) most_depth) (lt-leb (depth t) most_depth h))
+pub too_deep : (t : Term) → MOST_DEPTH < depth t → writable t ≡ None
+too_deep t h = ap (λ b. if◌then◌else◌ {A = Option Term} b (Some t) None) (and_right (is_narrow t) (nat_le (depth t) MOST_DEPTH) (lt-leb (depth t) MOST_DEPTH h))
 
 -- what can be written is there
 pub there_writable : (t : Term) → IsTrue (is_writable t) → writable t ≡ Some t
@@ -48,7 +48,7 @@ pub record Made (nodes : List Node) (t : Term) (whole rest : ℕ) : Type 0 where
   pub is : Some (term_in (reverse nodes)) ≡ writable t
   pub piece : IsPiece (reverse nodes) whole rest
 
-pub made_of : (nodes : List Node) (t : Term) (whole rest : ℕ) → map code_of (reverse nodes) ≡ nodes_of t → depths t ≡ record { whole = whole; rest = rest } → IsTrue (is_narrow t) → whole ≤ most_depth → rest ≤ whole → Made nodes t whole rest
+pub made_of : (nodes : List Node) (t : Term) (whole rest : ℕ) → map code_of (reverse nodes) ≡ nodes_of t → depths t ≡ record { whole = whole; rest = rest } → IsTrue (is_narrow t) → whole ≤ MOST_DEPTH → rest ≤ whole → Made nodes t whole rest
 made_of nodes t whole rest e d n l m =
     let deep : depth t ≡ whole = ap (λ (x : Depth). x.whole) d in
     let w = narrow_writable t n (omega (arith, deep, l)) in
@@ -90,13 +90,13 @@ module _ (f : List ℕ) (xs ys zs : List Node) (a b : Term) (aw ar bw br w r : �
       ∙ ap (λ ns. code_of (Structure f 2) ∷ (ns ++ map code_of (reverse ys))) (nodes_are (reverse xs) a a_is front.one)
       ∙ ap (λ ns. code_of (Structure f 2) ∷ (nodes_of a ++ ns)) (nodes_are (reverse ys) b b_is behind.one ∙ sym (append-nil (nodes_of b)))
 
-  pub pair_made : zs ≡ (ys ++ xs) ++ Structure f 2 ∷ [] → IsTrue (is_text f) → w ≤ most_depth → r ≤ w → Made zs (pair f a b) w r
+  pub pair_made : zs ≡ (ys ++ xs) ++ Structure f 2 ∷ [] → IsTrue (is_text f) → w ≤ MOST_DEPTH → r ≤ w → Made zs (pair f a b) w r
   pair_made e t l m =
       let an = writable_narrow a (rw (← a_is) front.fits) in
       let bn = writable_narrow b (rw (← b_is) behind.fits) in
       made_of zs (pair f a b) w r (pair_nodes e) pair_depths (and_from _ _ (and_from _ _ (and_from _ _ t refl) refl) (and_from _ _ an (and_from _ _ bn refl))) l m
 
-  pub pair_too_deep : most_depth < w → None ≡ writable (pair f a b)
+  pub pair_too_deep : MOST_DEPTH < w → None ≡ writable (pair f a b)
   pair_too_deep h =
       let deep : depth (pair f a b) ≡ w = ap (λ (x : Depth). x.whole) pair_depths in
       sym (too_deep (pair f a b) (omega (arith, deep, h)))

@@ -2,7 +2,7 @@
 use Rattle.std.proofs.Common.{◌≡◌, ℕ, nat_lt, Bool, true, false, if◌then◌else◌, List, [], ◌∷◌, ◌++◌, Option, Some, None, Vec, pos, neg_ℤ, refl, ap, sym, ◌∙◌}
 use Rattle.std.specs.Borrow.{Bor}
 use Rattle.std.specs.declared.alloc.Global.{Global}
-use Rattle.kl1_model.specs.Limits.{number_limit}
+use Rattle.kl1_model.specs.declared.limits.TheConstants.{NUMBER_LIMIT}
 use Rattle.kl1_model.specs.declared.sign.Sign.TheVariants.{Open, OpenList}
 use Rattle.kl1_model.specs.Token.{name_token, variable_token, digits_token, minus_token, sign_token}
 use Rattle.kl1_model.specs.Term.{Term, variable, integer, atom, structure, Terms, terms_of, list_of}
@@ -25,9 +25,9 @@ positive_by : (b : Bool) (n : ℕ) (ts : List Numbered) → answer_map primary_t
 positive_by true n ts = refl
 positive_by false n ts = refl
 
-pub positive_reads : (n : ℕ) (ts : List Numbered) → primary_read (digits_token n ∷ ts) ≡ if◌then◌else◌ {A = Answer Term} (nat_lt n number_limit) (Some (integer (pos n), ts)) None
+pub positive_reads : (n : ℕ) (ts : List Numbered) → primary_read (digits_token n ∷ ts) ≡ if◌then◌else◌ {A = Answer Term} (nat_lt n NUMBER_LIMIT) (Some (integer (pos n), ts)) None
 unfolding primary_read
-positive_reads n ts = positive_by (nat_lt n number_limit) n ts
+positive_reads n ts = positive_by (nat_lt n NUMBER_LIMIT) n ts
 
 -- what is read after a `-` with a digit directly after it
 abbrev pub negative_read : List Numbered → Answer Term

@@ -3,7 +3,7 @@ use Rattle.std.proofs.Common.{◌≡◌, ℕ, zero, suc, ◌<◌, ◌≤◌, nat
 use Rattle.std.specs.Borrow.{Bor}
 use Rattle.std.specs.declared.alloc.Global.{Global}
 use Rattle.std.proofs.lemmas.Bool.{lt-ltb, le-ltb, and_left}
-use Rattle.kl1_model.specs.Limits.{number_limit}
+use Rattle.kl1_model.specs.declared.limits.TheConstants.{NUMBER_LIMIT}
 use Rattle.kl1_model.specs.declared.sign.Sign.{Sign}
 use Rattle.kl1_model.specs.declared.sign.Sign.TheVariants.{Open, OpenList}
 use Rattle.kl1_model.specs.Token.{name_token, digits_token, minus_token, sign_token}
@@ -46,19 +46,19 @@ if_some b x h = ap (λ c. if◌then◌else◌ {A = Answer Term} c x None) h
 if_none : (b : Bool) (x : Answer Term) → b ≡ false → if◌then◌else◌ {A = Answer Term} b x None ≡ None
 if_none b x h = ap (λ c. if◌then◌else◌ {A = Answer Term} c x None) h
 
-pub small_positive : (n : ℕ) (ts : List grammar.Numbered) → n < number_limit → primary_read (digits_token n ∷ ts) ≡ Some (integer (pos n), ts)
-small_positive n ts h = positive_reads n ts ∙ if_some (nat_lt n number_limit) _ (lt-ltb n number_limit h)
+pub small_positive : (n : ℕ) (ts : List grammar.Numbered) → n < NUMBER_LIMIT → primary_read (digits_token n ∷ ts) ≡ Some (integer (pos n), ts)
+small_positive n ts h = positive_reads n ts ∙ if_some (nat_lt n NUMBER_LIMIT) _ (lt-ltb n NUMBER_LIMIT h)
 
-pub large_positive : (n : ℕ) (ts : List grammar.Numbered) → number_limit ≤ n → primary_read (digits_token n ∷ ts) ≡ None
-large_positive n ts h = positive_reads n ts ∙ if_none (nat_lt n number_limit) (Some (integer (pos n), ts)) (le-ltb n number_limit h)
+pub large_positive : (n : ℕ) (ts : List grammar.Numbered) → NUMBER_LIMIT ≤ n → primary_read (digits_token n ∷ ts) ≡ None
+large_positive n ts h = positive_reads n ts ∙ if_none (nat_lt n NUMBER_LIMIT) (Some (integer (pos n), ts)) (le-ltb n NUMBER_LIMIT h)
 
 pub below_zero_reads : (n : ℕ) (ts : List grammar.Numbered) → primary_read (minus_token true ∷ digits_token n ∷ ts) ≡ Some (integer (neg_ℤ (pos n)), ts)
 below_zero_reads n ts = negative_reads (digits_token n ∷ ts)
 
 -- no text can write an integer that is too low
-pub too_low : (n : ℕ) → number_limit < n → is_writable (integer (neg_ℤ (pos n))) ≡ false
+pub too_low : (n : ℕ) → NUMBER_LIMIT < n → is_writable (integer (neg_ℤ (pos n))) ≡ false
 too_low zero h = absurd (omega arith)
-too_low (suc n) h = and_left _ _ (le-ltb n number_limit (omega arith))
+too_low (suc n) h = and_left _ _ (le-ltb n NUMBER_LIMIT (omega arith))
 
 -- a name and no bracket after it
 pub call_gone : (f : List ℕ) (quotes : Bool) (ts : List grammar.Numbered) → None ≡ behind_open ts → primary_read (name_token f quotes true ∷ ts) ≡ None

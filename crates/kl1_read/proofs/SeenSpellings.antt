@@ -1,15 +1,10 @@
 -- Spellings that were seen, as one more is.
-use Rattle.std.proofs.Common.{◌≡◌, ℕ, suc, ◌≤◌, cond, Bool, true, false, List, [], ◌∷◌, ◌++◌, length, codes, bytes_eq, IsTrue, Option, Some, None, if◌then◌else◌, refl, sym, ap, subst, ◌∙◌, arith, length-append}
+use Rattle.std.proofs.Common.{◌≡◌, ℕ, suc, ◌≤◌, cond, Bool, true, false, List, [], ◌∷◌, ◌++◌, length, codes, bytes_eq, Option, Some, None, if◌then◌else◌, refl, sym, ap, subst, ◌∙◌, arith, length-append}
 use Rattle.std.proofs.lemmas.Bool.{true≢false, lt-ltb, le-ltb}
 use Rattle.std.proofs.lemmas.Slice.Eq.{bytes_eq-Decides}
-use Rattle.std.specs.Prelude.{nat_eq}
-use Rattle.std.specs.Cmp.Lexicographic.{pointwise}
 use Rattle.std.specs.HashMap.{get, HashMap, Updates}
 use Rattle.std.specs.Map.{lookup}
-use Rattle.kl1_model.specs.Text.{is_text}
 use Rattle.kl1_model.specs.Numbering.{place_of, variable_number, seen_after}
-use Rattle.kl1_text.specs.Words.{words_of}
-use Rattle.kl1_text.proofs.Words.{same_names, same_bytes}
 use Rattle.kl1_read.specs.Spellings.{IsNumbered, IsNumberAmong, Finds}
 
 kept_by : (b : Bool) (p q n : ℕ) → (q ≤ n → p ≡ q) → (if b then 1 else suc q) ≤ suc n → ◌≡◌ {A = ℕ} (if b then 1 else suc p) (if b then 1 else suc q)
@@ -51,8 +46,8 @@ number_with seen u v next o false e n none h = number_stays seen u v o e h
 
 -- nothing is found if nothing was seen
 pub finds_none : {S : Type 0} (numbers : HashMap (List ℕ) ℕ S) (seen : List (List ℕ)) → numbers.entries ≡ [] → seen ≡ [] → Finds numbers seen
-finds_none numbers seen e s = λ v t other.
-    let none : get (pointwise nat_eq) numbers (words_of 8 v) ≡ None = ap (lookup (pointwise nat_eq (words_of 8 v))) e in
+finds_none numbers seen e s = λ v other.
+    let none : get bytes_eq numbers v ≡ None = ap (lookup (bytes_eq v)) e in
     let new : place_of seen v ≡ suc (length seen) = ap (λ xs. place_of xs v) s ∙ ap (λ (xs : List (List ℕ)). suc (length xs)) (sym s) in
     subst (IsNumberAmong seen v) (sym none) new
 
@@ -62,16 +57,14 @@ apart_from u v w false e is other = refl
 
 -- what finds spellings still does with `_` after those seen
 finds_behind : {S : Type 0} (numbers : HashMap (List ℕ) ℕ S) (seen : List (List ℕ)) (u : List ℕ) → bytes_eq u (codes "_") ≡ true → Finds numbers seen → Finds numbers (seen ++ u ∷ [])
-finds_behind numbers seen u is h = λ v t other.
-    number_stays seen u v _ (apart_from u v (codes "_") (bytes_eq u v) refl is other) (h v t other)
+finds_behind numbers seen u is h = λ v other.
+    number_stays seen u v _ (apart_from u v (codes "_") (bytes_eq u v) refl is other) (h v other)
 
 -- one more is found
-finds_more : {S : Type 0} (old new : HashMap (List ℕ) ℕ S) (seen : List (List ℕ)) (u : List ℕ) (next : ℕ) → IsTrue (is_text u) → Finds old seen → get (pointwise nat_eq) old (words_of 8 u) ≡ None → next ≡ suc (length seen) → Updates (pointwise nat_eq) old new (words_of 8 u) (Some next) → Finds new (seen ++ u ∷ [])
-finds_more old new seen u next text h none n updates = λ v t other.
-    let same : bytes_eq (words_of 8 u) (words_of 8 v) ≡ bytes_eq u v = same_bytes u v _ (same_names u v _ text t refl) in
-    let now : get (pointwise nat_eq) new (words_of 8 v) ≡ cond (bytes_eq u v) (Some next) (get (pointwise nat_eq) old (words_of 8 v)) = updates.0 (words_of 8 v) ∙ ap (λ (b : Bool). cond b (Some next) (get (pointwise nat_eq) old (words_of 8 v))) same in
-    subst (IsNumberAmong (seen ++ u ∷ []) v) (sym now)
-    (number_with seen u v next _ (bytes_eq u v) refl n (λ e. ap (λ x. get (pointwise nat_eq) old (words_of 8 x)) (sym ((bytes_eq-Decides u v).0 e)) ∙ none) (h v t other))
+finds_more : {S : Type 0} (old new : HashMap (List ℕ) ℕ S) (seen : List (List ℕ)) (u : List ℕ) (next : ℕ) → Finds old seen → get bytes_eq old u ≡ None → next ≡ suc (length seen) → Updates bytes_eq old new u (Some next) → Finds new (seen ++ u ∷ [])
+finds_more old new seen u next h none n updates = λ v other.
+    subst (IsNumberAmong (seen ++ u ∷ []) v) (sym (updates.0 v))
+    (number_with seen u v next _ (bytes_eq u v) refl n (λ e. ap (λ x. get bytes_eq old x) (sym ((bytes_eq-Decides u v).0 e)) ∙ none) (h v other))
 
 -- a spelling that has the next number joins those seen, and another one doesn't
 joined_by : (seen : List (List ℕ)) (v : List ℕ) (n : ℕ) → n ≡ variable_number seen v → n ≡ suc (length seen) → seen ++ v ∷ [] ≡ seen_after seen v
@@ -92,14 +85,14 @@ another numbers seen now v n h is next put =
 placed : (seen : List (List ℕ)) (v : List ℕ) → false ≡ bytes_eq v (codes "_") → variable_number seen v ≡ place_of seen v
 placed seen v is = ap (λ b. if◌then◌else◌ {A = ℕ} b (suc (length seen)) (place_of seen v)) (sym is)
 
-pub again : {S : Type 0} (numbers : HashMap (List ℕ) ℕ S) (seen : List (List ℕ)) (v : List ℕ) (n : ℕ) → Finds numbers seen → false ≡ bytes_eq v (codes "_") → IsTrue (is_text v) → Some n ≡ get (pointwise nat_eq) numbers (words_of 8 v) → IsNumbered numbers seen seen v n
-again numbers seen v n h is text found =
-    let number : IsNumberAmong seen v (Some n) = subst (IsNumberAmong seen v) (sym found) (h v text (sym is)) in
+pub again : {S : Type 0} (numbers : HashMap (List ℕ) ℕ S) (seen : List (List ℕ)) (v : List ℕ) (n : ℕ) → Finds numbers seen → false ≡ bytes_eq v (codes "_") → Some n ≡ get bytes_eq numbers v → IsNumbered numbers seen seen v n
+again numbers seen v n h is found =
+    let number : IsNumberAmong seen v (Some n) = subst (IsNumberAmong seen v) (sym found) (h v (sym is)) in
     let value : n ≡ variable_number seen v = sym (placed seen v is ∙ number.0) in
     record { finds = h; value = value; seen = old_by seen v n value number.1 }
 
-pub first : {S : Type 0} (old new : HashMap (List ℕ) ℕ S) (seen now : List (List ℕ)) (v : List ℕ) (n : ℕ) → Finds old seen → false ≡ bytes_eq v (codes "_") → IsTrue (is_text v) → None ≡ get (pointwise nat_eq) old (words_of 8 v) → n ≡ suc (length seen) → now ≡ seen ++ v ∷ [] → Updates (pointwise nat_eq) old new (words_of 8 v) (Some n) → IsNumbered new seen now v n
-first old new seen now v n h is text none next put updates =
-    let number : IsNumberAmong seen v None = subst (IsNumberAmong seen v) (sym none) (h v text (sym is)) in
+pub first : {S : Type 0} (old new : HashMap (List ℕ) ℕ S) (seen now : List (List ℕ)) (v : List ℕ) (n : ℕ) → Finds old seen → false ≡ bytes_eq v (codes "_") → None ≡ get bytes_eq old v → n ≡ suc (length seen) → now ≡ seen ++ v ∷ [] → Updates bytes_eq old new v (Some n) → IsNumbered new seen now v n
+first old new seen now v n h is none next put updates =
+    let number : IsNumberAmong seen v None = subst (IsNumberAmong seen v) (sym none) (h v (sym is)) in
     let value : n ≡ variable_number seen v = next ∙ sym (placed seen v is ∙ number) in
-    record { finds = subst (Finds new) (sym put) (finds_more old new seen v n text h (sym none) next updates); value = value; seen = put ∙ joined_by seen v n value next }
+    record { finds = subst (Finds new) (sym put) (finds_more old new seen v n h (sym none) next updates); value = value; seen = put ∙ joined_by seen v n value next }

@@ -2,10 +2,10 @@
 use Rattle.std.proofs.Common.{◌≡◌, ℕ, suc, max, ◌≤◌, nat_le, ◌&&◌, Bool, true, false, List, [], ◌∷◌, ◌++◌, codes, bytes_eq, if◌then◌else◌, refl, ap, arith}
 use Rattle.std.specs.List.{list_all}
 use Rattle.std.proofs.lemmas.Bool.{and_parts, and_from, leb-true, le-leb, both_ways}
-use Rattle.kl1_model.specs.Limits.{most_depth}
+use Rattle.kl1_model.specs.declared.limits.TheConstants.{MOST_DEPTH, MOST_ARGUMENTS}
 use Rattle.kl1_model.specs.Term.{Term, variable, integer, atom, structure, Terms, none, more, terms_of, count_of}
 use Rattle.kl1_model.specs.Text.{is_text}
-use Rattle.kl1_model.specs.Meaning.{pair, cells, Depth, depths, depth, deepest, flat, pair_depth, cell_depth, is_narrow, are_narrow, is_writable, most_arguments}
+use Rattle.kl1_model.specs.Meaning.{pair, cells, Depth, depths, depth, deepest, flat, pair_depth, cell_depth, is_narrow, are_narrow, is_writable}
 
 -- a truth that would make a falsehood true is false
 not_so : (a b : Bool) → (b ≡ true → a ≡ true) → a ≡ false → b ≡ false
@@ -49,11 +49,11 @@ narrow_at (b ∷ before) e s h = narrow_at before e s (and_parts (is_narrow b) _
 structure_writable : (f : List ℕ) (before : List Term) (e : Term) (s : List Term) → is_writable (structure f (terms_of (before ++ e ∷ s))) ≡ true → is_writable e ≡ true
 structure_writable f before e s h =
     let ts : Terms = terms_of (before ++ e ∷ s) in
-    let both = and_parts (is_narrow (structure f ts)) (nat_le (depth (structure f ts)) most_depth) h in
-    let narrow = and_parts (is_text f && nat_le 1 (count_of ts) && nat_le (count_of ts) most_arguments) (are_narrow ts) both.0 in
-    let deep = leb-true (depth (structure f ts)) most_depth both.1 in
-    and_from (is_narrow e) (nat_le (depth e) most_depth) (narrow_at before e s narrow.1)
-    (le-leb (depth e) most_depth (omega (arith, deep, structure_deep f ts, deepest_at before e s)))
+    let both = and_parts (is_narrow (structure f ts)) (nat_le (depth (structure f ts)) MOST_DEPTH) h in
+    let narrow = and_parts (is_text f && nat_le 1 (count_of ts) && nat_le (count_of ts) MOST_ARGUMENTS) (are_narrow ts) both.0 in
+    let deep = leb-true (depth (structure f ts)) MOST_DEPTH both.1 in
+    and_from (is_narrow e) (nat_le (depth e) MOST_DEPTH) (narrow_at before e s narrow.1)
+    (le-leb (depth e) MOST_DEPTH (omega (arith, deep, structure_deep f ts, deepest_at before e s)))
 
 -- a structure with an argument that no text can write
 pub structure_unwritable : (f : List ℕ) (before : List Term) (e : Term) (s : List Term) → is_writable e ≡ false → is_writable (structure f (terms_of (before ++ e ∷ s))) ≡ false

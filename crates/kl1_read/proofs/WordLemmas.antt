@@ -5,7 +5,7 @@ use Rattle.std.proofs.Math.Seq.{take-append_seam}
 use Rattle.std.proofs.lemmas.Bool.Decides.{nat_tests}
 use Rattle.std.proofs.lemmas.Bool.{and_from, lt-leb}
 use Rattle.std.proofs.lemmas.List.Folds.{list_all-append}
-use Rattle.kl1_model.specs.Limits.{most_name_bytes}
+use Rattle.kl1_model.specs.declared.limits.TheConstants.{MOST_NAME_BYTES}
 use Rattle.kl1_model.specs.Text.{is_name_byte}
 use Rattle.kl1_model.specs.Name.{is_word_byte}
 use Rattle.kl1_model.specs.Token.{word_of, behind_word, digits_of, behind_digits, is_digit, quoted_from}
@@ -65,10 +65,10 @@ pub name_grows : (text : List ℕ) (b : ℕ) → IsTrue (list_all is_name_byte t
 name_grows text b h k = rw list_all-append (and_from _ _ h (and_from _ _ k refl))
 
 -- a text in quotes of more than most_name_bytes bytes is no name
-pub quotes_too_long : (after : Bool) (text bs : List ℕ) → most_name_bytes < length text → short (quoted_from after text bs) ≡ None
-quotes_too_long true text [] h = rw (lt-leb (length text) most_name_bytes h)
+pub quotes_too_long : (after : Bool) (text bs : List ℕ) → MOST_NAME_BYTES < length text → short (quoted_from after text bs) ≡ None
+quotes_too_long true text [] h = rw (lt-leb (length text) MOST_NAME_BYTES h)
 quotes_too_long false text [] h = refl
 quotes_too_long true text (b ∷ bs) h =
-    elim (b == 39) as (λ w. short (elim w [ true ↦ quoted_from false (text ++ b ∷ []) bs | false ↦ Some (text, b ∷ bs) ]) ≡ None) [ true ↦ quotes_too_long false (text ++ b ∷ []) bs (omega (arith, length-append text (b ∷ []))) | false ↦ (rw (lt-leb (length text) most_name_bytes h)) ]
+    elim (b == 39) as (λ w. short (elim w [ true ↦ quoted_from false (text ++ b ∷ []) bs | false ↦ Some (text, b ∷ bs) ]) ≡ None) [ true ↦ quotes_too_long false (text ++ b ∷ []) bs (omega (arith, length-append text (b ∷ []))) | false ↦ (rw (lt-leb (length text) MOST_NAME_BYTES h)) ]
 quotes_too_long false text (b ∷ bs) h =
     elim (b == 39) as (λ w. short (elim w [ true ↦ quoted_from true text bs | false ↦ elim (is_name_byte b) [ true ↦ quoted_from false (text ++ b ∷ []) bs | false ↦ None ] ]) ≡ None) [ true ↦ quotes_too_long true text bs h | false ↦ elim (is_name_byte b) as (λ w. short (elim w [ true ↦ quoted_from false (text ++ b ∷ []) bs | false ↦ None ]) ≡ None) [ true ↦ quotes_too_long false (text ++ b ∷ []) bs (omega (arith, length-append text (b ∷ []))) | false ↦ refl ] ]

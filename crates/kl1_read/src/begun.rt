@@ -3,7 +3,7 @@
 ghost use Rattle.std.specs.Prelude.{◌≡◌, ◌≤◌, ◌∷◌, suc, map, length, true, pos, neg_ℤ, IfOk};
 ghost use Rattle.kl1_model.specs.declared.sign.Sign.TheVariants.{OpenList};
 ghost use Rattle.kl1_model.specs.Token.{name_token, digits_token, minus_token, sign_token};
-ghost use Rattle.kl1_model.specs.Limits.{number_limit};
+ghost use Rattle.kl1_model.specs.declared.limits.TheConstants.{NUMBER_LIMIT};
 ghost use Rattle.kl1_read.specs.Views.{numbered_token};
 ghost use Rattle.kl1_read.specs.Beginnings.{Begins, BegunLess, leaf_term};
 
@@ -147,7 +147,7 @@ fn below_zero(number: u64, rest: &[Numbered]) -> Begun<'_>
 
 /// The negative of `number`.
 fn negated(number: u64) -> i64
-    requires { number ≤ number_limit }
+    requires { number ≤ NUMBER_LIMIT }
     ensures { result ≡ neg_ℤ (pos number) }
 {
     if number == NUMBER_LIMIT {

@@ -1,7 +1,7 @@
 // Which clauses may follow others, and in which section.
 
 ghost use Rattle.std.specs.Prelude.{◌≡◌, ◌≤◌, nat_lt, length, map};
-ghost use Rattle.kl1_model.specs.Module.{most_clauses};
+ghost use Rattle.kl1_model.specs.declared.limits.TheConstants.{MOST_CLAUSES};
 ghost use Rattle.kl1_read.specs.Sources.{clause_of_parts};
 ghost use Rattle.kl1_read.specs.Followings.{is_one_of, section_within, holds, last_section, section_for};
 
@@ -37,7 +37,7 @@ pub(crate) fn section_for(before: &[ClauseParts], behind: bool, clause: &ClauseP
 
 /// Whether one clause more may be in a module with these.
 fn has_room(clauses: &[ClauseParts]) -> bool
-    ensures { result ≡ nat_lt (length clauses.now) most_clauses }
+    ensures { result ≡ nat_lt (length clauses.now) MOST_CLAUSES }
 {
     clauses.len() < MOST_CLAUSES
 }

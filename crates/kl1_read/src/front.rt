@@ -1,6 +1,7 @@
 // What stands in front of a text.
 
 ghost use Rattle.std.specs.Prelude.{◌≡◌, ◌∷◌, [], false, length, drop, IsTrue};
+ghost use Rattle.kl1_model.specs.declared.limits.TheConstants.{MOST_VARIABLE_BYTES};
 ghost use Rattle.kl1_model.specs.Text.{is_name_byte};
 ghost use Rattle.kl1_model.specs.Token.{front_of, word_of, behind_word, bounded, variable_token, name_front, digits_front, digits_of, behind_digits, quoted_front, quoted_from, comment_front, behind_comment, dot_front, sign_front, sign_at};
 ghost use Rattle.kl1_model.specs.Token as model;
@@ -14,7 +15,7 @@ use crate::quotes::quoted;
 use crate::signs::{sign_at, spelling_of};
 use crate::spelled::Spelled;
 use crate::words::{behind_comment, behind_digits, behind_word, digits_of, word_of};
-use kl1_model::limits::NUMBER_LIMIT;
+use kl1_model::limits::{MOST_VARIABLE_BYTES, NUMBER_LIMIT};
 use kl1_text::{AtomText, decimal_up_to};
 
 /// What stands in front of a text, with what is after it.
@@ -96,13 +97,14 @@ fn name_front<'a>(first: u8, bytes: &'a [u8], rest: &'a [u8]) -> Front<'a>
 fn variable_front<'a>(first: u8, bytes: &'a [u8], rest: &'a [u8]) -> Front<'a>
     requires begins { bytes.now ≡ first ∷ rest.now }
     requires name { IsTrue (is_name_byte first) }
-    ensures { front_view result ≡ bounded (first ∷ word_of rest.now) (variable_token (first ∷ word_of rest.now)) (behind_word rest.now) }
+    ensures { front_view result ≡ bounded MOST_VARIABLE_BYTES (first ∷ word_of rest.now) (variable_token (first ∷ word_of rest.now)) (behind_word rest.now) }
 {
     let behind = behind_word(rest);
-    match AtomText::read(word_of(first, bytes, rest)) {
-        None => Front::Broken,
-        Some(text) => Front::Token(Spelled::Variable(text), behind),
+    let word = word_of(first, bytes, rest);
+    if word.len() > MOST_VARIABLE_BYTES {
+        return Front::Broken;
     }
+    Front::Token(Spelled::Variable(AtomText::of(word)), behind)
 }
 
 /// Digits, in a text that begins with `first`.

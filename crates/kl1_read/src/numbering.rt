@@ -1,12 +1,10 @@
 // Numbers for variables.
 
-ghost use Rattle.std.specs.Prelude.{◌≡◌, ◌∷◌, [], ◌++◌, suc, nat_eq, bytes_eq, codes, length, map, List, ℕ, Some, IsTrue, IfOk, OnOk};
-ghost use Rattle.std.specs.Cmp.Lexicographic.{pointwise};
+ghost use Rattle.std.specs.Prelude.{◌≡◌, ◌∷◌, [], ◌++◌, suc, bytes_eq, codes, length, map, List, ℕ, Some, IsTrue, IfOk, OnOk};
 ghost use Rattle.std.specs.HashMap.{get, Updates};
 ghost use Rattle.kl1_model.specs.Text.{is_text};
 ghost use Rattle.kl1_model.specs.Token.{Token};
 ghost use Rattle.kl1_model.specs.Numbering.{variable_number, seen_after, numbered_from, numbered_tokens};
-ghost use Rattle.kl1_text.specs.Words.{words_of};
 ghost use Rattle.kl1_read.specs.Spellings.{Finds, IsBehind, IsNumbered};
 ghost use Rattle.kl1_read.specs.Views.{kept_token, numbered_token};
 
@@ -35,7 +33,7 @@ fn is_another(text: &AtomText) -> bool
 
 /// The number of a variable, which joins those seen if it is new: `_` is another one each time.
 fn number_of(
-    numbers: &mut HashMap<[u64; 8], u64>,
+    numbers: &mut HashMap<AtomText, u64>,
     seen: &mut Vec<AtomText>,
     text: AtomText,
 ) -> Result<u64, AllocError>
@@ -45,18 +43,17 @@ fn number_of(
     if is_another(&text) {
         return put(seen, text);
     }
-    text.shows_text();
-    if let Some(number) = numbers.get(&text.words()) {
+    if let Some(number) = numbers.get(&text) {
         return Ok(*number);
     }
-    numbers.insert(text.words(), seen.len() as u64 + 1)?;
+    numbers.insert(text, seen.len() as u64 + 1)?;
     put(seen, text)
 }
 
 /// A token with a number for its variable.
 fn number_token(
     alloc: Global,
-    numbers: &mut HashMap<[u64; 8], u64>,
+    numbers: &mut HashMap<AtomText, u64>,
     seen: &mut Vec<AtomText>,
     token: &Kept,
 ) -> Result<Numbered, AllocError>

@@ -5,7 +5,7 @@ ghost use Rattle.kl1_model.specs.Term.{atom, structure, terms_of};
 ghost use Rattle.kl1_model.specs.Text.{is_text};
 ghost use Rattle.kl1_model.specs.code.TermCode.{nodes_of, nodes_of_all};
 ghost use Rattle.kl1_model.specs.Meaning.{Depth, pair, cells, deepest, depth, are_narrow, is_narrow, is_writable, pair_depth};
-ghost use Rattle.kl1_model.specs.Limits.{most_arguments, most_depth};
+ghost use Rattle.kl1_model.specs.declared.limits.TheConstants.{MOST_ARGUMENTS, MOST_DEPTH};
 ghost use Rattle.kl1_term.specs.declared.node.Node.TheVariants.{Structure};
 ghost use Rattle.kl1_term.specs.Nodes.{code_of, term_in};
 ghost use Rattle.kl1_read.specs.PieceView.{IsPiece};
@@ -127,7 +127,7 @@ impl Piece {
         ensures nodes { OnOk result (map code_of (reverse (map node_of nodes.new.items)) ≡ nodes_of self ++ map code_of (reverse (map node_of nodes.old.items))) }
         ensures depth { IfOk result (λ whole. whole ≡ depth self) }
         ensures narrow { IsTrue (is_narrow self) }
-        ensures low { depth self ≤ most_depth }
+        ensures low { depth self ≤ MOST_DEPTH }
     {
         let Piece {
             nodes: mut own,
@@ -202,7 +202,7 @@ impl Piece {
         arguments: Vec<Piece>,
     ) -> Result<Option<Self>, AllocError>
         requires some { 1 ≤ vec_len arguments }
-        requires few { vec_len arguments ≤ most_arguments }
+        requires few { vec_len arguments ≤ MOST_ARGUMENTS }
         requires other { vec_len arguments ≢ 2 }
         ensures { IfOk result (λ piece. piece ≡ writable (structure name (terms_of arguments.items))) }
     {
@@ -251,16 +251,16 @@ fn put_structure(nodes: &mut Vec<SmallNode>, count: u8, name: AtomText) -> Resul
 
 /// Whether no text can write a term that is so deep.
 fn is_too_deep(depth: u64) -> bool
-    ensures deep { result ≡ true → most_depth < depth }
-    ensures low { result ≡ false → depth ≤ most_depth }
+    ensures deep { result ≡ true → MOST_DEPTH < depth }
+    ensures low { result ≡ false → depth ≤ MOST_DEPTH }
 {
     depth > MOST_DEPTH
 }
 
 /// Whether no text can write `count` arguments.
 fn are_too_many(count: usize) -> bool
-    ensures many { result ≡ true → most_arguments < count }
-    ensures few { result ≡ false → count ≤ most_arguments }
+    ensures many { result ≡ true → MOST_ARGUMENTS < count }
+    ensures few { result ≡ false → count ≤ MOST_ARGUMENTS }
 {
     count > MOST_ARGUMENTS
 }
@@ -276,9 +276,9 @@ fn room_for(elements: &[Piece]) -> usize {
 
 /// The depth of a structure of two arguments, and its depth as what follows the elements of a list.
 fn pair_depth(name: AtomText, first: u64, second: u64, second_rest: u64) -> (u64, u64)
-    requires first_low { first ≤ most_depth }
-    requires second_low { second ≤ most_depth }
-    requires rest_low { second_rest ≤ most_depth }
+    requires first_low { first ≤ MOST_DEPTH }
+    requires second_low { second ≤ MOST_DEPTH }
+    requires rest_low { second_rest ≤ MOST_DEPTH }
     ensures rest_low { result.1 ≤ result.0 }
     ensures value { (first_rest : ℕ) → record { whole = result.0; rest = result.1 } ≡ pair_depth name (record { whole = first; rest = first_rest }) (record { whole = second; rest = second_rest }) }
 {

@@ -8,7 +8,7 @@ use crate::bytes::is_name_byte;
 use kl1_model::limits::MOST_NAME_BYTES;
 use kl1_text::{AtomText, ShortBytes};
 
-/// The text in quotes after a quote, with what is after it, if a quote ends it and it has at most 63 bytes.
+/// The text in quotes after a quote, with what is after it, if a quote ends it and it has at most 127 bytes.
 pub(crate) fn quoted(bytes: &[u8]) -> Option<(AtomText, &[u8])>
     ensures { Ends result (short (quoted_from false [] bytes.now)) }
 {

@@ -1,7 +1,6 @@
 // Names in little room.
 
 ghost use Rattle.std.specs.Prelude.{◌≡◌, IfOk};
-ghost use Rattle.kl1_read.specs.Held.{short_words};
 
 use kl1_text::AtomText;
 use std::alloc::{AllocError, Global};
@@ -38,10 +37,7 @@ impl Spelling {
     pub(crate) fn of(alloc: Global, text: AtomText) -> Result<Self, AllocError>
         ensures { IfOk result (λ spelling. spelling ≡ text) }
     {
-        text.shows_text();
-        let words = text.words();
-        let word = words[0];
-        if words == short_words(word) {
+        if let Some(word) = text.one_word() {
             return Ok(Spelling {
                 held: Held::Short(word),
             });
@@ -57,15 +53,8 @@ impl Spelling {
         ensures { result ≡ self.now }
     {
         match &self.held {
-            Held::Short(word) => AtomText::of_words(short_words(*word)),
+            Held::Short(word) => AtomText::of_word(*word),
             Held::Long(text) => **text,
         }
     }
-}
-
-/// The words of a name of at most eight bytes.
-fn short_words(word: u64) -> [u64; 8]
-    ensures { result ≡ short_words word }
-{
-    [word, 0, 0, 0, 0, 0, 0, 0]
 }

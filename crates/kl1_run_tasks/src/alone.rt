@@ -10,7 +10,7 @@ ghost use Rattle.kl1_run_tasks.specs.Alone.{seen_if, alone_of, RunsAlone};
 use kl1_atoms::{AtomTable, SharedAtoms};
 use kl1_codes::PlainCodes;
 use kl1_run_work::{Ending, Host, Sink, Stop, Wanted, Watch, Work, put_journal, run};
-use kl1_world::{AccountName, World};
+use kl1_world::{AccountName, Rules, World};
 use std::alloc::Global;
 
 /// How work on an account of its own ended.
@@ -61,6 +61,7 @@ pub fn run_alone<T: Watch, W: Sink, E: Sink, J: Sink>(
                 seats,
                 PlainCodes::new(alloc),
                 &[name],
+                Rules::Three,
             ) {
                 Ok(mut world) => {
                     let ending = run(alloc, &mut world, work, wanted, watch, out, err);

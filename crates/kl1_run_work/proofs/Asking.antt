@@ -2,7 +2,7 @@
 use Rattle.std.proofs.Common.{◌≡◌, ℕ, Bool, true, false, if◌then◌else◌, nat_le, ◌&&◌, List, [], ◌∷◌, ◌++◌, Option, Some, None, option_map, is_none, is_some, not, ap, sym, ◌∙◌, refl}
 use Rattle.kl1_model.specs.State.{Origin, Shoen, State, shoen_at}
 use Rattle.kl1_model.specs.Event.{syntax, Query, value, status, reports, modules, is_quiet, read, Reply, refuse, is_number}
-use Rattle.kl1_model.specs.Asking.{answer, value_of, status_of, reports_of, origin_at}
+use Rattle.kl1_model.specs.Asking.{reply_to, value_of, status_of, reports_of, origin_at}
 use Rattle.kl1_model.specs.Choice.{Chosen, first}
 use Rattle.kl1_model.specs.laws.TreeLaws.{is_refused}
 use Rattle.kl1_model_history.specs.Journal.{Journal, Kept, Done, done}
@@ -25,7 +25,7 @@ reports_stay s from true (Some o) = refl
 reports_stay s from false o = refl
 
 -- no query changes an account
-asking_stays : (s : State) (q : Query) → (answer s q).state ≡ s
+asking_stays : (s : State) (q : Query) → (reply_to s q).state ≡ s
 asking_stays s (value n) = value_stays s (is_number n) (origin_at n s.shoens)
 asking_stays s (status n) = status_stays s (is_number n) (shoen_at n s.shoens)
 asking_stays s (reports n from) = reports_stay s from (is_number n && is_number from && nat_le 1 from) (origin_at n s.shoens)
@@ -40,15 +40,15 @@ either_journal j false = refl
 asking_keeps : (k : Kept) (q : Query) → (done k (read q)).kept ≡ k
 asking_keeps k q =
     ap (λ (s : State). let x : Kept = record { state = s; journal = (done k (read q)).kept.journal } in x) (asking_stays k.state q)
-    ∙ ap (λ (j : Journal). let x : Kept = record { state = k.state; journal = j } in x) (either_journal k.journal (is_refused (answer k.state q).reply))
+    ∙ ap (λ (j : Journal). let x : Kept = record { state = k.state; journal = j } in x) (either_journal k.journal (is_refused (reply_to k.state q).reply))
 
 -- a query that was answered left the account with its journal as it was
 pub stays : (k after : Kept) (q : Query) (reply : Reply) → done k (read q) ≡ record { kept = after; reply = reply } → after ≡ k
 stays k after q reply e = sym (ap (λ (x : Done). x.kept) e) ∙ asking_keeps k q
 
 -- and the answer is that of the account
-pub answered : (k after : Kept) (q : Query) (reply : Reply) → done k (read q) ≡ record { kept = after; reply = reply } → (answer after.state q).reply ≡ reply
-answered k after q reply e = ap (λ (x : Kept). (answer x.state q).reply) (stays k after q reply e) ∙ ap (λ (x : Done). x.reply) e
+pub answered : (k after : Kept) (q : Query) (reply : Reply) → done k (read q) ≡ record { kept = after; reply = reply } → (reply_to after.state q).reply ≡ reply
+answered k after q reply e = ap (λ (x : Kept). (reply_to x.state q).reply) (stays k after q reply e) ∙ ap (λ (x : Done). x.reply) e
 
 -- the line of the goal, whole or as a reply shows it
 pub line_is : (is_whole : Bool) (s : State) (n : ℕ) (text line : List ℕ) → text ≡ value_text is_whole s n → line ≡ text ++ 10 ∷ [] → line ≡ value_line is_whole s n
@@ -56,7 +56,7 @@ unfolding value_line
 line_is is_whole s n text line told is = is ∙ ap (λ t. t ++ 10 ∷ []) told
 
 -- how the shoen stands whose state is told
-pub ending_is : (s : State) (n : ℕ) (raised still_now : Bool) (reply : Reply) (e : Ending) → (answer s (status n)).reply ≡ reply → still_now ≡ is_none (first s) → e ≡ ending_in still_now raised reply → e ≡ ending_of s n raised
+pub ending_is : (s : State) (n : ℕ) (raised still_now : Bool) (reply : Reply) (e : Ending) → (reply_to s (status n)).reply ≡ reply → still_now ≡ is_none (first s) → e ≡ ending_in still_now raised reply → e ≡ ending_of s n raised
 unfolding ending_of
 ending_is s n raised still_now reply e told still is =
     is ∙ ap (λ q. ending_in q raised reply) still ∙ ap (λ (r : Reply). ending_in (is_none (first s)) raised r) (sym told)

@@ -1,7 +1,7 @@
 -- Texts that are no modules by themselves.
 use Rattle.std.proofs.Common.{◌≡◌, ℕ, ◌<◌, ◌≤◌, nat_le, Bool, true, false, if◌then◌else◌, List, ◌++◌, length, Option, Some, None, ap, sym, ◌∙◌, append_assoc, refl}
 use Rattle.std.proofs.lemmas.Bool.{lt-leb, le-leb}
-use Rattle.kl1_model.specs.Limits.{most_source_bytes}
+use Rattle.kl1_model.specs.declared.limits.TheConstants.{MOST_SOURCE_BYTES}
 use Rattle.kl1_model.specs.Module.{Module, Reading, good, bad, read_module}
 use Rattle.kl1_model.specs.State.{State}
 use Rattle.kl1_model.specs.Event.{Refusal, syntax, load, refused, refuse}
@@ -27,17 +27,17 @@ by_length s false m r e = refused_as s r syntax e
 -- each account refuses to load them
 pub loads_refused : (text : List ℕ) (k : Kept) (r : Refusal) → fault_in text ≡ Some r → done k (load text) ≡ said k (refused r)
 unfolding fault_in
-loads_refused text k r e = ap (kept_after k (load text)) (by_length k.state (nat_le (length text) most_source_bytes) (read_module text) r e)
+loads_refused text k r e = ap (kept_after k (load text)) (by_length k.state (nat_le (length text) MOST_SOURCE_BYTES) (read_module text) r e)
 
 -- a text of too many bytes
-pub too_long : (text : List ℕ) → most_source_bytes < length text → Some syntax ≡ fault_in text
+pub too_long : (text : List ℕ) → MOST_SOURCE_BYTES < length text → Some syntax ≡ fault_in text
 unfolding fault_in
-too_long text h = rw (lt-leb (length text) most_source_bytes h) refl
+too_long text h = rw (lt-leb (length text) MOST_SOURCE_BYTES h) refl
 
 -- a text that is read
-pub as_read : (text : List ℕ) (m : Reading Module) → length text ≤ most_source_bytes → read_module text ≡ m → fault_by m ≡ fault_in text
+pub as_read : (text : List ℕ) (m : Reading Module) → length text ≤ MOST_SOURCE_BYTES → read_module text ≡ m → fault_by m ≡ fault_in text
 unfolding fault_in
-as_read text m h e = rw (le-leb (length text) most_source_bytes h) (sym (ap fault_by e))
+as_read text m h e = rw (le-leb (length text) MOST_SOURCE_BYTES h) (sym (ap fault_by e))
 
 -- what is told of one file more
 pub one_told : (name text out now more all : List ℕ) (o : Option Refusal) → o ≡ fault_in text → now ≡ out ++ told_of name o → out ++ (told_of name (fault_in text) ++ more) ≡ all → now ++ more ≡ all

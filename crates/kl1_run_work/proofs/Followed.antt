@@ -2,10 +2,10 @@
 use Rattle.std.proofs.Common.{◌≡◌, ℕ, ◌+◌, ◌-◌, ◌≤◌, List, [], ◌∷◌, ◌++◌, Option, Some, None, option_map, ap, sym, ◌∙◌, append_assoc, refl, arith}
 use Rattle.std.proofs.lemmas.List.{append-nil}
 use Rattle.std.proofs.lemmas.List.Elements.{All-nil, All-cons, All-append}
-use Rattle.kl1_model.specs.Limits.{most_priority}
+use Rattle.kl1_model.specs.declared.limits.TheConstants.{MOST_PRIORITY}
 use Rattle.kl1_model.specs.Term.{Term}
 use Rattle.kl1_model.specs.Event.{start, status, Reply}
-use Rattle.kl1_model.specs.Asking.{answer}
+use Rattle.kl1_model.specs.Asking.{reply_to}
 use Rattle.kl1_model_history.specs.Journal.{Kept, Done, done}
 use Rattle.kl1_model_history.specs.Command.{run_from}
 use Rattle.kl1_run_work.specs.Works.{all_loaded, loaded_from, Worked, worked, opened_in, started, start_on, worked_of}
@@ -26,7 +26,7 @@ pub follows_none : (works : ℕ → Worked) (most : ℕ) (a b : Option (List (�
 follows_none works most a b same = record { told = []; each = All-nil (IsProgress works most); grows = same ∙ none_told a }
 
 -- the status was told once
-pub told_once : (n : ℕ) (k : Kept) (reply : Reply) (p : ℕ × ℕ) (a b c : Option (List (ℕ × ℕ))) → (answer k.state (status n)).reply ≡ reply → progress_in reply ≡ Some p → b ≡ a → c ≡ option_map (λ before. before ++ p ∷ []) b → Follows (λ steps. worked n k) 0 a c
+pub told_once : (n : ℕ) (k : Kept) (reply : Reply) (p : ℕ × ℕ) (a b c : Option (List (ℕ × ℕ))) → (reply_to k.state (status n)).reply ≡ reply → progress_in reply ≡ Some p → b ≡ a → c ≡ option_map (λ before. before ++ p ∷ []) b → Follows (λ steps. worked n k) 0 a c
 told_once n k reply p a b c answered is same grows =
     let P : ℕ × ℕ → Type 0 = IsProgress (λ steps. worked n k) 0 in
     let few : 0 ≤ 0 = omega arith in
@@ -67,10 +67,10 @@ follows_start x n most s a b told is h =
     follows_as (λ k. worked n (run_from k 0 s).kept) (λ k. started k x) most a b (λ k. run_over k n x s (run_from k 0 s).kept told is refl) h
 
 -- all sources are loaded, and what is started then is followed
-pub follows_loads : (s t : Kept) (texts : List (List ℕ)) (goal : Term) (allowance most : ℕ) (a b : Option (List (ℕ × ℕ))) → loaded_from 0 s texts ≡ all_loaded t → Follows (λ k. started k (done t (start allowance 0 most_priority goal))) most a b → Follows (worked_of s texts goal allowance) most a b
+pub follows_loads : (s t : Kept) (texts : List (List ℕ)) (goal : Term) (allowance most : ℕ) (a b : Option (List (ℕ × ℕ))) → loaded_from 0 s texts ≡ all_loaded t → Follows (λ k. started k (done t (start allowance 0 MOST_PRIORITY goal))) most a b → Follows (worked_of s texts goal allowance) most a b
 unfolding worked_of
 follows_loads s t texts goal allowance most a b loads h =
-    follows_as (λ k. started k (done t (start allowance 0 most_priority goal))) (worked_of s texts goal allowance) most a b (λ k. ap (start_on goal allowance k) loads) h
+    follows_as (λ k. started k (done t (start allowance 0 MOST_PRIORITY goal))) (worked_of s texts goal allowance) most a b (λ k. ap (start_on goal allowance k) loads) h
 
 -- no step was done yet
 pub no_steps : (steps : ℕ) (s : Kept) → (run_from (steps - steps) 0 s).kept ≡ s

@@ -5,33 +5,33 @@ use Rattle.std.proofs.Math.Seq.{take-add, take-nil, drop-nil}
 use Rattle.std.proofs.lemmas.Bool.{le-leb, lt-ltb}
 use Rattle.std.proofs.lemmas.List.{take-map, drop-map}
 use Rattle.std.proofs.lemmas.List.Elements.{filter-append}
-use Rattle.kl1_model.specs.Limits.{most_listed, most_reports, number_limit}
+use Rattle.kl1_model.specs.declared.limits.TheConstants.{MOST_LISTED, MOST_REPORTS, NUMBER_LIMIT}
 use Rattle.kl1_model.specs.Print.{cut_print}
 use Rattle.kl1_model.specs.State.{Origin, State}
 use Rattle.kl1_model.specs.Event.{syntax, reports, refuse, is_number}
-use Rattle.kl1_model.specs.Asking.{answer, reports_of, origin_at, elements_of}
+use Rattle.kl1_model.specs.Asking.{reply_to, reports_of, origin_at, elements_of}
 use Rattle.kl1_model_history.specs.Command.{written_line, written_lines}
 use Rattle.kl1_run_work.specs.Answers.{listed_in, is_exception, reports_by, reports_in, all_reports, report_lines, exception_lines}
 
 false_true : (X : Type 0) → false ≡ true → X
 false_true X e = cc
 
-none_listed : (n : ℕ) → [] ≡ take most_listed (drop n (reports_by None))
-none_listed n = sym (ap (take most_listed) (drop-nil n) ∙ take-nil most_listed)
+none_listed : (n : ℕ) → [] ≡ take MOST_LISTED (drop n (reports_by None))
+none_listed n = sym (ap (take MOST_LISTED) (drop-nil n) ∙ take-nil MOST_LISTED)
 
-page_by : (v x y : Bool) (o : Option Origin) (s : State) (from : ℕ) → x ≡ true → y ≡ true → listed_in (if v && x && y then reports_of s from o else refuse s syntax).reply ≡ take most_listed (drop (from - 1) (if v then reports_by o else []))
+page_by : (v x y : Bool) (o : Option Origin) (s : State) (from : ℕ) → x ≡ true → y ≡ true → listed_in (if v && x && y then reports_of s from o else refuse s syntax).reply ≡ take MOST_LISTED (drop (from - 1) (if v then reports_by o else []))
 page_by true true true None s from e f = none_listed (from - 1)
-page_by true true true (Some o) s from e f = sym (ap (take most_listed) (drop-map cut_print (from - 1) (elements_of o.reports)) ∙ take-map cut_print most_listed (drop (from - 1) (elements_of o.reports)))
+page_by true true true (Some o) s from e f = sym (ap (take MOST_LISTED) (drop-map cut_print (from - 1) (elements_of o.reports)) ∙ take-map cut_print MOST_LISTED (drop (from - 1) (elements_of o.reports)))
 page_by false true true o s from e f = none_listed (from - 1)
 page_by v false y o s from e f = false_true _ e
 page_by v x false o s from e f = false_true _ f
 
 -- a page lists the reports after those before
-pub page_is : (s : State) (n done : ℕ) → done < 65536 → listed_in (answer s (reports n (done + 1))).reply ≡ take most_listed (drop done (reports_in s n))
+pub page_is : (s : State) (n done : ℕ) → done < 65536 → listed_in (reply_to s (reports n (done + 1))).reply ≡ take MOST_LISTED (drop done (reports_in s n))
 unfolding reports_in
 page_is s n done few =
     let one : done + 1 - 1 ≡ done = omega arith in
-    page_by (is_number n) (is_number (done + 1)) (nat_le 1 (done + 1)) (origin_at n s.shoens) s (done + 1) (lt-ltb (done + 1) number_limit (omega arith)) (le-leb 1 (done + 1) (omega arith)) ∙ ap (λ k. take most_listed (drop k (reports_in s n))) one
+    page_by (is_number n) (is_number (done + 1)) (nat_le 1 (done + 1)) (origin_at n s.shoens) s (done + 1) (lt-ltb (done + 1) NUMBER_LIMIT (omega arith)) (le-leb 1 (done + 1) (omega arith)) ∙ ap (λ k. take MOST_LISTED (drop k (reports_in s n))) one
 
 -- the lines of texts, and then of others
 pub lines_both : (xs ys : List (List ℕ)) → written_lines (xs ++ ys) ≡ written_lines xs ++ written_lines ys
@@ -39,20 +39,20 @@ lines_both [] ys = refl
 lines_both (x ∷ xs) ys = ap (λ z. written_line x ++ z) (lines_both xs ys) ∙ sym (append_assoc (written_line x) (written_lines xs) (written_lines ys))
 
 -- the lines of the first texts and of a page more
-pub lines_more : (texts page : List (List ℕ)) (done next : ℕ) (before after : List ℕ) → next ≡ done + most_listed → page ≡ take most_listed (drop done texts) → before ≡ written_lines (take done texts) → after ≡ before ++ written_lines page → after ≡ written_lines (take next texts)
+pub lines_more : (texts page : List (List ℕ)) (done next : ℕ) (before after : List ℕ) → next ≡ done + MOST_LISTED → page ≡ take MOST_LISTED (drop done texts) → before ≡ written_lines (take done texts) → after ≡ before ++ written_lines page → after ≡ written_lines (take next texts)
 lines_more texts page done next before after sum is was more =
-    more ∙ ap (λ x. x ++ written_lines page) was ∙ ap (λ p. written_lines (take done texts) ++ written_lines p) is ∙ sym (lines_both (take done texts) (take most_listed (drop done texts))) ∙ ap written_lines (sym (take-add done most_listed texts)) ∙ ap (λ k. written_lines (take k texts)) (sym sum)
+    more ∙ ap (λ x. x ++ written_lines page) was ∙ ap (λ p. written_lines (take done texts) ++ written_lines p) is ∙ sym (lines_both (take done texts) (take MOST_LISTED (drop done texts))) ∙ ap written_lines (sym (take-add done MOST_LISTED texts)) ∙ ap (λ k. written_lines (take k texts)) (sym sum)
 
 -- so of the exceptions among them
-pub exceptions_more : (texts page : List (List ℕ)) (done next : ℕ) (before after : List ℕ) → next ≡ done + most_listed → page ≡ take most_listed (drop done texts) → before ≡ written_lines (filter is_exception (take done texts)) → after ≡ before ++ written_lines (filter is_exception page) → after ≡ written_lines (filter is_exception (take next texts))
+pub exceptions_more : (texts page : List (List ℕ)) (done next : ℕ) (before after : List ℕ) → next ≡ done + MOST_LISTED → page ≡ take MOST_LISTED (drop done texts) → before ≡ written_lines (filter is_exception (take done texts)) → after ≡ before ++ written_lines (filter is_exception page) → after ≡ written_lines (filter is_exception (take next texts))
 exceptions_more texts page done next before after sum is was more =
-    more ∙ ap (λ x. x ++ written_lines (filter is_exception page)) was ∙ ap (λ p. written_lines (filter is_exception (take done texts)) ++ written_lines (filter is_exception p)) is ∙ sym (lines_both (filter is_exception (take done texts)) (filter is_exception (take most_listed (drop done texts)))) ∙ ap written_lines (sym (filter-append is_exception (take done texts) (take most_listed (drop done texts)))) ∙ ap (λ p. written_lines (filter is_exception p)) (sym (take-add done most_listed texts)) ∙ ap (λ k. written_lines (filter is_exception (take k texts))) (sym sum)
+    more ∙ ap (λ x. x ++ written_lines (filter is_exception page)) was ∙ ap (λ p. written_lines (filter is_exception (take done texts)) ++ written_lines (filter is_exception p)) is ∙ sym (lines_both (filter is_exception (take done texts)) (filter is_exception (take MOST_LISTED (drop done texts)))) ∙ ap written_lines (sym (filter-append is_exception (take done texts) (take MOST_LISTED (drop done texts)))) ∙ ap (λ p. written_lines (filter is_exception p)) (sym (take-add done MOST_LISTED texts)) ∙ ap (λ k. written_lines (filter is_exception (take k texts))) (sym sum)
 
 -- all reports are listed
-pub lines_all : (s : State) (n done : ℕ) (lines : List ℕ) → done ≡ most_reports → lines ≡ written_lines (take done (reports_in s n)) → lines ≡ report_lines s n
+pub lines_all : (s : State) (n done : ℕ) (lines : List ℕ) → done ≡ MOST_REPORTS → lines ≡ written_lines (take done (reports_in s n)) → lines ≡ report_lines s n
 unfolding all_reports
 lines_all s n done lines e h = h ∙ ap (λ k. written_lines (take k (reports_in s n))) e
 
-pub exceptions_all : (s : State) (n done : ℕ) (lines : List ℕ) → done ≡ most_reports → lines ≡ written_lines (filter is_exception (take done (reports_in s n))) → lines ≡ exception_lines s n
+pub exceptions_all : (s : State) (n done : ℕ) (lines : List ℕ) → done ≡ MOST_REPORTS → lines ≡ written_lines (filter is_exception (take done (reports_in s n))) → lines ≡ exception_lines s n
 unfolding all_reports
 exceptions_all s n done lines e h = h ∙ ap (λ k. written_lines (filter is_exception (take k (reports_in s n)))) e

@@ -2,7 +2,7 @@
 use Rattle.std.proofs.Common.{◌≡◌, ℕ, List, Option, Some, None, option_map, unwrap_or, ap, sym, ◌∙◌, subst, refl}
 use Rattle.std.specs.Prelude.{Err}
 use Rattle.std.specs.declared.result.Result.{Result}
-use Rattle.kl1_model.specs.Limits.{most_priority}
+use Rattle.kl1_model.specs.declared.limits.TheConstants.{MOST_PRIORITY}
 use Rattle.kl1_model.specs.Term.{Term}
 use Rattle.kl1_model.specs.Event as model
 use Rattle.kl1_model.specs.Event.{start}
@@ -34,7 +34,7 @@ start_fails steps x stop.Memory after h = tt
 start_fails steps x stop.Write after h = absurd h
 
 -- all sources are loaded, and the work is what is started then
-pub loads_over : (s t after : Kept) (texts : List (List ℕ)) (goal : Term) (allowance steps : ℕ) (r : Result ShoenNo Stop) → loaded_from 0 s texts ≡ all_loaded t → IsWorked (started steps (done t (start allowance 0 most_priority goal))) r after → IsWorked (worked_of s texts goal allowance steps) r after
+pub loads_over : (s t after : Kept) (texts : List (List ℕ)) (goal : Term) (allowance steps : ℕ) (r : Result ShoenNo Stop) → loaded_from 0 s texts ≡ all_loaded t → IsWorked (started steps (done t (start allowance 0 MOST_PRIORITY goal))) r after → IsWorked (worked_of s texts goal allowance steps) r after
 unfolding worked_of
 loads_over s t after texts goal allowance steps r loads works =
     let P : Loaded → Type 0 = λ l. IsWorked (start_on goal allowance steps l) r after in

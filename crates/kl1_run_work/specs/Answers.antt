@@ -4,11 +4,11 @@ use Rattle.std.specs.List.{starts_with}
 use Rattle.std.specs.declared.result.Result.{Result}
 use Rattle.kl1_model.specs.declared.condition.Condition.{Condition}
 use Rattle.kl1_model.specs.declared.condition.Condition.TheVariants.{Terminated, Aborted, Stopped, Exhausted, Running}
-use Rattle.kl1_model.specs.Limits.{most_reports}
+use Rattle.kl1_model.specs.declared.limits.TheConstants.{MOST_REPORTS}
 use Rattle.kl1_model.specs.Print.{cut_print}
 use Rattle.kl1_model.specs.State.{Origin, State}
 use Rattle.kl1_model.specs.Event.{value, status, is_number, Reply, loaded, opened, sent, reduced, ran, shown, status_is, listed, quiet_is, welcome, bye, was_reset, refused}
-use Rattle.kl1_model.specs.Asking.{answer, origin_at, elements_of}
+use Rattle.kl1_model.specs.Asking.{reply_to, origin_at, elements_of}
 use Rattle.kl1_model.specs.Choice.{first}
 use Rattle.kl1_model_history.specs.Journal.{Kept}
 use Rattle.kl1_model_history.specs.Command.{written_line, written_lines}
@@ -57,7 +57,7 @@ listed_in (refused r) = []
 
 -- a shoen's goal as it was started, with what is bound now, as a reply shows it
 abbrev pub shown_text : State → ℕ → List ℕ
-shown_text s n = shown_in (answer s (value n)).reply
+shown_text s n = shown_in (reply_to s (value n)).reply
 
 -- that goal without the cut of a reply
 abbrev pub whole_text : State → ℕ → List ℕ
@@ -82,7 +82,7 @@ reports_in s n = if is_number n then reports_by (origin_at n s.shoens) else []
 
 -- as many of them as an account makes
 unfoldable pub all_reports : State → ℕ → List (List ℕ)
-all_reports s n = take most_reports (reports_in s n)
+all_reports s n = take MOST_REPORTS (reports_in s n)
 
 -- whether a report tells an exception
 abbrev pub is_exception : List ℕ → Bool
@@ -101,17 +101,22 @@ abbrev pub is_some_byte : List ℕ → Bool
 is_some_byte [] = false
 is_some_byte (b ∷ bs) = true
 
--- how a shoen stands that lives and isn't exhausted, by whether no goal can step, and how many goals are alive
-abbrev pub ending_alive : Bool → ℕ → Ending
-ending_alive is_quiet alive = if is_quiet then ending.Waits alive else ending.Unfinished
+-- how a shoen stands of which no goal can step, by whether there were exceptions, and how many goals are alive
+abbrev pub ending_quiet : Bool → ℕ → Ending
+ending_quiet raised alive = if raised then ending.Raised else ending.Waits alive
+
+-- how a shoen stands that lives and isn't exhausted, by whether no goal can step, whether there were exceptions, and how many goals are
+-- alive
+abbrev pub ending_alive : Bool → Bool → ℕ → Ending
+ending_alive is_quiet raised alive = if is_quiet then ending_quiet raised alive else ending.Unfinished
 
 -- how a shoen stands, by its state, whether no goal can step, whether there were exceptions, and how many goals are alive
 abbrev pub ending_by : Condition → Bool → Bool → ℕ → Ending
 ending_by Terminated is_quiet raised alive = if raised then ending.Raised else ending.Terminated
 ending_by Exhausted is_quiet raised alive = ending.Exhausted
-ending_by Aborted is_quiet raised alive = ending_alive is_quiet alive
-ending_by Stopped is_quiet raised alive = ending_alive is_quiet alive
-ending_by Running is_quiet raised alive = ending_alive is_quiet alive
+ending_by Aborted is_quiet raised alive = ending_alive is_quiet raised alive
+ending_by Stopped is_quiet raised alive = ending_alive is_quiet raised alive
+ending_by Running is_quiet raised alive = ending_alive is_quiet raised alive
 
 -- so by the reply that tells its state
 abbrev pub ending_in : Bool → Bool → Reply → Ending
@@ -131,7 +136,7 @@ ending_in is_quiet raised (refused r) = ending.Unfinished
 
 -- how a shoen stands
 unfoldable pub ending_of : State → ℕ → Bool → Ending
-ending_of s n raised = ending_in (is_none (first s)) raised (answer s (status n)).reply
+ending_of s n raised = ending_in (is_none (first s)) raised (reply_to s (status n)).reply
 
 -- what is told of a shoen, as it is wanted
 pub record Tells (wanted : Wanted) (s : State) (n : ℕ) (a : Answers) : Type 0 where

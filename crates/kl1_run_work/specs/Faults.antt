@@ -1,8 +1,8 @@
 -- What is told of sources that are refused.
 use Rattle.std.specs.Prelude.{ℕ, nat_le, if◌then◌else◌, List, [], ◌∷◌, ◌++◌, length, codes, decimal, Option, Some, None}
-use Rattle.kl1_model.specs.Limits.{most_source_bytes}
+use Rattle.kl1_model.specs.declared.limits.TheConstants.{MOST_SOURCE_BYTES}
 use Rattle.kl1_model.specs.Module.{Module, Reading, good, bad, read_module}
-use Rattle.kl1_model.specs.Event.{Refusal, syntax, source, exists, no_shoen, shoen_ended, step_refused, too_many_names, limit_passed, journal_full, sessions_refused}
+use Rattle.kl1_model.specs.Event.{Refusal, syntax, source, exists, no_shoen, shoen_ended, step_refused, too_many_names, limit_passed, journal_full, sessions_refused, answer_refused}
 use Rattle.kl1_model_history.specs.Command.{written_line}
 use Rattle.kl1_run_work.specs.declared.source_file.SourceFile.{SourceFile}
 
@@ -18,6 +18,7 @@ line_of too_many_names = 1
 line_of limit_passed = 1
 line_of journal_full = 1
 line_of sessions_refused = 1
+line_of answer_refused = 1
 
 -- why a source or a goal is refused, in words
 abbrev pub words_of : Refusal → List ℕ
@@ -31,6 +32,7 @@ words_of too_many_names = codes "too many names"
 words_of limit_passed = codes "a limit would be passed"
 words_of journal_full = codes "the journal is full"
 words_of sessions_refused = codes "no session more or fewer"
+words_of answer_refused = codes "no such exception to answer"
 
 -- the line that tells why the source of a file is refused
 abbrev pub fault_line : List ℕ → Refusal → List ℕ
@@ -43,7 +45,7 @@ fault_by (good m) = None
 
 -- why a text by itself is no module
 unfoldable pub fault_in : List ℕ → Option Refusal
-fault_in text = if nat_le (length text) most_source_bytes then fault_by (read_module text) else Some syntax
+fault_in text = if nat_le (length text) MOST_SOURCE_BYTES then fault_by (read_module text) else Some syntax
 
 -- what is told of a file, if its source is refused
 abbrev pub told_of : List ℕ → Option Refusal → List ℕ

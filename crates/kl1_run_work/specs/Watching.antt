@@ -1,7 +1,7 @@
 -- What is told of work while it goes on.
 use Rattle.std.specs.Prelude.{◌≡◌, ℕ, ◌≤◌, List, ◌++◌, All, Option, Some, None, option_map}
 use Rattle.kl1_model.specs.Event.{status, Reply, loaded, opened, sent, reduced, ran, shown, status_is, listed, quiet_is, welcome, bye, was_reset, refused}
-use Rattle.kl1_model.specs.Asking.{answer}
+use Rattle.kl1_model.specs.Asking.{reply_to}
 use Rattle.kl1_run_work.specs.Works.{Worked, worked, source_refused, goal_refused}
 
 -- the reductions that a shoen was charged, and how many goals are alive in it and below it, if a reply tells its status
@@ -22,7 +22,7 @@ progress_in (refused r) = None
 
 -- what the status tells of the shoen that was started
 abbrev pub progress_of : Worked → Option (ℕ × ℕ)
-progress_of (worked n k) = progress_in (answer k.state (status n)).reply
+progress_of (worked n k) = progress_in (reply_to k.state (status n)).reply
 progress_of (source_refused place r k) = None
 progress_of (goal_refused r k) = None
 

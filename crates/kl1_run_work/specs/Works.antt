@@ -1,7 +1,7 @@
 -- What work comes to: sources are loaded, a goal is started, and first steps are done.
 use Rattle.std.specs.Prelude.{◌≡◌, ℕ, suc, List, [], ◌∷◌, map, Option, Some, None, Ok, Err}
 use Rattle.std.specs.declared.result.Result.{Result}
-use Rattle.kl1_model.specs.Limits.{most_priority}
+use Rattle.kl1_model.specs.declared.limits.TheConstants.{MOST_PRIORITY}
 use Rattle.kl1_model.specs.Term.{Term}
 use Rattle.kl1_model.specs.Event.{Refusal, syntax, load, start, Reply, loaded, opened, sent, reduced, ran, shown, status_is, listed, quiet_is, welcome, bye, was_reset, refused}
 use Rattle.kl1_model_history.specs.Journal.{Kept, Done, done}
@@ -70,7 +70,7 @@ started steps x = run_on steps x (opened_in x.reply)
 
 -- starts a goal with an allowance and all priorities, and runs it, if all sources are loaded
 abbrev pub start_on : Term → ℕ → ℕ → Loaded → Worked
-start_on goal allowance steps (all_loaded k) = started steps (done k (start allowance 0 most_priority goal))
+start_on goal allowance steps (all_loaded k) = started steps (done k (start allowance 0 MOST_PRIORITY goal))
 start_on goal allowance steps (load_refused place r k) = source_refused place r k
 
 -- what the work comes to that loads these sources in order, starts a goal with an allowance, and does first steps, at most `steps`

@@ -1,7 +1,7 @@
 // What is told of a shoen once its run is over.
 
 ghost use Rattle.std.specs.Prelude.{◌≡◌, ◌∷◌, ◌++◌, IfOk, OnOk};
-ghost use Rattle.kl1_model.specs.Asking.{answer};
+ghost use Rattle.kl1_model.specs.Asking.{reply_to};
 ghost use Rattle.kl1_model.specs.Event as model;
 ghost use Rattle.kl1_user_events.specs.Views.{reply_of};
 ghost use Rattle.kl1_run_work.specs.Answers.{shown_in, shown_text, value_text, value_line, ending_by, ending_in, ending_of, Tells};
@@ -112,10 +112,12 @@ fn ending_by(condition: Condition, is_quiet: bool, raised: bool, alive: u64) -> 
         }
         Condition::Exhausted => Ending::Exhausted,
         Condition::Aborted | Condition::Stopped | Condition::Running => {
-            if is_quiet {
-                Ending::Waits(alive)
-            } else {
+            if !is_quiet {
                 Ending::Unfinished
+            } else if raised {
+                Ending::Raised
+            } else {
+                Ending::Waits(alive)
             }
         }
     }

@@ -1,7 +1,7 @@
 // What is asked of an account.
 
 ghost use Rattle.std.specs.Prelude.{◌≡◌, IfOk};
-ghost use Rattle.kl1_model.specs.Asking.{answer};
+ghost use Rattle.kl1_model.specs.Asking.{reply_to};
 ghost use Rattle.kl1_user_events.specs.Views.{query_of, reply_of};
 
 use kl1_command::Host;
@@ -10,7 +10,7 @@ use std::alloc::AllocError;
 
 /// What is answered to a query, which changes nothing.
 pub(crate) fn ask<H: Host>(host: &mut H, query: Query) -> Result<Reply, AllocError>
-    ensures reply { IfOk result (λ reply. (f : H.Reading) → H.fits host.new f → (answer (H.kept f host.new).state (query_of query)).reply ≡ reply_of reply) }
+    ensures reply { IfOk result (λ reply. (f : H.Reading) → H.fits host.new f → (reply_to (H.kept f host.new).state (query_of query)).reply ≡ reply_of reply) }
     ensures same { (f : H.Reading) → H.fits host.new f → H.kept f host.new ≡ H.kept f host.old }
     ensures before { (f : H.Reading) → H.fits host.new f → H.fits host.old f }
     ensures beside { H.beside host.new ≡ H.beside host.old }

@@ -5,9 +5,9 @@
 pub enum Ending {
     /// It terminated, and reported no exception.
     Terminated,
-    /// It terminated, and reported exceptions.
+    /// It terminated, or no goal can step, and it reported exceptions.
     Raised,
-    /// No goal can step, and this many in it and below it wait for ever.
+    /// It reported no exception, no goal can step, and this many in it and below it wait for ever.
     Waits(u64),
     /// It was charged all of its allowance.
     Exhausted,

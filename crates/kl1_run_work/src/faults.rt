@@ -23,6 +23,7 @@ fn line_of(refusal: Refusal) -> u64
         Refusal::Limit => 1,
         Refusal::Journal => 1,
         Refusal::Sessions => 1,
+        Refusal::Answer => 1,
     }
 }
 
@@ -41,6 +42,7 @@ pub fn words_of(refusal: Refusal) -> &'static [u8]
         Refusal::Limit => b"a limit would be passed",
         Refusal::Journal => b"the journal is full",
         Refusal::Sessions => b"no session more or fewer",
+        Refusal::Answer => b"no such exception to answer",
     }
 }
 

@@ -2,7 +2,7 @@
 
 ghost use Rattle.std.specs.Prelude.{◌≡◌, ◌++◌, ◌<◌, ◌*◌, [], length, map, take, drop, filter, IfOk, OnOk};
 ghost use Rattle.kl1_model_history.specs.Command.{written_line, written_lines};
-ghost use Rattle.kl1_model.specs.Limits.{most_listed};
+ghost use Rattle.kl1_model.specs.declared.limits.TheConstants.{MOST_LISTED};
 ghost use Rattle.kl1_user_events.specs.Views.{reply_of};
 ghost use Rattle.kl1_run_work.specs.Answers.{listed_in, is_exception, reports_in, report_lines, exception_lines};
 
@@ -84,7 +84,7 @@ fn page_from<H: Host>(
     done: u64,
 ) -> Result<Listed, AllocError>
     requires few { done < 65536 }
-    ensures page { IfOk result (λ page. (f : H.Reading) → H.fits host.new f → page ≡ take most_listed (drop done (reports_in (H.kept f host.new).state shoen.0))) }
+    ensures page { IfOk result (λ page. (f : H.Reading) → H.fits host.new f → page ≡ take MOST_LISTED (drop done (reports_in (H.kept f host.new).state shoen.0))) }
     ensures same { (f : H.Reading) → H.fits host.new f → H.kept f host.new ≡ H.kept f host.old }
     ensures before { (f : H.Reading) → H.fits host.new f → H.fits host.old f }
     ensures beside { H.beside host.new ≡ H.beside host.old }

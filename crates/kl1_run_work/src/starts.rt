@@ -1,7 +1,7 @@
 // A goal that is started.
 
 ghost use Rattle.std.specs.Prelude.{◌≡◌, option_map};
-ghost use Rattle.kl1_model.specs.Limits.{most_priority};
+ghost use Rattle.kl1_model.specs.declared.limits.TheConstants.{MOST_PRIORITY};
 ghost use Rattle.kl1_model.specs.Event as model;
 ghost use Rattle.kl1_model_history.specs.Journal.{done};
 ghost use Rattle.kl1_user_events.specs.Views.{reply_of};
@@ -37,7 +37,7 @@ fn opened_in(reply: &Reply) -> Option<ShoenNo>
 
 /// Starts a goal with an allowance and all priorities, and answers the number of its shoen.
 pub(crate) fn start<H: Host>(host: &mut H, goal: Term, allowance: u64) -> Result<ShoenNo, Stop>
-    ensures does { (f : H.Reading) → H.fits host.new f → IsStarted (done (H.kept f host.old) (model.start allowance 0 most_priority goal)) result (H.kept f host.new) }
+    ensures does { (f : H.Reading) → H.fits host.new f → IsStarted (done (H.kept f host.old) (model.start allowance 0 MOST_PRIORITY goal)) result (H.kept f host.new) }
     ensures before { (f : H.Reading) → H.fits host.new f → H.fits host.old f }
     ensures beside { H.beside host.new ≡ H.beside host.old }
 {

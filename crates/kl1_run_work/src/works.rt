@@ -1,7 +1,7 @@
 // The work: sources, a goal, and its run.
 
 ghost use Rattle.std.specs.Prelude.{◌≡◌};
-ghost use Rattle.kl1_model.specs.Limits.{most_priority};
+ghost use Rattle.kl1_model.specs.declared.limits.TheConstants.{MOST_PRIORITY};
 ghost use Rattle.kl1_model.specs.Event as model;
 ghost use Rattle.kl1_model_history.specs.Journal.{done};
 ghost use Rattle.kl1_run_work.specs.Works.{texts_of, started, worked_of, IsWorked};
@@ -64,8 +64,8 @@ fn start_and_run<H: Host, T: Watch>(
     steps: u64,
     watch: &mut T,
 ) -> Result<ShoenNo, Stop>
-    ensures does { (f : H.Reading) → H.fits host.new f → IsWorked (started steps (done (H.kept f host.old) (model.start allowance 0 most_priority goal))) result (H.kept f host.new) }
-    ensures follows { (f : H.Reading) → H.fits host.new f → Follows (λ count. started count (done (H.kept f host.old) (model.start allowance 0 most_priority goal))) steps (T.told watch.old) (T.told watch.new) }
+    ensures does { (f : H.Reading) → H.fits host.new f → IsWorked (started steps (done (H.kept f host.old) (model.start allowance 0 MOST_PRIORITY goal))) result (H.kept f host.new) }
+    ensures follows { (f : H.Reading) → H.fits host.new f → Follows (λ count. started count (done (H.kept f host.old) (model.start allowance 0 MOST_PRIORITY goal))) steps (T.told watch.old) (T.told watch.new) }
     ensures before { (f : H.Reading) → H.fits host.new f → H.fits host.old f }
     ensures beside { H.beside host.new ≡ H.beside host.old }
 {

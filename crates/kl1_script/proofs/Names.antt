@@ -4,7 +4,7 @@ use Rattle.std.specs.List.{list_all}
 use Rattle.std.proofs.lemmas.Bool.{false≢true, and_parts, and_from, and_left, and_right, le-leb, lt-leb}
 use Rattle.std.proofs.lemmas.List.{append-nil}
 use Rattle.std.proofs.lemmas.List.Folds.{list_all-append}
-use Rattle.kl1_model.specs.Limits.{most_accounts}
+use Rattle.kl1_model.specs.declared.limits.TheConstants.{MOST_ACCOUNTS}
 use Rattle.kl1_model.specs.AccountName.{is_account_name}
 use Rattle.kl1_model.specs.Line.{is_space, first_word, word_in, behind_word_in, is_blank_line, words_of}
 use Rattle.kl1_model_history.specs.Script.{accounts_in, are_distinct}
@@ -24,20 +24,20 @@ pub no_name : (names words : List (List ℕ)) (rest : List ℕ) → names ++ wor
 no_name names words rest e h k =
     let more : names ++ word_in rest ∷ words_of (behind_word_in rest) ≡ words = ap (λ ws. names ++ ws) (sym (words_more rest h)) ∙ e in
     let none : list_all is_account_name words ≡ false = rw (sym more, list_all-append is_account_name names (word_in rest ∷ words_of (behind_word_in rest))) (and_right (list_all is_account_name names) _ (and_left (is_account_name (word_in rest)) _ k)) in
-    rw (and_left (list_all is_account_name words) (nat_le (length words) most_accounts) none) refl
+    rw (and_left (list_all is_account_name words) (nat_le (length words) MOST_ACCOUNTS) none) refl
 
--- a word after sixteen names
-pub too_many : (names words : List (List ℕ)) (rest : List ℕ) → names ++ words_of rest ≡ words → is_blank_line rest ≡ false → length names ≡ most_accounts → None ≡ named words
+-- a word after as many names as there may be
+pub too_many : (names words : List (List ℕ)) (rest : List ℕ) → names ++ words_of rest ≡ words → is_blank_line rest ≡ false → length names ≡ MOST_ACCOUNTS → None ≡ named words
 too_many names words rest e h k =
     let more : names ++ word_in rest ∷ words_of (behind_word_in rest) ≡ words = ap (λ ws. names ++ ws) (sym (words_more rest h)) ∙ e in
-    let long : most_accounts < length words = omega (arith, ap length more, length-append names (word_in rest ∷ words_of (behind_word_in rest)), k) in
-    rw (and_right (list_all is_account_name words) (nat_le (length words) most_accounts) (lt-leb (length words) most_accounts long)) refl
+    let long : MOST_ACCOUNTS < length words = omega (arith, ap length more, length-append names (word_in rest ∷ words_of (behind_word_in rest)), k) in
+    rw (and_right (list_all is_account_name words) (nat_le (length words) MOST_ACCOUNTS) (lt-leb (length words) MOST_ACCOUNTS long)) refl
 
 -- names alone
-pub names_alone : (names words : List (List ℕ)) (rest : List ℕ) → names ++ words_of rest ≡ words → is_blank_line rest ≡ true → list_all is_account_name names ≡ true → length names ≤ most_accounts → Some names ≡ named words
+pub names_alone : (names words : List (List ℕ)) (rest : List ℕ) → names ++ words_of rest ≡ words → is_blank_line rest ≡ true → list_all is_account_name names ≡ true → length names ≤ MOST_ACCOUNTS → Some names ≡ named words
 names_alone names words rest e h k few =
     let same : words ≡ names = sym e ∙ ap (λ ws. names ++ ws) (words_none rest h) ∙ append-nil names in
-    rw (same, and_from (list_all is_account_name names) (nat_le (length names) most_accounts) k (le-leb (length names) most_accounts few)) refl
+    rw (same, and_from (list_all is_account_name names) (nat_le (length names) MOST_ACCOUNTS) k (le-leb (length names) MOST_ACCOUNTS few)) refl
 
 by_tests : (named_first some few all distinct : Bool) (names : List (List ℕ)) → named_first ≡ true → (if (named_first && some && few && all && distinct) then Some names else None) ≡ (if (some && distinct) then (if (all && few) then Some names else None) else None)
 by_tests named_first true true true true names e = rw e refl
@@ -64,7 +64,7 @@ pub accounts_are : (line : List ℕ) (v : Bool) → is_blank_line line ≡ v →
 accounts_are line true e h = absurd (false≢true (ap (λ w. bytes_eq w (codes "accounts")) (sym (no_word line e)) ∙ h))
 accounts_are line false e h =
     let names = words_of (behind_word_in line) in
-    ap accounts_in (words_more line e) ∙ by_tests (bytes_eq (word_in line) (codes "accounts")) (nat_le 1 (length names)) (nat_le (length names) most_accounts) (list_all is_account_name names) (are_distinct names) names h
+    ap accounts_in (words_more line e) ∙ by_tests (bytes_eq (word_in line) (codes "accounts")) (nat_le 1 (length names)) (nat_le (length names) MOST_ACCOUNTS) (list_all is_account_name names) (are_distinct names) names h
 
 -- another line
 pub no_accounts : (line : List ℕ) (v : Bool) → is_blank_line line ≡ v → bytes_eq (word_in line) (codes "accounts") ≡ false → None ≡ accounts_in (words_of line)
@@ -76,7 +76,7 @@ chosen_is true ws names e = cc
 chosen_is false ws names e = cc
 
 named_is : (ws names : List (List ℕ)) → named ws ≡ Some names → ws ≡ names
-named_is ws names e = chosen_is (list_all is_account_name ws && nat_le (length ws) most_accounts) ws names e
+named_is ws names e = chosen_is (list_all is_account_name ws && nat_le (length ws) MOST_ACCOUNTS) ws names e
 
 judged_none : (ws : List (List ℕ)) (t : Bool) → named ws ≡ None → (if t then named ws else None) ≡ None
 judged_none ws true e = e

@@ -1,7 +1,7 @@
 // What a record does to the account that it names, and what is written for it.
 
 ghost use Rattle.std.specs.Prelude.{◌≡◌, ◌++◌, ◌∷◌, ◌<◌, ℕ, List, [], length, IsTrue, OnOk, OnErr};
-ghost use Rattle.kl1_model.specs.Limits.{most_waiting_bytes};
+ghost use Rattle.kl1_model.specs.declared.limits.TheConstants.{MOST_WAITING_BYTES};
 ghost use Rattle.kl1_model.specs.Record.{Record as Asked};
 ghost use Rattle.kl1_model_history.specs.Command.{act, reply_lines};
 ghost use Rattle.kl1_model_history.specs.Script.{are_distinct, written_for, written_reply};
@@ -30,7 +30,7 @@ pub(crate) fn put_record<A: AtomSource + Drop, C: CodeSource + Drop>(
     found: Record<'_>,
     out: &mut Vec<u8>,
 ) -> Result<(), AllocError>
-    requires few { length out.old.items < most_waiting_bytes }
+    requires few { length out.old.items < MOST_WAITING_BYTES }
     requires many { length world.old.0 ≡ length accounts.now }
     requires distinct { IsTrue (are_distinct accounts.now) }
     ensures alone { OnOk result ((before : List Asked) → AreAlone accounts.now world.old.0 before → AreAlone accounts.now world.new.0 (before ++ record { name = found.entry.name.now; request = request_of found.entry.request } ∷ [])) }

@@ -3,7 +3,7 @@
 ghost use Rattle.std.specs.Prelude.{◌≡◌, ◌+◌, ◌++◌, ◌∷◌, ◌<◌, ◌≤◌, ℕ, List, [], length, Some, IsTrue, OnOk, IsErrOf, codes, if◌then◌else◌};
 ghost use Rattle.std.specs.Io.KnownBytes.{Consumes, Appends};
 ghost use Rattle.kl1_model_history.specs.Command.{written_line};
-ghost use Rattle.kl1_model.specs.Limits.{most_accounts, most_script_bytes, most_waiting_bytes};
+ghost use Rattle.kl1_model.specs.declared.limits.TheConstants.{MOST_ACCOUNTS, MOST_SCRIPT_BYTES, MOST_WAITING_BYTES};
 ghost use Rattle.kl1_model.specs.Record.{Record as Asked, records_of};
 ghost use Rattle.kl1_model_history.specs.Script.{are_distinct, output, written_for, written_records};
 ghost use Rattle.kl1_command_lines.specs.Devices.{ReadsFew};
@@ -21,7 +21,7 @@ use kl1_command_lines::{
     NextRecord, Record, ScriptFault, Sink, Source, finish, next_record, pass_on, read_all,
     split_line,
 };
-use kl1_world::{AccountName, World};
+use kl1_world::{AccountName, Rules, World};
 use std::alloc::Global;
 use std::sync::Wait;
 
@@ -37,12 +37,12 @@ pub fn run_script<H: Wait, R: Source, W: Sink>(
     ensures write { IsErrOf result faults.Write → BreaksOff (R.remaining source.old) (W.contents sink.old) (W.contents sink.new) }
     ensures read { IsErrOf result faults.Read → W.contents sink.new ≡ W.contents sink.old }
     ensures too_long { IsErrOf result faults.TooLong → W.contents sink.new ≡ W.contents sink.old }
-    ensures read_many { IsErrOf result faults.TooLong → (bytes : List ℕ) × (length bytes ≡ most_script_bytes + 1) × Consumes (R.remaining source.old) (R.remaining source.new) bytes }
+    ensures read_many { IsErrOf result faults.TooLong → (bytes : List ℕ) × (length bytes ≡ MOST_SCRIPT_BYTES + 1) × Consumes (R.remaining source.old) (R.remaining source.new) bytes }
     ensures read_failed { IsErrOf result faults.Read → R.failures source.old < R.failures source.new }
     ensures read_kept { (IsErrOf result faults.Read → ⊥) → R.failures source.new ≡ R.failures source.old }
     ensures write_failed { IsErrOf result faults.Write → W.failures sink.old < W.failures sink.new }
     ensures write_kept { (IsErrOf result faults.Write → ⊥) → W.failures sink.new ≡ W.failures sink.old }
-    ensures few { ReadsFew (R.remaining source.old) (R.remaining source.new) (most_script_bytes + 1) }
+    ensures few { ReadsFew (R.remaining source.old) (R.remaining source.new) (MOST_SCRIPT_BYTES + 1) }
 {
     match read_all(alloc, source) {
         Ok(script) => answer(rt, alloc, script.as_slice(), sink),
@@ -76,7 +76,7 @@ fn answer_shared<H: Wait, W: Sink>(
     sink: &mut W,
 ) -> Result<(), ScriptFault>
     requires some { 0 < length accounts.now }
-    requires few { length accounts.now ≤ most_accounts }
+    requires few { length accounts.now ≤ MOST_ACCOUNTS }
     requires distinct { IsTrue (are_distinct accounts.now) }
     ensures { Ends (W.contents sink.old) (W.contents sink.new) (W.failures sink.old) (W.failures sink.new) (written_records accounts.now (records_of text.now)) (λ n. first_written n (Some accounts.now) (records_of text.now).list) result }
 {
@@ -114,7 +114,7 @@ pub fn answer_over<A: AtomSource + Drop, C: CodeSource + Drop, W: Sink>(
     requires seats { AreNewSeats A.is_of A.place A.knows names seats.items }
     ensures { Ends (W.contents sink.old) (W.contents sink.new) (W.failures sink.old) (W.failures sink.new) (written_records accounts.now (records_of text.now)) (λ n. first_written n (Some accounts.now) (records_of text.now).list) result }
 {
-    match World::new(alloc, names, seats, codes, accounts) {
+    match World::new(alloc, names, seats, codes, accounts, Rules::Three) {
         Ok(mut world) => {
             let mut out = Vec::new(alloc);
             answer_each(alloc, accounts, &mut world, text, &mut out, sink)
@@ -162,12 +162,12 @@ fn answer_record<A: AtomSource + Drop, C: CodeSource + Drop, W: Sink>(
     out: &mut Vec<u8>,
     sink: &mut W,
 ) -> Result<(), ScriptFault>
-    requires few { length out.old.items < most_waiting_bytes }
+    requires few { length out.old.items < MOST_WAITING_BYTES }
     requires many { length world.old.0 ≡ length accounts.now }
     requires distinct { IsTrue (are_distinct accounts.now) }
     ensures alone { OnOk result ((before : List Asked) → AreAlone accounts.now world.old.0 before → AreAlone accounts.now world.new.0 (before ++ record { name = found.entry.name.now; request = request_of found.entry.request } ∷ [])) }
     ensures bytes { (before : List Asked) → AreAlone accounts.now world.old.0 before → Passes (W.contents sink.old) (W.contents sink.new) (W.failures sink.old) (W.failures sink.new) out.old.items (written_for accounts.now before (record { name = found.entry.name.now; request = request_of found.entry.request })) out.new.items result }
-    ensures few { OnOk result (length out.new.items < most_waiting_bytes) }
+    ensures few { OnOk result (length out.new.items < MOST_WAITING_BYTES) }
 {
     match put_record(alloc, accounts, world, found, out) {
         Ok(()) => match pass_on(sink, out) {

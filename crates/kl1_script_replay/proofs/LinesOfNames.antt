@@ -1,5 +1,6 @@
 -- How the lines of names go on, and end.
 use Rattle.std.proofs.Common.{◌≡◌, ℕ, zero, suc, ◌+◌, Bool, true, false, List, [], ◌∷◌, ◌++◌, Option, Some, None, refl, ◌∙◌, if◌then◌else◌}
+use Rattle.kl1_model.specs.declared.rules.Rules.{Rules}
 use Rattle.kl1_model_history.specs.JournalText.{Lines, Heading, name_in, is_new_name, heading_in, lines_of}
 use Rattle.kl1_journal_entries.specs.Reading.{with_line}
 use Rattle.kl1_script_replay.specs.Fronts.{first_name, first_names, first_after, first_lines, front_of}
@@ -8,35 +9,35 @@ use Rattle.kl1_script_replay.specs.Names.{GoesOn, EndsAt}
 -- no line is read yet
 pub goes_none : (count more j : ℕ) (names : List (List ℕ)) (ls : Lines) → more ≡ count → j ≡ 2 → names ≡ [] → GoesOn count 2 [] ls more j names ls
 goes_none count more j names ls e two none = record {
-  written = λ sessions. rw (e, two, none) refl;
-  first = λ n sessions. rw (e, none) refl;
+  written = λ rules sessions. rw (e, two, none) refl;
+  first = λ n rules sessions. rw (e, none) refl;
 }
 
 -- one line more, with a name that may follow
 pub goes_more : (count : ℕ) (text : Lines) (more less j after : ℕ) (names others : List (List ℕ)) (t line : List ℕ) (ls rest : Lines) → GoesOn count 2 [] text more j names ls → more ≡ suc less → after ≡ suc j → others ≡ names ++ t ∷ [] → ls ≡ with_line line rest → name_in line ≡ Some t → is_new_name names t ≡ true → GoesOn count 2 [] text less after others rest
 goes_more count text more less j after names others t line ls rest g some next added is named new = record {
-  written = λ sessions. g.written sessions ∙ rw (some, next, added, is, named, new) refl;
-  first = λ n sessions. g.first n sessions ∙ rw (some, added, is, named, new) refl;
+  written = λ rules sessions. g.written rules sessions ∙ rw (some, next, added, is, named, new) refl;
+  first = λ n rules sessions. g.first n rules sessions ∙ rw (some, added, is, named, new) refl;
 }
 
 -- all lines are read
 pub goes_all : (count : ℕ) (text : Lines) (more j : ℕ) (names : List (List ℕ)) (rest : Lines) → GoesOn count 2 [] text more j names rest → more ≡ 0 → j ≡ 2 + count → GoesOn count 2 [] text 0 (2 + count) names rest
 goes_all count text more j names rest g none last = record {
-  written = λ sessions. g.written sessions ∙ rw (none, last) refl;
-  first = λ n sessions. g.first n sessions ∙ rw none refl;
+  written = λ rules sessions. g.written rules sessions ∙ rw (none, last) refl;
+  first = λ n rules sessions. g.first n rules sessions ∙ rw none refl;
 }
 
 -- there is no line more
 pub ends_short : (count : ℕ) (text : Lines) (more less j line : ℕ) (names : List (List ℕ)) (ls : Lines) (rest : List ℕ) → GoesOn count 2 [] text more j names ls → more ≡ suc less → line ≡ j → ls ≡ record { whole = []; rest = rest } → EndsAt count text line
-ends_short count text more less j line names ls rest g some same is = λ sessions. g.written sessions ∙ rw (some, same, is) refl
+ends_short count text more less j line names ls rest g some same is = λ rules sessions. g.written rules sessions ∙ rw (some, same, is) refl
 
 -- a line has no name
 pub ends_nameless : (count : ℕ) (text : Lines) (more less j line : ℕ) (names : List (List ℕ)) (bytes : List ℕ) (ls rest : Lines) → GoesOn count 2 [] text more j names ls → more ≡ suc less → line ≡ j → ls ≡ with_line bytes rest → name_in bytes ≡ None → EndsAt count text line
-ends_nameless count text more less j line names bytes ls rest g some same is named = λ sessions. g.written sessions ∙ rw (some, same, is, named) refl
+ends_nameless count text more less j line names bytes ls rest g some same is named = λ rules sessions. g.written rules sessions ∙ rw (some, same, is, named) refl
 
 -- a line has a name that may not follow
 pub ends_old : (count : ℕ) (text : Lines) (more less j line : ℕ) (names : List (List ℕ)) (t bytes : List ℕ) (ls rest : Lines) → GoesOn count 2 [] text more j names ls → more ≡ suc less → line ≡ j → ls ≡ with_line bytes rest → name_in bytes ≡ Some t → is_new_name names t ≡ false → EndsAt count text line
-ends_old count text more less j line names t bytes ls rest g some same is named old = λ sessions. g.written sessions ∙ rw (some, same, is, named, old) refl
+ends_old count text more less j line names t bytes ls rest g some same is named old = λ rules sessions. g.written rules sessions ∙ rw (some, same, is, named, old) refl
 
 either_none : (v : Bool) (xs : List ℕ) → xs ≡ [] → (if v then xs else []) ≡ []
 either_none true xs e = e
@@ -47,14 +48,14 @@ no_name next names None h = refl
 no_name next names (Some t) h = either_none (is_new_name names t) (next (names ++ t ∷ [])) (h (names ++ t ∷ []))
 
 -- for no entry nothing is written
-pub no_first : (count sessions : ℕ) (names lines : List (List ℕ)) → first_names 0 count sessions names lines ≡ []
-no_first zero sessions names lines = refl
-no_first (suc count) sessions names [] = refl
-no_first (suc count) sessions names (line ∷ lines) = no_name (λ more. first_names 0 count sessions more lines) names (name_in line) (λ more. no_first count sessions more lines)
+pub no_first : (count : ℕ) (rules : Rules) (sessions : ℕ) (names lines : List (List ℕ)) → first_names 0 count rules sessions names lines ≡ []
+no_first zero rules sessions names lines = refl
+no_first (suc count) rules sessions names [] = refl
+no_first (suc count) rules sessions names (line ∷ lines) = no_name (λ more. first_names 0 count rules sessions more lines) names (name_in line) (λ more. no_first count rules sessions more lines)
 
 no_after : (h : Option Heading) (lines : List (List ℕ)) → first_after 0 h lines ≡ []
 no_after None lines = refl
-no_after (Some h) lines = no_first h.names h.sessions [] lines
+no_after (Some h) lines = no_first h.names h.rules h.sessions [] lines
 
 no_lines : (lines : List (List ℕ)) → first_lines 0 lines ≡ []
 no_lines [] = refl

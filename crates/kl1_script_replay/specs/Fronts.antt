@@ -1,5 +1,6 @@
 -- What is written for the first entries of a journal's text.
 use Rattle.std.specs.Prelude.{ℕ, zero, suc, if◌then◌else◌, List, [], ◌∷◌, ◌++◌, Option, Some, None, option_and_then}
+use Rattle.kl1_model.specs.declared.rules.Rules.{Rules}
 use Rattle.kl1_model.specs.State.{State, fresh_with}
 use Rattle.kl1_model.specs.Event.{Transition}
 use Rattle.kl1_model.specs.Step.{step}
@@ -34,15 +35,15 @@ first_name next names None = []
 first_name next names (Some t) = if is_new_name names t then next (names ++ t ∷ []) else []
 
 -- what is written for the first n entries after `count` lines of names
-abbrev pub first_names : ℕ → ℕ → ℕ → List (List ℕ) → List (List ℕ) → List ℕ
-first_names n zero sessions names lines = first_entries n (fresh_with replay_name names sessions) lines
-first_names n (suc count) sessions names [] = []
-first_names n (suc count) sessions names (line ∷ lines) = first_name (λ more. first_names n count sessions more lines) names (name_in line)
+abbrev pub first_names : ℕ → ℕ → Rules → ℕ → List (List ℕ) → List (List ℕ) → List ℕ
+first_names n zero rules sessions names lines = first_entries n (fresh_with rules replay_name names sessions) lines
+first_names n (suc count) rules sessions names [] = []
+first_names n (suc count) rules sessions names (line ∷ lines) = first_name (λ more. first_names n count rules sessions more lines) names (name_in line)
 
 -- what is written for the first n entries of lines after the first, by what that says
 abbrev pub first_after : ℕ → Option Heading → List (List ℕ) → List ℕ
 first_after n None lines = []
-first_after n (Some h) lines = first_names n h.names h.sessions [] lines
+first_after n (Some h) lines = first_names n h.names h.rules h.sessions [] lines
 
 -- what is written for the first n entries of the lines of a journal
 abbrev pub first_lines : ℕ → List (List ℕ) → List ℕ

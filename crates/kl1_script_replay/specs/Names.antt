@@ -1,5 +1,6 @@
 -- How the lines of names are read.
 use Rattle.std.specs.Prelude.{◌≡◌, ◌+◌, ◌≤◌, ℕ, List, [], length}
+use Rattle.kl1_model.specs.declared.rules.Rules.{Rules}
 use Rattle.kl1_model_history.specs.JournalText.{Lines, lines_of}
 use Rattle.kl1_model_history.specs.Replay.{written_names, written_fault}
 use Rattle.kl1_user.specs.Accounts.{IsNameList}
@@ -9,12 +10,12 @@ use Rattle.kl1_script_replay.specs.declared.names.Named.TheVariants as named
 
 -- after names, `count` lines of names from line k on go on as `more` lines of names from line j on after others
 pub record GoesOn (count k : ℕ) (names : List (List ℕ)) (ls : Lines) (more j : ℕ) (others : List (List ℕ)) (rest : Lines) : Type 0 where
-  pub written : (sessions : ℕ) → written_names count k sessions names ls.whole ls.rest ≡ written_names more j sessions others rest.whole rest.rest
-  pub first : (n sessions : ℕ) → first_names n count sessions names ls.whole ≡ first_names n more sessions others rest.whole
+  pub written : (rules : Rules) (sessions : ℕ) → written_names count k rules sessions names ls.whole ls.rest ≡ written_names more j rules sessions others rest.whole rest.rest
+  pub first : (n : ℕ) (rules : Rules) (sessions : ℕ) → first_names n count rules sessions names ls.whole ≡ first_names n more rules sessions others rest.whole
 
 -- `count` lines of names end in the fault of a line
 abbrev pub EndsAt : ℕ → Lines → ℕ → Type 0
-EndsAt count ls line = (sessions : ℕ) → written_names count 2 sessions [] ls.whole ls.rest ≡ written_fault line
+EndsAt count ls line = (rules : Rules) (sessions : ℕ) → written_names count 2 rules sessions [] ls.whole ls.rest ≡ written_fault line
 
 -- these are the names that may be used, and the entries follow
 pub record AreRead (count : ℕ) (text : List ℕ) (names : List (List ℕ)) (rest : List ℕ) : Type 0 where

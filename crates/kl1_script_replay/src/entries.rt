@@ -1,7 +1,7 @@
 // The entries of a journal's text, one after another.
 
 ghost use Rattle.std.specs.Prelude.{◌≡◌, ◌++◌, ◌+◌, ◌<◌, ◌^◌, [], length, IfOk, OnOk, OnErr};
-ghost use Rattle.kl1_model.specs.Limits.{most_waiting_bytes};
+ghost use Rattle.kl1_model.specs.declared.limits.TheConstants.{MOST_WAITING_BYTES};
 ghost use Rattle.kl1_model.specs.State.{State};
 ghost use Rattle.kl1_model.specs.Step.{step};
 ghost use Rattle.kl1_user_events.specs.Views.{event_of};
@@ -29,7 +29,7 @@ fn put_event<A: AtomSource + Drop, C: CodeSource + Drop>(
     event: &Event,
     out: &mut Vec<u8>,
 ) -> Result<bool, AllocError>
-    requires few { length out.old.items < most_waiting_bytes }
+    requires few { length out.old.items < MOST_WAITING_BYTES }
     ensures went { IfOk result (λ accepted. (f : Reading) → Fits replayed.new.names f → Went accepted (if_accepted (step (state_of f replayed.old) (event_of event.now))) (state_of f replayed.new)) }
     ensures told { OnOk result ((f : Reading) → Fits replayed.new.names f → out.new.items ≡ out.old.items ++ told_of (if_accepted (step (state_of f replayed.old) (event_of event.now)))) }
     ensures before { (f : Reading) → Fits replayed.new.names f → Fits replayed.old.names f }
@@ -52,7 +52,7 @@ fn put_entry<A: AtomSource + Drop, C: CodeSource + Drop>(
     line: &[u8],
     out: &mut Vec<u8>,
 ) -> Result<bool, AllocError>
-    requires few { length out.old.items < most_waiting_bytes }
+    requires few { length out.old.items < MOST_WAITING_BYTES }
     ensures went { IfOk result (λ accepted. (f : Reading) → Fits replayed.new.names f → Went accepted (accepted_in (state_of f replayed.old) line.now) (state_of f replayed.new)) }
     ensures told { OnOk result ((f : Reading) → Fits replayed.new.names f → out.new.items ≡ out.old.items ++ told_of (accepted_in (state_of f replayed.old) line.now)) }
     ensures before { (f : Reading) → Fits replayed.new.names f → Fits replayed.old.names f }
@@ -72,11 +72,11 @@ fn answer_entry<A: AtomSource + Drop, C: CodeSource + Drop, W: Sink>(
     out: &mut Vec<u8>,
     sink: &mut W,
 ) -> Result<bool, ScriptFault>
-    requires few { length out.old.items < most_waiting_bytes }
+    requires few { length out.old.items < MOST_WAITING_BYTES }
     ensures went { IfOk result (λ accepted. (f : Reading) → Fits replayed.new.names f → Went accepted (accepted_in (state_of f replayed.old) line.now) (state_of f replayed.new)) }
     ensures bytes { (f : Reading) → Fits replayed.new.names f → Passes (W.contents sink.old) (W.contents sink.new) (W.failures sink.old) (W.failures sink.new) out.old.items (told_of (accepted_in (state_of f replayed.old) line.now)) out.new.items result }
     ensures before { (f : Reading) → Fits replayed.new.names f → Fits replayed.old.names f }
-    ensures few { OnOk result (length out.new.items < most_waiting_bytes) }
+    ensures few { OnOk result (length out.new.items < MOST_WAITING_BYTES) }
 {
     match put_entry(alloc, replayed, line, out) {
         Ok(accepted) => match pass_on(sink, out) {

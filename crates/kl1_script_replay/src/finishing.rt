@@ -3,6 +3,7 @@
 ghost use Rattle.std.specs.Prelude.{◌≡◌, ◌+◌, ◌≤◌, ◌++◌, length, decimal};
 ghost use Rattle.kl1_model_history.specs.Command.{written_line};
 ghost use Rattle.kl1_model_history.specs.Replay.{written_end, written_fault, written_rest};
+ghost use Rattle.kl1_text.specs.declared.short_bytes.TheConstants.{MOST_SHORT_BYTES};
 ghost use Rattle.kl1_script_replay.specs.Replays.{Finishes, Stops};
 
 use itoa::Buffer;
@@ -11,7 +12,7 @@ use kl1_text::ShortBytes;
 
 /// Puts bytes after others.
 fn put_short(out: &mut ShortBytes, bytes: &[u8])
-    requires { length out.old + length bytes.now ≤ 128 }
+    requires { length out.old + length bytes.now ≤ MOST_SHORT_BYTES }
     ensures { out.new ≡ out.old ++ bytes.now }
 {
     let mut rest = bytes;

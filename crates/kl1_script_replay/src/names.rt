@@ -1,7 +1,7 @@
 // The lines of names in a journal's text.
 
 ghost use Rattle.std.specs.Prelude.{◌≤◌, IfOk};
-ghost use Rattle.kl1_model.specs.Limits.{most_names};
+ghost use Rattle.kl1_model.specs.declared.limits.TheConstants.{MOST_NAMES};
 ghost use Rattle.kl1_script_replay.specs.Names.{IsNamed};
 
 use kl1_journal_entries::{may_follow, name_of, next_line};
@@ -28,7 +28,7 @@ pub(crate) fn names_in<'a>(
     count: u64,
     text: &'a [u8],
 ) -> Result<Named<'a>, AllocError>
-    requires { count ≤ most_names }
+    requires { count ≤ MOST_NAMES }
     ensures { IfOk result (IsNamed count text.now) }
 {
     let mut names: Vec<AtomText> = Vec::new(alloc);

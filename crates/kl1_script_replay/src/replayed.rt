@@ -1,7 +1,7 @@
 // The account that replays a journal, with its seat.
 
 ghost use Rattle.std.specs.Prelude.{◌≡◌, ◌≤◌, [], length, IfOk, OnErr};
-ghost use Rattle.kl1_model.specs.Limits.{most_names};
+ghost use Rattle.kl1_model.specs.declared.limits.TheConstants.{MOST_NAMES};
 ghost use Rattle.kl1_model.specs.State.{fresh_with};
 ghost use Rattle.kl1_model.specs.Step.{step};
 ghost use Rattle.kl1_model_history.specs.Replay.{replay_name};
@@ -12,7 +12,7 @@ ghost use Rattle.kl1_user.specs.Accounts.{Reading, Fits, IsNameList, state_of};
 use kl1_atoms::AtomSource;
 use kl1_codes::CodeSource;
 use kl1_text::AtomText;
-use kl1_user::{AccountName, UserState};
+use kl1_user::{AccountName, Rules, UserState};
 use kl1_user_events::{Event, Reply};
 use std::alloc::{AllocError, Global};
 use std::marker::Model;
@@ -43,10 +43,11 @@ impl<A: AtomSource + Drop, C: CodeSource + Drop> Model for Replayed<A, C> {
 }
 
 impl<A: AtomSource + Drop, C: CodeSource + Drop> Replayed<A, C> {
-    /// The account from which a journal of these names and this number of open sessions is replayed, with a seat that knows the built-in
-    /// names alone.
+    /// The account, which keeps to these rules, from which a journal of these names and this number of open sessions is replayed,
+    /// with a seat that knows the built-in names alone.
     pub(crate) fn new(
         alloc: Global,
+        rules: Rules,
         sessions: u64,
         texts: &[AtomText],
         mut names: A,
@@ -56,11 +57,13 @@ impl<A: AtomSource + Drop, C: CodeSource + Drop> Replayed<A, C> {
         requires of { A.is_of names seat }
         requires nothing { A.knows seat ≡ [] }
         requires list { IsNameList texts.now }
-        requires few { length texts.now ≤ most_names }
-        ensures { IfOk result (λ replayed. (f : Reading) → state_of f replayed ≡ fresh_with replay_name texts.now sessions) }
+        requires few { length texts.now ≤ MOST_NAMES }
+        ensures { IfOk result (λ replayed. (f : Reading) → state_of f replayed ≡ fresh_with rules replay_name texts.now sessions) }
     {
         let name = replay_name();
-        let user = UserState::with_names(alloc, name, sessions, &mut names, &mut seat, texts)?;
+        let user = UserState::with_names(
+            alloc, name, rules, sessions, &mut names, &mut seat, texts,
+        )?;
         Ok(Replayed {
             user,
             names,

@@ -2,7 +2,7 @@
 
 ghost use Rattle.std.specs.Prelude.{◌≡◌, ◌+◌, ◌<◌, ◌≤◌, ℕ, List, [], length, OnOk, IsErrOf};
 ghost use Rattle.std.specs.Io.KnownBytes.{Consumes};
-ghost use Rattle.kl1_model.specs.Limits.{most_names, most_script_bytes};
+ghost use Rattle.kl1_model.specs.declared.limits.TheConstants.{MOST_NAMES, MOST_SCRIPT_BYTES};
 ghost use Rattle.kl1_model.specs.State.{fresh_with};
 ghost use Rattle.kl1_model_history.specs.JournalText.{lines_of};
 ghost use Rattle.kl1_model_history.specs.Replay.{replay_name, replay_output, written_entries, written_names};
@@ -21,6 +21,7 @@ use kl1_codes::{CodeSource, CodeTable, SharedCodes};
 use kl1_command_lines::{ScriptFault, Sink, Source, read_all};
 use kl1_journal_entries::{Heading, heading_of, next_line};
 use kl1_text::AtomText;
+use kl1_user::Rules;
 use std::alloc::Global;
 use std::sync::Wait;
 
@@ -36,12 +37,12 @@ pub fn run_replay<H: Wait, R: Source, W: Sink>(
     ensures write { IsErrOf result faults.Write → BreaksOff (R.remaining source.old) (W.contents sink.old) (W.contents sink.new) }
     ensures read { IsErrOf result faults.Read → W.contents sink.new ≡ W.contents sink.old }
     ensures too_long { IsErrOf result faults.TooLong → W.contents sink.new ≡ W.contents sink.old }
-    ensures read_many { IsErrOf result faults.TooLong → (bytes : List ℕ) × (length bytes ≡ most_script_bytes + 1) × Consumes (R.remaining source.old) (R.remaining source.new) bytes }
+    ensures read_many { IsErrOf result faults.TooLong → (bytes : List ℕ) × (length bytes ≡ MOST_SCRIPT_BYTES + 1) × Consumes (R.remaining source.old) (R.remaining source.new) bytes }
     ensures read_failed { IsErrOf result faults.Read → R.failures source.old < R.failures source.new }
     ensures read_kept { (IsErrOf result faults.Read → ⊥) → R.failures source.new ≡ R.failures source.old }
     ensures write_failed { IsErrOf result faults.Write → W.failures sink.old < W.failures sink.new }
     ensures write_kept { (IsErrOf result faults.Write → ⊥) → W.failures sink.new ≡ W.failures sink.old }
-    ensures few { ReadsFew (R.remaining source.old) (R.remaining source.new) (most_script_bytes + 1) }
+    ensures few { ReadsFew (R.remaining source.old) (R.remaining source.new) (MOST_SCRIPT_BYTES + 1) }
 {
     match read_all(alloc, source) {
         Ok(text) => answer(rt, alloc, text.as_slice(), sink),
@@ -56,7 +57,7 @@ fn answer<H: Wait, W: Sink>(
     text: &[u8],
     sink: &mut W,
 ) -> Result<(), ScriptFault>
-    requires { length text.now ≤ most_script_bytes }
+    requires { length text.now ≤ MOST_SCRIPT_BYTES }
     ensures { Ends (W.contents sink.old) (W.contents sink.new) (W.failures sink.old) (W.failures sink.new) (replay_output text.now) (λ n. front_of n text.now) result }
 {
     let Some((line, rest)) = next_line(text) else {
@@ -76,13 +77,21 @@ fn answer_headed<H: Wait, W: Sink>(
     text: &[u8],
     sink: &mut W,
 ) -> Result<(), ScriptFault>
-    requires names { heading.names ≤ most_names }
-    requires small { length text.now ≤ most_script_bytes }
-    ensures { Ends (W.contents sink.old) (W.contents sink.new) (W.failures sink.old) (W.failures sink.new) (written_names heading.names 2 heading.sessions [] (lines_of text.now).whole (lines_of text.now).rest) (λ n. first_names n heading.names heading.sessions [] (lines_of text.now).whole) result }
+    requires names { heading.names ≤ MOST_NAMES }
+    requires small { length text.now ≤ MOST_SCRIPT_BYTES }
+    ensures { Ends (W.contents sink.old) (W.contents sink.new) (W.failures sink.old) (W.failures sink.new) (written_names heading.names 2 heading.rules heading.sessions [] (lines_of text.now).whole (lines_of text.now).rest) (λ n. first_names n heading.names heading.rules heading.sessions [] (lines_of text.now).whole) result }
 {
     match names_in(alloc, heading.names, text) {
         Ok(Named::All { names, rest }) => {
-            answer_shared(rt, alloc, heading.sessions, names.as_slice(), rest, sink)
+            answer_shared(
+                rt,
+                alloc,
+                heading.rules,
+                heading.sessions,
+                names.as_slice(),
+                rest,
+                sink,
+            )
         }
         Ok(Named::Fault { line }) => finish_fault(sink, b"", line),
         Err(_) => Err(ScriptFault::Memory),
@@ -93,15 +102,16 @@ fn answer_headed<H: Wait, W: Sink>(
 fn answer_shared<H: Wait, W: Sink>(
     rt: &H,
     alloc: Global,
+    rules: Rules,
     sessions: u64,
     texts: &[AtomText],
     text: &[u8],
     sink: &mut W,
 ) -> Result<(), ScriptFault>
     requires list { IsNameList texts.now }
-    requires few { length texts.now ≤ most_names }
-    requires small { length text.now ≤ most_script_bytes }
-    ensures { Ends (W.contents sink.old) (W.contents sink.new) (W.failures sink.old) (W.failures sink.new) (written_entries (2 + length texts.now) 0 (fresh_with replay_name texts.now sessions) (lines_of text.now).whole (lines_of text.now).rest) (λ n. first_entries n (fresh_with replay_name texts.now sessions) (lines_of text.now).whole) result }
+    requires few { length texts.now ≤ MOST_NAMES }
+    requires small { length text.now ≤ MOST_SCRIPT_BYTES }
+    ensures { Ends (W.contents sink.old) (W.contents sink.new) (W.failures sink.old) (W.failures sink.new) (written_entries (2 + length texts.now) 0 (fresh_with rules replay_name texts.now sessions) (lines_of text.now).whole (lines_of text.now).rest) (λ n. first_entries n (fresh_with rules replay_name texts.now sessions) (lines_of text.now).whole) result }
 {
     let Ok(codes) = CodeTable::new(alloc) else {
         return Err(ScriptFault::Memory);
@@ -114,6 +124,7 @@ fn answer_shared<H: Wait, W: Sink>(
                 SharedAtoms { table: &table },
                 seat,
                 SharedCodes { table: &codes, rt },
+                rules,
                 sessions,
                 texts,
                 text,
@@ -124,13 +135,14 @@ fn answer_shared<H: Wait, W: Sink>(
     }
 }
 
-/// Writes what is written for the entries whose lines a text has, in a journal of these names and this number of open sessions, over any
-/// table of names and a seat that knows the built-in names alone, and any source of codes.
+/// Writes what is written for the entries whose lines a text has, in a journal of these rules, these names and this number of open
+/// sessions, over any table of names and a seat that knows the built-in names alone, and any source of codes.
 pub fn replay_over<A: AtomSource + Drop, C: CodeSource + Drop, W: Sink>(
     alloc: Global,
     names: A,
     seat: A::Seat,
     codes: C,
+    rules: Rules,
     sessions: u64,
     texts: &[AtomText],
     text: &[u8],
@@ -139,12 +151,12 @@ pub fn replay_over<A: AtomSource + Drop, C: CodeSource + Drop, W: Sink>(
     requires of { A.is_of names seat }
     requires nothing { A.knows seat ≡ [] }
     requires list { IsNameList texts.now }
-    requires few { length texts.now ≤ most_names }
-    requires small { length text.now ≤ most_script_bytes }
-    ensures { Ends (W.contents sink.old) (W.contents sink.new) (W.failures sink.old) (W.failures sink.new) (written_entries (2 + length texts.now) 0 (fresh_with replay_name texts.now sessions) (lines_of text.now).whole (lines_of text.now).rest) (λ n. first_entries n (fresh_with replay_name texts.now sessions) (lines_of text.now).whole) result }
+    requires few { length texts.now ≤ MOST_NAMES }
+    requires small { length text.now ≤ MOST_SCRIPT_BYTES }
+    ensures { Ends (W.contents sink.old) (W.contents sink.new) (W.failures sink.old) (W.failures sink.new) (written_entries (2 + length texts.now) 0 (fresh_with rules replay_name texts.now sessions) (lines_of text.now).whole (lines_of text.now).rest) (λ n. first_entries n (fresh_with rules replay_name texts.now sessions) (lines_of text.now).whole) result }
 {
     let first = texts.len() as u64 + 2;
-    match Replayed::new(alloc, sessions, texts, names, seat, codes) {
+    match Replayed::new(alloc, rules, sessions, texts, names, seat, codes) {
         Ok(mut replayed) => {
             let mut out = Vec::new(alloc);
             answer_entries(alloc, &mut replayed, first, text, &mut out, sink)

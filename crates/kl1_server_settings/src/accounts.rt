@@ -1,7 +1,7 @@
 // The file of accounts.
 
 ghost use Rattle.std.specs.Prelude.{◌≡◌, ◌<◌, ◌≤◌, length, IfOk, IsErrOf};
-ghost use Rattle.kl1_model.specs.Limits.{most_accounts};
+ghost use Rattle.kl1_model.specs.declared.limits.TheConstants.{MOST_ACCOUNTS};
 ghost use Rattle.kl1_session_keys.specs.Views.{entries_view};
 ghost use Rattle.kl1_server_settings.specs.Files.{NamesAccounts, NamesNone};
 ghost use Rattle.kl1_server_settings.specs.declared.halt.Halt.TheVariants as halts;
@@ -16,7 +16,7 @@ pub fn read_accounts<S: Source>(alloc: Global, source: &mut S) -> Result<Vec<Key
     ensures ok { IfOk result (λ keys. NamesAccounts (S.remaining source.old) (entries_view keys.items)) }
     ensures bad { IsErrOf result halts.Accounts → S.failures source.new ≡ S.failures source.old → NamesNone (S.remaining source.old) }
     ensures some { IfOk result (λ keys. 1 ≤ length keys.items) }
-    ensures few { IfOk result (λ keys. length keys.items ≤ most_accounts) }
+    ensures few { IfOk result (λ keys. length keys.items ≤ MOST_ACCOUNTS) }
 {
     match read_all(alloc, source) {
         Ok(bytes) => match read_keys(alloc, bytes.as_slice()) {

@@ -1,7 +1,7 @@
 // All that is looked at before the server serves.
 
 ghost use Rattle.std.specs.Prelude.{◌≤◌, length, IfOk};
-ghost use Rattle.kl1_model.specs.Limits.{most_accounts};
+ghost use Rattle.kl1_model.specs.declared.limits.TheConstants.{MOST_ACCOUNTS};
 
 use crate::accounts::read_accounts;
 use crate::halt::Halt;
@@ -23,7 +23,7 @@ pub struct Ready<'a> {
     /// The socket at which it listens.
     pub listener: TcpListener,
     pub ghost some: { 1 ≤ length keys.items },
-    pub ghost few: { length keys.items ≤ most_accounts },
+    pub ghost few: { length keys.items ≤ MOST_ACCOUNTS },
 }
 
 /// Why a call of the system failed: for want of memory, or else as this says.
@@ -38,7 +38,7 @@ fn halt_of(error: io::Error, halt: Halt) -> Halt {
 /// The accounts of the file of this name, with their keys.
 fn accounts_in<R: Files>(rt: &R, alloc: Global, name: &str) -> Result<Vec<Key>, Halt>
     ensures some { IfOk result (λ keys. 1 ≤ length keys.items) }
-    ensures few { IfOk result (λ keys. length keys.items ≤ most_accounts) }
+    ensures few { IfOk result (λ keys. length keys.items ≤ MOST_ACCOUNTS) }
 {
     match File::open(rt, name) {
         Ok(file) => read_accounts(alloc, &mut Counted::new(file)),

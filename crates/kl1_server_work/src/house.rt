@@ -6,7 +6,7 @@ use crate::threads::serve_with_workers;
 use kl1_atoms::AtomTable;
 use kl1_codes::CodeTable;
 use kl1_model::limits::MOST_ACCOUNTS;
-use kl1_pool::{AccountName, CellNaming, Pool, PoolParts, Share, Totals, gather};
+use kl1_pool::{AccountName, CellNaming, Pool, PoolParts, Rules, Share, Totals, gather};
 use kl1_server_settings::Halt;
 use kl1_session_keys::Key;
 use std::alloc::{AllocError, Global};
@@ -136,6 +136,7 @@ where
         &table,
         &codes,
         names.as_slice(),
+        Rules::Three,
         seats,
         workers + usize::from(accept),
     )?;

@@ -3,7 +3,7 @@ use Rattle.std.proofs.Common.{◌≡◌, ℕ, ◌+◌, ◌-◌, ◌<◌, ◌≤�
 use Rattle.std.proofs.lemmas.List.{append-nil, take_all, drop_all, take-append-drop, drop-append-le, drop_at, drop-take, take-take, length-take-le}
 use Rattle.std.proofs.Math.Seq.{take-add, take-append_seam, drop-append-add}
 use Rattle.std.proofs.lemmas.Bool.{cases_lt}
-use Rattle.kl1_model.specs.Limits.{most_command_bytes}
+use Rattle.kl1_model.specs.declared.limits.TheConstants.{MOST_COMMAND_BYTES}
 use Rattle.kl1_model.specs.Record.{other_line}
 use Rattle.kl1_model_history.specs.Cut.{has_feed, request_first, only_rest, load_request, cut_of}
 use Rattle.kl1_command_lines.specs.Places.{IsSplit}
@@ -74,13 +74,13 @@ kept_on None bytes few h = line_kept bytes h
 kept_on (Some n) bytes few h = load_kept n bytes few h
 
 -- a whole line, of which only the front may be there
-line_front : (x b : List ℕ) → ending None x b ≡ ending None (take (most_command_bytes + 2) x) b
-line_front x b = elim (cases_lt (length x) (most_command_bytes + 2)) [
-  | inl few ↦ ap (λ y. ending None y b) (sym (take_all (most_command_bytes + 2) x (omega arith)))
+line_front : (x b : List ℕ) → ending None x b ≡ ending None (take (MOST_COMMAND_BYTES + 2) x) b
+line_front x b = elim (cases_lt (length x) (MOST_COMMAND_BYTES + 2)) [
+  | inl few ↦ ap (λ y. ending None y b) (sym (take_all (MOST_COMMAND_BYTES + 2) x (omega arith)))
   | inr many ↦
-      let long : most_command_bytes + 2 ≤ length (take (most_command_bytes + 2) x) = omega (arith, length-take (most_command_bytes + 2) x, many) in
-      let same : take (most_command_bytes + 1) x ≡ take (most_command_bytes + 1) (take (most_command_bytes + 2) x) = sym (take-take (most_command_bytes + 1) (most_command_bytes + 2) x (omega arith)) in
-      long_line cut_of x b many ∙ ap (λ y. request_first (other_line y) (cut_of b)) same ∙ sym (long_line cut_of (take (most_command_bytes + 2) x) b long)
+      let long : MOST_COMMAND_BYTES + 2 ≤ length (take (MOST_COMMAND_BYTES + 2) x) = omega (arith, length-take (MOST_COMMAND_BYTES + 2) x, many) in
+      let same : take (MOST_COMMAND_BYTES + 1) x ≡ take (MOST_COMMAND_BYTES + 1) (take (MOST_COMMAND_BYTES + 2) x) = sym (take-take (MOST_COMMAND_BYTES + 1) (MOST_COMMAND_BYTES + 2) x (omega arith)) in
+      long_line cut_of x b many ∙ ap (λ y. request_first (other_line y) (cut_of b)) same ∙ sym (long_line cut_of (take (MOST_COMMAND_BYTES + 2) x) b long)
 ]
 
 load_front : (n : ℕ) (x b : List ℕ) → ending (Some n) x b ≡ ending (Some n) (take (n + 2) x) b

@@ -3,7 +3,7 @@ use Rattle.std.proofs.Common.{◌≡◌, ℕ, ◌+◌, ◌-◌, ◌≤◌, Bool,
 use Rattle.std.proofs.lemmas.List.{drop-take}
 use Rattle.std.proofs.Math.Seq.{take-append-add}
 use Rattle.std.proofs.lemmas.Bool.{true≢false}
-use Rattle.kl1_model.specs.Limits.{most_command_bytes, most_source_bytes}
+use Rattle.kl1_model.specs.declared.limits.TheConstants.{MOST_COMMAND_BYTES, MOST_SOURCE_BYTES}
 use Rattle.kl1_model.specs.Line.{behind_feed, without_return, line_in}
 use Rattle.kl1_model.specs.Record.{source_bytes_in}
 use Rattle.kl1_command_lines.specs.Places.{IsSplit}
@@ -25,10 +25,10 @@ line_at bytes line behind l source s e f =
     ap (λ x. line_cut cut_of l behind x) f ∙ ap (λ x. line_cut cut_of x behind (source_bytes_in x)) e ∙ sym (cut_at line behind s.none) ∙ ap cut_of (sym s.is)
 
 -- what is kept of an unfinished line, and of a load
-pub line_kept : (bytes : List ℕ) → has_feed bytes ≡ false → IsKept None (take (most_command_bytes + 2) bytes)
-line_kept bytes h = (feed_front (most_command_bytes + 2) bytes h, omega (arith, length-take (most_command_bytes + 2) bytes))
+pub line_kept : (bytes : List ℕ) → has_feed bytes ≡ false → IsKept None (take (MOST_COMMAND_BYTES + 2) bytes)
+line_kept bytes h = (feed_front (MOST_COMMAND_BYTES + 2) bytes h, omega (arith, length-take (MOST_COMMAND_BYTES + 2) bytes))
 
-pub load_kept : (n : ℕ) (bytes : List ℕ) → n ≤ most_source_bytes → has_feed (drop n bytes) ≡ false → IsKept (Some n) (take (n + 2) bytes)
+pub load_kept : (n : ℕ) (bytes : List ℕ) → n ≤ MOST_SOURCE_BYTES → has_feed (drop n bytes) ≡ false → IsKept (Some n) (take (n + 2) bytes)
 load_kept n bytes few h = (ap has_feed (drop-take n 2 bytes) ∙ feed_front 2 (drop n bytes) h, omega (arith, length-take (n + 2) bytes), few)
 
 -- how many bytes of a rest are pending

@@ -1,6 +1,6 @@
 -- How a stream goes on from what a session waits for.
 use Rattle.std.specs.Prelude.{◌≡◌, ℕ, ◌+◌, ◌≤◌, ◌<◌, false, List, ◌∷◌, ◌++◌, length, take, drop, min, codes, decimal, Option, Some, None}
-use Rattle.kl1_model.specs.Limits.{most_command_bytes, most_source_bytes}
+use Rattle.kl1_model.specs.declared.limits.TheConstants.{MOST_COMMAND_BYTES, MOST_SOURCE_BYTES}
 use Rattle.kl1_model.specs.Line.{without_return}
 use Rattle.kl1_model.specs.Record.{source_bytes_in}
 use Rattle.kl1_command_lines.specs.Records.{request_of}
@@ -23,12 +23,12 @@ rest_of (Some n) kept = codes "load " ++ decimal n ++ 10 ∷ kept
 -- no load asks for more bytes than a source may have
 abbrev pub IsFew : Option ℕ → Type 0
 IsFew None = Unit {0}
-IsFew (Some n) = n ≤ most_source_bytes
+IsFew (Some n) = n ≤ MOST_SOURCE_BYTES
 
 -- these bytes are no whole request, and no more of them are kept than tell how it goes on
 abbrev pub IsKept : Option ℕ → List ℕ → Type 0
-IsKept None kept = (has_feed kept ≡ false) × (length kept ≤ most_command_bytes + 2)
-IsKept (Some n) kept = (has_feed (drop n kept) ≡ false) × (length kept ≤ n + 2) × (n ≤ most_source_bytes)
+IsKept None kept = (has_feed kept ≡ false) × (length kept ≤ MOST_COMMAND_BYTES + 2)
+IsKept (Some n) kept = (has_feed (drop n kept) ≡ false) × (length kept ≤ n + 2) × (n ≤ MOST_SOURCE_BYTES)
 
 -- the cut that begins with the next request
 abbrev pub cut_from : Next → Cut
@@ -47,7 +47,7 @@ passed_by (Some n) = n
 
 -- the most bytes that are kept
 abbrev pub most_kept : Option ℕ → ℕ
-most_kept None = most_command_bytes + 2
+most_kept None = MOST_COMMAND_BYTES + 2
 most_kept (Some n) = n + 2
 
 -- a line feed after these bytes ends them, and no line feed in them does
@@ -73,7 +73,7 @@ ended_from (ended.Loads n) behind = load_cut cut_of n behind
 -- a load that was begun is no greater than one may be
 abbrev pub IsEnded : Ended → Type 0
 IsEnded (ended.Asks request) = Unit {0}
-IsEnded (ended.Loads n) = n ≤ most_source_bytes
+IsEnded (ended.Loads n) = n ≤ MOST_SOURCE_BYTES
 
 -- how many of the bytes that are kept are those of a line, or of a load's source
 abbrev pub pending_kept : Option ℕ → List ℕ → ℕ

@@ -1,7 +1,7 @@
 // The next request of a stream.
 
 ghost use Rattle.std.specs.Prelude.{◌≡◌, ◌≤◌, ◌<◌, length, Some};
-ghost use Rattle.kl1_model.specs.Limits.{most_source_bytes};
+ghost use Rattle.kl1_model.specs.declared.limits.TheConstants.{MOST_SOURCE_BYTES};
 ghost use Rattle.kl1_model_history.specs.Cut.{cut_of, load_cut, load_request};
 ghost use Rattle.kl1_session.specs.Going.{going, cut_from, IsNext, IsFew};
 ghost use Rattle.kl1_command_lines.specs.Records.{request_of};
@@ -48,7 +48,7 @@ fn next_line(bytes: &[u8]) -> Next<'_>
 
 /// The next request of `bytes`, which stand after the line of a load of `count` bytes.
 fn next_load(count: u64, bytes: &[u8]) -> Next<'_>
-    requires { count ≤ most_source_bytes }
+    requires { count ≤ MOST_SOURCE_BYTES }
     ensures cut { cut_from result ≡ load_cut cut_of count bytes.now }
     ensures next { IsNext bytes.now result }
 {

@@ -1,7 +1,7 @@
 // Sessions.
 
 ghost use Rattle.std.specs.Prelude.{◌≡◌, ◌++◌, ◌+◌, ◌≤◌, false, [], length, take, map, IfOk, OnOk, OnErr};
-ghost use Rattle.kl1_model.specs.Limits.{most_command_bytes, most_source_bytes};
+ghost use Rattle.kl1_model.specs.declared.limits.TheConstants.{MOST_COMMAND_BYTES, MOST_SOURCE_BYTES};
 ghost use Rattle.kl1_model_history.specs.Cut.{has_feed, pending_in};
 ghost use Rattle.kl1_model_history.specs.Inputs.{inputs, rest};
 ghost use Rattle.kl1_session.specs.Going.{going, IsFew, IsKept, passed_by, most_kept, ending};
@@ -74,8 +74,8 @@ impl Session {
     /// source don't count.
     pub fn pending(&self) -> u64
         ensures value { result ≡ pending_in self.now }
-        ensures most { result ≤ most_source_bytes }
-        ensures line { has_feed self.now ≡ false → result ≤ most_command_bytes + 2 }
+        ensures most { result ≤ MOST_SOURCE_BYTES }
+        ensures line { has_feed self.now ≡ false → result ≤ MOST_COMMAND_BYTES + 2 }
     {
         let kept = self.kept.len() as u64;
         match self.source {

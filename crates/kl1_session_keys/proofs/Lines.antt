@@ -4,7 +4,7 @@ use Rattle.std.specs.Prelude.{option_and_then}
 use Rattle.std.specs.List.{list_all}
 use Rattle.std.proofs.lemmas.Bool.{true≢false, le-leb, lt-leb}
 use Rattle.std.proofs.lemmas.List.{length-map}
-use Rattle.kl1_model.specs.Limits.{most_accounts}
+use Rattle.kl1_model.specs.declared.limits.TheConstants.{MOST_ACCOUNTS}
 use Rattle.kl1_command_lines.specs.Places.{has_byte, IsSplit}
 use Rattle.kl1_model_history.specs.JournalText.{Lines, byte_first, line_first, lines_of}
 use Rattle.kl1_model_history.specs.Script.{are_distinct}
@@ -65,20 +65,20 @@ entries_bad done text line after f h k =
     sym (ap (λ ls. option_map (λ es. done ++ es) (entries_in ls)) (f.lines h) ∙ ap (λ o. option_map (λ es. done ++ es) (option_and_then (λ x. option_map (λ es. x ∷ es) (entries_in (file_lines after))) o)) (sym k))
 
 -- entries that are fit, or not
-pub fit_by : (ks : List Key) → 0 < length ks → length ks ≤ most_accounts → are_distinct (map (λ e. e.name) (entries_view ks)) ≡ are_fit (entries_view ks)
+pub fit_by : (ks : List Key) → 0 < length ks → length ks ≤ MOST_ACCOUNTS → are_distinct (map (λ e. e.name) (entries_view ks)) ≡ are_fit (entries_view ks)
 fit_by ks h k =
     let n : length (entries_view ks) ≡ length ks = length-map ks entry_view in
-    rw (n, le-leb 1 (length ks) h, le-leb (length ks) most_accounts k) refl
+    rw (n, le-leb 1 (length ks) h, le-leb (length ks) MOST_ACCOUNTS k) refl
 
 pub fit_none : (ks : List Key) → length ks < 1 → false ≡ are_fit (entries_view ks)
 fit_none ks h =
     let n : length (entries_view ks) ≡ length ks = length-map ks entry_view in
     rw (n, lt-leb 1 (length ks) h) refl
 
-pub fit_many : (ks : List Key) → most_accounts < length ks → false ≡ are_fit (entries_view ks)
+pub fit_many : (ks : List Key) → MOST_ACCOUNTS < length ks → false ≡ are_fit (entries_view ks)
 fit_many ks h =
     let n : length (entries_view ks) ≡ length ks = length-map ks entry_view in
-    rw (n, le-leb 1 (length ks) (omega (arith, h)), lt-leb (length ks) most_accounts h) refl
+    rw (n, le-leb 1 (length ks) (omega (arith, h)), lt-leb (length ks) MOST_ACCOUNTS h) refl
 
 pub accounts_by : (bytes : List ℕ) (es : List Entry) (v : Bool) → length bytes ≤ most_file_bytes → Some es ≡ entries_in (file_lines bytes) → v ≡ are_fit es → (if v then Some es else None) ≡ accounts_of bytes
 accounts_by bytes es v h e f =

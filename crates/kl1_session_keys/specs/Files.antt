@@ -1,7 +1,7 @@
 -- The accounts of a server: what a file says of them, and whose key is right.
 use Rattle.std.specs.Prelude.{ℕ, suc, nat_le, ◌&&◌, Bool, if◌then◌else◌, List, [], ◌∷◌, ◌++◌, length, map, bytes_eq, Option, Some, None, option_map, option_and_then}
 use Rattle.std.specs.List.{list_all}
-use Rattle.kl1_model.specs.Limits.{most_accounts}
+use Rattle.kl1_model.specs.declared.limits.TheConstants.{MOST_ACCOUNTS}
 use Rattle.kl1_model.specs.Line.{before_space, behind_space}
 use Rattle.kl1_model.specs.AccountName.{is_account_name}
 use Rattle.kl1_model_history.specs.JournalText.{lines_of}
@@ -41,9 +41,9 @@ abbrev pub entries_in : List (List ℕ) → Option (List Entry)
 entries_in [] = Some []
 entries_in (line ∷ lines) = option_and_then (λ e. option_map (λ es. e ∷ es) (entries_in lines)) (entry_in line)
 
--- whether entries are 1 to 16, of names that differ
+-- whether entries are 1 to 32, of names that differ
 abbrev pub are_fit : List Entry → Bool
-are_fit es = nat_le 1 (length es) && nat_le (length es) most_accounts && are_distinct (map (λ e. e.name) es)
+are_fit es = nat_le 1 (length es) && nat_le (length es) MOST_ACCOUNTS && are_distinct (map (λ e. e.name) es)
 
 -- entries, if they are fit
 abbrev pub checked : List Entry → Option (List Entry)

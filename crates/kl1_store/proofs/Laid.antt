@@ -15,7 +15,7 @@ pub length-shapes_in : {N : Type 0} (xs : List (Cell N)) (ns : List (Node N)) �
 length-shapes_in xs [] = refl
 length-shapes_in xs (n ∷ ns) = ap suc (length-shapes_in (drop n.count xs) ns)
 
-count_fits : {N : Type 0} (start : ℕ) (n : Node N) (ns : List (Node N)) (xs : List (Cell N)) → AreLaid start (n ∷ ns) (start + length xs) → n.count ≤ length xs
+pub count_fits : {N : Type 0} (start : ℕ) (n : Node N) (ns : List (Node N)) (xs : List (Cell N)) → AreLaid start (n ∷ ns) (start + length xs) → n.count ≤ length xs
 count_fits start n ns xs h = let p = laid_up (start + n.count) ns (start + length xs) h.1 in omega arith
 
 pub rest_laid : {N : Type 0} (start : ℕ) (n : Node N) (ns : List (Node N)) (xs : List (Cell N)) → AreLaid start (n ∷ ns) (start + length xs) →

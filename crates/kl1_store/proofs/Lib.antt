@@ -28,3 +28,7 @@ pub mod Tops
 pub mod Placing
 pub mod InModules
 pub mod Constants
+pub mod Changed
+pub mod Bare
+pub mod Renaming
+pub mod Renamed

@@ -28,3 +28,4 @@ pub mod Places
 pub mod Unbound
 pub mod InModules
 pub mod Constants
+pub mod Renames

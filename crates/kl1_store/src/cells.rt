@@ -10,6 +10,8 @@ ghost use Rattle.kl1_store.specs.Places.{all_arguments, StandFrom};
 ghost use Rattle.kl1_store.specs.Slots.{AreSlotted, AreOnce};
 ghost use Rattle.kl1_store.specs.Tops.{firsts, others};
 
+mod renaming;
+
 use crate::binding::Binding;
 use crate::cell::Cell;
 use crate::head::Head;

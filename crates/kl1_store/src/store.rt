@@ -13,7 +13,9 @@ ghost use Rattle.kl1_store.specs.Hooks.{Kept, hanging_on, told_by, point_of, Has
 ghost use Rattle.kl1_store.specs.Tops.{firsts, others};
 
 mod build_one;
+mod build_three;
 mod constants;
+mod renaming;
 
 use crate::cell::Cell;
 use crate::cells::Cells;

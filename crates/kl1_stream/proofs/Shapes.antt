@@ -20,7 +20,7 @@ pub record IsAt {N : Type 0} (h : Held N) (cell : Cell N) (s : ℕ) (name : N) :
   pub named : slice_get h.structures s ≡ Some (record { name = name; arguments = arguments_of h s })
   pub means : (f : N → List ℕ) → term_of f h (Structure s) ≡ term_of f h cell
 
-at_structure : {N : Type 0} (f : N → List ℕ) (h : Held N) (cell : Cell N) (s : ℕ) (name : N) → IsAt h cell s name → term_of f h cell ≡ structure (f name) (terms_of f h (arguments_of h s))
+pub at_structure : {N : Type 0} (f : N → List ℕ) (h : Held N) (cell : Cell N) (s : ℕ) (name : N) → IsAt h cell s name → term_of f h cell ≡ structure (f name) (terms_of f h (arguments_of h s))
 at_structure f h cell s name at = sym (at.means f) ∙ term_of-Structure f h s name at.formed at.named
 
 one_cell : {N : Type 0} (f : N → List ℕ) (h : Held N) (xs : List (Cell N)) (x : Cell N) → length xs ≡ 1 → slice_get xs 0 ≡ Some x → terms_of f h xs ≡ more (term_of f h x) none
@@ -41,6 +41,25 @@ two_cells f h (x ∷ y ∷ []) left right e l r =
     let second : y ≡ right = cc in
     ap (λ c. more (term_of f h c) (more (term_of f h y) none)) first ∙ ap (λ c. more (term_of f h left) (more (term_of f h c) none)) second
 two_cells f h (x ∷ y ∷ z ∷ xs) left right e l r = absurd (omega arith)
+
+three_cells : {N : Type 0} (f : N → List ℕ) (h : Held N) (xs : List (Cell N)) (first second third : Cell N) → length xs ≡ 3 → slice_get xs 0 ≡ Some first → slice_get xs 1 ≡ Some second → slice_get xs 2 ≡ Some third →
+    terms_of f h xs ≡ more (term_of f h first) (more (term_of f h second) (more (term_of f h third) none))
+unfolding terms_of
+three_cells f h [] first second third e l m r = absurd (omega arith)
+three_cells f h (x ∷ []) first second third e l m r = absurd (omega arith)
+three_cells f h (x ∷ y ∷ []) first second third e l m r = absurd (omega arith)
+three_cells f h (x ∷ y ∷ z ∷ []) first second third e l m r =
+    let one : x ≡ first = cc in
+    let two : y ≡ second = cc in
+    let three : z ≡ third = cc in
+    ap (λ c. more (term_of f h c) (more (term_of f h y) (more (term_of f h z) none))) one
+    ∙ ap (λ c. more (term_of f h first) (more (term_of f h c) (more (term_of f h z) none))) two
+    ∙ ap (λ c. more (term_of f h first) (more (term_of f h second) (more (term_of f h c) none))) three
+three_cells f h (x ∷ y ∷ z ∷ u ∷ xs) first second third e l m r = absurd (omega arith)
+
+pub has_three : {N : Type 0} (f : N → List ℕ) (h : Held N) (cell x y z : Cell N) (s : ℕ) (name : N) → IsAt h cell s name → length (arguments_of h s) ≡ 3 → slice_get (arguments_of h s) 0 ≡ Some x → slice_get (arguments_of h s) 1 ≡ Some y → slice_get (arguments_of h s) 2 ≡ Some z →
+    term_of f h cell ≡ structure (f name) (more (term_of f h x) (more (term_of f h y) (more (term_of f h z) none)))
+has_three f h cell x y z s name at n a b c = at_structure f h cell s name at ∙ ap (structure (f name)) (three_cells f h (arguments_of h s) x y z n a b c)
 
 pub has_one : {N : Type 0} (f : N → List ℕ) (h : Held N) (cell x : Cell N) (s : ℕ) (name : N) → IsAt h cell s name → length (arguments_of h s) ≡ 1 → slice_get (arguments_of h s) 0 ≡ Some x →
     term_of f h cell ≡ structure (f name) (more (term_of f h x) none)

@@ -157,6 +157,19 @@ zeros_length : (n : ℕ) → length {A = ℕ} (replicate n 0) ≡ n
 zeros_length zero = refl
 zeros_length (suc n) = ap suc (zeros_length n)
 
+-- a share at zero
+pub share_zero : (views : List View) (events steps : List ℕ) → views ≡ view_of 1 [] [] [] ∷ [] → events ≡ replicate MOST_ACCOUNTS 0 → steps ≡ replicate MOST_ACCOUNTS 0
+    → (length events ≡ MOST_ACCOUNTS) × (length steps ≡ MOST_ACCOUNTS) × IsShare views events steps
+share_zero views events steps at es ss = (
+  ap length es ∙ zeros_length MOST_ACCOUNTS,
+  ap length ss ∙ zeros_length MOST_ACCOUNTS,
+  record {
+    rests = at ∙ ap (λ (marks : List Mark). view_of 1 [] [] marks ∷ []) (sym (ap (λ (vs : List View). (view_in vs).amount) at));
+    events_are = λ k below. ap (λ xs. slice_index xs k) es ∙ zeros_at MOST_ACCOUNTS k ∙ sym (ap (λ (vs : List View). events_at k (view_in vs).amount) at);
+    steps_are = λ k below. ap (λ xs. slice_index xs k) ss ∙ zeros_at MOST_ACCOUNTS k ∙ sym (ap (λ (vs : List View). steps_at k (view_in vs).amount) at);
+  },
+)
+
 pub took_no_book : (all : List Book) (v : View) → v.names ≡ [] → v.book ≡ [] → TookBooks all all v v (replicate MOST_ACCOUNTS 0) (replicate MOST_ACCOUNTS 0)
 took_no_book all v names book = record {
   parts = refl;

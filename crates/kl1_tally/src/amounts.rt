@@ -2,8 +2,10 @@
 
 ghost use Rattle.std.specs.Prelude.{◌≡◌, ◌+◌, ◌<◌, ◌^◌, true, cond, length, replicate, slice_index, slice_set};
 
-/// The most accounts that a tally has books of.
-pub const MOST_ACCOUNTS: usize = 16;
+use kl1_model::limits;
+
+/// The most accounts that a tally has books of: as many as there are.
+pub const MOST_ACCOUNTS: usize = limits::MOST_ACCOUNTS;
 
 /// Events of each account, and how many of them are steps; both at the account's number.
 #[derive(Clone, Copy)]

@@ -2,7 +2,7 @@
 use Rattle.std.proofs.Common.{◌≡◌, ◌≢◌, ℕ, zero, suc, ◌-◌, ◌<◌, ◌≤◌, ◌^◌, max, List, [], ◌∷◌, ◌++◌, length, map, drop, get_or, Bool, true, false, ◌&&◌, if◌then◌else◌, nat_le, bytes_eq, codes, append_assoc, refl, ap, sym, ◌∙◌, inl, inr, arith}
 use Rattle.std.proofs.lemmas.List.{reverse-append, append-nil, length-map, length-drop}
 use Rattle.std.proofs.Math.Seq.{drop-cons}
-use Rattle.kl1_model.specs.Limits.{most_arguments, most_depth}
+use Rattle.kl1_model.specs.declared.limits.TheConstants.{MOST_ARGUMENTS, MOST_DEPTH}
 use Rattle.kl1_model.specs.Text.{is_text}
 use Rattle.kl1_model.specs.Term.{Term, variable, integer, atom, structure, Terms, none, more, count_of}
 use Rattle.kl1_model.specs.code.TermCode.{NodeCode, nodes_of, nodes_of_all, read_nodes, first_term, behind_first, front_of, behind, reads-back}
@@ -179,8 +179,8 @@ mutual
   narrow_one (integer i) cs = refl
   narrow_one (atom a) cs = refl
   narrow_one (structure f ts) cs =
-      ap (λ (b : Bool). (is_text f && nat_le 1 (count_of ts) && nat_le (count_of ts) most_arguments) && b) (narrow_all ts cs)
-      ∙ and_assoc (is_text f && nat_le 1 (count_of ts) && nat_le (count_of ts) most_arguments) (are_narrow ts) (list_all is_narrow_node cs)
+      ap (λ (b : Bool). (is_text f && nat_le 1 (count_of ts) && nat_le (count_of ts) MOST_ARGUMENTS) && b) (narrow_all ts cs)
+      ∙ and_assoc (is_text f && nat_le 1 (count_of ts) && nat_le (count_of ts) MOST_ARGUMENTS) (are_narrow ts) (list_all is_narrow_node cs)
 
   narrow_all : (ts : Terms) (cs : List NodeCode) → list_all is_narrow_node (nodes_of_all ts ++ cs) ≡ are_narrow ts && list_all is_narrow_node cs
   narrow_all none cs = refl
@@ -198,8 +198,8 @@ narrow_is cs t e = ap (list_all is_narrow_node) (e ∙ sym (append-nil (nodes_of
 
 -- whether a term can be written, by its nodes and its depth
 pub not_narrow : (cs : List NodeCode) (t : Term) → cs ≡ nodes_of t → list_all is_narrow_node cs ≡ false → false ≡ is_writable t
-not_narrow cs t e h = sym (ap (λ (b : Bool). b && nat_le (depth t) most_depth) (sym (narrow_is cs t e) ∙ h))
+not_narrow cs t e h = sym (ap (λ (b : Bool). b && nat_le (depth t) MOST_DEPTH) (sym (narrow_is cs t e) ∙ h))
 
-pub narrow_deep : (cs : List NodeCode) (t : Term) (deep : ℕ) → cs ≡ nodes_of t → list_all is_narrow_node cs ≡ true → deep ≡ depth t → nat_le deep most_depth ≡ is_writable t
+pub narrow_deep : (cs : List NodeCode) (t : Term) (deep : ℕ) → cs ≡ nodes_of t → list_all is_narrow_node cs ≡ true → deep ≡ depth t → nat_le deep MOST_DEPTH ≡ is_writable t
 narrow_deep cs t deep e h d =
-    ap (λ (k : ℕ). nat_le k most_depth) d ∙ sym (ap (λ (b : Bool). b && nat_le (depth t) most_depth) (sym (narrow_is cs t e) ∙ h))
+    ap (λ (k : ℕ). nat_le k MOST_DEPTH) d ∙ sym (ap (λ (b : Bool). b && nat_le (depth t) MOST_DEPTH) (sym (narrow_is cs t e) ∙ h))

@@ -4,7 +4,7 @@ ghost use Rattle.std.specs.Prelude.{◌≡◌, ℕ, ◌≤◌, List, ◌++◌, l
 ghost use Rattle.kl1_model.specs.Term.{Term as TermSpec, variable, integer, atom, structure, terms_of};
 ghost use Rattle.kl1_model.specs.code.TermCode.{nodes_of, nodes_of_all};
 ghost use Rattle.kl1_model.specs.Meaning.{cells};
-ghost use Rattle.kl1_model.specs.Limits.{most_arguments};
+ghost use Rattle.kl1_model.specs.declared.limits.TheConstants.{MOST_ARGUMENTS};
 ghost use Rattle.kl1_term.specs.Nodes.{code_of, term_in, IsTerm, cell_nodes};
 
 use crate::node::Node;
@@ -80,7 +80,7 @@ impl Term {
     /// The structure of a name and arguments.
     pub fn structure(alloc: Global, name: AtomText, arguments: &[Term]) -> Result<Self, AllocError>
         requires few { 1 ≤ length arguments.now }
-        requires many { length arguments.now ≤ most_arguments }
+        requires many { length arguments.now ≤ MOST_ARGUMENTS }
         ensures { IfOk result (λ t. t ≡ structure name (terms_of arguments.now)) }
     {
         let mut nodes = Vec::from_slice(alloc, &[Node::Structure(name, arguments.len())])?;

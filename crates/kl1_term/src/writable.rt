@@ -2,7 +2,8 @@
 
 ghost use Rattle.std.specs.Prelude.{◌≡◌, nat_le, map, IfOk, IsTrue};
 ghost use Rattle.std.specs.List.{list_all};
-ghost use Rattle.kl1_model.specs.Meaning.{is_word, is_writable, most_depth};
+ghost use Rattle.kl1_model.specs.Meaning.{is_word, is_writable};
+ghost use Rattle.kl1_model.specs.declared.limits.TheConstants.{MOST_DEPTH};
 ghost use Rattle.kl1_term.specs.Nodes.{code_of};
 ghost use Rattle.kl1_term.specs.Narrow.{is_narrow_node};
 
@@ -12,7 +13,7 @@ use kl1_model::limits::{MOST_ARGUMENTS, MOST_DEPTH};
 use std::alloc::{AllocError, Global};
 
 impl Term {
-    /// Whether a text can write the term: its names have at most 63 bytes, its structures 1 to 8 arguments, and it is at
+    /// Whether a text can write the term: its names have at most 127 bytes, its structures 1 to 8 arguments, and it is at
     /// most 256 deep.
     pub fn is_writable(&self, alloc: Global) -> Result<bool, AllocError>
         ensures { IfOk result (λ fits. fits ≡ is_writable self.now) }
@@ -27,7 +28,7 @@ impl Term {
 
 /// Whether a text can write a term that is so deep.
 fn is_low(deep: u64) -> bool
-    ensures { result ≡ nat_le deep most_depth }
+    ensures { result ≡ nat_le deep MOST_DEPTH }
 {
     deep <= MOST_DEPTH
 }

@@ -1,6 +1,7 @@
 // What the rows of a group are tried on, and what is asked there.
 
 use crate::{command, script};
+use kl1_user::Rules;
 
 /// What the rows of a group are tried on.
 #[derive(Clone, Copy)]
@@ -17,14 +18,14 @@ pub enum Part {
     Match(kl1_tests_read::MatchKind),
     /// A tree of shoens.
     Tree,
-    /// An account.
-    One,
-    /// An account, to which an event is done again if memory was refused.
-    Again,
+    /// An account that keeps to these rules.
+    One(Rules),
+    /// An account that keeps to these rules, to which an event is done again if memory was refused.
+    Again(Rules),
     /// A load over the shared table of names, which is done again while memory is refused.
     Published,
-    /// Events of many accounts, together by at most this many calls and each alone.
-    World(u8),
+    /// Events of many accounts that keep to these rules, together by at most this many calls and each alone.
+    World(Rules, u8),
     /// Journals and their texts.
     Journal,
     /// Commands and replies, by what is asked of them.
@@ -36,7 +37,7 @@ pub enum Part {
 }
 
 /// The parts by the two words that name them at the front of a heading.
-const PARTS: [(&[u8], Part); 62] = [
+const PARTS: [(&[u8], Part); 66] = [
     (b"store numbers ", Part::Numbers),
     (b"store texts ", Part::Texts),
     (b"read name ", Part::Read(kl1_tests_read::Kind::Name)),
@@ -82,18 +83,28 @@ const PARTS: [(&[u8], Part); 62] = [
     ),
     (
         b"read moves ",
-        Part::Match(kl1_tests_read::MatchKind::Moves),
+        Part::Match(kl1_tests_read::MatchKind::Moves(Rules::Three)),
+    ),
+    (
+        b"read second_moves ",
+        Part::Match(kl1_tests_read::MatchKind::Moves(Rules::Two)),
+    ),
+    (
+        b"read first_moves ",
+        Part::Match(kl1_tests_read::MatchKind::Moves(Rules::One)),
     ),
     (
         b"read built ",
         Part::Match(kl1_tests_read::MatchKind::Built),
     ),
     (b"shoen tree ", Part::Tree),
-    (b"user one ", Part::One),
-    (b"user again ", Part::Again),
+    (b"user one ", Part::One(Rules::One)),
+    (b"user again ", Part::Again(Rules::One)),
+    (b"user answers ", Part::Again(Rules::Two)),
     (b"user published ", Part::Published),
-    (b"world once ", Part::World(1)),
-    (b"world both ", Part::World(2)),
+    (b"world once ", Part::World(Rules::One, 1)),
+    (b"world both ", Part::World(Rules::One, 2)),
+    (b"world answers ", Part::World(Rules::Two, 2)),
     (b"journal read ", Part::Journal),
     (b"command line ", Part::Command(command::Kind::Line)),
     (b"command record ", Part::Command(command::Kind::Record)),

@@ -38,7 +38,7 @@ impl<H: Wait> Tried for Parts<'_, H> {
         match self.part {
             Part::Numbers => self.stores.begin(self.alloc, false),
             Part::Texts => self.stores.begin(self.alloc, true),
-            Part::One | Part::Again => self.accounts.begin(self.alloc),
+            Part::One(rules) | Part::Again(rules) => self.accounts.begin(self.alloc, rules),
             _ => (),
         }
     }
@@ -50,10 +50,12 @@ impl<H: Wait> Tried for Parts<'_, H> {
             Part::Read(kind) => kl1_tests_read::is_right(self.alloc, kind, act, wanted),
             Part::Match(kind) => kl1_tests_read::is_match_right(self.alloc, kind, act, wanted),
             Part::Tree => kl1_tests_goals::is_tree_right(self.alloc, act, wanted),
-            Part::One => self.accounts.is_right(self.alloc, act, wanted),
-            Part::Again => self.accounts.is_right_again(self.alloc, act, wanted),
+            Part::One(_) => self.accounts.is_right(self.alloc, act, wanted),
+            Part::Again(_) => self.accounts.is_right_again(self.alloc, act, wanted),
             Part::Published => kl1_tests_user::is_published(self.alloc, act, wanted),
-            Part::World(calls) => kl1_tests_user::is_world_right(self.alloc, calls, act, wanted),
+            Part::World(rules, calls) => {
+                kl1_tests_user::is_world_right(self.alloc, rules, calls, act, wanted)
+            }
             Part::Journal => kl1_tests_user::is_journal(self.alloc, act, wanted),
             Part::Command(kind) => command::is_right(self.alloc, kind, act, wanted),
             Part::Script(kind) => script::is_right(self.rt, self.alloc, kind, act, wanted),

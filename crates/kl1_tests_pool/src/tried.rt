@@ -6,7 +6,7 @@ use crate::job::Job;
 use crate::threads::work;
 use kl1_atoms::AtomTable;
 use kl1_codes::CodeTable;
-use kl1_pool::{AccountName, CellNaming, Pool, PoolParts, Totals, gather};
+use kl1_pool::{AccountName, CellNaming, Pool, PoolParts, Rules, Totals, gather};
 use kl1_tests_rows::Text;
 use std::alloc::{AllocError, Global};
 use std::marker::Brand;
@@ -83,6 +83,14 @@ pub fn tried<J: Job + Sync, R: Threads + Wait + Clock + Sync>(
     let names = names_of(alloc, accounts)?;
     let (table, seats) = AtomTable::new(alloc, accounts)?;
     let codes = CodeTable::new(alloc)?;
-    let parts = PoolParts::new(alloc, &table, &codes, names.as_slice(), seats, threads)?;
+    let parts = PoolParts::new(
+        alloc,
+        &table,
+        &codes,
+        names.as_slice(),
+        Rules::Three,
+        seats,
+        threads,
+    )?;
     done_of(rt, alloc, parts, job, out)
 }

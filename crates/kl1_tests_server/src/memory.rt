@@ -7,7 +7,9 @@ use crate::row::{LINES, REPLIES, alice};
 use kl1_atoms::AtomTable;
 use kl1_codes::CodeTable;
 use kl1_command_lines::Counted;
-use kl1_pool::{AccountName, CellNaming, Command, Performed, Pool, PoolParts, Share, gather};
+use kl1_pool::{
+    AccountName, CellNaming, Command, Performed, Pool, PoolParts, Rules, Share, gather,
+};
 use kl1_server_work::{Served, serve};
 use kl1_user_events::{Event, Refusal, Reply};
 use std::alloc::{AllocError, Global};
@@ -101,7 +103,7 @@ fn is_same_in<R: Wait>(rt: &R, alloc: Global, way: Way) -> Result<bool, AllocErr
     };
     let (table, seats) = AtomTable::new(alloc, 1)?;
     let codes = CodeTable::new(alloc)?;
-    let parts = PoolParts::new(alloc, &table, &codes, &[name], seats, 1)?;
+    let parts = PoolParts::new(alloc, &table, &codes, &[name], Rules::Three, seats, 1)?;
     is_same_of(rt, alloc, parts, way)
 }
 

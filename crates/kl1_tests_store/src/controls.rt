@@ -4,7 +4,7 @@ use crate::answer::Answer;
 use crate::operands::size_of;
 use kl1_model::{BuiltIn, Message};
 use kl1_store::{Cell, Store};
-use kl1_stream::{Control, next_element, nth_cell, read_control, send_message};
+use kl1_stream::{Control, next_element, nth_cell, read_control, send_message, unanswered_at};
 use kl1_text::NameValue;
 use std::alloc::AllocError;
 
@@ -96,7 +96,22 @@ fn skip<N: NameValue>(store: &Store<N>, cell: Cell<N>, count: Cell<N>) -> Answer
     Answer::Is(nth_cell(store, cell, size_of(count) as u64))
 }
 
-/// What an act on a control stream or a list comes to: `put`, `skip`, `go`, `first` or `read`, by its first letter.
+/// The variable for which a substitute waits by a report of a list, the first being 1.
+fn awaited<N: NameValue>(store: &Store<N>, cell: Cell<N>, report: Cell<N>) -> Answer<N> {
+    if !store.holds(cell) {
+        return Answer::Nothing;
+    }
+    let report = size_of(report) as u64;
+    if report == 0 {
+        return Answer::Nothing;
+    }
+    match unanswered_at(store, cell, report) {
+        Some(variable) => Answer::Is(Cell::Variable(variable)),
+        None => Answer::No,
+    }
+}
+
+/// What an act on a control stream or a list comes to: `put`, `await`, `skip`, `go`, `first` or `read`, by its first letter.
 pub fn answer<N: NameValue>(
     store: &mut Store<N>,
     letter: u8,
@@ -109,6 +124,7 @@ pub fn answer<N: NameValue>(
             _ => read(store, *cell),
         }),
         [cell, message] if letter == b'p' => put(store, *cell, message_of(*message)),
+        [cell, report] if letter == b'a' => Ok(awaited(store, *cell, *report)),
         [cell, count] => Ok(skip(store, *cell, *count)),
         _ => Ok(Answer::Nothing),
     }

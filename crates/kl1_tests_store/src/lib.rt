@@ -5,6 +5,7 @@ mod acts;
 mod answer;
 mod controls;
 mod operands;
+mod renamed;
 mod rooms;
 mod sheet;
 mod stores;

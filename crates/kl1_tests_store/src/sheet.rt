@@ -3,16 +3,17 @@
 use crate::answer::{Answer, is_wanted};
 use crate::operands::read_cells;
 use crate::written::Written;
-use crate::{acts, controls, rooms, streams, undone, views};
+use crate::{acts, controls, renamed, rooms, streams, undone, views};
 use kl1_store::{Cell, Store};
 use kl1_tests_rows::cut;
 use std::alloc::{AllocError, Global};
 
-/// A store, the cells that an act is on, and the numbers that were told last.
+/// A store, the cells that an act is on, the names of the last act that gave names others' places, and the numbers that were told last.
 #[derive(Drop)]
 pub struct Sheet<N: Written> {
     store: Store<N>,
     cells: Vec<Cell<N>>,
+    names: Vec<N>,
     told: Vec<u64>,
 }
 
@@ -26,6 +27,8 @@ enum Way {
     Room,
     /// It looks at something.
     See,
+    /// Names take the places of others in what it makes.
+    Renamed,
     /// It is on a report stream.
     Stream,
     /// It is on a control stream, or on a list.
@@ -33,10 +36,11 @@ enum Way {
 }
 
 /// The ways by the words that stand before an act; an act without one is done plainly.
-const WAYS: [(&[u8], Way); 5] = [
+const WAYS: [(&[u8], Way); 6] = [
     (b"back ", Way::Back),
     (b"room ", Way::Room),
     (b"see ", Way::See),
+    (b"renamed ", Way::Renamed),
     (b"stream ", Way::Stream),
     (b"control ", Way::Control),
 ];
@@ -65,6 +69,7 @@ impl<N: Written> Sheet<N> {
         Sheet {
             store: Store::new(alloc),
             cells: Vec::new(alloc),
+            names: Vec::new(alloc),
             told: Vec::new(alloc),
         }
     }
@@ -85,6 +90,7 @@ impl<N: Written> Sheet<N> {
             Way::Back => undone::answer(&mut self.store, letter, cells),
             Way::Room => rooms::answer(&mut self.store, cells),
             Way::See => Ok(views::answer(&self.store, self.told.as_slice(), letter, cells)),
+            Way::Renamed => renamed::answer(&mut self.store, &mut self.names, cells),
             Way::Stream => streams::answer(&mut self.store, letter, cells),
             Way::Control => controls::answer(&mut self.store, letter, cells),
             Way::Plain => acts::answer(&mut self.store, &mut self.told, letter, cells),

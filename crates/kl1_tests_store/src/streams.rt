@@ -3,7 +3,7 @@
 use crate::answer::Answer;
 use kl1_model::BuiltIn;
 use kl1_store::{Cell, Store};
-use kl1_stream::{Told, append_report, close_report, exception_of};
+use kl1_stream::{Told, append_report, close_report, exception_of, exception_with};
 use kl1_text::NameValue;
 use std::alloc::AllocError;
 
@@ -44,14 +44,30 @@ fn told<N: NameValue>(
     Ok(Answer::Done)
 }
 
-/// What an act on a stream comes to: `send`, `last` after the last report, or `drop` on one that is broken; `end`, or `leave` on one that is broken; or
-/// `fail`, by its first letter.
+/// The message that a goal failed, with the cell for which a substitute waits.
+fn asked<N: NameValue>(
+    store: &mut Store<N>,
+    goal: Cell<N>,
+    new: Cell<N>,
+) -> Result<Answer<N>, AllocError> {
+    if !store.holds(goal) {
+        return Ok(Answer::Nothing);
+    }
+    if !store.holds(new) {
+        return Ok(Answer::Nothing);
+    }
+    Ok(Answer::Is(exception_with(store, BuiltIn::Failure, goal, new)?))
+}
+
+/// What an act on a stream comes to: `send`, `last` after the last report, or `drop` on one that is broken; `end`, or `leave` on one that is broken;
+/// or `fail`, and `ask` with what a substitute waits for, by its first letter.
 pub fn answer<N: NameValue>(
     store: &mut Store<N>,
     letter: u8,
     cells: &[Cell<N>],
 ) -> Result<Answer<N>, AllocError> {
     match cells {
+        [goal, new] if letter == b'a' => asked(store, *goal, *new),
         [tail, message] => send(store, *tail, letter == b'd', letter == b'l', *message),
         [cell] => told(store, letter, *cell),
         _ => Ok(Answer::Nothing),

@@ -5,6 +5,7 @@ use crate::again::is_right_again;
 use crate::answers::{is_answered, is_first};
 use crate::player::Player;
 use kl1_tests_rows::cut;
+use kl1_world::Rules;
 use std::alloc::Global;
 
 /// An account: at most one, in a list, which is dropped by calls.
@@ -35,11 +36,11 @@ impl Accounts {
         }
     }
 
-    /// Begins anew, with an account in which nothing has happened. If memory is refused, it is tried once more.
-    pub fn begin(&mut self, alloc: Global) {
+    /// Begins anew, with an account that keeps to these rules, in which nothing has happened. If memory is refused, it is tried once more.
+    pub fn begin(&mut self, alloc: Global, rules: Rules) {
         self.user.clear();
-        if Player::put_fresh(alloc, &mut self.user).is_err() {
-            let _ = Player::put_fresh(alloc, &mut self.user);
+        if Player::put_fresh(alloc, rules, &mut self.user).is_err() {
+            let _ = Player::put_fresh(alloc, rules, &mut self.user);
         }
     }
 

@@ -5,6 +5,7 @@
 // | `load TEXT` | a module is loaded from the text |
 // | `start A L H GOAL` | a goal is started with an allowance of A and priorities from L to H |
 // | `made LEFT LEVELS RIGHT` | a goal that no text may write is started |
+// | `answer S N GOAL` | a goal is the answer to report N of shoen S |
 // | `reduce G C` | goal G is reduced by clause C |
 // | `step` | the first goal is reduced |
 // | `value S` | the goal of shoen S is shown |
@@ -46,6 +47,18 @@ fn start_of(alloc: Global, words: &[u8]) -> Option<Event> {
     let (high, text) = cut(behind, b' ');
     let goal = read_goal(alloc, text).ok()?;
     Some(start_event(number_of(allowance), number_of(low), number_of(high), goal))
+}
+
+/// The answer of a goal's text, before which the numbers of a shoen and of its report stand.
+fn answer_of(alloc: Global, words: &[u8]) -> Option<Event> {
+    let (shoen, behind) = cut(words, b' ');
+    let (report, text) = cut(behind, b' ');
+    let goal = read_goal(alloc, text).ok()?;
+    Some(Event::Answer {
+        shoen: ShoenNo(number_of(shoen)),
+        report: number_of(report),
+        goal,
+    })
 }
 
 /// The reduction of a goal by a clause, whose numbers a text has.
@@ -142,6 +155,8 @@ pub fn event_of(alloc: Global, user: &Player, word: &[u8], words: &[u8]) -> Opti
         start_of(alloc, words)
     } else if word == b"made".as_slice() {
         made_start(alloc, words)
+    } else if word == b"answer".as_slice() {
+        answer_of(alloc, words)
     } else if word == b"reduce".as_slice() {
         Some(reduction_of(words))
     } else if word == b"step".as_slice() {

@@ -19,6 +19,7 @@ fn refusal_word(refusal: Refusal) -> &'static [u8] {
         Refusal::Limit => b"- 8 limit",
         Refusal::Journal => b"- 9 journal",
         Refusal::Sessions => b"- 12 sessions",
+        Refusal::Answer => b"- 13 answer",
     }
 }
 

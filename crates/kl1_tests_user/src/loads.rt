@@ -7,7 +7,7 @@ ghost use Rattle.kl1_codes_modules.specs.Numbered.{ArePlaced};
 use kl1_atoms::{AtomSeat, AtomTable, SharedAtoms};
 use kl1_codes::{CodeSource, PlainCodes};
 use kl1_tests_rows::is_counted;
-use kl1_user::{AccountName, UserState};
+use kl1_user::{AccountName, Rules, UserState};
 use kl1_user_events::{Event, Reply};
 use std::alloc::{AllocError, Global};
 
@@ -56,7 +56,7 @@ fn entries_in(
     let mut names = SharedAtoms { table };
     let mut seat = seat;
     let mut codes = PlainCodes::new(alloc);
-    let mut user = UserState::fresh(alloc, name)?;
+    let mut user = UserState::fresh(alloc, name, Rules::Three)?;
     Ok(entries_after(&mut names, &mut seat, &mut user, &mut codes, load))
 }
 

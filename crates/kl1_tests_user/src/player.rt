@@ -8,7 +8,7 @@ use kl1_codes::PlainCodes;
 use kl1_command::Host;
 use kl1_model::limits::MOST_ACCOUNTS;
 use kl1_user_events::{ClauseNo, Event, GoalNo, Listed, Reply};
-use kl1_world::{AccountName, World};
+use kl1_world::{AccountName, Rules, World};
 use std::alloc::{AllocError, Global};
 use std::marker::Model;
 
@@ -41,24 +41,28 @@ fn are_of(count: usize, events: &[(usize, Event)]) -> bool
 }
 
 impl Player {
-    /// Accounts of these names, in which nothing has happened; an `Err` also if there are none or too many.
-    pub fn new(alloc: Global, accounts: &[AccountName]) -> Result<Self, AllocError> {
+    /// Accounts of these names, which keep to these rules, in which nothing has happened; an `Err` also if there are none or too many.
+    pub fn new(alloc: Global, rules: Rules, accounts: &[AccountName]) -> Result<Self, AllocError> {
         let count = accounts.len();
         if count == 0 || count > MOST_ACCOUNTS {
             return Err(AllocError);
         }
         let (names, seats) = PlainTable::new(alloc, count)?;
         let codes = PlainCodes::new(alloc);
-        let world = World::new(alloc, names, seats, codes, accounts)?;
+        let world = World::new(alloc, names, seats, codes, accounts, rules)?;
         Ok(Player { world, count })
     }
 
-    /// Puts one account in which nothing has happened, alice, after other players.
-    pub fn put_fresh(alloc: Global, players: &mut Vec<Self>) -> Result<(), AllocError> {
+    /// Puts one account in which nothing has happened, alice, which keeps to these rules, after other players.
+    pub fn put_fresh(
+        alloc: Global,
+        rules: Rules,
+        players: &mut Vec<Self>,
+    ) -> Result<(), AllocError> {
         let Some(name) = AccountName::read(b"alice") else {
             return Err(AllocError);
         };
-        players.push(Player::new(alloc, &[name])?)?;
+        players.push(Player::new(alloc, rules, &[name])?)?;
         Ok(())
     }
 

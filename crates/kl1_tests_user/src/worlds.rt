@@ -5,7 +5,7 @@ use kl1_command::{Command, Parsed, command_in, put_lines};
 use kl1_command_lines::{NextRecord, is_same, next_record, split_line};
 use kl1_tests_rows::{Text, cut};
 use kl1_user_events::{Event, Reply};
-use kl1_world::AccountName;
+use kl1_world::{AccountName, Rules};
 use std::alloc::Global;
 
 /// An event, with its account's place among the names, from 0.
@@ -108,24 +108,30 @@ fn put_alone(out: &mut Text, names: &[AccountName], events: &[Deed], alone: &mut
     }
 }
 
-/// An account of each name, alone.
-fn each_alone(alloc: Global, names: &[AccountName]) -> Option<Vec<Player>> {
+/// An account of each name, alone, which keeps to these rules.
+fn each_alone(alloc: Global, rules: Rules, names: &[AccountName]) -> Option<Vec<Player>> {
     let mut alone = Vec::new(alloc);
     for name in names {
-        alone.push(Player::new(alloc, &[*name]).ok()?).ok()?;
+        alone.push(Player::new(alloc, rules, &[*name]).ok()?).ok()?;
     }
     Some(alone)
 }
 
-/// Whether a script's accounts answer so, together by at most `calls` calls and each alone; nothing if memory is refused elsewhere than
-/// in an event.
-fn is_right_once(alloc: Global, calls: u8, script: &[u8], wanted: &[u8]) -> Option<bool> {
+/// Whether a script's accounts, which keep to these rules, answer so, together by at most `calls` calls and each alone; nothing if memory
+/// is refused elsewhere than in an event.
+fn is_right_once(
+    alloc: Global,
+    rules: Rules,
+    calls: u8,
+    script: &[u8],
+    wanted: &[u8],
+) -> Option<bool> {
     let (line, records) = split_line(script);
     let accounts = accounts_of(alloc, line)?;
     let names = accounts.as_slice();
     let events = events_of(alloc, names, records)?;
-    let mut alone = each_alone(alloc, names)?;
-    let mut player = Player::new(alloc, names).ok()?;
+    let mut alone = each_alone(alloc, rules, names)?;
+    let mut player = Player::new(alloc, rules, names).ok()?;
     let mut together = Text::new(alloc);
     put_together(&mut together, names, events.as_slice(), &mut player, calls);
     let mut apart = Text::new(alloc);
@@ -136,11 +142,21 @@ fn is_right_once(alloc: Global, calls: u8, script: &[u8], wanted: &[u8]) -> Opti
     Some(together.bytes.as_slice() == wanted && apart.bytes.as_slice() == wanted)
 }
 
-/// Whether a script's accounts answer so, together by at most `calls` calls and each alone, also if memory is refused once, outside the
-/// calls if there is one alone. The first line has their names, parted by a space each, and each record is an event.
-pub fn is_world_right(alloc: Global, calls: u8, script: &[u8], wanted: &[u8]) -> bool {
-    match is_right_once(alloc, calls, script, wanted) {
+/// Whether a script's accounts, which keep to these rules, answer so, together by at most `calls` calls and each alone, also if memory is
+/// refused once, outside the calls if there is one alone. The first line has their names, parted by a space each, and each record is an
+/// event.
+pub fn is_world_right(
+    alloc: Global,
+    rules: Rules,
+    calls: u8,
+    script: &[u8],
+    wanted: &[u8],
+) -> bool {
+    match is_right_once(alloc, rules, calls, script, wanted) {
         Some(is_right) => is_right,
-        None => matches!(is_right_once(alloc, calls, script, wanted), Some(true)),
+        None => matches!(
+            is_right_once(alloc, rules, calls, script, wanted),
+            Some(true)
+        ),
     }
 }

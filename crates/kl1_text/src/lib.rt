@@ -1,4 +1,4 @@
-//! The names of the language as values: texts of at most 63 bytes, and what may stand in their place; numbers from digits.
+//! The names of the language as values: texts of at most 127 bytes, and what may stand in their place; numbers from digits.
 #![tactic(auto)]
 
 mod atom_no;
@@ -18,5 +18,6 @@ pub use built_ins::built_in_at;
 pub use cell_name::CellName;
 pub use decimals::decimal_up_to;
 pub use name_value::NameValue;
+pub use packing::{FULL_WORD, WORDS};
 pub use printing::{put_atom, put_int, put_name};
 pub use short_bytes::ShortBytes;

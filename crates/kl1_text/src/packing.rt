@@ -3,9 +3,15 @@
 ghost use Rattle.std.specs.Prelude.{◌≡◌, ◌^◌, ◌<◌, ◌≤◌, drop, IsTrue};
 ghost use Rattle.std.specs.List.{list_all};
 ghost use Rattle.kl1_model.specs.Text.{is_name_byte, is_text};
-ghost use Rattle.kl1_text.specs.Words.{number_of, words_of};
+ghost use Rattle.kl1_text.specs.Words.{name_words, number_of, words_of};
 
 use kl1_model::limits::MOST_NAME_BYTES;
+
+/// The words that hold a name: eight bytes each, so many that a zero byte is left after the longest name.
+pub const WORDS: usize = MOST_NAME_BYTES / 8 + 1;
+
+/// The least word of eight bytes of which the highest isn't zero: 256 ^ 7. A name ends in the first of its words that is less.
+pub const FULL_WORD: u64 = 1 << 56;
 
 /// Whether a byte may stand in a name.
 fn is_name_byte(byte: u8) -> bool
@@ -28,28 +34,21 @@ fn are_name_bytes(bytes: &[u8]) -> bool
     bytes.iter().all(|byte| is_name_byte(*byte))
 }
 
-/// The eight words that hold the bytes of a name.
-pub(crate) fn words_of(bytes: &[u8]) -> [u64; 8]
+/// The words that hold the bytes of a name.
+pub(crate) fn words_of(bytes: &[u8]) -> [u64; WORDS]
     requires { IsTrue (list_all is_name_byte bytes.now) }
-    ensures { result ≡ words_of 8 bytes.now }
+    ensures { result ≡ words_of name_words bytes.now }
 {
-    let b = behind(bytes);
-    let c = behind(b);
-    let d = behind(c);
-    let e = behind(d);
-    let f = behind(e);
-    let g = behind(f);
-    let h = behind(g);
-    [
-        number_of(bytes, 8),
-        number_of(b, 8),
-        number_of(c, 8),
-        number_of(d, 8),
-        number_of(e, 8),
-        number_of(f, 8),
-        number_of(g, 8),
-        number_of(h, 8),
-    ]
+    let mut words = [0u64; WORDS];
+    let mut rest = bytes;
+    for word in 0..WORDS {
+        if rest.is_empty() {
+            return words;
+        }
+        words[word] = number_of(rest, 8);
+        rest = behind(rest);
+    }
+    words
 }
 
 /// At most `count` bytes as a number, the first in the lowest place.

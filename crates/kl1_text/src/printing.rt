@@ -4,7 +4,7 @@ ghost use Rattle.std.specs.Prelude.{◌≡◌, ◌+◌, ◌*◌, ◌≤◌, ◌+
 ghost use Rattle.std.specs.Fmt.{signed_decimal};
 ghost use Rattle.std.specs.List.{list_all};
 ghost use Rattle.kl1_model.specs.Name.{is_bare, quoted, is_small_letter, is_word_byte, name_text, atom_text};
-ghost use Rattle.kl1_model.specs.Limits.{most_name_bytes};
+ghost use Rattle.kl1_model.specs.declared.limits.TheConstants.{MOST_NAME_BYTES};
 
 use crate::atom_text::AtomText;
 use crate::short_bytes::ShortBytes;
@@ -72,7 +72,7 @@ fn are_word_bytes(bytes: &[u8]) -> bool
 
 /// A name in quotes.
 pub(crate) fn quoted(bytes: &[u8]) -> ShortBytes
-    requires { length bytes.now ≤ most_name_bytes }
+    requires { length bytes.now ≤ MOST_NAME_BYTES }
     ensures { result ≡ quoted bytes.now }
 {
     let mut out = ShortBytes::new();

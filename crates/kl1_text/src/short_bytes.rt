@@ -3,22 +3,30 @@
 ghost use Rattle.std.specs.Prelude.{◌≡◌, ℕ, ◌+◌, ◌*◌, ◌<◌, ◌≤◌, List, [], ◌∷◌, ◌++◌, length, take};
 ghost use Rattle.kl1_model.specs.Name.{doubled};
 ghost use Rattle.kl1_text.specs.Words.{bytes_in};
+ghost use Rattle.kl1_text.specs.declared.short_bytes.TheConstants.{MOST_SHORT_BYTES};
 
+use kl1_model::limits::MOST_NAME_BYTES;
 use std::marker::Model;
 
-/// At most 128 bytes, held in the value itself.
+/// The most bytes in a row: those of the longest name in quotes, each byte of it twice.
+pub const MOST_SHORT_BYTES: usize = 2 * MOST_NAME_BYTES + 2;
+
+/// A few bytes, held in the value itself.
 #[derive(Drop)]
 pub struct ShortBytes {
-    bytes: [u8; 128],
+    bytes: [u8; MOST_SHORT_BYTES],
     length: usize,
 }
 
 impl Model for ShortBytes {
+    ghost use Rattle.std.specs.Prelude.{ℕ, ◌≤◌, List, take};
+    ghost use Rattle.kl1_text.specs.declared.short_bytes.TheConstants.{MOST_SHORT_BYTES};
+
     ghost Value = { List ℕ };
 
     ghost view = { λ s. take s.length s.bytes };
 
-    ghost invariant = { λ s. s.length ≤ 128 };
+    ghost invariant = { λ s. s.length ≤ MOST_SHORT_BYTES };
 }
 
 impl ShortBytes {
@@ -27,7 +35,7 @@ impl ShortBytes {
         ensures { result ≡ [] }
     {
         ShortBytes {
-            bytes: [0; 128],
+            bytes: [0; MOST_SHORT_BYTES],
             length: 0,
         }
     }
@@ -35,7 +43,7 @@ impl ShortBytes {
     /// How many bytes there are.
     pub fn len(&self) -> usize
         ensures value { result ≡ length self.now }
-        ensures short { result ≤ 128 }
+        ensures short { result ≤ MOST_SHORT_BYTES }
     {
         let ShortBytes { length, .. } = self;
         *length
@@ -50,7 +58,7 @@ impl ShortBytes {
 
     /// Puts a byte after the others.
     pub fn push(&mut self, byte: u8)
-        requires { length self.old < 128 }
+        requires { length self.old < MOST_SHORT_BYTES }
         ensures { self.new ≡ self.old ++ byte ∷ [] }
     {
         self.bytes[self.length] = byte;
@@ -59,7 +67,7 @@ impl ShortBytes {
 
     /// Puts bytes of `number` after the others: `count` of them, or up to the first zero.
     pub(crate) fn put_number(&mut self, number: u64, count: usize)
-        requires { length self.old + count ≤ 128 }
+        requires { length self.old + count ≤ MOST_SHORT_BYTES }
         ensures value { self.new ≡ self.old ++ bytes_in count number }
         ensures more { length self.new ≤ length self.old + count }
     {
@@ -72,7 +80,7 @@ impl ShortBytes {
 
     /// Puts bytes after the others, each quote twice.
     pub(crate) fn put_doubled(&mut self, bytes: &[u8])
-        requires { length self.old + 2 * length bytes.now ≤ 128 }
+        requires { length self.old + 2 * length bytes.now ≤ MOST_SHORT_BYTES }
         ensures value { self.new ≡ self.old ++ doubled bytes.now }
         ensures more { length self.new ≤ length self.old + 2 * length bytes.now }
     {

@@ -1,7 +1,7 @@
 // One account over a table of names and a source of codes.
 
 ghost use Rattle.std.specs.Prelude.{◌≡◌, ◌↔◌, ◌≤◌, ℕ, [], length, IfOk, IsOk, OnErr, IsTrue, option_map};
-ghost use Rattle.kl1_model.specs.Limits.{most_names};
+ghost use Rattle.kl1_model.specs.declared.limits.TheConstants.{MOST_NAMES};
 ghost use Rattle.kl1_model.specs.State.{fresh, fresh_with};
 ghost use Rattle.kl1_model.specs.Event.{reduce as reduce_event, read};
 ghost use Rattle.kl1_model.specs.Step.{step};
@@ -16,7 +16,9 @@ ghost use Rattle.kl1_user_events.specs.Whole.{whole_value};
 use kl1_atoms::AtomSource;
 use kl1_codes::CodeSource;
 use kl1_text::AtomText;
-use kl1_user_account::{Account, AccountName, ClauseNo, Event, GoalNo, Query, Refusal, Reply};
+use kl1_user_account::{
+    Account, AccountName, ClauseNo, Event, GoalNo, Query, Refusal, Reply, Rules,
+};
 use std::alloc::{AllocError, Global};
 use std::marker::{Model, PhantomData};
 
@@ -45,13 +47,13 @@ impl<A: AtomSource, C: CodeSource> Model for UserState<A, C> {
 }
 
 impl<A: AtomSource, C: CodeSource> UserState<A, C> {
-    /// An account of this name in which nothing has happened.
-    pub fn fresh(alloc: Global, name: AccountName) -> Result<Self, AllocError>
-        ensures fresh { IfOk result (λ user. (f : Reading) → state_of f user ≡ fresh name) }
+    /// An account of this name, which keeps to these rules, in which nothing has happened.
+    pub fn fresh(alloc: Global, name: AccountName, rules: Rules) -> Result<Self, AllocError>
+        ensures fresh { IfOk result (λ user. (f : Reading) → state_of f user ≡ fresh rules name) }
         ensures names { IfOk result (λ user. user.names ≡ []) }
         ensures modules { IfOk result (λ user. user.modules ≡ []) }
     {
-        let account = Account::fresh(alloc, name)?;
+        let account = Account::fresh(alloc, name, rules)?;
         Ok(UserState {
             account,
             source: PhantomData,
@@ -59,11 +61,12 @@ impl<A: AtomSource, C: CodeSource> UserState<A, C> {
         })
     }
 
-    /// An account of this name in which nothing has happened but that it has used `texts`, and that `sessions` sessions are open. The
-    /// seat knows no name before it and these after it; if memory is refused, it knows none.
+    /// An account of this name, which keeps to these rules, in which nothing has happened but that it has used `texts`, and that
+    /// `sessions` sessions are open. The seat knows no name before it and these after it; if memory is refused, it knows none.
     pub fn with_names(
         alloc: Global,
         name: AccountName,
+        rules: Rules,
         sessions: u64,
         names: &mut A,
         seat: &mut A::Seat,
@@ -72,14 +75,14 @@ impl<A: AtomSource, C: CodeSource> UserState<A, C> {
         requires of { A.is_of names.old seat.old }
         requires knows { A.knows seat.old ≡ [] }
         requires list { IsNameList texts.now }
-        requires few { length texts.now ≤ most_names }
-        ensures fresh { IfOk result (λ user. (f : Reading) → state_of f user ≡ fresh_with name texts.now sessions) }
+        requires few { length texts.now ≤ MOST_NAMES }
+        ensures fresh { IfOk result (λ user. (f : Reading) → state_of f user ≡ fresh_with rules name texts.now sessions) }
         ensures knows { IfOk result (λ user. A.knows seat.new ≡ user.names) }
         ensures modules { IfOk result (λ user. user.modules ≡ []) }
         ensures keeps { Keeps A.is_of A.place A.knows A.published names.old names.new seat.old seat.new }
         ensures seat { OnErr result (A.knows seat.new ≡ []) }
     {
-        let account = Account::with_names(alloc, name, sessions, names, seat, texts)?;
+        let account = Account::with_names(alloc, name, rules, sessions, names, seat, texts)?;
         Ok(UserState {
             account,
             source: PhantomData,
@@ -113,7 +116,7 @@ impl<A: AtomSource, C: CodeSource> UserState<A, C> {
             Event::Reduce { goal, clause } => Ok(reply_to(
                 self.account.reduce(names, seat, codes, goal.0, clause.0)?,
             )),
-            Event::Read(query) => self.answer(names, seat, codes, *query),
+            Event::Read(query) => self.tell(names, seat, codes, *query),
             Event::Load { source } => self.account.load(names, seat, codes, source.as_slice()),
             Event::Start {
                 allowance,
@@ -123,6 +126,13 @@ impl<A: AtomSource, C: CodeSource> UserState<A, C> {
             } => self
                 .account
                 .start(names, seat, codes, *allowance, *low, *high, goal),
+            Event::Answer {
+                shoen,
+                report,
+                goal,
+            } => self
+                .account
+                .answer(names, seat, codes, shoen.0, *report, goal),
             Event::Control { shoen, message } => self.account.send(codes, shoen.0, *message),
             Event::Login => Ok(self.account.login()),
             Event::Logout => Ok(self.account.logout()),
@@ -134,7 +144,7 @@ impl<A: AtomSource, C: CodeSource> UserState<A, C> {
     }
 
     /// What is answered to a query, which changes nothing.
-    fn answer(
+    fn tell(
         &self,
         names: &mut A,
         seat: &mut A::Seat,

@@ -6,7 +6,7 @@ use Rattle.kl1_store.specs.Hooks.{Hook, Kept, HasGrown}
 use Rattle.kl1_store.specs.Held.{Held}
 use Rattle.kl1_goals.specs.declared.goal.Goal.{Goal}
 use Rattle.kl1_shoen_paths.specs.declared.shoen.Shoen.{Shoen}
-use Rattle.kl1_codes_modules.specs.Numbered.{Numbered}
+use Rattle.kl1_codes_modules.specs.Shelves.{Program}
 use Rattle.kl1_store_hooks.specs.Hanging.{AreAmong}
 use Rattle.kl1_store_hooks.proofs.Hooked.{HasGrown-same, HasGrown-trans, grown_among}
 use Rattle.kl1_user_effects.specs.Fitting.{Reading}
@@ -18,8 +18,8 @@ use Rattle.kl1_user_account.proofs.SettledStays.{settled_more}
 use Rattle.kl1_user_account.proofs.Restood.{each_is}
 
 -- goals that are settled are so if more hangs
-pub all_more : (f : Reading) (hooks more : List Hook) (h : Held CellName) (ms : List Numbered) (shoens : List (Shoen CellName)) (gs : List (Goal CellName)) → AreAmong hooks more → AreSettled f hooks h ms shoens gs → AreSettled f more h ms shoens gs
-all_more f hooks more h ms shoens gs up all = each_is (IsSettled f hooks h ms shoens) (IsSettled f more h ms shoens) gs (λ g s. settled_more f hooks more h ms shoens g up s) all
+pub all_more : (f : Reading) (hooks more : List Hook) (h : Held CellName) (program : Program) (shoens : List (Shoen CellName)) (gs : List (Goal CellName)) → AreAmong hooks more → AreSettled f hooks h program shoens gs → AreSettled f more h program shoens gs
+all_more f hooks more h program shoens gs up all = each_is (IsSettled f hooks h program shoens) (IsSettled f more h program shoens) gs (λ g s. settled_more f hooks more h program shoens g up s) all
 
 -- ---- the first of goals
 
@@ -61,18 +61,18 @@ nth_in h (g ∷ gs) (suc k) d all lt = nth_in h gs k d all.1 (omega arith)
 -- ---- one goal after another
 
 -- a store that holds what it held, and goals of which `k` were looked at
-pub record StillLooks (ms : List Numbered) (shoens : List (Shoen CellName)) (work : List ℕ) (old new : Kept CellName) (k : ℕ) (before now : List (Goal CellName)) : Type 0 where
+pub record StillLooks (program : Program) (shoens : List (Shoen CellName)) (work : List ℕ) (old new : Kept CellName) (k : ℕ) (before now : List (Goal CellName)) : Type 0 where
   pub held : new.held ≡ old.held
   pub grown : HasGrown old new
   pub count : length now ≡ length before
   pub same : map unlooked now ≡ map unlooked before
   pub inside : AreGoalsIn old.held now
-  pub settled : (f : Reading) → Knows ms f → FirstAre (IsSettled f new.hooks old.held ms shoens) k now
+  pub settled : (f : Reading) → Knows program.loaded f → FirstAre (IsSettled f new.hooks old.held program shoens) k now
   pub enabled : FirstAre (IsEnabled shoens work) k now
 
 -- nothing was looked at yet
-pub none_looked : (ms : List Numbered) (shoens : List (Shoen CellName)) (work : List ℕ) (k : Kept CellName) (gs : List (Goal CellName)) → AreGoalsIn k.held gs → StillLooks ms shoens work k k 0 gs gs
-none_looked ms shoens work k gs i = record { held = refl; grown = HasGrown-same k; count = refl; same = refl; inside = i; settled = λ f knows. tt; enabled = tt }
+pub none_looked : (program : Program) (shoens : List (Shoen CellName)) (work : List ℕ) (k : Kept CellName) (gs : List (Goal CellName)) → AreGoalsIn k.held gs → StillLooks program shoens work k k 0 gs gs
+none_looked program shoens work k gs i = record { held = refl; grown = HasGrown-same k; count = refl; same = refl; inside = i; settled = λ f knows. tt; enabled = tt }
 
 set_length : (k : ℕ) (gs : List (Goal CellName)) (x : Goal CellName) → length (slice_set gs k x) ≡ length gs
 set_length k [] x = refl
@@ -80,10 +80,10 @@ set_length zero (g ∷ gs) x = refl
 set_length (suc k) (g ∷ gs) x = ap suc (set_length k gs x)
 
 -- one more was looked at
-pub next_looked : (ms : List Numbered) (shoens : List (Shoen CellName)) (work : List ℕ) (old mid new : Kept CellName) (k : ℕ) (before now : List (Goal CellName)) (d x : Goal CellName) → k < length now → StillLooks ms shoens work old mid k before now →
-    new.held ≡ mid.held → HasGrown mid new → LooksAtOne ms shoens work mid.held new.hooks (get_or now k d) x → StillLooks ms shoens work old new (suc k) before (slice_set now k x)
-next_looked ms shoens work old mid new k before now d x lt s same grown l =
-    let F : Held CellName → Type 0 = λ h. LooksAtOne ms shoens work h new.hooks (get_or now k d) x in
+pub next_looked : (program : Program) (shoens : List (Shoen CellName)) (work : List ℕ) (old mid new : Kept CellName) (k : ℕ) (before now : List (Goal CellName)) (d x : Goal CellName) → k < length now → StillLooks program shoens work old mid k before now →
+    new.held ≡ mid.held → HasGrown mid new → LooksAtOne program shoens work mid.held new.hooks (get_or now k d) x → StillLooks program shoens work old new (suc k) before (slice_set now k x)
+next_looked program shoens work old mid new k before now d x lt s same grown l =
+    let F : Held CellName → Type 0 = λ h. LooksAtOne program shoens work h new.hooks (get_or now k d) x in
     let one : F old.held = subst F s.held l in
     let t : (get_or now k d).task ≡ x.task = ap (λ (g : Goal CellName). g.task) (sym one.same) in
     let up : AreAmong mid.hooks new.hooks = grown_among mid new grown in
@@ -94,20 +94,20 @@ next_looked ms shoens work old mid new k before now d x lt s same grown l =
       same = set_unlooked k now d x one.same ∙ s.same;
       inside = set_in old.held k now x s.inside (subst (IsTaskIn old.held) t (nth_in old.held now k d s.inside lt));
       settled = λ f knows.
-          first_more (IsSettled f new.hooks old.held ms shoens) k now x
-          (first_are (IsSettled f mid.hooks old.held ms shoens) (IsSettled f new.hooks old.held ms shoens) k now (λ g r. settled_more f mid.hooks new.hooks old.held ms shoens g up r) (s.settled f knows))
+          first_more (IsSettled f new.hooks old.held program shoens) k now x
+          (first_are (IsSettled f mid.hooks old.held program shoens) (IsSettled f new.hooks old.held program shoens) k now (λ g r. settled_more f mid.hooks new.hooks old.held program shoens g up r) (s.settled f knows))
           (one.settled f knows);
       enabled = first_more (IsEnabled shoens work) k now x s.enabled one.enabled;
     }
 
 -- and all were looked at in the end
-pub all_looked : (ms : List Numbered) (shoens : List (Shoen CellName)) (work : List ℕ) (old new : Kept CellName) (k : ℕ) (before now : List (Goal CellName)) → k ≡ length now → StillLooks ms shoens work old new k before now →
-    LooksAtAdded ms shoens work old.held new.hooks before now
-all_looked ms shoens work old new k before now e s =
-    let N : ℕ → Type 0 = λ n. StillLooks ms shoens work old new n before now in
+pub all_looked : (program : Program) (shoens : List (Shoen CellName)) (work : List ℕ) (old new : Kept CellName) (k : ℕ) (before now : List (Goal CellName)) → k ≡ length now → StillLooks program shoens work old new k before now →
+    LooksAtAdded program shoens work old.held new.hooks before now
+all_looked program shoens work old new k before now e s =
+    let N : ℕ → Type 0 = λ n. StillLooks program shoens work old new n before now in
     let r : N (length now) = subst N e s in
     record {
       same = r.same;
-      settled = λ f knows. first_all (IsSettled f new.hooks old.held ms shoens) now (r.settled f knows);
+      settled = λ f knows. first_all (IsSettled f new.hooks old.held program shoens) now (r.settled f knows);
       enabled = first_all (IsEnabled shoens work) now r.enabled;
     }

@@ -9,24 +9,25 @@ use Rattle.kl1_model.specs.Term.{Term}
 use Rattle.kl1_model.specs.Match.{call_of}
 use Rattle.kl1_model.specs.Control.{Control, awaits_message, tells, tells_other, ends, breaks_off, control_of}
 use Rattle.kl1_model.specs.Tree.{is_enabled, is_enabled_in}
-use Rattle.kl1_model.specs.Reduction.{Move, moves, term_move, read_action, monitor_action, task_action, action_of}
-use Rattle.kl1_model.specs.code.Waits.{move_by}
+use Rattle.kl1_model.specs.Look.{Look, right, waits_on, wrong, goal_look}
+use Rattle.kl1_model.specs.Reduction.{Move, moves, substitute_move, term_move, read_action, monitor_action, task_action, action_of}
+use Rattle.kl1_model.specs.code.Waits.{move_by, look_clause}
 use Rattle.kl1_model.specs.Choice.{call_clauses, task_clauses, clause_for, can_step, quiet, goes_before, first_of_goals, Chosen, chosen, first}
 use Rattle.kl1_store.specs.Held.{Held}
 use Rattle.kl1_store.specs.Hooks.{Hook}
 use Rattle.kl1_text.specs.declared.cell_name.CellName.{CellName}
 use Rattle.kl1_goals.specs.declared.task.Task.{Task}
-use Rattle.kl1_goals.specs.declared.task.Task.TheVariants.{Monitor, Reduces}
+use Rattle.kl1_goals.specs.declared.task.Task.TheVariants.{Monitor, Reduces, Substitutes}
 use Rattle.kl1_goals.specs.declared.goal.Goal.{Goal}
 use Rattle.kl1_goals.specs.Lists.{is_monitor_task, is_monitor}
 use Rattle.kl1_shoen_paths.specs.declared.shoen.Shoen.{Shoen}
 use Rattle.kl1_shoen.specs.Shoens.{shoen_in}
 use Rattle.kl1_shoen.proofs.Meaning.{Has, enabled_is}
 use Rattle.kl1_goals.specs.Readies.{Ready, goes_first, stands, ready_by, ready_of, better, first_from, chosen as chosen_pair}
-use Rattle.kl1_codes_modules.specs.Numbered.{Numbered}
 use Rattle.kl1_codes_modules.specs.Finding.{contents}
+use Rattle.kl1_codes_modules.specs.Shelves.{Program}
 use Rattle.kl1_user_effects.specs.Fitting.{Reading, Fits}
-use Rattle.kl1_user_effects.specs.Account.{Account, Means, meaning, aim_with, goal_with, task_with, shoen_with, state_of}
+use Rattle.kl1_user_effects.specs.Account.{Account, program_of, Means, meaning, aim_with, goal_with, task_with, shoen_with, state_of}
 use Rattle.kl1_user_effects.specs.Settled.{front_with, control_with, control_clause, monitor_clause, task_clause, IsSettled, AreSettled, IsEnabled, AreEnabled}
 
 -- ---- one goal before another
@@ -351,14 +352,21 @@ shoen_found : (t : Means) (n : ℕ) (ss : List (Shoen CellName)) → shoen_at n 
 shoen_found t n [] = refl
 shoen_found t n (s ∷ ss) = found_first t n s ss (s.number == n) (shoen_found t n ss)
 
+-- what a substitute can do by its one clause is allowed unless it waits
+substitute_found : (u : Term) (l : Look) → find (λ c. is_some (if c == 0 then option_map (moves u) (substitute_move l) else None)) (0 ∷ []) ≡ look_clause l
+substitute_found u right = refl
+substitute_found u (waits_on v) = refl
+substitute_found u wrong = refl
+
 -- the clause by which a task could step is the first that is allowed
 clause_found : (s : State) (t : Means) (shoens : List (Shoen CellName)) (n : ℕ) (k : Task CellName) → s.shoens ≡ map (shoen_with t) shoens →
-    find (λ c. is_some (task_action s n (task_with t k) c)) (task_clauses s.modules (task_with t k)) ≡ task_clause s.modules (control_with t shoens n) (task_with t k)
+    find (λ c. is_some (task_action s n (task_with t k) c)) (task_clauses s.modules (task_with t k)) ≡ task_clause s.rules s.modules (control_with t shoens n) (task_with t k)
 clause_found s t shoens n Monitor e =
     ap (λ hs. find (λ c. is_some (monitor_action (shoen_at n hs) c)) (0 ∷ [])) e ∙ ap (λ h. find (λ c. is_some (monitor_action h c)) (0 ∷ [])) (shoen_found t n shoens) ∙ found_clause t (shoen_in n shoens)
 clause_found s t shoens n (Reduces x) e =
     let u = aim_with t x in
-    find_alike (λ c. is_some (option_map (moves u) (term_move s.modules u c (call_of u)))) (λ c. is_some (move_by s.modules u c)) (λ c. some_moves u (term_move s.modules u c (call_of u))) (0 ∷ call_clauses s.modules (call_of u))
+    find_alike (λ c. is_some (option_map (moves u) (term_move s.rules s.modules u c (call_of u)))) (λ c. is_some (move_by s.rules s.modules u c)) (λ c. some_moves u (term_move s.rules s.modules u c (call_of u))) (0 ∷ call_clauses s.modules (call_of u))
+clause_found s t shoens n (Substitutes x) e = substitute_found (t x) (goal_look (t x))
 
 -- if goals may step, it is by that clause
 clause_enabled : (s : State) (g : model.Goal) (b : Bool) (o : Option ℕ) → is_enabled s g ≡ b → find (λ c. is_some (task_action s g.shoen g.task c)) (task_clauses s.modules g.task) ≡ o → clause_for s g ≡ (if b then o else None)
@@ -376,20 +384,21 @@ enabled_read f h shoens work s g e w is =
     by_task : (k : Task CellName) → (model.is_monitor (task_with (meaning f h) k) || is_enabled_in s g.shoen) ≡ (is_monitor_task k || is_enabled_in s g.shoen)
     by_task Monitor = refl
     by_task (Reduces x) = refl
+    by_task (Substitutes x) = refl
 
 -- a goal that is settled, and may step as the shoens have it, stands
-pub one_stands : (f : Reading) (hooks : List Hook) (h : Held CellName) (modules : List Numbered) (shoens : List (Shoen CellName)) (work : List ℕ) (s : State) (g : Goal CellName) → s.shoens ≡ map (shoen_with (meaning f h)) shoens → s.work ≡ work → s.modules ≡ contents modules →
-    IsSettled f hooks h modules shoens g → IsEnabled shoens work g → IsStanding s (meaning f h) g
-one_stands f hooks h modules shoens work s g e w m settled enabled =
+pub one_stands : (f : Reading) (hooks : List Hook) (h : Held CellName) (program : Program) (shoens : List (Shoen CellName)) (work : List ℕ) (s : State) (g : Goal CellName) → s.shoens ≡ map (shoen_with (meaning f h)) shoens → s.work ≡ work → s.rules ≡ program.rules → s.modules ≡ contents program.loaded →
+    IsSettled f hooks h program shoens g → IsEnabled shoens work g → IsStanding s (meaning f h) g
+one_stands f hooks h program shoens work s g e w p m settled enabled =
     let t = meaning f h in
-    let found = clause_found s t shoens g.shoen g.task e ∙ ap (λ ms. task_clause ms (control_with t shoens g.shoen) (task_with t g.task)) m ∙ sym settled.standing in
+    let found = clause_found s t shoens g.shoen g.task e ∙ ap (λ r. task_clause r s.modules (control_with t shoens g.shoen) (task_with t g.task)) p ∙ ap (λ ms. task_clause program.rules ms (control_with t shoens g.shoen) (task_with t g.task)) m ∙ sym settled.standing in
     clause_enabled s (goal_with t g) g.is_enabled g.standing (enabled_read f h shoens work s g e w enabled) found
 
 -- goals that are settled, and may step as the shoens have it, stand
-pub all_stand : (f : Reading) (hooks : List Hook) (h : Held CellName) (modules : List Numbered) (shoens : List (Shoen CellName)) (work : List ℕ) (s : State) (gs : List (Goal CellName)) → s.shoens ≡ map (shoen_with (meaning f h)) shoens → s.work ≡ work → s.modules ≡ contents modules →
-    AreSettled f hooks h modules shoens gs → AreEnabled shoens work gs → AreStanding s (meaning f h) gs
-all_stand f hooks h modules shoens work s [] e w m all may = tt
-all_stand f hooks h modules shoens work s (g ∷ gs) e w m all may = (one_stands f hooks h modules shoens work s g e w m all.0 may.0, all_stand f hooks h modules shoens work s gs e w m all.1 may.1)
+pub all_stand : (f : Reading) (hooks : List Hook) (h : Held CellName) (program : Program) (shoens : List (Shoen CellName)) (work : List ℕ) (s : State) (gs : List (Goal CellName)) → s.shoens ≡ map (shoen_with (meaning f h)) shoens → s.work ≡ work → s.rules ≡ program.rules → s.modules ≡ contents program.loaded →
+    AreSettled f hooks h program shoens gs → AreEnabled shoens work gs → AreStanding s (meaning f h) gs
+all_stand f hooks h program shoens work s [] e w p m all may = tt
+all_stand f hooks h program shoens work s (g ∷ gs) e w p m all may = (one_stands f hooks h program shoens work s g e w p m all.0 may.0, all_stand f hooks h program shoens work s gs e w p m all.1 may.1)
 
 -- ---- of an account
 
@@ -403,10 +412,10 @@ shown_pairs (Some r) = refl
 
 -- goals of an account that are settled for each reading of its names
 abbrev pub AreSettledIn : Account → List Hook → Type 0
-AreSettledIn a hooks = (g : Reading) → Fits a.names g → AreSettled g hooks a.held a.modules a.shoens a.goals
+AreSettledIn a hooks = (g : Reading) → Fits a.names g → AreSettled g hooks a.held (program_of a) a.shoens a.goals
 
-stand_in : (f : Reading) (a : Account) (hooks : List Hook) → AreSettled f hooks a.held a.modules a.shoens a.goals → AreEnabled a.shoens a.work a.goals → AreStanding (state_of f a) (meaning f a.held) a.goals
-stand_in f a hooks settled enabled = all_stand f hooks a.held a.modules a.shoens a.work (state_of f a) a.goals refl refl refl settled enabled
+stand_in : (f : Reading) (a : Account) (hooks : List Hook) → AreSettled f hooks a.held (program_of a) a.shoens a.goals → AreEnabled a.shoens a.work a.goals → AreStanding (state_of f a) (meaning f a.held) a.goals
+stand_in f a hooks settled enabled = all_stand f hooks a.held (program_of a) a.shoens a.work (state_of f a) a.goals refl refl refl refl settled enabled
 
 -- what the table picks is the definition's first
 pub picks : (f : Reading) (a b : Account) (hooks : List Hook) (o : Option (ℕ × ℕ)) → a ≡ b → AreSettledIn a hooks → AreEnabled a.shoens a.work a.goals → o ≡ option_map chosen_pair (first_from None a.goals) → Fits b.names f → option_map chosen_by o ≡ first (state_of f b)

@@ -19,8 +19,8 @@ use Rattle.kl1_goals_moves.specs.declared.kind.Kind.{Kind}
 use Rattle.kl1_goals_moves.specs.Kinds.{IsKind}
 use Rattle.kl1_goals_moves.specs.Moves.{HasPredicate}
 use Rattle.kl1_goals_moves.specs.Standing.{StandsAs}
-use Rattle.kl1_codes_modules.specs.Numbered.{Numbered}
 use Rattle.kl1_codes_modules.specs.Finding.{contents}
+use Rattle.kl1_codes_modules.specs.Shelves.{Program}
 use Rattle.kl1_user_effects.specs.Fitting.{Reading, built}
 use Rattle.kl1_user_effects.specs.Account.{meaning}
 use Rattle.kl1_user_effects.specs.Works.{Knows}
@@ -35,19 +35,19 @@ use Rattle.kl1_user_account.specs.Starting.{OpensStreams, Judges, IsDrafted}
 use Rattle.kl1_user_effects.proofs.States.{in_grown}
 
 -- the clause by which the goal that was built can step
-pub judges : (ms : List Numbered) (numbers : List CellName) (row : List Instruction) (cells was : List (Cell CellName)) (h old mid : Held CellName) (x : Cell CellName) (kind : Kind CellName) (p : Predicate CellName) (awaited : List ℕ) (standing : Option ℕ) →
+pub judges : (program : Program) (numbers : List CellName) (row : List Instruction) (cells was : List (Cell CellName)) (h old mid : Held CellName) (x : Cell CellName) (kind : Kind CellName) (p : Predicate CellName) (awaited : List ℕ) (standing : Option ℕ) →
     was ≡ cells → old ≡ h → BuildsGoal built numbers row was old mid x → ((f : Reading) → Reads built f → IsKind f mid (meaning f mid x) kind) →
-    ((f : Reading) → Knows ms f → (k : Held CellName) (t : Term) → IsKind f k t kind → HasPredicate f k (contents ms) kind p) →
-    ((f : Reading) → Reads built f → (modules : List Module) (t : Term) → IsKind f mid t kind → HasPredicate f mid modules kind p → StandsAs modules t awaited standing) →
-    Judges ms numbers row cells h awaited standing
-judges ms numbers row cells was h old mid x kind p awaited standing same before b is_kind has stands = λ f knows goal is numbered last vars.
+    ((f : Reading) → Knows program.loaded f → (k : Held CellName) (t : Term) → IsKind f k t kind → HasPredicate f k (contents program.loaded) kind p) →
+    ((f : Reading) → Reads built f → (modules : List Module) (t : Term) → IsKind f mid t kind → HasPredicate f mid modules kind p → StandsAs program.rules modules t awaited standing) →
+    Judges program numbers row cells h awaited standing
+judges program numbers row cells was h old mid x kind p awaited standing same before b is_kind has stands = λ f knows goal is numbered last vars.
     let C : List (Cell CellName) → Type 0 = λ z. AreGoalVariables h last (highest goal) z in
     let O : Held CellName → Type 0 = λ z. AreGoalVariables z last (highest goal) was in
     let v = subst O (sym before) (subst C (sym same) vars) in
     let means : meaning f mid x ≡ with_next_variables last goal = (b.built_is f knows.reads goal is).next numbered last v.next v.free in
-    let S : Term → Type 0 = λ t. StandsAs (contents ms) t awaited standing in
+    let S : Term → Type 0 = λ t. StandsAs program.rules (contents program.loaded) t awaited standing in
     let k = is_kind f knows.reads in
-    subst S means (stands f knows.reads (contents ms) (meaning f mid x) k (has f knows mid (meaning f mid x) k))
+    subst S means (stands f knows.reads (contents program.loaded) (meaning f mid x) k (has f knows mid (meaning f mid x) k))
 
 -- a variable that is unbound in a store with the same variables and bindings
 pub unbound_one : (h k : Held CellName) (v : ℕ) → k.variables ≡ h.variables → k.bindings ≡ h.bindings → IsUnbound k v → IsUnbound h v
@@ -68,25 +68,25 @@ cells_grown h k g [] i = tt
 cells_grown h k g (x ∷ xs) i = (in_grown h k g x i.0, cells_grown h k g xs i.1)
 
 -- a start that was drafted
-pub drafted : (ms : List Numbered) (names : List Known) (texts : List (List ℕ)) (row : List Instruction) (count allowance made : ℕ) (old one two new : Held CellName) (was cells : List (Cell CellName)) (numbers sliced : List CellName) (awaited : List ℕ) (streams : Streams) (standing : Option ℕ) →
+pub drafted : (program : Program) (names : List Known) (texts : List (List ℕ)) (row : List Instruction) (count allowance made : ℕ) (old one two new : Held CellName) (was cells : List (Cell CellName)) (numbers sliced : List CellName) (awaited : List ℕ) (streams : Streams) (standing : Option ℕ) →
     one ≡ with_variables old count → AreGoalVariables one (old.variables - 1) count was → OpensStreams allowance made one two streams → Grown one two → new ≡ two → cells ≡ was →
-    (AreNames names → AreSmall names → ReadsDraft names texts numbers) → sliced ≡ numbers → Judges ms sliced row was two awaited standing → AreUnbound two awaited →
-    IsDrafted ms names texts row count allowance made old new cells awaited (record { streams = streams; standing = standing })
-drafted ms names texts row count allowance made old one two new was cells numbers sliced awaited streams standing e v o g back same draft items judge unbound =
+    (AreNames names → AreSmall names → ReadsDraft names texts numbers) → sliced ≡ numbers → Judges program sliced row was two awaited standing → AreUnbound two awaited →
+    IsDrafted program names texts row count allowance made old new cells awaited (record { streams = streams; standing = standing })
+drafted program names texts row count allowance made old one two new was cells numbers sliced awaited streams standing e v o g back same draft items judge unbound =
     let last = old.variables - 1 in
     let o1 : Opening = record { streams = streams; standing = standing } in
     let here : AreGoalVariables two last count was = record { inside = cells_grown one two g was v.inside; next = v.next; free = λ w a b. ap (λ bs. is_bound (last + w) bs) o.bindings ∙ v.free w a b } in
-    let there : IsDrafted ms names texts row count allowance made old two was awaited o1 = record {
+    let there : IsDrafted program names texts row count allowance made old two was awaited o1 = record {
       streams = (let P : Held CellName → Type 0 = λ h. OpensStreams allowance made h two streams in subst P e o);
       variables = here;
       judged = λ named small read goal is numbered many.
           let d = draft named small in
           let R : List (List ℕ) → Type 0 = λ ts. IsRowOf ts row (nodes_of goal) in
-          let J : List CellName → Type 0 = λ ns. Judges ms ns row was two awaited standing in
+          let J : List CellName → Type 0 = λ ns. Judges program ns row was two awaited standing in
           let V : ℕ → Type 0 = λ n. AreGoalVariables two last n was in
           subst J items judge d.reading (record { reads = d.fits.reads; rows = read d.reading d.fits }) goal (subst R (sym d.reads) is) numbered last (subst V many here);
       unbound = unbound;
     } in
-    let N : Held CellName → Type 0 = λ h. IsDrafted ms names texts row count allowance made old h was awaited o1 in
-    let C : List (Cell CellName) → Type 0 = λ xs. IsDrafted ms names texts row count allowance made old new xs awaited o1 in
+    let N : Held CellName → Type 0 = λ h. IsDrafted program names texts row count allowance made old h was awaited o1 in
+    let C : List (Cell CellName) → Type 0 = λ xs. IsDrafted program names texts row count allowance made old new xs awaited o1 in
     subst C (sym same) (subst N (sym back) there)

@@ -9,7 +9,7 @@ use Rattle.kl1_model.specs.Tree.{charge}
 use Rattle.kl1_model.specs.Ending.{settle, after_reduction}
 use Rattle.kl1_model.specs.Event.{reduce, reduced, with_entry, Transition}
 use Rattle.kl1_model.specs.Step.{step}
-use Rattle.kl1_model.specs.code.Waits.{move_by}
+use Rattle.kl1_model.specs.Reduction as reduction
 use Rattle.kl1_model.specs.Reduction.{moves, moved, heard, names}
 use Rattle.kl1_text.specs.declared.cell_name.CellName.{CellName}
 use Rattle.kl1_atoms.specs.declared.known.Known.{Known}
@@ -25,9 +25,8 @@ use Rattle.kl1_clause.specs.declared.predicate.Predicate.{Predicate}
 use Rattle.kl1_match.specs.declared.place.Place.{Place}
 use Rattle.kl1_goals_moves.specs.declared.moves.Move.{Move}
 use Rattle.kl1_goals_moves.specs.declared.moves.Move.TheVariants as made
-use Rattle.kl1_goals_moves.specs.Moves.{MoveIn}
-use Rattle.kl1_goals.specs.declared.task.Task.{Task}
-use Rattle.kl1_goals.specs.declared.task.Task.TheVariants.{Monitor, Reduces}
+use Rattle.kl1_goals_moves.specs.Moves.{IsMove, MoveIn}
+use Rattle.kl1_goals.specs.declared.task.Task.TheVariants.{Monitor}
 use Rattle.kl1_goals.specs.declared.goal.Goal.{Goal}
 use Rattle.kl1_goals.specs.Lists.{has_number, is_other}
 use Rattle.kl1_shoen.specs.Shoens.{Tree}
@@ -36,7 +35,7 @@ use Rattle.kl1_codes_modules.specs.Finding.{contents}
 use Rattle.kl1_user_effects.specs.declared.draft.Draft.{Draft}
 use Rattle.kl1_user_effects.specs.declared.draft.Spelled.{Spelled}
 use Rattle.kl1_user_effects.specs.Fitting.{Reading, Fits}
-use Rattle.kl1_user_effects.specs.Account.{Account, Means, meaning, task_with, goal_with, aim, aim_with, state_of, texts_of}
+use Rattle.kl1_user_effects.specs.Account.{Account, program_of, Means, meaning, task_with, goal_with, aim, state_of, texts_of}
 use Rattle.kl1_user_effects.specs.Kept.{IsTaskIn, IsOwned}
 use Rattle.kl1_user_effects.specs.Works.{Made, IsMadeIn, Knows, worked}
 use Rattle.kl1_user_effects.specs.Calling.{keeps_names, name_of}
@@ -46,11 +45,11 @@ use Rattle.kl1_user_account.specs.Keeping.{IsKept}
 use Rattle.kl1_user_steps.specs.Acting.{Reads}
 use Rattle.kl1_user_effects.specs.Moving.{name_for}
 use Rattle.kl1_user_steps.specs.Spelling.{IsNamedBy, IsPublishedBy, Does, ReadsAll, ReadsNew, ReadsText, Respells}
-use Rattle.kl1_user_account.specs.Reducing.{IsSteppable, IsMade, HeardAs, move_at}
+use Rattle.kl1_user_account.specs.Reducing.{IsSteppable, IsToMake, HeardAs, task_move, move_of_task}
 use Rattle.kl1_user_account.proofs.LookedAt.{filter_holds}
 use Rattle.kl1_user_account.proofs.Named.{IsAtomAt, atom_at, otherwise, otherwise_fits, otherwise_other, both_read, first_read, second_read, as_modules, fits_modules, modules_fit}
 use Rattle.kl1_user_account.proofs.PutIn.{made_first, begun_made, begun_state, begun_whole}
-use Rattle.kl1_user_account.proofs.Steps.{found_holds, steps_on, goal_does}
+use Rattle.kl1_user_account.proofs.Steps.{found_holds, steps_on, task_does}
 
 -- a reduction of an account comes to what is made of it, with the cells of a store
 pub record ComesTo (a : Account) (n c : ℕ) (f : Reading) (h : Held CellName) (w : Made) : Type 0 where
@@ -69,7 +68,7 @@ pub fits_knows : (a : Account) (hooks : List Hook) (known : ℕ) (f : Reading) �
 fits_knows a hooks known f kept fits = record { reads = fits.reads; rows = kept.rows f fits }
 
 -- what a draft that has begun makes of an account has the cells of its store
-pub begun_inside : (a : Account) (hooks : List Hook) (known removed : ℕ) (t : Tree CellName) (d : Draft) → IsKept a hooks known → t.shoens ≡ a.shoens → t.work ≡ a.work → IsBegun removed a.last_goal a.variables a.nodes a.reports d → IsMadeIn a.held (made_of a.goals (texts_of a.names) t d)
+pub begun_inside : (a : Account) (hooks : List Hook) (known removed : ℕ) (t : Tree CellName) (d : Draft) → IsKept a hooks known → t.shoens ≡ a.shoens → t.work ≡ a.work → IsBegun removed a.rules a.last_goal a.variables a.nodes a.reports d → IsMadeIn a.held (made_of a.goals (texts_of a.names) t d)
 begun_inside a hooks known removed t d kept shoens work begun =
     let P : Made → Type 0 = λ w. IsMadeIn a.held w in
     let first : IsMadeIn a.held (made_first a removed) = record {
@@ -95,18 +94,13 @@ each_same t u (g ∷ gs) e = (
   each_same t u gs (tail_same (goal_with t g) (goal_with u g) (map (goal_with t) gs) (map (goal_with u) gs) e),
 )
 
-aim_is : (s t : Term) → model.reduces s ≡ model.reduces t → s ≡ t
-aim_is s t e = cc
-
--- a goal of an account is the same for readings of its names
-same_aim : (a : Account) (hooks : List Hook) (known n : ℕ) (g : Goal CellName) (x : Qualified CellName) (f h : Reading) → IsKept a hooks known → find (has_number n) a.goals ≡ Some g → g.task ≡ Reduces x → Fits a.names f → Fits a.names h → aim f a.held x ≡ aim h a.held x
-same_aim a hooks known n g x f h kept found task fits other =
+-- the task of a goal of an account is the same for readings of its names
+same_task : (a : Account) (hooks : List Hook) (known n : ℕ) (g : Goal CellName) (f h : Reading) → IsKept a hooks known → find (has_number n) a.goals ≡ Some g → Fits a.names f → Fits a.names h → task_with (meaning f a.held) g.task ≡ task_with (meaning h a.held) g.task
+same_task a hooks known n g f h kept found fits other =
     let t = meaning f a.held in
     let u = meaning h a.held in
     let all = each_same t u a.goals (ap (λ (s : State). s.goals) (kept.named f h fits other)) in
-    let here : goal_with t g ≡ goal_with u g = found_holds (λ k. goal_with t k ≡ goal_with u k) n a.goals g all found in
-    let P : Task CellName → Type 0 = λ k. task_with t k ≡ task_with u k in
-    aim_is (aim_with t x) (aim_with u x) (subst P task (ap (λ (k : model.Goal). k.task) here))
+    ap (λ (k : model.Goal). k.task) (found_holds (λ k. goal_with t k ≡ goal_with u k) n a.goals g all found)
 
 -- ---- how a name that comes is read
 
@@ -118,48 +112,48 @@ text_is s t e = cc
 
 -- a cell that a goal may unify with a name that is new isn't this name
 not_yet : (a : Account) (hooks : List Hook) (known n c : ℕ) (g : Goal CellName) (x : Qualified CellName) (p : Predicate CellName) (places : List (Place CellName)) (text : List ℕ) (y : Cell CellName) (f : Reading) →
-    IsKept a hooks known → IsFormed a.held → MoveIn a.held p places text (Some (made.Names y)) → find (has_number n) a.goals ≡ Some g → g.task ≡ Reduces x → IsMade a.held a.modules a.entries x c p places text (made.Names y) →
+    IsKept a hooks known → IsFormed a.held → MoveIn a.held p places text (Some (made.Names y)) → find (has_number n) a.goals ≡ Some g → IsToMake a.held (program_of a) a.entries g.task x c p places text (made.Names y) →
     Fits a.names f → number_by a.names text ≡ None → meaning f a.held y ≡ atom text → ⊥
-not_yet a hooks known n c g x p places text y f kept formed inside found task makes fits none e =
+not_yet a hooks known n c g x p places text y f kept formed inside found makes fits none e =
     let h = otherwise a.names text f in
     let other : Fits a.names h = otherwise_fits a.names text f none fits in
     let at : IsAtomAt a.held y f text = atom_at f a.held y text formed inside.1 e in
     let one = makes.moves f (fits_knows a hooks known f kept fits) in
     let two = makes.moves h (fits_knows a hooks known h kept other) in
-    let aims : aim f a.held x ≡ aim h a.held x = same_aim a hooks known n g x f h kept found task fits other in
-    let same : meaning f a.held y ≡ meaning h a.held y = named_is text text (meaning f a.held y) (meaning h a.held y) (sym one ∙ ap (λ t. move_by (contents a.modules) t c) aims ∙ two) in
+    let same : meaning f a.held y ≡ meaning h a.held y = named_is text text (meaning f a.held y) (meaning h a.held y) (sym one ∙ ap (λ (k : model.Task). task_move a.rules (contents a.modules) k c) (same_task a hooks known n g f h kept found fits other) ∙ two) in
     otherwise_other a.names text f at.number at.read (text_is (h at.number) text (sym (at.means h) ∙ sym same ∙ e))
 
 name_read : (a : Account) (hooks : List Hook) (known n c : ℕ) (g : Goal CellName) (x : Qualified CellName) (p : Predicate CellName) (places : List (Place CellName)) (text : List ℕ) (y : Cell CellName) (f : Reading) (number : CellName) (name : Option (List ℕ)) (o : Option ℕ) →
-    IsKept a hooks known → IsFormed a.held → MoveIn a.held p places text (Some (made.Names y)) → find (has_number n) a.goals ≡ Some g → g.task ≡ Reduces x → IsMade a.held a.modules a.entries x c p places text (made.Names y) →
+    IsKept a hooks known → IsFormed a.held → MoveIn a.held p places text (Some (made.Names y)) → find (has_number n) a.goals ≡ Some g → IsToMake a.held (program_of a) a.entries g.task x c p places text (made.Names y) →
     Fits a.names f → ReadsNew f number name → number_by a.names text ≡ o → name ≡ name_of o (keeps_names a.names text) text → ReadsText f a.held a.names text y number o
-name_read a hooks known n c g x p places text y f number name None kept formed inside found task makes fits reads e is =
+name_read a hooks known n c g x p places text y f number name None kept formed inside found makes fits reads e is =
     λ keeps. (
       (let P : Option (List ℕ) → Type 0 = λ z. ReadsNew f number z in subst P (is ∙ ap (λ b. name_of None b text) keeps) reads),
-      not_yet a hooks known n c g x p places text y f kept formed inside found task makes fits e,
+      not_yet a hooks known n c g x p places text y f kept formed inside found makes fits e,
     )
-name_read a hooks known n c g x p places text y f number name (Some m) kept formed inside found task makes fits reads e is = fits.texts text m e
+name_read a hooks known n c g x p places text y f number name (Some m) kept formed inside found makes fits reads e is = fits.texts text m e
 
 -- if a move uses a text as a name, readings of the names that an account has then read it
 names_read : (a : Account) (hooks : List Hook) (known n c : ℕ) (g : Goal CellName) (x : Qualified CellName) (p : Predicate CellName) (places : List (Place CellName)) (text : List ℕ) (m : Move CellName) (ms : List Numbered) (more : List Known) (number : CellName) (name : Option (List ℕ)) →
-    IsKept a hooks known → IsFormed a.held → MoveIn a.held p places text (Some m) → find (has_number n) a.goals ≡ Some g → g.task ≡ Reduces x → IsMade a.held a.modules a.entries x c p places text m →
+    IsKept a hooks known → IsFormed a.held → MoveIn a.held p places text (Some m) → find (has_number n) a.goals ≡ Some g → IsToMake a.held (program_of a) a.entries g.task x c p places text m →
     ((f : Reading) → Knows ms f → Fits more f) → IsNamedBy a.names more name number → name ≡ name_for m a.names text → ReadsAll m ms a.held a.names text number
-names_read a hooks known n c g x p places text (made.Commits place) ms more number name kept formed inside found task makes fits named is = tt
-names_read a hooks known n c g x p places text (made.Raises b) ms more number name kept formed inside found task makes fits named is = tt
-names_read a hooks known n c g x p places text (made.Unifies y z) ms more number name kept formed inside found task makes fits named is = tt
-names_read a hooks known n c g x p places text (made.Names y) ms more number name kept formed inside found task makes fits named is =
-    λ f knows. name_read a hooks known n c g x p places text y f number name (number_by a.names text) kept formed inside found task makes (named.fits f (fits f knows)) (named.reads f (fits f knows)) refl is
-names_read a hooks known n c g x p places text (made.Opens s) ms more number name kept formed inside found task makes fits named is = tt
-names_read a hooks known n c g x p places text made.Goes ms more number name kept formed inside found task makes fits named is = tt
+names_read a hooks known n c g x p places text (made.Commits place) ms more number name kept formed inside found makes fits named is = tt
+names_read a hooks known n c g x p places text (made.Raises b) ms more number name kept formed inside found makes fits named is = tt
+names_read a hooks known n c g x p places text (made.Unifies y z) ms more number name kept formed inside found makes fits named is = tt
+names_read a hooks known n c g x p places text (made.Names y) ms more number name kept formed inside found makes fits named is =
+    λ f knows. name_read a hooks known n c g x p places text y f number name (number_by a.names text) kept formed inside found makes (named.fits f (fits f knows)) (named.reads f (fits f knows)) refl is
+names_read a hooks known n c g x p places text (made.Opens s) ms more number name kept formed inside found makes fits named is = tt
+names_read a hooks known n c g x p places text made.Goes ms more number name kept formed inside found makes fits named is = tt
+names_read a hooks known n c g x p places text made.GivesWay ms more number name kept formed inside found makes fits named is = tt
 
 -- ---- the effects of a reduction
 
 -- what a goal does is the effect of its reduction
 pub does_effect : (a : Account) (hooks : List Hook) (known n c : ℕ) (g : Goal CellName) (x : Qualified CellName) (p : Predicate CellName) (places : List (Place CellName)) (text : List ℕ) (made : Move CellName) (mid : Held CellName) (t u : Tree CellName) (start d : Draft) →
-    IsKept a hooks known → IsSteppable a.goals n c g → g.number ≡ n → g.task ≡ Reduces x → IsMade a.held a.modules a.entries x c p places text made → IsFormed a.held → MoveIn a.held p places text (Some made) →
-    t.shoens ≡ a.shoens → t.work ≡ a.work → IsBegun g.number a.last_goal a.variables a.nodes a.reports start →
+    IsKept a hooks known → IsSteppable a.goals n c g → g.number ≡ n → IsToMake a.held (program_of a) a.entries g.task x c p places text made → IsFormed a.held → MoveIn a.held p places text (Some made) →
+    t.shoens ≡ a.shoens → t.work ≡ a.work → IsBegun g.number a.rules a.last_goal a.variables a.nodes a.reports start →
     Does p made places text g x a.goals a.names a.held mid t u start d → d.name ≡ name_for made a.names text → IsEffect a n c mid u d
-does_effect a hooks known n c g x p places text made mid t u start d kept is number task makes formed inside shoens work begun does name more last published f fits =
+does_effect a hooks known n c g x p places text made mid t u start d kept is number makes formed inside shoens work begun does name more last published f fits =
     let ms = a.modules ++ as_modules more in
     let fit : (r : Reading) → Knows ms r → Fits more r = λ r k. modules_fit r more k.reads (second_read r a.modules (as_modules more) k.rows) in
     let old : (r : Reading) → Knows ms r → Knows a.modules r = λ r k. record { reads = k.reads; rows = first_read r a.modules (as_modules more) k.rows } in
@@ -167,21 +161,22 @@ does_effect a hooks known n c g x p places text made mid t u start d kept is num
     let knows : Knows ms f = record { reads = fits.reads; rows = both_read f a.modules (as_modules more) own.rows (fits_modules f more fits) } in
     let s = with_entry (state_of f a) in
     let k = goal_with (meaning f a.held) g in
-    let m = move_at a.modules a.held x c f in
-    let change : State → State = λ z. after_reduction g.shoen (moved k (aim f a.held x) m (charge g.shoen z)) in
-    let read = names_read a hooks known n c g x p places text made ms more published.number d.name kept formed inside is.found task makes fit published.named name in
-    let turned = does ms (contents a.modules) c (move_at a.modules a.held x c) published.number last read published.respells (λ r j. makes.moves r (old r j)) (λ r j. makes.some r (old r j)) (begun_inside a hooks known g.number t start kept shoens work begun) in
+    let m : Reading → reduction.Move = λ r. move_of_task (program_of a) a.held g.task c r in
+    let change : State → State = λ z. after_reduction g.shoen (moved k (aim f a.held x) (m f) (charge g.shoen z)) in
+    let read = names_read a hooks known n c g x p places text made ms more published.number d.name kept formed inside is.found makes fit published.named name in
+    let turned = does ms m published.number last read published.respells
+    (λ r j. let M : Option reduction.Move → Type 0 = λ o. IsMove r a.held o p places text (Some made) in subst M (makes.some r (old r j)) (makes.moves r (old r j))) (begun_inside a hooks known g.number t start kept shoens work begun) in
     record {
       inside = turned.inside;
       step =
-          steps_on f a n c g (moves (aim f a.held x) m) is kept.enabled (goal_does f a c g x (Some m) task (makes.some f own)) makes.room
+          steps_on f a n c g (moves (aim f a.held x) (m f)) is kept.enabled (task_does f a c g x (Some (m f)) makes.task (makes.some f own)) makes.room
           ∙ ap (λ (z : State). let y : Transition = record { state = z; reply = reduced } in y)
           (ap change (begun_state f a g.number t start shoens work begun) ∙ turned.states f knows s);
     }
 
 -- what a monitor reads is the effect of its reduction
 pub heard_effect : (a : Account) (hooks : List Hook) (known n c : ℕ) (g : Goal CellName) (k : Control CellName) (mid : Held CellName) (t u : Tree CellName) (start d : Draft) →
-    IsKept a hooks known → IsSteppable a.goals n c g → g.task ≡ Monitor → HeardAs a.held a.shoens a.entries g c k → t.shoens ≡ a.shoens → t.work ≡ a.work → IsBegun 0 a.last_goal a.variables a.nodes a.reports start →
+    IsKept a hooks known → IsSteppable a.goals n c g → g.task ≡ Monitor → HeardAs a.held a.shoens a.entries g c k → t.shoens ≡ a.shoens → t.work ≡ a.work → IsBegun 0 a.rules a.last_goal a.variables a.nodes a.reports start →
     Reads g.shoen k a.goals (texts_of a.names) a.held mid t u start d → d.name ≡ None → d.spelled ≡ None → IsEffect a n c mid u d
 heard_effect a hooks known n c g k mid t u start d kept is task hears shoens work begun reads unnamed unspelled more last published f fits =
     let knows : Knows a.modules f = fits_knows a hooks known f kept (published.named.fits f fits) in

@@ -19,31 +19,28 @@ use Rattle.kl1_store.specs.Held.{Held}
 use Rattle.kl1_goals.specs.declared.goal.Goal.{Goal}
 use Rattle.kl1_shoen_paths.specs.declared.shoen.Shoen.{Shoen}
 use Rattle.kl1_shoen.specs.Shoens.{shoen_in}
-use Rattle.kl1_codes_modules.specs.Numbered.{Numbered}
 use Rattle.kl1_codes_modules.specs.Finding.{contents}
+use Rattle.kl1_codes_modules.specs.Shelves.{Program}
 use Rattle.kl1_store_hooks.specs.Hanging.{HangsOnEach}
 use Rattle.kl1_user_effects.specs.Fitting.{Reading, Fits, built}
 use Rattle.kl1_user_effects.specs.Account.{Means, meaning, task_with, goal_with, shoen_with, texts_of}
 use Rattle.kl1_user_effects.specs.Naming.{AreSmall}
 use Rattle.kl1_user_effects.specs.Calling.{spare}
 use Rattle.kl1_user_effects.specs.Settled.{control_with, task_clause, awaited_by_task, IsSettled, AreSettled}
+use Rattle.kl1_user_account.specs.Exchanging.{swapped, exchanged}
 use Rattle.kl1_user_effects.proofs.KnownNames.{not_known}
 use Rattle.kl1_user_effects.proofs.States.{found_in}
 use Rattle.kl1_user_effects.proofs.DraftRows.{by_text}
 
 -- ---- two numbers, each in place of the other
 
--- a number, if one stands for another and that for this
-abbrev swapped : CellName → CellName → CellName → CellName
-swapped a b n = if n.number == a.number then b else if n.number == b.number then a else n
-
-same_name : (m n : CellName) → m.number ≡ n.number → m ≡ n
+pub same_name : (m n : CellName) → m.number ≡ n.number → m ≡ n
 same_name m n e = ap (λ x. let c : CellName = record { number = x } in c) e
 
-swap_first : (a b n : CellName) → n.number ≡ a.number → swapped a b n ≡ b
+pub swap_first : (a b n : CellName) → n.number ≡ a.number → swapped a b n ≡ b
 swap_first a b n e = ap (λ c. if c then b else if n.number == b.number then a else n) (eq-eqb n.number a.number e)
 
-swap_second : (a b n : CellName) → n.number ≡ b.number → swapped a b n ≡ a
+pub swap_second : (a b n : CellName) → n.number ≡ b.number → swapped a b n ≡ a
 swap_second a b n e = by_case (n.number == a.number) refl
   where
     by_case : (c : Bool) → (n.number == a.number) ≡ c → swapped a b n ≡ a
@@ -52,12 +49,12 @@ swap_second a b n e = by_case (n.number == a.number) refl
         ap (λ c. if c then b else if n.number == b.number then a else n) q
         ∙ ap (λ c. if c then a else n) (eq-eqb n.number b.number e)
 
-swap_other : (a b n : CellName) → (n.number ≡ a.number → ⊥) → (n.number ≡ b.number → ⊥) → swapped a b n ≡ n
+pub swap_other : (a b n : CellName) → (n.number ≡ a.number → ⊥) → (n.number ≡ b.number → ⊥) → swapped a b n ≡ n
 swap_other a b n x y =
     ap (λ c. if c then b else if n.number == b.number then a else n) (ne_eqb n.number a.number x)
     ∙ ap (λ c. if c then a else n) (ne_eqb n.number b.number y)
 
-swap_back : (a b n : CellName) → swapped a b (swapped a b n) ≡ n
+pub swap_back : (a b n : CellName) → swapped a b (swapped a b n) ≡ n
 swap_back a b n = by_first (n.number == a.number) refl
   where
     by_second : (c : Bool) → (n.number == b.number) ≡ c → (n.number ≡ a.number → ⊥) → swapped a b (swapped a b n) ≡ n
@@ -72,10 +69,6 @@ swap_back a b n = by_first (n.number == a.number) refl
         let e = eqb-true n.number a.number q in
         ap (swapped a b) (swap_first a b n e) ∙ swap_second a b b refl ∙ same_name a n (sym e)
     by_first false q = by_second (n.number == b.number) refl (eqb-false n.number a.number q)
-
--- a reading that reads each of two numbers as the other
-abbrev pub exchanged : CellName → CellName → Reading → Reading
-exchanged a b f n = f (swapped a b n)
 
 -- ---- a name that is new, by the spare number
 
@@ -92,7 +85,7 @@ small_in (k ∷ names) t n a e = by_case (bytes_eq k.text t) (small_in names t n
     by_case false later q = later q
 
 -- the number of a name that is known has 32 bits
-small_by : (names : List Known) (t : List ℕ) (n : ℕ) → AreSmall names → number_by names t ≡ Some n → n < 2 ^ 32
+pub small_by : (names : List Known) (t : List ℕ) (n : ℕ) → AreSmall names → number_by names t ≡ Some n → n < 2 ^ 32
 small_by names t n a e = elim (option_cases (built_in_of t)) [
   | inl none ↦ small_in names t n a (rw none at e)
   | inr some ↦
@@ -168,22 +161,22 @@ control_read t ss n = by_case (shoen_in n ss) ∙ sym (ap front_of (found_in t n
 control_alike : (t u : Means) (ss : List (Shoen CellName)) (n : ℕ) → map (shoen_with t) ss ≡ map (shoen_with u) ss → control_with t ss n ≡ control_with u ss n
 control_alike t u ss n e = control_read t ss n ∙ ap (λ (hs : List model.Shoen). front_of (shoen_at n hs)) e ∙ sym (control_read u ss n)
 
-settled_one : (f g : Reading) (hooks : List Hook) (h k : Held CellName) (ms : List Numbered) (ss : List (Shoen CellName)) (x : Goal CellName) → map (shoen_with (meaning f h)) ss ≡ map (shoen_with (meaning g k)) ss → goal_with (meaning f h) x ≡ goal_with (meaning g k) x →
-    IsSettled f hooks h ms ss x → IsSettled g hooks k ms ss x
-settled_one f g hooks h k ms ss x shoens goal s =
+settled_one : (f g : Reading) (hooks : List Hook) (h k : Held CellName) (program : Program) (ss : List (Shoen CellName)) (x : Goal CellName) → map (shoen_with (meaning f h)) ss ≡ map (shoen_with (meaning g k)) ss → goal_with (meaning f h) x ≡ goal_with (meaning g k) x →
+    IsSettled f hooks h program ss x → IsSettled g hooks k program ss x
+settled_one f g hooks h k program ss x shoens goal s =
     let front : control_with (meaning f h) ss x.shoen ≡ control_with (meaning g k) ss x.shoen = control_alike (meaning f h) (meaning g k) ss x.shoen shoens in
     let task : task_with (meaning f h) x.task ≡ task_with (meaning g k) x.task = ap (λ (y : model.Goal). y.task) goal in
     let H : List ℕ → Type 0 = λ vs. HangsOnEach hooks x.number vs in
     record {
-      standing = s.standing ∙ ap₂ (λ (c : Option Control) (y : model.Task). task_clause (contents ms) c y) front task;
-      hung = subst H (ap₂ (λ (c : Option Control) (y : model.Task). awaited_by_task (contents ms) c y) front task) s.hung;
+      standing = s.standing ∙ ap₂ (λ (c : Option Control) (y : model.Task). task_clause program.rules (contents program.loaded) c y) front task;
+      hung = subst H (ap₂ (λ (c : Option Control) (y : model.Task). awaited_by_task program.rules (contents program.loaded) c y) front task) s.hung;
     }
 
 -- goals that are settled for one reading are for another by which they and the shoens are the same
-pub settled_alike : (f g : Reading) (hooks : List Hook) (h k : Held CellName) (ms : List Numbered) (ss : List (Shoen CellName)) (gs : List (Goal CellName)) → map (shoen_with (meaning f h)) ss ≡ map (shoen_with (meaning g k)) ss → map (goal_with (meaning f h)) gs ≡ map (goal_with (meaning g k)) gs →
-    AreSettled f hooks h ms ss gs → AreSettled g hooks k ms ss gs
-settled_alike f g hooks h k ms ss [] shoens goals s = tt
-settled_alike f g hooks h k ms ss (x ∷ gs) shoens goals s =
+pub settled_alike : (f g : Reading) (hooks : List Hook) (h k : Held CellName) (program : Program) (ss : List (Shoen CellName)) (gs : List (Goal CellName)) → map (shoen_with (meaning f h)) ss ≡ map (shoen_with (meaning g k)) ss → map (goal_with (meaning f h)) gs ≡ map (goal_with (meaning g k)) gs →
+    AreSettled f hooks h program ss gs → AreSettled g hooks k program ss gs
+settled_alike f g hooks h k program ss [] shoens goals s = tt
+settled_alike f g hooks h k program ss (x ∷ gs) shoens goals s =
     let first : goal_with (meaning f h) x ≡ goal_with (meaning g k) x = cc in
     let rest : map (goal_with (meaning f h)) gs ≡ map (goal_with (meaning g k)) gs = cc in
-    (settled_one f g hooks h k ms ss x shoens first s.0, settled_alike f g hooks h k ms ss gs shoens rest s.1)
+    (settled_one f g hooks h k program ss x shoens first s.0, settled_alike f g hooks h k program ss gs shoens rest s.1)

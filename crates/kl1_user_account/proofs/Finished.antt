@@ -13,7 +13,7 @@ use Rattle.kl1_goals.specs.Lists.{is_other, is_monitor, is_monitor_of, is_flagge
 use Rattle.kl1_goals.specs.Tables.{Tabled, AreBefore, IsNext}
 use Rattle.kl1_shoen_paths.specs.declared.shoen.Shoen.{Shoen}
 use Rattle.kl1_shoen.specs.Shoens.{Tree, AreNumbered, is_enabled_at}
-use Rattle.kl1_codes_modules.specs.Numbered.{Numbered}
+use Rattle.kl1_codes_modules.specs.Shelves.{Program}
 use Rattle.kl1_user_effects.specs.declared.draft.Draft.{Draft}
 use Rattle.kl1_user_effects.specs.Account.{Means, goal_with}
 use Rattle.kl1_user_effects.specs.Kept.{IsTaskIn, IsOwned, AreOwned}
@@ -250,9 +250,9 @@ enables_to tree goals added d numbered flags e owned come before work le own sam
 -- ---- which goals are settled
 
 -- if all that are placed are settled, so are all with the draft in place
-pub settles_to : (ms : List Numbered) (mark : Point) (now new : Kept CellName) (after : List (Shoen CellName)) (told : List ℕ) (goals placed : List (Goal CellName)) (d : Draft) → SettlesTo ms mark now new after told goals placed → SettlesTo ms mark now new after told goals (shifted d placed)
-settles_to ms mark now new after told goals placed d s old before come inside shoens keeps f knows a =
-    shifted_holds (λ g. IsSettled f new.hooks new.held ms after g) (λ g b p. record { standing = p.standing; hung = p.hung }) d placed (s old before come inside shoens keeps f knows a)
+pub settles_to : (program : Program) (mark : Point) (now new : Kept CellName) (after : List (Shoen CellName)) (told : List ℕ) (goals placed : List (Goal CellName)) (d : Draft) → SettlesTo program mark now new after told goals placed → SettlesTo program mark now new after told goals (shifted d placed)
+settles_to program mark now new after told goals placed d s old before come inside shoens keeps f knows a =
+    shifted_holds (λ g. IsSettled f new.hooks new.held program after g) (λ g b p. record { standing = p.standing; hung = p.hung }) d placed (s old before come inside shoens keeps f knows a)
 
 -- ---- all of it
 
@@ -270,21 +270,21 @@ abbrev shifts_as : Draft → Draft → Draft
 shifts_as mid x = record mid { enabled = x.enabled; shifts = x.shifts }
 
 -- a draft whose goals were looked at is finished when its flags are there, and room for what comes
-pub finished : (ms : List Numbered) (mark : Point) (now new : Kept CellName) (tree : Tree CellName) (goals : List (Goal CellName)) (table : Tabled CellName) (known : ℕ) (reached : List ℕ) (before mid after : Draft) →
-    AreNumbered 0 tree.shoens → LooksAgain ms mark now new tree goals before mid → mid ≡ record before { changes = mid.changes; told = mid.told; added = mid.added } → ShiftsFor tree reached mid after → after ≡ record mid { enabled = after.enabled; shifts = after.shifts } →
+pub finished : (program : Program) (mark : Point) (now new : Kept CellName) (tree : Tree CellName) (goals : List (Goal CellName)) (table : Tabled CellName) (known : ℕ) (reached : List ℕ) (before mid after : Draft) →
+    AreNumbered 0 tree.shoens → LooksAgain program mark now new tree goals before mid → mid ≡ record before { changes = mid.changes; told = mid.told; added = mid.added } → ShiftsFor tree reached mid after → after ≡ record mid { enabled = after.enabled; shifts = after.shifts } →
     AreNext goals (length tree.shoens) before.added.items → goals_left before.added.items before ≡ before.added.items → table.shoens ≡ known → known ≤ length tree.shoens → length tree.shoens ≤ known + 1 → length after.added.items ≤ table.room → 1 ≤ table.shoen_room →
-    Finishes ms mark now new tree goals table reached before after
-finished ms mark now new tree goals table known reached before mid after numbered looks mid_is shifts after_is next stay known_is low high enough opening =
+    Finishes program mark now new tree goals table reached before after
+finished program mark now new tree goals table known reached before mid after numbered looks mid_is shifts after_is next stay known_is low high enough opening =
     let R : Draft → Type 0 = λ x. x ≡ looked_as before x in
     let F : Draft → Draft = λ x. shifts_as x after in
     let rest : after ≡ looked_as before after = subst R (sym after_is) (ap F mid_is) in
     let looked : map unlooked after.added.items ≡ map unlooked before.added.items = ap (λ (x : Draft). map unlooked x.added.items) after_is ∙ looks.same in
-    let P : List (Goal CellName) → Type 0 = λ gs. SettlesTo ms mark now new tree.shoens before.told.items goals gs in
+    let P : List (Goal CellName) → Type 0 = λ gs. SettlesTo program mark now new tree.shoens before.told.items goals gs in
     let E : List (Goal CellName) → Type 0 = λ gs. AreEnabled tree.shoens tree.work gs in
     let N : ℕ → Type 0 = λ n. AreNext (restood after.changes.items (goals_left goals after)) n after.added.items in
     let added = before.added.items in
     record {
-      settles = settles_to ms mark now new tree.shoens before.told.items goals (goals_placed goals after) after (subst P (sym (ap (goals_placed goals) after_is)) looks.settles);
+      settles = settles_to program mark now new tree.shoens before.told.items goals (goals_placed goals after) after (subst P (sym (ap (goals_placed goals) after_is)) looks.settles);
       shifts = record {
         flags = shifts.flags;
         kept = λ e. ap (λ (x : Draft). x.shifts) (sym mid_is) ∙ shifts.kept e;

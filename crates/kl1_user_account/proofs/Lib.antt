@@ -41,6 +41,11 @@ pub mod StartSettled
 pub mod ControlsKept
 pub mod Effected
 pub mod Exchanged
+pub mod Exchanges
+pub mod Spares
+pub mod Answered
+pub mod AnswerSteps
+pub mod AnswerKept
 pub mod Respelled
 pub mod Named
 pub mod ReducedKept

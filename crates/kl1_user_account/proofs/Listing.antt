@@ -2,7 +2,7 @@
 use Rattle.std.proofs.Common.{◌≡◌, ℕ, zero, suc, ◌-◌, ◌<◌, ◌≤◌, ◌&&◌, nat_le, true, false, if◌then◌else◌, List, [], ◌∷◌, ◌++◌, map, take, drop, append_assoc, refl, sym, ap, ◌∙◌}
 use Rattle.std.specs.Prelude.{Option, Some, None, option_map}
 use Rattle.std.proofs.lemmas.Bool.{le-leb, lt-leb}
-use Rattle.kl1_model.specs.Limits.{most_listed}
+use Rattle.kl1_model.specs.declared.limits.TheConstants.{MOST_LISTED}
 use Rattle.kl1_model.specs.Term.{Term}
 use Rattle.kl1_model.specs.Print.{cut_print}
 use Rattle.kl1_model.specs.State as model
@@ -109,10 +109,10 @@ asked_none f s h gs ss n from e le is = asked f s h gs ss n from None e le is
 
 -- if it did
 pub asked_some : (f : Reading) (s : State) (h : Held CellName) (gs : List (Goal CellName)) (ss : List (Shoen CellName)) (n from : ℕ) (o : Origin CellName) (first : Cell CellName) (texts : List (List ℕ)) → (is_number n && is_number from) ≡ true → 1 ≤ from → kept_at n ss ≡ Some o →
-    cells_of f h first ≡ drop (from - 1) (cells_of f h o.reports) → texts ≡ map cut_print (take most_listed (cells_of f h first)) → step (with_kept f s h gs ss) (read (reports n from)) ≡ record { state = with_kept f s h gs ss; reply = listed texts }
+    cells_of f h first ≡ drop (from - 1) (cells_of f h o.reports) → texts ≡ map cut_print (take MOST_LISTED (cells_of f h first)) → step (with_kept f s h gs ss) (read (reports n from)) ≡ record { state = with_kept f s h gs ss; reply = listed texts }
 asked_some f s h gs ss n from o first texts e le is drops all =
     let R : List (List ℕ) → Transition = λ ts. record { state = with_kept f s h gs ss; reply = listed ts } in
-    asked f s h gs ss n from (Some o) e le is ∙ ap (λ (ts : List Term). R (map cut_print (take most_listed ts))) (sym drops) ∙ ap R (sym all)
+    asked f s h gs ss n from (Some o) e le is ∙ ap (λ (ts : List Term). R (map cut_print (take MOST_LISTED ts))) (sym drops) ∙ ap R (sym all)
 
 same_reports : (o p : model.Origin) → Some o ≡ Some p → o.reports ≡ p.reports
 same_reports o p e = let same : o ≡ p = cc in ap (λ (x : model.Origin). x.reports) same

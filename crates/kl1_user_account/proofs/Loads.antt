@@ -1,10 +1,11 @@
 -- Loads, by the definition of the step.
 use Rattle.std.proofs.Common.{◌≡◌, ℕ, ◌+◌, ◌<◌, ◌≤◌, suc, Bool, true, false, if◌then◌else◌, ◌==◌, List, [], ◌∷◌, ◌++◌, length, map, refl, sym, ap, ◌∙◌, subst, arith, nat_lt, take, get_or}
 use Rattle.std.specs.Prelude.{Some, is_some, option_map}
+use Rattle.kl1_model.specs.declared.rules.Rules.{Rules}
 use Rattle.kl1_model.specs.Control.{control_of}
 use Rattle.std.proofs.lemmas.Bool.{le-leb, lt-leb, lt-ltb, le-ltb, ltb-true, ltb-false}
 use Rattle.std.proofs.lemmas.List.{map-append, take_more}
-use Rattle.kl1_model.specs.Limits.{most_names, most_modules, most_entries, most_source_bytes}
+use Rattle.kl1_model.specs.declared.limits.TheConstants.{MOST_NAMES, MOST_MODULES, MOST_ENTRIES, MOST_SOURCE_BYTES}
 use Rattle.kl1_model.specs.Module.{Module, read_module, good}
 use Rattle.kl1_model.specs.Match.{module_of}
 use Rattle.kl1_model.specs.State as model
@@ -27,6 +28,7 @@ use Rattle.kl1_shoen_paths.specs.declared.shoen.Shoen.{Shoen}
 use Rattle.kl1_shoen.specs.Shoens.{shoen_in}
 use Rattle.kl1_codes_modules.specs.Numbered.{Numbered, own_names, number_of, IsRead, AreRead}
 use Rattle.kl1_codes_modules.specs.Finding.{contents, is_numbered, TellsModule}
+use Rattle.kl1_codes_modules.specs.Shelves.{with_last}
 use Rattle.kl1_codes_modules.proofs.Names.{number_reads}
 use Rattle.kl1_codes_modules.proofs.Shelving.{tells}
 use Rattle.kl1_store_hooks.specs.Hanging.{HangsOnEach}
@@ -37,7 +39,7 @@ use Rattle.kl1_user_events.specs.declared.refusal.Refusal.{Refusal}
 use Rattle.kl1_user_events.specs.Views.{refusal_of}
 use Rattle.kl1_user_events.specs.declared.refusal.Refusal.TheVariants.{Exists, Names, Limit, Journal}
 use Rattle.kl1_user_effects.specs.Fitting.{Reading, Fits, built}
-use Rattle.kl1_user_effects.specs.Account.{Account, Means, meaning, task_with, goal_with, shoen_with, texts_of, state_of}
+use Rattle.kl1_user_effects.specs.Account.{Account, program_of, Means, meaning, task_with, goal_with, shoen_with, texts_of, state_of}
 use Rattle.kl1_user_effects.specs.Naming.{AreSmall, ReadsDraft, AreNumbersOf}
 use Rattle.kl1_user_effects.specs.Works.{Knows}
 use Rattle.kl1_user_effects.specs.Drafts.{restood_by, restood}
@@ -61,27 +63,27 @@ pub is_free : (ms : List Numbered) (d : Numbered) (n : CellName) (b : Bool) → 
 is_free ms d n b e is = sym (e ∙ ap (is_numbered ms) is)
 
 -- whether the names of a module are too many
-pub crowds_is : (names : List Known) (d : Numbered) (code : Module) (texts : List (List ℕ)) (b : Bool) → b ≡ nat_lt most_names (length (with_texts (texts_of names) texts)) → texts ≡ own_names code → code ≡ d.content →
-    nat_lt most_names (length (with_texts (texts_of names) (own_names d.content))) ≡ b
-crowds_is names d code texts b e are is = sym (e ∙ ap (λ (xs : List (List ℕ)). nat_lt most_names (length (with_texts (texts_of names) xs))) (are ∙ ap own_names is))
+pub crowds_is : (names : List Known) (d : Numbered) (code : Module) (texts : List (List ℕ)) (b : Bool) → b ≡ nat_lt MOST_NAMES (length (with_texts (texts_of names) texts)) → texts ≡ own_names code → code ≡ d.content →
+    nat_lt MOST_NAMES (length (with_texts (texts_of names) (own_names d.content))) ≡ b
+crowds_is names d code texts b e are is = sym (e ∙ ap (λ (xs : List (List ℕ)). nat_lt MOST_NAMES (length (with_texts (texts_of names) xs))) (are ∙ ap own_names is))
 
 -- a module whose name is taken
 pub draft_exists : (ms : List Numbered) (names : List Known) (entries : ℕ) (d : Numbered) → is_some (module_of (contents ms) d.content.name) ≡ true → DraftsAs ms names entries d (Some Exists)
 draft_exists ms names entries d there = λ s at. rw (at.modules_are, there) refl
 
 -- names that would be too many
-pub draft_crowds : (ms : List Numbered) (names : List Known) (entries : ℕ) (d : Numbered) → is_some (module_of (contents ms) d.content.name) ≡ false → nat_lt most_names (length (with_texts (texts_of names) (own_names d.content))) ≡ true → DraftsAs ms names entries d (Some Names)
+pub draft_crowds : (ms : List Numbered) (names : List Known) (entries : ℕ) (d : Numbered) → is_some (module_of (contents ms) d.content.name) ≡ false → nat_lt MOST_NAMES (length (with_texts (texts_of names) (own_names d.content))) ≡ true → DraftsAs ms names entries d (Some Names)
 draft_crowds ms names entries d absent many = λ s at.
     let n = length (with_names (texts_of names) (names_of_module d.content)) in
     let is : length (with_texts (texts_of names) (own_names d.content)) ≡ n = ap length (of_module (texts_of names) d.content) in
-    let lt : most_names < n = ltb-true most_names n (ap (nat_lt most_names) (sym is) ∙ many) in
-    rw (at.modules_are, absent, at.names_are, lt-leb n most_names lt) refl
+    let lt : MOST_NAMES < n = ltb-true MOST_NAMES n (ap (nat_lt MOST_NAMES) (sym is) ∙ many) in
+    rw (at.modules_are, absent, at.names_are, lt-leb n MOST_NAMES lt) refl
 
-few_names : (names : List Known) (m : Module) → nat_lt most_names (length (with_texts (texts_of names) (own_names m))) ≡ false → length (with_names (texts_of names) (names_of_module m)) ≤ most_names
+few_names : (names : List Known) (m : Module) → nat_lt MOST_NAMES (length (with_texts (texts_of names) (own_names m))) ≡ false → length (with_names (texts_of names) (names_of_module m)) ≤ MOST_NAMES
 few_names names m e =
     let n = length (with_names (texts_of names) (names_of_module m)) in
-    let is : nat_lt most_names n ≡ false = ap (λ (xs : List (List ℕ)). nat_lt most_names (length xs)) (sym (of_module (texts_of names) m)) ∙ e in
-    ltb-false most_names n is
+    let is : nat_lt MOST_NAMES n ≡ false = ap (λ (xs : List (List ℕ)). nat_lt MOST_NAMES (length xs)) (sym (of_module (texts_of names) m)) ∙ e in
+    ltb-false MOST_NAMES n is
 
 -- modules are as many as their contents
 modules_count : (ms : List Numbered) → length (contents ms) ≡ length ms
@@ -89,21 +91,21 @@ modules_count [] = refl
 modules_count (m ∷ ms) = ap suc (modules_count ms)
 
 -- as many modules as there may be
-pub draft_limit : (ms : List Numbered) (names : List Known) (entries : ℕ) (d : Numbered) → is_some (module_of (contents ms) d.content.name) ≡ false → nat_lt most_names (length (with_texts (texts_of names) (own_names d.content))) ≡ false → most_modules ≤ length ms → DraftsAs ms names entries d (Some Limit)
+pub draft_limit : (ms : List Numbered) (names : List Known) (entries : ℕ) (d : Numbered) → is_some (module_of (contents ms) d.content.name) ≡ false → nat_lt MOST_NAMES (length (with_texts (texts_of names) (own_names d.content))) ≡ false → MOST_MODULES ≤ length ms → DraftsAs ms names entries d (Some Limit)
 draft_limit ms names entries d absent few full = λ s at.
     let n = length (with_names (texts_of names) (names_of_module d.content)) in
-    rw (at.modules_are, absent, at.names_are, le-leb n most_names (few_names names d.content few), modules_count ms, le-ltb (length ms) most_modules full) refl
+    rw (at.modules_are, absent, at.names_are, le-leb n MOST_NAMES (few_names names d.content few), modules_count ms, le-ltb (length ms) MOST_MODULES full) refl
 
 -- a full journal
-pub draft_full : (ms : List Numbered) (names : List Known) (entries : ℕ) (d : Numbered) → is_some (module_of (contents ms) d.content.name) ≡ false → nat_lt most_names (length (with_texts (texts_of names) (own_names d.content))) ≡ false → length ms < most_modules → most_entries ≤ entries →
+pub draft_full : (ms : List Numbered) (names : List Known) (entries : ℕ) (d : Numbered) → is_some (module_of (contents ms) d.content.name) ≡ false → nat_lt MOST_NAMES (length (with_texts (texts_of names) (own_names d.content))) ≡ false → length ms < MOST_MODULES → MOST_ENTRIES ≤ entries →
     DraftsAs ms names entries d (Some Journal)
 draft_full ms names entries d absent few less full = λ s at.
     let n = length (with_names (texts_of names) (names_of_module d.content)) in
-    rw (at.modules_are, absent, at.names_are, le-leb n most_names (few_names names d.content few), modules_count ms, lt-ltb (length ms) most_modules less, at.entries_are, le-ltb entries most_entries full) refl
+    rw (at.modules_are, absent, at.names_are, le-leb n MOST_NAMES (few_names names d.content few), modules_count ms, lt-ltb (length ms) MOST_MODULES less, at.entries_are, le-ltb entries MOST_ENTRIES full) refl
 
 -- a module that may be loaded
 pub draft_loads : (ms : List Numbered) (names : List Known) (entries : ℕ) (d : Numbered) → ReadsDraft names (own_names d.content) d.row → is_numbered ms (number_of d) ≡ false → is_some (module_of (contents ms) d.content.name) ≡ false →
-    nat_lt most_names (length (with_texts (texts_of names) (own_names d.content))) ≡ false → length ms < most_modules → entries < most_entries → IsDraft ms names entries d
+    nat_lt MOST_NAMES (length (with_texts (texts_of names) (own_names d.content))) ≡ false → length ms < MOST_MODULES → entries < MOST_ENTRIES → IsDraft ms names entries d
 draft_loads ms names entries d reads new absent few less room =
     let n = length (with_names (texts_of names) (names_of_module d.content)) in
     let le = few_names names d.content few in
@@ -115,21 +117,21 @@ draft_loads ms names entries d reads new absent few less room =
       few = omega arith;
       modules_few = less;
       room = room;
-      loads = λ s at. rw (at.modules_are, absent, at.names_are, le-leb n most_names le, modules_count ms, lt-ltb (length ms) most_modules less, at.entries_are, lt-ltb entries most_entries room) refl;
+      loads = λ s at. rw (at.modules_are, absent, at.names_are, le-leb n MOST_NAMES le, modules_count ms, lt-ltb (length ms) MOST_MODULES less, at.entries_are, lt-ltb entries MOST_ENTRIES room) refl;
     }
 
 -- ---- sources
 
 -- a source that is a module
-pub load_good : (text : List ℕ) (m : Module) → length text ≤ most_source_bytes → read_module text ≡ good m → (s : State) → step s (load text) ≡ load_module s (good m)
-load_good text m h r = λ s. rw (le-leb (length text) most_source_bytes h) (ap (load_module s) r)
+pub load_good : (text : List ℕ) (m : Module) → length text ≤ MOST_SOURCE_BYTES → read_module text ≡ good m → (s : State) → step s (load text) ≡ load_module s (good m)
+load_good text m h r = λ s. rw (le-leb (length text) MOST_SOURCE_BYTES h) (ap (load_module s) r)
 
 -- a module of these parts is one of parts that are the same
 pub same_parts : (x : Numbered) (m n : Module) (row own : List CellName) (place : ℕ × ℕ) → x ≡ record { content = m; row = row; place = place } → n ≡ m → own ≡ row → x ≡ record { content = n; row = own; place = place }
 same_parts x m n row own place is content rows = rw (content, rows) is
 
 -- a module is drafted for a source that is read as it, if it is one that may be loaded
-pub drafted_is : (ms : List Numbered) (names : List Known) (entries : ℕ) (text : List ℕ) (x d : Numbered) → length text ≤ most_source_bytes → read_module text ≡ good d.content → x ≡ d → IsDraft ms names entries d → IsDraftOf ms names entries text x
+pub drafted_is : (ms : List Numbered) (names : List Known) (entries : ℕ) (text : List ℕ) (x d : Numbered) → length text ≤ MOST_SOURCE_BYTES → read_module text ≡ good d.content → x ≡ d → IsDraft ms names entries d → IsDraftOf ms names entries text x
 drafted_is ms names entries text x d few read is draft =
     let P : Numbered → Type 0 = λ y. IsDraftOf ms names entries text y in
     subst P (sym is) (record { draft = draft; loads = load_good text d.content few read })
@@ -183,20 +185,20 @@ other_goals : (a b : model.Goal) (as' bs : List model.Goal) → a ∷ as' ≡ b 
 other_goals a b as' bs e = cc
 
 -- goals and shoens that two readings read as the same are settled for one as for the other, with modules of the same contents
-pub resettled : (f g : Reading) (hooks : List Hook) (h : Held CellName) (ms ns : List Numbered) (shoens : List (Shoen CellName)) (gs : List (Goal CellName)) → contents ms ≡ contents ns → map (shoen_with (meaning f h)) shoens ≡ map (shoen_with (meaning g h)) shoens →
-    map (goal_with (meaning f h)) gs ≡ map (goal_with (meaning g h)) gs → AreSettled g hooks h ms shoens gs → AreSettled f hooks h ns shoens gs
-resettled f g hooks h ms ns shoens [] same alike e a = tt
-resettled f g hooks h ms ns shoens (x ∷ gs) same alike e a =
+pub resettled : (f g : Reading) (hooks : List Hook) (h : Held CellName) (rules : Rules) (ms ns : List Numbered) (shoens : List (Shoen CellName)) (gs : List (Goal CellName)) → contents ms ≡ contents ns → map (shoen_with (meaning f h)) shoens ≡ map (shoen_with (meaning g h)) shoens →
+    map (goal_with (meaning f h)) gs ≡ map (goal_with (meaning g h)) gs → AreSettled g hooks h (record { rules = rules; loaded = ms }) shoens gs → AreSettled f hooks h (record { rules = rules; loaded = ns }) shoens gs
+resettled f g hooks h rules ms ns shoens [] same alike e a = tt
+resettled f g hooks h rules ms ns shoens (x ∷ gs) same alike e a =
     let t = first_goal (goal_with (meaning f h) x) (goal_with (meaning g h) x) (map (goal_with (meaning f h)) gs) (map (goal_with (meaning g h)) gs) e in
     let k : task_with (meaning f h) x.task ≡ task_with (meaning g h) x.task = ap (λ (y : model.Goal). y.task) t in
     let c : control_with (meaning f h) shoens x.shoen ≡ control_with (meaning g h) shoens x.shoen = controls_same (meaning f h) (meaning g h) x.shoen shoens alike in
     let H : List ℕ → Type 0 = λ vs. HangsOnEach hooks x.number vs in
-    let clause : task_clause (contents ns) (control_with (meaning f h) shoens x.shoen) (task_with (meaning f h) x.task) ≡ task_clause (contents ms) (control_with (meaning g h) shoens x.shoen) (task_with (meaning g h) x.task) =
-    ap (λ o. task_clause (contents ns) o (task_with (meaning f h) x.task)) c ∙ ap (task_clause (contents ns) (control_with (meaning g h) shoens x.shoen)) k ∙ ap (λ m. task_clause m (control_with (meaning g h) shoens x.shoen) (task_with (meaning g h) x.task)) (sym same) in
-    let awaited : awaited_by_task (contents ns) (control_with (meaning f h) shoens x.shoen) (task_with (meaning f h) x.task) ≡ awaited_by_task (contents ms) (control_with (meaning g h) shoens x.shoen) (task_with (meaning g h) x.task) =
-    ap (λ o. awaited_by_task (contents ns) o (task_with (meaning f h) x.task)) c ∙ ap (awaited_by_task (contents ns) (control_with (meaning g h) shoens x.shoen)) k ∙ ap (λ m. awaited_by_task m (control_with (meaning g h) shoens x.shoen) (task_with (meaning g h) x.task)) (sym same) in
+    let clause : task_clause rules (contents ns) (control_with (meaning f h) shoens x.shoen) (task_with (meaning f h) x.task) ≡ task_clause rules (contents ms) (control_with (meaning g h) shoens x.shoen) (task_with (meaning g h) x.task) =
+    ap (λ o. task_clause rules (contents ns) o (task_with (meaning f h) x.task)) c ∙ ap (task_clause rules (contents ns) (control_with (meaning g h) shoens x.shoen)) k ∙ ap (λ m. task_clause rules m (control_with (meaning g h) shoens x.shoen) (task_with (meaning g h) x.task)) (sym same) in
+    let awaited : awaited_by_task rules (contents ns) (control_with (meaning f h) shoens x.shoen) (task_with (meaning f h) x.task) ≡ awaited_by_task rules (contents ms) (control_with (meaning g h) shoens x.shoen) (task_with (meaning g h) x.task) =
+    ap (λ o. awaited_by_task rules (contents ns) o (task_with (meaning f h) x.task)) c ∙ ap (awaited_by_task rules (contents ns) (control_with (meaning g h) shoens x.shoen)) k ∙ ap (λ m. awaited_by_task rules m (control_with (meaning g h) shoens x.shoen) (task_with (meaning g h) x.task)) (sym same) in
     let rest = other_goals (goal_with (meaning f h) x) (goal_with (meaning g h) x) (map (goal_with (meaning f h)) gs) (map (goal_with (meaning g h)) gs) e in
-    (record { standing = a.0.standing ∙ sym clause; hung = subst H (sym awaited) a.0.hung }, resettled f g hooks h ms ns shoens gs same alike rest a.1)
+    (record { standing = a.0.standing ∙ sym clause; hung = subst H (sym awaited) a.0.hung }, resettled f g hooks h rules ms ns shoens gs same alike rest a.1)
 
 -- ---- modules and readings
 
@@ -236,7 +238,7 @@ with_load a d row names changes = record a { modules = a.modules ++ record d { r
 -- a load is ready to be put in place
 pub record IsReady (a : Account) (source : List ℕ) (d : Numbered) (hooks : List Hook) (changes : List Change) (names : List Known) (row : List CellName) : Type 0 where
   pub draft : IsDraftOf a.modules a.names a.entries source d
-  pub settles : Settles a.modules d a.shoens hooks a.held a.goals changes
+  pub settles : Settles (program_of a) d a.shoens hooks a.held a.goals changes
   pub texts : texts_of names ≡ with_texts (texts_of a.names) (own_names d.content)
   pub numbers : AreNumbersOf names (own_names d.content) row
   pub small : AreSmall names
@@ -263,7 +265,7 @@ load_steps a source d hooks changes names row r f =
     r.draft.loads s ∙ (r.draft.draft.loads s (record { modules_are = refl; names_are = refl; entries_are = refl }) ∙ ap R same)
 
 load_settled : (a : Account) (source : List ℕ) (d : Numbered) (old hooks : List Hook) (known : ℕ) (changes : List Change) (names : List Known) (row : List CellName) → IsKept a old known → IsReady a source d hooks changes names row →
-    (f : Reading) → Fits names f → AreSettled f hooks a.held (a.modules ++ record d { row = row } ∷ []) a.shoens (restood changes a.goals)
+    (f : Reading) → Fits names f → AreSettled f hooks a.held (with_last (program_of a) (record d { row = row })) a.shoens (restood changes a.goals)
 load_settled a source d old hooks known changes names row i r f fits =
     let p = r.draft.draft.reads in
     let g = p.reading in
@@ -272,7 +274,7 @@ load_settled a source d old hooks known changes names row i r f fits =
     let alike : map (shoen_with (meaning f a.held)) a.shoens ≡ map (shoen_with (meaning g a.held)) a.shoens = ap (λ (s : State). s.shoens) (i.named f g (r.fits f fits) p.fits) in
     let was : map (goal_with (meaning f a.held)) a.goals ≡ map (goal_with (meaning g a.held)) a.goals = ap (λ (s : State). s.goals) (i.named f g (r.fits f fits) p.fits) in
     let are : map (goal_with (meaning f a.held)) (restood changes a.goals) ≡ map (goal_with (meaning g a.held)) (restood changes a.goals) = restood_read (meaning f a.held) changes a.goals ∙ (was ∙ sym (restood_read (meaning g a.held) changes a.goals)) in
-    resettled f g hooks a.held (a.modules ++ d ∷ []) (a.modules ++ record d { row = row } ∷ []) a.shoens (restood changes a.goals) same alike are (r.settles g k)
+    resettled f g hooks a.held a.rules (a.modules ++ d ∷ []) (a.modules ++ record d { row = row } ∷ []) a.shoens (restood changes a.goals) same alike are (r.settles g k)
 
 -- what always holds of an account holds after a load
 pub load_kept : (a : Account) (source : List ℕ) (d : Numbered) (old hooks : List Hook) (known : ℕ) (changes : List Change) (names : List Known) (row : List CellName) → IsKept a old known → IsReady a source d hooks changes names row →
@@ -307,11 +309,11 @@ stands_at {C} {R} has l d is e = let P : Loading C R → Type 0 = λ x. StandsIn
 
 -- a draft for which all that wants memory is done, and the names of which are published
 pub ready : {C R : Type 0} (a : Account) (source : List ℕ) (l : Loading C R) (d : Numbered) (hooks : List Hook) (found changes : List Change) (used names : List Known) (code : Module) (texts : List (List ℕ)) (items row : List CellName) →
-    LoadsAs a.modules a.names a.entries source l → l ≡ Drafted d → Settles a.modules d a.shoens hooks a.held a.goals found → changes ≡ found → used ≡ a.names → texts ≡ own_names code → code ≡ d.content →
+    LoadsAs a.modules a.names a.entries source l → l ≡ Drafted d → Settles (program_of a) d a.shoens hooks a.held a.goals found → changes ≡ found → used ≡ a.names → texts ≡ own_names code → code ≡ d.content →
     texts_of names ≡ with_texts (texts_of used) texts → AreNumbersOf names texts items → row ≡ items → AreSmall names → ((f : Reading) → Fits names f → Fits used f) → IsReady a source d hooks changes names row
 ready a source l d hooks found changes used names code texts items row loads is settles same_changes same_names are code_is put numbers same_row small fits =
     let own : texts ≡ own_names d.content = are ∙ ap own_names code_is in
-    let S : List Change → Type 0 = λ cs. Settles a.modules d a.shoens hooks a.held a.goals cs in
+    let S : List Change → Type 0 = λ cs. Settles (program_of a) d a.shoens hooks a.held a.goals cs in
     let N : List (List ℕ) → Type 0 = λ ts. AreNumbersOf names ts row in
     let R : List CellName → Type 0 = λ r. AreNumbersOf names texts r in
     record {

@@ -13,7 +13,7 @@ use Rattle.kl1_goals.specs.declared.goal.Goal.{Goal}
 use Rattle.kl1_goals.specs.Lists.{is_other, has_number, is_monitor_of, is_flagged, number_of}
 use Rattle.kl1_goals.specs.Tables.{Ascend, AreInOrder}
 use Rattle.kl1_shoen_paths.specs.declared.shoen.Shoen.{Shoen}
-use Rattle.kl1_codes_modules.specs.Numbered.{Numbered}
+use Rattle.kl1_codes_modules.specs.Shelves.{Program}
 use Rattle.kl1_user_effects.specs.declared.draft.Draft.{Draft}
 use Rattle.kl1_user_effects.specs.Drafts.{restood, without_monitors, goals_left}
 use Rattle.kl1_user_effects.specs.Settled.{IsSettled, AreSettled}
@@ -121,11 +121,11 @@ keeps_more some more before after (g ∷ gs) k =
 -- ---- all of them
 
 -- the goals that were told and those that come are looked at: all that are placed after the draft are settled
-pub settled_placed : (ms : List Numbered) (after : List (Shoen CellName)) (work : List ℕ) (mark : Point) (now mid new : Kept CellName) (goals added : List (Goal CellName)) (d : Draft) (told : List ℕ) →
-    AreInOrder goals → d.told.items ≡ told ++ told_by (drop mark.sizes.bindings now.held.bindings) now.hooks → WakesTold ms after now.held now.hooks mid.hooks goals d.removed d.told.items [] d.changes.items → mid.held ≡ now.held →
-    LooksAtAdded ms after work mid.held new.hooks added d.added.items → new.held ≡ mid.held → HasGrown mid new → SettlesTo ms mark now new after told goals (goals_placed goals d)
-settled_placed ms after work mark now mid new goals added d told order tells wakes same looks again more old before come inside shoens_in keeps f knows settled =
-    let H : List Hook → Type 0 = λ hs. AreSettled f hs old.held ms before goals in
+pub settled_placed : (program : Program) (after : List (Shoen CellName)) (work : List ℕ) (mark : Point) (now mid new : Kept CellName) (goals added : List (Goal CellName)) (d : Draft) (told : List ℕ) →
+    AreInOrder goals → d.told.items ≡ told ++ told_by (drop mark.sizes.bindings now.held.bindings) now.hooks → WakesTold program after now.held now.hooks mid.hooks goals d.removed d.told.items [] d.changes.items → mid.held ≡ now.held →
+    LooksAtAdded program after work mid.held new.hooks added d.added.items → new.held ≡ mid.held → HasGrown mid new → SettlesTo program mark now new after told goals (goals_placed goals d)
+settled_placed program after work mark now mid new goals added d told order tells wakes same looks again more old before come inside shoens_in keeps f knows settled =
+    let H : List Hook → Type 0 = λ hs. AreSettled f hs old.held program before goals in
     let since : drop mark.sizes.bindings now.held.bindings ≡ drop (length old.held.bindings) now.held.bindings = ap (λ (p : Point). drop p.sizes.bindings now.held.bindings) come.marked in
     let bound = drop (length old.held.bindings) now.held.bindings in
     let all = told_by bound now.hooks in
@@ -134,17 +134,17 @@ settled_placed ms after work mark now mid new goals added d told order tells wak
     let all_told : AreTold now.hooks (map (λ b. b.variable) bound) (told ++ all) =
     λ v n c h. among_append n told all ∙ or_true (is_among n told) (is_among n all) (are_told now.hooks bound all refl v n c h) in
     let K : List ℕ → Type 0 = λ ns. KeepControls ns before after goals in
-    let pending : AreSettledOr d.told.items f now.hooks now.held ms after goals =
-    told_are_pending f now.hooks old.held now.held ms before after d.told.items goals come.formed come.grown inside shoens_in (subst K (sym told_is) (keeps_more told all before after goals keeps)) (subst T (sym told_is) all_told) (subst H (sym come.hooks) settled) in
+    let pending : AreSettledOr d.told.items f now.hooks now.held program after goals =
+    told_are_pending f now.hooks old.held now.held program before after d.told.items goals come.formed come.grown inside shoens_in (subst K (sym told_is) (keeps_more told all before after goals keeps)) (subst T (sym told_is) all_told) (subst H (sym come.hooks) settled) in
     let others = filter (is_other d.removed) goals in
     let stays = goals_left goals d in
-    let S : Goal CellName → Type 0 = λ g. IsSettled f new.hooks mid.held ms after g in
+    let S : Goal CellName → Type 0 = λ g. IsSettled f new.hooks mid.held program after g in
     let found : AreOthersOf goals d.removed stays =
     left_holds (λ g. (find (has_number g.number) goals ≡ Some g) × (g.number ≡ d.removed → ⊥)) d goals (others_found goals d.removed goals (each_found 0 goals order)) in
-    let wait : AreSettledOr d.told.items f now.hooks now.held ms after stays =
-    left_holds (λ g. IsSettledOr d.told.items f now.hooks now.held ms after g) d goals (filter_settled_or f now.hooks now.held ms after d.told.items (is_other d.removed) goals pending) in
-    let stay : AreSettled f mid.hooks now.held ms after (restood d.changes.items stays) = wakes f knows stays found wait in
-    let M : Held CellName → Type 0 = λ h. AreSettled f mid.hooks h ms after (restood d.changes.items stays) in
-    let stood : AreSettled f new.hooks mid.held ms after (restood d.changes.items stays) = all_more f mid.hooks new.hooks mid.held ms after (restood d.changes.items stays) (grown_among mid new more) (subst M (sym same) stay) in
-    let N : Held CellName → Type 0 = λ h. AreSettled f new.hooks h ms after (goals_placed goals d) in
+    let wait : AreSettledOr d.told.items f now.hooks now.held program after stays =
+    left_holds (λ g. IsSettledOr d.told.items f now.hooks now.held program after g) d goals (filter_settled_or f now.hooks now.held program after d.told.items (is_other d.removed) goals pending) in
+    let stay : AreSettled f mid.hooks now.held program after (restood d.changes.items stays) = wakes f knows stays found wait in
+    let M : Held CellName → Type 0 = λ h. AreSettled f mid.hooks h program after (restood d.changes.items stays) in
+    let stood : AreSettled f new.hooks mid.held program after (restood d.changes.items stays) = all_more f mid.hooks new.hooks mid.held program after (restood d.changes.items stays) (grown_among mid new more) (subst M (sym same) stay) in
+    let N : Held CellName → Type 0 = λ h. AreSettled f new.hooks h program after (goals_placed goals d) in
     subst N (sym again) (each_append S (restood d.changes.items stays) d.added.items stood (looks.settled f knows))

@@ -2,10 +2,11 @@
 use Rattle.std.proofs.Common.{◌≡◌, ℕ, ◌==◌, ◌&&◌, ◌||◌, Bool, true, false, List, [], ◌∷◌, ◌++◌, map, refl, sym, ap, subst, ◌∙◌}
 use Rattle.std.specs.Prelude.{Option, Some, None, option_map}
 use Rattle.std.proofs.lemmas.Bool.{and_parts, eqb-true}
+use Rattle.kl1_model.specs.declared.rules.Rules.{Rules}
 use Rattle.kl1_model.specs.Module.{Clause, Module}
 use Rattle.kl1_model.specs.Term.{Term}
 use Rattle.kl1_model.specs.Match.{clauses_of}
-use Rattle.kl1_model.specs.code.Waits.{awaited_by_term}
+use Rattle.kl1_model.specs.code.Waits.{awaited_by_term, awaited_by_substitute}
 use Rattle.kl1_text.specs.Reading.{Reads}
 use Rattle.kl1_text.specs.declared.cell_name.CellName.{CellName}
 use Rattle.kl1_store.specs.declared.cell.Cell.{Cell}
@@ -23,13 +24,15 @@ use Rattle.kl1_goals_moves.specs.Calls.{call_at}
 use Rattle.kl1_goals_moves.specs.Kinds.{IsKind, IsCall}
 use Rattle.kl1_goals_moves.specs.Moves.{HasPredicate}
 use Rattle.kl1_goals_moves.specs.Standing.{StandsAs}
+use Rattle.kl1_goals_moves.specs.Substitutes.{SubstituteStands}
 use Rattle.kl1_goals.specs.declared.task.Task.{Task}
-use Rattle.kl1_goals.specs.declared.task.Task.TheVariants.{Monitor, Reduces}
+use Rattle.kl1_goals.specs.declared.task.Task.TheVariants.{Monitor, Reduces, Substitutes}
 use Rattle.kl1_goals.specs.declared.goal.Goal.{Goal}
 use Rattle.kl1_shoen_paths.specs.declared.shoen.Shoen.{Shoen}
 use Rattle.kl1_model.specs.Tree.{path_within}
 use Rattle.kl1_shoen.specs.Shoens.{shoen_in, is_enabled_at}
 use Rattle.kl1_codes_modules.specs.Numbered.{Numbered}
+use Rattle.kl1_codes_modules.specs.Shelves.{Program}
 use Rattle.kl1_codes_modules.specs.Finding.{contents, Finds}
 use Rattle.kl1_store_hooks.specs.Hanging.{HangsOnEach}
 use Rattle.kl1_goals_moves.proofs.Hooked.{hangs_on_same}
@@ -96,23 +99,34 @@ pub serves_too : (ms : List Numbered) (known kind : Kind CellName) (c : Call Cel
 serves_too ms known kind c p e same s = let P : Kind CellName → Type 0 = λ k. Serves ms k p in serves_same ms c kind p same (subst P e s)
 
 -- what is found of a goal if its number hangs on what it waits for, and this is the clause by which it can step
-pub stands_by : (h : Held CellName) (hooks : List Hook) (kind : Kind CellName) (p : Predicate CellName) (n : ℕ) (vs ws : List ℕ) (clause : Option ℕ) →
-    ((f : Reading) → Reads built f → (modules : List Module) (t : Term) → IsKind f h t kind → HasPredicate f h modules kind p → StandsAs modules t vs clause) →
-    ws ≡ vs → HangsOnEach hooks n ws → StandsBy h hooks kind p (record { number = n; standing = clause })
-stands_by h hooks kind p n vs ws clause stands same hangs =
+pub stands_by : (rules : Rules) (h : Held CellName) (hooks : List Hook) (kind : Kind CellName) (p : Predicate CellName) (n : ℕ) (vs ws : List ℕ) (clause : Option ℕ) →
+    ((f : Reading) → Reads built f → (modules : List Module) (t : Term) → IsKind f h t kind → HasPredicate f h modules kind p → StandsAs rules modules t vs clause) →
+    ws ≡ vs → HangsOnEach hooks n ws → StandsBy rules h hooks kind p (record { number = n; standing = clause })
+stands_by rules h hooks kind p n vs ws clause stands same hangs =
     let H : List ℕ → Type 0 = λ us. HangsOnEach hooks n us in
     record {
       found = λ f ms shoens m x reads k has.
           let s = stands f reads (contents ms) (aim f h x) k has in
-          record { standing = s.clause_is; hung = hangs_on_same hooks n vs (awaited_by_term (contents ms) (aim f h x)) s.awaits (subst H same hangs) };
+          record { standing = s.clause_is; hung = hangs_on_same hooks n vs (awaited_by_term rules (contents ms) (aim f h x)) s.awaits (subst H same hangs) };
     }
 
 -- what is found of the goal for a cell, if its kind and its predicate are found
-pub stands_at : (ms : List Numbered) (shoens : List (Shoen CellName)) (h : Held CellName) (hooks : List Hook) (n : ℕ) (x : Qualified CellName) (kind : Kind CellName) (p : Predicate CellName) (c : Change) →
+pub stands_at : (program : Program) (shoens : List (Shoen CellName)) (h : Held CellName) (hooks : List Hook) (n : ℕ) (x : Qualified CellName) (kind : Kind CellName) (p : Predicate CellName) (c : Change) →
     ((f : Reading) → Reads built f → IsKind f h (qualified_term f h x) kind) →
-    ((f : Reading) → Knows ms f → (k : Held CellName) (t : Term) → IsKind f k t kind → HasPredicate f k (contents ms) kind p) →
-    StandsBy h hooks kind p c → StandsAt ms shoens h hooks n (Reduces x) c
-stands_at ms shoens h hooks n x kind p c is has s = record { found = λ f knows. let k = kind_at f h x kind (is f knows.reads) in s.found f ms shoens n x knows.reads k (has f knows h (aim f h x) k) }
+    ((f : Reading) → Knows program.loaded f → (k : Held CellName) (t : Term) → IsKind f k t kind → HasPredicate f k (contents program.loaded) kind p) →
+    StandsBy program.rules h hooks kind p c → StandsAt program shoens h hooks n (Reduces x) c
+stands_at program shoens h hooks n x kind p c is has s = record { found = λ f knows. let k = kind_at f h x kind (is f knows.reads) in s.found f program.loaded shoens n x knows.reads k (has f knows h (aim f h x) k) }
+
+-- what is found of a substitute, if its number hangs on what it waits for, and this is the clause by which it can step
+pub substitute_stands : (h : Held CellName) (hooks : List Hook) (x : Cell CellName) (n : ℕ) (vs ws : List ℕ) (clause : Option ℕ) → ((f : Reading) → Reads built f → SubstituteStands (meaning f h x) vs clause) → ws ≡ vs → HangsOnEach hooks n ws →
+    (program : Program) (shoens : List (Shoen CellName)) (shoen : ℕ) → StandsAt program shoens h hooks shoen (Substitutes x) (record { number = n; standing = clause })
+substitute_stands h hooks x n vs ws clause stands same hangs program shoens shoen =
+    let H : List ℕ → Type 0 = λ us. HangsOnEach hooks n us in
+    record {
+      found = λ f knows.
+          let s = stands f knows.reads in
+          record { standing = s.clause_is; hung = hangs_on_same hooks n vs (awaited_by_substitute (meaning f h x)) s.awaits (subst H same hangs) };
+    }
 
 -- ---- monitors
 
@@ -120,8 +134,8 @@ no_control : (shoens : List (Shoen CellName)) (n : ℕ) → None ≡ shoen_in n 
 no_control shoens n e = ap (λ o. option_map (λ (k : Shoen CellName). k.control) o) e
 
 -- nothing is found of the monitor of a shoen that isn't there
-pub nobody_stands : (ms : List Numbered) (shoens : List (Shoen CellName)) (h : Held CellName) (hooks : List Hook) (n m : ℕ) → None ≡ shoen_in n shoens → StandsAt ms shoens h hooks n Monitor (record { number = m; standing = None })
-nobody_stands ms shoens h hooks n m e =
+pub nobody_stands : (program : Program) (shoens : List (Shoen CellName)) (h : Held CellName) (hooks : List Hook) (n m : ℕ) → None ≡ shoen_in n shoens → StandsAt program shoens h hooks n Monitor (record { number = m; standing = None })
+nobody_stands program shoens h hooks n m e =
     let none = no_control shoens n e in
     record {
       found = λ f knows.
@@ -130,8 +144,8 @@ nobody_stands ms shoens h hooks n m e =
     }
 
 -- what is found of the monitor of a shoen by its control stream
-pub monitor_stands : (ms : List Numbered) (shoens : List (Shoen CellName)) (h : Held CellName) (hooks : List Hook) (n : ℕ) (s : Shoen CellName) (c : Change) → Some s ≡ shoen_in n shoens → HearsAt h hooks s.control c → StandsAt ms shoens h hooks n Monitor c
-monitor_stands ms shoens h hooks n s c e hears =
+pub monitor_stands : (program : Program) (shoens : List (Shoen CellName)) (h : Held CellName) (hooks : List Hook) (n : ℕ) (s : Shoen CellName) (c : Change) → Some s ≡ shoen_in n shoens → HearsAt h hooks s.control c → StandsAt program shoens h hooks n Monitor c
+monitor_stands program shoens h hooks n s c e hears =
     let is : Some s.control ≡ control_at shoens n = ap (λ o. option_map (λ (k : Shoen CellName). k.control) o) e in
     record {
       found = λ f knows.
@@ -142,18 +156,18 @@ monitor_stands ms shoens h hooks n s c e hears =
 -- ---- changes
 
 -- what is found becomes one change more
-pub finds_out : (ms : List Numbered) (shoens : List (Shoen CellName)) (h : Held CellName) (hooks : List Hook) (m : ℕ) (t : Task CellName) (n : ℕ) (clause : Option ℕ) (before after : List Change) →
-    StandsAt ms shoens h hooks m t (record { number = n; standing = clause }) → after ≡ before ++ record { number = n; standing = clause } ∷ [] → FindsOut ms shoens h hooks m t n before after
-finds_out ms shoens h hooks m t n clause before after s e = record { change = record { number = n; standing = clause }; is = e; number_is = refl; found = s.found }
+pub finds_out : (program : Program) (shoens : List (Shoen CellName)) (h : Held CellName) (hooks : List Hook) (m : ℕ) (t : Task CellName) (n : ℕ) (clause : Option ℕ) (before after : List Change) →
+    StandsAt program shoens h hooks m t (record { number = n; standing = clause }) → after ≡ before ++ record { number = n; standing = clause } ∷ [] → FindsOut program shoens h hooks m t n before after
+finds_out program shoens h hooks m t n clause before after s e = record { change = record { number = n; standing = clause }; is = e; number_is = refl; found = s.found }
 
 -- what is found of a goal that comes, and whether it may step
-pub looks_at_one : (ms : List Numbered) (shoens : List (Shoen CellName)) (work : List ℕ) (h : Held CellName) (hooks : List Hook) (g k : Goal CellName) → StandsAt ms shoens h hooks g.shoen g.task (record { number = g.number; standing = k.standing }) →
-    k.number ≡ g.number → k.task ≡ g.task → k.shoen ≡ g.shoen → k.priority ≡ g.priority → IsEnabled shoens work k → LooksAtOne ms shoens work h hooks g k
-looks_at_one ms shoens work h hooks g k s number_is task_is shoen_is priority_is enabled =
+pub looks_at_one : (program : Program) (shoens : List (Shoen CellName)) (work : List ℕ) (h : Held CellName) (hooks : List Hook) (g k : Goal CellName) → StandsAt program shoens h hooks g.shoen g.task (record { number = g.number; standing = k.standing }) →
+    k.number ≡ g.number → k.task ≡ g.task → k.shoen ≡ g.shoen → k.priority ≡ g.priority → IsEnabled shoens work k → LooksAtOne program shoens work h hooks g k
+looks_at_one program shoens work h hooks g k s number_is task_is shoen_is priority_is enabled =
     let c : Change = record { number = g.number; standing = k.standing } in
     record {
       same = unlooked_same k g number_is task_is shoen_is priority_is;
-      settled = λ f knows. found_out f hooks h ms shoens c g k number_is shoen_is task_is refl (s.found f knows);
+      settled = λ f knows. found_out f hooks h program shoens c g k number_is shoen_is task_is refl (s.found f knows);
       enabled = enabled;
     }
   where

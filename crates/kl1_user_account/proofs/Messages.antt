@@ -3,7 +3,7 @@ use Rattle.std.proofs.Common.{◌≡◌, ℕ, suc, ◌+◌, ◌-◌, ◌<◌, �
 use Rattle.std.specs.Prelude.{nat_lt, nat_le, Option, Some, None, option_map, option_and_then, unwrap_or}
 use Rattle.std.proofs.lemmas.Bool.{le-leb, lt-leb, lt-ltb, le-ltb}
 use Rattle.kl1_model.specs.declared.message.Message.{Message}
-use Rattle.kl1_model.specs.Limits.{most_variables, most_nodes, most_entries}
+use Rattle.kl1_model.specs.declared.limits.TheConstants.{MOST_VARIABLES, MOST_NODES, MOST_ENTRIES}
 use Rattle.kl1_model.specs.Term.{Term, variable, integer, atom, structure, replace}
 use Rattle.kl1_model.specs.Meaning.{cell}
 use Rattle.kl1_model.specs.Control.{message_term, message_nodes}
@@ -98,7 +98,7 @@ sends_ended ss v k e n m o a b some lives t s last goals counts = sends_some ss 
 
 -- whether there is room
 abbrev room_for : ℕ → ℕ → Message → Bool
-room_for v k m = nat_le (suc v) most_variables && nat_le (k + message_nodes m) most_nodes
+room_for v k m = nat_le (suc v) MOST_VARIABLES && nat_le (k + message_nodes m) MOST_NODES
 
 with_room : (ss : List (Shoen CellName)) (v k e n : ℕ) (m : Message) (o : Origin CellName) (b : Bool) (t : Means) (s : State) (last : ℕ) (goals : List (Goal CellName)) → is_number n ≡ true → is_message m ≡ true → kept_at n ss ≡ Some o → lives_in ss n ≡ true → Counts v k e s → room_for v k m ≡ b →
     step (state_with s t last goals ss) (control n m) ≡ limited (state_with s t last goals ss) b (recorded (state_with s t last goals ss) (record { state = with_entry (sent_on n m (t o.control) (state_with s t last goals ss)); reply = sent }))
@@ -110,26 +110,26 @@ with_room ss v k e n m o b t s last goals x y some lives counts room =
     ∙ ap (λ c. limited S c R) room
 
 -- if there is no room for a variable more
-pub sends_crowded : (ss : List (Shoen CellName)) (v k e n : ℕ) (m : Message) (o : Origin CellName) → is_number n ≡ true → is_message m ≡ true → kept_at n ss ≡ Some o → lives_in ss n ≡ true → most_variables ≤ v → Refuses ss v k e n m Limit
+pub sends_crowded : (ss : List (Shoen CellName)) (v k e n : ℕ) (m : Message) (o : Origin CellName) → is_number n ≡ true → is_message m ≡ true → kept_at n ss ≡ Some o → lives_in ss n ≡ true → MOST_VARIABLES ≤ v → Refuses ss v k e n m Limit
 sends_crowded ss v k e n m o a b some lives many t s last goals counts =
-    with_room ss v k e n m o false t s last goals a b some lives counts (ap (λ p. p && nat_le (k + message_nodes m) most_nodes) (lt-leb (suc v) most_variables (omega (arith, many))))
+    with_room ss v k e n m o false t s last goals a b some lives counts (ap (λ p. p && nat_le (k + message_nodes m) MOST_NODES) (lt-leb (suc v) MOST_VARIABLES (omega (arith, many))))
 
 -- if there is no room for its structures
-pub sends_limited : (ss : List (Shoen CellName)) (v k e n : ℕ) (m : Message) (o : Origin CellName) → is_number n ≡ true → is_message m ≡ true → kept_at n ss ≡ Some o → lives_in ss n ≡ true → v < most_variables → most_nodes < k + message_nodes m → Refuses ss v k e n m Limit
+pub sends_limited : (ss : List (Shoen CellName)) (v k e n : ℕ) (m : Message) (o : Origin CellName) → is_number n ≡ true → is_message m ≡ true → kept_at n ss ≡ Some o → lives_in ss n ≡ true → v < MOST_VARIABLES → MOST_NODES < k + message_nodes m → Refuses ss v k e n m Limit
 sends_limited ss v k e n m o a b some lives few many t s last goals counts =
-    with_room ss v k e n m o false t s last goals a b some lives counts (ap₂ (λ p q. p && q) (le-leb (suc v) most_variables few) (lt-leb (k + message_nodes m) most_nodes many))
+    with_room ss v k e n m o false t s last goals a b some lives counts (ap₂ (λ p q. p && q) (le-leb (suc v) MOST_VARIABLES few) (lt-leb (k + message_nodes m) MOST_NODES many))
 
 -- if the journal is full
-pub sends_full : (ss : List (Shoen CellName)) (v k e n : ℕ) (m : Message) (o : Origin CellName) → is_number n ≡ true → is_message m ≡ true → kept_at n ss ≡ Some o → lives_in ss n ≡ true → v < most_variables → k + message_nodes m ≤ most_nodes → most_entries ≤ e → Refuses ss v k e n m Journal
+pub sends_full : (ss : List (Shoen CellName)) (v k e n : ℕ) (m : Message) (o : Origin CellName) → is_number n ≡ true → is_message m ≡ true → kept_at n ss ≡ Some o → lives_in ss n ≡ true → v < MOST_VARIABLES → k + message_nodes m ≤ MOST_NODES → MOST_ENTRIES ≤ e → Refuses ss v k e n m Journal
 sends_full ss v k e n m o a b some lives variables nodes full t s last goals counts =
     let S = state_with s t last goals ss in
     let R : Transition = record { state = with_entry (sent_on n m (t o.control) S); reply = sent } in
-    with_room ss v k e n m o true t s last goals a b some lives counts (ap₂ (λ p q. p && q) (le-leb (suc v) most_variables variables) (le-leb (k + message_nodes m) most_nodes nodes))
-    ∙ ap (λ p. if nat_lt p most_entries then R else refuse S journal_full) counts.entries_are
-    ∙ ap (λ p. if p then R else refuse S journal_full) (le-ltb e most_entries full)
+    with_room ss v k e n m o true t s last goals a b some lives counts (ap₂ (λ p q. p && q) (le-leb (suc v) MOST_VARIABLES variables) (le-leb (k + message_nodes m) MOST_NODES nodes))
+    ∙ ap (λ p. if nat_lt p MOST_ENTRIES then R else refuse S journal_full) counts.entries_are
+    ∙ ap (λ p. if p then R else refuse S journal_full) (le-ltb e MOST_ENTRIES full)
 
 -- if it may be sent
-pub sends_allowed : (ss : List (Shoen CellName)) (v k e n : ℕ) (m : Message) (o : Origin CellName) → is_number n ≡ true → is_message m ≡ true → kept_at n ss ≡ Some o → lives_in ss n ≡ true → v < most_variables → k + message_nodes m ≤ most_nodes → e < most_entries → Allows ss v k e n m o
+pub sends_allowed : (ss : List (Shoen CellName)) (v k e n : ℕ) (m : Message) (o : Origin CellName) → is_number n ≡ true → is_message m ≡ true → kept_at n ss ≡ Some o → lives_in ss n ≡ true → v < MOST_VARIABLES → k + message_nodes m ≤ MOST_NODES → e < MOST_ENTRIES → Allows ss v k e n m o
 sends_allowed ss v k e n m o a b some lives variables nodes journal = record {
   found = some;
   message = b;
@@ -139,9 +139,9 @@ sends_allowed ss v k e n m o a b some lives variables nodes journal = record {
   steps = λ t s last goals counts.
       let S = state_with s t last goals ss in
       let R : Transition = record { state = with_entry (sent_on n m (t o.control) S); reply = sent } in
-      with_room ss v k e n m o true t s last goals a b some lives counts (ap₂ (λ p q. p && q) (le-leb (suc v) most_variables variables) (le-leb (k + message_nodes m) most_nodes nodes))
-      ∙ ap (λ p. if nat_lt p most_entries then R else refuse S journal_full) counts.entries_are
-      ∙ ap (λ p. if p then R else refuse S journal_full) (lt-ltb e most_entries journal);
+      with_room ss v k e n m o true t s last goals a b some lives counts (ap₂ (λ p q. p && q) (le-leb (suc v) MOST_VARIABLES variables) (le-leb (k + message_nodes m) MOST_NODES nodes))
+      ∙ ap (λ p. if nat_lt p MOST_ENTRIES then R else refuse S journal_full) counts.entries_are
+      ∙ ap (λ p. if p then R else refuse S journal_full) (lt-ltb e MOST_ENTRIES journal);
 }
 
 -- ---- a message is put on a control stream

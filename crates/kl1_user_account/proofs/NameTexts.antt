@@ -5,7 +5,7 @@ use Rattle.std.proofs.lemmas.Bool.{false≢true, and_parts, and_from, or_cases, 
 use Rattle.kl1_model.specs.Name.{is_small_letter}
 use Rattle.kl1_model.specs.Text.{is_text, is_name_byte}
 use Rattle.kl1_model.specs.Token.{is_digit}
-use Rattle.kl1_model.specs.Limits.{most_account_name_bytes, most_name_bytes}
+use Rattle.kl1_model.specs.declared.limits.TheConstants.{MOST_ACCOUNT_NAME_BYTES, MOST_NAME_BYTES}
 use Rattle.kl1_model.specs.AccountName.{is_account_name}
 
 letter_in_text : (b : ℕ) → is_small_letter b ≡ true → is_name_byte b ≡ true
@@ -33,7 +33,7 @@ bytes_in_text (b ∷ bs) h =
 pub account_is_text : (word : List ℕ) → is_account_name word ≡ true → IsTrue (is_text word)
 account_is_text [] h = absurd (false≢true h)
 account_is_text (b ∷ bs) h =
-    let p = and_parts (is_small_letter b && list_all (λ c. is_small_letter c || is_digit c) bs) (nat_le (length (b ∷ bs)) most_account_name_bytes) h in
+    let p = and_parts (is_small_letter b && list_all (λ c. is_small_letter c || is_digit c) bs) (nat_le (length (b ∷ bs)) MOST_ACCOUNT_NAME_BYTES) h in
     let q = and_parts (is_small_letter b) (list_all (λ c. is_small_letter c || is_digit c) bs) p.0 in
-    let short : length (b ∷ bs) ≤ most_account_name_bytes = leb-true (length (b ∷ bs)) most_account_name_bytes p.1 in
-    and_from _ _ (le-leb (suc (length bs)) most_name_bytes (omega (arith, short))) (and_from _ _ (letter_in_text b q.0) (bytes_in_text bs q.1))
+    let short : length (b ∷ bs) ≤ MOST_ACCOUNT_NAME_BYTES = leb-true (length (b ∷ bs)) MOST_ACCOUNT_NAME_BYTES p.1 in
+    and_from _ _ (le-leb (suc (length bs)) MOST_NAME_BYTES (omega (arith, short))) (and_from _ _ (letter_in_text b q.0) (bytes_in_text bs q.1))

@@ -3,7 +3,7 @@ use Rattle.std.proofs.Common.{◌≡◌, ℕ, suc, ◌+◌, ◌<◌, ◌==◌, �
 use Rattle.std.specs.Prelude.{Option, Some, None, nat_lt}
 use Rattle.std.proofs.lemmas.Bool.{ne_eqb, eq-eqb}
 use Rattle.std.proofs.lemmas.List.{map-append}
-use Rattle.kl1_model.specs.Limits.{monitor_priority, most_reports}
+use Rattle.kl1_model.specs.declared.limits.TheConstants.{MONITOR_PRIORITY, MOST_REPORTS}
 use Rattle.kl1_model.specs.Term.{Term, variable, occurs, replace}
 use Rattle.kl1_model.specs.Meaning.{cell, highest}
 use Rattle.kl1_model.specs.Nodes.{goal_nodes}
@@ -81,7 +81,7 @@ goals_same old t goal C b last gs h s a i =
     ∙ ap (λ (xs : List model.Goal). map (goal_with t) gs ++ xs) (two (replace b C goal) (replace_free b C goal a.goal_is))
   where
     two : (w : Term) → w ≡ goal → map (replace_in_goal b C) (opening_goals last h goal) ≡ opening_goals last h goal
-    two w e = ap (λ (x : Term). let m : model.Goal = record { number = suc (suc last); task = model.reduces x; shoen = h.number; priority = h.high } in record { number = suc last; task = model.monitor; shoen = h.number; priority = monitor_priority } ∷ m ∷ []) (replace_free b C goal a.goal_is)
+    two w e = ap (λ (x : Term). let m : model.Goal = record { number = suc (suc last); task = model.reduces x; shoen = h.number; priority = h.high } in record { number = suc last; task = model.monitor; shoen = h.number; priority = MONITOR_PRIORITY } ∷ m ∷ []) (replace_free b C goal a.goal_is)
 
 -- the shoens if it is, and if the tail of the last of them is another
 shoens_same : (old : Held CellName) (t : Means) (goal C tail : Term) (b n : ℕ) (ss : List (Shoen CellName)) (h : model.Shoen) (s : State) → IsAbsent old t goal b → AreShoensIn old ss → AreNumbered 0 ss → length ss < n → h.number ≡ n →
@@ -100,7 +100,7 @@ sent_at b m n s =
 
 -- a report on the streams with this tail
 told_at : (old : Held CellName) (t : Means) (s : State) (gs : List (Goal CellName)) (ss : List (Shoen CellName)) (h : model.Shoen) (goal m : Term) (o : Opens) (b : ℕ) (y : Bool) → IsAbsent old t goal b → AreGoalsIn old gs → AreShoensIn old ss → AreNumbered 0 ss → length ss < h.number →
-    (occurs b m || not (nat_lt o.made most_reports)) ≡ y →
+    (occurs b m || not (nat_lt o.made MOST_REPORTS)) ≡ y →
     reported_at h.number m (variable b) (opening s t gs ss h goal o)
     ≡ opening s t gs ss h goal (let link = cell m (variable (suc o.last)) in if y then record o { is_broken = true } else record { control = replace b link o.control; reports = replace b link o.reports; tail = variable (suc o.last); is_broken = o.is_broken; last = suc o.last; made = suc o.made })
 told_at old t s gs ss h goal m o b true a i j numbered lt e =
@@ -127,11 +127,11 @@ told old t s gs ss h goal m o b a i j numbered lt tail_is =
     by_case true e = refl
     by_case false e =
         ap (λ (w : Term). reported_at h.number m w (opening s t gs ss h goal o)) tail_is
-        ∙ told_at old t s gs ss h goal m o b (occurs b m || not (nat_lt o.made most_reports)) a i j numbered lt refl
+        ∙ told_at old t s gs ss h goal m o b (occurs b m || not (nat_lt o.made MOST_REPORTS)) a i j numbered lt refl
         ∙ ap (λ (w : Term). opening s t gs ss h goal (tells_at m w o)) (sym tail_is)
 
 -- both reports
-both_told : (old : Held CellName) (t : Means) (s : State) (gs : List (Goal CellName)) (ss : List (Shoen CellName)) (h : model.Shoen) (goal : Term) (last made : ℕ) (b : Bool) → ((v : ℕ) → last < v → IsAbsent old t goal v) → AreGoalsIn old gs → AreShoensIn old ss → AreNumbered 0 ss → length ss < h.number → nat_lt made most_reports ≡ b →
+both_told : (old : Held CellName) (t : Means) (s : State) (gs : List (Goal CellName)) (ss : List (Shoen CellName)) (h : model.Shoen) (goal : Term) (last made : ℕ) (b : Bool) → ((v : ℕ) → last < v → IsAbsent old t goal v) → AreGoalsIn old gs → AreShoensIn old ss → AreNumbered 0 ss → length ss < h.number → nat_lt made MOST_REPORTS ≡ b →
     report h.number exhausted_report (report h.number started_report (opening s t gs ss h goal (first_streams last made))) ≡ opening s t gs ss h goal (tells exhausted_report (tells started_report (first_streams last made)))
 both_told old t s gs ss h goal last made b a i j numbered lt e =
     ap (report h.number exhausted_report) (told old t s gs ss h goal started_report (first_streams last made) (suc (suc last)) (a (suc (suc last)) (omega arith)) i j numbered lt refl)
@@ -146,7 +146,7 @@ both_told old t s gs ss h goal last made b a i j numbered lt e =
 all_told : (old : Held CellName) (t : Means) (s : State) (gs : List (Goal CellName)) (ss : List (Shoen CellName)) (h : model.Shoen) (goal : Term) (allowance last made : ℕ) (z : Bool) → ((v : ℕ) → last < v → IsAbsent old t goal v) → AreGoalsIn old gs → AreShoensIn old ss → AreNumbered 0 ss → length ss < h.number →
     (let opened = report h.number started_report (opening s t gs ss h goal (first_streams last made)) in if z then report h.number exhausted_report opened else opened)
     ≡ opening s t gs ss h goal (let opened = tells started_report (first_streams last made) in if z then tells exhausted_report opened else opened)
-all_told old t s gs ss h goal allowance last made true a i j numbered lt = both_told old t s gs ss h goal last made (nat_lt made most_reports) a i j numbered lt refl
+all_told old t s gs ss h goal allowance last made true a i j numbered lt = both_told old t s gs ss h goal last made (nat_lt made MOST_REPORTS) a i j numbered lt refl
 all_told old t s gs ss h goal allowance last made false a i j numbered lt = told old t s gs ss h goal started_report (first_streams last made) (suc (suc last)) (a (suc (suc last)) (omega arith)) i j numbered lt refl
 
 -- ---- what is read of the cells of a shoen that opens

@@ -1,5 +1,6 @@
 -- A reduction that is drafted is put in place.
 use Rattle.std.proofs.Common.{◌≡◌, ℕ, suc, ◌+◌, Bool, List, length, nat_lt, if◌then◌else◌, Option, Some, None, refl, sym, ap, ◌∙◌, subst}
+use Rattle.kl1_model.specs.declared.rules.Rules.{Rules}
 use Rattle.kl1_model.specs.State.{State}
 use Rattle.kl1_model.specs.Event.{reduce, reduced, refuse, Transition}
 use Rattle.kl1_model.specs.Step.{step}
@@ -14,7 +15,7 @@ use Rattle.kl1_user_events.specs.declared.refusal.Refusal.{Refusal}
 use Rattle.kl1_user_events.specs.Views.{reduced_or, refusal_of}
 use Rattle.kl1_user_effects.specs.declared.draft.Draft.{Draft}
 use Rattle.kl1_user_effects.specs.Fitting.{Reading, Fits}
-use Rattle.kl1_user_effects.specs.Account.{Account, state_of}
+use Rattle.kl1_user_effects.specs.Account.{Account, program_of, state_of}
 use Rattle.kl1_user_effects.specs.Works.{Knows}
 use Rattle.kl1_user_effects.specs.Installing.{IsBegun, IsFitting, goals_after}
 use Rattle.kl1_user_account.specs.Keeping.{IsKept}
@@ -42,16 +43,16 @@ kept_own a own hooks known k = record {
 }
 
 -- an account with a tree of its shoens is the account
-at_is : (a : Account) (own : List ℕ × ℕ) (t : Tree CellName) → t.shoens ≡ a.shoens → t.work ≡ a.work → account_at own a.held a.goals t a.modules a.names a.last_goal a.variables a.nodes a.reports a.entries ≡ record a { own_name = own.0; sessions = own.1 }
+at_is : (a : Account) (own : List ℕ × ℕ) (t : Tree CellName) → t.shoens ≡ a.shoens → t.work ≡ a.work → account_at own a.held a.goals t (program_of a) a.names a.last_goal a.variables a.nodes a.reports a.entries ≡ record a { own_name = own.0; sessions = own.1 }
 at_is a own t shoens work = as_was (record a { own_name = own.0; sessions = own.1 }) a.held t.shoens t.work refl shoens work
 
 -- what always holds of an account holds of it with a tree of its shoens, by any name and with any number of sessions
-pub kept_at : (a : Account) (t : Tree CellName) (hooks : List Hook) (known : ℕ) → t.shoens ≡ a.shoens → t.work ≡ a.work → IsKept a hooks known → (own : List ℕ × ℕ) → IsKept (account_at own a.held a.goals t a.modules a.names a.last_goal a.variables a.nodes a.reports a.entries) hooks known
+pub kept_at : (a : Account) (t : Tree CellName) (hooks : List Hook) (known : ℕ) → t.shoens ≡ a.shoens → t.work ≡ a.work → IsKept a hooks known → (own : List ℕ × ℕ) → IsKept (account_at own a.held a.goals t (program_of a) a.names a.last_goal a.variables a.nodes a.reports a.entries) hooks known
 kept_at a t hooks known shoens work k own = subst (λ (z : Account). IsKept z hooks known) (sym (at_is a own t shoens work)) (kept_own a own hooks known k)
 
 -- what came of a reduction, as it is of the account itself
 pub comes_of : (a : Account) (t : Tree CellName) (n c : ℕ) (old new : Kept CellName) (u : Tree CellName) (table : Tabled CellName) (d : Draft) (p : Option Refusal) → t.shoens ≡ a.shoens → t.work ≡ a.work →
-    ((own : List ℕ × ℕ) → ReducesAs (account_at own a.held a.goals t a.modules a.names a.last_goal a.variables a.nodes a.reports a.entries) n c old new t u table d p) → ReducesAs a n c old new t u table d p
+    ((own : List ℕ × ℕ) → ReducesAs (account_at own a.held a.goals t (program_of a) a.names a.last_goal a.variables a.nodes a.reports a.entries) n c old new t u table d p) → ReducesAs a n c old new t u table d p
 comes_of a t n c old new u table d p shoens work came = subst (λ (z : Account). ReducesAs z n c old new t u table d p) (at_is a (a.own_name, a.sessions) t shoens work) (came (a.own_name, a.sessions))
 
 pub reduced_of : (a : Account) (n c : ℕ) (old new : Kept CellName) (t u : Tree CellName) (table : Tabled CellName) (d : Draft) (p : Option Refusal) → p ≡ None → ReducesAs a n c old new t u table d p → IsReduced a n c new u table d
@@ -124,8 +125,9 @@ refused_step a b z n c old new t u r hooks known view back k i f fits =
     ∙ ap (λ (w : Account). refuse (state_of f w) (refusal_of r)) (sym back)
 
 -- a draft has begun with what it has
-pub begun_same : (n last variables nodes reports : ℕ) (d : Draft) → IsBegun n last variables nodes reports d → IsBegun n d.last_goal d.variables d.nodes d.reports d
-begun_same n last variables nodes reports d b = record {
+pub begun_same : (n : ℕ) (rules : Rules) (last variables nodes reports : ℕ) (d : Draft) → IsBegun n rules last variables nodes reports d → IsBegun n rules d.last_goal d.variables d.nodes d.reports d
+begun_same n rules last variables nodes reports d b = record {
+  rules_are = b.rules_are;
   removed_is = b.removed_is;
   aborted = b.aborted;
   ended = b.ended;

@@ -2,7 +2,8 @@
 use Rattle.std.proofs.Common.{◌≡◌, ◌<◌, ◌≤◌, ℕ, false, List, [], ◌++◌, length, map, refl, sym, ap, ◌∙◌, subst, arith}
 use Rattle.std.specs.Prelude.{Option, Some, None}
 use Rattle.std.specs.List.{AllByRecursion}
-use Rattle.kl1_model.specs.Limits.{most_entries}
+use Rattle.kl1_model.specs.declared.limits.TheConstants.{MOST_ENTRIES}
+use Rattle.kl1_model.specs.declared.rules.Rules.{Rules}
 use Rattle.kl1_model.specs.State as model
 use Rattle.kl1_model.specs.State.{State}
 use Rattle.kl1_model.specs.Event.{reduce, reduced, Transition, with_entry}
@@ -20,13 +21,14 @@ use Rattle.kl1_shoen.specs.Shoens.{Tree, is_enabled_at}
 use Rattle.kl1_user_effects.specs.declared.draft.Draft.{Draft}
 use Rattle.kl1_user_effects.specs.declared.draft.Spelled.{Spelled}
 use Rattle.kl1_user_effects.specs.Fitting.{Reading, Fits}
-use Rattle.kl1_user_effects.specs.Account.{Account, meaning, goal_with, state_of, texts_of}
+use Rattle.kl1_user_effects.specs.Account.{Account, program_of, meaning, goal_with, state_of, texts_of}
 use Rattle.kl1_user_effects.specs.Kept.{AreGoalsIn, AreOwned, AreUpTo, AreShoensIn}
 use Rattle.kl1_user_effects.specs.Works.{worked}
 use Rattle.kl1_user_effects.specs.Drafts.{goals_left, names_with, made_of}
 use Rattle.kl1_user_effects.specs.Installing.{IsBegun, goals_after}
 use Rattle.kl1_user_effects.specs.Settled.{AreSettled}
 use Rattle.kl1_user_account.specs.Keeping.{IsKept}
+use Rattle.kl1_user_account.specs.Exchanging.{exchanged}
 use Rattle.kl1_user_account.specs.Waking.{KeepControls}
 use Rattle.kl1_user_account.specs.Finishing.{SameFlags, Finishes}
 use Rattle.kl1_user_effects.specs.Leaving.{Leaves}
@@ -38,7 +40,7 @@ use Rattle.kl1_user_effects.proofs.States.{goals_grown}
 use Rattle.kl1_user_account.proofs.Restood.{each_is}
 use Rattle.kl1_user_account.proofs.StartKept.{owned_more, up_to_more}
 use Rattle.kl1_user_account.proofs.Finished.{known_after, next_owned}
-use Rattle.kl1_user_account.proofs.Exchanged.{exchanged, with_spare, spare_texts, spare_fits, spare_reads, exchanged_fits, settled_alike}
+use Rattle.kl1_user_account.proofs.Exchanged.{with_spare, spare_texts, spare_fits, spare_reads, exchanged_fits, settled_alike}
 use Rattle.kl1_user_account.proofs.Respelled.{variables_respelled, goals_respelled, shoens_respelled, spare_again}
 
 -- a reduction of an account was drafted: the draft began, effects have left a tree and another draft, the numbers of more goals may have
@@ -52,7 +54,8 @@ pub record IsDrafted (a : Account) (n c : ℕ) (old mid new : Kept CellName) (t 
   pub grown : Grown old.held mid.held
   pub hooks : mid.hooks ≡ old.hooks
   pub same : new.held ≡ mid.held
-  pub begun : IsBegun removed a.last_goal a.variables a.nodes a.reports start
+  pub rules : effected.rules ≡ a.rules
+  pub begun : IsBegun removed a.rules a.last_goal a.variables a.nodes a.reports start
   pub leaves : Leaves number mid.held t u reached start effected
   pub shoens_in : AreShoensIn mid.held u.shoens
   pub effect : IsEffect a n c mid.held u effected
@@ -62,16 +65,17 @@ pub record IsDrafted (a : Account) (n c : ℕ) (old mid new : Kept CellName) (t 
   pub has : HasName effected.spelled effected.name
   pub tells : told ≡ record effected { told = told.told }
   pub controls : KeepControls told.told.items a.shoens u.shoens a.goals
-  pub room : a.entries < most_entries
-  pub finishes : Finishes a.modules (point_of old) mid new u a.goals table reached told finished
+  pub room : a.entries < MOST_ENTRIES
+  pub finishes : Finishes (program_of a) (point_of old) mid new u a.goals table reached told finished
 
 -- what a draft makes of an account is the account with the finished draft in place, and with the names that it has then
 placed_named : (f : Reading) (a : Account) (last : Held CellName) (u : Tree CellName) (d e : Draft) (more : List Known) → map (goal_with (meaning f last)) (goals_after a.goals e) ≡ map (goal_with (meaning f last)) (goals_left (a.goals ++ d.added.items) d) →
-    texts_of more ≡ names_with (texts_of a.names) d.name → e.last_goal ≡ d.last_goal → e.variables ≡ d.variables → e.nodes ≡ d.nodes → e.reports ≡ d.reports →
+    d.rules ≡ a.rules → texts_of more ≡ names_with (texts_of a.names) d.name → e.last_goal ≡ d.last_goal → e.variables ≡ d.variables → e.nodes ≡ d.nodes → e.reports ≡ d.reports →
     worked f (with_entry (state_of f a)) last (made_of a.goals (texts_of a.names) u d) ≡ state_of f (named_in a last u e more)
-placed_named f a last u d e more goals texts goal_is variables nodes reports =
+placed_named f a last u d e more goals rules texts goal_is variables nodes reports =
     let s = state_of f (named_in a last u e more) in
-    ap (λ (gs : List model.Goal). let z : State = record s { goals = gs; names = names_with (texts_of a.names) d.name; last_goal = d.last_goal; variables = d.variables; nodes = d.nodes; reports = d.reports } in z) (sym goals)
+    ap (λ (r : Rules). let z : State = record s { rules = r; goals = map (goal_with (meaning f last)) (goals_left (a.goals ++ d.added.items) d); names = names_with (texts_of a.names) d.name; last_goal = d.last_goal; variables = d.variables; nodes = d.nodes; reports = d.reports } in z) rules
+    ∙ ap (λ (gs : List model.Goal). let z : State = record s { goals = gs; names = names_with (texts_of a.names) d.name; last_goal = d.last_goal; variables = d.variables; nodes = d.nodes; reports = d.reports } in z) (sym goals)
     ∙ ap (λ (ns : List (List ℕ)). let z : State = record s { names = ns; last_goal = d.last_goal; variables = d.variables; nodes = d.nodes; reports = d.reports } in z) (sym texts)
     ∙ ap (λ n. let z : State = record s { last_goal = n; variables = d.variables; nodes = d.nodes; reports = d.reports } in z) (sym goal_is)
     ∙ ap (λ n. let z : State = record s { variables = n; nodes = d.nodes; reports = d.reports } in z) (sym variables)
@@ -128,7 +132,7 @@ module _ (a : Account) (n c : ℕ) (old mid new : Kept CellName) (t u : Tree Cel
   steps_to more last p f fits =
       (d.effect more last p f fits).step
       ∙ ap (λ (z : State). let y : Transition = record { state = z; reply = reduced } in y)
-      (placed_named f a last u effected finished more (goals_are f last) p.named.texts last_is variables_are nodes_are reports_are)
+      (placed_named f a last u effected finished more (goals_are f last) d.rules p.named.texts last_is variables_are nodes_are reports_are)
 
   -- two readings, of names that were published in two ways, read the same state
   same_states : (more less : List Known) (last first : Held CellName) → IsPublishedBy a.names more effected mid.held last → IsPublishedBy a.names less effected mid.held first → (f g : Reading) → Fits more f → Fits less g →
@@ -141,11 +145,11 @@ module _ (a : Account) (n c : ℕ) (old mid new : Kept CellName) (t u : Tree Cel
   -- ---- goals that are settled
 
   -- for a reading that fits the names before
-  settled_before : (f : Reading) → Fits a.names f → AreSettled f new.hooks new.held a.modules u.shoens (goals_after a.goals finished)
+  settled_before : (f : Reading) → Fits a.names f → AreSettled f new.hooks new.held (program_of a) u.shoens (goals_after a.goals finished)
   settled_before f fits =
       let G : Held CellName → Type 0 = λ h. AreGoalsIn h a.goals in
       let S : Held CellName → Type 0 = λ h. AreShoensIn h a.shoens in
-      let T : Held CellName → Type 0 = λ h. AreSettled f old.hooks h a.modules a.shoens a.goals in
+      let T : Held CellName → Type 0 = λ h. AreSettled f old.hooks h (program_of a) a.shoens a.goals in
       d.finishes.settles old a.shoens (record { marked = refl; formed = d.formed; grown = d.grown; hooks = d.hooks }) (subst G (sym d.held) d.kept.goals) (subst S (sym d.held) d.kept.shoens) d.controls
       f (record { reads = fits.reads; rows = d.kept.rows f fits }) (subst T (sym d.held) (d.kept.settled f fits))
 
@@ -166,29 +170,29 @@ module _ (a : Account) (n c : ℕ) (old mid new : Kept CellName) (t u : Tree Cel
 
   -- for a reading that fits the names after, if a name was drafted
   settled_named : (more : List Known) (last : Held CellName) (text : List ℕ) → effected.name ≡ Some text → number_by a.names text ≡ None → IsPublishedBy a.names more effected mid.held last → (f : Reading) → Fits more f →
-      AreSettled f new.hooks last a.modules u.shoens (goals_after a.goals finished)
+      AreSettled f new.hooks last (program_of a) u.shoens (goals_after a.goals finished)
   settled_named more last text is new_text p f fits =
       let R : Option (List ℕ) → Type 0 = λ o. ReadsNew f p.number o in
-      let H : Held CellName → Type 0 = λ h. AreSettled (exchanged spare p.number f) new.hooks h a.modules u.shoens (goals_after a.goals finished) in
+      let H : Held CellName → Type 0 = λ h. AreSettled (exchanged spare p.number f) new.hooks h (program_of a) u.shoens (goals_after a.goals finished) in
       let less = with_spare a.names text in
       let g = exchanged spare p.number f in
       let two : Fits less g = exchanged_fits a.names text p.number f d.kept.small new_text (subst R is (p.named.reads f fits)) (p.named.fits f fits) in
       let states = same_states less more mid.held last (spare_published text is new_text) p g f two fits in
-      settled_alike g f new.hooks mid.held last a.modules u.shoens (goals_after a.goals finished) (ap (λ (z : State). z.shoens) states) (ap (λ (z : State). z.goals) states)
+      settled_alike g f new.hooks mid.held last (program_of a) u.shoens (goals_after a.goals finished) (ap (λ (z : State). z.shoens) states) (ap (λ (z : State). z.goals) states)
       (subst H d.same (settled_before g (spare_fits a.names text new_text g two)))
 
   -- if none was, the store is what it was
-  settled_unnamed : (more : List Known) (last : Held CellName) → effected.name ≡ None → IsPublishedBy a.names more effected mid.held last → (f : Reading) → Fits more f → AreSettled f new.hooks last a.modules u.shoens (goals_after a.goals finished)
+  settled_unnamed : (more : List Known) (last : Held CellName) → effected.name ≡ None → IsPublishedBy a.names more effected mid.held last → (f : Reading) → Fits more f → AreSettled f new.hooks last (program_of a) u.shoens (goals_after a.goals finished)
   settled_unnamed more last is p f fits =
       let S : Option Spelled → Type 0 = λ s. Respells s p.number mid.held last in
-      let H : Held CellName → Type 0 = λ h. AreSettled f new.hooks h a.modules u.shoens (goals_after a.goals finished) in
+      let H : Held CellName → Type 0 = λ h. AreSettled f new.hooks h (program_of a) u.shoens (goals_after a.goals finished) in
       let stays : last ≡ mid.held = subst S (d.has is) p.respells in
       subst H (d.same ∙ sym stays) (settled_before f (p.named.fits f fits))
 
-  settled_after : (more : List Known) (last : Held CellName) → IsPublishedBy a.names more effected mid.held last → (f : Reading) → Fits more f → AreSettled f new.hooks last a.modules u.shoens (goals_after a.goals finished)
+  settled_after : (more : List Known) (last : Held CellName) → IsPublishedBy a.names more effected mid.held last → (f : Reading) → Fits more f → AreSettled f new.hooks last (program_of a) u.shoens (goals_after a.goals finished)
   settled_after more last p f fits = by_name effected.name refl
     where
-      by_name : (o : Option (List ℕ)) → effected.name ≡ o → AreSettled f new.hooks last a.modules u.shoens (goals_after a.goals finished)
+      by_name : (o : Option (List ℕ)) → effected.name ≡ o → AreSettled f new.hooks last (program_of a) u.shoens (goals_after a.goals finished)
       by_name None is = settled_unnamed more last is p f fits
       by_name (Some text) is =
           let N : Option (List ℕ) → Type 0 = λ o. IsNewName a.names o in

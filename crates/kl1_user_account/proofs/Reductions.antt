@@ -4,7 +4,8 @@ use Rattle.std.specs.Prelude.{Option, Some, None, filter, find, count_by}
 use Rattle.std.specs.List.{AllByRecursion}
 use Rattle.std.proofs.lemmas.Bool.{ne_eqb}
 use Rattle.std.proofs.lemmas.List.Sums.{length-filter}
-use Rattle.kl1_model.specs.Limits.{most_entries}
+use Rattle.kl1_model.specs.declared.limits.TheConstants.{MOST_ENTRIES}
+use Rattle.kl1_model.specs.declared.rules.Rules.{Rules}
 use Rattle.kl1_text.specs.declared.cell_name.CellName.{CellName}
 use Rattle.kl1_atoms.specs.declared.known.Known.{Known}
 use Rattle.kl1_atoms.specs.Names.{number_by}
@@ -19,7 +20,8 @@ use Rattle.kl1_match.specs.declared.place.Place.{Place}
 use Rattle.kl1_goals_moves.specs.declared.moves.Move.{Move}
 use Rattle.kl1_goals_moves.specs.declared.moves.Move.TheVariants as move
 use Rattle.kl1_goals_moves.specs.Moves.{MoveIn}
-use Rattle.kl1_goals.specs.declared.task.Task.TheVariants.{Monitor, Reduces}
+use Rattle.kl1_goals.specs.declared.task.Task.{Task}
+use Rattle.kl1_goals.specs.declared.task.Task.TheVariants.{Monitor, Reduces, Substitutes}
 use Rattle.kl1_goals.specs.declared.goal.Goal.{Goal}
 use Rattle.kl1_goals.specs.Lists.{number_of, has_number, is_other, is_monitor, is_monitor_task, is_monitor_of}
 use Rattle.kl1_goals.specs.Tables.{Tabled, Ascend, AreInOrder, AreSingle}
@@ -27,21 +29,21 @@ use Rattle.kl1_shoen_paths.specs.declared.shoen.Shoen.{Shoen}
 use Rattle.kl1_shoen.specs.Shoens.{Tree, is_enabled_at}
 use Rattle.kl1_user_effects.specs.declared.draft.Draft.{Draft}
 use Rattle.kl1_user_effects.specs.declared.draft.Spelled.{Spelled}
-use Rattle.kl1_user_effects.specs.Account.{Account, texts_of}
+use Rattle.kl1_user_effects.specs.Account.{Account, program_of, texts_of}
 use Rattle.kl1_user_effects.specs.Kept.{AreOwned, AreShoensIn}
 use Rattle.kl1_user_effects.specs.Drafts.{goals_left}
 use Rattle.kl1_user_effects.specs.Installing.{IsBegun}
 use Rattle.kl1_user_effects.specs.Settled.{IsEnabled}
 use Rattle.kl1_user_account.specs.Waking.{is_among, KeepControls}
 use Rattle.kl1_user_effects.specs.Outlines.{KeepsOthers}
-use Rattle.kl1_user_effects.specs.Leaving.{Leaves, IsHeard}
+use Rattle.kl1_user_effects.specs.Leaving.{Leaves, IsActed, IsHeard}
 use Rattle.kl1_user_account.specs.Finishing.{Finishes}
 use Rattle.kl1_user_account.specs.Keeping.{IsKept}
 use Rattle.kl1_user_steps.specs.Acting.{Reads}
 use Rattle.kl1_user_effects.specs.Calling.{keeps_names, name_of, IsNewName}
 use Rattle.kl1_user_effects.specs.Moving.{name_for}
 use Rattle.kl1_user_steps.specs.Spelling.{IsSpelledIn, IsSparedIn, HasName, Does}
-use Rattle.kl1_user_account.specs.Reducing.{IsSteppable, IsMade, HeardAs, IsReduced}
+use Rattle.kl1_user_account.specs.Reducing.{IsSteppable, IsToMake, IsTaskFor, HeardAs, IsReduced}
 use Rattle.kl1_user_account.proofs.PutIn.{begun_left}
 use Rattle.kl1_user_account.proofs.Steps.{found_holds}
 use Rattle.kl1_user_account.proofs.Effected.{does_effect, heard_effect}
@@ -50,9 +52,18 @@ use Rattle.kl1_user_account.proofs.ReducedKept.{drafted_reduces}
 -- ---- what a goal is, by its number
 
 -- the shoen of a goal for a cell that may step lets it step
-pub shoen_lets : (shoens : List (Shoen CellName)) (work : List ℕ) (g : Goal CellName) (x : Qualified CellName) → g.task ≡ Reduces x → g.is_enabled ≡ true → IsEnabled shoens work g → is_enabled_at shoens work g.shoen ≡ true
-shoen_lets shoens work g x task on is =
-    ap (λ t. is_monitor_task t || is_enabled_at shoens work g.shoen) (sym task) ∙ sym is ∙ on
+pub shoen_lets : (shoens : List (Shoen CellName)) (work : List ℕ) (g : Goal CellName) → is_monitor g ≡ false → g.is_enabled ≡ true → IsEnabled shoens work g → is_enabled_at shoens work g.shoen ≡ true
+shoen_lets shoens work g acts on is =
+    ap (λ b. b || is_enabled_at shoens work g.shoen) (sym acts) ∙ sym is ∙ on
+
+-- a goal whose task is for a cell is no monitor
+pub no_monitor : (g : Goal CellName) (x : Qualified CellName) → IsTaskFor x g.task → is_monitor g ≡ false
+no_monitor g x is = by_task g.task is
+  where
+    by_task : (k : Task CellName) → IsTaskFor x k → is_monitor_task k ≡ false
+    by_task Monitor i = absurd i
+    by_task (Reduces q) i = refl
+    by_task (Substitutes y) i = refl
 
 -- ---- goals without one
 
@@ -86,12 +97,12 @@ one_less n from (x ∷ gs) g up e is = by_case (x.number == n) refl e (λ f. one
     by_case false q f k = counted (p x) (k f)
 
 -- if a draft has begun that removes a goal which is no monitor, one less acts
-pub alive_left : (n last variables nodes reports alive : ℕ) (d : Draft) (gs : List (Goal CellName)) (g : Goal CellName) (x : Qualified CellName) → IsBegun n last variables nodes reports d → AreInOrder gs → find (has_number n) gs ≡ Some g → g.task ≡ Reduces x →
+pub alive_left : (n : ℕ) (rules : Rules) (last variables nodes reports alive : ℕ) (d : Draft) (gs : List (Goal CellName)) (g : Goal CellName) → IsBegun n rules last variables nodes reports d → AreInOrder gs → find (has_number n) gs ≡ Some g → is_monitor g ≡ false →
     alive ≡ count_by (λ k. not (is_monitor k)) gs → alive ≡ suc (count_by (λ k. not (is_monitor k)) (goals_left (gs ++ d.added.items) d))
-alive_left n last variables nodes reports alive d gs g x begun order found task is =
+alive_left n rules last variables nodes reports alive d gs g begun order found acts is =
     let p : Goal CellName → Bool = λ k. not (is_monitor k) in
-    is ∙ sym (length-filter p gs) ∙ one_less n 0 gs g order found (ap is_monitor_task task)
-    ∙ ap suc (length-filter p (filter (is_other n) gs) ∙ ap (count_by p) (sym (begun_left n last variables nodes reports d gs begun)))
+    is ∙ sym (length-filter p gs) ∙ one_less n 0 gs g order found acts
+    ∙ ap suc (length-filter p (filter (is_other n) gs) ∙ ap (count_by p) (sym (begun_left n rules last variables nodes reports d gs begun)))
 
 -- ---- control streams before monitors
 
@@ -172,15 +183,16 @@ is_new h p places text (move.Names x) known i = by_case (number_by known text) (
     by_case (Some n) b e f = tt
 is_new h p places text (move.Opens s) known i = tt
 is_new h p places text move.Goes known i = tt
+is_new h p places text move.GivesWay known i = tt
 
 -- ---- reductions that are drafted
 
 -- what a monitor reads is drafted as it is to be
 pub heard_reduces : (a : Account) (n c known : ℕ) (g : Goal CellName) (k : Control CellName) (mark : Point) (old mid new : Kept CellName) (t u : Tree CellName) (table : Tabled CellName) (reached : List ℕ) (start effected told finished : Draft) →
-    IsKept a old.hooks known → IsSteppable a.goals n c g → g.task ≡ Monitor → HeardAs a.held a.shoens a.entries g c k → a.entries < most_entries → AreSingle a.goals →
-    old.held ≡ a.held → t.shoens ≡ a.shoens → t.work ≡ a.work → mark ≡ point_of old → IsFormed old.held → IsBegun 0 a.last_goal a.variables a.nodes a.reports start →
+    IsKept a old.hooks known → IsSteppable a.goals n c g → g.task ≡ Monitor → HeardAs a.held a.shoens a.entries g c k → a.entries < MOST_ENTRIES → AreSingle a.goals →
+    old.held ≡ a.held → t.shoens ≡ a.shoens → t.work ≡ a.work → mark ≡ point_of old → IsFormed old.held → IsBegun 0 a.rules a.last_goal a.variables a.nodes a.reports start →
     Reads g.shoen k a.goals (texts_of a.names) a.held mid.held t u start effected → AreShoensIn mid.held u.shoens → Leaves g.shoen mid.held t u [] start effected → IsHeard start effected → Grown old.held mid.held → mid.hooks ≡ old.hooks →
-    told ≡ record effected { told = told.told } → told.told.items ≡ effected.told.items ++ n ∷ [] → Finishes a.modules mark mid new u a.goals table reached told finished → new.held ≡ mid.held → table.shoens ≡ known → IsReduced a n c new u table finished
+    told ≡ record effected { told = told.told } → told.told.items ≡ effected.told.items ++ n ∷ [] → Finishes (program_of a) mark mid new u a.goals table reached told finished → new.held ≡ mid.held → table.shoens ≡ known → IsReduced a n c new u table finished
 heard_reduces a n c known g k mark old mid new t u table reached start effected told finished kept is task hears room single held shoens work at formed begun reads inside leaves rest grown hooks tells pushed finishes same count =
     let name : effected.name ≡ None = ap (λ (d : Draft). d.name) rest ∙ begun.name in
     let spelled : effected.spelled ≡ None = ap (λ (d : Draft). d.spelled) rest ∙ begun.spelled in
@@ -191,7 +203,7 @@ heard_reduces a n c known g k mark old mid new t u table reached start effected 
     let S : Option Spelled → Type 0 = λ o. IsSpelledIn o mid.held in
     let R : Option Spelled → Type 0 = λ o. IsSparedIn o mid.held in
     let C : List (Shoen CellName) → Type 0 = λ ss. KeepControls told.told.items ss u.shoens a.goals in
-    let F : Point → Type 0 = λ m. Finishes a.modules m mid new u a.goals table reached told finished in
+    let F : Point → Type 0 = λ m. Finishes (program_of a) m mid new u a.goals table reached told finished in
     drafted_reduces a n c old mid new t u table g.shoen 0 reached start effected told finished (record {
       kept = subst K (sym count) kept;
       held = held;
@@ -201,6 +213,7 @@ heard_reduces a n c known g k mark old mid new t u table reached start effected 
       grown = grown;
       hooks = hooks;
       same = same;
+      rules = ap (λ (d : Draft). d.rules) rest ∙ begun.rules_are;
       begun = begun;
       leaves = record { comes = leaves.comes; more = leaves.more; one_opens = leaves.one_opens; work = leaves.work; controls = leaves.controls; flags = λ s e r. leaves.flags s e refl };
       shoens_in = inside;
@@ -217,17 +230,17 @@ heard_reduces a n c known g k mark old mid new t u table reached start effected 
 
 -- what a goal does is drafted as it is to be
 pub does_reduces : (a : Account) (c known : ℕ) (g : Goal CellName) (x : Qualified CellName) (p : Predicate CellName) (places : List (Place CellName)) (text : List ℕ) (made : Move CellName) (mark : Point) (old mid new : Kept CellName) (t u : Tree CellName) (table : Tabled CellName) (reached : List ℕ) (start effected finished : Draft) →
-    IsKept a old.hooks known → IsSteppable a.goals g.number c g → g.task ≡ Reduces x → IsMade a.held a.modules a.entries x c p places text made → MoveIn a.held p places text (Some made) →
-    old.held ≡ a.held → t.shoens ≡ a.shoens → t.work ≡ a.work → mark ≡ point_of old → IsFormed a.held → IsBegun g.number a.last_goal a.variables a.nodes a.reports start →
+    IsKept a old.hooks known → IsSteppable a.goals g.number c g → IsToMake a.held (program_of a) a.entries g.task x c p places text made → MoveIn a.held p places text (Some made) →
+    old.held ≡ a.held → t.shoens ≡ a.shoens → t.work ≡ a.work → mark ≡ point_of old → IsFormed a.held → IsBegun g.number a.rules a.last_goal a.variables a.nodes a.reports start →
     Does p made places text g x a.goals a.names a.held mid.held t u start effected → AreShoensIn mid.held u.shoens → Leaves 0 mid.held t u reached start effected → effected.name ≡ name_for made a.names text →
-    IsSpelledIn effected.spelled mid.held → IsSparedIn effected.spelled mid.held → HasName effected.spelled effected.name → Grown old.held mid.held → mid.hooks ≡ old.hooks →
-    Finishes a.modules mark mid new u a.goals table reached effected finished → new.held ≡ mid.held → table.shoens ≡ known → IsReduced a g.number c new u table finished
-does_reduces a c known g x p places text made mark old mid new t u table reached start effected finished kept is task makes within held shoens work at formed begun does inside leaves name spelled spared has grown hooks finishes same count =
+    IsSpelledIn effected.spelled mid.held → IsSparedIn effected.spelled mid.held → HasName effected.spelled effected.name → IsActed start effected → Grown old.held mid.held → mid.hooks ≡ old.hooks →
+    Finishes (program_of a) mark mid new u a.goals table reached effected finished → new.held ≡ mid.held → table.shoens ≡ known → IsReduced a g.number c new u table finished
+does_reduces a c known g x p places text made mark old mid new t u table reached start effected finished kept is makes within held shoens work at formed begun does inside leaves name spelled spared has rest grown hooks finishes same count =
     let K : ℕ → Type 0 = λ m. IsKept a old.hooks m in
     let N : Option (List ℕ) → Type 0 = λ o. IsNewName a.names o in
     let H : Held CellName → Type 0 = λ h. IsFormed h in
     let C : List (Shoen CellName) → Type 0 = λ ss. KeepControls effected.told.items ss u.shoens a.goals in
-    let F : Point → Type 0 = λ m. Finishes a.modules m mid new u a.goals table reached effected finished in
+    let F : Point → Type 0 = λ m. Finishes (program_of a) m mid new u a.goals table reached effected finished in
     drafted_reduces a g.number c old mid new t u table 0 g.number reached start effected effected finished (record {
       kept = subst K (sym count) kept;
       held = held;
@@ -237,10 +250,11 @@ does_reduces a c known g x p places text made mark old mid new t u table reached
       grown = grown;
       hooks = hooks;
       same = same;
+      rules = ap (λ (d : Draft). d.rules) rest ∙ begun.rules_are;
       begun = begun;
       leaves = leaves;
       shoens_in = inside;
-      effect = does_effect a old.hooks known g.number c g x p places text made mid.held t u start effected kept is refl task makes formed within shoens work begun does name;
+      effect = does_effect a old.hooks known g.number c g x p places text made mid.held t u start effected kept is refl makes formed within shoens work begun does name;
       name = subst N (sym name) (is_new a.held p places text made a.names within);
       spelled = spelled;
       spared = spared;
@@ -252,8 +266,9 @@ does_reduces a c known g x p places text made mark old mid new t u table reached
     })
 
 -- a draft that has begun with what an account has, once it removes goal `n`
-pub begun_for : (n : ℕ) (d : Draft) → IsBegun 0 d.last_goal d.variables d.nodes d.reports d → IsBegun n d.last_goal d.variables d.nodes d.reports (record d { removed = n })
-begun_for n d b = record {
+pub begun_for : (n : ℕ) (rules : Rules) (d : Draft) → IsBegun 0 rules d.last_goal d.variables d.nodes d.reports d → IsBegun n rules d.last_goal d.variables d.nodes d.reports (record d { removed = n })
+begun_for n rules d b = record {
+  rules_are = b.rules_are;
   removed_is = refl;
   aborted = b.aborted;
   ended = b.ended;

@@ -7,7 +7,7 @@ use Rattle.kl1_store.specs.declared.cell.Cell.TheVariants.{Atom}
 use Rattle.kl1_store.specs.declared.binding.Binding.{Binding}
 use Rattle.kl1_store.specs.Held.{Held, with_binding}
 use Rattle.kl1_goals.specs.declared.task.Task.{Task}
-use Rattle.kl1_goals.specs.declared.task.Task.TheVariants.{Monitor, Reduces}
+use Rattle.kl1_goals.specs.declared.task.Task.TheVariants.{Monitor, Reduces, Substitutes}
 use Rattle.kl1_goals.specs.declared.goal.Goal.{Goal}
 use Rattle.kl1_shoen_paths.specs.declared.shoen.Origin.{Origin}
 use Rattle.kl1_shoen_paths.specs.declared.shoen.Shoen.{Shoen}
@@ -22,6 +22,7 @@ module _ (h : Held CellName) (v : ℕ) (x y : Cell CellName) where
   task_bound : (t : Task CellName) → IsTaskIn (with_binding h v x) t → IsTaskIn (with_binding h v y) t
   task_bound Monitor i = i
   task_bound (Reduces q) i = i
+  task_bound (Substitutes x) i = i
 
   goals_bound : (gs : List (Goal CellName)) → AreGoalsIn (with_binding h v x) gs → AreGoalsIn (with_binding h v y) gs
   goals_bound [] i = tt

@@ -5,6 +5,7 @@ use Rattle.std.specs.List.{AllByRecursion, list_any}
 use Rattle.std.proofs.lemmas.Bool.{eq-eqb, ne_eqb}
 use Rattle.std.proofs.lemmas.List.{append-nil}
 use Rattle.kl1_model.specs.declared.message.Message.{Message}
+use Rattle.kl1_model.specs.declared.rules.Rules.{Rules}
 use Rattle.kl1_model.specs.Module.{is_among as is_on}
 use Rattle.kl1_model.specs.Tree.{path_within}
 use Rattle.kl1_model.specs.State as model
@@ -26,13 +27,13 @@ use Rattle.kl1_shoen_paths.specs.declared.shoen.Origin.{Origin}
 use Rattle.kl1_shoen_paths.specs.declared.shoen.Shoen.{Shoen}
 use Rattle.kl1_shoen.specs.Shoens.{Tree, parents_in, path_in, is_blocking_at, is_enabled_at}
 use Rattle.kl1_shoen_paths.specs.Paths as shoens
-use Rattle.kl1_codes_modules.specs.Numbered.{Numbered}
+use Rattle.kl1_codes_modules.specs.Shelves.{Program}
 use Rattle.kl1_user_events.specs.declared.refusal.Refusal.{Refusal}
 use Rattle.kl1_user_events.specs.Views.{refusal_of}
 use Rattle.kl1_user_effects.specs.declared.draft.Draft.{Draft}
 use Rattle.kl1_user_effects.specs.declared.draft.Change.{Change}
 use Rattle.kl1_user_effects.specs.Fitting.{Reading, Fits, built}
-use Rattle.kl1_user_effects.specs.Account.{Account, meaning, with_kept, state_of}
+use Rattle.kl1_user_effects.specs.Account.{Account, program_of, meaning, with_kept, state_of}
 use Rattle.kl1_user_effects.specs.Kept.{IsTaskIn, IsOwned, AreOwned, AreGoalsIn, AreShoensIn}
 use Rattle.kl1_user_account.specs.Keeping.{IsKept}
 use Rattle.kl1_user_effects.specs.Works.{Knows}
@@ -76,7 +77,7 @@ count_bare : (ss : List (Shoen CellName)) → length (map bare ss) ≡ length ss
 count_bare [] = refl
 count_bare (h ∷ ss) = ap suc (count_bare ss)
 
-alike_count : (ss us : List (Shoen CellName)) → AreAlike ss us → length us ≡ length ss
+pub alike_count : (ss us : List (Shoen CellName)) → AreAlike ss us → length us ≡ length ss
 alike_count ss us e = sym (count_bare us) ∙ ap (λ (z : List (Shoen CellName)). length z) e ∙ count_bare ss
 
 -- whether a shoen holds back its goals, by the parents of all
@@ -157,18 +158,18 @@ are_told : (hooks : List Hook) (bs : List (Binding CellName)) → AreTold hooks 
 are_told hooks bs v n c h = among_of (told_by bs hooks) n (is_told bs hooks (record { variable = v; number = n }) h (bound_of bs v c))
 
 -- all goals are settled after those that were told are looked at
-woken : (ms : List Numbered) (before after : List (Shoen CellName)) (mark : Point) (old mid new : Kept CellName) (goals : List (Goal CellName)) (was changes : List Change) →
+pub woken : (program : Program) (before after : List (Shoen CellName)) (mark : Point) (old mid new : Kept CellName) (goals : List (Goal CellName)) (was changes : List Change) →
     mark ≡ point_of old → IsFormed old.held → Grown old.held mid.held → mid.hooks ≡ old.hooks → AreGoalsIn old.held goals → AreInOrder goals → AllByRecursion (λ g. 0 < g.number) goals → AreShoensIn old.held before → AreAlike before after → was ≡ [] →
-    WakesTold ms after mid.held mid.hooks new.hooks goals 0 (told_by (drop mark.sizes.bindings mid.held.bindings) mid.hooks) was changes → new.held ≡ mid.held →
-    (f : Reading) → Knows ms f → AreSettled f old.hooks old.held ms before goals → AreSettled f new.hooks new.held ms after (restood changes goals)
-woken ms before after mark old mid new goals was changes marked formed grown hooks inside order first shoens_in alike none wakes same f knows settled =
-    let H : List Hook → Type 0 = λ hs. AreSettled f hs old.held ms before goals in
+    WakesTold program after mid.held mid.hooks new.hooks goals 0 (told_by (drop mark.sizes.bindings mid.held.bindings) mid.hooks) was changes → new.held ≡ mid.held →
+    (f : Reading) → Knows program.loaded f → AreSettled f old.hooks old.held program before goals → AreSettled f new.hooks new.held program after (restood changes goals)
+woken program before after mark old mid new goals was changes marked formed grown hooks inside order first shoens_in alike none wakes same f knows settled =
+    let H : List Hook → Type 0 = λ hs. AreSettled f hs old.held program before goals in
     let bound = drop (length old.held.bindings) mid.held.bindings in
     let told = told_by bound mid.hooks in
-    let W : List Change → Type 0 = λ cs. WakesTold ms after mid.held mid.hooks new.hooks goals 0 told cs changes in
-    let M : Point → Type 0 = λ p. WakesTold ms after mid.held mid.hooks new.hooks goals 0 (told_by (drop p.sizes.bindings mid.held.bindings) mid.hooks) was changes in
-    let N : Held CellName → Type 0 = λ h. AreSettled f new.hooks h ms after (restood changes goals) in
-    let pending = told_are_pending f mid.hooks old.held mid.held ms before after told goals formed grown inside shoens_in (keep_controls told before after goals alike) (are_told mid.hooks bound) (subst H (sym hooks) settled) in
+    let W : List Change → Type 0 = λ cs. WakesTold program after mid.held mid.hooks new.hooks goals 0 told cs changes in
+    let M : Point → Type 0 = λ p. WakesTold program after mid.held mid.hooks new.hooks goals 0 (told_by (drop p.sizes.bindings mid.held.bindings) mid.hooks) was changes in
+    let N : Held CellName → Type 0 = λ h. AreSettled f new.hooks h program after (restood changes goals) in
+    let pending = told_are_pending f mid.hooks old.held mid.held program before after told goals formed grown inside shoens_in (keep_controls told before after goals alike) (are_told mid.hooks bound) (subst H (sym hooks) settled) in
     subst N (sym same) (subst W none (subst M marked wakes) f knows goals (all_there 0 goals order first) pending)
 
 -- ---- what a draft leaves that removes nothing
@@ -180,7 +181,7 @@ others_all (g ∷ gs) a =
     ap (λ b. if not b then g ∷ filter (is_other 0) gs else filter (is_other 0) gs) (ne_eqb g.number 0 (λ e. omega (arith, low, e)))
     ∙ ap (λ (xs : List (Goal CellName)). g ∷ xs) (others_all gs a.1)
 
-leaves_all : (d : Draft) → d.removed ≡ 0 → d.aborted.items ≡ [] → d.ended.items ≡ [] → d.added.items ≡ [] → d.shifts ≡ false → (gs : List (Goal CellName)) → AllByRecursion (λ g. 0 < g.number) gs → goals_after gs d ≡ restood d.changes.items gs
+pub leaves_all : (d : Draft) → d.removed ≡ 0 → d.aborted.items ≡ [] → d.ended.items ≡ [] → d.added.items ≡ [] → d.shifts ≡ false → (gs : List (Goal CellName)) → AllByRecursion (λ g. 0 < g.number) gs → goals_after gs d ≡ restood d.changes.items gs
 leaves_all d removed aborted ended added shifts gs first =
     let cs = d.changes.items in
     let X : List (Goal CellName) = restood cs (staying d.removed d.aborted.items d.ended.items gs) ++ d.added.items in
@@ -197,13 +198,13 @@ leaves_all d removed aborted ended added shifts gs first =
 -- ---- all of it
 
 -- a message is drafted
-pub is_sent : (ms : List Numbered) (mark : Point) (old mid new : Kept CellName) (goals : List (Goal CellName)) (t u : Tree CellName) (variables nodes entries n last reports : ℕ) (m : Message) (o : Origin CellName) (begun put d : Draft) →
+pub is_sent : (program : Program) (rules : Rules) (mark : Point) (old mid new : Kept CellName) (goals : List (Goal CellName)) (t u : Tree CellName) (variables nodes entries n last reports : ℕ) (m : Message) (o : Origin CellName) (begun put d : Draft) →
     mark ≡ point_of old → IsFormed old.held → 0 < old.held.variables → AreGoalsIn old.held goals → AreInOrder goals → AllByRecursion (λ g. 0 < g.number) goals → AreShoensIn old.held t.shoens →
-    Allows t.shoens variables nodes entries n m o → IsBegun 0 last variables nodes reports begun →
+    Allows t.shoens variables nodes entries n m o → IsBegun 0 rules last variables nodes reports begun →
     PutsOn n m o.control old.held mid.held t.shoens u.shoens begun put → AreShoensIn mid.held u.shoens → AreAlike t.shoens u.shoens → u.work ≡ t.work → put ≡ record begun { variables = put.variables; nodes = put.nodes } → Grown old.held mid.held → mid.hooks ≡ old.hooks →
-    WakesTold ms u.shoens mid.held mid.hooks new.hooks goals 0 (told_by (drop mark.sizes.bindings mid.held.bindings) mid.hooks) put.changes.items d.changes.items → d ≡ record put { told = d.told; changes = d.changes } → new.held ≡ mid.held →
-    IsSent ms old new goals t u variables nodes entries n m d
-is_sent ms mark old mid new goals t u variables nodes entries n last reports m o begun put d marked formed some inside order first shoens_in may is puts after alike work rest grown hooks wakes more same =
+    WakesTold program u.shoens mid.held mid.hooks new.hooks goals 0 (told_by (drop mark.sizes.bindings mid.held.bindings) mid.hooks) put.changes.items d.changes.items → d ≡ record put { told = d.told; changes = d.changes } → new.held ≡ mid.held →
+    IsSent program old new goals t u variables nodes entries n m d
+is_sent program rules mark old mid new goals t u variables nodes entries n last reports m o begun put d marked formed some inside order first shoens_in may is puts after alike work rest grown hooks wakes more same =
     let S : Held CellName → Type 0 = λ h. AreShoensIn h u.shoens in
     record {
       journal = may.journal;
@@ -217,7 +218,7 @@ is_sent ms mark old mid new goals t u variables nodes entries n last reports m o
       inside = subst S (sym same) after;
       alike = alike;
       work = work;
-      settles = woken ms t.shoens u.shoens mark old mid new goals put.changes.items d.changes.items marked formed grown hooks inside order first shoens_in alike (ap (λ (z : Draft). z.changes.items) rest ∙ is.changes) wakes same;
+      settles = woken program t.shoens u.shoens mark old mid new goals put.changes.items d.changes.items marked formed grown hooks inside order first shoens_in alike (ap (λ (z : Draft). z.changes.items) rest ∙ is.changes) wakes same;
       steps = λ f reads s counts.
           let V : d.variables ≡ put.variables = ap (λ (z : Draft). z.variables) more in
           let K : d.nodes ≡ put.nodes = ap (λ (z : Draft). z.nodes) more in
@@ -235,11 +236,11 @@ is_sent ms mark old mid new goals t u variables nodes entries n last reports m o
 abbrev pub with_message : Account → Held CellName → List (Shoen CellName) → Draft → Account
 with_message a h us d = record a { held = h; goals = restood d.changes.items a.goals; shoens = us; variables = d.variables; nodes = d.nodes; entries = suc a.entries }
 
-knows_of : (a : Account) (hooks : List Hook) (known : ℕ) → IsKept a hooks known → (f : Reading) → Fits a.names f → Knows a.modules f
+pub knows_of : (a : Account) (hooks : List Hook) (known : ℕ) → IsKept a hooks known → (f : Reading) → Fits a.names f → Knows a.modules f
 knows_of a hooks known k f fits = record { reads = fits.reads; rows = k.rows f fits }
 
 -- the step to it
-sent_steps : (a : Account) (old new : Kept CellName) (t u : Tree CellName) (n : ℕ) (m : Message) (d : Draft) → a.held ≡ old.held → t.shoens ≡ a.shoens → IsSent a.modules old new a.goals t u a.variables a.nodes a.entries n m d →
+sent_steps : (a : Account) (old new : Kept CellName) (t u : Tree CellName) (n : ℕ) (m : Message) (d : Draft) → a.held ≡ old.held → t.shoens ≡ a.shoens → IsSent (program_of a) old new a.goals t u a.variables a.nodes a.entries n m d →
     (f : Reading) → Reads built f → step (state_of f a) (control n m) ≡ record { state = state_of f (with_message a new.held u.shoens d); reply = sent }
 sent_steps a old new t u n m d held same s f reads =
     let z : State = record (state_of f a) { goals = []; shoens = []; last_variable = 0 } in
@@ -252,7 +253,7 @@ sent_steps a old new t u n m d held same s f reads =
     ∙ ap (λ (gs : List model.Goal). let y : Transition = record { state = record S { goals = gs }; reply = sent } in y) (sym (restood_read (meaning f new.held) d.changes.items a.goals))
 
 -- what always holds holds of it
-sent_keeps : (a : Account) (old new : Kept CellName) (t u : Tree CellName) (known n : ℕ) (m : Message) (d : Draft) → IsKept a old.hooks known → a.held ≡ old.held → t.shoens ≡ a.shoens → IsSent a.modules old new a.goals t u a.variables a.nodes a.entries n m d → Grown old.held new.held →
+sent_keeps : (a : Account) (old new : Kept CellName) (t u : Tree CellName) (known n : ℕ) (m : Message) (d : Draft) → IsKept a old.hooks known → a.held ≡ old.held → t.shoens ≡ a.shoens → IsSent (program_of a) old new a.goals t u a.variables a.nodes a.entries n m d → Grown old.held new.held →
     IsKept (with_message a new.held u.shoens d) new.hooks known
 sent_keeps a old new t u known n m d k held same s grown =
     let cs = d.changes.items in
@@ -272,8 +273,8 @@ sent_keeps a old new t u known n m d k held same s grown =
       few = let x = k.few in omega (arith, x);
       most = let x = s.journal in omega (arith, x);
       settled = λ f fits.
-          let H : Held CellName → Type 0 = λ h. AreSettled f old.hooks h a.modules a.shoens a.goals in
-          let S : List (Shoen CellName) → Type 0 = λ ss. AreSettled f old.hooks old.held a.modules ss a.goals in
+          let H : Held CellName → Type 0 = λ h. AreSettled f old.hooks h (program_of a) a.shoens a.goals in
+          let S : List (Shoen CellName) → Type 0 = λ ss. AreSettled f old.hooks old.held (program_of a) ss a.goals in
           s.settles f (knows_of a old.hooks known k f fits) (subst S (sym same) (subst H held (k.settled f fits)));
       enabled = restood_holds (IsEnabled u.shoens a.work) (λ g o p. p) cs a.goals (still_enabled a.shoens u.shoens a.work a.goals alike k.enabled);
       rows = k.rows;
@@ -293,15 +294,15 @@ kept_same a b hooks more known count e p q k =
     subst N (sym q) (subst H (sym p) (subst A (sym e) k))
 
 -- what came of a message that is sent
-pub sent_of : (ms : List Numbered) (old new : Kept CellName) (goals : List (Goal CellName)) (t u : Tree CellName) (v k e n : ℕ) (m : Message) (d : Draft) (p : Option Refusal) → p ≡ None → SendsAs ms old new goals t u v k e n m d p → IsSent ms old new goals t u v k e n m d
-sent_of ms old new goals t u v k e n m d p is s = let P : Option Refusal → Type 0 = λ z. SendsAs ms old new goals t u v k e n m d z in subst P is s
+pub sent_of : (program : Program) (old new : Kept CellName) (goals : List (Goal CellName)) (t u : Tree CellName) (v k e n : ℕ) (m : Message) (d : Draft) (p : Option Refusal) → p ≡ None → SendsAs program old new goals t u v k e n m d p → IsSent program old new goals t u v k e n m d
+sent_of program old new goals t u v k e n m d p is s = let P : Option Refusal → Type 0 = λ z. SendsAs program old new goals t u v k e n m d z in subst P is s
 
 -- what came of a message that is refused
-pub refused_of : (ms : List Numbered) (old new : Kept CellName) (goals : List (Goal CellName)) (t u : Tree CellName) (v k e n : ℕ) (m : Message) (d : Draft) (p : Option Refusal) (r : Refusal) → p ≡ Some r → SendsAs ms old new goals t u v k e n m d p → IsRefused old new t u v k e n m r
-refused_of ms old new goals t u v k e n m d p r is s = let P : Option Refusal → Type 0 = λ z. SendsAs ms old new goals t u v k e n m d z in subst P is s
+pub refused_of : (program : Program) (old new : Kept CellName) (goals : List (Goal CellName)) (t u : Tree CellName) (v k e n : ℕ) (m : Message) (d : Draft) (p : Option Refusal) (r : Refusal) → p ≡ Some r → SendsAs program old new goals t u v k e n m d p → IsRefused old new t u v k e n m r
+refused_of program old new goals t u v k e n m d p r is s = let P : Option Refusal → Type 0 = λ z. SendsAs program old new goals t u v k e n m d z in subst P is s
 
 -- an account with a message in place, by what its parts are
-pub placed : (a : Account) (old new : Kept CellName) (t u : Tree CellName) (n : ℕ) (m : Message) (d : Draft) (gs : List (Goal CellName)) (entries : ℕ) → AllByRecursion (λ g. 0 < g.number) a.goals → t.work ≡ a.work → IsSent a.modules old new a.goals t u a.variables a.nodes a.entries n m d →
+pub placed : (a : Account) (old new : Kept CellName) (t u : Tree CellName) (n : ℕ) (m : Message) (d : Draft) (gs : List (Goal CellName)) (entries : ℕ) → AllByRecursion (λ g. 0 < g.number) a.goals → t.work ≡ a.work → IsSent (program_of a) old new a.goals t u a.variables a.nodes a.entries n m d →
     gs ≡ goals_after a.goals d → entries ≡ suc a.entries → record a { held = new.held; goals = gs; shoens = u.shoens; work = u.work; variables = d.variables; nodes = d.nodes; entries = entries } ≡ with_message a new.held u.shoens d
 placed a old new t u n m d gs entries first work s g e =
     ap (λ (xs : List (Goal CellName)). let z : Account = record a { held = new.held; goals = xs; shoens = u.shoens; work = u.work; variables = d.variables; nodes = d.nodes; entries = entries } in z) (g ∙ s.leaves a.goals first)
@@ -309,14 +310,14 @@ placed a old new t u n m d gs entries first work s g e =
     ∙ ap (λ x. let z : Account = record (with_message a new.held u.shoens d) { entries = x } in z) e
 
 pub sent_kept : (a : Account) (old new : Kept CellName) (t u : Tree CellName) (known count n : ℕ) (m : Message) (d : Draft) (gs : List (Goal CellName)) (entries : ℕ) → IsKept a old.hooks known → a.held ≡ old.held → t.shoens ≡ a.shoens → t.work ≡ a.work →
-    IsSent a.modules old new a.goals t u a.variables a.nodes a.entries n m d → Grown old.held new.held → gs ≡ goals_after a.goals d → entries ≡ suc a.entries → count ≡ known →
+    IsSent (program_of a) old new a.goals t u a.variables a.nodes a.entries n m d → Grown old.held new.held → gs ≡ goals_after a.goals d → entries ≡ suc a.entries → count ≡ known →
     IsKept (record a { held = new.held; goals = gs; shoens = u.shoens; work = u.work; variables = d.variables; nodes = d.nodes; entries = entries }) new.hooks count
 sent_kept a old new t u known count n m d gs entries k held same work s grown g e c =
     kept_same (with_message a new.held u.shoens d) (record a { held = new.held; goals = gs; shoens = u.shoens; work = u.work; variables = d.variables; nodes = d.nodes; entries = entries }) new.hooks new.hooks known count
     (placed a old new t u n m d gs entries k.first work s g e) refl c (sent_keeps a old new t u known n m d k held same s grown)
 
 pub sent_step : (a b : Account) (old new : Kept CellName) (t u : Tree CellName) (known n : ℕ) (m : Message) (d : Draft) (gs : List (Goal CellName)) (entries : ℕ) → a ≡ b → IsKept a old.hooks known → a.held ≡ old.held → t.shoens ≡ a.shoens → t.work ≡ a.work →
-    IsSent a.modules old new a.goals t u a.variables a.nodes a.entries n m d → gs ≡ goals_after a.goals d → entries ≡ suc a.entries →
+    IsSent (program_of a) old new a.goals t u a.variables a.nodes a.entries n m d → gs ≡ goals_after a.goals d → entries ≡ suc a.entries →
     (f : Reading) → Fits b.names f → step (state_of f b) (control n m) ≡ record { state = state_of f (record a { held = new.held; goals = gs; shoens = u.shoens; work = u.work; variables = d.variables; nodes = d.nodes; entries = entries }); reply = sent }
 sent_step a b old new t u known n m d gs entries view k held same work s g e f fits =
     sym (ap (λ (w : Account). step (state_of f w) (control n m)) view)

@@ -5,9 +5,10 @@ use Rattle.std.proofs.lemmas.Bool.{ne_eqb}
 use Rattle.kl1_model.specs.Term.{Term, substituted, Replacement}
 use Rattle.kl1_model.specs.Control.{Control, awaits_message, tells, tells_other, ends, breaks_off, control_of}
 use Rattle.kl1_model.specs.code.Awaited.{awaited_by_control}
-use Rattle.kl1_model.specs.code.Waits.{LeavesEach, term_clause, awaited_by_term}
+use Rattle.kl1_model.specs.code.Waits.{LeavesEach, term_clause, awaited_by_term, awaited_by_look, awaited_by_substitute, look_clause, substitute_clause}
 use Rattle.kl1_model.specs.laws.WaitsLaws.{control_substituted}
 use Rattle.kl1_model.proofs.Substitutions.{values_of, replaced_is}
+use Rattle.kl1_model.proofs.LookStays.{substitutes_stay}
 use Rattle.kl1_model.proofs.TermStays.{term_stays, is_replaced, left_alone}
 use Rattle.kl1_model.proofs.ControlStays.{control_stays}
 use Rattle.kl1_text.specs.declared.cell_name.CellName.{CellName}
@@ -19,12 +20,12 @@ use Rattle.kl1_store.specs.Later.{bound_since}
 use Rattle.kl1_store.specs.Sound.{IsFormed, Grown}
 use Rattle.kl1_store.proofs.Later.{is_later}
 use Rattle.kl1_goals.specs.declared.task.Task.{Task}
-use Rattle.kl1_goals.specs.declared.task.Task.TheVariants.{Monitor, Reduces}
+use Rattle.kl1_goals.specs.declared.task.Task.TheVariants.{Monitor, Reduces, Substitutes}
 use Rattle.kl1_goals.specs.declared.goal.Goal.{Goal}
 use Rattle.kl1_shoen_paths.specs.declared.shoen.Shoen.{Shoen}
 use Rattle.kl1_shoen.specs.Shoens.{shoen_in}
-use Rattle.kl1_codes_modules.specs.Numbered.{Numbered}
 use Rattle.kl1_codes_modules.specs.Finding.{contents}
+use Rattle.kl1_codes_modules.specs.Shelves.{Program}
 use Rattle.kl1_store_hooks.specs.Hanging.{HangsOnEach}
 use Rattle.kl1_user_effects.specs.Fitting.{Reading}
 use Rattle.kl1_user_effects.specs.Account.{meaning, task_with, aim}
@@ -99,33 +100,40 @@ monitor_stays f hooks old new n (Some y) formed grown i free hung =
 -- ---- one goal
 
 -- what a task that hangs on no variable that was bound waits for, and its clause, stay
-abbrev TaskStays : Reading → Held CellName → Held CellName → List Numbered → List (Shoen CellName) → List (Shoen CellName) → ℕ → Task CellName → Type 0
-TaskStays f old new modules before after n t =
-    (task_clause (contents modules) (control_with (meaning f new) after n) (task_with (meaning f new) t) ≡ task_clause (contents modules) (control_with (meaning f old) before n) (task_with (meaning f old) t))
-    × (awaited_by_task (contents modules) (control_with (meaning f new) after n) (task_with (meaning f new) t) ≡ awaited_by_task (contents modules) (control_with (meaning f old) before n) (task_with (meaning f old) t))
+abbrev TaskStays : Reading → Held CellName → Held CellName → Program → List (Shoen CellName) → List (Shoen CellName) → ℕ → Task CellName → Type 0
+TaskStays f old new program before after n t =
+    (task_clause program.rules (contents program.loaded) (control_with (meaning f new) after n) (task_with (meaning f new) t) ≡ task_clause program.rules (contents program.loaded) (control_with (meaning f old) before n) (task_with (meaning f old) t))
+    × (awaited_by_task program.rules (contents program.loaded) (control_with (meaning f new) after n) (task_with (meaning f new) t) ≡ awaited_by_task program.rules (contents program.loaded) (control_with (meaning f old) before n) (task_with (meaning f old) t))
 
-by_task : (f : Reading) (hooks : List Hook) (old new : Held CellName) (modules : List Numbered) (before after : List (Shoen CellName)) (g : Goal CellName) (t : Task CellName) → t ≡ g.task → IsFormed old → Grown old new → IsTaskIn old t → AreShoensIn old before →
+by_task : (f : Reading) (hooks : List Hook) (old new : Held CellName) (program : Program) (before after : List (Shoen CellName)) (g : Goal CellName) (t : Task CellName) → t ≡ g.task → IsFormed old → Grown old new → IsTaskIn old t → AreShoensIn old before →
     (t ≡ Monitor → control_at after g.shoen ≡ control_at before g.shoen) → HangsOnNone hooks g.number (bound_since old new) →
-    HangsOnEach hooks g.number (awaited_by_task (contents modules) (control_with (meaning f old) before g.shoen) (task_with (meaning f old) t)) →
-    TaskStays f old new modules before after g.shoen t
-by_task f hooks old new modules before after g Monitor e formed grown i inside same free hung =
+    HangsOnEach hooks g.number (awaited_by_task program.rules (contents program.loaded) (control_with (meaning f old) before g.shoen) (task_with (meaning f old) t)) →
+    TaskStays f old new program before after g.shoen t
+by_task f hooks old new program before after g Monitor e formed grown i inside same free hung =
     let stays = monitor_stays f hooks old new g.number (control_at before g.shoen) formed grown (λ y c. control_in old before g.shoen y inside c) free hung in
     let is = same refl in
     (ap (λ x. monitor_clause (front_with (meaning f new) x)) is ∙ stays.0, ap (λ x. awaited_by_monitor (front_with (meaning f new) x)) is ∙ stays.1)
-by_task f hooks old new modules before after g (Reduces x) e formed grown i inside same free hung =
+by_task f hooks old new program before after g (Reduces x) e formed grown i inside same free hung =
     let l = is_later f old new formed grown in
     let N : List ℕ → Type 0 = λ ns. HangsOnNone hooks g.number ns in
     let t = aim f old x in
     let is : aim f new x ≡ substituted (values_of l.replacements) t = aim_later f old new x l i ∙ replaced_is l.replacements t in
-    let stays = term_stays (contents modules) (values_of l.replacements) t (leaves_hung l.replacements hooks g.number (awaited_by_term (contents modules) t) hung (subst N (sym l.numbers) free)) in
-    (ap (term_clause (contents modules)) is ∙ stays.0, ap (awaited_by_term (contents modules)) is ∙ stays.1)
+    let stays = term_stays program.rules (contents program.loaded) (values_of l.replacements) t (leaves_hung l.replacements hooks g.number (awaited_by_term program.rules (contents program.loaded) t) hung (subst N (sym l.numbers) free)) in
+    (ap (term_clause program.rules (contents program.loaded)) is ∙ stays.0, ap (awaited_by_term program.rules (contents program.loaded)) is ∙ stays.1)
+by_task f hooks old new program before after g (Substitutes x) e formed grown i inside same free hung =
+    let l = is_later f old new formed grown in
+    let N : List ℕ → Type 0 = λ ns. HangsOnNone hooks g.number ns in
+    let t = term_of f old x in
+    let is : term_of f new x ≡ substituted (values_of l.replacements) t = l.means x i ∙ replaced_is l.replacements t in
+    let stays = substitutes_stay (values_of l.replacements) t (leaves_hung l.replacements hooks g.number (awaited_by_substitute t) hung (subst N (sym l.numbers) free)) in
+    (ap substitute_clause is ∙ ap look_clause stays, ap awaited_by_substitute is ∙ ap awaited_by_look stays)
 
 -- a goal that hangs on no variable that was bound is settled as it was, a monitor if its control stream is what it was
-pub stays_settled : (f : Reading) (hooks : List Hook) (old new : Held CellName) (modules : List Numbered) (before after : List (Shoen CellName)) (g : Goal CellName) → IsFormed old → Grown old new → IsTaskIn old g.task → AreShoensIn old before →
+pub stays_settled : (f : Reading) (hooks : List Hook) (old new : Held CellName) (program : Program) (before after : List (Shoen CellName)) (g : Goal CellName) → IsFormed old → Grown old new → IsTaskIn old g.task → AreShoensIn old before →
     (g.task ≡ Monitor → control_at after g.shoen ≡ control_at before g.shoen) → HangsOnNone hooks g.number (bound_since old new) →
-    IsSettled f hooks old modules before g → IsSettled f hooks new modules after g
-stays_settled f hooks old new modules before after g formed grown i inside same free s =
-    let r = by_task f hooks old new modules before after g g.task refl formed grown i inside same free s.hung in
+    IsSettled f hooks old program before g → IsSettled f hooks new program after g
+stays_settled f hooks old new program before after g formed grown i inside same free s =
+    let r = by_task f hooks old new program before after g g.task refl formed grown i inside same free s.hung in
     let H : List ℕ → Type 0 = λ vs. HangsOnEach hooks g.number vs in
     record { standing = s.standing ∙ sym r.0; hung = subst H (sym r.1) s.hung }
 
@@ -134,6 +142,6 @@ pub hung_more : (hooks more : List Hook) (n : ℕ) (vs : List ℕ) → ((k : Hoo
 hung_more hooks more n [] up h = tt
 hung_more hooks more n (v ∷ vs) up h = (up (record { variable = v; number = n }) h.0, hung_more hooks more n vs up h.1)
 
-pub settled_more : (f : Reading) (hooks more : List Hook) (h : Held CellName) (modules : List Numbered) (shoens : List (Shoen CellName)) (g : Goal CellName) → ((k : Hook) → Contains hooks k → Contains more k) → IsSettled f hooks h modules shoens g → IsSettled f more h modules shoens g
-settled_more f hooks more h modules shoens g up s =
-    record { standing = s.standing; hung = hung_more hooks more g.number (awaited_by_task (contents modules) (control_with (meaning f h) shoens g.shoen) (task_with (meaning f h) g.task)) up s.hung }
+pub settled_more : (f : Reading) (hooks more : List Hook) (h : Held CellName) (program : Program) (shoens : List (Shoen CellName)) (g : Goal CellName) → ((k : Hook) → Contains hooks k → Contains more k) → IsSettled f hooks h program shoens g → IsSettled f more h program shoens g
+settled_more f hooks more h program shoens g up s =
+    record { standing = s.standing; hung = hung_more hooks more g.number (awaited_by_task program.rules (contents program.loaded) (control_with (meaning f h) shoens g.shoen) (task_with (meaning f h) g.task)) up s.hung }

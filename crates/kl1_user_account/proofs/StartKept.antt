@@ -2,7 +2,7 @@
 use Rattle.std.proofs.Common.{◌≡◌, ℕ, suc, ◌+◌, ◌<◌, ◌≤◌, not, List, [], ◌∷◌, ◌++◌, length, map, count_by, refl, sym, ap, ap₂, ◌∙◌, arith, subst, length-append}
 use Rattle.std.specs.Prelude.{cond}
 use Rattle.std.proofs.lemmas.List.Sums.{sum_by-cons}
-use Rattle.kl1_model.specs.Limits.{monitor_priority}
+use Rattle.kl1_model.specs.declared.limits.TheConstants.{MONITOR_PRIORITY}
 use Rattle.kl1_model.specs.Term.{Term}
 use Rattle.kl1_model.specs.Event.{with_entry}
 use Rattle.kl1_model.specs.Opening.{start_goal}
@@ -15,7 +15,7 @@ use Rattle.kl1_store.specs.Sound.{Grown}
 use Rattle.kl1_store.proofs.Grows.{Grown-trans}
 use Rattle.kl1_clause.specs.declared.instruction.Instruction.{Instruction}
 use Rattle.kl1_goals.specs.declared.task.Task.{Task}
-use Rattle.kl1_goals.specs.declared.task.Task.TheVariants.{Monitor, Reduces}
+use Rattle.kl1_goals.specs.declared.task.Task.TheVariants.{Monitor, Reduces, Substitutes}
 use Rattle.kl1_goals.specs.declared.goal.Goal.{Goal}
 use Rattle.kl1_goals.specs.Lists.{is_monitor, is_monitor_task}
 use Rattle.kl1_shoen_paths.specs.declared.shoen.Shoen.{Shoen}
@@ -63,7 +63,7 @@ shoens_pushed h (r ∷ ss) s i j = (i.0, shoens_pushed h ss s i.1 j)
 -- ---- an account after a start
 
 -- its cells are of its store, and its shoens in order
-pub started_firm : (a b : Account) (mid : Held CellName) (texts : List (List ℕ)) (row : List Instruction) (numbers : List CellName) (count : ℕ) (cells : List (Cell CellName)) (awaited : List ℕ) (o : Opening) (allowance low high : ℕ) (goal : Term) → IsFirm a → low ≤ monitor_priority → high ≤ monitor_priority →
+pub started_firm : (a b : Account) (mid : Held CellName) (texts : List (List ℕ)) (row : List Instruction) (numbers : List CellName) (count : ℕ) (cells : List (Cell CellName)) (awaited : List ℕ) (o : Opening) (allowance low high : ℕ) (goal : Term) → IsFirm a → low ≤ MONITOR_PRIORITY → high ≤ MONITOR_PRIORITY →
     IsStart a b mid texts row numbers count cells awaited o allowance low high goal → IsFirm b
 started_firm a b mid texts row numbers count cells awaited o allowance low high goal k below also_below s =
     let p = s.placed in
@@ -125,6 +125,7 @@ started_named a b mid texts row numbers count cells awaited o allowance low high
 monitor_read : (t : Means) (k : Task CellName) → model.is_monitor (task_with t k) ≡ is_monitor_task k
 monitor_read t Monitor = refl
 monitor_read t (Reduces q) = refl
+monitor_read t (Substitutes x) = refl
 
 -- how many goals are alive
 pub alive_read : (t : Means) (gs : List (Goal CellName)) → count_by (λ (g : model.Goal). not (model.is_monitor g.task)) (map (goal_with t) gs) ≡ count_by (λ (g : Goal CellName). not (is_monitor g)) gs

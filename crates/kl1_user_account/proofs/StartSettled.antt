@@ -4,11 +4,12 @@ use Rattle.std.specs.Prelude.{Contains, Option, Some, None, option_map, nat_lt, 
 use Rattle.std.specs.List.{AllByRecursion}
 use Rattle.std.proofs.lemmas.Bool.{ne_eqb, and_parts, leb-true}
 use Rattle.std.proofs.lemmas.List.Elements.{Contains-append_left, Contains-append_right}
+use Rattle.kl1_model.specs.declared.rules.Rules.{Rules}
 use Rattle.kl1_model.specs.Term.{Term}
 use Rattle.kl1_model.specs.code.TermCode.{nodes_of}
 use Rattle.kl1_model.specs.Meaning.{highest, is_numbered}
 use Rattle.kl1_model.specs.Nodes.{goal_nodes}
-use Rattle.kl1_model.specs.Limits.{monitor_priority, most_entries, most_goals, most_variables, most_nodes, most_shoens}
+use Rattle.kl1_model.specs.declared.limits.TheConstants.{MONITOR_PRIORITY, MOST_ENTRIES, MOST_GOALS, MOST_VARIABLES, MOST_NODES, MOST_SHOENS}
 use Rattle.kl1_model.specs.Control.{Control, awaits_message, control_of}
 use Rattle.kl1_model.specs.code.Waits.{term_clause, awaited_by_term}
 use Rattle.kl1_model.specs.State as model
@@ -28,13 +29,14 @@ use Rattle.kl1_clause.specs.Instructions.{IsRowOf}
 use Rattle.kl1_clause.specs.NameList.{with_texts}
 use Rattle.kl1_match.specs.Waiting.{AreSame}
 use Rattle.kl1_goals.specs.declared.task.Task.{Task}
-use Rattle.kl1_goals.specs.declared.task.Task.TheVariants.{Monitor, Reduces}
+use Rattle.kl1_goals.specs.declared.task.Task.TheVariants.{Monitor, Reduces, Substitutes}
 use Rattle.kl1_goals.specs.declared.goal.Goal.{Goal}
 use Rattle.kl1_goals.specs.Lists.{is_monitor}
 use Rattle.kl1_shoen_paths.specs.declared.shoen.Shoen.{Shoen}
 use Rattle.kl1_shoen.specs.Shoens.{shoen_in, AreNumbered, AreLower, is_enabled_at}
 use Rattle.kl1_codes_modules.specs.Numbered.{Numbered, AreRead}
 use Rattle.kl1_codes_modules.specs.Finding.{contents}
+use Rattle.kl1_codes_modules.specs.Shelves.{Program}
 use Rattle.kl1_store_hooks.specs.Hanging.{HangsOnEach}
 use Rattle.kl1_goals_moves.proofs.Hooked.{hangs_on_same}
 use Rattle.kl1_user_events.specs.declared.refusal.Refusal.{Refusal}
@@ -44,7 +46,7 @@ use Rattle.kl1_user_account.specs.declared.startable.Starting.{Starting}
 use Rattle.kl1_user_account.specs.declared.startable.Starting.TheVariants.{Refused}
 use Rattle.kl1_user_account.specs.declared.opening.Opening.{Opening}
 use Rattle.kl1_user_effects.specs.Fitting.{Reading, Fits}
-use Rattle.kl1_user_effects.specs.Account.{Account, meaning, task_with, state_of, texts_of}
+use Rattle.kl1_user_effects.specs.Account.{Account, program_of, meaning, task_with, state_of, texts_of}
 use Rattle.kl1_user_effects.specs.Kept.{IsTaskIn, AreGoalsIn, AreOwned, AreShoensIn}
 use Rattle.kl1_user_effects.specs.Settled.{control_at, front_with, control_with, monitor_clause, awaited_by_monitor, task_clause, awaited_by_task, IsSettled, AreSettled, IsEnabled, AreEnabled}
 use Rattle.kl1_user_account.specs.Keeping.{IsKept}
@@ -74,34 +76,35 @@ control_inside h (s ∷ ss) n x all e = here (s.number == n) (control_inside h s
     here false later k = later k
 
 -- a goal whose cells are read as before stays settled, if a shoen opens that is not its own
-settled_old : (f : Reading) (hooks more : List Hook) (h k : Held CellName) (ms : List Numbered) (ss : List (Shoen CellName)) (x : Shoen CellName) (g : Goal CellName) → Agree h (meaning f h) (meaning f k) → IsTaskIn h g.task → AreShoensIn h ss → (x.number ≡ g.shoen → ⊥) → ((y : Hook) → Contains hooks y → Contains more y) →
-    IsSettled f hooks h ms ss g → IsSettled f more k ms (ss ++ x ∷ []) g
-settled_old f hooks more h k ms ss x g agree i inside ne up s =
+settled_old : (f : Reading) (hooks more : List Hook) (h k : Held CellName) (program : Program) (ss : List (Shoen CellName)) (x : Shoen CellName) (g : Goal CellName) → Agree h (meaning f h) (meaning f k) → IsTaskIn h g.task → AreShoensIn h ss → (x.number ≡ g.shoen → ⊥) → ((y : Hook) → Contains hooks y → Contains more y) →
+    IsSettled f hooks h program ss g → IsSettled f more k program (ss ++ x ∷ []) g
+settled_old f hooks more h k program ss x g agree i inside ne up s =
     let same : task_with (meaning f h) g.task ≡ task_with (meaning f k) g.task = by_task g.task i in
     let front : control_with (meaning f h) ss g.shoen ≡ control_with (meaning f k) (ss ++ x ∷ []) g.shoen =
     by_front (control_at ss g.shoen) refl ∙ ap (λ (o : Option (Shoen CellName)). front_with (meaning f k) (option_map (λ (z : Shoen CellName). z.control) o)) (sym (found_before ss x g.shoen ne)) in
-    let ws = awaited_by_task (contents ms) (control_with (meaning f k) (ss ++ x ∷ []) g.shoen) (task_with (meaning f k) g.task) in
+    let ws = awaited_by_task program.rules (contents program.loaded) (control_with (meaning f k) (ss ++ x ∷ []) g.shoen) (task_with (meaning f k) g.task) in
     let H : List ℕ → Type 0 = λ vs. HangsOnEach hooks g.number vs in
-    let are : awaited_by_task (contents ms) (control_with (meaning f h) ss g.shoen) (task_with (meaning f h) g.task) ≡ ws = ap₂ (λ c t. awaited_by_task (contents ms) c t) front same in
+    let are : awaited_by_task program.rules (contents program.loaded) (control_with (meaning f h) ss g.shoen) (task_with (meaning f h) g.task) ≡ ws = ap₂ (λ c t. awaited_by_task program.rules (contents program.loaded) c t) front same in
     record {
-      standing = s.standing ∙ ap₂ (λ c t. task_clause (contents ms) c t) front same;
+      standing = s.standing ∙ ap₂ (λ c t. task_clause program.rules (contents program.loaded) c t) front same;
       hung = hung_more hooks more g.number ws up (subst H are s.hung);
     }
   where
     by_task : (t : Task CellName) → IsTaskIn h t → task_with (meaning f h) t ≡ task_with (meaning f k) t
     by_task Monitor j = refl
     by_task (Reduces q) j = ap model.reduces (aims_same h (meaning f h) (meaning f k) agree q j)
+    by_task (Substitutes x) j = ap model.substitutes (agree x j)
 
     by_front : (y : Option (Cell CellName)) → control_at ss g.shoen ≡ y → front_with (meaning f h) y ≡ front_with (meaning f k) y
     by_front None e = refl
     by_front (Some y) e = ap (λ t. Some (control_of t)) (agree y (control_inside h ss g.shoen y inside e))
 
-all_settled_old : (f : Reading) (hooks more : List Hook) (h k : Held CellName) (ms : List Numbered) (ss : List (Shoen CellName)) (x : Shoen CellName) (gs : List (Goal CellName)) → Agree h (meaning f h) (meaning f k) → AreGoalsIn h gs → AreShoensIn h ss → x.number ≡ suc (length ss) → AreOwned (length ss) gs →
-    ((y : Hook) → Contains hooks y → Contains more y) → AreSettled f hooks h ms ss gs → AreSettled f more k ms (ss ++ x ∷ []) gs
-all_settled_old f hooks more h k ms ss x [] agree i inside e own up s = tt
-all_settled_old f hooks more h k ms ss x (g ∷ gs) agree i inside e own up s =
+all_settled_old : (f : Reading) (hooks more : List Hook) (h k : Held CellName) (program : Program) (ss : List (Shoen CellName)) (x : Shoen CellName) (gs : List (Goal CellName)) → Agree h (meaning f h) (meaning f k) → AreGoalsIn h gs → AreShoensIn h ss → x.number ≡ suc (length ss) → AreOwned (length ss) gs →
+    ((y : Hook) → Contains hooks y → Contains more y) → AreSettled f hooks h program ss gs → AreSettled f more k program (ss ++ x ∷ []) gs
+all_settled_old f hooks more h k program ss x [] agree i inside e own up s = tt
+all_settled_old f hooks more h k program ss x (g ∷ gs) agree i inside e own up s =
     let below = own.0.high in
-    (settled_old f hooks more h k ms ss x g agree i.0 inside (λ q. omega (arith, q, e, below)) up s.0, all_settled_old f hooks more h k ms ss x gs agree i.1 inside e own.1 up s.1)
+    (settled_old f hooks more h k program ss x g agree i.0 inside (λ q. omega (arith, q, e, below)) up s.0, all_settled_old f hooks more h k program ss x gs agree i.1 inside e own.1 up s.1)
 
 all_enabled_old : (ss : List (Shoen CellName)) (x : Shoen CellName) (work : List ℕ) (gs : List (Goal CellName)) → AreNumbered 0 ss → AreLower ss → x.number ≡ suc (length ss) → x.parent ≡ 0 → AreOwned (length ss) gs → AreEnabled ss work gs → AreEnabled (ss ++ x ∷ []) work gs
 all_enabled_old ss x work [] numbered lower e root own a = tt
@@ -128,8 +131,8 @@ front_new f k ss x v numbered e c unbound =
 
 -- ---- an account after a start
 
-pub started_kept : (a b : Account) (mid : Held CellName) (texts : List (List ℕ)) (row : List Instruction) (numbers : List CellName) (count : ℕ) (cells : List (Cell CellName)) (awaited : List ℕ) (o : Opening) (allowance low high : ℕ) (goal : Term) (hooks after : List Hook) (known next : ℕ) → IsKept a hooks known → AreNumbered 0 a.shoens → AreLower a.shoens → low ≤ monitor_priority → high ≤ monitor_priority →
-    IsStart a b mid texts row numbers count cells awaited o allowance low high goal → AreNames a.names → AreSmall b.names → a.entries < most_entries → after ≡ (hooks ++ hooks_on (o.streams.control ∷ []) (a.last_goal + 1)) ++ hooks_on awaited (a.last_goal + 2) → next ≡ suc known → IsKept b after next
+pub started_kept : (a b : Account) (mid : Held CellName) (texts : List (List ℕ)) (row : List Instruction) (numbers : List CellName) (count : ℕ) (cells : List (Cell CellName)) (awaited : List ℕ) (o : Opening) (allowance low high : ℕ) (goal : Term) (hooks after : List Hook) (known next : ℕ) → IsKept a hooks known → AreNumbered 0 a.shoens → AreLower a.shoens → low ≤ MONITOR_PRIORITY → high ≤ MONITOR_PRIORITY →
+    IsStart a b mid texts row numbers count cells awaited o allowance low high goal → AreNames a.names → AreSmall b.names → a.entries < MOST_ENTRIES → after ≡ (hooks ++ hooks_on (o.streams.control ∷ []) (a.last_goal + 1)) ++ hooks_on awaited (a.last_goal + 2) → next ≡ suc known → IsKept b after next
 started_kept a b mid texts row numbers count cells awaited o allowance low high goal hooks after known next k numbered lower below also_below s once small room hung counted =
     let firm : IsFirm a = record { some = k.some; goals = k.goals; shoens = k.shoens; numbered = numbered } in
     let firm_then = started_firm a b mid texts row numbers count cells awaited o allowance low high goal firm below also_below s in
@@ -166,24 +169,25 @@ started_kept a b mid texts row numbers count cells awaited o allowance low high 
       settled = λ f fits.
           let agree = old_read a b mid texts row numbers count cells awaited o allowance low high goal s f fits in
           let means = goal_read a b mid texts row numbers count cells awaited o allowance low high goal s f fits in
-          let K : List Hook → Type 0 = λ ks. AreSettled f ks b.held b.modules b.shoens b.goals in
-          let M : List Numbered → Type 0 = λ ms. AreSettled f all b.held ms b.shoens b.goals in
-          let Y : List (Shoen CellName) → Type 0 = λ ss. AreSettled f all b.held a.modules ss b.goals in
-          let Z : List (Goal CellName) → Type 0 = λ gs. AreSettled f all b.held a.modules (a.shoens ++ h ∷ []) gs in
+          let K : List Hook → Type 0 = λ ks. AreSettled f ks b.held (program_of b) b.shoens b.goals in
+          let M : List Numbered → Type 0 = λ ms. AreSettled f all b.held (record { rules = b.rules; loaded = ms }) b.shoens b.goals in
+          let V : Rules → Type 0 = λ r. AreSettled f all b.held (record { rules = r; loaded = a.modules }) b.shoens b.goals in
+          let Y : List (Shoen CellName) → Type 0 = λ ss. AreSettled f all b.held (program_of a) ss b.goals in
+          let Z : List (Goal CellName) → Type 0 = λ gs. AreSettled f all b.held (program_of a) (a.shoens ++ h ∷ []) gs in
           let H : ℕ → Type 0 = λ n. HangsOnEach all n awaited in
-          let A : Term → Type 0 = λ t. AreSame awaited (awaited_by_term (contents a.modules) t) in
+          let A : Term → Type 0 = λ t. AreSame awaited (awaited_by_term a.rules (contents a.modules) t) in
           let hang = subst H (omega arith) (hangs_on_all one (a.last_goal + 2) awaited) in
-          let hung_on = hangs_on_same all (suc (suc a.last_goal)) awaited (awaited_by_term (contents a.modules) (meaning f b.held p.cell)) (subst A (sym means) judged.awaits) hang in
+          let hung_on = hangs_on_same all (suc (suc a.last_goal)) awaited (awaited_by_term a.rules (contents a.modules) (meaning f b.held p.cell)) (subst A (sym means) judged.awaits) hang in
           let unbound : is_bound control b.held.bindings ≡ false = ap (is_bound control) p.bindings ∙ s.drafted.streams.control.unbound in
           let front = front_new f b.held a.shoens h control numbered refl refl unbound in
           let C : Option Control → Type 0 = λ c. HangsOnEach all (suc a.last_goal) (awaited_by_monitor c) in
           let Q : ℕ → Type 0 = λ n. Contains all (let y : Hook = record { variable = control; number = n } in y) in
           let at_one : Contains all hook = Contains-append_left one (hooks_on awaited (a.last_goal + 2)) hook (Contains-append_right hooks (hook ∷ []) hook (0, omega arith, refl)) in
           let at_control = subst Q (omega arith) at_one in
-          subst K (sym hung) (subst M (sym s.modules) (subst Y (sym p.shoens_are) (subst Z (sym p.goals_are)
-          (each_append (IsSettled f all b.held a.modules (a.shoens ++ h ∷ [])) a.goals two
-          (all_settled_old f hooks all a.held b.held a.modules a.shoens h a.goals agree k.goals k.shoens refl k.owned (λ y i. Contains-append_left one (hooks_on awaited (a.last_goal + 2)) y (Contains-append_left hooks (hook ∷ []) y i)) (k.settled f (s.fits f fits)))
-          (record { standing = sym (ap monitor_clause front); hung = subst C (sym front) (at_control, tt) }, (record { standing = judged.clause_is ∙ ap (term_clause (contents a.modules)) (sym means); hung = hung_on }, tt))))));
+          subst K (sym hung) (subst M (sym s.modules) (subst V (sym s.rules) (subst Y (sym p.shoens_are) (subst Z (sym p.goals_are)
+          (each_append (IsSettled f all b.held (program_of a) (a.shoens ++ h ∷ [])) a.goals two
+          (all_settled_old f hooks all a.held b.held (program_of a) a.shoens h a.goals agree k.goals k.shoens refl k.owned (λ y i. Contains-append_left one (hooks_on awaited (a.last_goal + 2)) y (Contains-append_left hooks (hook ∷ []) y i)) (k.settled f (s.fits f fits)))
+          (record { standing = sym (ap monitor_clause front); hung = subst C (sym front) (at_control, tt) }, (record { standing = judged.clause_is ∙ ap (term_clause a.rules (contents a.modules)) (sym means); hung = hung_on }, tt)))))));
       enabled = subst E (sym p.goals_are) (each_append (IsEnabled b.shoens b.work) a.goals two (subst S (sym p.shoens_are) (subst W (sym s.work) (all_enabled_old a.shoens h a.work a.goals numbered lower refl refl k.owned k.enabled))) (refl, (refl, tt)));
       rows = λ f fits. (let M : List Numbered → Type 0 = λ ms. AreRead f ms in subst M (sym s.modules) (k.rows f (s.fits f fits)));
       named = started_named a b mid texts row numbers count cells awaited o allowance low high goal firm k.named s;
@@ -205,25 +209,25 @@ refused_start a c allowance low high goal o r e s f at =
     subst S e s (state_of f a) at
 
 -- room for a goal is within what there may be
-pub variables_within : (c : Counted) (variables nodes : ℕ) → has_room_beside c variables nodes ≡ true → c.variables + suc (suc variables) ≤ most_variables
+pub variables_within : (c : Counted) (variables nodes : ℕ) → has_room_beside c variables nodes ≡ true → c.variables + suc (suc variables) ≤ MOST_VARIABLES
 variables_within c variables nodes e =
-    let p = and_parts (nat_lt c.goals most_goals && nat_le (c.variables + suc (suc variables)) most_variables && nat_le (c.nodes + nodes) most_nodes) (nat_lt c.shoens most_shoens) e in
-    let q = and_parts (nat_lt c.goals most_goals && nat_le (c.variables + suc (suc variables)) most_variables) (nat_le (c.nodes + nodes) most_nodes) p.0 in
-    leb-true (c.variables + suc (suc variables)) most_variables (and_parts (nat_lt c.goals most_goals) (nat_le (c.variables + suc (suc variables)) most_variables) q.0).1
+    let p = and_parts (nat_lt c.goals MOST_GOALS && nat_le (c.variables + suc (suc variables)) MOST_VARIABLES && nat_le (c.nodes + nodes) MOST_NODES) (nat_lt c.shoens MOST_SHOENS) e in
+    let q = and_parts (nat_lt c.goals MOST_GOALS && nat_le (c.variables + suc (suc variables)) MOST_VARIABLES) (nat_le (c.nodes + nodes) MOST_NODES) p.0 in
+    leb-true (c.variables + suc (suc variables)) MOST_VARIABLES (and_parts (nat_lt c.goals MOST_GOALS) (nat_le (c.variables + suc (suc variables)) MOST_VARIABLES) q.0).1
 
-pub nodes_within : (c : Counted) (variables nodes : ℕ) → has_room_beside c variables nodes ≡ true → c.nodes + nodes ≤ most_nodes
+pub nodes_within : (c : Counted) (variables nodes : ℕ) → has_room_beside c variables nodes ≡ true → c.nodes + nodes ≤ MOST_NODES
 nodes_within c variables nodes e =
-    let p = and_parts (nat_lt c.goals most_goals && nat_le (c.variables + suc (suc variables)) most_variables && nat_le (c.nodes + nodes) most_nodes) (nat_lt c.shoens most_shoens) e in
-    leb-true (c.nodes + nodes) most_nodes (and_parts (nat_lt c.goals most_goals && nat_le (c.variables + suc (suc variables)) most_variables) (nat_le (c.nodes + nodes) most_nodes) p.0).1
+    let p = and_parts (nat_lt c.goals MOST_GOALS && nat_le (c.variables + suc (suc variables)) MOST_VARIABLES && nat_le (c.nodes + nodes) MOST_NODES) (nat_lt c.shoens MOST_SHOENS) e in
+    leb-true (c.nodes + nodes) MOST_NODES (and_parts (nat_lt c.goals MOST_GOALS && nat_le (c.variables + suc (suc variables)) MOST_VARIABLES) (nat_le (c.nodes + nodes) MOST_NODES) p.0).1
 
 -- ---- the start of a draft that was put in place
 
 pub is_start : (a b : Account) (mid : Held CellName) (texts : List (List ℕ)) (row : List Instruction) (numbers sliced : List CellName) (count : ℕ) (cells : List (Cell CellName)) (awaited : List ℕ) (o : Opening) (allowance low high : ℕ) (goal code : Term) (gs : List (Goal CellName)) (ss : List (Shoen CellName)) (work : List ℕ) (nodes : ℕ) →
-    IsFormed a.held → IsDrafted a.modules a.names texts row count allowance a.reports a.held mid cells awaited o → Grown a.held mid → IsPlaced sliced row cells mid b.held gs b.goals ss b.shoens b.work a.last_goal allowance low high o → gs ≡ a.goals → ss ≡ a.shoens → sliced ≡ numbers → Grown mid b.held →
+    IsFormed a.held → IsDrafted (program_of a) a.names texts row count allowance a.reports a.held mid cells awaited o → Grown a.held mid → IsPlaced sliced row cells mid b.held gs b.goals ss b.shoens b.work a.last_goal allowance low high o → gs ≡ a.goals → ss ≡ a.shoens → sliced ≡ numbers → Grown mid b.held →
     code ≡ goal → texts ≡ with_names [] (names_of code) → IsRowOf (with_names [] (names_of code)) row (nodes_of code) → IsTrue (is_numbered goal) → count ≡ highest goal → texts_of b.names ≡ with_texts (texts_of a.names) texts → AreNumbersOf b.names texts numbers → ((f : Reading) → Fits b.names f → Fits a.names f) →
-    b.own_name ≡ a.own_name → b.sessions ≡ a.sessions → b.modules ≡ a.modules → b.work ≡ work → work ≡ a.work → b.last_goal ≡ suc (suc a.last_goal) → b.variables ≡ a.variables + (count + 2) → nodes ≡ goal_nodes code → b.nodes ≡ a.nodes + nodes → b.reports ≡ o.streams.made → b.entries ≡ a.entries + 1 →
+    b.own_name ≡ a.own_name → b.rules ≡ a.rules → b.sessions ≡ a.sessions → b.modules ≡ a.modules → b.work ≡ work → work ≡ a.work → b.last_goal ≡ suc (suc a.last_goal) → b.variables ≡ a.variables + (count + 2) → nodes ≡ goal_nodes code → b.nodes ≡ a.nodes + nodes → b.reports ≡ o.streams.made → b.entries ≡ a.entries + 1 →
     IsStart a b mid texts row numbers count cells awaited o allowance low high goal
-is_start a b mid texts row numbers sliced count cells awaited o allowance low high goal code gs ss work nodes formed d grown p e f h up same t is numbered many names are fits own sessions modules worked was last variables counted all reports entries =
+is_start a b mid texts row numbers sliced count cells awaited o allowance low high goal code gs ss work nodes formed d grown p e f h up same t is numbered many names are fits own rules sessions modules worked was last variables counted all reports entries =
     let P : List (Goal CellName) → Type 0 = λ x. IsPlaced sliced row cells mid b.held x b.goals ss b.shoens b.work a.last_goal allowance low high o in
     let Q : List (Shoen CellName) → Type 0 = λ x. IsPlaced sliced row cells mid b.held a.goals b.goals x b.shoens b.work a.last_goal allowance low high o in
     let R : List CellName → Type 0 = λ x. IsPlaced x row cells mid b.held a.goals b.goals a.shoens b.shoens b.work a.last_goal allowance low high o in
@@ -242,6 +246,7 @@ is_start a b mid texts row numbers sliced count cells awaited o allowance low hi
       numbers_are = are;
       fits = fits;
       own = own;
+      rules = rules;
       sessions = sessions;
       modules = modules;
       work = worked ∙ was;

@@ -2,12 +2,12 @@
 use Rattle.std.proofs.Common.{◌≡◌, ℕ, suc, ◌+◌, ◌<◌, ◌≤◌, ◌&&◌, Bool, true, false, if◌then◌else◌, List, [], length, refl, sym, ap, ◌∙◌, arith, subst}
 use Rattle.std.specs.Prelude.{nat_lt, nat_le}
 use Rattle.std.proofs.lemmas.Bool.{ltb-true, ltb-false, lt-leb, le-leb, le-ltb, lt-ltb}
-use Rattle.kl1_model.specs.Limits.{most_goals, most_variables, most_nodes, most_shoens}
+use Rattle.kl1_model.specs.declared.limits.TheConstants.{MOST_GOALS, MOST_VARIABLES, MOST_NODES, MOST_SHOENS, MOST_ENTRIES, MOST_NAMES}
 use Rattle.kl1_model.specs.Term.{Term}
 use Rattle.kl1_model.specs.Meaning.{highest}
 use Rattle.kl1_model.specs.Nodes.{goal_nodes}
 use Rattle.kl1_model.specs.State.{State, names_of, with_names}
-use Rattle.kl1_model.specs.Event.{Transition, start, opened, refuse, recorded, named, limited, syntax, too_many_names, journal_full, with_entry, most_entries, most_names}
+use Rattle.kl1_model.specs.Event.{Transition, start, opened, refuse, recorded, named, limited, syntax, too_many_names, journal_full, with_entry}
 use Rattle.kl1_model.specs.Step.{step}
 use Rattle.kl1_model.specs.Opening.{may_start, has_room_to_start, start_goal}
 use Rattle.kl1_atoms.specs.declared.known.Known.{Known}
@@ -29,10 +29,10 @@ names_used names texts goal e = ap (with_names names) e ∙ collected names [] (
 -- room by what is counted of a state
 room_in : (s : State) (names : List Known) (c : Counted) (goal : Term) → HasNames s names c → has_room_to_start s goal ≡ has_room_beside c (highest goal) (goal_nodes goal)
 room_in s names c goal at =
-    ap (λ n. nat_lt n most_goals && nat_le (s.variables + suc (suc (highest goal))) most_variables && nat_le (s.nodes + goal_nodes goal) most_nodes && nat_lt s.last_shoen most_shoens) at.goals_are
-    ∙ ap (λ n. nat_lt c.goals most_goals && nat_le (n + suc (suc (highest goal))) most_variables && nat_le (s.nodes + goal_nodes goal) most_nodes && nat_lt s.last_shoen most_shoens) at.variables_are
-    ∙ ap (λ n. nat_lt c.goals most_goals && nat_le (c.variables + suc (suc (highest goal))) most_variables && nat_le (n + goal_nodes goal) most_nodes && nat_lt s.last_shoen most_shoens) at.nodes_are
-    ∙ ap (λ n. nat_lt c.goals most_goals && nat_le (c.variables + suc (suc (highest goal))) most_variables && nat_le (c.nodes + goal_nodes goal) most_nodes && nat_lt n most_shoens) at.shoens_are
+    ap (λ n. nat_lt n MOST_GOALS && nat_le (s.variables + suc (suc (highest goal))) MOST_VARIABLES && nat_le (s.nodes + goal_nodes goal) MOST_NODES && nat_lt s.last_shoen MOST_SHOENS) at.goals_are
+    ∙ ap (λ n. nat_lt c.goals MOST_GOALS && nat_le (n + suc (suc (highest goal))) MOST_VARIABLES && nat_le (s.nodes + goal_nodes goal) MOST_NODES && nat_lt s.last_shoen MOST_SHOENS) at.variables_are
+    ∙ ap (λ n. nat_lt c.goals MOST_GOALS && nat_le (c.variables + suc (suc (highest goal))) MOST_VARIABLES && nat_le (n + goal_nodes goal) MOST_NODES && nat_lt s.last_shoen MOST_SHOENS) at.nodes_are
+    ∙ ap (λ n. nat_lt c.goals MOST_GOALS && nat_le (c.variables + suc (suc (highest goal))) MOST_VARIABLES && nat_le (c.nodes + goal_nodes goal) MOST_NODES && nat_lt n MOST_SHOENS) at.shoens_are
 
 -- ---- the step
 
@@ -45,47 +45,47 @@ step_by : (s : State) (allowance low high : ℕ) (goal : Term) (b : Bool) → ma
     step s (start allowance low high goal) ≡ (if b then named s (with_names s.names (names_of goal)) (limited s (has_room_to_start s goal) (recorded s (done_by s allowance low high goal))) else refuse s syntax)
 step_by s allowance low high goal b e = ap (λ z. if z then named s (with_names s.names (names_of goal)) (limited s (has_room_to_start s goal) (recorded s (done_by s allowance low high goal))) else refuse s syntax) e
 
-step_names : (s : State) (allowance low high : ℕ) (goal : Term) (texts : List (List ℕ)) → may_start allowance low high goal ≡ true → texts ≡ with_names [] (names_of goal) → nat_lt most_names (length (with_texts s.names texts)) ≡ true → step s (start allowance low high goal) ≡ refuse s too_many_names
+step_names : (s : State) (allowance low high : ℕ) (goal : Term) (texts : List (List ℕ)) → may_start allowance low high goal ≡ true → texts ≡ with_names [] (names_of goal) → nat_lt MOST_NAMES (length (with_texts s.names texts)) ≡ true → step s (start allowance low high goal) ≡ refuse s too_many_names
 step_names s allowance low high goal texts may is many =
-    let lt = ltb-true most_names (length (with_texts s.names texts)) many in
+    let lt = ltb-true MOST_NAMES (length (with_texts s.names texts)) many in
     let e : length (with_texts s.names texts) ≡ length (with_names s.names (names_of goal)) = ap (λ (ns : List (List ℕ)). length ns) (names_used s.names texts goal is) in
     step_by s allowance low high goal true may
-    ∙ ap (λ b. if b then limited s (has_room_to_start s goal) (recorded s (done_by s allowance low high goal)) else refuse s too_many_names) (lt-leb (length (with_names s.names (names_of goal))) most_names (omega arith))
+    ∙ ap (λ b. if b then limited s (has_room_to_start s goal) (recorded s (done_by s allowance low high goal)) else refuse s too_many_names) (lt-leb (length (with_names s.names (names_of goal))) MOST_NAMES (omega arith))
 
-fits_names : (s : State) (allowance low high : ℕ) (goal : Term) (texts : List (List ℕ)) → may_start allowance low high goal ≡ true → texts ≡ with_names [] (names_of goal) → nat_lt most_names (length (with_texts s.names texts)) ≡ false →
+fits_names : (s : State) (allowance low high : ℕ) (goal : Term) (texts : List (List ℕ)) → may_start allowance low high goal ≡ true → texts ≡ with_names [] (names_of goal) → nat_lt MOST_NAMES (length (with_texts s.names texts)) ≡ false →
     step s (start allowance low high goal) ≡ limited s (has_room_to_start s goal) (recorded s (done_by s allowance low high goal))
 fits_names s allowance low high goal texts may is few =
-    let le = ltb-false most_names (length (with_texts s.names texts)) few in
+    let le = ltb-false MOST_NAMES (length (with_texts s.names texts)) few in
     let e : length (with_texts s.names texts) ≡ length (with_names s.names (names_of goal)) = ap (λ (ns : List (List ℕ)). length ns) (names_used s.names texts goal is) in
     step_by s allowance low high goal true may
-    ∙ ap (λ b. if b then limited s (has_room_to_start s goal) (recorded s (done_by s allowance low high goal)) else refuse s too_many_names) (le-leb (length (with_names s.names (names_of goal))) most_names (omega arith))
+    ∙ ap (λ b. if b then limited s (has_room_to_start s goal) (recorded s (done_by s allowance low high goal)) else refuse s too_many_names) (le-leb (length (with_names s.names (names_of goal))) MOST_NAMES (omega arith))
 
-fits_room : (s : State) (allowance low high : ℕ) (goal : Term) (texts : List (List ℕ)) (b : Bool) → may_start allowance low high goal ≡ true → texts ≡ with_names [] (names_of goal) → nat_lt most_names (length (with_texts s.names texts)) ≡ false → has_room_to_start s goal ≡ b →
+fits_room : (s : State) (allowance low high : ℕ) (goal : Term) (texts : List (List ℕ)) (b : Bool) → may_start allowance low high goal ≡ true → texts ≡ with_names [] (names_of goal) → nat_lt MOST_NAMES (length (with_texts s.names texts)) ≡ false → has_room_to_start s goal ≡ b →
     step s (start allowance low high goal) ≡ limited s b (recorded s (done_by s allowance low high goal))
 fits_room s allowance low high goal texts b may is few keeps = fits_names s allowance low high goal texts may is few ∙ ap (λ z. limited s z (recorded s (done_by s allowance low high goal))) keeps
 
-step_full : (s : State) (allowance low high : ℕ) (goal : Term) (texts : List (List ℕ)) → may_start allowance low high goal ≡ true → texts ≡ with_names [] (names_of goal) → nat_lt most_names (length (with_texts s.names texts)) ≡ false → has_room_to_start s goal ≡ true → most_entries ≤ s.entries →
+step_full : (s : State) (allowance low high : ℕ) (goal : Term) (texts : List (List ℕ)) → may_start allowance low high goal ≡ true → texts ≡ with_names [] (names_of goal) → nat_lt MOST_NAMES (length (with_texts s.names texts)) ≡ false → has_room_to_start s goal ≡ true → MOST_ENTRIES ≤ s.entries →
     step s (start allowance low high goal) ≡ refuse s journal_full
 step_full s allowance low high goal texts may is few keeps le =
     fits_room s allowance low high goal texts true may is few keeps
-    ∙ ap (λ b. if b then done_by s allowance low high goal else refuse s journal_full) (le-ltb s.entries most_entries le)
+    ∙ ap (λ b. if b then done_by s allowance low high goal else refuse s journal_full) (le-ltb s.entries MOST_ENTRIES le)
 
-pub step_done : (s : State) (allowance low high : ℕ) (goal : Term) (texts : List (List ℕ)) → may_start allowance low high goal ≡ true → texts ≡ with_names [] (names_of goal) → nat_lt most_names (length (with_texts s.names texts)) ≡ false → has_room_to_start s goal ≡ true → s.entries < most_entries →
+pub step_done : (s : State) (allowance low high : ℕ) (goal : Term) (texts : List (List ℕ)) → may_start allowance low high goal ≡ true → texts ≡ with_names [] (names_of goal) → nat_lt MOST_NAMES (length (with_texts s.names texts)) ≡ false → has_room_to_start s goal ≡ true → s.entries < MOST_ENTRIES →
     step s (start allowance low high goal) ≡ done_by s allowance low high goal
 step_done s allowance low high goal texts may is few keeps lt =
     fits_room s allowance low high goal texts true may is few keeps
-    ∙ ap (λ b. if b then done_by s allowance low high goal else refuse s journal_full) (lt-ltb s.entries most_entries lt)
+    ∙ ap (λ b. if b then done_by s allowance low high goal else refuse s journal_full) (lt-ltb s.entries MOST_ENTRIES lt)
 
 -- ---- a goal that is to be started
 
-same_names : (s : State) (names : List Known) (c : Counted) (texts : List (List ℕ)) (b : Bool) → HasNames s names c → nat_lt most_names (length (with_texts (texts_of names) texts)) ≡ b → nat_lt most_names (length (with_texts s.names texts)) ≡ b
-same_names s names c texts b at e = ap (λ (ns : List (List ℕ)). nat_lt most_names (length (with_texts ns texts))) at.names_are ∙ e
+same_names : (s : State) (names : List Known) (c : Counted) (texts : List (List ℕ)) (b : Bool) → HasNames s names c → nat_lt MOST_NAMES (length (with_texts (texts_of names) texts)) ≡ b → nat_lt MOST_NAMES (length (with_texts s.names texts)) ≡ b
+same_names s names c texts b at e = ap (λ (ns : List (List ℕ)). nat_lt MOST_NAMES (length (with_texts ns texts))) at.names_are ∙ e
 
 texts_as : (goal code : Term) (texts : List (List ℕ)) → code ≡ goal → texts ≡ with_names [] (names_of code) → texts ≡ with_names [] (names_of goal)
 texts_as goal code texts same is = is ∙ ap (λ (x : Term). with_names [] (names_of x)) same
 
 -- if its names are too many
-pub refused_crowd : (names : List Known) (c : Counted) (allowance low high : ℕ) (goal code : Term) (texts : List (List ℕ)) → may_start allowance low high goal ≡ true → code ≡ goal → texts ≡ with_names [] (names_of code) → nat_lt most_names (length (with_texts (texts_of names) texts)) ≡ true →
+pub refused_crowd : (names : List Known) (c : Counted) (allowance low high : ℕ) (goal code : Term) (texts : List (List ℕ)) → may_start allowance low high goal ≡ true → code ≡ goal → texts ≡ with_names [] (names_of code) → nat_lt MOST_NAMES (length (with_texts (texts_of names) texts)) ≡ true →
     StartsAs names c allowance low high goal (Refused Names)
 refused_crowd names c allowance low high goal code texts may same is many =
     λ s at. step_names s allowance low high goal texts may (texts_as goal code texts same is) (same_names s names c texts true at many)
@@ -96,22 +96,22 @@ room_for c variables nodes goal code b same v n e =
     sym (ap (λ z. has_room_beside c z nodes) v ∙ ap (has_room_beside c (highest goal)) (n ∙ ap goal_nodes same)) ∙ e
 
 -- if a limit would be passed
-pub refused_limit : (names : List Known) (c : Counted) (allowance low high : ℕ) (goal code : Term) (texts : List (List ℕ)) → may_start allowance low high goal ≡ true → code ≡ goal → texts ≡ with_names [] (names_of code) → nat_lt most_names (length (with_texts (texts_of names) texts)) ≡ false →
+pub refused_limit : (names : List Known) (c : Counted) (allowance low high : ℕ) (goal code : Term) (texts : List (List ℕ)) → may_start allowance low high goal ≡ true → code ≡ goal → texts ≡ with_names [] (names_of code) → nat_lt MOST_NAMES (length (with_texts (texts_of names) texts)) ≡ false →
     has_room_beside c (highest goal) (goal_nodes goal) ≡ false → StartsAs names c allowance low high goal (Refused Limit)
 refused_limit names c allowance low high goal code texts may same is few keeps =
     λ s at. fits_room s allowance low high goal texts false may (texts_as goal code texts same is) (same_names s names c texts false at few) (room_in s names c goal at ∙ keeps)
 
 -- if the journal is full
-pub refused_full : (names : List Known) (c : Counted) (allowance low high : ℕ) (goal code : Term) (texts : List (List ℕ)) → may_start allowance low high goal ≡ true → code ≡ goal → texts ≡ with_names [] (names_of code) → nat_lt most_names (length (with_texts (texts_of names) texts)) ≡ false →
-    has_room_beside c (highest goal) (goal_nodes goal) ≡ true → most_entries ≤ c.entries → StartsAs names c allowance low high goal (Refused Journal)
+pub refused_full : (names : List Known) (c : Counted) (allowance low high : ℕ) (goal code : Term) (texts : List (List ℕ)) → may_start allowance low high goal ≡ true → code ≡ goal → texts ≡ with_names [] (names_of code) → nat_lt MOST_NAMES (length (with_texts (texts_of names) texts)) ≡ false →
+    has_room_beside c (highest goal) (goal_nodes goal) ≡ true → MOST_ENTRIES ≤ c.entries → StartsAs names c allowance low high goal (Refused Journal)
 refused_full names c allowance low high goal code texts may same is few keeps full =
     λ s at. step_full s allowance low high goal texts may (texts_as goal code texts same is) (same_names s names c texts false at few) (room_in s names c goal at ∙ keeps) (let e = at.entries_are in omega arith)
 
 -- if it may be started
-pub startable : (names : List Known) (c : Counted) (allowance low high : ℕ) (goal code : Term) (texts : List (List ℕ)) → may_start allowance low high goal ≡ true → code ≡ goal → texts ≡ with_names [] (names_of code) → nat_lt most_names (length (with_texts (texts_of names) texts)) ≡ false →
-    has_room_beside c (highest goal) (goal_nodes goal) ≡ true → c.entries < most_entries → StartsAs names c allowance low high goal (Coded code)
+pub startable : (names : List Known) (c : Counted) (allowance low high : ℕ) (goal code : Term) (texts : List (List ℕ)) → may_start allowance low high goal ≡ true → code ≡ goal → texts ≡ with_names [] (names_of code) → nat_lt MOST_NAMES (length (with_texts (texts_of names) texts)) ≡ false →
+    has_room_beside c (highest goal) (goal_nodes goal) ≡ true → c.entries < MOST_ENTRIES → StartsAs names c allowance low high goal (Coded code)
 startable names c allowance low high goal code texts may same is few keeps room =
-    let N : List (List ℕ) → Type 0 = λ ts. nat_lt most_names (length (with_texts (texts_of names) ts)) ≡ false in
+    let N : List (List ℕ) → Type 0 = λ ts. nat_lt MOST_NAMES (length (with_texts (texts_of names) ts)) ≡ false in
     record { code_is = same; may = may; few = subst N (texts_as goal code texts same is) few; keeps = keeps; room = room }
 
 -- the step of a state with these names and counts, if the goal may be started

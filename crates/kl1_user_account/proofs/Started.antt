@@ -1,6 +1,7 @@
 -- A start that is put in place.
 use Rattle.std.proofs.Common.{◌≡◌, ℕ, suc, ◌+◌, ◌-◌, ◌<◌, List, [], ◌∷◌, ◌++◌, length, map, IsTrue, refl, sym, ap, ◌∙◌, arith, subst, length-append}
 use Rattle.std.proofs.lemmas.List.{take_all}
+use Rattle.kl1_model.specs.declared.rules.Rules.{Rules}
 use Rattle.kl1_model.specs.Module.{Module}
 use Rattle.kl1_model.specs.Term.{Term}
 use Rattle.kl1_model.specs.code.TermCode.{nodes_of}
@@ -28,7 +29,7 @@ use Rattle.kl1_shoen.specs.Shoens.{AreNumbered, is_enabled_at}
 use Rattle.kl1_user_account.specs.declared.counted.Counted.{Counted}
 use Rattle.kl1_user_account.specs.declared.opening.Opening.{Opening}
 use Rattle.kl1_user_effects.specs.Fitting.{Reading, Fits}
-use Rattle.kl1_user_effects.specs.Account.{Account, meaning, goal_with, shoen_with, state_of, texts_of}
+use Rattle.kl1_user_effects.specs.Account.{Account, program_of, meaning, goal_with, shoen_with, state_of, texts_of}
 use Rattle.kl1_user_effects.specs.Naming.{AreNumbersOf}
 use Rattle.kl1_user_effects.specs.Kept.{AreGoalsIn, AreShoensIn}
 use Rattle.kl1_user_account.specs.Starting.{HasNames, IsStartable, streams_opened, IsDrafted, IsPlaced}
@@ -48,7 +49,7 @@ pub record IsFirm (a : Account) : Type 0 where
 -- what is known of a start of a goal before it is in place and after it: the draft, the place, the names, and what is counted
 pub record IsStart (a b : Account) (mid : Held CellName) (texts : List (List ℕ)) (row : List Instruction) (numbers : List CellName) (count : ℕ) (cells : List (Cell CellName)) (awaited : List ℕ) (o : Opening) (allowance low high : ℕ) (goal : Term) : Type 0 where
   pub formed : IsFormed a.held
-  pub drafted : IsDrafted a.modules a.names texts row count allowance a.reports a.held mid cells awaited o
+  pub drafted : IsDrafted (program_of a) a.names texts row count allowance a.reports a.held mid cells awaited o
   pub grown : Grown a.held mid
   pub placed : IsPlaced numbers row cells mid b.held a.goals b.goals a.shoens b.shoens b.work a.last_goal allowance low high o
   pub more : Grown mid b.held
@@ -60,6 +61,7 @@ pub record IsStart (a b : Account) (mid : Held CellName) (texts : List (List ℕ
   pub numbers_are : AreNumbersOf b.names texts numbers
   pub fits : (f : Reading) → Fits b.names f → Fits a.names f
   pub own : b.own_name ≡ a.own_name
+  pub rules : b.rules ≡ a.rules
   pub sessions : b.sessions ≡ a.sessions
   pub modules : b.modules ≡ a.modules
   pub work : b.work ≡ a.work
@@ -116,7 +118,7 @@ started_state a b mid texts row numbers count cells awaited o allowance low high
     let last = a.held.variables - 1 in
     let u = meaning f b.held in
     let some = k.some in
-    let base : State = record { own_name = a.own_name; goals = []; shoens = []; work = a.work; modules = contents a.modules; names = texts_of a.names; last_variable = 0; last_goal = a.last_goal; last_shoen = length a.shoens; variables = a.variables; nodes = a.nodes; reports = a.reports; entries = a.entries; sessions = a.sessions } in
+    let base : State = record { own_name = a.own_name; rules = a.rules; goals = []; shoens = []; work = a.work; modules = contents a.modules; names = texts_of a.names; last_variable = 0; last_goal = a.last_goal; last_shoen = length a.shoens; variables = a.variables; nodes = a.nodes; reports = a.reports; entries = a.entries; sessions = a.sessions } in
     let p = s.placed in
     let began = start_opens a.held (meaning f a.held) u base last allowance low high (b.held.variables - 1) goal a.goals a.shoens p.cell o.streams o.standing (is_enabled_at b.shoens b.work (suc (length a.shoens)))
     (old_read a b mid texts row numbers count cells awaited o allowance low high goal s f fits)
@@ -128,12 +130,12 @@ started_state a b mid texts row numbers count cells awaited o allowance low high
     let count_is : suc (length a.shoens) ≡ length b.shoens = sym (ap (λ (xs : List (Shoen CellName)). length xs) p.shoens_are ∙ one_longer a.shoens _) in
     let es : suc a.entries ≡ b.entries = let e = s.entries in omega arith in
     ap with_entry began
-    ∙ parts _ _ _ _ _ _ _ _ _ _ _ _ _ _ _ _ _ _ _ _ _ _ _ _ _ _ (b.held.variables - 1) (ap (map (goal_with u)) (sym p.goals_are)) (ap (map (shoen_with u)) (sym p.shoens_are)) names (sym s.last) count_is es (sym s.own) (ap contents (sym s.modules)) (sym s.work) (sym s.variables) (sym s.nodes) (sym s.reports) (sym s.sessions)
+    ∙ parts _ _ _ _ _ _ _ _ _ _ _ _ _ _ _ _ _ _ _ _ _ _ _ _ _ _ _ _ (b.held.variables - 1) (ap (map (goal_with u)) (sym p.goals_are)) (ap (map (shoen_with u)) (sym p.shoens_are)) names (sym s.last) count_is es (sym s.own) (sym s.rules) (ap contents (sym s.modules)) (sym s.work) (sym s.variables) (sym s.nodes) (sym s.reports) (sym s.sessions)
   where
-    parts : (gs hs : List model.Goal) (ss ts : List model.Shoen) (ns ms : List (List ℕ)) (l m c d e g : ℕ) (x y : List ℕ) (q r : List Module) (w z : List ℕ) (i j : ℕ) (v : ℕ) (v2 : ℕ) (k k2 : ℕ) (o o2 last : ℕ) → gs ≡ hs → ss ≡ ts → ns ≡ ms → l ≡ m → c ≡ d → e ≡ g → x ≡ y → q ≡ r → w ≡ z → i ≡ j → v ≡ v2 → k ≡ k2 → o ≡ o2 →
-        (let one : State = record { own_name = x; goals = gs; shoens = ss; work = w; modules = q; names = ns; last_variable = last; last_goal = l; last_shoen = c; variables = i; nodes = v; reports = k; entries = e; sessions = o } in one)
-        ≡ record { own_name = y; goals = hs; shoens = ts; work = z; modules = r; names = ms; last_variable = last; last_goal = m; last_shoen = d; variables = j; nodes = v2; reports = k2; entries = g; sessions = o2 }
-    parts gs hs ss ts ns ms l m c d e g x y q r w z i j v v2 k k2 o o2 last e1 e2 e3 e4 e5 e6 e7 e8 e9 e10 e11 e12 e13 = cc
+    parts : (gs hs : List model.Goal) (ss ts : List model.Shoen) (ns ms : List (List ℕ)) (l m c d e g : ℕ) (x y : List ℕ) (u v1 : Rules) (q r : List Module) (w z : List ℕ) (i j : ℕ) (v : ℕ) (v2 : ℕ) (k k2 : ℕ) (o o2 last : ℕ) → gs ≡ hs → ss ≡ ts → ns ≡ ms → l ≡ m → c ≡ d → e ≡ g → x ≡ y → u ≡ v1 → q ≡ r → w ≡ z → i ≡ j → v ≡ v2 → k ≡ k2 → o ≡ o2 →
+        (let one : State = record { own_name = x; rules = u; goals = gs; shoens = ss; work = w; modules = q; names = ns; last_variable = last; last_goal = l; last_shoen = c; variables = i; nodes = v; reports = k; entries = e; sessions = o } in one)
+        ≡ record { own_name = y; rules = v1; goals = hs; shoens = ts; work = z; modules = r; names = ms; last_variable = last; last_goal = m; last_shoen = d; variables = j; nodes = v2; reports = k2; entries = g; sessions = o2 }
+    parts gs hs ss ts ns ms l m c d e g x y u v1 q r w z i j v v2 k k2 o o2 last e1 e2 e3 e4 e5 e6 e7 e8 e9 e10 e11 e12 e13 e14 = cc
 
 -- the step of a start that is in place
 pub started_step : (a b : Account) (mid : Held CellName) (texts : List (List ℕ)) (row : List Instruction) (numbers : List CellName) (count : ℕ) (cells : List (Cell CellName)) (awaited : List ℕ) (o : Opening) (allowance low high : ℕ) (goal code : Term) (c : Counted) (n : ℕ) → IsFirm a →

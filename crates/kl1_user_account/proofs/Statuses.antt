@@ -16,7 +16,7 @@ use Rattle.kl1_model.specs.Asking.{module_line}
 use Rattle.kl1_model.specs.Step.{step}
 use Rattle.kl1_text.specs.declared.cell_name.CellName.{CellName}
 use Rattle.kl1_goals.specs.declared.task.Task.{Task}
-use Rattle.kl1_goals.specs.declared.task.Task.TheVariants.{Monitor, Reduces}
+use Rattle.kl1_goals.specs.declared.task.Task.TheVariants.{Monitor, Reduces, Substitutes}
 use Rattle.kl1_goals.specs.declared.goal.Goal.{Goal}
 use Rattle.kl1_goals.specs.Lists.{is_monitor, is_monitor_task, is_flagged}
 use Rattle.kl1_shoen_paths.specs.declared.shoen.Shoen.{Shoen}
@@ -57,6 +57,7 @@ flag_at q k (suc i) (s ∷ ss) a lt = flag_at q (suc k) i ss a.1 (omega (arith, 
 monitor_read : (t : Means) (k : Task CellName) → model.is_monitor (task_with t k) ≡ is_monitor_task k
 monitor_read t Monitor = refl
 monitor_read t (Reduces q) = refl
+monitor_read t (Substitutes x) = refl
 
 goals_read : (t : Means) (n : ℕ) (ss : List (Shoen CellName)) (ps : List ℕ) (gs : List (Goal CellName)) → AreNumbered 0 ss → AreOwned (length ss) gs → ps ≡ parents_in ss →
     count_by (λ (g : model.Goal). not (model.is_monitor g.task) && is_among n (path_within g.shoen ps g.shoen)) (map (goal_with t) gs)

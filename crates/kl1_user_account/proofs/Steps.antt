@@ -3,7 +3,9 @@ use Rattle.std.proofs.Common.{◌≡◌, true, false, not, if◌then◌else◌, 
 use Rattle.std.specs.Prelude.{Some, None, Option, option_map, find}
 use Rattle.std.specs.List.{AllByRecursion}
 use Rattle.std.proofs.lemmas.Bool.{lt-ltb, le-ltb, eq-eqb, ne_eqb}
-use Rattle.kl1_model.specs.Limits.{most_entries}
+use Rattle.kl1_model.specs.declared.limits.TheConstants.{MOST_ENTRIES}
+use Rattle.kl1_model.specs.Term.{Term}
+use Rattle.kl1_model.specs.Look.{goal_look}
 use Rattle.kl1_model.specs.Control as model_control
 use Rattle.kl1_model.specs.State as model
 use Rattle.kl1_model.specs.State.{State, goal_at, shoen_at, without_goal}
@@ -18,16 +20,18 @@ use Rattle.kl1_store.specs.Held.{Held}
 use Rattle.kl1_stream.specs.declared.control.Control.{Control}
 use Rattle.kl1_stream.specs.declared.control.Control.TheVariants.{Awaits, Tells, TellsOther, Ends, BreaksOff}
 use Rattle.kl1_stream.specs.Controls.{control_as}
-use Rattle.kl1_goals.specs.declared.task.Task.TheVariants.{Monitor, Reduces}
+use Rattle.kl1_goals_moves.specs.Substitutes.{move_by_clause}
+use Rattle.kl1_goals.specs.declared.task.Task.{Task}
+use Rattle.kl1_goals.specs.declared.task.Task.TheVariants.{Monitor, Reduces, Substitutes}
 use Rattle.kl1_goals.specs.declared.goal.Goal.{Goal}
 use Rattle.kl1_goals.specs.Lists.{has_number}
 use Rattle.kl1_shoen_paths.specs.declared.shoen.Shoen.{Shoen}
 use Rattle.kl1_shoen.specs.Shoens.{shoen_in}
 use Rattle.kl1_codes_modules.specs.Finding.{contents}
 use Rattle.kl1_user_effects.specs.Fitting.{Reading}
-use Rattle.kl1_user_effects.specs.Account.{Account, Means, meaning, task_with, goal_with, shoen_with, state_of, aim}
+use Rattle.kl1_user_effects.specs.Account.{Account, Means, meaning, task_with, goal_with, shoen_with, state_of, aim, aim_with}
 use Rattle.kl1_user_effects.specs.Settled.{IsEnabled, AreEnabled}
-use Rattle.kl1_user_account.specs.Reducing.{IsSteppable, is_read}
+use Rattle.kl1_user_account.specs.Reducing.{IsSteppable, is_read, IsTaskFor, task_move}
 use Rattle.kl1_user_effects.proofs.States.{found_in}
 use Rattle.kl1_user_account.proofs.Choosing.{enabled_read}
 
@@ -93,22 +97,22 @@ pub steps_not : (f : Reading) (a : Account) (n c : ℕ) (g : Goal CellName) → 
 steps_not f a n c g is all e = steps_to f a n c g is all ∙ ap (reduced_by (state_of f a) (goal_with (meaning f a.held) g)) e
 
 -- an action is refused if the journal is full
-pub steps_full : (f : Reading) (a : Account) (n c : ℕ) (g : Goal CellName) (x : reduction.Action) → IsSteppable a.goals n c g → AreEnabled a.shoens a.work a.goals → task_action (state_of f a) g.shoen (task_with (meaning f a.held) g.task) c ≡ Some x → most_entries ≤ a.entries →
+pub steps_full : (f : Reading) (a : Account) (n c : ℕ) (g : Goal CellName) (x : reduction.Action) → IsSteppable a.goals n c g → AreEnabled a.shoens a.work a.goals → task_action (state_of f a) g.shoen (task_with (meaning f a.held) g.task) c ≡ Some x → MOST_ENTRIES ≤ a.entries →
     step (state_of f a) (reduce n c) ≡ refuse (state_of f a) journal_full
 steps_full f a n c g x is all e full =
     let s = state_of f a in
     let k = goal_with (meaning f a.held) g in
     steps_to f a n c g is all ∙ ap (reduced_by s k) e
-    ∙ ap (λ b. if b then record { state = acted k x (with_entry s); reply = reduced } else refuse s journal_full) (le-ltb a.entries most_entries full)
+    ∙ ap (λ b. if b then record { state = acted k x (with_entry s); reply = reduced } else refuse s journal_full) (le-ltb a.entries MOST_ENTRIES full)
 
 -- an action is done if there is room in the journal
-pub steps_on : (f : Reading) (a : Account) (n c : ℕ) (g : Goal CellName) (x : reduction.Action) → IsSteppable a.goals n c g → AreEnabled a.shoens a.work a.goals → task_action (state_of f a) g.shoen (task_with (meaning f a.held) g.task) c ≡ Some x → a.entries < most_entries →
+pub steps_on : (f : Reading) (a : Account) (n c : ℕ) (g : Goal CellName) (x : reduction.Action) → IsSteppable a.goals n c g → AreEnabled a.shoens a.work a.goals → task_action (state_of f a) g.shoen (task_with (meaning f a.held) g.task) c ≡ Some x → a.entries < MOST_ENTRIES →
     step (state_of f a) (reduce n c) ≡ record { state = acted (goal_with (meaning f a.held) g) x (with_entry (state_of f a)); reply = reduced }
 steps_on f a n c g x is all e room =
     let s = state_of f a in
     let k = goal_with (meaning f a.held) g in
     steps_to f a n c g is all ∙ ap (reduced_by s k) e
-    ∙ ap (λ b. if b then record { state = acted k x (with_entry s); reply = reduced } else refuse s journal_full) (lt-ltb a.entries most_entries room)
+    ∙ ap (λ b. if b then record { state = acted k x (with_entry s); reply = reduced } else refuse s journal_full) (lt-ltb a.entries MOST_ENTRIES room)
 
 -- ---- what a monitor can do
 
@@ -149,12 +153,37 @@ is_none_read f h (BreaksOff x) e = absurd (cc)
 -- ---- what a goal for a cell can do
 
 -- it makes the move of its term, if there is one
-pub goal_does : (f : Reading) (a : Account) (c : ℕ) (g : Goal CellName) (x : Qualified CellName) (o : Option reduction.Move) → g.task ≡ Reduces x → move_by (contents a.modules) (aim f a.held x) c ≡ o →
+pub goal_does : (f : Reading) (a : Account) (c : ℕ) (g : Goal CellName) (x : Qualified CellName) (o : Option reduction.Move) → g.task ≡ Reduces x → move_by a.rules (contents a.modules) (aim f a.held x) c ≡ o →
     task_action (state_of f a) g.shoen (task_with (meaning f a.held) g.task) c ≡ option_map (moves (aim f a.held x)) o
 goal_does f a c g x o task found =
     let s = state_of f a in
     let t = meaning f a.held in
     ap (λ k. task_action s g.shoen (task_with t k) c) task ∙ ap (option_map (moves (aim f a.held x))) found
+
+-- ---- what a task can do
+
+substitute_acts : (t : Term) (c : ℕ) → (if c == 0 then option_map (moves t) (reduction.substitute_move (goal_look t)) else None) ≡ option_map (moves t) (move_by_clause t c)
+substitute_acts t c = by_case (c == 0)
+  where
+    by_case : (b : Bool) → (if b then option_map (moves t) (reduction.substitute_move (goal_look t)) else None) ≡ option_map (moves t) (if b then reduction.substitute_move (goal_look t) else None)
+    by_case true = refl
+    by_case false = refl
+
+-- a goal makes the move of its task, if there is one
+pub task_does : (f : Reading) (a : Account) (c : ℕ) (g : Goal CellName) (x : Qualified CellName) (o : Option reduction.Move) → IsTaskFor x g.task → task_move a.rules (contents a.modules) (task_with (meaning f a.held) g.task) c ≡ o →
+    task_action (state_of f a) g.shoen (task_with (meaning f a.held) g.task) c ≡ option_map (moves (aim f a.held x)) o
+task_does f a c g x o is found = by_task g.task is found
+  where
+    s : State
+    s = state_of f a
+
+    t : Means
+    t = meaning f a.held
+
+    by_task : (k : Task CellName) → IsTaskFor x k → task_move a.rules (contents a.modules) (task_with t k) c ≡ o → task_action s g.shoen (task_with t k) c ≡ option_map (moves (aim f a.held x)) o
+    by_task Monitor i e = absurd i
+    by_task (Reduces q) i e = ap (λ (y : Qualified CellName). option_map (moves (aim_with t y)) (move_by a.rules (contents a.modules) (aim_with t q) c)) i ∙ ap (option_map (moves (aim f a.held x))) e
+    by_task (Substitutes y) i e = substitute_acts (t y) c ∙ ap (λ (z : Qualified CellName). option_map (moves (aim_with t z)) (move_by_clause (t y) c)) i ∙ ap (option_map (moves (aim f a.held x))) e
 
 -- what isn't so is false
 pub not_so : (b : Bool) → not b ≡ true → b ≡ false

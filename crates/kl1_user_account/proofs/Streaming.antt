@@ -2,7 +2,7 @@
 use Rattle.std.proofs.Common.{◌≡◌, ℕ, suc, ◌+◌, ◌-◌, ◌<◌, ◌≤◌, ◌==◌, Bool, true, false, if◌then◌else◌, [], ◌∷◌, length, length-append, refl, sym, ap, ◌∙◌, arith, subst}
 use Rattle.std.specs.Prelude.{nat_lt}
 use Rattle.std.proofs.lemmas.Bool.{eq-eqb, ne_eqb, lt-ltb, le-ltb}
-use Rattle.kl1_model.specs.Limits.{most_reports}
+use Rattle.kl1_model.specs.declared.limits.TheConstants.{MOST_REPORTS}
 use Rattle.kl1_model.specs.declared.built_in.BuiltIn.{BuiltIn}
 use Rattle.kl1_model.specs.declared.built_in.BuiltIn.TheVariants.{ListCell, Started, Exhausted}
 use Rattle.kl1_model.specs.Text.{text_of}
@@ -76,47 +76,47 @@ exhausted_on last made = record {
   made = suc (suc made);
 }
 
-tells_started : (last made : ℕ) (b c d : Bool) → nat_lt made most_reports ≡ b → (suc last == suc (suc last)) ≡ c → (suc (suc last) == suc (suc last)) ≡ d → c ≡ false → d ≡ true →
+tells_started : (last made : ℕ) (b c d : Bool) → nat_lt made MOST_REPORTS ≡ b → (suc last == suc (suc last)) ≡ c → (suc (suc last) == suc (suc last)) ≡ d → c ≡ false → d ≡ true →
     tells started_report (first_streams last made) ≡ (if b then started_on last made false else broken_first last made)
 tells_started last made true c d e g h cf dt = cc
 tells_started last made false c d e g h cf dt = cc
 
-tells_exhausted : (last made : ℕ) (b c d : Bool) → nat_lt (suc made) most_reports ≡ b → (suc last == suc (suc (suc last))) ≡ c → (suc (suc (suc last)) == suc (suc (suc last))) ≡ d → c ≡ false → d ≡ true →
+tells_exhausted : (last made : ℕ) (b c d : Bool) → nat_lt (suc made) MOST_REPORTS ≡ b → (suc last == suc (suc (suc last))) ≡ c → (suc (suc (suc last)) == suc (suc (suc last))) ≡ d → c ≡ false → d ≡ true →
     tells exhausted_report (started_on last made false) ≡ (if b then exhausted_on last made else started_on last made true)
 tells_exhausted last made true c d e g h cf dt = cc
 tells_exhausted last made false c d e g h cf dt = cc
 
-pub first_told : (last made : ℕ) (b : Bool) → nat_lt made most_reports ≡ b → tells started_report (first_streams last made) ≡ (if b then started_on last made false else broken_first last made)
+pub first_told : (last made : ℕ) (b : Bool) → nat_lt made MOST_REPORTS ≡ b → tells started_report (first_streams last made) ≡ (if b then started_on last made false else broken_first last made)
 first_told last made b e = tells_started last made b false true e (ne_eqb (suc last) (suc (suc last)) (λ q. omega arith)) (eq-eqb (suc (suc last)) (suc (suc last)) refl) refl refl
 
-then_told : (last made : ℕ) (b : Bool) → nat_lt (suc made) most_reports ≡ b → tells exhausted_report (started_on last made false) ≡ (if b then exhausted_on last made else started_on last made true)
+then_told : (last made : ℕ) (b : Bool) → nat_lt (suc made) MOST_REPORTS ≡ b → tells exhausted_report (started_on last made false) ≡ (if b then exhausted_on last made else started_on last made true)
 then_told last made b e = tells_exhausted last made b false true e (ne_eqb (suc last) (suc (suc (suc last))) (λ q. omega arith)) (eq-eqb (suc (suc (suc last))) (suc (suc (suc last))) refl) refl refl
 
 -- if the account has made its last report
-pub none_made : (allowance last made : ℕ) → most_reports ≤ made → streams_opened allowance last made ≡ broken_first last made
+pub none_made : (allowance last made : ℕ) → MOST_REPORTS ≤ made → streams_opened allowance last made ≡ broken_first last made
 none_made allowance last made le =
-    ap (λ o. if allowance == 0 then tells exhausted_report o else o) (first_told last made false (le-ltb made most_reports le))
+    ap (λ o. if allowance == 0 then tells exhausted_report o else o) (first_told last made false (le-ltb made MOST_REPORTS le))
     ∙ same_either (allowance == 0) (broken_first last made)
 
 -- if the shoen isn't exhausted
-pub one_made : (allowance last made : ℕ) → made < most_reports → (allowance == 0) ≡ false → streams_opened allowance last made ≡ started_on last made false
+pub one_made : (allowance last made : ℕ) → made < MOST_REPORTS → (allowance == 0) ≡ false → streams_opened allowance last made ≡ started_on last made false
 one_made allowance last made lt some =
-    ap (λ o. if allowance == 0 then tells exhausted_report o else o) (first_told last made true (lt-ltb made most_reports lt))
+    ap (λ o. if allowance == 0 then tells exhausted_report o else o) (first_told last made true (lt-ltb made MOST_REPORTS lt))
     ∙ ap (λ b. if b then tells exhausted_report (started_on last made false) else started_on last made false) some
 
 -- if it is, and its first report was the account's last
-pub last_made : (allowance last made : ℕ) → made < most_reports → (allowance == 0) ≡ true → most_reports ≤ suc made → streams_opened allowance last made ≡ started_on last made true
+pub last_made : (allowance last made : ℕ) → made < MOST_REPORTS → (allowance == 0) ≡ true → MOST_REPORTS ≤ suc made → streams_opened allowance last made ≡ started_on last made true
 last_made allowance last made lt zero_is le =
-    ap (λ o. if allowance == 0 then tells exhausted_report o else o) (first_told last made true (lt-ltb made most_reports lt))
+    ap (λ o. if allowance == 0 then tells exhausted_report o else o) (first_told last made true (lt-ltb made MOST_REPORTS lt))
     ∙ ap (λ b. if b then tells exhausted_report (started_on last made false) else started_on last made false) zero_is
-    ∙ then_told last made false (le-ltb (suc made) most_reports le)
+    ∙ then_told last made false (le-ltb (suc made) MOST_REPORTS le)
 
 -- if it is, and both reports are made
-pub two_made : (allowance last made : ℕ) → (allowance == 0) ≡ true → suc made < most_reports → streams_opened allowance last made ≡ exhausted_on last made
+pub two_made : (allowance last made : ℕ) → (allowance == 0) ≡ true → suc made < MOST_REPORTS → streams_opened allowance last made ≡ exhausted_on last made
 two_made allowance last made zero_is lt =
-    ap (λ o. if allowance == 0 then tells exhausted_report o else o) (first_told last made true (lt-ltb made most_reports (omega arith)))
+    ap (λ o. if allowance == 0 then tells exhausted_report o else o) (first_told last made true (lt-ltb made MOST_REPORTS (omega arith)))
     ∙ ap (λ b. if b then tells exhausted_report (started_on last made false) else started_on last made false) zero_is
-    ∙ then_told last made true (lt-ltb (suc made) most_reports lt)
+    ∙ then_told last made true (lt-ltb (suc made) MOST_REPORTS lt)
 
 -- ---- the cells that were built
 

@@ -10,7 +10,7 @@ use Rattle.kl1_goals.specs.declared.task.Task.{Task}
 use Rattle.kl1_goals.specs.declared.goal.Goal.{Goal}
 use Rattle.kl1_goals.specs.Lists.{has_number}
 use Rattle.kl1_shoen_paths.specs.declared.shoen.Shoen.{Shoen}
-use Rattle.kl1_codes_modules.specs.Numbered.{Numbered}
+use Rattle.kl1_codes_modules.specs.Shelves.{Program}
 use Rattle.kl1_store_hooks.specs.Hanging.{AreAmong}
 use Rattle.kl1_user_effects.specs.declared.draft.Change.{Change}
 use Rattle.kl1_user_effects.specs.Fitting.{Reading}
@@ -31,25 +31,25 @@ abbrev IsOther : List (Goal CellName) → ℕ → Goal CellName → Type 0
 IsOther goals removed g = (find (has_number g.number) goals ≡ Some g) × (g.number ≡ removed → ⊥)
 
 -- if no goal has the number, nothing changes
-none_wakes : (ms : List Numbered) (shoens : List (Shoen CellName)) (h : Held CellName) (hooks : List Hook) (goals : List (Goal CellName)) (removed n : ℕ) (changes : List Change) → ((g : Goal CellName) → IsOther goals removed g → g.number ≡ n → ⊥) →
-    Wakes ms shoens h hooks hooks goals removed n changes changes
-none_wakes ms shoens h hooks goals removed n changes none f knows gs others told settled =
-    none_settled f hooks h ms shoens n told (restood changes gs)
+none_wakes : (program : Program) (shoens : List (Shoen CellName)) (h : Held CellName) (hooks : List Hook) (goals : List (Goal CellName)) (removed n : ℕ) (changes : List Change) → ((g : Goal CellName) → IsOther goals removed g → g.number ≡ n → ⊥) →
+    Wakes program shoens h hooks hooks goals removed n changes changes
+none_wakes program shoens h hooks goals removed n changes none f knows gs others told settled =
+    none_settled f hooks h program shoens n told (restood changes gs)
     (restood_holds (λ g. g.number ≡ n → ⊥) (λ g o p. p) changes gs
     (each_is (IsOther goals removed) (λ g. g.number ≡ n → ⊥) gs none others))
     settled
 
 -- the number of the goal that is removed
-pub removed_wakes : (ms : List Numbered) (shoens : List (Shoen CellName)) (h : Held CellName) (hooks : List Hook) (goals : List (Goal CellName)) (removed n : ℕ) (changes : List Change) → n ≡ removed → Wakes ms shoens h hooks hooks goals removed n changes changes
-removed_wakes ms shoens h hooks goals removed n changes e = none_wakes ms shoens h hooks goals removed n changes (λ g other same. other.1 (same ∙ e))
+pub removed_wakes : (program : Program) (shoens : List (Shoen CellName)) (h : Held CellName) (hooks : List Hook) (goals : List (Goal CellName)) (removed n : ℕ) (changes : List Change) → n ≡ removed → Wakes program shoens h hooks hooks goals removed n changes changes
+removed_wakes program shoens h hooks goals removed n changes e = none_wakes program shoens h hooks goals removed n changes (λ g other same. other.1 (same ∙ e))
 
 finds_same : (goals : List (Goal CellName)) (n : ℕ) (found : Option (Goal CellName)) (g : Goal CellName) → found ≡ find (has_number n) goals → find (has_number g.number) goals ≡ Some g → g.number ≡ n → found ≡ Some g
 finds_same goals n found g e is same = e ∙ ap (λ m. find (has_number m) goals) (sym same) ∙ is
 
 -- a number that no goal has
-pub absent_wakes : (ms : List Numbered) (shoens : List (Shoen CellName)) (h : Held CellName) (hooks : List Hook) (goals : List (Goal CellName)) (removed n : ℕ) (changes : List Change) → None ≡ find (has_number n) goals → Wakes ms shoens h hooks hooks goals removed n changes changes
-absent_wakes ms shoens h hooks goals removed n changes e =
-    none_wakes ms shoens h hooks goals removed n changes (λ g other same. let k = finds_same goals n None g e other.0 same in absurd (cc))
+pub absent_wakes : (program : Program) (shoens : List (Shoen CellName)) (h : Held CellName) (hooks : List Hook) (goals : List (Goal CellName)) (removed n : ℕ) (changes : List Change) → None ≡ find (has_number n) goals → Wakes program shoens h hooks hooks goals removed n changes changes
+absent_wakes program shoens h hooks goals removed n changes e =
+    none_wakes program shoens h hooks goals removed n changes (λ g other same. let k = finds_same goals n None g e other.0 same in absurd (cc))
 
 -- the task of a goal that is found is of the store
 pub task_in : (h : Held CellName) (p : Goal CellName → Bool) (goals : List (Goal CellName)) (goal : Goal CellName) → AreGoalsIn h goals → Some goal ≡ find p goals → IsTaskIn h goal.task
@@ -61,12 +61,12 @@ task_in h p (g ∷ goals) goal all e = here (p g) (task_in h p goals goal all.1)
     here false later k = later k
 
 -- a goal's number
-pub goal_wakes : (ms : List Numbered) (shoens : List (Shoen CellName)) (h : Held CellName) (hooks more : List Hook) (goals : List (Goal CellName)) (removed n : ℕ) (before after : List Change) (goal : Goal CellName) → Some goal ≡ find (has_number n) goals → AreAmong hooks more →
-    FindsOut ms shoens h more goal.shoen goal.task n before after → Wakes ms shoens h hooks more goals removed n before after
-goal_wakes ms shoens h hooks more goals removed n before after goal e up l f knows gs others told settled =
+pub goal_wakes : (program : Program) (shoens : List (Shoen CellName)) (h : Held CellName) (hooks more : List Hook) (goals : List (Goal CellName)) (removed n : ℕ) (before after : List Change) (goal : Goal CellName) → Some goal ≡ find (has_number n) goals → AreAmong hooks more →
+    FindsOut program shoens h more goal.shoen goal.task n before after → Wakes program shoens h hooks more goals removed n before after
+goal_wakes program shoens h hooks more goals removed n before after goal e up l f knows gs others told settled =
     let c = l.change in
-    let F : List (Goal CellName) → Type 0 = λ ks. AreSettledOr told f more h ms shoens ks in
-    let N : ℕ → Type 0 = λ m. AreSettledOr (m ∷ told) f hooks h ms shoens (restood before gs) in
+    let F : List (Goal CellName) → Type 0 = λ ks. AreSettledOr told f more h program shoens ks in
+    let N : ℕ → Type 0 = λ m. AreSettledOr (m ∷ told) f hooks h program shoens (restood before gs) in
     let M : ℕ → Type 0 = λ m. AreFor m goal.shoen goal.task (restood before gs) in
     let is : (g : Goal CellName) → IsOther goals removed g → g.number ≡ n → goal ≡ g = λ g other same. same_goal goal g (finds_same goals n (Some goal) g e other.0 same) in
     let for : AreFor n goal.shoen goal.task (restood before gs) =
@@ -75,42 +75,42 @@ goal_wakes ms shoens h hooks more goals removed n before after goal e up l f kno
     (λ g other same. (ap (λ (a : Goal CellName). a.shoen) (sym (is g other same)), ap (λ (a : Goal CellName). a.task) (sym (is g other same))))
     others) in
     subst F (sym (ap (λ cs. restood cs gs) l.is ∙ restood_push before c gs))
-    (one_settled f hooks more h ms shoens goal.shoen goal.task c told (restood before gs) up (subst M (sym l.number_is) for) (l.found f knows) (subst N (sym l.number_is) settled))
+    (one_settled f hooks more h program shoens goal.shoen goal.task c told (restood before gs) up (subst M (sym l.number_is) for) (l.found f knows) (subst N (sym l.number_is) settled))
 
 -- ---- one number after another
 
 -- a store that holds what it held, and goals of which only those of the numbers that are left are pending still
-pub record StillWakes (ms : List Numbered) (shoens : List (Shoen CellName)) (old new : Kept CellName) (goals : List (Goal CellName)) (removed : ℕ) (told left : List ℕ) (before after : List Change) : Type 0 where
+pub record StillWakes (program : Program) (shoens : List (Shoen CellName)) (old new : Kept CellName) (goals : List (Goal CellName)) (removed : ℕ) (told left : List ℕ) (before after : List Change) : Type 0 where
   pub held : new.held ≡ old.held
   pub grown : HasGrown old new
-  pub wakes : (f : Reading) → Knows ms f → (gs : List (Goal CellName)) → AreOthersOf goals removed gs →
-      AreSettledOr told f old.hooks old.held ms shoens (restood before gs) → AreSettledOr left f new.hooks old.held ms shoens (restood after gs)
+  pub wakes : (f : Reading) → Knows program.loaded f → (gs : List (Goal CellName)) → AreOthersOf goals removed gs →
+      AreSettledOr told f old.hooks old.held program shoens (restood before gs) → AreSettledOr left f new.hooks old.held program shoens (restood after gs)
 
 -- one more was looked at
-pub next_woken : (ms : List Numbered) (shoens : List (Shoen CellName)) (old mid new : Kept CellName) (goals : List (Goal CellName)) (removed : ℕ) (told : List ℕ) (i d : ℕ) (before now after : List Change) → i < length told →
-    StillWakes ms shoens old mid goals removed told (drop i told) before now → new.held ≡ mid.held → HasGrown mid new → Wakes ms shoens mid.held mid.hooks new.hooks goals removed (get_or told i d) now after →
-    StillWakes ms shoens old new goals removed told (drop (i + 1) told) before after
-next_woken ms shoens old mid new goals removed told i d before now after lt s same grown wakes =
-    let W : Held CellName → Type 0 = λ h. Wakes ms shoens h mid.hooks new.hooks goals removed (get_or told i d) now after in
+pub next_woken : (program : Program) (shoens : List (Shoen CellName)) (old mid new : Kept CellName) (goals : List (Goal CellName)) (removed : ℕ) (told : List ℕ) (i d : ℕ) (before now after : List Change) → i < length told →
+    StillWakes program shoens old mid goals removed told (drop i told) before now → new.held ≡ mid.held → HasGrown mid new → Wakes program shoens mid.held mid.hooks new.hooks goals removed (get_or told i d) now after →
+    StillWakes program shoens old new goals removed told (drop (i + 1) told) before after
+next_woken program shoens old mid new goals removed told i d before now after lt s same grown wakes =
+    let W : Held CellName → Type 0 = λ h. Wakes program shoens h mid.hooks new.hooks goals removed (get_or told i d) now after in
     let one : W old.held = subst W s.held wakes in
     let left : drop i told ≡ get_or told i d ∷ drop (i + 1) told = rw (add-one, drop-cons told i d) in
     record {
       held = same ∙ s.held;
       grown = HasGrown-trans old mid new s.grown grown;
       wakes = λ f knows gs others settled.
-          let L : List ℕ → Type 0 = λ ns. AreSettledOr ns f mid.hooks old.held ms shoens (restood now gs) in
+          let L : List ℕ → Type 0 = λ ns. AreSettledOr ns f mid.hooks old.held program shoens (restood now gs) in
           one f knows gs others (drop (i + 1) told) (subst L left (s.wakes f knows gs others settled));
     }
 
 -- and all were looked at in the end
-pub all_woken : (ms : List Numbered) (shoens : List (Shoen CellName)) (old new : Kept CellName) (goals : List (Goal CellName)) (removed : ℕ) (told : List ℕ) (i : ℕ) (before after : List Change) → length told < i + 1 →
-    StillWakes ms shoens old new goals removed told (drop i told) before after → WakesTold ms shoens old.held old.hooks new.hooks goals removed told before after
-all_woken ms shoens old new goals removed told i before after le s f knows gs others settled =
-    let L : List ℕ → Type 0 = λ ns. AreSettledOr ns f new.hooks old.held ms shoens (restood after gs) in
-    all_settled f new.hooks old.held ms shoens (restood after gs) (subst L (drop_all i told (omega arith)) (s.wakes f knows gs others settled))
+pub all_woken : (program : Program) (shoens : List (Shoen CellName)) (old new : Kept CellName) (goals : List (Goal CellName)) (removed : ℕ) (told : List ℕ) (i : ℕ) (before after : List Change) → length told < i + 1 →
+    StillWakes program shoens old new goals removed told (drop i told) before after → WakesTold program shoens old.held old.hooks new.hooks goals removed told before after
+all_woken program shoens old new goals removed told i before after le s f knows gs others settled =
+    let L : List ℕ → Type 0 = λ ns. AreSettledOr ns f new.hooks old.held program shoens (restood after gs) in
+    all_settled f new.hooks old.held program shoens (restood after gs) (subst L (drop_all i told (omega arith)) (s.wakes f knows gs others settled))
 
 -- if no numbers are told, nothing is pending
-pub none_woken : (ms : List Numbered) (shoens : List (Shoen CellName)) (h : Held CellName) (hooks : List Hook) (goals : List (Goal CellName)) (removed : ℕ) (told : List ℕ) (changes : List Change) → told ≡ [] → WakesTold ms shoens h hooks hooks goals removed told changes changes
-none_woken ms shoens h hooks goals removed told changes none f knows gs others settled =
-    let L : List ℕ → Type 0 = λ ns. AreSettledOr ns f hooks h ms shoens (restood changes gs) in
-    all_settled f hooks h ms shoens (restood changes gs) (subst L none settled)
+pub none_woken : (program : Program) (shoens : List (Shoen CellName)) (h : Held CellName) (hooks : List Hook) (goals : List (Goal CellName)) (removed : ℕ) (told : List ℕ) (changes : List Change) → told ≡ [] → WakesTold program shoens h hooks hooks goals removed told changes changes
+none_woken program shoens h hooks goals removed told changes none f knows gs others settled =
+    let L : List ℕ → Type 0 = λ ns. AreSettledOr ns f hooks h program shoens (restood changes gs) in
+    all_settled f hooks h program shoens (restood changes gs) (subst L none settled)

@@ -3,7 +3,7 @@ use Rattle.std.proofs.Common.{◌≡◌, ℕ, suc, ◌+◌, ◌<◌, ◌≤◌, 
 use Rattle.std.specs.Prelude.{Option, None}
 use Rattle.std.specs.List.{list_any}
 use Rattle.std.proofs.lemmas.Bool.{ne_eqb, or_from}
-use Rattle.kl1_model.specs.Limits.{monitor_priority}
+use Rattle.kl1_model.specs.declared.limits.TheConstants.{MONITOR_PRIORITY}
 use Rattle.kl1_text.specs.declared.cell_name.CellName.{CellName}
 use Rattle.kl1_store.specs.declared.cell.Cell.{Cell}
 use Rattle.kl1_goals.specs.declared.task.Task.TheVariants.{Monitor, Reduces}
@@ -29,7 +29,7 @@ no_monitor count n (g ∷ gs) lt a =
 
 -- the monitor of a shoen that opens comes next
 pub monitor_next : (last count after shoen number : ℕ) (gs goals : List (Goal CellName)) → AreUpTo last gs → AreOwned count gs → goals ≡ gs → shoen ≡ suc count → after ≡ count + 1 → number ≡ last + 1 →
-    IsNext (let g : Goal CellName = record { number = number; task = Monitor; shoen = shoen; priority = monitor_priority; standing = None; is_enabled = true } in g) goals after
+    IsNext (let g : Goal CellName = record { number = number; task = Monitor; shoen = shoen; priority = MONITOR_PRIORITY; standing = None; is_enabled = true } in g) goals after
 monitor_next last count after shoen number gs goals up owned e s a n = record {
   number = rw e (before_next last number gs (omega arith) up);
   low = omega arith;
@@ -39,7 +39,7 @@ monitor_next last count after shoen number gs goals up owned e s a n = record {
 }
 
 -- and its goal after that
-pub goal_next : (last count after shoen number priority : ℕ) (gs mid goals : List (Goal CellName)) (m : Goal CellName) (x : Cell CellName) (standing : Option ℕ) (enabled : Bool) → AreUpTo last gs → mid ≡ gs → goals ≡ mid ++ m ∷ [] → m.number ≡ last + 1 → shoen ≡ suc count → after ≡ count + 1 → number ≡ last + 2 → priority ≤ monitor_priority →
+pub goal_next : (last count after shoen number priority : ℕ) (gs mid goals : List (Goal CellName)) (m : Goal CellName) (x : Cell CellName) (standing : Option ℕ) (enabled : Bool) → AreUpTo last gs → mid ≡ gs → goals ≡ mid ++ m ∷ [] → m.number ≡ last + 1 → shoen ≡ suc count → after ≡ count + 1 → number ≡ last + 2 → priority ≤ MONITOR_PRIORITY →
     IsNext (let g : Goal CellName = record { number = number; task = Reduces (whole x); shoen = shoen; priority = priority; standing = standing; is_enabled = enabled } in g) goals after
 goal_next last count after shoen number priority gs mid goals m x standing enabled up d e f s a n le = record {
   number = rw (e, d) (before_both number gs m (omega arith) (before_next last number gs (omega arith) up));

@@ -11,7 +11,7 @@ use Rattle.kl1_store.specs.Sound.{IsFormed, Grown}
 use Rattle.kl1_goals.specs.declared.task.Task.{Task}
 use Rattle.kl1_goals.specs.declared.goal.Goal.{Goal}
 use Rattle.kl1_shoen_paths.specs.declared.shoen.Shoen.{Shoen}
-use Rattle.kl1_codes_modules.specs.Numbered.{Numbered}
+use Rattle.kl1_codes_modules.specs.Shelves.{Program}
 use Rattle.kl1_codes_modules.specs.Finding.{contents}
 use Rattle.kl1_store_hooks.specs.Hanging.{HangsOnEach, AreAmong}
 use Rattle.kl1_user_effects.specs.declared.draft.Change.{Change}
@@ -38,64 +38,64 @@ pub same_stands : (c : Change) (g : Goal CellName) → g.number ≡ c.number →
 same_stands c g e = ap (λ b. if b then record g { standing = c.standing } else g) (eq-eqb g.number c.number e)
 
 -- what was found of a goal of this shoen with this task is so of one that is of it and has it
-moved_to : (f : Reading) (hooks : List Hook) (h : Held CellName) (modules : List Numbered) (shoens : List (Shoen CellName)) (n m : ℕ) (t u : Task CellName) (c : Change) → n ≡ m → t ≡ u → IsFoundOut f hooks h modules shoens n t c → IsFoundOut f hooks h modules shoens m u c
-moved_to f hooks h modules shoens n m t u c e d s =
-    let N : ℕ → Type 0 = λ k. IsFoundOut f hooks h modules shoens k u c in
-    let T : Task CellName → Type 0 = λ k. IsFoundOut f hooks h modules shoens n k c in
+moved_to : (f : Reading) (hooks : List Hook) (h : Held CellName) (program : Program) (shoens : List (Shoen CellName)) (n m : ℕ) (t u : Task CellName) (c : Change) → n ≡ m → t ≡ u → IsFoundOut f hooks h program shoens n t c → IsFoundOut f hooks h program shoens m u c
+moved_to f hooks h program shoens n m t u c e d s =
+    let N : ℕ → Type 0 = λ k. IsFoundOut f hooks h program shoens k u c in
+    let T : Task CellName → Type 0 = λ k. IsFoundOut f hooks h program shoens n k c in
     subst N e (subst T d s)
 
-pub found_out : (f : Reading) (hooks : List Hook) (h : Held CellName) (modules : List Numbered) (shoens : List (Shoen CellName)) (c : Change) (g k : Goal CellName) → k.number ≡ c.number → k.shoen ≡ g.shoen → k.task ≡ g.task → k.standing ≡ c.standing →
-    IsFoundOut f hooks h modules shoens g.shoen g.task c → IsSettled f hooks h modules shoens k
-found_out f hooks h modules shoens c g k e d t o s =
-    let r = moved_to f hooks h modules shoens g.shoen k.shoen g.task k.task c (sym d) (sym t) s in
-    let H : ℕ → Type 0 = λ n. HangsOnEach hooks n (awaited_by_task (contents modules) (control_with (meaning f h) shoens k.shoen) (task_with (meaning f h) k.task)) in
+pub found_out : (f : Reading) (hooks : List Hook) (h : Held CellName) (program : Program) (shoens : List (Shoen CellName)) (c : Change) (g k : Goal CellName) → k.number ≡ c.number → k.shoen ≡ g.shoen → k.task ≡ g.task → k.standing ≡ c.standing →
+    IsFoundOut f hooks h program shoens g.shoen g.task c → IsSettled f hooks h program shoens k
+found_out f hooks h program shoens c g k e d t o s =
+    let r = moved_to f hooks h program shoens g.shoen k.shoen g.task k.task c (sym d) (sym t) s in
+    let H : ℕ → Type 0 = λ n. HangsOnEach hooks n (awaited_by_task program.rules (contents program.loaded) (control_with (meaning f h) shoens k.shoen) (task_with (meaning f h) k.task)) in
     record { standing = o ∙ r.standing; hung = subst H (sym e) r.hung }
 
-step_goal : (f : Reading) (hooks more : List Hook) (h : Held CellName) (modules : List Numbered) (shoens : List (Shoen CellName)) (n : ℕ) (t : Task CellName) (c : Change) (pending : List ℕ) (g : Goal CellName) → AreAmong hooks more → IsFor c.number n t g →
-    IsFoundOut f more h modules shoens n t c → IsSettledOr (c.number ∷ pending) f hooks h modules shoens g → IsSettledOr pending f more h modules shoens (restood_by c g)
-step_goal f hooks more h modules shoens n t c pending g up is s or =
-    let S : Goal CellName → Type 0 = λ k. IsSettledOr pending f more h modules shoens k in
+step_goal : (f : Reading) (hooks more : List Hook) (h : Held CellName) (program : Program) (shoens : List (Shoen CellName)) (n : ℕ) (t : Task CellName) (c : Change) (pending : List ℕ) (g : Goal CellName) → AreAmong hooks more → IsFor c.number n t g →
+    IsFoundOut f more h program shoens n t c → IsSettledOr (c.number ∷ pending) f hooks h program shoens g → IsSettledOr pending f more h program shoens (restood_by c g)
+step_goal f hooks more h program shoens n t c pending g up is s or =
+    let S : Goal CellName → Type 0 = λ k. IsSettledOr pending f more h program shoens k in
     ⊎_elim
     (λ (e : g.number ≡ c.number).
     subst S (sym (same_stands c g e))
-    (inl (found_out f more h modules shoens c g (record g { standing = c.standing }) e refl refl refl (moved_to f more h modules shoens n g.shoen t g.task c (sym (is e).0) (sym (is e).1) s))))
+    (inl (found_out f more h program shoens c g (record g { standing = c.standing }) e refl refl refl (moved_to f more h program shoens n g.shoen t g.task c (sym (is e).0) (sym (is e).1) s))))
     (λ (e : g.number ≡ c.number → ⊥). subst S (sym (other_stands c g e))
     (⊎_elim
-    (λ (settled : IsSettled f hooks h modules shoens g). inl (settled_more f hooks more h modules shoens g up settled))
+    (λ (settled : IsSettled f hooks h program shoens g). inl (settled_more f hooks more h program shoens g up settled))
     (λ (p : IsPending (c.number ∷ pending) g). inr (pending_rest c.number g.number pending e p))
     or))
     (cases_eq g.number c.number)
 
 -- a goal that was pending is settled, and all others are as before
-pub one_settled : (f : Reading) (hooks more : List Hook) (h : Held CellName) (modules : List Numbered) (shoens : List (Shoen CellName)) (n : ℕ) (t : Task CellName) (c : Change) (pending : List ℕ) (goals : List (Goal CellName)) → AreAmong hooks more → AreFor c.number n t goals →
-    IsFoundOut f more h modules shoens n t c → AreSettledOr (c.number ∷ pending) f hooks h modules shoens goals → AreSettledOr pending f more h modules shoens (map (restood_by c) goals)
-one_settled f hooks more h modules shoens n t c pending [] up for s all = tt
-one_settled f hooks more h modules shoens n t c pending (g ∷ goals) up for s all =
-    (step_goal f hooks more h modules shoens n t c pending g up for.0 s all.0, one_settled f hooks more h modules shoens n t c pending goals up for.1 s all.1)
+pub one_settled : (f : Reading) (hooks more : List Hook) (h : Held CellName) (program : Program) (shoens : List (Shoen CellName)) (n : ℕ) (t : Task CellName) (c : Change) (pending : List ℕ) (goals : List (Goal CellName)) → AreAmong hooks more → AreFor c.number n t goals →
+    IsFoundOut f more h program shoens n t c → AreSettledOr (c.number ∷ pending) f hooks h program shoens goals → AreSettledOr pending f more h program shoens (map (restood_by c) goals)
+one_settled f hooks more h program shoens n t c pending [] up for s all = tt
+one_settled f hooks more h program shoens n t c pending (g ∷ goals) up for s all =
+    (step_goal f hooks more h program shoens n t c pending g up for.0 s all.0, one_settled f hooks more h program shoens n t c pending goals up for.1 s all.1)
 
 -- no goal has a number
 abbrev pub AreNotOf : ℕ → List (Goal CellName) → Type 0
 AreNotOf n goals = AllByRecursion (λ g. g.number ≡ n → ⊥) goals
 
-skip_goal : (f : Reading) (hooks : List Hook) (h : Held CellName) (modules : List Numbered) (shoens : List (Shoen CellName)) (n : ℕ) (pending : List ℕ) (g : Goal CellName) → (g.number ≡ n → ⊥) → IsSettledOr (n ∷ pending) f hooks h modules shoens g →
-    IsSettledOr pending f hooks h modules shoens g
-skip_goal f hooks h modules shoens n pending g not or =
+skip_goal : (f : Reading) (hooks : List Hook) (h : Held CellName) (program : Program) (shoens : List (Shoen CellName)) (n : ℕ) (pending : List ℕ) (g : Goal CellName) → (g.number ≡ n → ⊥) → IsSettledOr (n ∷ pending) f hooks h program shoens g →
+    IsSettledOr pending f hooks h program shoens g
+skip_goal f hooks h program shoens n pending g not or =
     ⊎_elim
-    (λ (settled : IsSettled f hooks h modules shoens g). inl settled)
+    (λ (settled : IsSettled f hooks h program shoens g). inl settled)
     (λ (p : IsPending (n ∷ pending) g). inr (pending_rest n g.number pending not p))
     or
 
 -- a number that no goal has is no longer pending
-pub none_settled : (f : Reading) (hooks : List Hook) (h : Held CellName) (modules : List Numbered) (shoens : List (Shoen CellName)) (n : ℕ) (pending : List ℕ) (goals : List (Goal CellName)) → AreNotOf n goals → AreSettledOr (n ∷ pending) f hooks h modules shoens goals →
-    AreSettledOr pending f hooks h modules shoens goals
-none_settled f hooks h modules shoens n pending [] not all = tt
-none_settled f hooks h modules shoens n pending (g ∷ goals) not all = (skip_goal f hooks h modules shoens n pending g not.0 all.0, none_settled f hooks h modules shoens n pending goals not.1 all.1)
+pub none_settled : (f : Reading) (hooks : List Hook) (h : Held CellName) (program : Program) (shoens : List (Shoen CellName)) (n : ℕ) (pending : List ℕ) (goals : List (Goal CellName)) → AreNotOf n goals → AreSettledOr (n ∷ pending) f hooks h program shoens goals →
+    AreSettledOr pending f hooks h program shoens goals
+none_settled f hooks h program shoens n pending [] not all = tt
+none_settled f hooks h program shoens n pending (g ∷ goals) not all = (skip_goal f hooks h program shoens n pending g not.0 all.0, none_settled f hooks h program shoens n pending goals not.1 all.1)
 
 -- if nothing is pending, each goal is settled
-pub all_settled : (f : Reading) (hooks : List Hook) (h : Held CellName) (modules : List Numbered) (shoens : List (Shoen CellName)) (goals : List (Goal CellName)) → AreSettledOr [] f hooks h modules shoens goals → AreSettled f hooks h modules shoens goals
-all_settled f hooks h modules shoens [] all = tt
-all_settled f hooks h modules shoens (g ∷ goals) all =
-    (⊎_elim (λ (s : IsSettled f hooks h modules shoens g). s) (λ (p : IsPending [] g). absurd (cc)) all.0, all_settled f hooks h modules shoens goals all.1)
+pub all_settled : (f : Reading) (hooks : List Hook) (h : Held CellName) (program : Program) (shoens : List (Shoen CellName)) (goals : List (Goal CellName)) → AreSettledOr [] f hooks h program shoens goals → AreSettled f hooks h program shoens goals
+all_settled f hooks h program shoens [] all = tt
+all_settled f hooks h program shoens (g ∷ goals) all =
+    (⊎_elim (λ (s : IsSettled f hooks h program shoens g). s) (λ (p : IsPending [] g). absurd (cc)) all.0, all_settled f hooks h program shoens goals all.1)
 
 -- ---- which goals are pending after bindings
 
@@ -106,25 +106,25 @@ AreTold hooks bound told = (v n : ℕ) → Contains bound v → Contains hooks (
 never_told : (hooks : List Hook) (bound told : List ℕ) (n : ℕ) → AreTold hooks bound told → is_among n told ≡ false → HangsOnNone hooks n bound
 never_told hooks bound told n all e v c k = let t = all v n c k in absurd (cc)
 
-told_goal : (f : Reading) (hooks : List Hook) (old new : Held CellName) (modules : List Numbered) (before after : List (Shoen CellName)) (told : List ℕ) (g : Goal CellName) (b : Bool) → is_among g.number told ≡ b → IsFormed old → Grown old new → IsTaskIn old g.task → AreShoensIn old before →
-    KeepsControl told before after g → AreTold hooks (bound_since old new) told → IsSettled f hooks old modules before g → IsSettledOr told f hooks new modules after g
-told_goal f hooks old new modules before after told g true e formed grown i inside keeps all s = inr e
-told_goal f hooks old new modules before after told g false e formed grown i inside keeps all s =
-    inl (stays_settled f hooks old new modules before after g formed grown i inside (λ m. keeps m e) (never_told hooks (bound_since old new) told g.number all e) s)
+told_goal : (f : Reading) (hooks : List Hook) (old new : Held CellName) (program : Program) (before after : List (Shoen CellName)) (told : List ℕ) (g : Goal CellName) (b : Bool) → is_among g.number told ≡ b → IsFormed old → Grown old new → IsTaskIn old g.task → AreShoensIn old before →
+    KeepsControl told before after g → AreTold hooks (bound_since old new) told → IsSettled f hooks old program before g → IsSettledOr told f hooks new program after g
+told_goal f hooks old new program before after told g true e formed grown i inside keeps all s = inr e
+told_goal f hooks old new program before after told g false e formed grown i inside keeps all s =
+    inl (stays_settled f hooks old new program before after g formed grown i inside (λ m. keeps m e) (never_told hooks (bound_since old new) told g.number all e) s)
 
 -- after bindings, the goals that were told are pending and all others are settled, if each monitor that wasn't told has the control
 -- stream before it that it had
-pub told_are_pending : (f : Reading) (hooks : List Hook) (old new : Held CellName) (modules : List Numbered) (before after : List (Shoen CellName)) (told : List ℕ) (goals : List (Goal CellName)) → IsFormed old → Grown old new → AreGoalsIn old goals → AreShoensIn old before →
-    KeepControls told before after goals → AreTold hooks (bound_since old new) told → AreSettled f hooks old modules before goals → AreSettledOr told f hooks new modules after goals
-told_are_pending f hooks old new modules before after told [] formed grown i inside keeps all s = tt
-told_are_pending f hooks old new modules before after told (g ∷ goals) formed grown i inside keeps all s =
-    (told_goal f hooks old new modules before after told g (is_among g.number told) refl formed grown i.0 inside keeps.0 all s.0, told_are_pending f hooks old new modules before after told goals formed grown i.1 inside keeps.1 all s.1)
+pub told_are_pending : (f : Reading) (hooks : List Hook) (old new : Held CellName) (program : Program) (before after : List (Shoen CellName)) (told : List ℕ) (goals : List (Goal CellName)) → IsFormed old → Grown old new → AreGoalsIn old goals → AreShoensIn old before →
+    KeepControls told before after goals → AreTold hooks (bound_since old new) told → AreSettled f hooks old program before goals → AreSettledOr told f hooks new program after goals
+told_are_pending f hooks old new program before after told [] formed grown i inside keeps all s = tt
+told_are_pending f hooks old new program before after told (g ∷ goals) formed grown i inside keeps all s =
+    (told_goal f hooks old new program before after told g (is_among g.number told) refl formed grown i.0 inside keeps.0 all s.0, told_are_pending f hooks old new program before after told goals formed grown i.1 inside keeps.1 all s.1)
 
 -- goals that stay are settled as before
-pub filter_settled_or : (f : Reading) (hooks : List Hook) (h : Held CellName) (modules : List Numbered) (shoens : List (Shoen CellName)) (ns : List ℕ) (p : Goal CellName → Bool) (gs : List (Goal CellName)) → AreSettledOr ns f hooks h modules shoens gs → AreSettledOr ns f hooks h modules shoens (filter p gs)
-filter_settled_or f hooks h modules shoens ns p [] a = tt
-filter_settled_or f hooks h modules shoens ns p (g ∷ gs) a = kept (p g) (filter_settled_or f hooks h modules shoens ns p gs a.1)
+pub filter_settled_or : (f : Reading) (hooks : List Hook) (h : Held CellName) (program : Program) (shoens : List (Shoen CellName)) (ns : List ℕ) (p : Goal CellName → Bool) (gs : List (Goal CellName)) → AreSettledOr ns f hooks h program shoens gs → AreSettledOr ns f hooks h program shoens (filter p gs)
+filter_settled_or f hooks h program shoens ns p [] a = tt
+filter_settled_or f hooks h program shoens ns p (g ∷ gs) a = kept (p g) (filter_settled_or f hooks h program shoens ns p gs a.1)
   where
-    kept : (b : Bool) → AreSettledOr ns f hooks h modules shoens (filter p gs) → AreSettledOr ns f hooks h modules shoens (if b then g ∷ filter p gs else filter p gs)
+    kept : (b : Bool) → AreSettledOr ns f hooks h program shoens (filter p gs) → AreSettledOr ns f hooks h program shoens (if b then g ∷ filter p gs else filter p gs)
     kept true j = (a.0, j)
     kept false j = j

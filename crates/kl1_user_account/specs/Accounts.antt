@@ -7,6 +7,7 @@ use Rattle.kl1_user_account.specs.Keeping as keeping
 abbrev pub kept_in : {C R : Type 0} → Inside C R → Account
 kept_in u = record {
   own_name = u.name;
+  rules = u.rules;
   held = u.store.held;
   goals = u.goals.goals;
   shoens = u.shoens.shoens;

@@ -1,14 +1,16 @@
 -- An account in which nothing has happened.
 use Rattle.std.specs.Prelude.{ℕ, List, []}
+use Rattle.kl1_model.specs.declared.rules.Rules.{Rules}
 use Rattle.kl1_atoms.specs.declared.known.Known.{Known}
 use Rattle.kl1_store.specs.Held.{nothing_held, with_variable}
 use Rattle.kl1_user_effects.specs.Account.{Account}
 
--- an account of this name in which nothing has happened but that it has used these names, and that `sessions` sessions are open; its store
+-- an account of this name, which keeps to these rules, in which nothing has happened but that it has used these names, and that `sessions` sessions are open; its store
 -- holds one variable, which it never uses, so that its variables are numbered from 1
-abbrev pub begun : List ℕ → List Known → ℕ → Account
-begun own names sessions = record {
+abbrev pub begun : List ℕ → Rules → List Known → ℕ → Account
+begun own rules names sessions = record {
   own_name = own;
+  rules = rules;
   held = with_variable nothing_held;
   goals = [];
   shoens = [];

@@ -10,7 +10,7 @@ use Rattle.kl1_goals.specs.declared.goal.Goal.{Goal}
 use Rattle.kl1_goals.specs.Tables.{Tabled}
 use Rattle.kl1_shoen_paths.specs.declared.shoen.Shoen.{Shoen}
 use Rattle.kl1_shoen.specs.Shoens.{Tree, is_enabled_at}
-use Rattle.kl1_codes_modules.specs.Numbered.{Numbered}
+use Rattle.kl1_codes_modules.specs.Shelves.{Program}
 use Rattle.kl1_user_effects.specs.declared.draft.Draft.{Draft}
 use Rattle.kl1_user_effects.specs.Fitting.{Reading}
 use Rattle.kl1_user_effects.specs.Account.{Means, goal_with}
@@ -35,14 +35,14 @@ pub record HasComeTo (mark : Point) (old now : Kept CellName) : Type 0 where
 
 -- if goals were settled when an event began, these others are settled now, provided each monitor whose number isn't among those that
 -- were told has the control stream before it that it had
-abbrev pub SettlesTo : List Numbered → Point → Kept CellName → Kept CellName → List (Shoen CellName) → List ℕ → List (Goal CellName) → List (Goal CellName) → Type 0
-SettlesTo ms mark now new after told goals others =
+abbrev pub SettlesTo : Program → Point → Kept CellName → Kept CellName → List (Shoen CellName) → List ℕ → List (Goal CellName) → List (Goal CellName) → Type 0
+SettlesTo program mark now new after told goals others =
     (old : Kept CellName) (before : List (Shoen CellName)) → HasComeTo mark old now → AreGoalsIn old.held goals → AreShoensIn old.held before → KeepControls told before after goals →
-    (f : Reading) → Knows ms f → AreSettled f old.hooks old.held ms before goals → AreSettled f new.hooks new.held ms after others
+    (f : Reading) → Knows program.loaded f → AreSettled f old.hooks old.held program before goals → AreSettled f new.hooks new.held program after others
 
 -- the goals that were told and those that come have been looked at
-pub record LooksAgain (ms : List Numbered) (mark : Point) (now new : Kept CellName) (tree : Tree CellName) (goals : List (Goal CellName)) (before after : Draft) : Type 0 where
-  pub settles : SettlesTo ms mark now new tree.shoens before.told.items goals (goals_placed goals after)
+pub record LooksAgain (program : Program) (mark : Point) (now new : Kept CellName) (tree : Tree CellName) (goals : List (Goal CellName)) (before after : Draft) : Type 0 where
+  pub settles : SettlesTo program mark now new tree.shoens before.told.items goals (goals_placed goals after)
   pub same : map unlooked after.added.items ≡ map unlooked before.added.items
   pub enabled : AreEnabled tree.shoens tree.work after.added.items
 
@@ -86,8 +86,8 @@ FirstAfter goals added d = AllByRecursion (λ g. 0 < g.number) goals → AllByRe
 
 -- a draft of what was done since a mark is finished: with it in place all goals are settled and may step as they have to, they are
 -- those that it made, and it fits a table of goals
-pub record Finishes (ms : List Numbered) (mark : Point) (now new : Kept CellName) (tree : Tree CellName) (goals : List (Goal CellName)) (table : Tabled CellName) (reached : List ℕ) (before after : Draft) : Type 0 where
-  pub settles : SettlesTo ms mark now new tree.shoens before.told.items goals (goals_after goals after)
+pub record Finishes (program : Program) (mark : Point) (now new : Kept CellName) (tree : Tree CellName) (goals : List (Goal CellName)) (table : Tabled CellName) (reached : List ℕ) (before after : Draft) : Type 0 where
+  pub settles : SettlesTo program mark now new tree.shoens before.told.items goals (goals_after goals after)
   pub shifts : ShiftsFor tree reached before after
   pub enables : EnablesTo tree goals after
   pub fitting : IsFitting goals table.shoens table.room table.shoen_room (nat_lt table.shoens (length tree.shoens)) after

@@ -1,11 +1,11 @@
 -- What always holds of an account.
 use Rattle.std.specs.Prelude.{◌≡◌, ℕ, ◌<◌, ◌≤◌, List, length}
 use Rattle.std.specs.List.{AllByRecursion}
-use Rattle.kl1_model.specs.Limits.{most_entries}
+use Rattle.kl1_model.specs.declared.limits.TheConstants.{MOST_ENTRIES}
 use Rattle.kl1_store.specs.Hooks.{Hook}
 use Rattle.kl1_codes_modules.specs.Numbered.{AreRead}
 use Rattle.kl1_user_effects.specs.Fitting.{Reading, Fits}
-use Rattle.kl1_user_effects.specs.Account.{Account, state_of}
+use Rattle.kl1_user_effects.specs.Account.{Account, program_of, state_of}
 use Rattle.kl1_user_effects.specs.Kept.{AreGoalsIn, AreOwned, AreUpTo, AreShoensIn}
 use Rattle.kl1_user_effects.specs.Settled.{AreSettled, AreEnabled}
 use Rattle.kl1_user_effects.specs.Naming.{AreSmall}
@@ -21,8 +21,8 @@ pub record IsKept (a : Account) (hooks : List Hook) (known : ℕ) : Type 0 where
   pub first : AllByRecursion (λ g. 0 < g.number) a.goals
   pub last : AreUpTo a.last_goal a.goals
   pub few : length a.work ≤ a.entries
-  pub most : a.entries ≤ most_entries
-  pub settled : (f : Reading) → Fits a.names f → AreSettled f hooks a.held a.modules a.shoens a.goals
+  pub most : a.entries ≤ MOST_ENTRIES
+  pub settled : (f : Reading) → Fits a.names f → AreSettled f hooks a.held (program_of a) a.shoens a.goals
   pub enabled : AreEnabled a.shoens a.work a.goals
   pub rows : (f : Reading) → Fits a.names f → AreRead f a.modules
   pub named : (f g : Reading) → Fits a.names f → Fits a.names g → state_of f a ≡ state_of g a

@@ -10,3 +10,5 @@ pub mod Asked
 pub mod Finishing
 pub mod Sending
 pub mod Beginning
+pub mod Exchanging
+pub mod Answering

@@ -1,6 +1,6 @@
 -- What comes of a load.
 use Rattle.std.specs.Prelude.{◌≡◌, ℕ, ◌<◌, ◌≤◌, false, List, [], ◌∷◌, ◌++◌, length, Option, Some, None, is_some}
-use Rattle.kl1_model.specs.Limits.{most_names, most_modules, most_entries}
+use Rattle.kl1_model.specs.declared.limits.TheConstants.{MOST_NAMES, MOST_MODULES, MOST_ENTRIES}
 use Rattle.kl1_model.specs.Match.{module_of}
 use Rattle.kl1_model.specs.State.{State}
 use Rattle.kl1_model.specs.Module.{good}
@@ -15,6 +15,7 @@ use Rattle.kl1_goals.specs.declared.goal.Goal.{Goal}
 use Rattle.kl1_shoen_paths.specs.declared.shoen.Shoen.{Shoen}
 use Rattle.kl1_codes_modules.specs.Numbered.{Numbered, own_names, number_of}
 use Rattle.kl1_codes_modules.specs.Finding.{contents, is_numbered}
+use Rattle.kl1_codes_modules.specs.Shelves.{Program, with_last}
 use Rattle.kl1_user_effects.specs.declared.draft.Change.{Change}
 use Rattle.kl1_user_account.specs.declared.loading.Loading.{Loading}
 use Rattle.kl1_user_account.specs.declared.loading.Loading.TheVariants.{Refused, Drafted}
@@ -42,9 +43,9 @@ pub record IsDraft (ms : List Numbered) (names : List Known) (entries : ℕ) (d 
   pub reads : ReadsDraft names (own_names d.content) d.row
   pub new : is_numbered ms (number_of d) ≡ false
   pub absent : is_some (module_of (contents ms) d.content.name) ≡ false
-  pub few : length (with_texts (texts_of names) (own_names d.content)) ≤ most_names
-  pub modules_few : length ms < most_modules
-  pub room : entries < most_entries
+  pub few : length (with_texts (texts_of names) (own_names d.content)) ≤ MOST_NAMES
+  pub modules_few : length ms < MOST_MODULES
+  pub room : entries < MOST_ENTRIES
   pub loads : (s : State) → HasModules s ms names entries → load_module s (good d.content) ≡ record { state = with_entry (with_module s d.content); reply = loaded d.content.name }
 
 -- why a drafted module is refused, or nothing if it may be loaded
@@ -68,5 +69,5 @@ StandsIn has (Refused r) = Unit {0}
 StandsIn has (Drafted d) = has d.place
 
 -- all goals are settled with a drafted module beside the others, after these changes
-abbrev pub Settles : List Numbered → Numbered → List (Shoen CellName) → List Hook → Held CellName → List (Goal CellName) → List Change → Type 0
-Settles ms d shoens hooks h goals changes = (f : Reading) → Knows (ms ++ d ∷ []) f → AreSettled f hooks h (ms ++ d ∷ []) shoens (restood changes goals)
+abbrev pub Settles : Program → Numbered → List (Shoen CellName) → List Hook → Held CellName → List (Goal CellName) → List Change → Type 0
+Settles program d shoens hooks h goals changes = (f : Reading) → Knows (program.loaded ++ d ∷ []) f → AreSettled f hooks h (with_last program d) shoens (restood changes goals)

@@ -1,7 +1,11 @@
 -- Reductions: which are refused, and what an account is after a draft is put in place.
 use Rattle.std.specs.Prelude.{◌≡◌, ℕ, suc, ◌+◌, ◌<◌, ◌≤◌, [], ◌&&◌, nat_lt, if◌then◌else◌, Bool, true, false, List, length, find, Option, Some, None}
-use Rattle.kl1_model.specs.Limits.{most_entries}
+use Rattle.kl1_model.specs.declared.rules.Rules.{Rules}
+use Rattle.kl1_model.specs.declared.limits.TheConstants.{MOST_ENTRIES}
 use Rattle.kl1_model.specs.Ending.{settle}
+use Rattle.kl1_model.specs.State as model_state
+use Rattle.kl1_model.specs.State.{monitor, reduces, substitutes}
+use Rattle.kl1_model.specs.Module.{Module}
 use Rattle.kl1_model.specs.Reduction as model
 use Rattle.kl1_model.specs.Reduction.{goes, moved, heard}
 use Rattle.kl1_model.specs.code.Waits.{move_by}
@@ -17,21 +21,23 @@ use Rattle.kl1_stream.specs.Controls.{control_as}
 use Rattle.kl1_clause.specs.declared.predicate.Predicate.{Predicate}
 use Rattle.kl1_match.specs.declared.place.Place.{Place}
 use Rattle.kl1_goals_moves.specs.declared.moves.Move.{Move}
-use Rattle.kl1_goals_moves.specs.Moves.{MovesAs}
-use Rattle.kl1_goals.specs.declared.task.Task.TheVariants.{Monitor, Reduces}
+use Rattle.kl1_goals_moves.specs.Moves.{IsMove, MovesAs}
+use Rattle.kl1_goals_moves.specs.Substitutes.{move_by_clause}
+use Rattle.kl1_goals.specs.declared.task.Task.{Task}
+use Rattle.kl1_goals.specs.declared.task.Task.TheVariants.{Monitor, Reduces, Substitutes}
 use Rattle.kl1_goals.specs.declared.goal.Goal.{Goal}
 use Rattle.kl1_goals.specs.Lists.{has_number}
 use Rattle.kl1_goals.specs.Tables.{Tabled}
 use Rattle.kl1_shoen_paths.specs.declared.shoen.Shoen.{Shoen}
 use Rattle.kl1_shoen.specs.Shoens.{Tree}
-use Rattle.kl1_codes_modules.specs.Numbered.{Numbered}
 use Rattle.kl1_codes_modules.specs.Finding.{contents}
+use Rattle.kl1_codes_modules.specs.Shelves.{Program}
 use Rattle.kl1_user_events.specs.declared.refusal.Refusal.{Refusal}
 use Rattle.kl1_user_events.specs.Views.{refusal_of}
 use Rattle.kl1_user_effects.specs.declared.draft.Draft.{Draft}
 use Rattle.kl1_atoms.specs.declared.known.Known.{Known}
 use Rattle.kl1_user_effects.specs.Fitting.{Reading, Fits}
-use Rattle.kl1_user_effects.specs.Account.{Account, state_of, aim}
+use Rattle.kl1_user_effects.specs.Account.{Account, meaning, task_with, state_of, aim, whole}
 use Rattle.kl1_user_effects.specs.Works.{Knows}
 use Rattle.kl1_user_effects.specs.Installing.{goals_after, IsFitting}
 use Rattle.kl1_user_effects.specs.Settled.{AreEnabled}
@@ -77,14 +83,14 @@ HeardAs h shoens entries g c control =
     step (state_of f (with_tree a h shoens entries)) (reduce n c)
     ≡ record { state = settle g.shoen (heard g.shoen (control_as f h control) (with_entry (state_of f (with_tree a h shoens entries)))); reply = reduced }
 
--- an account with the cells of a store, these modules, and `entries` entries in its journal
-abbrev pub with_modules : Account → Held CellName → List Numbered → ℕ → Account
-with_modules a h ms entries = record a { held = h; modules = ms; entries = entries }
+-- an account with the cells of a store, these rules and modules, and `entries` entries in its journal
+abbrev pub with_program : Account → Held CellName → Program → ℕ → Account
+with_program a h program entries = record a { held = h; rules = program.rules; modules = program.loaded; entries = entries }
 
 -- the reduction of a goal for a cell, which may step, by clause `c` is refused
-abbrev pub NotMade : Held CellName → List Numbered → ℕ → Qualified CellName → ℕ → Refusal → Type 0
-NotMade h ms entries x c r =
-    (a : Account) (n : ℕ) (g : Goal CellName) → IsSteppable a.goals n c g → g.task ≡ Reduces x → AreEnabled a.shoens a.work a.goals → Refuses (with_modules a h ms entries) n c r
+abbrev pub NotMade : Held CellName → Program → ℕ → Qualified CellName → ℕ → Refusal → Type 0
+NotMade h program entries x c r =
+    (a : Account) (n : ℕ) (g : Goal CellName) → IsSteppable a.goals n c g → g.task ≡ Reduces x → AreEnabled a.shoens a.work a.goals → Refuses (with_program a h program entries) n c r
 
 -- a move, or nothing but to go if there is none
 abbrev pub move_or_go : Option model.Move → model.Move
@@ -92,14 +98,37 @@ move_or_go None = goes
 move_or_go (Some m) = m
 
 -- what a goal for a cell does by clause `c`
-abbrev pub move_at : List Numbered → Held CellName → Qualified CellName → ℕ → Reading → model.Move
-move_at ms h x c f = move_or_go (move_by (contents ms) (aim f h x) c)
+abbrev pub move_at : Program → Held CellName → Qualified CellName → ℕ → Reading → model.Move
+move_at program h x c f = move_or_go (move_by program.rules (contents program.loaded) (aim f h x) c)
 
 -- a goal for a cell can do this move by clause `c`, and there is room in the journal
-pub record IsMade (h : Held CellName) (ms : List Numbered) (entries : ℕ) (x : Qualified CellName) (c : ℕ) (p : Predicate CellName) (places : List (Place CellName)) (text : List ℕ) (made : Move CellName) : Type 0 where
-  pub moves : (f : Reading) → Knows ms f → MovesAs f h (contents ms) (aim f h x) c p places text (Some made)
-  pub some : (f : Reading) → Knows ms f → move_by (contents ms) (aim f h x) c ≡ Some (move_at ms h x c f)
-  pub room : entries < most_entries
+pub record IsMade (h : Held CellName) (program : Program) (entries : ℕ) (x : Qualified CellName) (c : ℕ) (p : Predicate CellName) (places : List (Place CellName)) (text : List ℕ) (made : Move CellName) : Type 0 where
+  pub moves : (f : Reading) → Knows program.loaded f → MovesAs f h program.rules (contents program.loaded) (aim f h x) c p places text (Some made)
+  pub some : (f : Reading) → Knows program.loaded f → move_by program.rules (contents program.loaded) (aim f h x) c ≡ Some (move_at program h x c f)
+  pub room : entries < MOST_ENTRIES
+
+-- what a task can do by clause `c`; a monitor makes no move
+abbrev pub task_move : Rules → List Module → model_state.Task → ℕ → Option model.Move
+task_move rules modules monitor c = None
+task_move rules modules (reduces t) c = move_by rules modules t c
+task_move rules modules (substitutes t) c = move_by_clause t c
+
+-- the move of a task by clause `c`
+abbrev pub move_of_task : Program → Held CellName → Task CellName → ℕ → Reading → model.Move
+move_of_task program h k c f = move_or_go (task_move program.rules (contents program.loaded) (task_with (meaning f h) k) c)
+
+-- a task is for this cell
+abbrev pub IsTaskFor : Qualified CellName → Task CellName → Type 0
+IsTaskFor x Monitor = ⊥
+IsTaskFor x (Reduces q) = q ≡ x
+IsTaskFor x (Substitutes y) = whole y ≡ x
+
+-- a goal of this task, which is for a cell, can do this move by clause `c`, and there is room in the journal
+pub record IsToMake (h : Held CellName) (program : Program) (entries : ℕ) (k : Task CellName) (x : Qualified CellName) (c : ℕ) (p : Predicate CellName) (places : List (Place CellName)) (text : List ℕ) (made : Move CellName) : Type 0 where
+  pub task : IsTaskFor x k
+  pub moves : (f : Reading) → Knows program.loaded f → IsMove f h (task_move program.rules (contents program.loaded) (task_with (meaning f h) k) c) p places text (Some made)
+  pub some : (f : Reading) → Knows program.loaded f → task_move program.rules (contents program.loaded) (task_with (meaning f h) k) c ≡ Some (move_of_task program h k c f)
+  pub room : entries < MOST_ENTRIES
 
 -- an account after a draft is put in place, if its store holds this and its shoens are those of a tree, with one entry more in its
 -- journal; names are those that it has then
@@ -116,15 +145,16 @@ put_in a h t d = record a {
   entries = suc a.entries;
 }
 
--- an account of this name, with this number of open sessions and these parts
-abbrev pub account_at : (List ℕ × ℕ) → Held CellName → List (Goal CellName) → Tree CellName → List Numbered → List Known → ℕ → ℕ → ℕ → ℕ → ℕ → Account
-account_at own h goals t ms known last variables nodes reports entries = record {
+-- an account of this name, with this number of open sessions, with these rules, modules and parts
+abbrev pub account_at : (List ℕ × ℕ) → Held CellName → List (Goal CellName) → Tree CellName → Program → List Known → ℕ → ℕ → ℕ → ℕ → ℕ → Account
+account_at own h goals t program known last variables nodes reports entries = record {
   own_name = own.0;
+  rules = program.rules;
   held = h;
   goals = goals;
   shoens = t.shoens;
   work = t.work;
-  modules = ms;
+  modules = program.loaded;
   names = known;
   last_goal = last;
   variables = variables;

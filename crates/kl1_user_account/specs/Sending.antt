@@ -2,7 +2,7 @@
 use Rattle.std.specs.Prelude.{◌≡◌, ℕ, suc, ◌+◌, ◌<◌, ◌≤◌, true, List, [], map, Option, Some, None, option_and_then}
 use Rattle.std.specs.List.{AllByRecursion}
 use Rattle.kl1_model.specs.declared.message.Message.{Message}
-use Rattle.kl1_model.specs.Limits.{most_variables, most_nodes, most_entries}
+use Rattle.kl1_model.specs.declared.limits.TheConstants.{MOST_VARIABLES, MOST_NODES, MOST_ENTRIES}
 use Rattle.kl1_model.specs.Control.{message_nodes}
 use Rattle.kl1_model.specs.State.{State}
 use Rattle.kl1_model.specs.Event.{control, sent, refuse, with_entry}
@@ -19,7 +19,7 @@ use Rattle.kl1_goals.specs.declared.goal.Goal.{Goal}
 use Rattle.kl1_shoen_paths.specs.declared.shoen.Origin.{Origin}
 use Rattle.kl1_shoen_paths.specs.declared.shoen.Shoen.{Shoen}
 use Rattle.kl1_shoen.specs.Shoens.{Tree, shoen_in}
-use Rattle.kl1_codes_modules.specs.Numbered.{Numbered}
+use Rattle.kl1_codes_modules.specs.Shelves.{Program}
 use Rattle.kl1_user_effects.specs.declared.draft.Draft.{Draft}
 use Rattle.kl1_user_effects.specs.Fitting.{Reading, built}
 use Rattle.kl1_user_effects.specs.Account.{Means, meaning, state_with, with_kept}
@@ -53,9 +53,9 @@ Refuses ss variables nodes entries n m r =
 pub record Allows (ss : List (Shoen CellName)) (variables nodes entries n : ℕ) (m : Message) (o : Origin CellName) : Type 0 where
   pub found : option_and_then (λ h. h.origin) (shoen_in n ss) ≡ Some o
   pub message : is_message m ≡ true
-  pub has_variables : variables < most_variables
-  pub has_nodes : nodes + message_nodes m ≤ most_nodes
-  pub journal : entries < most_entries
+  pub has_variables : variables < MOST_VARIABLES
+  pub has_nodes : nodes + message_nodes m ≤ MOST_NODES
+  pub journal : entries < MOST_ENTRIES
   pub steps : (t : Means) (s : State) (last : ℕ) (goals : List (Goal CellName)) → Counts variables nodes entries s →
       step (state_with s t last goals ss) (control n m) ≡ record { state = with_entry (sent_on n m (t o.control) (state_with s t last goals ss)); reply = sent }
 
@@ -66,14 +66,14 @@ PutsOn n m x old new ss us before after =
     sent_on n m (meaning f old x) (with_kept f s old goals ss) ≡ with_kept f (record s { variables = after.variables; nodes = after.nodes }) new goals us
 
 -- a message to shoen `n` is drafted, and what hangs on the tail that it binds was looked at
-pub record IsSent (ms : List Numbered) (old new : Kept CellName) (goals : List (Goal CellName)) (t u : Tree CellName) (variables nodes entries n : ℕ) (m : Message) (d : Draft) : Type 0 where
-  pub journal : entries < most_entries
+pub record IsSent (program : Program) (old new : Kept CellName) (goals : List (Goal CellName)) (t u : Tree CellName) (variables nodes entries n : ℕ) (m : Message) (d : Draft) : Type 0 where
+  pub journal : entries < MOST_ENTRIES
   pub added : d.added.items ≡ []
   pub leaves : (gs : List (Goal CellName)) → AllByRecursion (λ g. 0 < g.number) gs → goals_after gs d ≡ restood d.changes.items gs
   pub inside : AreShoensIn new.held u.shoens
   pub alike : AreAlike t.shoens u.shoens
   pub work : u.work ≡ t.work
-  pub settles : (f : Reading) → Knows ms f → AreSettled f old.hooks old.held ms t.shoens goals → AreSettled f new.hooks new.held ms u.shoens (restood d.changes.items goals)
+  pub settles : (f : Reading) → Knows program.loaded f → AreSettled f old.hooks old.held program t.shoens goals → AreSettled f new.hooks new.held program u.shoens (restood d.changes.items goals)
   pub steps : (f : Reading) → Reads built f → (s : State) → Counts variables nodes entries s →
       step (with_kept f s old.held goals t.shoens) (control n m) ≡ record { state = with_kept f (record s { variables = d.variables; nodes = d.nodes; entries = suc entries }) new.held goals u.shoens; reply = sent }
 
@@ -85,6 +85,6 @@ pub record IsRefused (old new : Kept CellName) (t u : Tree CellName) (variables 
   pub steps : Refuses t.shoens variables nodes entries n m r
 
 -- what comes of a message to shoen `n`
-abbrev pub SendsAs : List Numbered → Kept CellName → Kept CellName → List (Goal CellName) → Tree CellName → Tree CellName → ℕ → ℕ → ℕ → ℕ → Message → Draft → Option Refusal → Type 0
-SendsAs ms old new goals t u variables nodes entries n m d None = IsSent ms old new goals t u variables nodes entries n m d
-SendsAs ms old new goals t u variables nodes entries n m d (Some r) = IsRefused old new t u variables nodes entries n m r
+abbrev pub SendsAs : Program → Kept CellName → Kept CellName → List (Goal CellName) → Tree CellName → Tree CellName → ℕ → ℕ → ℕ → ℕ → Message → Draft → Option Refusal → Type 0
+SendsAs program old new goals t u variables nodes entries n m d None = IsSent program old new goals t u variables nodes entries n m d
+SendsAs program old new goals t u variables nodes entries n m d (Some r) = IsRefused old new t u variables nodes entries n m r

@@ -5,13 +5,13 @@ use Rattle.kl1_model.specs.Text.{text_of}
 use Rattle.kl1_model.specs.declared.built_in.BuiltIn.{BuiltIn}
 use Rattle.kl1_model.specs.code.TermCode.{nodes_of}
 use Rattle.kl1_model.specs.Meaning.{cell, highest, is_numbered}
-use Rattle.kl1_model.specs.Limits.{monitor_priority, most_goals, most_variables, most_nodes, most_shoens, most_reports}
+use Rattle.kl1_model.specs.declared.limits.TheConstants.{MONITOR_PRIORITY, MOST_GOALS, MOST_VARIABLES, MOST_NODES, MOST_SHOENS, MOST_REPORTS, MOST_ENTRIES, MOST_NAMES}
 use Rattle.kl1_model.specs.Nodes.{goal_nodes}
 use Rattle.kl1_model.specs.Opening.{may_start, with_next_variables}
 use Rattle.kl1_model.specs.Report.{started_report, exhausted_report}
 use Rattle.kl1_model.specs.State.{State, names_of, with_names}
 use Rattle.kl1_model.specs.Tree.{goals_alive}
-use Rattle.kl1_model.specs.Event.{start, refuse, most_entries, most_names}
+use Rattle.kl1_model.specs.Event.{start, refuse}
 use Rattle.kl1_model.specs.Step.{step}
 use Rattle.kl1_model.specs.declared.life.Life.TheVariants.{Living}
 use Rattle.kl1_text.specs.Reading.{Reads}
@@ -33,7 +33,8 @@ use Rattle.kl1_goals.specs.declared.task.Task.TheVariants.{Monitor, Reduces}
 use Rattle.kl1_goals.specs.declared.goal.Goal.{Goal}
 use Rattle.kl1_shoen_paths.specs.declared.shoen.Shoen.{Shoen}
 use Rattle.kl1_shoen.specs.Shoens.{is_enabled_at}
-use Rattle.kl1_codes_modules.specs.Numbered.{Numbered, AreRead}
+use Rattle.kl1_codes_modules.specs.Numbered.{AreRead}
+use Rattle.kl1_codes_modules.specs.Shelves.{Program}
 use Rattle.kl1_codes_modules.specs.Finding.{contents}
 use Rattle.kl1_user_events.specs.Views.{refusal_of}
 use Rattle.kl1_user_account.specs.declared.counted.Counted.{Counted}
@@ -58,15 +59,15 @@ pub record HasNames (s : State) (names : List Known) (counted : Counted) : Type 
 -- whether a goal with `variables` variables and `nodes` structures can be started beside what is counted
 abbrev pub has_room_beside : Counted → ℕ → ℕ → Bool
 has_room_beside c variables nodes =
-    nat_lt c.goals most_goals && nat_le (c.variables + suc (suc variables)) most_variables && nat_le (c.nodes + nodes) most_nodes && nat_lt c.shoens most_shoens
+    nat_lt c.goals MOST_GOALS && nat_le (c.variables + suc (suc variables)) MOST_VARIABLES && nat_le (c.nodes + nodes) MOST_NODES && nat_lt c.shoens MOST_SHOENS
 
 -- a goal may be started, and this is its code
 pub record IsStartable (names : List Known) (counted : Counted) (allowance low high : ℕ) (goal code : Term) : Type 0 where
   pub code_is : code ≡ goal
   pub may : may_start allowance low high goal ≡ true
-  pub few : nat_lt most_names (length (with_texts (texts_of names) (with_names [] (names_of goal)))) ≡ false
+  pub few : nat_lt MOST_NAMES (length (with_texts (texts_of names) (with_names [] (names_of goal)))) ≡ false
   pub keeps : has_room_beside counted (highest goal) (goal_nodes goal) ≡ true
-  pub room : counted.entries < most_entries
+  pub room : counted.entries < MOST_ENTRIES
 
 -- what comes of a goal that is to be started
 abbrev pub StartsAs : List Known → Counted → ℕ → ℕ → ℕ → Term → Starting → Type 0
@@ -77,7 +78,7 @@ StartsAs names counted allowance low high goal (Coded code) = IsStartable names 
 -- control stream
 abbrev pub two_goals : ℕ → ℕ → Bool → ℕ → Cell CellName → Option ℕ → List (Goal CellName)
 two_goals last shoen may high x standing =
-    record { number = suc last; task = Monitor; shoen = shoen; priority = monitor_priority; standing = None; is_enabled = true }
+    record { number = suc last; task = Monitor; shoen = shoen; priority = MONITOR_PRIORITY; standing = None; is_enabled = true }
     ∷ record { number = suc (suc last); task = Reduces (whole x); shoen = shoen; priority = high; standing = standing; is_enabled = may } ∷ []
 
 -- a shoen that the console opens for a goal, with these streams
@@ -111,7 +112,7 @@ abbrev pub tells_at : Term → Term → Opens → Opens
 tells_at message (variable v) o =
     let next = suc o.last in
     let link = cell message (variable next) in
-    if occurs v message || not (nat_lt o.made most_reports) then record o { is_broken = true }
+    if occurs v message || not (nat_lt o.made MOST_REPORTS) then record o { is_broken = true }
     else record { control = replace v link o.control; reports = replace v link o.reports; tail = variable next; is_broken = o.is_broken; last = next; made = suc o.made }
 tells_at message t o = record o { is_broken = true }
 
@@ -159,18 +160,18 @@ pub record OpensStreams (allowance made : ℕ) (old new : Held CellName) (s : St
   pub kept : (f : Reading) (x : Cell CellName) → IsIn old x → meaning f new x ≡ meaning f old x
 
 -- by this clause the goal of a row can step, which waits for these variables, if its names have these numbers
-abbrev pub Judges : List Numbered → List CellName → List Instruction → List (Cell CellName) → Held CellName → List ℕ → Option ℕ → Type 0
-Judges ms names row cells h awaited standing =
-    (f : Reading) → Knows ms f → (goal : Term) → IsRowOf (map f names) row (nodes_of goal) → IsTrue (is_numbered goal) → (last : ℕ) → AreGoalVariables h last (highest goal) cells →
-    StandsAs (contents ms) (with_next_variables last goal) awaited standing
+abbrev pub Judges : Program → List CellName → List Instruction → List (Cell CellName) → Held CellName → List ℕ → Option ℕ → Type 0
+Judges program names row cells h awaited standing =
+    (f : Reading) → Knows program.loaded f → (goal : Term) → IsRowOf (map f names) row (nodes_of goal) → IsTrue (is_numbered goal) → (last : ℕ) → AreGoalVariables h last (highest goal) cells →
+    StandsAs program.rules (contents program.loaded) (with_next_variables last goal) awaited standing
 
 -- what is drafted of a goal of these texts and this row, for an account with these names and modules: its variables, the streams of
 -- its shoen, the clause by which it can step, and what it waits for
-pub record IsDrafted (ms : List Numbered) (names : List Known) (texts : List (List ℕ)) (row : List Instruction) (count allowance made : ℕ) (old new : Held CellName) (cells : List (Cell CellName)) (awaited : List ℕ) (o : Opening) : Type 0 where
+pub record IsDrafted (program : Program) (names : List Known) (texts : List (List ℕ)) (row : List Instruction) (count allowance made : ℕ) (old new : Held CellName) (cells : List (Cell CellName)) (awaited : List ℕ) (o : Opening) : Type 0 where
   pub streams : OpensStreams allowance made (with_variables old count) new o.streams
   pub variables : AreGoalVariables new (old.variables - 1) count cells
-  pub judged : AreNames names → AreSmall names → ((f : Reading) → Fits names f → AreRead f ms) → (goal : Term) → IsRowOf texts row (nodes_of goal) → IsTrue (is_numbered goal) → count ≡ highest goal →
-      StandsAs (contents ms) (with_next_variables (old.variables - 1) goal) awaited o.standing
+  pub judged : AreNames names → AreSmall names → ((f : Reading) → Fits names f → AreRead f program.loaded) → (goal : Term) → IsRowOf texts row (nodes_of goal) → IsTrue (is_numbered goal) → count ≡ highest goal →
+      StandsAs program.rules (contents program.loaded) (with_next_variables (old.variables - 1) goal) awaited o.standing
   pub unbound : AreUnbound new awaited
 
 -- a number hung on each of these variables

@@ -8,8 +8,8 @@ use Rattle.kl1_goals.specs.declared.task.Task.{Task}
 use Rattle.kl1_goals.specs.declared.task.Task.TheVariants.{Monitor}
 use Rattle.kl1_goals.specs.declared.goal.Goal.{Goal}
 use Rattle.kl1_shoen_paths.specs.declared.shoen.Shoen.{Shoen}
-use Rattle.kl1_codes_modules.specs.Numbered.{Numbered}
 use Rattle.kl1_codes_modules.specs.Finding.{contents}
+use Rattle.kl1_codes_modules.specs.Shelves.{Program}
 use Rattle.kl1_store_hooks.specs.Hanging.{HangsOnEach}
 use Rattle.kl1_user_effects.specs.declared.draft.Change.{Change}
 use Rattle.kl1_user_effects.specs.Fitting.{Reading}
@@ -26,12 +26,12 @@ abbrev pub IsPending : List ℕ → Goal CellName → Type 0
 IsPending numbers g = is_among g.number numbers ≡ true
 
 -- a goal that is settled, or to be looked at again
-abbrev pub IsSettledOr : List ℕ → Reading → List Hook → Held CellName → List Numbered → List (Shoen CellName) → Goal CellName → Type 0
-IsSettledOr numbers f hooks h modules shoens g = IsSettled f hooks h modules shoens g ⊎ IsPending numbers g
+abbrev pub IsSettledOr : List ℕ → Reading → List Hook → Held CellName → Program → List (Shoen CellName) → Goal CellName → Type 0
+IsSettledOr numbers f hooks h program shoens g = IsSettled f hooks h program shoens g ⊎ IsPending numbers g
 
 -- each goal is
-abbrev pub AreSettledOr : List ℕ → Reading → List Hook → Held CellName → List Numbered → List (Shoen CellName) → List (Goal CellName) → Type 0
-AreSettledOr numbers f hooks h modules shoens goals = AllByRecursion (IsSettledOr numbers f hooks h modules shoens) goals
+abbrev pub AreSettledOr : List ℕ → Reading → List Hook → Held CellName → Program → List (Shoen CellName) → List (Goal CellName) → Type 0
+AreSettledOr numbers f hooks h program shoens goals = AllByRecursion (IsSettledOr numbers f hooks h program shoens) goals
 
 -- a goal is of this shoen and has this task, if its number is `n`
 abbrev pub IsFor : ℕ → ℕ → Task CellName → Goal CellName → Type 0
@@ -42,9 +42,9 @@ abbrev pub AreFor : ℕ → ℕ → Task CellName → List (Goal CellName) → T
 AreFor n shoen t goals = AllByRecursion (IsFor n shoen t) goals
 
 -- what was found of a goal of this shoen with this task
-pub record IsFoundOut (f : Reading) (hooks : List Hook) (h : Held CellName) (modules : List Numbered) (shoens : List (Shoen CellName)) (shoen : ℕ) (t : Task CellName) (c : Change) : Type 0 where
-  pub standing : c.standing ≡ task_clause (contents modules) (control_with (meaning f h) shoens shoen) (task_with (meaning f h) t)
-  pub hung : HangsOnEach hooks c.number (awaited_by_task (contents modules) (control_with (meaning f h) shoens shoen) (task_with (meaning f h) t))
+pub record IsFoundOut (f : Reading) (hooks : List Hook) (h : Held CellName) (program : Program) (shoens : List (Shoen CellName)) (shoen : ℕ) (t : Task CellName) (c : Change) : Type 0 where
+  pub standing : c.standing ≡ task_clause program.rules (contents program.loaded) (control_with (meaning f h) shoens shoen) (task_with (meaning f h) t)
+  pub hung : HangsOnEach hooks c.number (awaited_by_task program.rules (contents program.loaded) (control_with (meaning f h) shoens shoen) (task_with (meaning f h) t))
 
 -- a monitor whose number isn't among these has the control stream before it that it had
 abbrev pub KeepsControl : List ℕ → List (Shoen CellName) → List (Shoen CellName) → Goal CellName → Type 0

@@ -6,7 +6,7 @@ mod sessions;
 ghost use Rattle.std.specs.Prelude.{◌≡◌, ◌↔◌, ℕ, [], IfOk, OnErr, option_map};
 ghost use Rattle.kl1_model.specs.Step.{step};
 ghost use Rattle.kl1_model.specs.Choice.{first, quiet};
-ghost use Rattle.kl1_model.specs.Event.{load as load_event, start as start_event, control, reduce, read, value, status, reports, modules as modules_query};
+ghost use Rattle.kl1_model.specs.Event.{load as load_event, start as start_event, answer as answer_event, control, reduce, read, value, status, reports, modules as modules_query};
 ghost use Rattle.kl1_user_effects.specs.Fitting.{Reading, Fits};
 ghost use Rattle.kl1_user_effects.specs.Account.{state_of, texts_of};
 ghost use Rattle.kl1_user_effects.specs.Naming.{Keeps};
@@ -16,8 +16,11 @@ ghost use Rattle.kl1_codes_modules.specs.Numbered.{ArePlaced};
 ghost use Rattle.kl1_user_events.specs.Whole.{whole_value};
 
 use crate::account_name::AccountName;
+use crate::answerable::{Answering, code_of_answer};
+use crate::answering::draft_answer;
 use crate::asking::{modules_of, reports_of, status_of};
 use crate::counted::Counted;
+use crate::exchanging::exchange;
 use crate::installing::{begin_draft, install};
 use crate::limits::is_number;
 use crate::loading::{Loading, draft_module, install_module, prepare};
@@ -28,9 +31,10 @@ use crate::sending::draft_message;
 use crate::startable::{Starting, code_of};
 use crate::starting::{next_goals, next_number, place, prepare_start};
 use kl1_atoms::AtomSource;
+use kl1_clause::structures_of;
 use kl1_codes::CodeSource;
 use kl1_codes_modules::{CodedModule, CodedModules, Modules};
-use kl1_goals::GoalTable;
+use kl1_goals::{GoalTable, Rules};
 use kl1_goals_moves::Trial;
 use kl1_match::Scratch;
 use kl1_model::Message;
@@ -54,6 +58,7 @@ pub struct Account<C: CodeSource> {
     shoens: ShoenTree<CellName>,
     modules: Modules<C>,
     names: AccountNames,
+    rules: Rules,
     last_goal: u64,
     variables: u64,
     nodes: u64,
@@ -146,6 +151,7 @@ impl<C: CodeSource> Account<C> {
         self.shoens.begin();
         begin_draft(
             &mut self.draft,
+            self.rules,
             0,
             self.last_goal,
             self.variables,
@@ -156,7 +162,7 @@ impl<C: CodeSource> Account<C> {
             &mut self.store,
             &mut self.goals,
             &mut self.shoens,
-            &CodedModules::over(&self.modules, codes),
+            &CodedModules::over(self.rules, &self.modules, codes),
             &mut self.names,
             &mut self.trial,
             &mut self.draft,
@@ -211,9 +217,10 @@ impl<C: CodeSource> Account<C> {
             &mut self.store,
             &self.goals,
             &mut self.shoens,
-            &CodedModules::over(&self.modules, codes),
+            &CodedModules::over(self.rules, &self.modules, codes),
             &mut self.trial,
             &mut self.draft,
+            self.rules,
             self.last_goal,
             self.variables,
             self.nodes,
@@ -274,6 +281,7 @@ impl<C: CodeSource> Account<C> {
             &mut self.store,
             &self.goals,
             &self.shoens,
+            self.rules,
             &mut self.modules,
             codes,
             &mut self.names,
@@ -336,7 +344,7 @@ impl<C: CodeSource> Account<C> {
             &mut self.store,
             &mut self.goals,
             &mut self.shoens,
-            &CodedModules::over(&self.modules, codes),
+            &CodedModules::over(self.rules, &self.modules, codes),
             &mut self.names,
             texts,
             row,
@@ -369,6 +377,93 @@ impl<C: CodeSource> Account<C> {
         self.reports = opening.streams.made;
         self.entries += 1;
         Ok(Reply::Opened(ShoenNo(shoen)))
+    }
+
+    /// Answers a report of shoen `number`, which the console started, the first being 1: a goal takes the place of the variable for
+    /// which a substitute waits.
+    pub fn answer<A: AtomSource>(
+        &mut self,
+        names: &mut A,
+        seat: &mut A::Seat,
+        codes: &C,
+        number: u64,
+        report: u64,
+        goal: &Term,
+    ) -> Result<Reply, AllocError>
+        requires of { A.is_of names.old seat.old }
+        requires knows { A.knows seat.old ≡ self.old.names }
+        requires placed { ArePlaced (C.has codes.now) self.old.modules }
+        ensures step { IfOk result (λ reply. (f : Reading) → Fits self.new.names f → step (state_of f self.old) (answer_event number report goal.now) ≡ record { state = state_of f self.new; reply = reply_of reply }) }
+        ensures err { OnErr result (self.new ≡ self.old) }
+        ensures keeps { Keeps A.is_of A.place A.knows A.published names.old names.new seat.old seat.new }
+        ensures knows { A.knows seat.new ≡ self.new.names }
+        ensures modules { self.new.modules ≡ self.old.modules }
+    {
+        let counted = self.counted();
+        let answering = code_of_answer(
+            self.alloc,
+            self.rules,
+            &self.store,
+            &self.shoens,
+            &self.names,
+            counted,
+            number,
+            report,
+            goal,
+        )?;
+        let (code, variable) = match answering {
+            Answering::Refused(refusal) => return Ok(Reply::Refused(refusal)),
+            Answering::Coded(code, variable) => (code, variable),
+        };
+        let mark = self.store.mark();
+        // Only for the proof: the goals are in order of number.
+        let _ordered = self.goals.shoens();
+        let mut spares = Vec::new(self.alloc);
+        self.numbers.clear();
+        begin_draft(
+            &mut self.draft,
+            self.rules,
+            0,
+            self.last_goal,
+            self.variables + goal.highest(),
+            self.nodes + structures_of(goal),
+            self.reports,
+        );
+        let drafted = draft_answer(
+            &mut self.store,
+            &self.goals,
+            &self.shoens,
+            &CodedModules::over(self.rules, &self.modules, codes),
+            &mut self.names,
+            &mut spares,
+            &mut self.numbers,
+            &mut self.scratch,
+            &mut self.trial,
+            &mut self.draft,
+            &code,
+            goal.highest(),
+            variable,
+        );
+        match drafted {
+            Err(memory) => {
+                self.store.back(mark);
+                return Err(memory);
+            }
+            Ok(()) => {}
+        }
+        publish(
+            names,
+            seat,
+            &mut self.names,
+            code.names(),
+            &mut self.numbers,
+        );
+        exchange(&mut self.store, spares.as_slice(), self.numbers.as_slice());
+        install(&mut self.goals, &self.draft, false);
+        self.variables = self.draft.variables;
+        self.nodes = self.draft.nodes;
+        self.entries += 1;
+        Ok(Reply::Sent)
     }
 
     /// The state of shoen `number`, with what it was charged, its allowance, and how many goals there are in it and below it.
@@ -408,7 +503,10 @@ impl<C: CodeSource> Account<C> {
         requires { ArePlaced (C.has codes.now) self.now.modules }
         ensures step { IfOk result (λ reply. (f : Reading) → Fits self.now.names f → step (state_of f self.now) (read modules_query) ≡ record { state = state_of f self.now; reply = reply_of reply }) }
     {
-        modules_of(self.alloc, &CodedModules::over(&self.modules, codes))
+        modules_of(
+            self.alloc,
+            &CodedModules::over(self.rules, &self.modules, codes),
+        )
     }
 
     /// The goal of shoen `number`, as started, with what is bound now.

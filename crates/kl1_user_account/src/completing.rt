@@ -39,7 +39,7 @@ fn wake_any<C: CodeSource>(
     requires shoens { AreShoensIn store.old.held shoens.now.shoens }
     requires some { AreSome predicate.now.names.now predicate.now.clauses.now }
     requires serves { Serves modules.now.loaded known.now predicate.now }
-    ensures wakes { OnOk result (WakesTold modules.now.loaded shoens.now.shoens store.old.held store.old.hooks store.new.hooks goals.now.goals removed told.now changes.old.items changes.new.items) }
+    ensures wakes { OnOk result (WakesTold modules.now shoens.now.shoens store.old.held store.old.hooks store.new.hooks goals.now.goals removed told.now changes.old.items changes.new.items) }
     ensures held { store.new.held ≡ store.old.held }
     ensures grown { HasGrown store.old store.new }
 {
@@ -84,7 +84,7 @@ fn look_again<C: CodeSource>(
     requires serves { Serves modules.now.loaded known.now predicate.now }
     requires lets { is_enabled_at shoens.now.shoens shoens.now.work letting ≡ true }
     requires changes { draft.old.changes.items ≡ [] }
-    ensures looks { OnOk result (LooksAgain modules.now.loaded mark store.old store.new shoens.now goals.now.goals draft.old draft.new) }
+    ensures looks { OnOk result (LooksAgain modules.now mark store.old store.new shoens.now goals.now.goals draft.old draft.new) }
     ensures rest { OnOk result (draft.new ≡ record draft.old { changes = draft.new.changes; told = draft.new.told; added = draft.new.added }) }
     ensures held { store.new.held ≡ store.old.held }
     ensures grown { HasGrown store.old store.new }
@@ -179,7 +179,7 @@ pub(crate) fn finish<C: CodeSource>(
     requires stay { goals_left draft.old.added.items draft.old ≡ draft.old.added.items }
     requires known_shoens { goals.old.shoens ≤ length shoens.now.shoens }
     requires one_opens { length shoens.now.shoens ≤ goals.old.shoens + 1 }
-    ensures finishes { OnOk result (Finishes modules.now.loaded mark store.old store.new shoens.now goals.old.goals goals.new walk.now.reached.items draft.old draft.new) }
+    ensures finishes { OnOk result (Finishes modules.now mark store.old store.new shoens.now goals.old.goals goals.new walk.now.reached.items draft.old draft.new) }
     ensures held { store.new.held ≡ store.old.held }
     ensures grown { HasGrown store.old store.new }
     ensures goals { goals.new.goals ≡ goals.old.goals }

@@ -1,12 +1,13 @@
 // How much an account has of what is limited.
 
 ghost use Rattle.std.specs.Prelude.{◌≡◌, ◌+◌, nat_le};
+ghost use Rattle.kl1_user_account.specs.Answering.{has_room_to_answer_beside};
 ghost use Rattle.kl1_user_account.specs.Starting.{has_room_beside};
 
 use kl1_model::limits::{MOST_GOALS, MOST_NODES, MOST_SHOENS, MOST_VARIABLES};
 
-/// How much an account has of what is limited: its goals, without monitors; the variables and the structures of its starts, messages
-/// and commits; the shoens that it opened; and the entries of its journal.
+/// How much an account has of what is limited: its goals, without monitors; the variables and the structures of its starts, messages,
+/// answers and commits; the shoens that it opened; and the entries of its journal.
 #[derive(Clone, Copy)]
 pub(crate) struct Counted {
     pub goals: u64,
@@ -32,5 +33,13 @@ impl Counted {
             && is_within(self.variables, variables, MOST_VARIABLES - 2)
             && is_within(self.nodes, nodes, MOST_NODES)
             && self.shoens < MOST_SHOENS
+    }
+
+    /// Whether there is room for an answer of `variables` variables and `nodes` structures.
+    pub(crate) fn has_room_to_answer(&self, variables: u64, nodes: u64) -> bool
+        ensures { result ≡ has_room_to_answer_beside self.now variables nodes }
+    {
+        is_within(self.variables, variables, MOST_VARIABLES)
+            && is_within(self.nodes, nodes, MOST_NODES)
     }
 }

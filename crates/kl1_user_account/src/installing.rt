@@ -5,22 +5,24 @@ ghost use Rattle.kl1_goals.specs.Lists.{is_flagged};
 ghost use Rattle.kl1_user_effects.specs.Drafts.{without_monitors, restood};
 ghost use Rattle.kl1_user_effects.specs.Installing.{IsBegun, AreNext, shifted, goals_after, IsFitting, Opens};
 
-use kl1_goals::{Goal, GoalTable};
+use kl1_goals::{Goal, GoalTable, Rules};
 use kl1_text::CellName;
 use kl1_user_effects::{Change, Draft};
 
-/// Begins a draft that removes goal `removed`, or none if that is 0, for an account whose last goal is `last_goal`, with `variables`
-/// variables, `nodes` structures and `reports` reports.
+/// Begins a draft that removes goal `removed`, or none if that is 0, for an account with these rules, whose last goal is
+/// `last_goal`, with `variables` variables, `nodes` structures and `reports` reports.
 pub(crate) fn begin_draft(
     draft: &mut Draft,
+    rules: Rules,
     removed: u64,
     last_goal: u64,
     variables: u64,
     nodes: u64,
     reports: u64,
 )
-    ensures { IsBegun removed last_goal variables nodes reports draft.new }
+    ensures { IsBegun removed rules last_goal variables nodes reports draft.new }
 {
+    draft.rules = rules;
     draft.removed = removed;
     draft.aborted.clear();
     draft.ended.clear();

@@ -35,7 +35,7 @@ fn judge<C: CodeSource>(
     requires named { AreNamed (length numbers.now) row.now }
     requires below { AreBelow (length (goal_variables scratch.old)) row.now }
     requires variables { AreIn store.old.held (goal_variables scratch.old) }
-    ensures judges { IfOk result (Judges modules.now.loaded numbers.now row.now (goal_variables scratch.old) store.old.held trial.new.awaited.items) }
+    ensures judges { IfOk result (Judges modules.now numbers.now row.now (goal_variables scratch.old) store.old.held trial.new.awaited.items) }
     ensures unbound { OnOk result (AreUnbound store.old.held trial.new.awaited.items) }
     ensures scratch { goal_variables scratch.new ≡ goal_variables scratch.old }
     ensures grown { HasGrown store.old store.new }
@@ -44,12 +44,12 @@ fn judge<C: CodeSource>(
     let cell = put_goal(store, numbers, row, scratch);
     let kind = kind_of(store, cell);
     let predicate = predicate_of(modules, kind);
-    standing_of(store, kind, predicate, trial)
+    standing_of(store, modules.rules(), kind, predicate, trial)
 }
 
 /// Drafts a start of the goal of these names and this row, which has `count` variables, for an account that made `made` reports: in
-/// the store these and the streams of the shoen, in the trial what the goal waits for. There is room for the numbers of its names then. If memory is refused, the store
-/// may have grown.
+/// the store these and the streams of the shoen, in the trial what the goal waits for. There is room for the numbers of its names
+/// then. If memory is refused, the store may have grown.
 pub(crate) fn draft_start<C: CodeSource>(
     store: &mut Store<CellName>,
     modules: &CodedModules<'_, C>,
@@ -68,7 +68,7 @@ pub(crate) fn draft_start<C: CodeSource>(
     requires named { AreNamed (length texts.now) row.now }
     requires below { AreBelow (count + 1) row.now }
     requires empty { numbers.old.items ≡ [] }
-    ensures ok { IfOk result (IsDrafted modules.now.loaded names.now.names texts.now row.now count allowance made store.old.held store.new.held (goal_variables scratch.new) trial.new.awaited.items) }
+    ensures ok { IfOk result (IsDrafted modules.now names.now.names texts.now row.now count allowance made store.old.held store.new.held (goal_variables scratch.new) trial.new.awaited.items) }
     ensures empty { OnOk result (numbers.new.items ≡ []) }
     ensures room { OnOk result (length texts.now ≤ vec_capacity numbers.new) }
     ensures hooks { OnOk result (store.new.hooks ≡ store.old.hooks) }

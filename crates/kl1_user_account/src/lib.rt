@@ -3,9 +3,12 @@
 
 mod account;
 mod account_name;
+mod answerable;
+mod answering;
 mod asking;
 mod completing;
 mod counted;
+mod exchanging;
 mod installing;
 mod judging;
 mod limits;
@@ -24,4 +27,5 @@ mod top;
 
 pub use account::Account;
 pub use account_name::AccountName;
+pub use kl1_goals::Rules;
 pub use kl1_user_events::{ClauseNo, Event, GoalNo, Listed, Query, Refusal, Reply, ShoenNo};

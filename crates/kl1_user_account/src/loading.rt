@@ -1,7 +1,7 @@
 // Modules that are loaded.
 
 ghost use Rattle.std.specs.Prelude.{◌≡◌, ◌↔◌, ℕ, ◌≤◌, ◌<◌, false, [], ◌∷◌, ◌++◌, length, IfOk, OnOk, OnErr, vec_capacity};
-ghost use Rattle.kl1_model.specs.Limits.{most_source_bytes};
+ghost use Rattle.kl1_model.specs.declared.limits.TheConstants.{MOST_SOURCE_BYTES};
 ghost use Rattle.kl1_model.specs.Module.{read_module, good};
 ghost use Rattle.kl1_atoms.specs.Names.{AreNames};
 ghost use Rattle.kl1_store.specs.Hooks.{HasGrown};
@@ -17,7 +17,7 @@ use crate::looking_beside::look_at_all;
 use kl1_clause::{Code, CodeFault};
 use kl1_codes::CodeSource;
 use kl1_codes_modules::{CodedModule, CodedModules, Loaded, Modules, number_by};
-use kl1_goals::GoalTable;
+use kl1_goals::{GoalTable, Rules};
 use kl1_goals_moves::Trial;
 use kl1_model::limits::{MOST_ENTRIES, MOST_MODULES, MOST_SOURCE_BYTES};
 use kl1_shoen::ShoenTree;
@@ -87,7 +87,7 @@ fn draft_found<C: CodeSource>(
     requires names { AreNames names.now.names }
     requires small { AreSmall names.now.names }
     requires rows { (f : Reading) → Fits names.now.names f → AreRead f modules.now.loaded }
-    requires few { length source.now ≤ most_source_bytes }
+    requires few { length source.now ≤ MOST_SOURCE_BYTES }
     requires of { C.has codes.now (C.place found) }
     requires module { read_module source.now ≡ good (C.meaning found) }
     ensures loads { IfOk result (LoadsAs modules.now.loaded names.now.names entries source.now) }
@@ -113,7 +113,7 @@ fn draft_new<C: CodeSource>(
     requires names { AreNames names.now.names }
     requires small { AreSmall names.now.names }
     requires rows { (f : Reading) → Fits names.now.names f → AreRead f modules.now.loaded }
-    requires few { length source.now ≤ most_source_bytes }
+    requires few { length source.now ≤ MOST_SOURCE_BYTES }
     ensures loads { IfOk result (LoadsAs modules.now.loaded names.now.names entries source.now) }
     ensures stands { IfOk result (StandsIn (C.has codes.new)) }
     ensures same { (p : ℕ × ℕ) → C.has codes.old p ↔ C.has codes.new p }
@@ -168,6 +168,7 @@ fn prepare_parts<C: CodeSource>(
     store: &mut Store<CellName>,
     goals: &GoalTable<CellName>,
     shoens: &ShoenTree<CellName>,
+    rules: Rules,
     modules: &mut Modules<C>,
     codes: &C,
     names: &mut AccountNames,
@@ -179,7 +180,7 @@ fn prepare_parts<C: CodeSource>(
     requires new { is_numbered modules.old.loaded (number_of draft.now) ≡ false }
     requires goals { AreGoalsIn store.old.held goals.now.goals }
     requires shoens { AreShoensIn store.old.held shoens.now.shoens }
-    ensures settles { OnOk result (Settles modules.old.loaded draft.now shoens.now.shoens store.new.hooks store.old.held goals.now.goals changes.new.items) }
+    ensures settles { OnOk result (Settles (record { rules = rules; loaded = modules.old.loaded }) draft.now shoens.now.shoens store.new.hooks store.old.held goals.now.goals changes.new.items) }
     ensures row { IfOk result (λ row. row.items ≡ []) }
     ensures row_room { IfOk result (λ row. length (own_names draft.now.content) ≤ vec_capacity row) }
     ensures modules { modules.new.loaded ≡ modules.old.loaded }
@@ -190,7 +191,7 @@ fn prepare_parts<C: CodeSource>(
     ensures grown { HasGrown store.old store.new }
 {
     changes.clear();
-    let coded = CodedModules::over(modules, codes);
+    let coded = CodedModules::over(rules, modules, codes);
     look_at_all(store, goals, shoens, &coded, draft, trial, changes)?;
     let count = draft.code().names().len();
     modules.reserve(1)?;
@@ -204,6 +205,7 @@ pub(crate) fn prepare<C: CodeSource>(
     store: &mut Store<CellName>,
     goals: &GoalTable<CellName>,
     shoens: &ShoenTree<CellName>,
+    rules: Rules,
     modules: &mut Modules<C>,
     codes: &C,
     names: &mut AccountNames,
@@ -215,7 +217,7 @@ pub(crate) fn prepare<C: CodeSource>(
     requires new { is_numbered modules.old.loaded (number_of draft.now) ≡ false }
     requires goals { AreGoalsIn store.old.held goals.now.goals }
     requires shoens { AreShoensIn store.old.held shoens.now.shoens }
-    ensures settles { OnOk result (Settles modules.old.loaded draft.now shoens.now.shoens store.new.hooks store.old.held goals.now.goals changes.new.items) }
+    ensures settles { OnOk result (Settles (record { rules = rules; loaded = modules.old.loaded }) draft.now shoens.now.shoens store.new.hooks store.old.held goals.now.goals changes.new.items) }
     ensures row { IfOk result (λ row. row.items ≡ []) }
     ensures row_room { IfOk result (λ row. length (own_names draft.now.content) ≤ vec_capacity row) }
     ensures modules { modules.new.loaded ≡ modules.old.loaded }
@@ -227,7 +229,7 @@ pub(crate) fn prepare<C: CodeSource>(
 {
     let mark = store.mark();
     match prepare_parts(
-        alloc, store, goals, shoens, modules, codes, names, trial, draft, changes,
+        alloc, store, goals, shoens, rules, modules, codes, names, trial, draft, changes,
     ) {
         Ok(row) => Ok(row),
         Err(memory) => {

@@ -8,12 +8,12 @@ ghost use Rattle.kl1_store.specs.Hooks.{HasGrown};
 ghost use Rattle.kl1_clause.specs.Predicates.{AreSome};
 ghost use Rattle.kl1_goals_moves.specs.Kinds.{IsKind, KindIn};
 ghost use Rattle.kl1_goals_moves.specs.Moves.{HasPredicate};
-ghost use Rattle.kl1_goals.specs.declared.task.Task.TheVariants.{Monitor, Reduces};
+ghost use Rattle.kl1_goals.specs.declared.task.Task.TheVariants.{Monitor, Reduces, Substitutes};
 ghost use Rattle.kl1_goals.specs.Lists.{is_monitor};
 ghost use Rattle.kl1_shoen.specs.Shoens.{is_enabled_at};
 ghost use Rattle.kl1_shoen_paths.specs.declared.shoen.Shoen.{Shoen};
-ghost use Rattle.kl1_codes_modules.specs.Numbered.{Numbered};
 ghost use Rattle.kl1_codes_modules.specs.Finding.{contents};
+ghost use Rattle.kl1_codes_modules.specs.Shelves.{Program};
 ghost use Rattle.kl1_user_effects.specs.Fitting.{Reading};
 ghost use Rattle.kl1_user_effects.specs.Kept.{IsTaskIn, AreGoalsIn, AreShoensIn};
 ghost use Rattle.kl1_user_effects.specs.Works.{Knows};
@@ -22,8 +22,10 @@ ghost use Rattle.kl1_user_account.specs.Looking.{Serves, calls_same, StandsBy, H
 use kl1_clause::Predicate;
 use kl1_codes::CodeSource;
 use kl1_codes_modules::CodedModules;
-use kl1_goals::{Goal, GoalTable, Task};
-use kl1_goals_moves::{Call, Kind, Trial, kind_of_qualified, or_none, standing_of};
+use kl1_goals::{Goal, GoalTable, Rules, Task};
+use kl1_goals_moves::{
+    Call, Kind, Trial, kind_of_qualified, or_none, standing_of, substitute_standing,
+};
 use kl1_shoen::ShoenTree;
 use kl1_store::{Cell, Qualified, Store};
 use kl1_store_hooks::hang_on;
@@ -97,11 +99,12 @@ fn predicate_near<'a, C: CodeSource>(
     predicate_of(modules, kind)
 }
 
-/// The clause by which goal `number`, which is of a kind, can step by the clauses of its predicate, or none. The number is
+/// The clause by which goal `number`, which is of a kind, can step by these rules and the clauses of its predicate, or none. The number is
 /// hung on each variable that the goal waits for then; if memory is refused, it may hang on some of them.
 #[inline(always)]
 pub(crate) fn hung_standing(
     store: &mut Store<CellName>,
+    rules: Rules,
     kind: Kind<CellName>,
     predicate: Predicate<'_, CellName>,
     trial: &mut Trial<CellName>,
@@ -109,11 +112,11 @@ pub(crate) fn hung_standing(
 ) -> Result<Option<u64>, AllocError>
     requires kind { KindIn store.old.held kind }
     requires predicate { AreSome predicate.names.now predicate.clauses.now }
-    ensures stands { IfOk result (λ standing. StandsBy store.old.held store.new.hooks kind predicate.entry (record { number = number; standing = standing })) }
+    ensures stands { IfOk result (λ standing. StandsBy rules store.old.held store.new.hooks kind predicate.entry (record { number = number; standing = standing })) }
     ensures held { store.new.held ≡ store.old.held }
     ensures grown { HasGrown store.old store.new }
 {
-    let standing = standing_of(store, kind, predicate, trial)?;
+    let standing = standing_of(store, rules, kind, predicate, trial)?;
     if !trial.awaited.is_empty() {
         hang_on(store, trial.awaited.as_slice(), number)?;
     }
@@ -134,13 +137,13 @@ fn standing_at<C: CodeSource>(
     requires cell { IsIn store.old.held cell.cell }
     requires some { AreSome predicate.now.names.now predicate.now.clauses.now }
     requires serves { Serves modules.now.loaded known.now predicate.now }
-    ensures stands { IfOk result (λ standing. (shoens : List (Shoen CellName)) (shoen : ℕ) → StandsAt modules.now.loaded shoens store.old.held store.new.hooks shoen (Reduces cell) (record { number = number; standing = standing })) }
+    ensures stands { IfOk result (λ standing. (shoens : List (Shoen CellName)) (shoen : ℕ) → StandsAt modules.now shoens store.old.held store.new.hooks shoen (Reduces cell) (record { number = number; standing = standing })) }
     ensures held { store.new.held ≡ store.old.held }
     ensures grown { HasGrown store.old store.new }
 {
     let kind = kind_of_qualified(store, cell);
     let clauses = predicate_near(modules, known, predicate, kind);
-    hung_standing(store, kind, clauses, trial, number)
+    hung_standing(store, modules.rules(), kind, clauses, trial, number)
 }
 
 /// The clause by which monitor `number` can step that reads this control stream: 0, or none as long as it waits. The number is
@@ -176,7 +179,7 @@ pub(crate) fn monitor_standing(
     shoen: u64,
 ) -> Result<Option<u64>, AllocError>
     requires { AreShoensIn store.old.held shoens.now.shoens }
-    ensures stands { IfOk result (λ standing. (modules : List Numbered) → StandsAt modules shoens.now.shoens store.old.held store.new.hooks shoen Monitor (record { number = number; standing = standing })) }
+    ensures stands { IfOk result (λ standing. (program : Program) → StandsAt program shoens.now.shoens store.old.held store.new.hooks shoen Monitor (record { number = number; standing = standing })) }
     ensures held { store.new.held ≡ store.old.held }
     ensures grown { HasGrown store.old store.new }
 {
@@ -184,6 +187,26 @@ pub(crate) fn monitor_standing(
         None => Ok(None),
         Some(found) => control_standing(store, found.control, number),
     }
+}
+
+/// The clause by which substitute `number` can step, for what a cell is: 0, or none as long as it waits. The number is hung on the
+/// variable that it waits for then.
+pub(crate) fn substitute_hung(
+    store: &mut Store<CellName>,
+    trial: &mut Trial<CellName>,
+    number: u64,
+    term: Cell<CellName>,
+) -> Result<Option<u64>, AllocError>
+    requires term { IsIn store.old.held term }
+    ensures stands { IfOk result (λ standing. (program : Program) (shoens : List (Shoen CellName)) (shoen : ℕ) → StandsAt program shoens store.old.held store.new.hooks shoen (Substitutes term) (record { number = number; standing = standing })) }
+    ensures held { store.new.held ≡ store.old.held }
+    ensures grown { HasGrown store.old store.new }
+{
+    let standing = substitute_standing(store, term, trial)?;
+    if !trial.awaited.is_empty() {
+        hang_on(store, trial.awaited.as_slice(), number)?;
+    }
+    Ok(standing)
 }
 
 /// The clause by which a goal can step, or none. The predicate of goals of one kind is known here and below; the goal's number is hung
@@ -202,7 +225,7 @@ fn task_standing<C: CodeSource>(
     requires shoens { AreShoensIn store.old.held shoens.now.shoens }
     requires some { AreSome predicate.now.names.now predicate.now.clauses.now }
     requires serves { Serves modules.now.loaded known.now predicate.now }
-    ensures stands { IfOk result (λ standing. StandsAt modules.now.loaded shoens.now.shoens store.old.held store.new.hooks goal.now.shoen goal.now.task (record { number = goal.now.number; standing = standing })) }
+    ensures stands { IfOk result (λ standing. StandsAt modules.now shoens.now.shoens store.old.held store.new.hooks goal.now.shoen goal.now.task (record { number = goal.now.number; standing = standing })) }
     ensures held { store.new.held ≡ store.old.held }
     ensures grown { HasGrown store.old store.new }
 {
@@ -211,6 +234,7 @@ fn task_standing<C: CodeSource>(
         Task::Reduces(cell) => {
             standing_at(store, modules, known, predicate, trial, goal.number, cell)
         }
+        Task::Substitutes(term) => substitute_hung(store, trial, goal.number, term),
     }
 }
 
@@ -229,7 +253,7 @@ fn look_at_task<C: CodeSource>(
     requires shoens { AreShoensIn store.old.held shoens.now.shoens }
     requires some { AreSome predicate.now.names.now predicate.now.clauses.now }
     requires serves { Serves modules.now.loaded known.now predicate.now }
-    ensures finds { OnOk result (FindsOut modules.now.loaded shoens.now.shoens store.old.held store.new.hooks goal.now.shoen goal.now.task goal.now.number changes.old.items changes.new.items) }
+    ensures finds { OnOk result (FindsOut modules.now shoens.now.shoens store.old.held store.new.hooks goal.now.shoen goal.now.task goal.now.number changes.old.items changes.new.items) }
     ensures held { store.new.held ≡ store.old.held }
     ensures grown { HasGrown store.old store.new }
 {
@@ -258,7 +282,7 @@ fn wake<C: CodeSource>(
     requires shoens { AreShoensIn store.old.held shoens.now.shoens }
     requires some { AreSome predicate.now.names.now predicate.now.clauses.now }
     requires serves { Serves modules.now.loaded known.now predicate.now }
-    ensures wakes { OnOk result (Wakes modules.now.loaded shoens.now.shoens store.old.held store.old.hooks store.new.hooks goals.now.goals removed number changes.old.items changes.new.items) }
+    ensures wakes { OnOk result (Wakes modules.now shoens.now.shoens store.old.held store.old.hooks store.new.hooks goals.now.goals removed number changes.old.items changes.new.items) }
     ensures held { store.new.held ≡ store.old.held }
     ensures grown { HasGrown store.old store.new }
 {
@@ -293,7 +317,7 @@ pub(crate) fn wake_told<C: CodeSource>(
     requires shoens { AreShoensIn store.old.held shoens.now.shoens }
     requires some { AreSome predicate.now.names.now predicate.now.clauses.now }
     requires serves { Serves modules.now.loaded known.now predicate.now }
-    ensures wakes { OnOk result (WakesTold modules.now.loaded shoens.now.shoens store.old.held store.old.hooks store.new.hooks goals.now.goals removed told.now changes.old.items changes.new.items) }
+    ensures wakes { OnOk result (WakesTold modules.now shoens.now.shoens store.old.held store.old.hooks store.new.hooks goals.now.goals removed told.now changes.old.items changes.new.items) }
     ensures held { store.new.held ≡ store.old.held }
     ensures grown { HasGrown store.old store.new }
 {
@@ -333,7 +357,7 @@ fn look_at_added<C: CodeSource>(
     requires some { AreSome predicate.now.names.now predicate.now.clauses.now }
     requires serves { Serves modules.now.loaded known.now predicate.now }
     requires lets { is_enabled_at shoens.now.shoens shoens.now.work letting ≡ true }
-    ensures looks { OnOk result (LooksAtOne modules.now.loaded shoens.now.shoens shoens.now.work store.old.held store.new.hooks goal.old goal.new) }
+    ensures looks { OnOk result (LooksAtOne modules.now shoens.now.shoens shoens.now.work store.old.held store.new.hooks goal.old goal.new) }
     ensures held { store.new.held ≡ store.old.held }
     ensures grown { HasGrown store.old store.new }
 {
@@ -361,7 +385,7 @@ pub(crate) fn wake_added<C: CodeSource>(
     requires some { AreSome predicate.now.names.now predicate.now.clauses.now }
     requires serves { Serves modules.now.loaded known.now predicate.now }
     requires lets { is_enabled_at shoens.now.shoens shoens.now.work letting ≡ true }
-    ensures looks { OnOk result (LooksAtAdded modules.now.loaded shoens.now.shoens shoens.now.work store.old.held store.new.hooks added.old.items added.new.items) }
+    ensures looks { OnOk result (LooksAtAdded modules.now shoens.now.shoens shoens.now.work store.old.held store.new.hooks added.old.items added.new.items) }
     ensures held { store.new.held ≡ store.old.held }
     ensures grown { HasGrown store.old store.new }
 {

@@ -12,12 +12,13 @@ ghost use Rattle.kl1_goals.specs.declared.task.Task.TheVariants.{Reduces};
 ghost use Rattle.kl1_shoen_paths.specs.declared.shoen.Shoen.{Shoen};
 ghost use Rattle.kl1_codes_modules.specs.Numbered.{number_of};
 ghost use Rattle.kl1_codes_modules.specs.Finding.{contents, is_numbered};
+ghost use Rattle.kl1_codes_modules.specs.Shelves.{with_last};
 ghost use Rattle.kl1_user_effects.specs.Fitting.{Reading};
 ghost use Rattle.kl1_user_effects.specs.Kept.{IsTaskIn, AreGoalsIn, AreShoensIn};
 ghost use Rattle.kl1_user_effects.specs.Works.{Knows};
 ghost use Rattle.kl1_user_account.specs.Looking.{StandsAt, FindsOut, LooksBelow, LooksAtAll};
 
-use crate::looking::{hung_standing, monitor_standing};
+use crate::looking::{hung_standing, monitor_standing, substitute_hung};
 use kl1_clause::Predicate;
 use kl1_codes::CodeSource;
 use kl1_codes_modules::{CodedModule, CodedModules};
@@ -69,13 +70,13 @@ fn standing_beside<C: CodeSource>(
 ) -> Result<Option<u64>, AllocError>
     requires cell { IsIn store.old.held cell.cell }
     requires new { is_numbered modules.now.loaded (number_of draft.now) ≡ false }
-    ensures stands { IfOk result (λ standing. (shoens : List (Shoen CellName)) (shoen : ℕ) → StandsAt (modules.now.loaded ++ draft.now ∷ []) shoens store.old.held store.new.hooks shoen (Reduces cell) (record { number = number; standing = standing })) }
+    ensures stands { IfOk result (λ standing. (shoens : List (Shoen CellName)) (shoen : ℕ) → StandsAt (with_last modules.now draft.now) shoens store.old.held store.new.hooks shoen (Reduces cell) (record { number = number; standing = standing })) }
     ensures held { store.new.held ≡ store.old.held }
     ensures grown { HasGrown store.old store.new }
 {
     let kind = kind_of_qualified(store, cell);
     let predicate = predicate_beside(modules, draft, kind);
-    hung_standing(store, kind, predicate, trial, number)
+    hung_standing(store, modules.rules(), kind, predicate, trial, number)
 }
 
 /// The clause by which goal `number` of a shoen, with a task, can step, or none.
@@ -92,13 +93,14 @@ fn task_beside<C: CodeSource>(
     requires task { IsTaskIn store.old.held task }
     requires shoens { AreShoensIn store.old.held shoens.now.shoens }
     requires new { is_numbered modules.now.loaded (number_of draft.now) ≡ false }
-    ensures stands { IfOk result (λ standing. StandsAt (modules.now.loaded ++ draft.now ∷ []) shoens.now.shoens store.old.held store.new.hooks shoen task (record { number = number; standing = standing })) }
+    ensures stands { IfOk result (λ standing. StandsAt (with_last modules.now draft.now) shoens.now.shoens store.old.held store.new.hooks shoen task (record { number = number; standing = standing })) }
     ensures held { store.new.held ≡ store.old.held }
     ensures grown { HasGrown store.old store.new }
 {
     match task {
         Task::Monitor => monitor_standing(store, shoens, number, shoen),
         Task::Reduces(cell) => standing_beside(store, modules, draft, trial, number, cell),
+        Task::Substitutes(term) => substitute_hung(store, trial, number, term),
     }
 }
 
@@ -115,7 +117,7 @@ fn look_at_goal<C: CodeSource>(
     requires task { IsTaskIn store.old.held goal.task }
     requires shoens { AreShoensIn store.old.held shoens.now.shoens }
     requires new { is_numbered modules.now.loaded (number_of draft.now) ≡ false }
-    ensures finds { OnOk result (FindsOut (modules.now.loaded ++ draft.now ∷ []) shoens.now.shoens store.old.held store.new.hooks goal.shoen goal.task goal.number changes.old.items changes.new.items) }
+    ensures finds { OnOk result (FindsOut (with_last modules.now draft.now) shoens.now.shoens store.old.held store.new.hooks goal.shoen goal.task goal.number changes.old.items changes.new.items) }
     ensures held { store.new.held ≡ store.old.held }
     ensures grown { HasGrown store.old store.new }
 {
@@ -140,7 +142,7 @@ fn look_at_first<C: CodeSource>(
     requires goals { AreGoalsIn store.old.held goals.now.goals }
     requires shoens { AreShoensIn store.old.held shoens.now.shoens }
     requires new { is_numbered modules.now.loaded (number_of draft.now) ≡ false }
-    ensures looks { OnOk result (LooksBelow (modules.now.loaded ++ draft.now ∷ []) shoens.now.shoens store.old.held store.new.hooks 1 goals.now.goals changes.new.items) }
+    ensures looks { OnOk result (LooksBelow (with_last modules.now draft.now) shoens.now.shoens store.old.held store.new.hooks 1 goals.now.goals changes.new.items) }
     ensures held { store.new.held ≡ store.old.held }
     ensures grown { HasGrown store.old store.new }
 {
@@ -163,7 +165,7 @@ pub(crate) fn look_at_all<C: CodeSource>(
     requires goals { AreGoalsIn store.old.held goals.now.goals }
     requires shoens { AreShoensIn store.old.held shoens.now.shoens }
     requires new { is_numbered modules.now.loaded (number_of draft.now) ≡ false }
-    ensures looks { OnOk result (LooksAtAll (modules.now.loaded ++ draft.now ∷ []) shoens.now.shoens store.old.held store.new.hooks goals.now.goals changes.new.items) }
+    ensures looks { OnOk result (LooksAtAll (with_last modules.now draft.now) shoens.now.shoens store.old.held store.new.hooks goals.now.goals changes.new.items) }
     ensures held { store.new.held ≡ store.old.held }
     ensures grown { HasGrown store.old store.new }
 {

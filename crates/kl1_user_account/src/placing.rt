@@ -1,7 +1,7 @@
 // Starts that are put in place.
 
 ghost use Rattle.std.specs.Prelude.{◌≡◌, ◌+◌, ◌<◌, ◌≤◌, ◌^◌, ◌++◌, ◌∷◌, [], suc, length};
-ghost use Rattle.kl1_model.specs.Limits.{monitor_priority};
+ghost use Rattle.kl1_model.specs.declared.limits.TheConstants.{MONITOR_PRIORITY};
 ghost use Rattle.kl1_match.specs.Waiting.{IsUnbound, AreUnbound};
 ghost use Rattle.kl1_user_effects.specs.Kept.{AreUpTo, AreOwned};
 ghost use Rattle.kl1_user_account.specs.Starting.{two_goals, hooks_on};
@@ -57,7 +57,7 @@ pub(crate) fn put_two(
     requires last { AreUpTo last_goal goals.old.goals }
     requires owned { AreOwned goals.old.shoens goals.old.goals }
     requires shoen { shoen ≡ suc goals.old.shoens }
-    requires high { high ≤ monitor_priority }
+    requires high { high ≤ MONITOR_PRIORITY }
     ensures goals { goals.new.goals ≡ goals.old.goals ++ two_goals last_goal shoen is_enabled high cell standing }
     ensures shoens { goals.new.shoens ≡ suc goals.old.shoens }
 {

@@ -1,7 +1,7 @@
 // Reductions that are drafted.
 
 ghost use Rattle.std.specs.Prelude.{◌≡◌, ◌<◌, ◌≤◌, ℕ, List, Some, None, IfOk, IfErr, OnOk, vec_capacity};
-ghost use Rattle.kl1_model.specs.Limits.{most_entries, monitor_priority};
+ghost use Rattle.kl1_model.specs.declared.limits.TheConstants.{MOST_ENTRIES, MONITOR_PRIORITY};
 ghost use Rattle.kl1_clause.specs.Predicates.{AreSome};
 ghost use Rattle.kl1_goals_moves.specs.Kinds.{IsKind, KindIn};
 ghost use Rattle.kl1_goals_moves.specs.Moves.{HasPredicate, MoveIn, taken_places};
@@ -9,14 +9,15 @@ ghost use Rattle.kl1_stream.specs.Controls.{ControlIn};
 ghost use Rattle.kl1_codes_modules.specs.Finding.{contents};
 ghost use Rattle.kl1_model.specs.Term.{Term};
 ghost use Rattle.kl1_text.specs.declared.cell_name.CellName.{CellName};
-ghost use Rattle.kl1_store.specs.Held.{Held};
+ghost use Rattle.kl1_store.specs.Held.{Held, IsIn};
 ghost use Rattle.kl1_store.specs.Hooks.{HasGrown};
-ghost use Rattle.kl1_goals.specs.declared.task.Task.TheVariants.{Monitor, Reduces};
+ghost use Rattle.kl1_goals.specs.declared.task.Task.TheVariants.{Monitor, Reduces, Substitutes};
 ghost use Rattle.kl1_user_effects.specs.Fitting.{Reading};
 ghost use Rattle.kl1_user_effects.specs.Account.{aim};
 ghost use Rattle.kl1_user_effects.specs.Kept.{AreShoensIn};
 ghost use Rattle.kl1_user_effects.specs.Works.{Knows};
-ghost use Rattle.kl1_user_account.specs.Reducing.{HasRow, RefusesAmong, IsSteppable, is_read, NotHeard, HeardAs, NotMade, IsMade, account_at, ReducesAs};
+ghost use Rattle.kl1_user_account.specs.Looking.{Serves};
+ghost use Rattle.kl1_user_account.specs.Reducing.{HasRow, RefusesAmong, IsSteppable, is_read, NotHeard, HeardAs, NotMade, IsMade, IsToMake, account_at, IsReduced, ReducesAs};
 ghost use Rattle.kl1_user_account.specs.Keeping.{IsKept};
 ghost use Rattle.kl1_user_effects.specs.Drafts.{CanGoBack};
 ghost use Rattle.kl1_user_effects.specs.Installing.{IsBegun};
@@ -29,10 +30,10 @@ use kl1_clause::Predicate;
 use kl1_codes::CodeSource;
 use kl1_codes_modules::CodedModules;
 use kl1_goals::{Goal, GoalTable, Task};
-use kl1_goals_moves::{Kind, Move, Trial, kind_of_qualified, move_of};
+use kl1_goals_moves::{Kind, Move, Trial, kind_of_qualified, move_of, substitute_move};
 use kl1_model::limits::MOST_ENTRIES;
 use kl1_shoen::ShoenTree;
-use kl1_store::{Qualified, Store};
+use kl1_store::{Cell, Qualified, Store};
 use kl1_stream::{Control, read_control};
 use kl1_text::CellName;
 use kl1_user_effects::{AccountNames, Draft, Walk};
@@ -49,7 +50,7 @@ fn steppable(
     ensures refused { IfErr result (RefusesAmong goals.now.goals number clause) }
     ensures found { IfOk result (IsSteppable goals.now.goals number clause) }
     ensures number { IfOk result (λ g. g.number ≡ number) }
-    ensures level { IfOk result (λ g. g.priority ≤ monitor_priority) }
+    ensures level { IfOk result (λ g. g.priority ≤ MONITOR_PRIORITY) }
 {
     if !are_numbers(number, clause) {
         return Err(Refusal::Syntax);
@@ -89,7 +90,7 @@ fn control_to_read(
     ensures refused { IfErr result (NotHeard store.now.held shoens.now.shoens entries goal clause) }
     ensures reads { IfOk result (HeardAs store.now.held shoens.now.shoens entries goal clause) }
     ensures inside { IfOk result (ControlIn store.now.held) }
-    ensures room { IfOk result (λ control. entries < most_entries) }
+    ensures room { IfOk result (λ control. entries < MOST_ENTRIES) }
 {
     if clause != 0 {
         return Err(Refusal::Step);
@@ -123,11 +124,11 @@ fn move_to_make<C: CodeSource>(
     requires some { AreSome predicate.names.now predicate.clauses.now }
     requires is { (f : Reading) → Knows modules.now.loaded f → IsKind f store.now.held (aim f store.now.held cell) kind }
     requires has { (f : Reading) → Knows modules.now.loaded f → (h : Held CellName) (t : Term) → IsKind f h t kind → HasPredicate f h (contents modules.now.loaded) kind predicate }
-    ensures refused { IfOk result (λ o. IfErr o (NotMade store.now.held modules.now.loaded entries cell clause)) }
-    ensures makes { IfOk result (λ o. IfOk o (IsMade store.now.held modules.now.loaded entries cell clause predicate.entry (taken_places trial.new) trial.new.text)) }
+    ensures refused { IfOk result (λ o. IfErr o (NotMade store.now.held modules.now entries cell clause)) }
+    ensures makes { IfOk result (λ o. IfOk o (IsMade store.now.held modules.now entries cell clause predicate.entry (taken_places trial.new) trial.new.text)) }
     ensures inside { IfOk result (λ o. IfOk o (λ made. MoveIn store.now.held predicate.entry (taken_places trial.new) trial.new.text (Some made))) }
 {
-    let Some(made) = move_of(store, kind, predicate, clause, trial)? else {
+    let Some(made) = move_of(store, modules.rules(), kind, predicate, clause, trial)? else {
         return Ok(Err(Refusal::Step));
     };
     if MOST_ENTRIES <= entries {
@@ -154,9 +155,9 @@ fn draft_reading<C: CodeSource>(
 ) -> Result<Option<Refusal>, AllocError>
     requires steppable { IsSteppable goals.old.goals goal.number clause goal }
     requires monitor { goal.task ≡ Monitor }
-    requires begun { IsBegun 0 draft.old.last_goal draft.old.variables draft.old.nodes draft.old.reports draft.old }
-    requires kept { (own : List ℕ × ℕ) → IsKept (account_at own store.old.held goals.old.goals shoens.old modules.now.loaded names.now.names draft.old.last_goal draft.old.variables draft.old.nodes draft.old.reports entries) store.old.hooks goals.old.shoens }
-    ensures ok { IfOk result (λ refused. (own : List ℕ × ℕ) → ReducesAs (account_at own store.old.held goals.old.goals shoens.old modules.now.loaded names.now.names draft.old.last_goal draft.old.variables draft.old.nodes draft.old.reports entries) goal.number clause store.old store.new shoens.old shoens.new goals.new draft.new refused) }
+    requires begun { IsBegun 0 modules.now.rules draft.old.last_goal draft.old.variables draft.old.nodes draft.old.reports draft.old }
+    requires kept { (own : List ℕ × ℕ) → IsKept (account_at own store.old.held goals.old.goals shoens.old modules.now names.now.names draft.old.last_goal draft.old.variables draft.old.nodes draft.old.reports entries) store.old.hooks goals.old.shoens }
+    ensures ok { IfOk result (λ refused. (own : List ℕ × ℕ) → ReducesAs (account_at own store.old.held goals.old.goals shoens.old modules.now names.now.names draft.old.last_goal draft.old.variables draft.old.nodes draft.old.reports entries) goal.number clause store.old store.new shoens.old shoens.new goals.new draft.new refused) }
     ensures back { CanGoBack shoens.old shoens.new }
     ensures grown { HasGrown store.old store.new }
     ensures goals { goals.new.goals ≡ goals.old.goals }
@@ -192,6 +193,118 @@ fn draft_reading<C: CodeSource>(
     Ok(None)
 }
 
+/// Drafts a move that a goal for a cell, which may step, is to make by clause `clause`, for an account with `entries` entries in its
+/// journal. The predicate of goals of a kind is known. The draft has begun with what the account has.
+#[inline(always)]
+fn draft_made<C: CodeSource>(
+    store: &mut Store<CellName>,
+    goals: &mut GoalTable<CellName>,
+    shoens: &mut ShoenTree<CellName>,
+    modules: &CodedModules<'_, C>,
+    names: &mut AccountNames,
+    trial: &mut Trial<CellName>,
+    draft: &mut Draft,
+    walk: &mut Walk,
+    entries: u64,
+    goal: Goal<CellName>,
+    cell: Qualified<CellName>,
+    clause: u64,
+    kind: Kind<CellName>,
+    predicate: Predicate<'_, CellName>,
+    made: Move<CellName>,
+) -> Result<(), AllocError>
+    requires steppable { IsSteppable goals.old.goals goal.number clause goal }
+    requires level { goal.priority ≤ MONITOR_PRIORITY }
+    requires begun { IsBegun 0 modules.now.rules draft.old.last_goal draft.old.variables draft.old.nodes draft.old.reports draft.old }
+    requires kept { (own : List ℕ × ℕ) → IsKept (account_at own store.old.held goals.old.goals shoens.old modules.now names.old.names draft.old.last_goal draft.old.variables draft.old.nodes draft.old.reports entries) store.old.hooks goals.old.shoens }
+    requires cell { IsIn store.old.held cell.cell }
+    requires some { AreSome predicate.names.now predicate.clauses.now }
+    requires serves { Serves modules.now.loaded kind predicate }
+    requires makes { IsToMake store.old.held modules.now entries goal.task cell clause predicate (taken_places trial.old) trial.old.text made }
+    requires inside { MoveIn store.old.held predicate (taken_places trial.old) trial.old.text (Some made) }
+    ensures ok { OnOk result ((own : List ℕ × ℕ) → IsReduced (account_at own store.old.held goals.old.goals shoens.old modules.now names.old.names draft.old.last_goal draft.old.variables draft.old.nodes draft.old.reports entries) goal.number clause store.new shoens.new goals.new draft.new) }
+    ensures back { CanGoBack shoens.old shoens.new }
+    ensures grown { HasGrown store.old store.new }
+    ensures goals { goals.new.goals ≡ goals.old.goals }
+    ensures shoens { goals.new.shoens ≡ goals.old.shoens }
+    ensures names { names.new.names ≡ names.old.names }
+    ensures room { OnOk result (HasRoomFor names.new.room draft.new.name) }
+{
+    // Only for the proof: the goals are in order of number.
+    let _ordered = goals.shoens();
+    // Only for the proof: reductions were done in shoens that are there.
+    let _worked = shoens.len();
+    let mark = store.mark();
+    draft.removed = goal.number;
+    let alive = goals.alive() - 1;
+    do_or_spell(
+        store, goals, shoens, draft, walk, names, alive, predicate, made, trial, goal, cell,
+    )?;
+    finish(
+        store, goals, shoens, modules, &kind, &predicate, trial, draft, walk, mark, goal.shoen,
+    )
+}
+
+/// Drafts what a substitute does, which may step, for what a cell is, by clause `clause`, for an account with `entries` entries in
+/// its journal, or says why it is refused. The draft has begun with what the account has.
+fn draft_substitute<C: CodeSource>(
+    store: &mut Store<CellName>,
+    goals: &mut GoalTable<CellName>,
+    shoens: &mut ShoenTree<CellName>,
+    modules: &CodedModules<'_, C>,
+    names: &mut AccountNames,
+    trial: &mut Trial<CellName>,
+    draft: &mut Draft,
+    walk: &mut Walk,
+    entries: u64,
+    goal: Goal<CellName>,
+    term: Cell<CellName>,
+    clause: u64,
+) -> Result<Option<Refusal>, AllocError>
+    requires steppable { IsSteppable goals.old.goals goal.number clause goal }
+    requires substitutes { goal.task ≡ Substitutes term }
+    requires level { goal.priority ≤ MONITOR_PRIORITY }
+    requires begun { IsBegun 0 modules.now.rules draft.old.last_goal draft.old.variables draft.old.nodes draft.old.reports draft.old }
+    requires kept { (own : List ℕ × ℕ) → IsKept (account_at own store.old.held goals.old.goals shoens.old modules.now names.old.names draft.old.last_goal draft.old.variables draft.old.nodes draft.old.reports entries) store.old.hooks goals.old.shoens }
+    ensures ok { IfOk result (λ refused. (own : List ℕ × ℕ) → ReducesAs (account_at own store.old.held goals.old.goals shoens.old modules.now names.old.names draft.old.last_goal draft.old.variables draft.old.nodes draft.old.reports entries) goal.number clause store.old store.new shoens.old shoens.new goals.new draft.new refused) }
+    ensures back { CanGoBack shoens.old shoens.new }
+    ensures grown { HasGrown store.old store.new }
+    ensures goals { goals.new.goals ≡ goals.old.goals }
+    ensures shoens { goals.new.shoens ≡ goals.old.shoens }
+    ensures names { names.new.names ≡ names.old.names }
+    ensures room { IfOk result (λ refused. refused ≡ None → HasRoomFor names.new.room draft.new.name) }
+{
+    let Some(made) = substitute_move(store, term, clause) else {
+        return Ok(Some(Refusal::Step));
+    };
+    if MOST_ENTRIES <= entries {
+        return Ok(Some(Refusal::Journal));
+    }
+    let cell = Qualified {
+        module_name: None,
+        cell: term,
+    };
+    let predicate = predicate_of(modules, Kind::Nothing);
+    draft_made(
+        store,
+        goals,
+        shoens,
+        modules,
+        names,
+        trial,
+        draft,
+        walk,
+        entries,
+        goal,
+        cell,
+        clause,
+        Kind::Nothing,
+        predicate,
+        made,
+    )?;
+    Ok(None)
+}
+
 /// Drafts the move that a goal for a cell does, which may step, by clause `clause`, for an account with `entries` entries in its
 /// journal, or says why it is refused. The draft has begun with what the account has.
 #[inline(always)]
@@ -211,10 +324,10 @@ fn draft_move<C: CodeSource>(
 ) -> Result<Option<Refusal>, AllocError>
     requires steppable { IsSteppable goals.old.goals goal.number clause goal }
     requires reduces { goal.task ≡ Reduces cell }
-    requires level { goal.priority ≤ monitor_priority }
-    requires begun { IsBegun 0 draft.old.last_goal draft.old.variables draft.old.nodes draft.old.reports draft.old }
-    requires kept { (own : List ℕ × ℕ) → IsKept (account_at own store.old.held goals.old.goals shoens.old modules.now.loaded names.old.names draft.old.last_goal draft.old.variables draft.old.nodes draft.old.reports entries) store.old.hooks goals.old.shoens }
-    ensures ok { IfOk result (λ refused. (own : List ℕ × ℕ) → ReducesAs (account_at own store.old.held goals.old.goals shoens.old modules.now.loaded names.old.names draft.old.last_goal draft.old.variables draft.old.nodes draft.old.reports entries) goal.number clause store.old store.new shoens.old shoens.new goals.new draft.new refused) }
+    requires level { goal.priority ≤ MONITOR_PRIORITY }
+    requires begun { IsBegun 0 modules.now.rules draft.old.last_goal draft.old.variables draft.old.nodes draft.old.reports draft.old }
+    requires kept { (own : List ℕ × ℕ) → IsKept (account_at own store.old.held goals.old.goals shoens.old modules.now names.old.names draft.old.last_goal draft.old.variables draft.old.nodes draft.old.reports entries) store.old.hooks goals.old.shoens }
+    ensures ok { IfOk result (λ refused. (own : List ℕ × ℕ) → ReducesAs (account_at own store.old.held goals.old.goals shoens.old modules.now names.old.names draft.old.last_goal draft.old.variables draft.old.nodes draft.old.reports entries) goal.number clause store.old store.new shoens.old shoens.new goals.new draft.new refused) }
     ensures back { CanGoBack shoens.old shoens.new }
     ensures grown { HasGrown store.old store.new }
     ensures goals { goals.new.goals ≡ goals.old.goals }
@@ -230,18 +343,9 @@ fn draft_move<C: CodeSource>(
         Err(refusal) => return Ok(Some(refusal)),
         Ok(made) => made,
     };
-    // Only for the proof: the goals are in order of number.
-    let _ordered = goals.shoens();
-    // Only for the proof: reductions were done in shoens that are there.
-    let _worked = shoens.len();
-    let mark = store.mark();
-    draft.removed = goal.number;
-    let alive = goals.alive() - 1;
-    do_or_spell(
-        store, goals, shoens, draft, walk, names, alive, predicate, made, trial, goal, cell,
-    )?;
-    finish(
-        store, goals, shoens, modules, &kind, &predicate, trial, draft, walk, mark, goal.shoen,
+    draft_made(
+        store, goals, shoens, modules, names, trial, draft, walk, entries, goal, cell, clause,
+        kind, predicate, made,
     )?;
     Ok(None)
 }
@@ -262,9 +366,9 @@ fn draft_reduction<C: CodeSource>(
     number: u64,
     clause: u64,
 ) -> Result<Option<Refusal>, AllocError>
-    requires begun { IsBegun 0 draft.old.last_goal draft.old.variables draft.old.nodes draft.old.reports draft.old }
-    requires kept { (own : List ℕ × ℕ) → IsKept (account_at own store.old.held goals.old.goals shoens.old modules.now.loaded names.old.names draft.old.last_goal draft.old.variables draft.old.nodes draft.old.reports entries) store.old.hooks goals.old.shoens }
-    ensures ok { IfOk result (λ refused. (own : List ℕ × ℕ) → ReducesAs (account_at own store.old.held goals.old.goals shoens.old modules.now.loaded names.old.names draft.old.last_goal draft.old.variables draft.old.nodes draft.old.reports entries) number clause store.old store.new shoens.old shoens.new goals.new draft.new refused) }
+    requires begun { IsBegun 0 modules.now.rules draft.old.last_goal draft.old.variables draft.old.nodes draft.old.reports draft.old }
+    requires kept { (own : List ℕ × ℕ) → IsKept (account_at own store.old.held goals.old.goals shoens.old modules.now names.old.names draft.old.last_goal draft.old.variables draft.old.nodes draft.old.reports entries) store.old.hooks goals.old.shoens }
+    ensures ok { IfOk result (λ refused. (own : List ℕ × ℕ) → ReducesAs (account_at own store.old.held goals.old.goals shoens.old modules.now names.old.names draft.old.last_goal draft.old.variables draft.old.nodes draft.old.reports entries) number clause store.old store.new shoens.old shoens.new goals.new draft.new refused) }
     ensures back { CanGoBack shoens.old shoens.new }
     ensures grown { HasGrown store.old store.new }
     ensures goals { goals.new.goals ≡ goals.old.goals }
@@ -282,6 +386,9 @@ fn draft_reduction<C: CodeSource>(
         ),
         Task::Reduces(cell) => draft_move(
             store, goals, shoens, modules, names, trial, draft, walk, entries, goal, cell, clause,
+        ),
+        Task::Substitutes(term) => draft_substitute(
+            store, goals, shoens, modules, names, trial, draft, walk, entries, goal, term, clause,
         ),
     }
 }
@@ -313,9 +420,9 @@ pub(crate) fn draft_named<C: CodeSource>(
     number: u64,
     clause: u64,
 ) -> Result<Option<Refusal>, AllocError>
-    requires begun { IsBegun 0 draft.old.last_goal draft.old.variables draft.old.nodes draft.old.reports draft.old }
-    requires kept { (own : List ℕ × ℕ) → IsKept (account_at own store.old.held goals.old.goals shoens.old modules.now.loaded names.old.names draft.old.last_goal draft.old.variables draft.old.nodes draft.old.reports entries) store.old.hooks goals.old.shoens }
-    ensures ok { IfOk result (λ refused. (own : List ℕ × ℕ) → ReducesAs (account_at own store.old.held goals.old.goals shoens.old modules.now.loaded names.old.names draft.old.last_goal draft.old.variables draft.old.nodes draft.old.reports entries) number clause store.old store.new shoens.old shoens.new goals.new draft.new refused) }
+    requires begun { IsBegun 0 modules.now.rules draft.old.last_goal draft.old.variables draft.old.nodes draft.old.reports draft.old }
+    requires kept { (own : List ℕ × ℕ) → IsKept (account_at own store.old.held goals.old.goals shoens.old modules.now names.old.names draft.old.last_goal draft.old.variables draft.old.nodes draft.old.reports entries) store.old.hooks goals.old.shoens }
+    ensures ok { IfOk result (λ refused. (own : List ℕ × ℕ) → ReducesAs (account_at own store.old.held goals.old.goals shoens.old modules.now names.old.names draft.old.last_goal draft.old.variables draft.old.nodes draft.old.reports entries) number clause store.old store.new shoens.old shoens.new goals.new draft.new refused) }
     ensures back { CanGoBack shoens.old shoens.new }
     ensures grown { HasGrown store.old store.new }
     ensures goals { goals.new.goals ≡ goals.old.goals }

@@ -2,7 +2,7 @@
 
 ghost use Rattle.std.specs.Prelude.{◌≡◌, ◌+◌, ◌<◌, ◌≤◌, [], List, drop, IfOk, OnOk, IsTrue, MatchResult};
 ghost use Rattle.std.specs.List.{AllByRecursion};
-ghost use Rattle.kl1_model.specs.Limits.{most_variables, most_nodes, most_entries};
+ghost use Rattle.kl1_model.specs.declared.limits.TheConstants.{MOST_VARIABLES, MOST_NODES, MOST_ENTRIES};
 ghost use Rattle.kl1_model.specs.Control.{message_nodes};
 ghost use Rattle.kl1_model.specs.Sending.{is_message};
 ghost use Rattle.kl1_store.specs.Held.{IsIn};
@@ -19,7 +19,7 @@ use crate::limits::is_number;
 use crate::looking::{predicate_of, wake_told};
 use kl1_codes::CodeSource;
 use kl1_codes_modules::CodedModules;
-use kl1_goals::GoalTable;
+use kl1_goals::{GoalTable, Rules};
 use kl1_goals_moves::{Kind, Trial};
 use kl1_model::Message;
 use kl1_model::limits::{MOST_ENTRIES, MOST_NODES, MOST_VARIABLES};
@@ -105,8 +105,8 @@ fn put_message(
     requires tail { IsIn store.old.held tail }
     requires message { IsTrue (is_message message) }
     requires shoens { AreShoensIn store.old.held shoens.old.shoens }
-    requires variables { draft.old.variables < most_variables }
-    requires nodes { draft.old.nodes + message_nodes message ≤ most_nodes }
+    requires variables { draft.old.variables < MOST_VARIABLES }
+    requires nodes { draft.old.nodes + message_nodes message ≤ MOST_NODES }
     ensures puts { OnOk result (PutsOn number message tail store.old.held store.new.held shoens.old.shoens shoens.new.shoens draft.old draft.new) }
     ensures shoens { OnOk result (AreShoensIn store.new.held shoens.new.shoens) }
     ensures alike { OnOk result (AreAlike shoens.old.shoens shoens.new.shoens) }
@@ -126,7 +126,7 @@ fn put_message(
 }
 
 /// Looks at the goals and monitors that hang on what was bound since a mark. If memory is refused, more may hang.
-fn wake_bound<C: CodeSource>(
+pub(crate) fn wake_bound<C: CodeSource>(
     store: &mut Store<CellName>,
     goals: &GoalTable<CellName>,
     shoens: &ShoenTree<CellName>,
@@ -137,7 +137,7 @@ fn wake_bound<C: CodeSource>(
 ) -> Result<(), AllocError>
     requires goals { AreGoalsIn store.old.held goals.now.goals }
     requires shoens { AreShoensIn store.old.held shoens.now.shoens }
-    ensures wakes { OnOk result (WakesTold modules.now.loaded shoens.now.shoens store.old.held store.old.hooks store.new.hooks goals.now.goals 0 (told_by (drop mark.sizes.bindings store.old.held.bindings) store.old.hooks) draft.old.changes.items draft.new.changes.items) }
+    ensures wakes { OnOk result (WakesTold modules.now shoens.now.shoens store.old.held store.old.hooks store.new.hooks goals.now.goals 0 (told_by (drop mark.sizes.bindings store.old.held.bindings) store.old.hooks) draft.old.changes.items draft.new.changes.items) }
     ensures rest { draft.new ≡ record draft.old { told = draft.new.told; changes = draft.new.changes } }
     ensures held { store.new.held ≡ store.old.held }
     ensures grown { HasGrown store.old store.new }
@@ -168,6 +168,7 @@ pub(crate) fn draft_message<C: CodeSource>(
     modules: &CodedModules<'_, C>,
     trial: &mut Trial<CellName>,
     draft: &mut Draft,
+    rules: Rules,
     last_goal: u64,
     variables: u64,
     nodes: u64,
@@ -181,7 +182,7 @@ pub(crate) fn draft_message<C: CodeSource>(
     requires order { AreInOrder goals.now.goals }
     requires first { AllByRecursion (λ g. 0 < g.number) goals.now.goals }
     requires shoens { AreShoensIn store.old.held shoens.old.shoens }
-    ensures ok { IfOk result (SendsAs modules.now.loaded store.old store.new goals.now.goals shoens.old shoens.new variables nodes entries number message draft.new) }
+    ensures ok { IfOk result (SendsAs modules.now store.old store.new goals.now.goals shoens.old shoens.new variables nodes entries number message draft.new) }
     ensures back { CanGoBack shoens.old shoens.new }
     ensures grown { HasGrown store.old store.new }
 {
@@ -190,7 +191,7 @@ pub(crate) fn draft_message<C: CodeSource>(
         Ok(origin) => origin,
         Err(refusal) => return Ok(Some(refusal)),
     };
-    begin_draft(draft, 0, last_goal, variables, nodes, reports);
+    begin_draft(draft, rules, 0, last_goal, variables, nodes, reports);
     put_message(store, shoens, draft, number, origin.control, message)?;
     wake_bound(store, goals, shoens, modules, trial, draft, mark)?;
     Ok(None)

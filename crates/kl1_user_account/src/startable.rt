@@ -31,7 +31,7 @@ fn is_range(low: u64, high: u64) -> bool
 }
 
 /// Puts a number and a blank after bytes. After an error some of them may be there.
-fn put_number(line: &mut Vec<u8>, number: u64) -> Result<(), AllocError>
+pub(crate) fn put_number(line: &mut Vec<u8>, number: u64) -> Result<(), AllocError>
     ensures { OnOk result (line.new.items ≡ line.old.items ++ decimal number ++ 32 ∷ []) }
 {
     let mut buffer = Buffer::new();

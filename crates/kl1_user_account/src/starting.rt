@@ -1,7 +1,7 @@
 // Starts of goals: what may be refused, and what is put in place.
 
 ghost use Rattle.std.specs.Prelude.{◌≡◌, ◌+◌, ◌-◌, ◌<◌, ◌≤◌, ◌^◌, ◌++◌, ◌∷◌, ℕ, [], suc, length, map, IfOk, OnOk, OnErr, IsTrue, vec_capacity};
-ghost use Rattle.kl1_model.specs.Limits.{monitor_priority};
+ghost use Rattle.kl1_model.specs.declared.limits.TheConstants.{MONITOR_PRIORITY};
 ghost use Rattle.kl1_model.specs.Term.{Term};
 ghost use Rattle.kl1_model.specs.code.TermCode.{nodes_of};
 ghost use Rattle.kl1_model.specs.Meaning.{is_numbered, highest};
@@ -106,7 +106,7 @@ pub(crate) fn prepare_start<C: CodeSource>(
     requires named { AreNamed (length texts.now) row.now }
     requires below { AreBelow (count + 1) row.now }
     requires empty { numbers.old.items ≡ [] }
-    ensures ok { IfOk result (IsDrafted modules.now.loaded names.old.names texts.now row.now count allowance made store.old.held store.new.held (goal_variables scratch.new) trial.new.awaited.items) }
+    ensures ok { IfOk result (IsDrafted modules.now names.old.names texts.now row.now count allowance made store.old.held store.new.held (goal_variables scratch.new) trial.new.awaited.items) }
     ensures grown { OnOk result (Grown store.old.held store.new.held) }
     ensures formed { IsFormed store.old.held }
     ensures empty { OnOk result (numbers.new.items ≡ []) }
@@ -190,7 +190,7 @@ pub(crate) fn place(
     requires owned { AreOwned goals.old.shoens goals.old.goals }
     requires count { goals.old.shoens ≡ length shoens.old.shoens }
     requires number { number ≡ suc (length shoens.old.shoens) }
-    requires high { high ≤ monitor_priority }
+    requires high { high ≤ MONITOR_PRIORITY }
     ensures placed { IsPlaced numbers.now row.now (goal_variables scratch.old) store.old.held store.new.held goals.old.goals goals.new.goals shoens.old.shoens shoens.new.shoens shoens.new.work last_goal allowance low high opening }
     ensures known { goals.new.shoens ≡ suc goals.old.shoens }
     ensures work { shoens.new.work ≡ shoens.old.work }

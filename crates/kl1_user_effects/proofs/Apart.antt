@@ -1,7 +1,7 @@
 -- Terminations come apart: lives end first, and reports and closings come after.
 use Rattle.std.proofs.Common.{◌≡◌, ℕ, suc, ◌==◌, ◌||◌, not, Bool, true, false, if◌then◌else◌, List, [], ◌∷◌, refl, sym, ap, ap₂, ◌∙◌}
 use Rattle.std.specs.Prelude.{nat_lt, map, Option, Some, None, option_map}
-use Rattle.kl1_model.specs.Limits.{most_reports}
+use Rattle.kl1_model.specs.declared.limits.TheConstants.{MOST_REPORTS}
 use Rattle.kl1_model.specs.declared.life.Life.TheVariants.{Terminated}
 use Rattle.kl1_model.specs.Term.{Term, variable, integer, atom, structure, occurs}
 use Rattle.kl1_model.specs.Meaning.{nil, cell}
@@ -91,7 +91,7 @@ reported_ended n m message (variable v) s =
     let next = suc s.last_variable in
     let sent : State → State = λ z. record z { last_variable = next; reports = suc s.reports } in
     let by = cell message (variable next) in
-    if_ended (occurs v message || not (nat_lt s.reports most_reports)) n (broken_at m s) (change_shoen m (λ h. record h { tail = variable next }) (sent (replace_in_state v by s)))
+    if_ended (occurs v message || not (nat_lt s.reports MOST_REPORTS)) n (broken_at m s) (change_shoen m (λ h. record h { tail = variable next }) (sent (replace_in_state v by s)))
     (broken_at m (ended_at n s)) (change_shoen m (λ h. record h { tail = variable next }) (sent (replace_in_state v by (ended_at n s))))
     (broken_ended n m s)
     (ap (λ z. change_shoen m (λ h. record h { tail = variable next }) (sent z)) (replace_ended n v by s)

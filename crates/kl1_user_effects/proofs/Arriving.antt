@@ -5,7 +5,7 @@ use Rattle.std.specs.List.{AllByRecursion, list_any}
 use Rattle.std.proofs.lemmas.Bool.{ne_eqb, eq-eqb}
 use Rattle.std.proofs.Math.Nat.{max-le, min-le_right}
 use Rattle.std.proofs.Common.{le_trans}
-use Rattle.kl1_model.specs.Limits.{monitor_priority}
+use Rattle.kl1_model.specs.declared.limits.TheConstants.{MONITOR_PRIORITY}
 use Rattle.kl1_model.specs.Opening.{clipped}
 use Rattle.kl1_text.specs.declared.cell_name.CellName.{CellName}
 use Rattle.kl1_store.specs.declared.cell.Cell.{Cell}
@@ -14,31 +14,32 @@ use Rattle.kl1_store.specs.Held.{Held, IsIn}
 use Rattle.kl1_store.specs.InModules.{AreQualifiedIn}
 use Rattle.kl1_store.specs.Sound.{Grown}
 use Rattle.kl1_goals.specs.declared.goal.Goal.{Goal}
-use Rattle.kl1_goals.specs.Lists.{is_other, is_monitor, is_monitor_of, is_goal_of, is_flagged}
+use Rattle.kl1_goals.specs.declared.task.Task.{Task}
+use Rattle.kl1_goals.specs.Lists.{is_other, is_monitor, is_monitor_task, is_monitor_of, is_goal_of, is_flagged}
 use Rattle.kl1_shoen_paths.specs.declared.shoen.Shoen.{Shoen}
 use Rattle.kl1_user_effects.specs.declared.draft.Draft.{Draft}
-use Rattle.kl1_user_effects.specs.Kept.{AreGoalsIn, AreOwned, AreUpTo}
-use Rattle.kl1_user_effects.specs.Drafts.{goals_left, without_monitors, goals_for, two_for, HasBegun}
+use Rattle.kl1_user_effects.specs.Kept.{IsTaskIn, AreGoalsIn, AreOwned, AreUpTo}
+use Rattle.kl1_user_effects.specs.Drafts.{goals_left, without_monitors, goals_for, one_for, two_for, HasBegun}
 use Rattle.kl1_user_effects.specs.Moving.{priorities_by}
 use Rattle.kl1_user_effects.specs.Installing.{AreNext}
 use Rattle.kl1_user_effects.specs.Leaving.{Comes, AreMet}
 use Rattle.kl1_user_effects.specs.Walks.{HaveNoGoals}
 use Rattle.kl1_user_effects.proofs.Goals.{filter_append, any_append}
-use Rattle.kl1_user_effects.proofs.Coming.{IsLeft, next_for, next_two, none_next, none_left, all_are_left, without_none, no_monitor_ends, monitor_left}
+use Rattle.kl1_user_effects.proofs.Coming.{IsLeft, next_for, next_one, next_two, none_next, none_left, all_are_left, without_none, no_monitor_ends, monitor_left}
 use Rattle.kl1_user_effects.proofs.States.{goals_grown}
 use Rattle.kl1_user_effects.proofs.Commits.{goals_for_in, goals_for_above}
 
 -- ---- priorities
 
 -- a priority that is clipped to a range is at most a monitor's
-pub clipped_low : (low high n : ℕ) → low ≤ monitor_priority → high ≤ monitor_priority → clipped low high n ≤ monitor_priority
+pub clipped_low : (low high n : ℕ) → low ≤ MONITOR_PRIORITY → high ≤ MONITOR_PRIORITY → clipped low high n ≤ MONITOR_PRIORITY
 clipped_low low high n a b = max-le a (le_trans (min-le_right n high) b)
 
-priorities_low : (h : Shoen CellName) (own : ℕ) (ps : List (Option ℕ)) → own ≤ monitor_priority → h.low ≤ monitor_priority → h.high ≤ monitor_priority → AllByRecursion (λ p. p ≤ monitor_priority) (priorities_by (Some h) own ps)
+priorities_low : (h : Shoen CellName) (own : ℕ) (ps : List (Option ℕ)) → own ≤ MONITOR_PRIORITY → h.low ≤ MONITOR_PRIORITY → h.high ≤ MONITOR_PRIORITY → AllByRecursion (λ p. p ≤ MONITOR_PRIORITY) (priorities_by (Some h) own ps)
 priorities_low h own [] le a b = tt
 priorities_low h own (p ∷ ps) le a b = (one p, priorities_low h own ps le a b)
   where
-    one : (p : Option ℕ) → unwrap_or (option_map (clipped h.low h.high) p) own ≤ monitor_priority
+    one : (p : Option ℕ) → unwrap_or (option_map (clipped h.low h.high) p) own ≤ MONITOR_PRIORITY
     one None = le
     one (Some n) = clipped_low h.low h.high n a b
 
@@ -86,7 +87,7 @@ for_met all last shoen (p ∷ ps) (x ∷ xs) = (λ m. absurd (cc), for_met all (
 
 -- if they are those of a shoen
 pub comes_for : (k : Held CellName) (n count : ℕ) (d e : Draft) (sh : Shoen CellName) (own : ℕ) (ps : List (Option ℕ)) (cells : List (Qualified CellName)) → HasBegun d → e.removed ≡ d.removed → e.aborted.items ≡ d.aborted.items → e.ended.items ≡ d.ended.items →
-    e.added.items ≡ goals_for d.last_goal sh.number (priorities_by (Some sh) own ps) cells → e.last_goal ≡ d.last_goal + length cells → 0 < sh.number → sh.number ≤ count → own ≤ monitor_priority → sh.low ≤ monitor_priority → sh.high ≤ monitor_priority → AreQualifiedIn k cells → Comes k n count d e
+    e.added.items ≡ goals_for d.last_goal sh.number (priorities_by (Some sh) own ps) cells → e.last_goal ≡ d.last_goal + length cells → 0 < sh.number → sh.number ≤ count → own ≤ MONITOR_PRIORITY → sh.low ≤ MONITOR_PRIORITY → sh.high ≤ MONITOR_PRIORITY → AreQualifiedIn k cells → Comes k n count d e
 comes_for k n count d e sh own ps cells begun removed aborted ended is last low high level least most inside =
     let qs = priorities_by (Some sh) own ps in
     let gs = goals_for d.last_goal sh.number qs cells in
@@ -107,10 +108,46 @@ comes_for k n count d e sh own ps cells begun removed aborted ended is last low 
 pub met_for : (e : Draft) (last shoen : ℕ) (ps : List ℕ) (cells : List (Qualified CellName)) → e.added.items ≡ goals_for last shoen ps cells → AreMet e.added.items
 met_for e last shoen ps cells is = let P : List (Goal CellName) → Type 0 = λ gs. AreMet gs in subst P (sym is) (for_met (goals_for last shoen ps cells) last shoen ps cells)
 
+-- ---- a goal of another task comes in the place of one
+
+pub comes_one : (k : Held CellName) (n count : ℕ) (d e : Draft) (g : Goal CellName) (task : Task CellName) → HasBegun d → e.removed ≡ d.removed → e.aborted.items ≡ d.aborted.items → e.ended.items ≡ d.ended.items →
+    e.added.items ≡ one_for d.last_goal g task → e.last_goal ≡ suc d.last_goal → 0 < g.shoen → g.shoen ≤ count → g.priority ≤ MONITOR_PRIORITY → is_monitor_task task ≡ false → IsTaskIn k task → Comes k n count d e
+comes_one k n count d e g task begun removed aborted ended is last low high level other inside =
+    let gs = one_for d.last_goal g task in
+    let below = begun.removed in
+    let U : List (Goal CellName) → Type 0 = λ xs. AreUpTo e.last_goal xs in
+    let A : List (Goal CellName) → Type 0 = λ xs. AllByRecursion (λ g. d.last_goal < g.number) xs in
+    let I : List (Goal CellName) → Type 0 = λ xs. AreGoalsIn k xs in
+    let S : List (Goal CellName) → Type 0 = λ xs. goals_left xs e ≡ xs in
+    record {
+      next = λ goals up owned. (let N : List (Goal CellName) → Type 0 = λ xs. AreNext goals count xs in subst N (sym is) (next_one d.last_goal count g task goals up low high level other));
+      stay = subst S (sym is) (all_are_left e gs (left_all e gs (omega (arith, removed, below), tt) (aborted ∙ begun.aborted) (ended ∙ begun.ended)));
+      above = subst A (sym is) (omega arith, tt);
+      up_to = subst U (sym is) (omega (arith, last), tt);
+      last = omega (arith, last);
+      inside = subst I (sym is) (inside, tt);
+    }
+
+pub met_one : (e : Draft) (last : ℕ) (g : Goal CellName) (task : Task CellName) → e.added.items ≡ one_for last g task → is_monitor_task task ≡ false → AreMet e.added.items
+met_one e last g task is other =
+    let P : List (Goal CellName) → Type 0 = λ gs. AreMet gs in
+    subst P (sym is) (λ m. absurd (never (is_monitor_task task) other m), tt)
+  where
+    never : (b : Bool) → b ≡ false → b ≡ true → ⊥
+    never b e m = cc
+
+-- what comes after a draft of which only the name is another
+pub comes_named : (k : Held CellName) (n count : ℕ) (d c e : Draft) → c ≡ record d { name = c.name } → Comes k n count c e → Comes k n count d e
+comes_named k n count d c e is p =
+    let last : c.last_goal ≡ d.last_goal = ap (λ (x : Draft). x.last_goal) is in
+    let N : ℕ → Type 0 = λ l. (goals : List (Goal CellName)) → AreUpTo l goals → AreOwned n goals → AreNext goals count e.added.items in
+    let A : ℕ → Type 0 = λ l. AllByRecursion (λ g. l < g.number) e.added.items in
+    record { next = subst N last p.next; stay = p.stay; above = subst A last p.above; up_to = p.up_to; last = (let le = p.last in omega (arith, last, le)); inside = p.inside }
+
 -- ---- a shoen's monitor and its goal come
 
 pub comes_two : (k : Held CellName) (n count : ℕ) (d e : Draft) (shoen high : ℕ) (x : Cell CellName) → HasBegun d → e.removed ≡ d.removed → e.aborted.items ≡ d.aborted.items → e.ended.items ≡ d.ended.items →
-    e.added.items ≡ two_for d.last_goal shoen high x → e.last_goal ≡ suc (suc d.last_goal) → n < shoen → shoen ≤ count → high ≤ monitor_priority → IsIn k x → Comes k n count d e
+    e.added.items ≡ two_for d.last_goal shoen high x → e.last_goal ≡ suc (suc d.last_goal) → n < shoen → shoen ≤ count → high ≤ MONITOR_PRIORITY → IsIn k x → Comes k n count d e
 comes_two k n count d e shoen high x begun removed aborted ended is last lt le most inside =
     let gs = two_for d.last_goal shoen high x in
     let below = begun.removed in

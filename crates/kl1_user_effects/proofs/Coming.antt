@@ -3,17 +3,18 @@ use Rattle.std.proofs.Common.{◌≡◌, ℕ, suc, ◌<◌, ◌≤◌, ◌==◌,
 use Rattle.std.specs.Prelude.{filter}
 use Rattle.std.specs.List.{AllByRecursion, list_any}
 use Rattle.std.proofs.lemmas.Bool.{ne_eqb}
-use Rattle.kl1_model.specs.Limits.{monitor_priority}
+use Rattle.kl1_model.specs.declared.limits.TheConstants.{MONITOR_PRIORITY}
 use Rattle.kl1_text.specs.declared.cell_name.CellName.{CellName}
 use Rattle.kl1_store.specs.declared.cell.Cell.{Cell}
 use Rattle.kl1_store.specs.declared.qualified.Qualified.{Qualified}
 use Rattle.kl1_goals.specs.declared.goal.Goal.{Goal}
-use Rattle.kl1_goals.specs.Lists.{is_other, is_monitor, is_monitor_of, is_goal_of, is_flagged}
+use Rattle.kl1_goals.specs.declared.task.Task.{Task}
+use Rattle.kl1_goals.specs.Lists.{is_other, is_monitor, is_monitor_task, is_monitor_of, is_goal_of, is_flagged}
 use Rattle.kl1_goals.specs.Tables.{AreBefore}
 use Rattle.kl1_shoen_paths.specs.declared.shoen.Shoen.{Shoen}
 use Rattle.kl1_user_effects.specs.declared.draft.Draft.{Draft}
 use Rattle.kl1_user_effects.specs.Kept.{AreOwned, AreUpTo}
-use Rattle.kl1_user_effects.specs.Drafts.{without_monitors, goals_left, goals_for, two_for}
+use Rattle.kl1_user_effects.specs.Drafts.{without_monitors, goals_left, goals_for, one_for, two_for}
 use Rattle.kl1_user_effects.specs.Walks.{ends_in, ending_in, terminated}
 use Rattle.kl1_user_effects.specs.Installing.{AreNext}
 use Rattle.kl1_shoen.specs.Shoens.{changed, lives_in, is_living_child_of}
@@ -26,7 +27,7 @@ before_next last [] a = tt
 before_next last (g ∷ gs) a = let le = a.0 in (omega (arith, le), before_next last gs a.1)
 
 -- goals of a body come after those of an account
-pub next_for : (last shoen count : ℕ) (priorities : List ℕ) (xs : List (Qualified CellName)) (goals : List (Goal CellName)) → AreUpTo last goals → 0 < shoen → shoen ≤ count → AllByRecursion (λ p. p ≤ monitor_priority) priorities → AreNext goals count (goals_for last shoen priorities xs)
+pub next_for : (last shoen count : ℕ) (priorities : List ℕ) (xs : List (Qualified CellName)) (goals : List (Goal CellName)) → AreUpTo last goals → 0 < shoen → shoen ≤ count → AllByRecursion (λ p. p ≤ MONITOR_PRIORITY) priorities → AreNext goals count (goals_for last shoen priorities xs)
 next_for last shoen count [] [] goals up low high ps = tt
 next_for last shoen count (p ∷ ps) [] goals up low high all = tt
 next_for last shoen count [] (x ∷ xs) goals up low high ps = tt
@@ -34,6 +35,13 @@ next_for last shoen count (p ∷ ps) (x ∷ xs) goals up low high all = (
   record { number = before_next last goals up; low = low; high = high; priority = all.0; monitor = λ m. absurd (cc) },
   next_for (suc last) shoen count ps xs (goals ++ _ ∷ []) (up_to_append (suc last) goals (_ ∷ []) (up_to_more last (suc last) goals (omega arith) up) (omega arith, tt)) low high all.1,
 )
+
+differs : (b : Bool) → b ≡ true → b ≡ false → ⊥
+differs b e f = cc
+
+-- a goal of another task that takes a goal's place, and is no monitor's, comes after those of an account
+pub next_one : (last count : ℕ) (g : Goal CellName) (task : Task CellName) (goals : List (Goal CellName)) → AreUpTo last goals → 0 < g.shoen → g.shoen ≤ count → g.priority ≤ MONITOR_PRIORITY → is_monitor_task task ≡ false → AreNext goals count (one_for last g task)
+next_one last count g task goals up low high level other = (record { number = before_next last goals up; low = low; high = high; priority = level; monitor = λ m. absurd (differs (is_monitor_task task) m other) }, tt)
 
 -- goals of other shoens are no monitors of this one
 no_monitors : (known n : ℕ) (gs : List (Goal CellName)) → known < n → AreOwned known gs → list_any (is_monitor_of n) gs ≡ false
@@ -44,7 +52,7 @@ no_monitors known n (g ∷ gs) lt o =
     ∙ no_monitors known n gs lt o.1
 
 -- the monitor of a shoen that opens, and its goal, come after those of an account
-pub next_two : (last known shoen high count : ℕ) (x : Cell CellName) (goals : List (Goal CellName)) → AreUpTo last goals → AreOwned known goals → known < shoen → shoen ≤ count → high ≤ monitor_priority → AreNext goals count (two_for last shoen high x)
+pub next_two : (last known shoen high count : ℕ) (x : Cell CellName) (goals : List (Goal CellName)) → AreUpTo last goals → AreOwned known goals → known < shoen → shoen ≤ count → high ≤ MONITOR_PRIORITY → AreNext goals count (two_for last shoen high x)
 next_two last known shoen high count x goals up own lt le most = (
   record { number = before_next last goals up; low = omega (arith, lt); high = le; priority = omega arith; monitor = λ m. no_monitors known shoen goals lt own },
   (record { number = before_next (suc last) (goals ++ _ ∷ []) (up_to_append (suc last) goals (_ ∷ []) (up_to_more last (suc last) goals (omega arith) up) (omega arith, tt)); low = omega (arith, lt); high = le; priority = most; monitor = λ m. absurd (cc) }, tt),

@@ -4,7 +4,7 @@ use Rattle.std.specs.Prelude.{cond, unwrap_or, nat_le, filter, find, count_by, O
 use Rattle.std.specs.List.{AllByRecursion}
 use Rattle.std.proofs.lemmas.List.{map-append, append-nil, drop_more, drop_all}
 use Rattle.std.proofs.lemmas.List.Sums.{sum_by-cons}
-use Rattle.kl1_model.specs.Limits.{most_goals, most_variables, most_nodes}
+use Rattle.kl1_model.specs.declared.limits.TheConstants.{MOST_GOALS, MOST_VARIABLES, MOST_NODES}
 use Rattle.kl1_model.specs.Term.{Term}
 use Rattle.kl1_model.specs.Module.{Clause, goals_of}
 use Rattle.kl1_model.specs.Match.{Candidate}
@@ -13,15 +13,15 @@ use Rattle.kl1_model.specs.Nodes.{goals_nodes}
 use Rattle.kl1_model.specs.State as model
 use Rattle.kl1_model.specs.State.{State, shoen_at, without_goal}
 use Rattle.kl1_model.specs.Opening.{clipped}
-use Rattle.kl1_model.specs.Reduction.{priority_of, goals_from, has_room_for, commits, or_exhaustion, committed, moved}
-use Rattle.kl1_model.specs.Report.{report, exception, exhaustion}
+use Rattle.kl1_model.specs.Reduction.{priority_of, goals_from, has_room_for, commits, or_exhaustion, committed, raised, moved}
+use Rattle.kl1_model.specs.Report.{exhaustion}
 use Rattle.kl1_text.specs.declared.cell_name.CellName.{CellName}
 use Rattle.kl1_store.specs.declared.qualified.Qualified.{Qualified}
 use Rattle.kl1_store.specs.Held.{Held}
 use Rattle.kl1_store.specs.InModules.{qualified_list, AreQualifiedIn}
 use Rattle.kl1_store.specs.Sound.{Grown}
 use Rattle.kl1_goals.specs.declared.task.Task.{Task}
-use Rattle.kl1_goals.specs.declared.task.Task.TheVariants.{Monitor, Reduces}
+use Rattle.kl1_goals.specs.declared.task.Task.TheVariants.{Monitor, Reduces, Substitutes}
 use Rattle.kl1_goals.specs.declared.goal.Goal.{Goal}
 use Rattle.kl1_goals.specs.Lists.{is_other, is_monitor, is_monitor_task}
 use Rattle.kl1_shoen_paths.specs.declared.shoen.Shoen.{Shoen}
@@ -155,6 +155,7 @@ commit_turns ms h k w goal o ps fresh nodes cells candidate i g there own inside
 tasks_count : (t : Means) (k : Task CellName) → not (model.is_monitor (task_with t k)) ≡ not (is_monitor_task k)
 tasks_count t Monitor = refl
 tasks_count t (Reduces x) = refl
+tasks_count t (Substitutes x) = refl
 
 pub alive_read : (t : Means) (gs : List (Goal CellName)) → count_by (λ (g : model.Goal). not (model.is_monitor g.task)) (map (goal_with t) gs) ≡ count_by (λ g. not (is_monitor g)) gs
 alive_read t [] = refl
@@ -165,12 +166,12 @@ alive_read t (g ∷ gs) =
 
 -- whether there is room for a body, by what is counted
 pub room_read : (f : Reading) (s : State) (h : Held CellName) (w : Made) (clause : Clause) (alive goals fresh nodes : ℕ) → alive ≡ count_by (λ g. not (is_monitor g)) w.goals → goals ≡ length clause.body → fresh ≡ fresh_variables clause → nodes ≡ goals_nodes (goals_of clause.body) →
-    has_room_for (worked f s h w) clause ≡ (nat_le (alive + goals) most_goals && nat_le (w.variables + fresh) most_variables && nat_le (w.nodes + nodes) most_nodes)
+    has_room_for (worked f s h w) clause ≡ (nat_le (alive + goals) MOST_GOALS && nat_le (w.variables + fresh) MOST_VARIABLES && nat_le (w.nodes + nodes) MOST_NODES)
 room_read f s h w clause alive goals fresh nodes a b c d =
-    ap (λ n. nat_le (n + length clause.body) most_goals && nat_le (w.variables + fresh_variables clause) most_variables && nat_le (w.nodes + goals_nodes (goals_of clause.body)) most_nodes) (alive_read (meaning f h) w.goals ∙ sym a)
-    ∙ ap (λ n. nat_le (alive + n) most_goals && nat_le (w.variables + fresh_variables clause) most_variables && nat_le (w.nodes + goals_nodes (goals_of clause.body)) most_nodes) (sym b)
-    ∙ ap (λ n. nat_le (alive + goals) most_goals && nat_le (w.variables + n) most_variables && nat_le (w.nodes + goals_nodes (goals_of clause.body)) most_nodes) (sym c)
-    ∙ ap (λ n. nat_le (alive + goals) most_goals && nat_le (w.variables + fresh) most_variables && nat_le (w.nodes + n) most_nodes) (sym d)
+    ap (λ n. nat_le (n + length clause.body) MOST_GOALS && nat_le (w.variables + fresh_variables clause) MOST_VARIABLES && nat_le (w.nodes + goals_nodes (goals_of clause.body)) MOST_NODES) (alive_read (meaning f h) w.goals ∙ sym a)
+    ∙ ap (λ n. nat_le (alive + n) MOST_GOALS && nat_le (w.variables + fresh_variables clause) MOST_VARIABLES && nat_le (w.nodes + goals_nodes (goals_of clause.body)) MOST_NODES) (sym b)
+    ∙ ap (λ n. nat_le (alive + goals) MOST_GOALS && nat_le (w.variables + n) MOST_VARIABLES && nat_le (w.nodes + goals_nodes (goals_of clause.body)) MOST_NODES) (sym c)
+    ∙ ap (λ n. nat_le (alive + goals) MOST_GOALS && nat_le (w.variables + fresh) MOST_VARIABLES && nat_le (w.nodes + n) MOST_NODES) (sym d)
 
 -- ---- drafts
 
@@ -178,22 +179,22 @@ room_read f s h w clause alive goals fresh nodes a b c d =
 pub drafts_exhausted : (p : Predicate CellName) (place : ℕ) (places : List (Place CellName)) (goal : Goal CellName) (x : Qualified CellName) (goals : List (Goal CellName)) (h k : Held CellName) (t u : Tree CellName) (d e : Draft) (alive count fresh nodes : ℕ) →
     alive ≡ count_by (λ g. not (is_monitor g)) (goals_left (goals ++ d.added.items) d) →
     ((f : Reading) (c : Candidate) → IsCandidate f h p place places c → (count ≡ length c.clause.body) × ((fresh ≡ fresh_variables c.clause) × (nodes ≡ goals_nodes (goals_of c.clause.body)))) →
-    (nat_le (alive + count) most_goals && nat_le (d.variables + fresh) most_variables && nat_le (d.nodes + nodes) most_nodes) ≡ false →
-    DraftsAll (λ f. report goal.shoen (exception exhaustion (aim f h x))) h k t u d e → Commits p place places goal x goals h k t u d e
-drafts_exhausted p place places goal x goals h k t u d e alive count fresh nodes there needs full raised ms c candidate names i =
+    (nat_le (alive + count) MOST_GOALS && nat_le (d.variables + fresh) MOST_VARIABLES && nat_le (d.nodes + nodes) MOST_NODES) ≡ false →
+    DraftsAll (λ f. raised (goal_with (meaning f h) goal) exhaustion (aim f h x)) h k t u d e → Commits p place places goal x goals h k t u d e
+drafts_exhausted p place places goal x goals h k t u d e alive count fresh nodes there needs full raises ms c candidate names i =
     let w = made_of goals names t d in
-    turns_as ms (λ f. report goal.shoen (exception exhaustion (aim f h x))) (λ f. moved (goal_with (meaning f h) goal) (aim f h x) (commits (c f))) h k w (made_of goals names u e)
+    turns_as ms (λ f. raised (goal_with (meaning f h) goal) exhaustion (aim f h x)) (λ f. moved (goal_with (meaning f h) goal) (aim f h x) (commits (c f))) h k w (made_of goals names u e)
     (λ f knows s.
     let n = needs f (c f) (candidate f knows) in
     let S = worked f s h w in
-    ap (λ b. or_exhaustion b goal.shoen (aim f h x) (committed (goal_with (meaning f h) goal) (c f) S) S) (room_read f s h w (c f).clause alive count fresh nodes there n.0 n.1.0 n.1.1 ∙ full))
-    (raised ms goals names i)
+    ap (λ b. or_exhaustion b (goal_with (meaning f h) goal) (aim f h x) (committed (goal_with (meaning f h) goal) (c f) S) S) (room_read f s h w (c f).clause alive count fresh nodes there n.0 n.1.0 n.1.1 ∙ full))
+    (raises ms goals names i)
 
 -- a draft whose goal has committed
 pub drafts_committed : (p : Predicate CellName) (place : ℕ) (places : List (Place CellName)) (goal : Goal CellName) (x : Qualified CellName) (goals : List (Goal CellName)) (h k : Held CellName) (t : Tree CellName) (d e : Draft) (alive count fresh nodes : ℕ) (sh : Shoen CellName) (ps : List (Option ℕ)) (cells : List (Qualified CellName)) →
     HasBegun d → Grown h k → alive ≡ count_by (λ g. not (is_monitor g)) (goals_left (goals ++ d.added.items) d) →
     ((f : Reading) (c : Candidate) → IsCandidate f h p place places c → (count ≡ length c.clause.body) × ((fresh ≡ fresh_variables c.clause) × (nodes ≡ goals_nodes (goals_of c.clause.body)))) →
-    (nat_le (alive + count) most_goals && nat_le (d.variables + fresh) most_variables && nat_le (d.nodes + nodes) most_nodes) ≡ true →
+    (nat_le (alive + count) MOST_GOALS && nat_le (d.variables + fresh) MOST_VARIABLES && nat_le (d.nodes + nodes) MOST_NODES) ≡ true →
     find (has_number goal.shoen) t.shoens ≡ Some sh → sh.number ≡ goal.shoen → IsOwned (length t.shoens) goal → AreQualifiedIn k cells →
     ((f : Reading) (c : Candidate) → IsCandidate f h p place places c → ps ≡ body_priorities c.clause) →
     ((f : Reading) → Reads built f → (c : Candidate) → IsCandidate f h p place places c → IsBody f c h k cells) →
@@ -217,7 +218,7 @@ drafts_committed p place places goal x goals h k t d e alive count fresh nodes s
     (λ f knows s.
     let n = needs f (c f) (candidate f knows) in
     let S = worked f s h w in
-    ap (λ y. or_exhaustion y goal.shoen (aim f h x) (committed (goal_with (meaning f h) goal) (c f) S) S) (room_read f s h w (c f).clause alive count fresh nodes there n.0 n.1.0 n.1.1 ∙ room))
+    ap (λ y. or_exhaustion y (goal_with (meaning f h) goal) (aim f h x) (committed (goal_with (meaning f h) goal) (c f) S) S) (room_read f s h w (c f).clause alive count fresh nodes there n.0 n.1.0 n.1.1 ∙ room))
     (subst T same
     (commit_turns ms h k w goal (Some sh) ps fresh nodes cells c i g found own inside (λ f knows. priorities f (c f) (candidate f knows)) (λ f knows. (needs f (c f) (candidate f knows)).1.0) (λ f knows. (needs f (c f) (candidate f knows)).1.1)
     (λ f knows. body f knows.reads (c f) (candidate f knows))))

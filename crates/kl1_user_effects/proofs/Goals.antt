@@ -8,7 +8,7 @@ use Rattle.kl1_store.specs.declared.qualified.Qualified.{Qualified}
 use Rattle.kl1_store.specs.Held.{Held}
 use Rattle.kl1_store.specs.InModules.{qualified_list}
 use Rattle.kl1_goals.specs.declared.task.Task.{Task}
-use Rattle.kl1_goals.specs.declared.task.Task.TheVariants.{Monitor, Reduces}
+use Rattle.kl1_goals.specs.declared.task.Task.TheVariants.{Monitor, Reduces, Substitutes}
 use Rattle.kl1_goals.specs.declared.goal.Goal.{Goal}
 use Rattle.kl1_goals.specs.Lists.{is_monitor_task, is_monitor_of, is_goal_of, is_other, is_flagged}
 use Rattle.kl1_user_effects.specs.Fitting.{Reading}
@@ -19,6 +19,7 @@ use Rattle.kl1_user_effects.specs.Drafts.{without_monitors, staying}
 tests_same : (n : ℕ) (t : Means) (k : Task CellName) (b : Bool) → (b && model.is_monitor (task_with t k)) ≡ (b && is_monitor_task k)
 tests_same n t Monitor b = refl
 tests_same n t (Reduces x) b = refl
+tests_same n t (Substitutes x) b = refl
 
 pub others_read : (t : Means) (n : ℕ) (gs : List (Goal CellName)) → filter (λ g. not (g.number == n)) (map (goal_with t) gs) ≡ map (goal_with t) (filter (is_other n) gs)
 others_read t n [] = refl
@@ -51,6 +52,7 @@ monitors_read t n (g ∷ gs) =
 others_same : (t : Means) (k : Task CellName) (b : Bool) → (b && not (model.is_monitor (task_with t k))) ≡ (b && not (is_monitor_task k))
 others_same t Monitor b = refl
 others_same t (Reduces x) b = refl
+others_same t (Substitutes x) b = refl
 
 pub has_goal_read : (t : Means) (n : ℕ) (gs : List (Goal CellName)) → list_any (λ g. g.shoen == n && not (model.is_monitor g.task)) (map (goal_with t) gs) ≡ list_any (is_goal_of n) gs
 has_goal_read t n [] = refl

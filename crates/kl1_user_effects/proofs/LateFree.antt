@@ -103,11 +103,11 @@ is_itself v w e = ap number e
     number (structure f ts) = 0
 
 -- what is no variable means none
-off_none : (h : Held CellName) (f : Reading) (v : ℕ) (x : Cell CellName) → BreaksOff x → IsFormed h → IsIn h x → meaning f h x ≡ variable v → ⊥
+pub off_none : (h : Held CellName) (f : Reading) (v : ℕ) (x : Cell CellName) → BreaksOff x → IsFormed h → IsIn h x → meaning f h x ≡ variable v → ⊥
 off_none h f v x off formed inside same = off_is f (λ t. t ≡ variable v → ⊥) h x x formed inside off refl (λ n q. absurd (cc)) (λ a q. absurd (cc)) (λ a ts q. absurd (cc)) same
 
 -- a variable means no higher one
-no_higher : (n : ℕ) (h : Held CellName) (f : Reading) (v w : ℕ) → w < n → IsFormed h → w < h.variables → meaning f h (Variable w) ≡ variable v → v ≤ w
+pub no_higher : (n : ℕ) (h : Held CellName) (f : Reading) (v w : ℕ) → w < n → IsFormed h → w < h.variables → meaning f h (Variable w) ≡ variable v → v ≤ w
 no_higher zero h f v w lt formed inside e = absurd (omega (arith, lt))
 no_higher (suc n) h f v w lt formed inside e = by_case (found w h.bindings) refl (λ u low so. no_higher n h f v u (omega (arith, low, lt)) formed (omega (arith, low, inside)) so)
   where

@@ -3,12 +3,12 @@ use Rattle.std.proofs.Common.{◌≡◌, ℕ, suc, ◌≤◌, ◌==◌, ◌||◌
 use Rattle.std.specs.Prelude.{nat_lt, map, filter, codes, count_by, Option, Some, None, option_map, unwrap_or}
 use Rattle.std.specs.List.{list_any}
 use Rattle.std.proofs.lemmas.Bool.{ne_eqb}
-use Rattle.kl1_model.specs.Limits.{most_reports}
+use Rattle.kl1_model.specs.declared.limits.TheConstants.{MOST_REPORTS}
 use Rattle.kl1_model.specs.declared.life.Life.TheVariants.{Terminated}
 use Rattle.kl1_model.specs.Module.{is_among}
 use Rattle.kl1_model.specs.Term.{Term, variable, integer, atom, structure, Terms, none, more, occurs, replace, replace_each}
 use Rattle.kl1_model.specs.Meaning.{nil, cell}
-use Rattle.kl1_model.specs.State.{Task, monitor, reduces, Goal, Origin, Shoen, State, shoen_at, replace_in_task, replace_in_goal, replace_in_origin, replace_in_shoen, replace_in_state, change_shoen, is_monitor, is_living}
+use Rattle.kl1_model.specs.State.{Task, monitor, reduces, substitutes, Goal, Origin, Shoen, State, shoen_at, replace_in_task, replace_in_goal, replace_in_origin, replace_in_shoen, replace_in_state, change_shoen, is_monitor, is_living}
 use Rattle.kl1_model.specs.Tree.{parents_of, path_within, path, charge, is_living_child}
 use Rattle.kl1_model.specs.Report.{broken_at, reported_at, report_of, report, report_each, closed_at, close_of, close, exhausted_report, terminated_report}
 use Rattle.kl1_model.specs.Ending.{has_goal, has_living_child, lives, ends_now, without_monitor, ended_at, ending_of, has_reached, newly_exhausted, after_reduction}
@@ -49,6 +49,7 @@ mutual
 swapped_task : (v w : ℕ) (a : List ℕ) (u : Term) → (w == v) ≡ false → (t : Task) → replace_in_task v (atom a) (replace_in_task w u t) ≡ replace_in_task w (replace v (atom a) u) (replace_in_task v (atom a) t)
 swapped_task v w a u e monitor = refl
 swapped_task v w a u e (reduces t) = ap reduces (swapped v w a u e t)
+swapped_task v w a u e (substitutes t) = ap substitutes (swapped v w a u e t)
 
 swapped_goals : (v w : ℕ) (a : List ℕ) (u : Term) → (w == v) ≡ false → (gs : List Goal) → map (replace_in_goal v (atom a)) (map (replace_in_goal w u) gs) ≡ map (replace_in_goal w (replace v (atom a) u)) (map (replace_in_goal v (atom a)) gs)
 swapped_goals v w a u e [] = refl
@@ -151,7 +152,7 @@ told_replaced n v a b (variable w) s le e =
     let sent : State → State = λ z. record z { last_variable = next; reports = suc s.reports } in
     let goes_on : Shoen → Shoen = λ h. record h { tail = variable next } in
     ap (λ c. reported_at n (atom b) (if c then atom a else variable w) (replace_in_state v (atom a) s)) e
-    ∙ state_if (occurs w (atom b) || not (nat_lt s.reports most_reports)) v (atom a)
+    ∙ state_if (occurs w (atom b) || not (nat_lt s.reports MOST_REPORTS)) v (atom a)
     (broken_at n s) (change_shoen n goes_on (sent (replace_in_state w by s)))
     (broken_at n (replace_in_state v (atom a) s)) (change_shoen n goes_on (sent (replace_in_state w by (replace_in_state v (atom a) s))))
     (sym (broken_replaced n v (atom a) s))
@@ -245,6 +246,7 @@ ends_replaced (n ∷ ns) v t s = ap (ended_each ns) (end_replaced n v t s) ∙ e
 monitor_task : (v : ℕ) (t : Term) (k : Task) → is_monitor (replace_in_task v t k) ≡ is_monitor k
 monitor_task v t monitor = refl
 monitor_task v t (reduces u) = refl
+monitor_task v t (substitutes u) = refl
 
 goal_if : (c d : Bool) (v : ℕ) (t : Term) (g : Goal) (gs ks : List Goal) → c ≡ d → ks ≡ map (replace_in_goal v t) gs → (if c then replace_in_goal v t g ∷ ks else ks) ≡ map (replace_in_goal v t) (if d then g ∷ gs else gs)
 goal_if true true v t g gs ks p e = ap (λ (xs : List Goal). replace_in_goal v t g ∷ xs) e
@@ -327,7 +329,7 @@ more_if false last s t a b = b
 reported_more : (n last : ℕ) (message tail : Term) (s : State) → last ≤ s.last_variable → last ≤ (reported_at n message tail s).last_variable
 reported_more n last message (variable w) s le =
     let next = suc s.last_variable in
-    more_if (occurs w message || not (nat_lt s.reports most_reports)) last (broken_at n s)
+    more_if (occurs w message || not (nat_lt s.reports MOST_REPORTS)) last (broken_at n s)
     (change_shoen n (λ h. record h { tail = variable next }) (record (replace_in_state w (cell message (variable next)) s) { last_variable = next; reports = suc s.reports })) le (omega (arith, le))
 reported_more n last message (integer i) s le = le
 reported_more n last message (atom a) s le = le

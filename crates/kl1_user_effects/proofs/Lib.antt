@@ -29,3 +29,5 @@ pub mod LateDrafts
 pub mod Frames
 pub mod Outlines
 pub mod LateFree
+pub mod Reported
+pub mod Substituting

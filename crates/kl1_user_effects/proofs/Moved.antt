@@ -5,12 +5,10 @@ use Rattle.kl1_model.specs.declared.built_in.BuiltIn.{BuiltIn}
 use Rattle.kl1_model.specs.Text.{text_of}
 use Rattle.kl1_model.specs.Term as term
 use Rattle.kl1_model.specs.Match.{Candidate}
-use Rattle.kl1_model.specs.State.{State}
+use Rattle.kl1_model.specs.State.{State, reduces}
 use Rattle.kl1_model.specs.Unify.{mgu}
-use Rattle.kl1_model.specs.Report.{report, exception}
 use Rattle.kl1_model.specs.Reduction as model
-use Rattle.kl1_model.specs.Reduction.{commits, raises, unifies, names, opens, goes, moved, unified, equation}
-use Rattle.kl1_model.specs.code.Waits.{move_by}
+use Rattle.kl1_model.specs.Reduction.{commits, raises, unifies, names, opens, goes, gives_way, moved, replaced_by, raised, unified, equation}
 use Rattle.kl1_text.specs.declared.cell_name.CellName.{CellName}
 use Rattle.kl1_store.specs.declared.qualified.Qualified.{Qualified}
 use Rattle.kl1_store.specs.declared.cell.Cell.{Cell}
@@ -41,9 +39,9 @@ found_is : (m n : model.Move) (o : Option model.Move) → o ≡ Some m → o ≡
 found_is m n o a b = cc
 
 -- a move that is another's
-moves_as : (ms : List Numbered) (goal : Goal CellName) (x : Qualified CellName) (clause : ℕ) (m n : Reading → model.Move) (goals : List (Goal CellName)) (all : List (List ℕ)) (h k : Held CellName) (t u : Tree CellName) (d e : Draft) →
+moves_as : (ms : List Numbered) (goal : Goal CellName) (x : Qualified CellName) (m n : Reading → model.Move) (goals : List (Goal CellName)) (all : List (List ℕ)) (h k : Held CellName) (t u : Tree CellName) (d e : Draft) →
     ((f : Reading) → Knows ms f → m f ≡ n f) → Drafts ms (λ f. moved (goal_with (meaning f h) goal) (aim f h x) (n f)) h k goals all t u d e → Drafts ms (λ f. moved (goal_with (meaning f h) goal) (aim f h x) (m f)) h k goals all t u d e
-moves_as ms goal x clause m n goals all h k t u d e is p i =
+moves_as ms goal x m n goals all h k t u d e is p i =
     turns_as ms (λ f. moved (goal_with (meaning f h) goal) (aim f h x) (n f)) (λ f. moved (goal_with (meaning f h) goal) (aim f h x) (m f)) h k (made_of goals all t d) (made_of goals all u e)
     (λ f knows s. ap (λ y. moved (goal_with (meaning f h) goal) (aim f h x) y (worked f s h (made_of goals all t d))) (is f knows)) (p i)
 
@@ -59,43 +57,49 @@ candidate_in (unifies a b) = no_candidate
 candidate_in (names text a) = no_candidate
 candidate_in (opens o) = no_candidate
 candidate_in goes = no_candidate
+candidate_in gives_way = no_candidate
 
 pub moves_by_commit : (p : Predicate CellName) (place : ℕ) (places : List (Place CellName)) (text : List ℕ) (goal : Goal CellName) (x : Qualified CellName) (goals : List (Goal CellName)) (h k : Held CellName) (t u : Tree CellName) (d e : Draft) →
     Commits p place places goal x goals h k t u d e → (known : List Known) → Moves p (move.Commits place) places text goal x goals known h k t u d e
-moves_by_commit p place places text goal x goals h k t u d e commit known ms modules clause m reads as_found found =
-    let is : (f : Reading) (knows : Knows ms f) → m f ≡ commits (as_found f knows).candidate = λ f knows. found_is (m f) (commits (as_found f knows).candidate) (move_by modules (aim f h x) clause) (found f knows) (as_found f knows).moves in
+moves_by_commit p place places text goal x goals h k t u d e commit known ms m reads as_found =
+    let is : (f : Reading) (knows : Knows ms f) → m f ≡ commits (as_found f knows).candidate = λ f knows. found_is (m f) (commits (as_found f knows).candidate) (Some (m f)) refl (as_found f knows).moves in
     let C : (f : Reading) → Candidate → Type 0 = λ f c. IsCandidate f h p place places c in
-    moves_as ms goal x clause m (λ f. commits (candidate_in (m f))) goals (texts_of known) h k t u d e
+    moves_as ms goal x m (λ f. commits (candidate_in (m f))) goals (texts_of known) h k t u d e
     (λ f knows. is f knows ∙ ap (λ y. commits (candidate_in y)) (sym (is f knows)))
     (commit ms (λ f. candidate_in (m f)) (λ f knows. subst (C f) (ap candidate_in (sym (is f knows))) (as_found f knows).is) (texts_of known))
 
 pub moves_by_exception : (p : Predicate CellName) (places : List (Place CellName)) (text : List ℕ) (b : BuiltIn) (goal : Goal CellName) (x : Qualified CellName) (goals : List (Goal CellName)) (h k : Held CellName) (t u : Tree CellName) (d e : Draft) →
-    DraftsAll (λ f. report goal.shoen (exception (text_of b) (aim f h x))) h k t u d e → (known : List Known) → Moves p (move.Raises b) places text goal x goals known h k t u d e
-moves_by_exception p places text b goal x goals h k t u d e raised known ms modules clause m reads as_found found =
-    moves_as ms goal x clause m (λ f. raises (text_of b)) goals (texts_of known) h k t u d e (λ f knows. found_is (m f) (raises (text_of b)) (move_by modules (aim f h x) clause) (found f knows) (as_found f knows)) (raised ms goals (texts_of known))
+    DraftsAll (λ f. raised (goal_with (meaning f h) goal) (text_of b) (aim f h x)) h k t u d e → (known : List Known) → Moves p (move.Raises b) places text goal x goals known h k t u d e
+moves_by_exception p places text b goal x goals h k t u d e did known ms m reads as_found =
+    moves_as ms goal x m (λ f. raises (text_of b)) goals (texts_of known) h k t u d e (λ f knows. found_is (m f) (raises (text_of b)) (Some (m f)) refl (as_found f knows)) (did ms goals (texts_of known))
 
 pub moves_by_unification : (p : Predicate CellName) (places : List (Place CellName)) (text : List ℕ) (l r : Cell CellName) (goal : Goal CellName) (x : Qualified CellName) (goals : List (Goal CellName)) (h k : Held CellName) (t u : Tree CellName) (d e : Draft) →
-    DraftsAll (λ f s. unified goal.shoen (aim f h x) (mgu (equation (meaning f h l) (meaning f h r))) s) h k t u d e → (known : List Known) → Moves p (move.Unifies l r) places text goal x goals known h k t u d e
-moves_by_unification p places text l r goal x goals h k t u d e did known ms modules clause m reads as_found found =
-    moves_as ms goal x clause m (λ f. unifies (meaning f h l) (meaning f h r)) goals (texts_of known) h k t u d e
-    (λ f knows. found_is (m f) (unifies (meaning f h l) (meaning f h r)) (move_by modules (aim f h x) clause) (found f knows) (as_found f knows)) (did ms goals (texts_of known))
+    DraftsAll (λ f s. unified (goal_with (meaning f h) goal) (aim f h x) (mgu (equation (meaning f h l) (meaning f h r))) s) h k t u d e → (known : List Known) → Moves p (move.Unifies l r) places text goal x goals known h k t u d e
+moves_by_unification p places text l r goal x goals h k t u d e did known ms m reads as_found =
+    moves_as ms goal x m (λ f. unifies (meaning f h l) (meaning f h r)) goals (texts_of known) h k t u d e
+    (λ f knows. found_is (m f) (unifies (meaning f h l) (meaning f h r)) (Some (m f)) refl (as_found f knows)) (did ms goals (texts_of known))
 
 pub moves_by_order : (p : Predicate CellName) (places : List (Place CellName)) (text : List ℕ) (s : ℕ) (o : ExecuteArguments CellName) (goal : Goal CellName) (x : Qualified CellName) (goals : List (Goal CellName)) (h k : Held CellName) (t u : Tree CellName) (d e : Draft) → IsOrder h s o →
     OpensChild s goal x h k t u d e → (known : List Known) → Moves p (move.Opens s) places text goal x goals known h k t u d e
-moves_by_order p places text s o goal x goals h k t u d e order opened known ms modules clause m reads as_found found =
-    moves_as ms goal x clause m (λ f. opens (order_at f h o)) goals (texts_of known) h k t u d e
-    (λ f knows. found_is (m f) (opens (order_at f h o)) (move_by modules (aim f h x) clause) (found f knows) (as_found f knows o order)) (opened o order ms goals (texts_of known))
+moves_by_order p places text s o goal x goals h k t u d e order opened known ms m reads as_found =
+    moves_as ms goal x m (λ f. opens (order_at f h o)) goals (texts_of known) h k t u d e
+    (λ f knows. found_is (m f) (opens (order_at f h o)) (Some (m f)) refl (as_found f knows o order)) (opened o order ms goals (texts_of known))
 
 pub moves_by_name : (p : Predicate CellName) (places : List (Place CellName)) (text : List ℕ) (a : Cell CellName) (goal : Goal CellName) (x : Qualified CellName) (goals : List (Goal CellName)) (known : List Known) (h k : Held CellName) (t u : Tree CellName) (d e : Draft) →
-    NamesTerm goal.shoen text known a x h k t u d e → Moves p (move.Names a) places text goal x goals known h k t u d e
-moves_by_name p places text a goal x goals known h k t u d e named ms modules clause m reads as_found found =
-    moves_as ms goal x clause m (λ f. names text (meaning f h a)) goals (texts_of known) h k t u d e
-    (λ f knows. found_is (m f) (names text (meaning f h a)) (move_by modules (aim f h x) clause) (found f knows) (as_found f knows)) (named ms reads goals)
+    NamesTerm goal text known a x h k t u d e → Moves p (move.Names a) places text goal x goals known h k t u d e
+moves_by_name p places text a goal x goals known h k t u d e named ms m reads as_found =
+    moves_as ms goal x m (λ f. names text (meaning f h a)) goals (texts_of known) h k t u d e
+    (λ f knows. found_is (m f) (names text (meaning f h a)) (Some (m f)) refl (as_found f knows)) (named ms reads goals)
 
 pub moves_by_nothing : (p : Predicate CellName) (places : List (Place CellName)) (text : List ℕ) (goal : Goal CellName) (x : Qualified CellName) (goals : List (Goal CellName)) (h : Held CellName) (t : Tree CellName) (d : Draft) → (known : List Known) → Moves p move.Goes places text goal x goals known h h t t d d
-moves_by_nothing p places text goal x goals h t d known ms modules clause m reads as_found found =
-    moves_as ms goal x clause m (λ f. goes) goals (texts_of known) h h t t d d (λ f knows. found_is (m f) goes (move_by modules (aim f h x) clause) (found f knows) (as_found f knows))
+moves_by_nothing p places text goal x goals h t d known ms m reads as_found =
+    moves_as ms goal x m (λ f. goes) goals (texts_of known) h h t t d d (λ f knows. found_is (m f) goes (Some (m f)) refl (as_found f knows))
     (λ i. turns_none ms (λ f s. s) h (made_of goals (texts_of known) t d) i (λ f knows s. refl))
+
+pub moves_by_giving_way : (p : Predicate CellName) (places : List (Place CellName)) (text : List ℕ) (goal : Goal CellName) (x : Qualified CellName) (goals : List (Goal CellName)) (h k : Held CellName) (t u : Tree CellName) (d e : Draft) →
+    DraftsAll (λ f. replaced_by (goal_with (meaning f h) goal) (reduces (aim f h x))) h k t u d e → (known : List Known) → Moves p move.GivesWay places text goal x goals known h k t u d e
+moves_by_giving_way p places text goal x goals h k t u d e did known ms m reads as_found =
+    moves_as ms goal x m (λ f. gives_way) goals (texts_of known) h k t u d e (λ f knows. found_is (m f) gives_way (Some (m f)) refl (as_found f knows)) (did ms goals (texts_of known))
 
 -- ---- a step
 

@@ -1,7 +1,7 @@
 -- Texts looked up one after another in a table of names.
 use Rattle.std.proofs.Common.{◌≡◌, ℕ, ◌+◌, ◌<◌, ◌≤◌, ◌^◌, List, [], ◌∷◌, ◌++◌, length, take, get_or, Some, refl, sym, ap, ◌∙◌, subst, inl, inr, arith}
 use Rattle.std.proofs.lemmas.List.{length-map, take_all, length_push}
-use Rattle.kl1_model.specs.Limits.{most_names}
+use Rattle.kl1_model.specs.declared.limits.TheConstants.{MOST_NAMES}
 use Rattle.kl1_text.specs.declared.atom_no.AtomNo.{AtomNo}
 use Rattle.kl1_text.specs.declared.cell_name.CellName.{CellName}
 use Rattle.kl1_atoms.specs.declared.known.Known.{Known}
@@ -64,7 +64,7 @@ pub row_more : (row longer : List CellName) (c : CellName) (i : ℕ) → longer 
 row_more row longer c i pushed count = ap length pushed ∙ length_push row c ∙ ap (λ (n : ℕ). n + 1) count
 
 -- there is room for the next text, if there is room for all
-pub has_room : (first : List Known) (texts : List (List ℕ)) (i : ℕ) (now : List Known) (row : List CellName) (t : List ℕ) → i < length texts → t ≡ get_or texts i t → length (with_texts (texts_of first) texts) ≤ most_names → Published first texts i now row → HasRoom now t
+pub has_room : (first : List Known) (texts : List (List ℕ)) (i : ℕ) (now : List Known) (row : List CellName) (t : List ℕ) → i < length texts → t ≡ get_or texts i t → length (with_texts (texts_of first) texts) ≤ MOST_NAMES → Published first texts i now row → HasRoom now t
 has_room first texts i now row t within is few p = elim (option_cases (number_by now t)) [
   | inl none ↦
       let n = no_text now t none in

@@ -11,7 +11,7 @@ use Rattle.kl1_store.specs.declared.cell.Cell.TheVariants.{Variable, Integer, At
 use Rattle.kl1_store.specs.Held.{Held, IsIn}
 use Rattle.kl1_store.specs.Sound.{Grown}
 use Rattle.kl1_goals.specs.declared.task.Task.{Task}
-use Rattle.kl1_goals.specs.declared.task.Task.TheVariants.{Monitor, Reduces}
+use Rattle.kl1_goals.specs.declared.task.Task.TheVariants.{Monitor, Reduces, Substitutes}
 use Rattle.kl1_goals.specs.declared.goal.Goal.{Goal}
 use Rattle.kl1_shoen_paths.specs.declared.shoen.Origin.{Origin}
 use Rattle.kl1_shoen_paths.specs.declared.shoen.Shoen.{Shoen}
@@ -38,6 +38,7 @@ same_goal h t u a g i = ap (λ (k : model.Task). let r : model.Goal = record { n
     by_task : (k : Task CellName) → IsTaskIn h k → task_with t k ≡ task_with u k
     by_task Monitor i = refl
     by_task (Reduces q) i = ap model.reduces (aims_same h t u a q i)
+    by_task (Substitutes x) i = ap model.substitutes (a x i)
 
 pub same_goals : (h : Held CellName) (t u : Means) → Agree h t u → (gs : List (Goal CellName)) → AreGoalsIn h gs → map (goal_with t) gs ≡ map (goal_with u) gs
 same_goals h t u a [] i = refl
@@ -85,6 +86,7 @@ replaced_goals v b t (g ∷ gs) =
     by_task : (k : Task CellName) → model.replace_in_task v b (task_with t k) ≡ task_with (λ x. replace v b (t x)) k
     by_task Monitor = refl
     by_task (Reduces q) = ap model.reduces (aim_replaced v b t q)
+    by_task (Substitutes x) = refl
 
 replaced_shoens : (v : ℕ) (b : Term) (t : Means) (ss : List (Shoen CellName)) → map (replace_in_shoen v b) (map (shoen_with t) ss) ≡ map (shoen_with (λ x. replace v b (t x))) ss
 replaced_shoens v b t [] = refl
@@ -146,6 +148,7 @@ goals_grown h k g (x ∷ gs) i = (by_task x.task i.0, goals_grown h k g gs i.1)
     by_task : (t : Task CellName) → IsTaskIn h t → IsTaskIn k t
     by_task Monitor i = tt
     by_task (Reduces q) i = in_grown h k g q.cell i
+    by_task (Substitutes x) i = in_grown h k g x i
 
 pub shoen_grown : (h k : Held CellName) → Grown h k → (s : Shoen CellName) → IsShoenIn h s → IsShoenIn k s
 shoen_grown h k g s i = record { control = in_grown h k g s.control i.control; tail = in_grown h k g s.tail i.tail; origin = by_origin s.origin i.origin; low = i.low; high = i.high }

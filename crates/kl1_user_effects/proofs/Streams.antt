@@ -2,14 +2,14 @@
 use Rattle.std.proofs.Common.{◌≡◌, ℕ, suc, ◌-◌, not, true, false, if◌then◌else◌, Bool, List, refl, sym, ap, ◌∙◌, subst}
 use Rattle.std.specs.Prelude.{nat_lt, find, Some, None}
 use Rattle.kl1_model.specs.declared.built_in.BuiltIn.{BuiltIn}
-use Rattle.kl1_model.specs.Limits.{most_reports}
+use Rattle.kl1_model.specs.declared.limits.TheConstants.{MOST_REPORTS}
 use Rattle.kl1_model.specs.Text.{text_of}
 use Rattle.kl1_model.specs.Term.{Term, variable, integer, atom, structure, replace, replaced}
 use Rattle.kl1_model.specs.Meaning.{nil}
 use Rattle.kl1_model.specs.Unify.{mgu}
 use Rattle.kl1_model.specs.State.{State}
 use Rattle.kl1_model.specs.Report.{report, close, close_of, closed_at, exception, failure}
-use Rattle.kl1_model.specs.Reduction.{unified, equation}
+use Rattle.kl1_model.specs.Reduction.{raised, unified, equation}
 use Rattle.kl1_text.specs.Reading.{Reads}
 use Rattle.kl1_text.specs.declared.cell_name.CellName.{CellName}
 use Rattle.kl1_store.specs.declared.qualified.Qualified.{Qualified}
@@ -21,13 +21,13 @@ use Rattle.kl1_store.specs.Unification.{UnifiesAs}
 use Rattle.kl1_stream.specs.declared.told.Told.TheVariants.{Dropped, Broken, Sent}
 use Rattle.kl1_stream.specs.Reports.{ToldAs, EndsAt, ClosedAs}
 use Rattle.kl1_stream.specs.Exceptions.{IsException}
+use Rattle.kl1_goals.specs.declared.goal.Goal.{Goal}
 use Rattle.kl1_shoen_paths.specs.declared.shoen.Shoen.{Shoen}
 use Rattle.kl1_shoen.specs.Shoens.{Tree, has_number, changed}
 use Rattle.kl1_codes_modules.specs.Numbered.{Numbered}
 use Rattle.kl1_user_effects.specs.declared.draft.Draft.{Draft}
 use Rattle.kl1_user_effects.specs.Fitting.{Reading, built}
-use Rattle.kl1_user_effects.specs.Account.{meaning, aim}
-use Rattle.kl1_user_effects.specs.Wholes.{IsWhole}
+use Rattle.kl1_user_effects.specs.Account.{meaning, goal_with, aim}
 use Rattle.kl1_user_effects.specs.Drafts.{made_of, DraftsAll}
 use Rattle.kl1_user_effects.specs.Works.{Made, worked, IsMadeIn, Turns}
 use Rattle.kl1_user_effects.proofs.States.{replaced_state, all_replaced}
@@ -36,12 +36,12 @@ use Rattle.kl1_user_effects.proofs.Works.{base, read_as, finds, rereads, turns_t
 -- ---- reports
 
 -- a report that was dropped
-pub drafts_dropped : (h k : Held CellName) (t : Tree CellName) (d : Draft) (n : ℕ) (sh : Shoen CellName) (m : Cell CellName) → Grown h k → find (has_number n) t.shoens ≡ Some sh → ToldAs built h k sh.tail sh.is_broken (not (nat_lt d.reports most_reports)) m Dropped →
+pub drafts_dropped : (h k : Held CellName) (t : Tree CellName) (d : Draft) (n : ℕ) (sh : Shoen CellName) (m : Cell CellName) → Grown h k → find (has_number n) t.shoens ≡ Some sh → ToldAs built h k sh.tail sh.is_broken (not (nat_lt d.reports MOST_REPORTS)) m Dropped →
     DraftsAll (λ f. report n (meaning f h m)) h k t t d d
 drafts_dropped h k t d n sh m g e told ms goals names i = report_turns ms h k (made_of goals names t d) n sh m Dropped g i e told
 
 -- a report on which the stream broke
-pub drafts_broken : (h k : Held CellName) (t u : Tree CellName) (d : Draft) (n : ℕ) (sh : Shoen CellName) (m : Cell CellName) → Grown h k → find (has_number n) t.shoens ≡ Some sh → ToldAs built h k sh.tail sh.is_broken (not (nat_lt d.reports most_reports)) m Broken →
+pub drafts_broken : (h k : Held CellName) (t u : Tree CellName) (d : Draft) (n : ℕ) (sh : Shoen CellName) (m : Cell CellName) → Grown h k → find (has_number n) t.shoens ≡ Some sh → ToldAs built h k sh.tail sh.is_broken (not (nat_lt d.reports MOST_REPORTS)) m Broken →
     u.shoens ≡ changed n torn t.shoens → u.work ≡ t.work → DraftsAll (λ f. report n (meaning f h m)) h k t u d d
 drafts_broken h k t u d n sh m g e told is same ms goals names i =
     let T : Made → Type 0 = λ w. Turns ms (λ f. report n (meaning f h m)) h k (made_of goals names t d) w in
@@ -53,7 +53,7 @@ drafts_broken h k t u d n sh m g e told is same ms goals names i =
         ∙ ap (λ (x : List ℕ). let z : Made = record w { shoens = u.shoens; work = x } in z) (sym b)
 
 -- a report that was made
-pub drafts_sent : (h k : Held CellName) (t u : Tree CellName) (d : Draft) (n next : ℕ) (sh : Shoen CellName) (m : Cell CellName) → Grown h k → find (has_number n) t.shoens ≡ Some sh → ToldAs built h k sh.tail sh.is_broken (not (nat_lt d.reports most_reports)) m (Sent next) →
+pub drafts_sent : (h k : Held CellName) (t u : Tree CellName) (d : Draft) (n next : ℕ) (sh : Shoen CellName) (m : Cell CellName) → Grown h k → find (has_number n) t.shoens ≡ Some sh → ToldAs built h k sh.tail sh.is_broken (not (nat_lt d.reports MOST_REPORTS)) m (Sent next) →
     u.shoens ≡ changed n (tailed next) t.shoens → u.work ≡ t.work → DraftsAll (λ f. report n (meaning f h m)) h k t u d (record d { reports = suc d.reports })
 drafts_sent h k t u d n next sh m g e told is same ms goals names i =
     let T : Made → Type 0 = λ w. Turns ms (λ f. report n (meaning f h m)) h k (made_of goals names t d) w in
@@ -117,32 +117,23 @@ raised_turns ms h full k w v n kind goal message g e i next =
     (λ f knows s. ap (λ t. report n t (worked f s h w)) (sym (e.means f knows.reads)))
     (turns_then ms (λ f s. s) (λ f. report n (meaning f full message)) h full k w w v first (next first.inside))
 
--- a report of an exception, of a goal that was made whole before
-pub whole_turns : (ms : List Numbered) (h mid k : Held CellName) (w v : Made) (n : ℕ) (kind : BuiltIn) (goal : Qualified CellName) (x : Cell CellName) → Grown h mid → IsWhole h mid goal x → IsMadeIn h w →
-    (IsMadeIn mid w → Turns ms (λ f. report n (exception (text_of kind) (meaning f mid x))) mid k w v) → Turns ms (λ f. report n (exception (text_of kind) (aim f h goal))) h k w v
-whole_turns ms h mid k w v n kind goal x g e i next =
-    let first = grown_turns ms h mid w g e.variables e.others i in
-    turns_as ms (λ f. report n (exception (text_of kind) (meaning f mid x))) (λ f. report n (exception (text_of kind) (aim f h goal))) h k w v
-    (λ f knows s. ap (λ t. report n (exception (text_of kind) t) (worked f s h w)) (sym (e.means f knows.reads)))
-    (turns_then ms (λ f s. s) (λ f. report n (exception (text_of kind) (meaning f mid x))) h mid k w w v first (next first.inside))
-
 -- ---- unifications
 
-pub solved_turns : (ms : List Numbered) (h k : Held CellName) (w : Made) (n : ℕ) (goal : Qualified CellName) (left right : Cell CellName) → IsMadeIn h w → UnifiesAs built h k left right Bound →
-    Turns ms (λ f s. unified n (aim f h goal) (mgu (equation (meaning f h left) (meaning f h right))) s) h k w w
-solved_turns ms h k w n goal left right i u = record {
+pub solved_turns : (ms : List Numbered) (h k : Held CellName) (w : Made) (goal : Goal CellName) (cell : Qualified CellName) (left right : Cell CellName) → IsMadeIn h w → UnifiesAs built h k left right Bound →
+    Turns ms (λ f s. unified (goal_with (meaning f h) goal) (aim f h cell) (mgu (equation (meaning f h left) (meaning f h right))) s) h k w w
+solved_turns ms h k w goal cell left right i u = record {
   inside = grown_made h k w u.1 i;
   states = λ f knows s.
       let solved = u.0 f knows.reads in
-      ap (λ o. unified n (aim f h goal) o (worked f s h w)) solved.solves
+      ap (λ o. unified (goal_with (meaning f h) goal) (aim f h cell) o (worked f s h w)) solved.solves
       ∙ all_replaced solved.replacements (base s w) (meaning f h) (h.variables - 1) w.goals w.shoens
       ∙ rereads s (λ x. replaced solved.replacements (meaning f h x)) (meaning f k) (h.variables - 1) h w (λ x j. sym (solved.everywhere x)) i
       ∙ ap (λ m. read_as s (meaning f k) (m - 1) w) (sym u.2);
 }
 
-pub clash_turns : (ms : List Numbered) (h mid k : Held CellName) (w v : Made) (n : ℕ) (goal : Qualified CellName) (left right : Cell CellName) → UnifiesAs built h mid left right Clash → Turns ms (λ f. report n (exception failure (aim f mid goal))) mid k w v →
-    Turns ms (λ f s. unified n (aim f h goal) (mgu (equation (meaning f h left) (meaning f h right))) s) h k w v
-clash_turns ms h mid k w v n goal left right u t =
-    let P : Held CellName → Type 0 = λ x. Turns ms (λ f. report n (exception failure (aim f x goal))) x k w v in
-    turns_as ms (λ f. report n (exception failure (aim f h goal))) (λ f s. unified n (aim f h goal) (mgu (equation (meaning f h left) (meaning f h right))) s) h k w v
-    (λ f knows s. ap (λ o. unified n (aim f h goal) o (worked f s h w)) (u.0 f knows.reads)) (subst P u.1 t)
+pub clash_turns : (ms : List Numbered) (h mid k : Held CellName) (w v : Made) (goal : Goal CellName) (cell : Qualified CellName) (left right : Cell CellName) → UnifiesAs built h mid left right Clash →
+    Turns ms (λ f. raised (goal_with (meaning f mid) goal) failure (aim f mid cell)) mid k w v → Turns ms (λ f s. unified (goal_with (meaning f h) goal) (aim f h cell) (mgu (equation (meaning f h left) (meaning f h right))) s) h k w v
+clash_turns ms h mid k w v goal cell left right u t =
+    let P : Held CellName → Type 0 = λ x. Turns ms (λ f. raised (goal_with (meaning f x) goal) failure (aim f x cell)) x k w v in
+    turns_as ms (λ f. raised (goal_with (meaning f h) goal) failure (aim f h cell)) (λ f s. unified (goal_with (meaning f h) goal) (aim f h cell) (mgu (equation (meaning f h left) (meaning f h right))) s) h k w v
+    (λ f knows s. ap (λ o. unified (goal_with (meaning f h) goal) (aim f h cell) o (worked f s h w)) (u.0 f knows.reads)) (subst P u.1 t)

@@ -1,7 +1,7 @@
 -- What is made of an account, one change after another.
 use Rattle.std.proofs.Common.{◌≡◌, ℕ, suc, ◌-◌, ◌||◌, not, Bool, true, false, if◌then◌else◌, List, length, map, refl, sym, ap, ◌∙◌, arith, subst}
 use Rattle.std.specs.Prelude.{nat_lt, find, Option, Some, None, option_map}
-use Rattle.kl1_model.specs.Limits.{most_reports}
+use Rattle.kl1_model.specs.declared.limits.TheConstants.{MOST_REPORTS}
 use Rattle.kl1_model.specs.Term.{Term, variable, integer, atom, structure, replace, occurs}
 use Rattle.kl1_model.specs.Meaning.{cell}
 use Rattle.kl1_model.specs.State as model
@@ -44,7 +44,7 @@ turns_none ms f h a i e = record { inside = i; states = e }
 
 -- a state but for its goals, its shoens and its last variable
 abbrev pub base : State → Made → State
-base s w = record s { work = w.work; names = w.names; last_goal = w.last_goal; last_shoen = length w.shoens; variables = w.variables; nodes = w.nodes; reports = w.reports }
+base s w = record s { rules = w.rules; work = w.work; names = w.names; last_goal = w.last_goal; last_shoen = length w.shoens; variables = w.variables; nodes = w.nodes; reports = w.reports }
 
 -- the state that is worked on, by how cells are read
 abbrev pub read_as : State → Means → ℕ → Made → State
@@ -88,7 +88,8 @@ rereads s t u last h w a i = same_state (base s w) h t u last w.goals w.shoens a
 
 -- ---- reports
 
-broken_by : (n : ℕ) (t m : Term) (s : State) → Breaks (not (nat_lt s.reports most_reports)) t m → reported_at n m t s ≡ broken_at n s
+-- a report that breaks the stream
+pub broken_by : (n : ℕ) (t m : Term) (s : State) → Breaks (not (nat_lt s.reports MOST_REPORTS)) t m → reported_at n m t s ≡ broken_at n s
 broken_by n (variable v) m s e =
     ap (λ b. if b then broken_at n s else change_shoen n (λ h. record h { tail = variable (suc s.last_variable) }) (record (replace_in_state v (cell m (variable (suc s.last_variable))) s) { last_variable = suc s.last_variable; reports = suc s.reports })) e
 broken_by n (integer i) m s e = refl
@@ -120,7 +121,7 @@ both_false true b e f = e
 both_false false b e f = f
 
 report_states : (h k : Held CellName) (w : Made) (n : ℕ) (sh : Shoen CellName) (m : Cell CellName) (told : Told) → IsMadeIn h w → find (has_number n) w.shoens ≡ Some sh →
-    ToldAs built h k sh.tail sh.is_broken (not (nat_lt w.reports most_reports)) m told → (f : Reading) → Reads built f → (s : State) → report n (meaning f h m) (worked f s h w) ≡ worked f s k (after_report n w told)
+    ToldAs built h k sh.tail sh.is_broken (not (nat_lt w.reports MOST_REPORTS)) m told → (f : Reading) → Reads built f → (s : State) → report n (meaning f h m) (worked f s h w) ≡ worked f s k (after_report n w told)
 report_states h k w n sh m Dropped i e d f reads s =
     let S = read_as s (meaning f h) (h.variables - 1) w in
     reports_as s (meaning f h) (h.variables - 1) w n sh (meaning f h m) e
@@ -144,7 +145,7 @@ report_states h k w n sh m (Sent next) i e d f reads s =
     reports_as s (meaning f h) (h.variables - 1) w n sh M e
     ∙ ap (λ b. if b then S else reported_at n M (meaning f h sh.tail) S) d.whole
     ∙ ap (λ t. reported_at n M t S) (d.tail_is f)
-    ∙ ap (λ b. if b then broken_at n S else moved (suc (h.variables - 1))) (both_false (occurs d.number M) (not (nat_lt w.reports most_reports)) sent.free d.more)
+    ∙ ap (λ b. if b then broken_at n S else moved (suc (h.variables - 1))) (both_false (occurs d.number M) (not (nat_lt w.reports MOST_REPORTS)) sent.free d.more)
     ∙ ap moved N
     ∙ ap told (replaced_state (base s w) d.number (cell M (variable next)) (meaning f h) (h.variables - 1) w.goals w.shoens)
     ∙ ap told (rereads s (λ x. replace d.number (cell M (variable next)) (meaning f h x)) (meaning f k) (h.variables - 1) h w (λ x j. sym (sent.means x j)) i)
@@ -153,7 +154,7 @@ report_states h k w n sh m (Sent next) i e d f reads s =
 
 -- a report turns the state as the definitions' does
 pub report_turns : (ms : List Numbered) (h k : Held CellName) (w : Made) (n : ℕ) (sh : Shoen CellName) (m : Cell CellName) (told : Told) → Grown h k → IsMadeIn h w → find (has_number n) w.shoens ≡ Some sh →
-    ToldAs built h k sh.tail sh.is_broken (not (nat_lt w.reports most_reports)) m told → Turns ms (λ f. report n (meaning f h m)) h k w (after_report n w told)
+    ToldAs built h k sh.tail sh.is_broken (not (nat_lt w.reports MOST_REPORTS)) m told → Turns ms (λ f. report n (meaning f h m)) h k w (after_report n w told)
 report_turns ms h k w n sh m told g i e d = record {
   inside = by_case told d;
   states = λ f knows s. report_states h k w n sh m told i e d f knows.reads s;
@@ -162,7 +163,7 @@ report_turns ms h k w n sh m told g i e d = record {
     j : IsMadeIn k w
     j = grown_made h k w g i
 
-    by_case : (r : Told) → ToldAs built h k sh.tail sh.is_broken (not (nat_lt w.reports most_reports)) m r → IsMadeIn k (after_report n w r)
+    by_case : (r : Told) → ToldAs built h k sh.tail sh.is_broken (not (nat_lt w.reports MOST_REPORTS)) m r → IsMadeIn k (after_report n w r)
     by_case Dropped x = j
     by_case Broken x = changed_made k w n torn (λ s a. record { control = a.control; tail = a.tail; origin = a.origin; low = a.low; high = a.high }) j
     by_case (Sent next) x =

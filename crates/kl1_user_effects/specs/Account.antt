@@ -2,7 +2,8 @@
 use Rattle.std.specs.Prelude.{ℕ, ◌-◌, List, [], length, map, codes, Option, None, Some, option_map}
 use Rattle.kl1_model.specs.Term.{Term, structure, none, more}
 use Rattle.kl1_model.specs.State as model
-use Rattle.kl1_model.specs.State.{State, monitor, reduces}
+use Rattle.kl1_model.specs.declared.rules.Rules.{Rules}
+use Rattle.kl1_model.specs.State.{State, monitor, reduces, substitutes}
 use Rattle.kl1_text.specs.declared.cell_name.CellName.{CellName}
 use Rattle.kl1_atoms.specs.declared.known.Known.{Known}
 use Rattle.kl1_store.specs.declared.cell.Cell.{Cell}
@@ -11,20 +12,22 @@ use Rattle.kl1_store.specs.declared.qualified.Qualified.{Qualified}
 use Rattle.kl1_store.specs.Held.{Held}
 use Rattle.kl1_store.specs.Meaning.{term_of}
 use Rattle.kl1_goals.specs.declared.task.Task.{Task}
-use Rattle.kl1_goals.specs.declared.task.Task.TheVariants.{Monitor, Reduces}
+use Rattle.kl1_goals.specs.declared.task.Task.TheVariants.{Monitor, Reduces, Substitutes}
 use Rattle.kl1_goals.specs.declared.goal.Goal.{Goal}
 use Rattle.kl1_shoen_paths.specs.declared.shoen.Origin.{Origin}
 use Rattle.kl1_shoen_paths.specs.declared.shoen.Shoen.{Shoen}
 use Rattle.kl1_codes_modules.specs.Numbered.{Numbered}
 use Rattle.kl1_codes_modules.specs.Finding.{contents}
+use Rattle.kl1_codes_modules.specs.Shelves.{Program}
 use Rattle.kl1_user_effects.specs.Fitting.{Reading}
 
--- what an account keeps: its own name; what its cells are; its goals and its shoens; for each reduction that was charged, the number
+-- what an account keeps: its own name; its rules; what its cells are; its goals and its shoens; for each reduction that was charged, the number
 -- of its goal's shoen, the newest first; its modules, each with its row of numbers; its names with their numbers, in order of first
 -- use; the last number of a goal; how many variables and structures its starts, messages from the console and commits had; how many
 -- reports it made; how many entries its journal has; and how many sessions are open
 pub record Account : Type 0 where
   pub own_name : List ℕ
+  pub rules : Rules
   pub held : Held CellName
   pub goals : List (Goal CellName)
   pub shoens : List (Shoen CellName)
@@ -37,6 +40,10 @@ pub record Account : Type 0 where
   pub reports : ℕ
   pub entries : ℕ
   pub sessions : ℕ
+
+-- what the goals of an account are reduced by
+abbrev pub program_of : Account → Program
+program_of a = record { rules = a.rules; loaded = a.modules }
 
 -- what cells mean
 abbrev pub Means : Type 0
@@ -67,6 +74,7 @@ whole x = record { module_name = None; cell = x }
 abbrev pub task_with : Means → Task CellName → model.Task
 task_with t Monitor = monitor
 task_with t (Reduces q) = reduces (aim_with t q)
+task_with t (Substitutes x) = substitutes (t x)
 
 -- a goal, if cells mean this
 abbrev pub goal_with : Means → Goal CellName → model.Goal
@@ -109,6 +117,7 @@ abbrev pub state_of : Reading → Account → State
 state_of f a =
     with_kept f (record {
       own_name = a.own_name;
+      rules = a.rules;
       goals = [];
       shoens = [];
       work = a.work;

@@ -1,6 +1,6 @@
 -- Names that goals spell.
 use Rattle.std.specs.Prelude.{◌≡◌, ℕ, ◌^◌, nat_le, Bool, true, false, List, length, Option, Some, None, IsTrue}
-use Rattle.kl1_model.specs.Limits.{most_names}
+use Rattle.kl1_model.specs.declared.limits.TheConstants.{MOST_NAMES}
 use Rattle.kl1_model.specs.Text.{is_text}
 use Rattle.kl1_model.specs.Term.{atom}
 use Rattle.kl1_model.specs.Unify.{mgu}
@@ -17,7 +17,7 @@ use Rattle.kl1_shoen.specs.Shoens.{Tree}
 use Rattle.kl1_codes_modules.specs.Numbered.{Numbered}
 use Rattle.kl1_user_effects.specs.declared.draft.Draft.{Draft}
 use Rattle.kl1_user_effects.specs.Fitting.{Reading}
-use Rattle.kl1_user_effects.specs.Account.{texts_of, meaning, aim}
+use Rattle.kl1_user_effects.specs.Account.{texts_of, meaning, goal_with, aim}
 use Rattle.kl1_user_effects.specs.Works.{Knows}
 use Rattle.kl1_user_effects.specs.Drafts.{Drafts}
 
@@ -27,7 +27,7 @@ spare = record { number = 2 ^ 32 }
 
 -- whether an account with these names may use a text as a name
 abbrev pub keeps_names : List Known → List ℕ → Bool
-keeps_names known text = nat_le (length (with_name (texts_of known) text)) most_names
+keeps_names known text = nat_le (length (with_name (texts_of known) text)) MOST_NAMES
 
 -- a name that is drafted is a text that is new to an account with these names, which may use it
 abbrev pub IsNewName : List Known → Option (List ℕ) → Type 0
@@ -50,9 +50,9 @@ ReadsKnown f h known text a (Some n) = f (record { number = n }) ≡ text
 abbrev pub ReadsName : List Numbered → Held CellName → List Known → List ℕ → Cell CellName → Type 0
 ReadsName ms h known text a = (f : Reading) → Knows ms f → ReadsKnown f h known text a (number_by known text)
 
--- a goal of shoen `n`, which is this cell, has used a text as a name and unified a term with it, or has raised an exception
--- if that would be a name too many; the account uses these names
-abbrev pub NamesTerm : ℕ → List ℕ → List Known → Cell CellName → Qualified CellName → Held CellName → Held CellName → Tree CellName → Tree CellName → Draft → Draft → Type 0
-NamesTerm n text known a x old new t u before after =
+-- a goal, which is this cell and has been removed, has used a text as a name and unified a term with it, or has raised an exception if
+-- that would be a name too many; the account uses these names
+abbrev pub NamesTerm : Goal CellName → List ℕ → List Known → Cell CellName → Qualified CellName → Held CellName → Held CellName → Tree CellName → Tree CellName → Draft → Draft → Type 0
+NamesTerm g text known a x old new t u before after =
     (ms : List Numbered) → ReadsName ms old known text a → (goals : List (Goal CellName)) →
-    Drafts ms (λ f s. or_exhaustion (nat_le (length (with_name s.names text)) most_names) n (aim f old x) (named_by n (aim f old x) text (meaning f old a) s) s) old new goals (texts_of known) t u before after
+    Drafts ms (λ f s. or_exhaustion (nat_le (length (with_name s.names text)) MOST_NAMES) (goal_with (meaning f old) g) (aim f old x) (named_by (goal_with (meaning f old) g) (aim f old x) text (meaning f old a) s) s) old new goals (texts_of known) t u before after

@@ -1,11 +1,12 @@
 -- What a draft stands for.
 use Rattle.std.specs.Prelude.{◌≡◌, ℕ, suc, ◌≤◌, ◌==◌, not, Bool, true, false, if◌then◌else◌, List, [], ◌∷◌, ◌++◌, filter, map, Option, Some, None}
-use Rattle.kl1_model.specs.Limits.{monitor_priority}
+use Rattle.kl1_model.specs.declared.limits.TheConstants.{MONITOR_PRIORITY}
 use Rattle.kl1_model.specs.State.{State}
 use Rattle.kl1_text.specs.declared.cell_name.CellName.{CellName}
 use Rattle.kl1_store.specs.declared.cell.Cell.{Cell}
 use Rattle.kl1_store.specs.declared.qualified.Qualified.{Qualified}
 use Rattle.kl1_store.specs.Held.{Held}
+use Rattle.kl1_goals.specs.declared.task.Task.{Task}
 use Rattle.kl1_goals.specs.declared.task.Task.TheVariants.{Monitor, Reduces}
 use Rattle.kl1_goals.specs.declared.goal.Goal.{Goal}
 use Rattle.kl1_goals.specs.Lists.{is_other, is_monitor_of, is_flagged}
@@ -38,6 +39,7 @@ names_with names (Some text) = names ++ text ∷ []
 -- what is made of an account with these goals and names, and this tree of shoens
 abbrev pub made_of : List (Goal CellName) → List (List ℕ) → Tree CellName → Draft → Made
 made_of goals names t d = record {
+  rules = d.rules;
   goals = goals_left (goals ++ d.added.items) d;
   shoens = t.shoens;
   work = t.work;
@@ -85,8 +87,12 @@ goals_for last shoen [] (x ∷ xs) = []
 goals_for last shoen (p ∷ ps) (x ∷ xs) =
     record { number = suc last; task = Reduces x; shoen = shoen; priority = p; standing = None; is_enabled = false } ∷ goals_for (suc last) shoen ps xs
 
+-- a goal of another task in the place of one, with the number after the last; it can't step as yet
+abbrev pub one_for : ℕ → Goal CellName → Task CellName → List (Goal CellName)
+one_for last g task = record { number = suc last; task = task; shoen = g.shoen; priority = g.priority; standing = None; is_enabled = false } ∷ []
+
 -- the monitor of a shoen that opens, with the number after the last, and its goal with the number after that
 abbrev pub two_for : ℕ → ℕ → ℕ → Cell CellName → List (Goal CellName)
 two_for last shoen high x =
-    record { number = suc last; task = Monitor; shoen = shoen; priority = monitor_priority; standing = None; is_enabled = true }
+    record { number = suc last; task = Monitor; shoen = shoen; priority = MONITOR_PRIORITY; standing = None; is_enabled = true }
     ∷ record { number = suc (suc last); task = Reduces (whole x); shoen = shoen; priority = high; standing = None; is_enabled = false } ∷ []

@@ -1,5 +1,6 @@
 -- Drafts that are begun, and that are put in place.
 use Rattle.std.specs.Prelude.{◌≡◌, ℕ, ◌+◌, ◌<◌, ◌≤◌, Bool, true, false, if◌then◌else◌, List, [], ◌∷◌, ◌++◌, map, length, None}
+use Rattle.kl1_model.specs.declared.rules.Rules.{Rules}
 use Rattle.kl1_text.specs.declared.cell_name.CellName.{CellName}
 use Rattle.kl1_goals.specs.declared.goal.Goal.{Goal}
 use Rattle.kl1_goals.specs.Lists.{enabled_by}
@@ -7,8 +8,9 @@ use Rattle.kl1_goals.specs.Tables.{IsNext}
 use Rattle.kl1_user_effects.specs.declared.draft.Draft.{Draft}
 use Rattle.kl1_user_effects.specs.Drafts.{goals_left, restood}
 
--- a draft that removes goal `removed`, and leaves the rest as it is
-pub record IsBegun (removed last variables nodes reports : ℕ) (d : Draft) : Type 0 where
+-- a draft of an account with these rules that removes goal `removed`, and leaves the rest as it is
+pub record IsBegun (removed : ℕ) (rules : Rules) (last variables nodes reports : ℕ) (d : Draft) : Type 0 where
+  pub rules_are : d.rules ≡ rules
   pub removed_is : d.removed ≡ removed
   pub aborted : d.aborted.items ≡ []
   pub ended : d.ended.items ≡ []

@@ -1,11 +1,11 @@
 -- What holds of the goals and the shoens that an account keeps.
 use Rattle.std.specs.Prelude.{ℕ, suc, ◌<◌, ◌≤◌, List, Option, Some, None}
 use Rattle.std.specs.List.{AllByRecursion}
-use Rattle.kl1_model.specs.Limits.{monitor_priority}
+use Rattle.kl1_model.specs.declared.limits.TheConstants.{MONITOR_PRIORITY}
 use Rattle.kl1_text.specs.declared.cell_name.CellName.{CellName}
 use Rattle.kl1_store.specs.Held.{Held, IsIn}
 use Rattle.kl1_goals.specs.declared.task.Task.{Task}
-use Rattle.kl1_goals.specs.declared.task.Task.TheVariants.{Monitor, Reduces}
+use Rattle.kl1_goals.specs.declared.task.Task.TheVariants.{Monitor, Reduces, Substitutes}
 use Rattle.kl1_goals.specs.declared.goal.Goal.{Goal}
 use Rattle.kl1_shoen_paths.specs.declared.shoen.Origin.{Origin}
 use Rattle.kl1_shoen_paths.specs.declared.shoen.Shoen.{Shoen}
@@ -14,6 +14,7 @@ use Rattle.kl1_shoen_paths.specs.declared.shoen.Shoen.{Shoen}
 abbrev pub IsTaskIn : Held CellName → Task CellName → Type 0
 IsTaskIn h Monitor = Unit {0}
 IsTaskIn h (Reduces q) = IsIn h q.cell
+IsTaskIn h (Substitutes x) = IsIn h x
 
 -- the cells of goals are of the store
 abbrev pub AreGoalsIn : Held CellName → List (Goal CellName) → Type 0
@@ -48,8 +49,8 @@ pub record IsShoenIn (h : Held CellName) (s : Shoen CellName) : Type 0 where
   pub control : IsIn h s.control
   pub tail : IsIn h s.tail
   pub origin : IsOriginIn h s.origin
-  pub low : s.low ≤ monitor_priority
-  pub high : s.high ≤ monitor_priority
+  pub low : s.low ≤ MONITOR_PRIORITY
+  pub high : s.high ≤ MONITOR_PRIORITY
 
 -- the cells of each of these shoens are of the store, and no range has a priority above a monitor's
 abbrev pub AreShoensIn : Held CellName → List (Shoen CellName) → Type 0

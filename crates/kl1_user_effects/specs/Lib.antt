@@ -16,3 +16,4 @@ pub mod Late
 pub mod Frames
 pub mod Outlines
 pub mod Leaving
+pub mod Reports

@@ -1,11 +1,9 @@
 -- What the move of a goal makes of a draft.
 use Rattle.std.specs.Prelude.{◌≡◌, ℕ, List, map, Option, Some, None, option_map, unwrap_or}
-use Rattle.kl1_model.specs.Module.{Module}
 use Rattle.kl1_model.specs.Match.{Candidate}
 use Rattle.kl1_model.specs.Opening.{clipped}
 use Rattle.kl1_model.specs.Reduction as model
 use Rattle.kl1_model.specs.Reduction.{commits, opens, moved, priority_of}
-use Rattle.kl1_model.specs.code.Waits.{move_by}
 use Rattle.kl1_text.specs.declared.cell_name.CellName.{CellName}
 use Rattle.kl1_store.specs.declared.qualified.Qualified.{Qualified}
 use Rattle.kl1_store.specs.Held.{Held}
@@ -15,7 +13,7 @@ use Rattle.kl1_goals_moves.specs.declared.moves.Move.{Move}
 use Rattle.kl1_goals_moves.specs.declared.moves.Move.TheVariants as move
 use Rattle.kl1_goals_moves.specs.declared.order.ExecuteArguments.{ExecuteArguments}
 use Rattle.kl1_goals_moves.specs.Orders.{order_at, IsOrder}
-use Rattle.kl1_goals_moves.specs.Moves.{IsCandidate, MovesAs}
+use Rattle.kl1_goals_moves.specs.Moves.{IsCandidate, IsMove}
 use Rattle.kl1_goals.specs.declared.goal.Goal.{Goal}
 use Rattle.kl1_shoen_paths.specs.declared.shoen.Shoen.{Shoen}
 use Rattle.kl1_shoen.specs.Shoens.{Tree}
@@ -50,6 +48,7 @@ ReadsMove (move.Unifies a b) ms h known text = Unit {0}
 ReadsMove (move.Names a) ms h known text = ReadsName ms h known text a
 ReadsMove (move.Opens s) ms h known text = Unit {0}
 ReadsMove move.Goes ms h known text = Unit {0}
+ReadsMove move.GivesWay ms h known text = Unit {0}
 
 -- the name that is drafted by a move, if this text stands for a name
 abbrev pub name_for : Move CellName → List Known → List ℕ → Option (List ℕ)
@@ -59,14 +58,13 @@ name_for (move.Unifies a b) known text = None
 name_for (move.Names a) known text = name_of (number_by known text) (keeps_names known text) text
 name_for (move.Opens s) known text = None
 name_for move.Goes known text = None
+name_for move.GivesWay known text = None
 
--- a goal of an account with these goals and names, which is this cell and has been removed, has done this move by some
--- clause, if this text stands for a name
+-- a goal of an account with these goals and names, which is this cell and has been removed, has done this move, if this
+-- text stands for a name
 abbrev pub Moves : Predicate CellName → Move CellName → List (Place CellName) → List ℕ → Goal CellName → Qualified CellName → List (Goal CellName) → List Known → Held CellName → Held CellName → Tree CellName → Tree CellName → Draft → Draft → Type 0
 Moves p made places text goal x goals known old new t u before after =
-    (ms : List Numbered) (modules : List Module) (clause : ℕ) (m : Reading → model.Move) → ReadsMove made ms old known text →
-    ((f : Reading) → Knows ms f → MovesAs f old modules (aim f old x) clause p places text (Some made)) →
-    ((f : Reading) → Knows ms f → move_by modules (aim f old x) clause ≡ Some (m f)) →
+    (ms : List Numbered) (m : Reading → model.Move) → ReadsMove made ms old known text → ((f : Reading) → Knows ms f → IsMove f old (Some (m f)) p places text (Some made)) →
     Drafts ms (λ f. moved (goal_with (meaning f old) goal) (aim f old x) (m f)) old new goals (texts_of known) t u before after
 
 -- a goal that is this cell and has been removed has opened a child by the order that a structure is, or has raised an exception if

@@ -2,12 +2,13 @@
 -- as the tree of shoens has it.
 use Rattle.std.specs.Prelude.{◌≡◌, ℕ, ◌||◌, List, [], Option, None, Some, option_map}
 use Rattle.std.specs.List.{AllByRecursion}
+use Rattle.kl1_model.specs.declared.rules.Rules.{Rules}
 use Rattle.kl1_model.specs.Module.{Module}
 use Rattle.kl1_model.specs.State as model
-use Rattle.kl1_model.specs.State.{monitor, reduces}
+use Rattle.kl1_model.specs.State.{monitor, reduces, substitutes}
 use Rattle.kl1_model.specs.Control.{Control, awaits_message, tells, tells_other, ends, breaks_off, control_of}
 use Rattle.kl1_model.specs.code.Awaited.{awaited_by_control}
-use Rattle.kl1_model.specs.code.Waits.{term_clause, awaited_by_term}
+use Rattle.kl1_model.specs.code.Waits.{term_clause, awaited_by_term, substitute_clause, awaited_by_substitute}
 use Rattle.kl1_text.specs.declared.cell_name.CellName.{CellName}
 use Rattle.kl1_store.specs.declared.cell.Cell.{Cell}
 use Rattle.kl1_store.specs.Hooks.{Hook}
@@ -16,8 +17,8 @@ use Rattle.kl1_goals.specs.declared.goal.Goal.{Goal}
 use Rattle.kl1_goals.specs.Lists.{is_monitor}
 use Rattle.kl1_shoen_paths.specs.declared.shoen.Shoen.{Shoen}
 use Rattle.kl1_shoen.specs.Shoens.{shoen_in, is_enabled_at}
-use Rattle.kl1_codes_modules.specs.Numbered.{Numbered}
 use Rattle.kl1_codes_modules.specs.Finding.{contents}
+use Rattle.kl1_codes_modules.specs.Shelves.{Program}
 use Rattle.kl1_store_hooks.specs.Hanging.{HangsOnEach}
 use Rattle.kl1_user_effects.specs.Fitting.{Reading}
 use Rattle.kl1_user_effects.specs.Account.{Means, meaning, task_with}
@@ -53,24 +54,26 @@ awaited_by_monitor None = []
 awaited_by_monitor (Some c) = awaited_by_control c
 
 -- the clause by which a task could step, whether it may or not, with this at the front of its shoen's control stream
-abbrev pub task_clause : List Module → Option Control → model.Task → Option ℕ
-task_clause modules c monitor = monitor_clause c
-task_clause modules c (reduces t) = term_clause modules t
+abbrev pub task_clause : Rules → List Module → Option Control → model.Task → Option ℕ
+task_clause rules modules c monitor = monitor_clause c
+task_clause rules modules c (reduces t) = term_clause rules modules t
+task_clause rules modules c (substitutes t) = substitute_clause t
 
 -- the variables that a task waits for, with this at the front of its shoen's control stream
-abbrev pub awaited_by_task : List Module → Option Control → model.Task → List ℕ
-awaited_by_task modules c monitor = awaited_by_monitor c
-awaited_by_task modules c (reduces t) = awaited_by_term modules t
+abbrev pub awaited_by_task : Rules → List Module → Option Control → model.Task → List ℕ
+awaited_by_task rules modules c monitor = awaited_by_monitor c
+awaited_by_task rules modules c (reduces t) = awaited_by_term rules modules t
+awaited_by_task rules modules c (substitutes t) = awaited_by_substitute t
 
--- a goal stands as the clauses of the modules and the control streams of the shoens have it, and hangs on each variable that it
+-- a goal stands as the rules, the clauses of the modules and the control streams of the shoens have it, and hangs on each variable that it
 -- waits for, for a reading
-pub record IsSettled (f : Reading) (hooks : List Hook) (h : Held CellName) (modules : List Numbered) (shoens : List (Shoen CellName)) (g : Goal CellName) : Type 0 where
-  pub standing : g.standing ≡ task_clause (contents modules) (control_with (meaning f h) shoens g.shoen) (task_with (meaning f h) g.task)
-  pub hung : HangsOnEach hooks g.number (awaited_by_task (contents modules) (control_with (meaning f h) shoens g.shoen) (task_with (meaning f h) g.task))
+pub record IsSettled (f : Reading) (hooks : List Hook) (h : Held CellName) (program : Program) (shoens : List (Shoen CellName)) (g : Goal CellName) : Type 0 where
+  pub standing : g.standing ≡ task_clause program.rules (contents program.loaded) (control_with (meaning f h) shoens g.shoen) (task_with (meaning f h) g.task)
+  pub hung : HangsOnEach hooks g.number (awaited_by_task program.rules (contents program.loaded) (control_with (meaning f h) shoens g.shoen) (task_with (meaning f h) g.task))
 
 -- each goal does
-abbrev pub AreSettled : Reading → List Hook → Held CellName → List Numbered → List (Shoen CellName) → List (Goal CellName) → Type 0
-AreSettled f hooks h modules shoens goals = AllByRecursion (IsSettled f hooks h modules shoens) goals
+abbrev pub AreSettled : Reading → List Hook → Held CellName → Program → List (Shoen CellName) → List (Goal CellName) → Type 0
+AreSettled f hooks h program shoens goals = AllByRecursion (IsSettled f hooks h program shoens) goals
 
 -- a goal may step as the shoens and the charged work have it; a monitor always may
 abbrev pub IsEnabled : List (Shoen CellName) → List ℕ → Goal CellName → Type 0

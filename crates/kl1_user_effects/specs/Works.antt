@@ -1,5 +1,6 @@
 -- What is made of an account, one change after another, before all of it is put in place.
 use Rattle.std.specs.Prelude.{◌≡◌, ℕ, ◌<◌, List, length}
+use Rattle.kl1_model.specs.declared.rules.Rules.{Rules}
 use Rattle.kl1_model.specs.State.{State}
 use Rattle.kl1_text.specs.Reading.{Reads}
 use Rattle.kl1_text.specs.declared.cell_name.CellName.{CellName}
@@ -11,9 +12,10 @@ use Rattle.kl1_user_effects.specs.Fitting.{Reading, built}
 use Rattle.kl1_user_effects.specs.Account.{with_kept}
 use Rattle.kl1_user_effects.specs.Kept.{AreGoalsIn, AreOwned, AreShoensIn}
 
--- what is made of an account: its goals and its shoens; the charged work; the texts of its names; the last number of a goal; and the
+-- what is made of an account: its rules; its goals and its shoens; the charged work; the texts of its names; the last number of a goal; and the
 -- variables, structures and reports that are counted
 pub record Made : Type 0 where
+  pub rules : Rules
   pub goals : List (Goal CellName)
   pub shoens : List (Shoen CellName)
   pub work : List ℕ
@@ -27,6 +29,7 @@ pub record Made : Type 0 where
 abbrev pub worked : Reading → State → Held CellName → Made → State
 worked f s h w =
     with_kept f (record s {
+      rules = w.rules;
       work = w.work;
       names = w.names;
       last_goal = w.last_goal;

@@ -1,7 +1,7 @@
 // Shoens that open, and the children that goals open.
 
 ghost use Rattle.std.specs.Prelude.{◌≡◌, ◌<◌, ◌≤◌, ◌+◌, ◌++◌, [], suc, length, ◌&&◌, nat_lt, OnOk};
-ghost use Rattle.kl1_model.specs.Limits.{most_shoens, most_shoen_depth};
+ghost use Rattle.kl1_model.specs.declared.limits.TheConstants.{MONITOR_PRIORITY, MOST_SHOENS, MOST_SHOEN_DEPTH};
 ghost use Rattle.kl1_model.specs.Opening.{open_shoen, clipped};
 ghost use Rattle.kl1_store.specs.Held.{IsIn, arguments_of};
 ghost use Rattle.kl1_store.specs.Sound.{Grown};
@@ -96,7 +96,7 @@ pub fn open_shoen(
 
 /// Whether a shoen may open a child, within the limits on shoens and depth.
 fn may_open(shoens: &ShoenTree<CellName>, parent: u64) -> bool
-    ensures { result ≡ (nat_lt (length shoens.now.shoens) most_shoens && nat_lt (length (path_in shoens.now.shoens parent)) most_shoen_depth) }
+    ensures { result ≡ (nat_lt (length shoens.now.shoens) MOST_SHOENS && nat_lt (length (path_in shoens.now.shoens parent)) MOST_SHOEN_DEPTH) }
 {
     shoens.len() < MOST_SHOENS && shoens.depth(parent) < MOST_SHOEN_DEPTH as u64
 }
@@ -125,6 +125,7 @@ pub fn open_child(
     requires owned { IsOwned (length shoens.old.shoens) goal }
     requires begun { HasBegun draft.old }
     requires empty { draft.old.added.items ≡ [] }
+    requires level { goal.priority ≤ MONITOR_PRIORITY }
     ensures ok { OnOk result (OpensChild structure goal cell store.old.held store.new.held shoens.old shoens.new draft.old draft.new) }
     ensures comes { OnOk result (Comes store.new.held (length shoens.old.shoens) (length shoens.new.shoens) draft.old draft.new) }
     ensures met { OnOk result (AreMet draft.new.added.items) }
@@ -137,7 +138,7 @@ pub fn open_child(
     ensures hooks { store.new.hooks ≡ store.old.hooks }
 {
     if !may_open(shoens, goal.shoen) {
-        return raise(store, shoens, draft, goal.shoen, BuiltIn::Exhaustion, cell);
+        return raise(store, shoens, draft, goal, BuiltIn::Exhaustion, cell);
     }
     let number = last_of(shoens.len(), 1)?;
     let Some(parent) = shoens.lend(goal.shoen).copied() else {

@@ -1,7 +1,7 @@
 // Goals that commit to clauses.
 
 ghost use Rattle.std.specs.Prelude.{◌≡◌, ◌+◌, ◌<◌, ◌≤◌, ◌^◌, [], ◌++◌, ◌&&◌, nat_le, not, List, ℕ, length, count_by, Some, option_map, unwrap_or, IfOk, OnOk};
-ghost use Rattle.kl1_model.specs.Limits.{monitor_priority, most_goals, most_variables, most_nodes};
+ghost use Rattle.kl1_model.specs.declared.limits.TheConstants.{MONITOR_PRIORITY, MOST_GOALS, MOST_VARIABLES, MOST_NODES};
 ghost use Rattle.kl1_store.specs.Held.{IsIn};
 ghost use Rattle.kl1_store.specs.Sound.{Grown};
 ghost use Rattle.kl1_clause.specs.Predicates.{AreSome};
@@ -39,7 +39,7 @@ fn keeps(most: u64, have: u64, more: u64) -> bool
 
 /// Whether what `needs` counts keeps to the limits on goals, variables and structures, if `alive` goals are there.
 fn has_room(draft: &Draft, alive: u64, needs: Needs) -> bool
-    ensures { result ≡ (nat_le (alive + needs.goals) most_goals && nat_le (draft.now.variables + needs.variables) most_variables && nat_le (draft.now.nodes + needs.nodes) most_nodes) }
+    ensures { result ≡ (nat_le (alive + needs.goals) MOST_GOALS && nat_le (draft.now.variables + needs.variables) MOST_VARIABLES && nat_le (draft.now.nodes + needs.nodes) MOST_NODES) }
 {
     keeps(MOST_GOALS, alive, needs.goals)
         && keeps(MOST_VARIABLES, draft.variables, needs.variables)
@@ -124,7 +124,7 @@ pub fn commit(
     requires owned { IsOwned (length shoens.old.shoens) goal }
     requires begun { HasBegun draft.old }
     requires empty { draft.old.added.items ≡ [] }
-    requires level { goal.priority ≤ monitor_priority }
+    requires level { goal.priority ≤ MONITOR_PRIORITY }
     requires alive { alive ≡ count_by (λ g. not (is_monitor g)) (goals_left (goals.now.goals ++ draft.old.added.items) draft.old) }
     ensures ok { OnOk result (Commits predicate.entry place (taken_places trial.old) goal cell goals.now.goals store.old.held store.new.held shoens.old shoens.new draft.old draft.new) }
     ensures comes { OnOk result (Comes store.new.held (length shoens.old.shoens) (length shoens.new.shoens) draft.old draft.new) }
@@ -139,7 +139,7 @@ pub fn commit(
 {
     let needs = needs_of(predicate, place);
     if !has_room(draft, alive, needs) {
-        return raise(store, shoens, draft, goal.shoen, BuiltIn::Exhaustion, cell);
+        return raise(store, shoens, draft, goal, BuiltIn::Exhaustion, cell);
     }
     // Only for the proof: the shoens are numbered in order.
     let _numbered = shoens.len();

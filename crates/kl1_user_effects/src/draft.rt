@@ -2,7 +2,7 @@
 
 ghost use Rattle.std.specs.Prelude.{◌≡◌, []};
 
-use kl1_goals::Goal;
+use kl1_goals::{Goal, Rules};
 use kl1_store::{Point, Qualified};
 use kl1_text::{AtomText, CellName};
 use std::alloc::Global;
@@ -26,6 +26,8 @@ pub struct Spelled {
 /// changed at once, and go back if memory is refused; the table of goals is changed at the end alone.
 #[derive(Drop)]
 pub struct Draft {
+    /// The rules that the account keeps to.
+    pub rules: Rules,
     /// The number of the goal that goes, or 0.
     pub removed: u64,
     /// Which shoens an abort ends, the first of them shoen 1: their goals and monitors go. Empty if nothing is aborted.
@@ -36,7 +38,7 @@ pub struct Draft {
     pub added: Vec<Goal<CellName>>,
     /// The last number of a goal.
     pub last_goal: u64,
-    /// How many variables the account's starts, messages and commits had.
+    /// How many variables the account's starts, messages, answers and commits had.
     pub variables: u64,
     /// How many structures these had.
     pub nodes: u64,
@@ -62,6 +64,7 @@ impl Draft {
     /// A draft that leaves all as it is.
     pub fn new(alloc: Global) -> Self {
         Draft {
+            rules: Rules::One,
             removed: 0,
             aborted: Vec::new(alloc),
             ended: Vec::new(alloc),

@@ -1,7 +1,7 @@
 // Moves of goals.
 
 ghost use Rattle.std.specs.Prelude.{◌≡◌, ◌<◌, ◌≤◌, ◌+◌, [], length, not, ◌++◌, Some, None, count_by, OnOk};
-ghost use Rattle.kl1_model.specs.Limits.{monitor_priority};
+ghost use Rattle.kl1_model.specs.declared.limits.TheConstants.{MONITOR_PRIORITY};
 ghost use Rattle.kl1_store.specs.Held.{IsIn};
 ghost use Rattle.kl1_store.specs.Sound.{Grown};
 ghost use Rattle.kl1_clause.specs.Predicates.{AreSome};
@@ -18,9 +18,9 @@ use crate::committing::commit;
 use crate::draft::Draft;
 use crate::names::AccountNames;
 use crate::naming::name_term;
-use crate::reporting::{raise, unify};
+use crate::reporting::{raise, replace_goal, unify};
 use kl1_clause::Predicate;
-use kl1_goals::{Goal, GoalTable};
+use kl1_goals::{Goal, GoalTable, Task};
 use kl1_goals_moves::{Move, Trial, order_at};
 use kl1_shoen::ShoenTree;
 use kl1_store::{Qualified, Store};
@@ -28,7 +28,8 @@ use kl1_text::{AtomText, CellName};
 use std::alloc::AllocError;
 
 /// Does a move of a goal that a draft removes, which is this cell; `alive` counts the goals without it. If the move would pass a
-/// limit, the goal raises an exception in its place. If it uses a name that is new to the account, no variable becomes it. If memory is refused, the store may have grown, and the draft is of no use.
+/// limit, the goal raises an exception in its place. If it uses a name that is new to the account, no variable becomes it. If
+/// memory is refused, the store may have grown, and the draft is of no use.
 pub fn do_move(
     store: &mut Store<CellName>,
     goals: &GoalTable<CellName>,
@@ -51,7 +52,7 @@ pub fn do_move(
     requires begun { HasBegun draft.old }
     requires none { draft.old.name ≡ None }
     requires empty { draft.old.added.items ≡ [] }
-    requires level { goal.priority ≤ monitor_priority }
+    requires level { goal.priority ≤ MONITOR_PRIORITY }
     requires alive { alive ≡ count_by (λ g. not (is_monitor g)) (goals_left (goals.now.goals ++ draft.old.added.items) draft.old) }
     ensures ok { OnOk result (Moves predicate.entry made (taken_places trial.old) trial.old.text goal cell goals.now.goals names.now.names store.old.held store.new.held shoens.old shoens.new draft.old draft.new) }
     ensures name { OnOk result (draft.new.name ≡ name_for made names.now.names trial.old.text) }
@@ -72,11 +73,11 @@ pub fn do_move(
         Move::Commits(place) => commit(
             store, goals, shoens, draft, alive, predicate, place, trial, goal, cell,
         ),
-        Move::Raises(kind) => raise(store, shoens, draft, goal.shoen, kind, cell),
-        Move::Unifies(left, right) => { unify(store, shoens, draft, goal.shoen, cell, left, right) }
+        Move::Raises(kind) => raise(store, shoens, draft, goal, kind, cell),
+        Move::Unifies(left, right) => unify(store, shoens, draft, goal, cell, left, right),
         Move::Names(target) => {
             let text = AtomText::of(trial.text.as_slice());
-            name_term(store, shoens, draft, names, goal.shoen, text, target, cell)
+            name_term(store, shoens, draft, names, goal, text, target, cell)
         }
         Move::Opens(structure) => {
             // Only for the proof: which order the structure is.
@@ -84,5 +85,6 @@ pub fn do_move(
             open_child(store, shoens, draft, structure, goal, cell)
         }
         Move::Goes => Ok(()),
+        Move::GivesWay => replace_goal(draft, goal, Task::Reduces(cell)),
     }
 }

@@ -1,7 +1,7 @@
 // The names that an account uses, with their numbers.
 
 ghost use Rattle.std.specs.Prelude.{◌≡◌, ℕ, ◌+◌, ◌≤◌, ◌<◌, List, [], map, length, nat_lt, option_map, OnOk, IfOk, vec_len, vec_capacity};
-ghost use Rattle.kl1_model.specs.Limits.{most_names};
+ghost use Rattle.kl1_model.specs.declared.limits.TheConstants.{MOST_NAMES};
 ghost use Rattle.kl1_text.specs.declared.cell_name.CellName.{CellName};
 ghost use Rattle.kl1_atoms.specs.Names.{number_by, added, AreNames};
 ghost use Rattle.kl1_clause.specs.NameList.{with_texts, IsNameList};
@@ -100,7 +100,7 @@ impl AccountNames {
     /// Whether there would be too many with these.
     pub fn are_too_many(&self, texts: &[AtomText]) -> bool
         requires { IsNameList texts.now }
-        ensures { result ≡ nat_lt most_names (length (with_texts (texts_of self.now.names) texts.now)) }
+        ensures { result ≡ nat_lt MOST_NAMES (length (with_texts (texts_of self.now.names) texts.now)) }
     {
         match self.len().checked_add(self.count_new(texts)) {
             None => true,
@@ -167,7 +167,7 @@ pub fn publish<A: AtomSource>(
 )
     requires of { A.is_of names.old seat.old }
     requires knows { A.knows seat.old ≡ known.old.names }
-    requires few { length (with_texts (texts_of known.old.names) texts.now) ≤ most_names }
+    requires few { length (with_texts (texts_of known.old.names) texts.now) ≤ MOST_NAMES }
     requires list { IsNameList texts.now }
     requires small { AreSmall known.old.names }
     requires room { length texts.now ≤ known.old.room }

@@ -31,6 +31,7 @@ event_of (event.Read q) = model.read (query_of q)
 event_of event.Login = model.login
 event_of event.Logout = model.logout
 event_of event.Reset = model.reset
+event_of (event.Answer n report goal) = model.answer n.0 report goal
 
 -- whether an event closes a session
 abbrev pub is_logout : Event → Bool
@@ -42,6 +43,7 @@ is_logout (event.Read q) = false
 is_logout event.Login = false
 is_logout event.Logout = true
 is_logout event.Reset = false
+is_logout (event.Answer n report goal) = false
 
 -- the refusal that this one is
 abbrev pub refusal_of : Refusal → model.Refusal
@@ -55,6 +57,7 @@ refusal_of refusal.Names = model.too_many_names
 refusal_of refusal.Limit = model.limit_passed
 refusal_of refusal.Journal = model.journal_full
 refusal_of refusal.Sessions = model.sessions_refused
+refusal_of refusal.Answer = model.answer_refused
 
 -- the reply that this one is
 abbrev pub reply_of : Reply → model.Reply

@@ -52,6 +52,13 @@ pub enum Event {
     Login,
     /// One session fewer is open.
     Logout,
-    /// The account is made fresh again; its names and its sessions stay.
+    /// The account is made fresh again; its names, its sessions and its rules stay.
     Reset,
+    /// A goal, its variables numbered from 1 by first occurrence, is given to the substitute of which a report of a shoen tells that the
+    /// console started; the first report is 1.
+    Answer {
+        shoen: ShoenNo,
+        report: u64,
+        goal: Term,
+    },
 }

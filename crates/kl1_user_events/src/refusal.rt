@@ -23,4 +23,6 @@ pub enum Refusal {
     Journal,
     /// A session more than may be open, or one fewer than none.
     Sessions,
+    /// There is no such report, or no substitute waits by it.
+    Answer,
 }

@@ -13,7 +13,7 @@ pub enum Reply {
     Loaded(AtomText),
     /// A shoen of this number is open.
     Opened(ShoenNo),
-    /// A message is sent.
+    /// A message or an answer is sent.
     Sent,
     /// A reduction is done.
     Reduced,

@@ -2,7 +2,7 @@
 use Rattle.std.proofs.Common.{◌≡◌, ℕ, ◌<◌, ◌-◌, Bool, true, false, if◌then◌else◌, List, [], ◌∷◌, length, refl, sym, ap, ◌∙◌, subst, arith, ℤ}
 use Rattle.std.specs.Prelude.{Option, None, Some, option_map, is_some, nat_le, IsTrue, bytes_eq}
 use Rattle.std.proofs.lemmas.Slice.Eq.{bytes_eq-Decides}
-use Rattle.kl1_model.specs.Limits.{most_names}
+use Rattle.kl1_model.specs.declared.limits.TheConstants.{MOST_NAMES}
 use Rattle.kl1_model.specs.Text.{is_text}
 use Rattle.kl1_model.specs.Term.{Term, Terms, variable, integer, atom, structure, replace}
 use Rattle.kl1_model.specs.Unify.{Equation, walk, mgu_within, mgu, after, goes_on, fails, equations_size}
@@ -11,7 +11,6 @@ use Rattle.kl1_model.specs.Tree.{charge}
 use Rattle.kl1_model.specs.Ending.{after_reduction}
 use Rattle.kl1_model.specs.Reduction as model
 use Rattle.kl1_model.specs.Reduction.{moved, equation, names, or_exhaustion, named_by, unified}
-use Rattle.kl1_model.specs.code.Waits.{move_by}
 use Rattle.kl1_text.specs.Reading.{Reads}
 use Rattle.kl1_text.specs.declared.cell_name.CellName.{CellName}
 use Rattle.kl1_atoms.specs.declared.known.Known.{Known}
@@ -113,15 +112,16 @@ reads_move (move.Unifies a b) ms h known text k s r = tt
 reads_move (move.Names a) ms h known text k s r = λ f knows. reads_known f h known text a k (number_by known text) refl knows.reads s (r f knows)
 reads_move (move.Opens s) ms h known text k u r = tt
 reads_move move.Goes ms h known text k s r = tt
+reads_move move.GivesWay ms h known text k s r = tt
 
 -- a move by which no variable becomes a name does what it does without names that are new
 pub does_acts : (p : Predicate CellName) (made : Move CellName) (places : List (Place CellName)) (text : List ℕ) (goal : Goal CellName) (x : Qualified CellName) (goals : List (Goal CellName)) (known : List Known) (h k : Held CellName) (t u : Tree CellName) (d e : Draft) →
     SpellsNone made h known text → e.spelled ≡ None → Acts p made places text goal x goals known h k t u d e → Does p made places text goal x goals known h k t u d e
-does_acts p made places text goal x goals known h k t u d e spells unspelled acts ms modules clause m n last reads respells as_found found =
+does_acts p made places text goal x goals known h k t u d e spells unspelled acts ms m n last reads respells as_found =
     let R : Option Spelled → Type 0 = λ o. Respells o n k last in
     let same : last ≡ k = subst R unspelled respells in
     let D : Held CellName → Type 0 = λ l. Drafts ms (λ f s. after_reduction goal.shoen (moved (goal_with (meaning f h) goal) (aim f h x) (m f) (charge goal.shoen s))) h l goals (texts_of known) t u d e in
-    subst D (sym same) (acts ms modules clause m (reads_move made ms h known text n spells reads) as_found found)
+    subst D (sym same) (acts ms m (reads_move made ms h known text n spells reads) as_found)
 
 -- ---- a variable that becomes a name
 
@@ -133,12 +133,12 @@ unfolding mgu_within walk
 variable_solved v text = refl
 
 -- a text is used as a name, which a variable becomes
-becomes : (goal : Goal CellName) (t : Means) (x b : Term) (v : ℕ) (text : List ℕ) (s : State) → nat_le (length (with_name s.names text)) most_names ≡ true → b ≡ variable v →
+becomes : (goal : Goal CellName) (t : Means) (x b : Term) (v : ℕ) (text : List ℕ) (s : State) → nat_le (length (with_name s.names text)) MOST_NAMES ≡ true → b ≡ variable v →
     moved (goal_with t goal) x (names text b) s ≡ replace_in_state v (atom text) (with_text text s)
 becomes goal t x b v text s keeps is =
-    ap (λ c. or_exhaustion c goal.shoen x (named_by goal.shoen x text b s) s) keeps
-    ∙ ap (λ (r : Term). unified goal.shoen x (mgu (equation r (atom text))) (with_text text s)) is
-    ∙ ap (λ o. unified goal.shoen x o (with_text text s)) (variable_solved v text)
+    ap (λ c. or_exhaustion c (goal_with t goal) x (named_by (goal_with t goal) x text b s) s) keeps
+    ∙ ap (λ (r : Term). unified (goal_with t goal) x (mgu (equation r (atom text))) (with_text text s)) is
+    ∙ ap (λ o. unified (goal_with t goal) x o (with_text text s)) (variable_solved v text)
 
 -- if a variable is bound to a number that is read as a text, it is replaced by this text
 bound_state : (f : Reading) (s : State) (h : Held CellName) (w : Made) (v : ℕ) (n : CellName) (text : List ℕ) → f n ≡ text → IsMadeIn h w → replace_in_state v (atom text) (worked f s h w) ≡ worked f s (with_binding h v (Atom n)) w
@@ -155,7 +155,7 @@ reads_number f h known text a n new keeps r =
     (given keeps).0
 
 -- the step of a name that is spelled, for a reading
-spelled_state : (f : Reading) (s : State) (h before : Held CellName) (w z : Made) (goal : Goal CellName) (x a : Term) (m : model.Move) (v : ℕ) (text : List ℕ) (n : CellName) → m ≡ names text a → a ≡ variable v → nat_le (length (with_name w.names text)) most_names ≡ true → v < h.variables → f n ≡ text → IsMadeIn before z →
+spelled_state : (f : Reading) (s : State) (h before : Held CellName) (w z : Made) (goal : Goal CellName) (x a : Term) (m : model.Move) (v : ℕ) (text : List ℕ) (n : CellName) → m ≡ names text a → a ≡ variable v → nat_le (length (with_name w.names text)) MOST_NAMES ≡ true → v < h.variables → f n ≡ text → IsMadeIn before z →
     settle_charged_late v goal.shoen (with_text text (charge goal.shoen (worked f s h w))) ≡ worked f s before z →
     after_reduction goal.shoen (moved (goal_with (meaning f h) goal) x m (charge goal.shoen (worked f s h w))) ≡ worked f s (with_binding before v (Atom n)) z
 spelled_state f s h before w z goal x a m v text n move_is is keeps within reads i late =
@@ -169,7 +169,7 @@ spelled_state f s h before w z goal x a m v text n move_is is keeps within reads
 -- a name that is spelled is what the move does
 does_names : (p : Predicate CellName) (places : List (Place CellName)) (text : List ℕ) (a : Cell CellName) (v : ℕ) (goal : Goal CellName) (x : Qualified CellName) (goals : List (Goal CellName)) (known : List Known) (h k : Held CellName) (t u : Tree CellName) (d e : Draft) →
     IsSpelling h known text a v → d.name ≡ None → Spells goal.shoen text v goals known h k t u d e → Does p (move.Names a) places text goal x goals known h k t u d e
-does_names p places text a v goal x goals known h k t u d e by unnamed s ms modules clause m n last reads respells as_found found i =
+does_names p places text a v goal x goals known h k t u d e by unnamed s ms m n last reads respells as_found i =
     let w = made_of goals (texts_of known) t d in
     let z = made_of goals (texts_of known) u e in
     let bound = with_binding s.held v (Atom n) in
@@ -183,8 +183,8 @@ does_names p places text a v goal x goals known h k t u d e by unnamed s ms modu
       inside = grown_made s.held bound z (Grown-binding s.held v (Atom n)) late.inside;
       states = λ f knows state.
           spelled_state f state h s.held w z goal (aim f h x) (meaning f h a) (m f) v text n
-          (found_is (m f) (names text (meaning f h a)) (move_by modules (aim f h x) clause) (found f knows) (as_found f knows)) (by.means f)
-          (ap (λ (ns : List (List ℕ)). nat_le (length (with_name ns text)) most_names) names_are ∙ by.keeps) by.within
+          (found_is (m f) (names text (meaning f h a)) (Some (m f)) refl (as_found f knows)) (by.means f)
+          (ap (λ (ns : List (List ℕ)). nat_le (length (with_name ns text)) MOST_NAMES) names_are ∙ by.keeps) by.within
           (reads_number f h known text a n by.new by.keeps (reads f knows)) late.inside (late.states f knows state);
     } in
     subst T (sym last_is) turns
@@ -198,6 +198,7 @@ does_spelled p (move.Unifies a b) places text v goal x goals known h k t u d e b
 does_spelled p (move.Names a) places text v goal x goals known h k t u d e by unnamed s = does_names p places text a v goal x goals known h k t u d e by unnamed s
 does_spelled p (move.Opens o) places text v goal x goals known h k t u d e by unnamed s = absurd by
 does_spelled p move.Goes places text v goal x goals known h k t u d e by unnamed s = absurd by
+does_spelled p move.GivesWay places text v goal x goals known h k t u d e by unnamed s = absurd by
 
 -- a text that a variable becomes is new to the account
 pub spelled_new : (made : Move CellName) (h : Held CellName) (known : List Known) (text : List ℕ) (v : ℕ) → SpellsBy made h known text v → number_by known text ≡ None
@@ -207,6 +208,7 @@ spelled_new (move.Unifies a b) h known text v by = absurd by
 spelled_new (move.Names a) h known text v by = by.new
 spelled_new (move.Opens s) h known text v by = absurd by
 spelled_new move.Goes h known text v by = absurd by
+spelled_new move.GivesWay h known text v by = absurd by
 
 -- a move by which a variable becomes a name has a text
 pub spelled_text : (made : Move CellName) (h : Held CellName) (known : List Known) (text : List ℕ) (v : ℕ) → SpellsBy made h known text v → IsTrue (is_text text)
@@ -216,6 +218,7 @@ spelled_text (move.Unifies a b) h known text v by = absurd by
 spelled_text (move.Names a) h known text v by = by.is_text
 spelled_text (move.Opens s) h known text v by = absurd by
 spelled_text move.Goes h known text v by = absurd by
+spelled_text move.GivesWay h known text v by = absurd by
 
 -- the account may use it
 pub spelled_keeps : (made : Move CellName) (h : Held CellName) (known : List Known) (text : List ℕ) (v : ℕ) → SpellsBy made h known text v → keeps_names known text ≡ true
@@ -225,6 +228,7 @@ spelled_keeps (move.Unifies a b) h known text v by = absurd by
 spelled_keeps (move.Names a) h known text v by = by.keeps
 spelled_keeps (move.Opens s) h known text v by = absurd by
 spelled_keeps move.Goes h known text v by = absurd by
+spelled_keeps move.GivesWay h known text v by = absurd by
 
 -- if there is room for one name there is room for what is drafted
 pub room_for : (room : ℕ) (name : Option (List ℕ)) → 0 < room → HasRoomFor room name

@@ -1,7 +1,7 @@
 -- A drafted name is published.
 use Rattle.std.proofs.Common.{◌≡◌, ℕ, zero, suc, ◌≤◌, ◌<◌, false, List, [], ◌∷◌, length, map, get_or, Option, Some, None, refl, sym, ap, ◌∙◌, subst, arith}
 use Rattle.std.proofs.lemmas.Bool.{leb-true}
-use Rattle.kl1_model.specs.Limits.{most_names}
+use Rattle.kl1_model.specs.declared.limits.TheConstants.{MOST_NAMES}
 use Rattle.kl1_model.specs.State.{with_name}
 use Rattle.kl1_text.specs.declared.cell_name.CellName.{CellName}
 use Rattle.kl1_atoms.specs.declared.known.Known.{Known}
@@ -39,11 +39,11 @@ unfolding with_texts
 one_put names t = refl
 
 -- with a name that is new to an account, and which it may use, there are not too many
-pub few_with_one : (ks : List Known) (name : Option (List ℕ)) (t : List ℕ) → name ≡ Some t → IsNewName ks name → length (with_texts (texts_of ks) (t ∷ [])) ≤ most_names
+pub few_with_one : (ks : List Known) (name : Option (List ℕ)) (t : List ℕ) → name ≡ Some t → IsNewName ks name → length (with_texts (texts_of ks) (t ∷ [])) ≤ MOST_NAMES
 few_with_one ks name t is new =
     let n : IsNewName ks (Some t) = subst (λ (o : Option (List ℕ)). IsNewName ks o) is new in
-    let few : length (with_name (texts_of ks) t) ≤ most_names = leb-true (length (with_name (texts_of ks) t)) most_names n.1.1 in
-    subst (λ (l : List (List ℕ)). length l ≤ most_names) (sym (one_put (texts_of ks) t)) few
+    let few : length (with_name (texts_of ks) t) ≤ MOST_NAMES = leb-true (length (with_name (texts_of ks) t)) MOST_NAMES n.1.1 in
+    subst (λ (l : List (List ℕ)). length l ≤ MOST_NAMES) (sym (one_put (texts_of ks) t)) few
 
 first_of_row : (f : Reading) (row : List CellName) (t : List ℕ) (c : CellName) → map f row ≡ t ∷ [] → f (get_or row 0 c) ≡ t
 first_of_row f [] t c e = absurd (cc)

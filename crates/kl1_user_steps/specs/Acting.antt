@@ -1,11 +1,9 @@
 -- What goals do in one step, with what comes after it.
 use Rattle.std.specs.Prelude.{◌≡◌, ℕ, List, Some}
-use Rattle.kl1_model.specs.Module.{Module}
 use Rattle.kl1_model.specs.Tree.{charge}
 use Rattle.kl1_model.specs.Ending.{settle, after_reduction}
 use Rattle.kl1_model.specs.Reduction as model
 use Rattle.kl1_model.specs.Reduction.{moved, heard}
-use Rattle.kl1_model.specs.code.Waits.{move_by}
 use Rattle.kl1_text.specs.declared.cell_name.CellName.{CellName}
 use Rattle.kl1_store.specs.declared.qualified.Qualified.{Qualified}
 use Rattle.kl1_store.specs.Held.{Held}
@@ -14,7 +12,7 @@ use Rattle.kl1_stream.specs.Controls.{control_as}
 use Rattle.kl1_clause.specs.declared.predicate.Predicate.{Predicate}
 use Rattle.kl1_match.specs.declared.place.Place.{Place}
 use Rattle.kl1_goals_moves.specs.declared.moves.Move.{Move}
-use Rattle.kl1_goals_moves.specs.Moves.{MovesAs}
+use Rattle.kl1_goals_moves.specs.Moves.{IsMove}
 use Rattle.kl1_goals.specs.declared.goal.Goal.{Goal}
 use Rattle.kl1_shoen.specs.Shoens.{Tree}
 use Rattle.kl1_codes_modules.specs.Numbered.{Numbered}
@@ -26,13 +24,11 @@ use Rattle.kl1_user_effects.specs.Moving.{ReadsMove}
 use Rattle.kl1_user_effects.specs.Drafts.{Drafts}
 use Rattle.kl1_user_effects.specs.Works.{Knows}
 
--- a goal of an account with these goals and names, which is this cell and has been removed, has made this move by some
--- clause, if this text stands for a name: its shoen was charged before, and reports of exhaustion and terminations have come after
+-- a goal of an account with these goals and names, which is this cell and has been removed, has made this move, if
+-- this text stands for a name: its shoen was charged before, and reports of exhaustion and terminations have come after
 abbrev pub Acts : Predicate CellName → Move CellName → List (Place CellName) → List ℕ → Goal CellName → Qualified CellName → List (Goal CellName) → List Known → Held CellName → Held CellName → Tree CellName → Tree CellName → Draft → Draft → Type 0
 Acts p made places text goal x goals known old new t u before after =
-    (ms : List Numbered) (modules : List Module) (clause : ℕ) (m : Reading → model.Move) → ReadsMove made ms old known text →
-    ((f : Reading) → Knows ms f → MovesAs f old modules (aim f old x) clause p places text (Some made)) →
-    ((f : Reading) → Knows ms f → move_by modules (aim f old x) clause ≡ Some (m f)) →
+    (ms : List Numbered) (m : Reading → model.Move) → ReadsMove made ms old known text → ((f : Reading) → Knows ms f → IsMove f old (Some (m f)) p places text (Some made)) →
     Drafts ms (λ f s. after_reduction goal.shoen (moved (goal_with (meaning f old) goal) (aim f old x) (m f) (charge goal.shoen s))) old new goals (texts_of known) t u before after
 
 -- the monitor of a shoen of an account with these goals and names has read this, and terminations have come after

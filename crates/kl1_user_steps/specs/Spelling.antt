@@ -3,13 +3,11 @@ use Rattle.std.specs.Prelude.{◌≡◌, ℕ, ◌<◌, true, false, List, Option
 use Rattle.kl1_model.specs.Text.{is_text}
 use Rattle.kl1_model.specs.Term.{atom, variable}
 use Rattle.kl1_model.specs.Unify.{mgu}
-use Rattle.kl1_model.specs.Module.{Module}
 use Rattle.kl1_model.specs.State.{State, with_name}
 use Rattle.kl1_model.specs.Tree.{charge}
 use Rattle.kl1_model.specs.Ending.{after_reduction}
 use Rattle.kl1_model.specs.Reduction as model
 use Rattle.kl1_model.specs.Reduction.{moved, equation}
-use Rattle.kl1_model.specs.code.Waits.{move_by}
 use Rattle.kl1_text.specs.Reading.{Reads}
 use Rattle.kl1_text.specs.declared.cell_name.CellName.{CellName}
 use Rattle.kl1_atoms.specs.declared.known.Known.{Known}
@@ -25,7 +23,7 @@ use Rattle.kl1_clause.specs.declared.predicate.Predicate.{Predicate}
 use Rattle.kl1_match.specs.declared.place.Place.{Place}
 use Rattle.kl1_goals_moves.specs.declared.moves.Move.{Move}
 use Rattle.kl1_goals_moves.specs.declared.moves.Move.TheVariants as move
-use Rattle.kl1_goals_moves.specs.Moves.{MovesAs}
+use Rattle.kl1_goals_moves.specs.Moves.{IsMove}
 use Rattle.kl1_goals.specs.declared.goal.Goal.{Goal}
 use Rattle.kl1_shoen.specs.Shoens.{Tree}
 use Rattle.kl1_codes_modules.specs.Numbered.{Numbered}
@@ -80,6 +78,7 @@ NamesIn (move.Unifies a b) h text = Unit {0}
 NamesIn (move.Names a) h text = IsTrue (is_text text) × IsIn h a
 NamesIn (move.Opens s) h text = Unit {0}
 NamesIn move.Goes h text = Unit {0}
+NamesIn move.GivesWay h text = Unit {0}
 
 -- by a move a variable becomes a name that is new
 abbrev pub SpellsBy : Move CellName → Held CellName → List Known → List ℕ → ℕ → Type 0
@@ -89,6 +88,7 @@ SpellsBy (move.Unifies a b) h known text v = ⊥
 SpellsBy (move.Names a) h known text v = IsSpelling h known text a v
 SpellsBy (move.Opens s) h known text v = ⊥
 SpellsBy move.Goes h known text v = ⊥
+SpellsBy move.GivesWay h known text v = ⊥
 
 -- by a move none does
 abbrev pub SpellsNone : Move CellName → Held CellName → List Known → List ℕ → Type 0
@@ -98,6 +98,7 @@ SpellsNone (move.Unifies a b) h known text = Unit {0}
 SpellsNone (move.Names a) h known text = IsNoSpelling h known text a
 SpellsNone (move.Opens s) h known text = Unit {0}
 SpellsNone move.Goes h known text = Unit {0}
+SpellsNone move.GivesWay h known text = Unit {0}
 
 -- a state that uses a text as a name
 abbrev pub with_text : List ℕ → State → State
@@ -170,13 +171,12 @@ ReadsAll (move.Unifies a b) ms h known text k = Unit {0}
 ReadsAll (move.Names a) ms h known text k = (f : Reading) → Knows ms f → ReadsText f h known text a k (number_by known text)
 ReadsAll (move.Opens s) ms h known text k = Unit {0}
 ReadsAll move.Goes ms h known text k = Unit {0}
+ReadsAll move.GivesWay ms h known text k = Unit {0}
 
 -- a goal of an account with these goals and names, which is this cell and has been removed, has made this move by some
 -- clause, if this text stands for a name: its shoen was charged before, and reports of exhaustion and terminations have come after;
 -- a name that is new gets a number when all is done
 abbrev pub Does : Predicate CellName → Move CellName → List (Place CellName) → List ℕ → Goal CellName → Qualified CellName → List (Goal CellName) → List Known → Held CellName → Held CellName → Tree CellName → Tree CellName → Draft → Draft → Type 0
 Does p made places text goal x goals known old new t u before after =
-    (ms : List Numbered) (modules : List Module) (clause : ℕ) (m : Reading → model.Move) (k : CellName) (last : Held CellName) → ReadsAll made ms old known text k → Respells after.spelled k new last →
-    ((f : Reading) → Knows ms f → MovesAs f old modules (aim f old x) clause p places text (Some made)) →
-    ((f : Reading) → Knows ms f → move_by modules (aim f old x) clause ≡ Some (m f)) →
+    (ms : List Numbered) (m : Reading → model.Move) (k : CellName) (last : Held CellName) → ReadsAll made ms old known text k → Respells after.spelled k new last → ((f : Reading) → Knows ms f → IsMove f old (Some (m f)) p places text (Some made)) →
     Drafts ms (λ f s. after_reduction goal.shoen (moved (goal_with (meaning f old) goal) (aim f old x) (m f) (charge goal.shoen s))) old last goals (texts_of known) t u before after

@@ -1,7 +1,7 @@
 // What goals do in one step, with what comes after it.
 
 ghost use Rattle.std.specs.Prelude.{◌≡◌, ◌+◌, ◌<◌, ◌≤◌, ◌^◌, [], List, ℕ, length, not, ◌++◌, Some, None, count_by, OnOk};
-ghost use Rattle.kl1_model.specs.Limits.{monitor_priority};
+ghost use Rattle.kl1_model.specs.declared.limits.TheConstants.{MONITOR_PRIORITY};
 ghost use Rattle.kl1_store.specs.Held.{IsIn};
 ghost use Rattle.kl1_store.specs.Sound.{Grown};
 ghost use Rattle.kl1_stream.specs.Controls.{ControlIn};
@@ -52,7 +52,7 @@ pub fn act(
     requires begun { HasBegun draft.old }
     requires none { draft.old.name ≡ None }
     requires empty { draft.old.added.items ≡ [] }
-    requires level { goal.priority ≤ monitor_priority }
+    requires level { goal.priority ≤ MONITOR_PRIORITY }
     requires may { is_enabled_at shoens.old.shoens shoens.old.work goal.shoen ≡ true }
     requires alive { alive ≡ count_by (λ g. not (is_monitor g)) (goals_left (goals.now.goals ++ draft.old.added.items) draft.old) }
     requires few { length shoens.old.work + 1 < 2 ^ 63 }

@@ -1,7 +1,7 @@
 // What goals do in one step, if a name that is new may come of it.
 
 ghost use Rattle.std.specs.Prelude.{◌≡◌, ◌+◌, ◌<◌, ◌≤◌, ◌^◌, [], ℕ, List, length, not, true, ◌++◌, Some, None, count_by, OnOk};
-ghost use Rattle.kl1_model.specs.Limits.{monitor_priority};
+ghost use Rattle.kl1_model.specs.declared.limits.TheConstants.{MONITOR_PRIORITY};
 ghost use Rattle.kl1_store.specs.Held.{IsIn};
 ghost use Rattle.kl1_store.specs.Sound.{Grown};
 ghost use Rattle.kl1_clause.specs.Predicates.{AreSome};
@@ -37,6 +37,7 @@ fn make_room(names: &mut AccountNames, made: Move<CellName>) -> Result<(), Alloc
         Move::Unifies(_left, _right) => Ok(()),
         Move::Opens(_structure) => Ok(()),
         Move::Goes => Ok(()),
+        Move::GivesWay => Ok(()),
     }
 }
 
@@ -68,7 +69,7 @@ pub fn do_or_spell(
     requires none { draft.old.name ≡ None }
     requires unspelled { draft.old.spelled ≡ None }
     requires empty { draft.old.added.items ≡ [] }
-    requires level { goal.priority ≤ monitor_priority }
+    requires level { goal.priority ≤ MONITOR_PRIORITY }
     requires may { is_enabled_at shoens.old.shoens shoens.old.work goal.shoen ≡ true }
     requires alive { alive ≡ count_by (λ g. not (is_monitor g)) (goals_left (goals.now.goals ++ draft.old.added.items) draft.old) }
     requires few { length shoens.old.work + 1 < 2 ^ 63 }

@@ -4,6 +4,7 @@ use Rattle.std.specs.Prelude.{slice_get, Some, None}
 use Rattle.std.proofs.lemmas.Option.{same_Some, none-some}
 use Rattle.std.proofs.lemmas.List.{length-append, length-map, map-append}
 use Rattle.std.proofs.lemmas.Bool.{cases_lt}
+use Rattle.kl1_model.specs.declared.rules.Rules.{Rules}
 use Rattle.kl1_atoms.specs.declared.known.Known.{Known}
 use Rattle.kl1_codes_modules.specs.Numbered.{Numbered, ArePlaced}
 use Rattle.kl1_model_history.specs.Journal.{fresh_kept}
@@ -17,8 +18,8 @@ abbrev pub AreSeatsFrom : {T S : Type 0} → (T → S → Type 0) → (S → ℕ
 AreSeatsFrom {T} {S} is_of place knows names n seats = (k : ℕ) (x : S) → slice_get seats k ≡ Some x → is_of names x × ((place x).1 ≡ n + k) × (knows x ≡ [])
 
 -- the accounts made so far are fresh
-abbrev pub AreFreshSo : List Held → List (List ℕ) → Type 0
-AreFreshSo accounts names = (u : ℕ) (f : Reading) → u < length accounts → kept_of f (account_in accounts u) ≡ fresh_kept (get_or names u [])
+abbrev pub AreFreshSo : Rules → List Held → List (List ℕ) → Type 0
+AreFreshSo rules accounts names = (u : ℕ) (f : Reading) → u < length accounts → kept_of f (account_in accounts u) ≡ fresh_kept rules (get_or names u [])
 
 pub seats_from : {T S : Type 0} (is_of : T → S → Type 0) (place : S → ℕ × ℕ) (knows : S → List Known) (names : T) (seats : List S) → AreNewSeats is_of place knows names seats → AreSeatsFrom is_of place knows names 0 seats
 seats_from is_of place knows names seats h k x e = let a = h k x e in (a.0, a.1 ∙ omega arith, a.2)
@@ -59,31 +60,31 @@ get_last us a u is = subst (λ n. account_in (us ++ a ∷ []) n ≡ a) (sym is) 
     here [] a = refl
     here (b ∷ us) a = here us a
 
-pub fresh_more : (us : List Held) (a : Held) (names : List (List ℕ)) → AreFreshSo us names → ((f : Reading) → kept_of f a ≡ fresh_kept (get_or names (length us) [])) → AreFreshSo (us ++ a ∷ []) names
-fresh_more us a names h is u f less = elim (cases_lt u (length us)) [
+pub fresh_more : (rules : Rules) (us : List Held) (a : Held) (names : List (List ℕ)) → AreFreshSo rules us names → ((f : Reading) → kept_of f a ≡ fresh_kept rules (get_or names (length us) [])) → AreFreshSo rules (us ++ a ∷ []) names
+fresh_more rules us a names h is u f less = elim (cases_lt u (length us)) [
   | inl front ↦ ap (kept_of f) (get_front us a u front) ∙ h u f front
   | inr more ↦
       let last : u ≡ length us = let e = length-append us (a ∷ []) in omega (arith, e, less, more) in
-      ap (kept_of f) (get_last us a u last) ∙ is f ∙ ap (λ n. fresh_kept (get_or names n [])) (sym last)
+      ap (kept_of f) (get_last us a u last) ∙ is f ∙ ap (λ n. fresh_kept rules (get_or names n [])) (sym last)
 ]
 
 -- no account is made yet
 pub lodged_none : {T S : Type 0} (is_of : T → S → Type 0) (place : S → ℕ × ℕ) (has : ℕ × ℕ → Type 0) (names : T) (xs : List (S × Held)) → xs ≡ [] → AreLodged is_of place has names xs
 lodged_none {T} {S} is_of place has names xs none = subst (λ (zs : List (S × Held)). AreLodged is_of place has names zs) (sym none) (λ k x e. absurd (none-some x e))
 
-pub fresh_none : {S : Type 0} (xs : List (S × Held)) (names : List (List ℕ)) → xs ≡ [] → AreFreshSo (accounts_of xs) names
-fresh_none {S} xs names none = subst (λ (zs : List (S × Held)). AreFreshSo (accounts_of zs) names) (sym none) (λ u f less. absurd (omega (arith, less)))
+pub fresh_none : {S : Type 0} (rules : Rules) (xs : List (S × Held)) (names : List (List ℕ)) → xs ≡ [] → AreFreshSo rules (accounts_of xs) names
+fresh_none {S} rules xs names none = subst (λ (zs : List (S × Held)). AreFreshSo rules (accounts_of zs) names) (sym none) (λ u f less. absurd (omega (arith, less)))
 
 pub seats_all : {T S : Type 0} (is_of : T → S → Type 0) (place : S → ℕ × ℕ) (knows : S → List Known) (names : T) (n : ℕ) (seats rest : List S) → n ≡ 0 → rest ≡ seats → AreNewSeats is_of place knows names seats → AreSeatsFrom is_of place knows names n rest
 seats_all {T} {S} is_of place knows names n seats rest zero_is same h =
     subst (λ m. AreSeatsFrom is_of place knows names m rest) (sym zero_is) (subst (λ (zs : List S). AreSeatsFrom is_of place knows names 0 zs) (sym same) (seats_from is_of place knows names seats h))
 
 -- one account more
-pub fresh_next : {S : Type 0} (xs ys : List (S × Held)) (x : S × Held) (names : List (List ℕ)) (name : List ℕ) → ys ≡ xs ++ x ∷ [] → AreFreshSo (accounts_of xs) names → ((f : Reading) → kept_of f x.1 ≡ fresh_kept name) → name ≡ get_or names (length xs) [] → AreFreshSo (accounts_of ys) names
-fresh_next {S} xs ys x names name is h made name_is =
+pub fresh_next : {S : Type 0} (rules : Rules) (xs ys : List (S × Held)) (x : S × Held) (names : List (List ℕ)) (name : List ℕ) → ys ≡ xs ++ x ∷ [] → AreFreshSo rules (accounts_of xs) names → ((f : Reading) → kept_of f x.1 ≡ fresh_kept rules name) → name ≡ get_or names (length xs) [] → AreFreshSo rules (accounts_of ys) names
+fresh_next {S} rules xs ys x names name is h made name_is =
     let all : accounts_of ys ≡ accounts_of xs ++ x.1 ∷ [] = ap accounts_of is ∙ map-append (λ (z : S × Held). z.1) xs (x ∷ []) in
-    subst (λ us. AreFreshSo us names) (sym all)
-    (fresh_more (accounts_of xs) x.1 names h (λ f. made f ∙ ap fresh_kept (name_is ∙ ap (λ n. get_or names n []) (sym (length-map xs (λ (z : S × Held). z.1))))))
+    subst (λ us. AreFreshSo rules us names) (sym all)
+    (fresh_more rules (accounts_of xs) x.1 names h (λ f. made f ∙ ap (fresh_kept rules) (name_is ∙ ap (λ n. get_or names n []) (sym (length-map xs (λ (z : S × Held). z.1))))))
 
 -- an element within a list is the same whatever stands for those beyond
 pub same_within : {X : Type 0} (xs : List X) (n : ℕ) (a b : X) → n < length xs → get_or xs n a ≡ get_or xs n b

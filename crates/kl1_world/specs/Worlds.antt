@@ -1,6 +1,7 @@
 -- What a run of many accounts' events leaves and answers.
 use Rattle.std.specs.Prelude.{◌≡◌, ℕ, ◌<◌, List, [], ◌∷◌, ◌++◌, map, length, get_or, slice_set}
 use Rattle.std.specs.List.{AllByRecursion}
+use Rattle.kl1_model.specs.declared.rules.Rules.{Rules}
 use Rattle.kl1_model.specs.Event as model
 use Rattle.kl1_model_history.specs.Journal.{done, fresh_kept}
 use Rattle.kl1_model_history.specs.Alone.{Deed, Told, only, replies_at, alone}
@@ -26,9 +27,9 @@ deeds_of events = map deed_of events
 abbrev pub AreOf : ℕ → List (ℕ × Event) → Type 0
 AreOf count events = AllByRecursion (λ x. x.0 < count) events
 
--- accounts of these names in which nothing has happened
-abbrev pub AreFresh : List Held → List (List ℕ) → Type 0
-AreFresh accounts names = (u : ℕ) (f : Reading) → u < length names → kept_of f (account_in accounts u) ≡ fresh_kept (get_or names u [])
+-- accounts of these names, which keep to these rules, in which nothing has happened
+abbrev pub AreFresh : Rules → List Held → List (List ℕ) → Type 0
+AreFresh rules accounts names = (u : ℕ) (f : Reading) → u < length names → kept_of f (account_in accounts u) ≡ fresh_kept rules (get_or names u [])
 
 -- these events have been done, with these replies: each account is what its own events alone make of it, and the replies at its places
 -- are those of its own events alone

@@ -4,6 +4,6 @@
 mod stopped;
 mod world;
 
-pub use kl1_journal::AccountName;
+pub use kl1_journal::{AccountName, Rules};
 pub use stopped::Stopped;
 pub use world::World;

@@ -19,7 +19,7 @@ use crate::stopped::Stopped;
 use kl1_atoms::AtomSource;
 use kl1_codes::CodeSource;
 use kl1_command::{Command, Host, Performed, perform};
-use kl1_journal::{AccountName, Kept};
+use kl1_journal::{AccountName, Kept, Rules};
 use kl1_user_events::{ClauseNo, Event, GoalNo, Listed, Refusal, Reply, ShoenNo};
 use std::alloc::{AllocError, Global};
 use std::marker::Model;
@@ -52,25 +52,26 @@ impl<A: AtomSource + Drop, C: CodeSource + Drop> Model for World<A, C> {
 }
 
 impl<A: AtomSource + Drop, C: CodeSource + Drop> World<A, C> {
-    /// Accounts of these names, 1 to 16 of them, in which nothing has happened, each with its own seat.
+    /// Accounts of these names, at least one, which keep to these rules, in which nothing has happened, each with its own seat.
     pub fn new(
         alloc: Global,
         names: A,
         seats: Vec<A::Seat>,
         code_source: C,
         accounts: &[AccountName],
+        rules: Rules,
     ) -> Result<Self, AllocError>
         requires some { 0 < length accounts.now }
         requires count { length seats.items ≡ length accounts.now }
         requires seats { AreNewSeats A.is_of A.place A.knows names seats.items }
         ensures many { IfOk result (λ w. length w.0 ≡ length accounts.now) }
-        ensures fresh { IfOk result (λ w. AreFresh w.0 accounts.now) }
+        ensures fresh { IfOk result (λ w. AreFresh rules w.0 accounts.now) }
         ensures at { IfOk result (λ w. w.1 ≡ 0) }
     {
         let mut kept = Vec::new(alloc);
         for seat in seats {
             let name = accounts[kept.len()];
-            kept.push(Kept::new(alloc, name, seat)?)?;
+            kept.push(Kept::new(alloc, name, rules, seat)?)?;
         }
         Ok(World {
             names,

@@ -9,17 +9,19 @@ use Rattle.kl1_model.specs.Module.{Clause, Module}
 use Rattle.kl1_model.specs.Match.{Answer, yes, no, wait, match_patterns, guard_term, places_of, verdict, Call, call_of, clauses_of}
 use Rattle.kl1_model.specs.Arithmetic.{Evaluated, comes_to, awaits, is_no_expression, evaluated}
 use Rattle.kl1_model.specs.Goal.{is_execute}
-use Rattle.kl1_model.specs.Look.{Spelling, spelled, awaits_code, misspelled, spelling, most_spelled, Look, right, waits_on, wrong, ExecuteArguments, arguments_look}
+use Rattle.kl1_model.specs.Look.{Spelling, spelled, awaits_code, misspelled, spelling, Look, right, waits_on, wrong, goal_look, ExecuteArguments, arguments_look}
+use Rattle.kl1_model.specs.declared.rules.Rules.{Rules}
+use Rattle.kl1_model.specs.State.{most_spelled}
 use Rattle.kl1_model.specs.Reduction.{Move, execute_arguments, term_move}
 use Rattle.kl1_model.specs.Choice.{call_clauses}
 
 -- what a term can do by the clause numbered `clause`
-abbrev pub move_by : List Module → Term → ℕ → Option Move
-move_by modules t clause = term_move modules t clause (call_of t)
+abbrev pub move_by : Rules → List Module → Term → ℕ → Option Move
+move_by rules modules t clause = term_move rules modules t clause (call_of t)
 
 -- the clause by which a term can step: the least that is allowed
-abbrev pub term_clause : List Module → Term → Option ℕ
-term_clause modules t = find (λ clause. is_some (move_by modules t clause)) (0 ∷ call_clauses modules (call_of t))
+abbrev pub term_clause : Rules → List Module → Term → Option ℕ
+term_clause rules modules t = find (λ clause. is_some (move_by rules modules t clause)) (0 ∷ call_clauses modules (call_of t))
 
 -- one of three results, chosen by a verdict: for yes, for no and for wait
 abbrev pub least_by : Option ℕ → Option ℕ → Option ℕ → Answer → Option ℕ
@@ -194,21 +196,35 @@ awaited_by_execute (atom m) b = if is_execute m b then awaited_by_order (execute
 awaited_by_execute a b = []
 
 -- the variables that a built-in goal of two terms waits for
-abbrev pub awaited_by_pair : List ℕ → Term → Term → List ℕ
-awaited_by_pair f a b =
+abbrev pub awaited_by_pair : Rules → List ℕ → Term → Term → List ℕ
+awaited_by_pair rules f a b =
     if bytes_eq f (codes ":=") then awaited_by_evaluated (evaluated b)
-    else if bytes_eq f (codes "atom_from") then awaited_by_spelling (spelling most_spelled a)
+    else if bytes_eq f (codes "atom_from") then awaited_by_spelling (spelling (most_spelled rules) a)
     else if bytes_eq f (codes ":") then awaited_by_execute a b
     else []
 
 -- the variables that a term waits for as a built-in goal
-abbrev pub awaited_by_built_in : Term → List ℕ
-awaited_by_built_in (structure f (more a (more b none))) = awaited_by_pair f a b
-awaited_by_built_in t = []
+abbrev pub awaited_by_built_in : Rules → Term → List ℕ
+awaited_by_built_in rules (structure f (more a (more b none))) = awaited_by_pair rules f a b
+awaited_by_built_in rules t = []
+
+-- the variable that a substitute waits for while its term is this
+abbrev pub awaited_by_substitute : Term → List ℕ
+awaited_by_substitute t = awaited_by_look (goal_look t)
+
+-- the clause by which a substitute can step by what is found of its term: 0, unless it waits
+abbrev pub look_clause : Look → Option ℕ
+look_clause right = Some 0
+look_clause (waits_on v) = None
+look_clause wrong = Some 0
+
+-- the clause by which a substitute can step while its term is this
+abbrev pub substitute_clause : Term → Option ℕ
+substitute_clause t = look_clause (goal_look t)
 
 -- the variables that a term waits for as a goal
-abbrev pub awaited_by_term : List Module → Term → List ℕ
-awaited_by_term modules t = awaited_at_head t ++ awaited_by_call modules (call_of t) ++ awaited_by_built_in t
+abbrev pub awaited_by_term : Rules → List Module → Term → List ℕ
+awaited_by_term rules modules t = awaited_at_head t ++ awaited_by_call modules (call_of t) ++ awaited_by_built_in rules t
 
 -- a substitution leaves each of these variables as it is
 abbrev pub LeavesEach : (ℕ → Term) → List ℕ → Type 0

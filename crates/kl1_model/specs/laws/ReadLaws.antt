@@ -1,7 +1,7 @@
 -- The laws of reading: the reader is the grammar, the tokens of a text need no count of steps, and a printed goal reads back.
 use Rattle.std.specs.Prelude.{◌≡◌, ℕ, suc, ◌<◌, ◌↔◌, nat_lt, ◌&&◌, Bool, true, IsTrue, if◌then◌else◌, List, [], ◌∷◌, ◌++◌, length, Option, Some, None, bytes_eq}
 use Rattle.std.specs.List.{list_all}
-use Rattle.kl1_model.specs.Limits.{number_limit}
+use Rattle.kl1_model.specs.declared.limits.TheConstants.{NUMBER_LIMIT}
 use Rattle.kl1_model.specs.Text.{is_name_byte}
 use Rattle.kl1_model.specs.Term.{Term}
 use Rattle.kl1_model.specs.Token.{Front, finished, broken, line_end, blank, token, front_of, Tokens, tokens_by, tokens_within, tokens_of_text}
@@ -33,7 +33,7 @@ abbrev mutual
 
   pub is_sound_primary : Primary → Bool
   is_sound_primary (numbered v) = true
-  is_sound_primary (positive n) = nat_lt n number_limit
+  is_sound_primary (positive n) = nat_lt n NUMBER_LIMIT
   is_sound_primary (negative n) = true
   is_sound_primary (constant a quotes) = true
   is_sound_primary (call f quotes s) = is_sound_series s
@@ -161,11 +161,11 @@ ClausesGoOn = (ts : List Numbered) → clause_tree ts ≡ all_read (clause_at wh
 -- whether a term can be read from its print: a text can write it, its variables are numbered from 1 by first occurrence,
 -- and there are fewer than 2 ^ 63 of them
 abbrev pub is_printable : Term → Bool
-is_printable t = is_writable t && is_numbered t && nat_lt (highest t) number_limit
+is_printable t = is_writable t && is_numbered t && nat_lt (highest t) NUMBER_LIMIT
 
 -- a printed term is printable ASCII, and so it stands on one line
 abbrev pub PrintsArePlain : Type 0
-PrintsArePlain = (t : Term) → IsTrue (is_narrow t) → highest t < number_limit → IsTrue (list_all is_name_byte (print t))
+PrintsArePlain = (t : Term) → IsTrue (is_narrow t) → highest t < NUMBER_LIMIT → IsTrue (list_all is_name_byte (print t))
 
 -- the print of a printable term holds no byte that is no token
 abbrev pub PrintsAreTokens : Type 0
@@ -194,11 +194,11 @@ strict_goal bs = strict_by bs (read_goal bs)
 
 -- each goal that is read is one that can be read from its print
 abbrev pub GoalsReadArePrintable : Type 0
-GoalsReadArePrintable = (bs : List ℕ) (t : Term) → length bs < number_limit → read_goal bs ≡ good t → IsTrue (is_printable t) × IsTrue (is_goal t)
+GoalsReadArePrintable = (bs : List ℕ) (t : Term) → length bs < NUMBER_LIMIT → read_goal bs ≡ good t → IsTrue (is_printable t) × IsTrue (is_goal t)
 
 -- a text is of the strict form exactly if it is the print of a goal that can be read from it, and is that goal
 abbrev pub StrictTextsArePrints : Type 0
-StrictTextsArePrints = (bs : List ℕ) (t : Term) → length bs < number_limit → ((strict_goal bs ≡ Some t) ↔ (IsTrue (is_printable t) × IsTrue (is_goal t) × (print t ≡ bs)))
+StrictTextsArePrints = (bs : List ℕ) (t : Term) → length bs < NUMBER_LIMIT → ((strict_goal bs ≡ Some t) ↔ (IsTrue (is_printable t) × IsTrue (is_goal t) × (print t ≡ bs)))
 
 -- the variables of terms as they stand in their texts, one after another
 abbrev pub variables_of_each : List Term → List ℕ

@@ -4,6 +4,7 @@ use Rattle.std.specs.List.{AllByRecursion}
 use Rattle.kl1_model.specs.declared.life.Life.{Life}
 use Rattle.kl1_model.specs.declared.life.Life.TheVariants.{Terminated, Aborted}
 use Rattle.kl1_model.specs.Module.{is_among}
+use Rattle.kl1_model.specs.declared.rules.Rules.{Rules}
 use Rattle.kl1_model.specs.State.{Goal, Shoen, State, fresh, goal_at, shoen_at, is_monitor, is_living}
 use Rattle.kl1_model.specs.Tree.{parents_of, path, is_on_path, charged_of, charge, is_blocking_at, is_enabled_in}
 use Rattle.kl1_model.specs.Event.{Event, reduce, reset, Reply, reduced, refused}
@@ -40,7 +41,7 @@ pub record IsTree (s : State) : Type 0 where
 
 -- the shoens of a fresh account are a tree
 abbrev pub FreshIsTree : Type 0
-FreshIsTree = (name : List ℕ) → IsTree (fresh name)
+FreshIsTree = (rules : Rules) (name : List ℕ) → IsTree (fresh rules name)
 
 -- and each event leaves a tree a tree
 abbrev pub TreesStay : Type 0
@@ -98,7 +99,7 @@ AreOfLiving s = AllByRecursion (λ n. lives n s ≡ true) (owners_of s.goals)
 
 -- so they are in a fresh account, which has none
 abbrev pub FreshIsOfLiving : Type 0
-FreshIsOfLiving = (name : List ℕ) → AreOfLiving (fresh name)
+FreshIsOfLiving = (rules : Rules) (name : List ℕ) → AreOfLiving (fresh rules name)
 
 -- and that stays so: a shoen that has ended has no goals and no monitor
 abbrev pub EndedHaveNoGoals : Type 0

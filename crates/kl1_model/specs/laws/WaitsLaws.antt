@@ -1,13 +1,15 @@
 -- What holds of verdicts and of what goals wait for when variables are replaced.
 use Rattle.std.specs.Prelude.{◌≡◌, ℕ, suc, nat_le, ◌&&◌, ◌||◌, Bool, true, IsTrue, List, [], ◌∷◌, ◌++◌, map, filter, option_map}
 use Rattle.std.specs.List.{list_all}
+use Rattle.kl1_model.specs.declared.rules.Rules.{Rules}
 use Rattle.kl1_model.specs.Term.{Term, Terms, substituted, each_substituted, Replacement}
 use Rattle.kl1_model.specs.Meaning.{variables_in}
 use Rattle.kl1_model.specs.Module.{Clause, Module, has_only}
 use Rattle.kl1_model.specs.Match.{yes, no, wait, is_no, places_of, verdict, Candidate, candidate_by, candidates_from, Call, call_of}
+use Rattle.kl1_model.specs.Look.{goal_look}
 use Rattle.kl1_model.specs.Control.{Control, awaits_message, tells, tells_other, ends, breaks_off, control_of}
 use Rattle.kl1_model.specs.code.Awaited.{awaited_by_control}
-use Rattle.kl1_model.specs.code.Waits.{LeavesEach, least_clause, awaited_by_clause, awaited_by_clauses, awaited_at_head, awaited_by_term, term_clause}
+use Rattle.kl1_model.specs.code.Waits.{LeavesEach, least_clause, awaited_by_clause, awaited_by_clauses, awaited_at_head, awaited_by_substitute, awaited_by_term, term_clause}
 
 -- a place after a substitution
 abbrev pub place_substituted : (ℕ → Term) → Replacement → Replacement
@@ -84,8 +86,12 @@ HeadStays = (s : ℕ → Term) (t : Term) → LeavesEach s (awaited_at_head t) �
 -- the clause by which a term can step, and the variables that it waits for, stay until one of these is replaced
 abbrev pub TermStays : Type 0
 TermStays =
-    (modules : List Module) (s : ℕ → Term) (t : Term) → LeavesEach s (awaited_by_term modules t) →
-    (term_clause modules (substituted s t) ≡ term_clause modules t) × (awaited_by_term modules (substituted s t) ≡ awaited_by_term modules t)
+    (rules : Rules) (modules : List Module) (s : ℕ → Term) (t : Term) → LeavesEach s (awaited_by_term rules modules t) →
+    (term_clause rules modules (substituted s t) ≡ term_clause rules modules t) × (awaited_by_term rules modules (substituted s t) ≡ awaited_by_term rules modules t)
+
+-- what is found of the term that a substitute waits for stays until the variable that it waits for is replaced
+abbrev pub SubstitutesStay : Type 0
+SubstitutesStay = (s : ℕ → Term) (t : Term) → LeavesEach s (awaited_by_substitute t) → goal_look (substituted s t) ≡ goal_look t
 
 -- what stands at the front of a control stream, after a substitution
 abbrev pub control_substituted : (ℕ → Term) → Control → Control

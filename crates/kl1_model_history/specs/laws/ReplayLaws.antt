@@ -1,5 +1,6 @@
 -- What holds of what is written for the text of a journal that is replayed.
 use Rattle.std.specs.Prelude.{◌≡◌, not, ◌&&◌, Bool, true, ℕ, List, [], ◌∷◌, ◌++◌, length, IsTrue}
+use Rattle.kl1_model.specs.declared.rules.Rules.{Rules}
 use Rattle.kl1_model.specs.State.{State, fresh_with}
 use Rattle.kl1_model.specs.Event.{Event}
 use Rattle.kl1_model.specs.Step.{step}
@@ -22,7 +23,7 @@ written_replies s (e ∷ es) = written_lines (reply_lines (step s (event_in e)).
 
 -- the account from which a journal is replayed
 abbrev pub replayed_from : Journal → State
-replayed_from j = fresh_with replay_name j.names j.sessions
+replayed_from j = fresh_with j.rules replay_name j.names j.sessions
 
 -- for the text of a journal whose entries are all accepted there are written the replies to them, and then how many they are
 abbrev pub RepliesOfReplays : Type 0
@@ -36,7 +37,7 @@ pub record IsReplayable (k : Kept) : Type 0 where
 
 -- the journal of a fresh account can be replayed
 abbrev pub FreshIsReplayable : Type 0
-FreshIsReplayable = (name : List ℕ) → IsReplayable (fresh_kept name)
+FreshIsReplayable = (rules : Rules) (name : List ℕ) → IsReplayable (fresh_kept rules name)
 
 -- and each event leaves a journal that can be replayed
 abbrev pub ReplayableStays : Type 0

@@ -1,15 +1,17 @@
 -- What holds of the text of a journal.
 use Rattle.std.specs.Prelude.{◌≡◌, ℕ, ◌≤◌, ◌<◌, ◌==◌, not, ◌&&◌, Bool, true, List, [], ◌∷◌, ◌++◌, length, Some, IsTrue}
 use Rattle.std.specs.List.{list_all, AllByRecursion}
-use Rattle.kl1_model.specs.Limits.{number_limit, most_line_bytes, most_names, most_sessions}
+use Rattle.kl1_model.specs.declared.rules.Rules.{Rules}
+use Rattle.kl1_model.specs.declared.limits.TheConstants.{NUMBER_LIMIT, MOST_LINE_BYTES, MOST_NAMES, MOST_SESSIONS}
 use Rattle.kl1_model.specs.Text.{is_text}
 use Rattle.kl1_model.specs.Meaning.{is_writable, is_numbered}
 use Rattle.kl1_model.specs.Goal.{is_goal}
 use Rattle.kl1_model.specs.Event.{Event, load}
 use Rattle.kl1_model.specs.Sending.{may_send}
 use Rattle.kl1_model.specs.Opening.{start_line}
+use Rattle.kl1_model.specs.Answering.{answer_line}
 use Rattle.kl1_model_history.specs.Command.{written_lines}
-use Rattle.kl1_model_history.specs.Journal.{Entry, loads, starts, sends, steps, Journal, Kept, fresh_kept, done}
+use Rattle.kl1_model_history.specs.Journal.{Entry, loads, starts, sends, steps, answers, Journal, Kept, fresh_kept, done}
 use Rattle.kl1_model_history.specs.JournalText.{entry_line, name_line, first_line, journal_lines, entry_in, name_in, is_new_name, Heading, heading_in, lines_of, journal_in}
 
 -- each is a byte
@@ -19,11 +21,12 @@ AreBytes bs = AllByRecursion (λ b. b < 256) bs
 -- an entry that has a line: its numbers are below 2 ^ 63, its source is bytes, its goal can be written and read back, and the line of a
 -- source or of a goal isn't too long
 abbrev pub HasLine : Entry → Type 0
-HasLine (loads text) = AreBytes text × (length (entry_line (loads text)) ≤ most_line_bytes)
+HasLine (loads text) = AreBytes text × (length (entry_line (loads text)) ≤ MOST_LINE_BYTES)
 HasLine (starts allowance low high t) =
-    (allowance < number_limit) × (low < number_limit) × (high < number_limit) × IsTrue (is_goal t) × IsTrue (is_writable t) × IsTrue (is_numbered t) × (length (start_line allowance low high t) ≤ most_line_bytes)
+    (allowance < NUMBER_LIMIT) × (low < NUMBER_LIMIT) × (high < NUMBER_LIMIT) × IsTrue (is_goal t) × IsTrue (is_writable t) × IsTrue (is_numbered t) × (length (start_line allowance low high t) ≤ MOST_LINE_BYTES)
 HasLine (sends n m) = IsTrue (may_send n m)
-HasLine (steps goal clause) = (goal < number_limit) × (clause < number_limit)
+HasLine (steps goal clause) = (goal < NUMBER_LIMIT) × (clause < NUMBER_LIMIT)
+HasLine (answers n report t) = (n < NUMBER_LIMIT) × (report < NUMBER_LIMIT) × IsTrue (is_goal t) × IsTrue (is_writable t) × IsTrue (is_numbered t) × (length (answer_line n report t) ≤ MOST_LINE_BYTES)
 
 -- the line of an entry reads back
 abbrev pub EntriesReadBack : Type 0
@@ -43,11 +46,11 @@ StrictLinesAreNames = (line t : List ℕ) → name_in line ≡ Some t → IsTrue
 
 -- the first line of a journal reads back
 abbrev pub HeadingsReadBack : Type 0
-HeadingsReadBack = (sessions names : ℕ) → sessions ≤ most_sessions → names ≤ most_names → heading_in (first_line sessions names) ≡ Some (record { sessions = sessions; names = names })
+HeadingsReadBack = (rules : Rules) (sessions names : ℕ) → sessions ≤ MOST_SESSIONS → names ≤ MOST_NAMES → heading_in (first_line rules sessions names) ≡ Some (record { rules = rules; sessions = sessions; names = names })
 
 -- a line that is read as the first of a journal is the first line of what it says
 abbrev pub StrictLinesAreHeadings : Type 0
-StrictLinesAreHeadings = (line : List ℕ) (h : Heading) → heading_in line ≡ Some h → (h.sessions ≤ most_sessions) × (h.names ≤ most_names) × (first_line h.sessions h.names ≡ line)
+StrictLinesAreHeadings = (line : List ℕ) (h : Heading) → heading_in line ≡ Some h → (h.sessions ≤ MOST_SESSIONS) × (h.names ≤ MOST_NAMES) × (first_line h.rules h.sessions h.names ≡ line)
 
 -- whether bytes have no line feed among them
 abbrev pub is_unbroken : List ℕ → Bool
@@ -68,12 +71,12 @@ are_new_names before (t ∷ ts) = is_text t && is_new_name before t && are_new_n
 
 -- names that an account may have used: there aren't too many, each is the text of a name, none is built in, and no two are the same
 pub record AreNames (names : List (List ℕ)) : Type 0 where
-  pub few : length names ≤ most_names
+  pub few : length names ≤ MOST_NAMES
   pub new : IsTrue (are_new_names [] names)
 
 -- a journal that has a text: not too many sessions are open, its names may have been used, and each entry has a line
 pub record IsWritten (j : Journal) : Type 0 where
-  pub sessions : j.sessions ≤ most_sessions
+  pub sessions : j.sessions ≤ MOST_SESSIONS
   pub names : AreNames j.names
   pub entries : AllByRecursion HasLine j.entries
 
@@ -93,7 +96,7 @@ StrictTextsAreJournals = (text : List ℕ) (j : Journal) → journal_in text ≡
 pub record IsWrittenDown (k : Kept) : Type 0 where
   pub journal : IsWritten k.journal
   pub names : AreNames k.state.names
-  pub sessions : k.state.sessions ≤ most_sessions
+  pub sessions : k.state.sessions ≤ MOST_SESSIONS
 
 -- the source of a load is bytes
 abbrev pub HasBytes : Event → Type 0
@@ -102,7 +105,7 @@ HasBytes e = Unit {0}
 
 -- the journal of a fresh account has a text
 abbrev pub FreshIsWritten : Type 0
-FreshIsWritten = (name : List ℕ) → IsWrittenDown (fresh_kept name)
+FreshIsWritten = (rules : Rules) (name : List ℕ) → IsWrittenDown (fresh_kept rules name)
 
 -- and each event, whatever becomes of it, leaves a journal that has a text
 abbrev pub WrittenStays : Type 0

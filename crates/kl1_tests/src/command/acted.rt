@@ -1,6 +1,7 @@
 // What commands do to an account.
 
 ghost use Rattle.std.specs.Prelude.{◌≡◌, ℕ, [], OnErr};
+ghost use Rattle.kl1_model.specs.declared.rules.Rules.TheVariants.{One};
 ghost use Rattle.kl1_model_history.specs.Journal.{fresh_kept};
 
 use kl1_command::{Host, Parsed, Performed, parse, perform, put_reply};
@@ -37,7 +38,7 @@ impl Host for Letters<'_> {
 
     ghost fits = { λ h f. ⊥ };
 
-    ghost kept = { λ f h. fresh_kept [] };
+    ghost kept = { λ f h. fresh_kept One [] };
 
     ghost Beside = { ℕ };
 
@@ -91,6 +92,7 @@ fn reply_by(is_done: bool, event: &Event) -> Reply {
     match event {
         Event::Reduce { .. } => Reply::Reduced,
         Event::Control { .. } => Reply::Sent,
+        Event::Answer { .. } => Reply::Sent,
         _ => Reply::Quiet(true),
     }
 }

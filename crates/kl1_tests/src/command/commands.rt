@@ -62,6 +62,14 @@ fn put_event(told: &mut Text, event: &Event) {
             put_goal(told, goal);
         }
         Event::Control { shoen, message } => put_message(told, shoen.0, *message),
+        Event::Answer {
+            shoen,
+            report,
+            goal,
+        } => {
+            put_told(told, b"answers", &[shoen.0, *report]);
+            put_goal(told, goal);
+        }
         Event::Reduce { goal, clause } => put_told(told, b"reduces", &[goal.0, clause.0]),
         Event::Read(query) => put_query(told, *query),
         Event::Login => told.put(b"opens a session"),

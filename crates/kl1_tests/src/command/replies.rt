@@ -24,7 +24,7 @@ const CONDITIONS: [(&[u8], Condition); 5] = [
 ];
 
 /// The refusals without a number by the words that name them in acts.
-const REFUSALS: [(&[u8], Refusal); 9] = [
+const REFUSALS: [(&[u8], Refusal); 10] = [
     (b"syntax", Refusal::Syntax),
     (b"exists", Refusal::Exists),
     (b"noshoen", Refusal::NoShoen),
@@ -34,6 +34,7 @@ const REFUSALS: [(&[u8], Refusal); 9] = [
     (b"limit", Refusal::Limit),
     (b"journal", Refusal::Journal),
     (b"sessions", Refusal::Sessions),
+    (b"answer", Refusal::Answer),
 ];
 
 /// The state that a word names.

@@ -27,7 +27,7 @@ fn put_crowded(out: &mut Text, table: &AtomTable, from: u64) -> u64 {
         name.put(b"n");
         name.put_number(number);
         let text = AtomText::read(name.bytes.as_slice()).unwrap_or(AtomText::of(b"n"));
-        if table.first_bucket(text) < BUCKETS {
+        if table.first_bucket(&text) < BUCKETS {
             out.put(name.bytes.as_slice());
             count = count.saturating_add(1);
             if count == EACH {

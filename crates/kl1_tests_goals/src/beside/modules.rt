@@ -3,6 +3,7 @@
 use kl1_clause::{Code, Predicate};
 use kl1_codes::{CodeSource, PlainCodes};
 use kl1_codes_modules::{CodedModule, CodedModules, Loaded, Modules};
+use kl1_model::Rules;
 use kl1_tests_rows::Text;
 use kl1_text::CellName;
 use std::alloc::{AllocError, Global};
@@ -131,7 +132,7 @@ pub fn see_finds(seen: &mut Text) {
     let mut codes = PlainCodes::new(seen.alloc);
     let mut loaded = Modules::new(seen.alloc);
     load_both(seen, &mut codes, &mut loaded);
-    let modules = CodedModules::over(&loaded, &codes);
+    let modules = CodedModules::over(Rules::Three, &loaded, &codes);
     put_find(seen, &modules, 70, 71, 1);
     put_find(seen, &modules, 70, 71, 2);
     put_find(seen, &modules, 70, 73, 1);
@@ -187,7 +188,7 @@ fn put_beside(
         seen.fail();
         return;
     }
-    let coded = CodedModules::over(modules, codes);
+    let coded = CodedModules::over(Rules::Three, modules, codes);
     let draft = CodedModule::over(draft, codes);
     put_found(
         seen,

@@ -85,6 +85,7 @@ fn is_goal(found: Option<Goal<AtomNo>>, number: u64, shoen: u64, priority: u64, 
             _ => false,
         },
         Task::Monitor => false,
+        Task::Substitutes(_) => false,
     };
     has_term && goal.number == number && goal.shoen == shoen && goal.priority == priority
 }

@@ -1,6 +1,7 @@
 // That seats of several accounts find one number for each name, also when two threads look the same names up at once.
 
 ghost use Rattle.std.specs.Prelude.{◌≡◌, ℕ, ◌+◌, ◌<◌, ◌≤◌, [], Some, length, slice_get, vec_len};
+ghost use Rattle.kl1_model.specs.declared.limits.TheConstants.{MOST_ACCOUNTS, MOST_NAMES};
 ghost use Rattle.kl1_atoms.specs.declared.atom_seat.AtomSeat.{AtomSeat};
 ghost use Rattle.kl1_atoms.specs.Seats.{IsSharedSeat, IsNewSharedSeat, face_in};
 
@@ -15,7 +16,7 @@ use std::thread::{Threads, join};
 #[tactic(auto, using(kl1_atoms::specs::Knowing::few_more))]
 fn learned(table: &AtomTable, mut seat: AtomSeat, names: &[AtomText]) -> (u64, AtomSeat)
     requires of { IsSharedSeat table.now.table.shared.table_id seat.badge.table_id table.now.accounts (face_in seat.badge.views) seat.account }
-    requires room { length (face_in seat.badge.views).knows + length names.now ≤ 1024 }
+    requires room { length (face_in seat.badge.views).knows + length names.now ≤ MOST_NAMES }
     ensures { IsSharedSeat table.now.table.shared.table_id result.1.badge.table_id table.now.accounts (face_in result.1.badge.views) result.1.account }
 {
     let mut row = 0u64;
@@ -51,7 +52,7 @@ fn others_agree(
 ) -> bool
     requires of { IsSharedSeat table.now.table.shared.table_id seat.old.badge.table_id table.now.accounts (face_in seat.old.badge.views) seat.old.account }
     requires seats { (k : ℕ) (seat : AtomSeat) → slice_get seats.old.items k ≡ Some seat → IsNewSharedSeat table.now.table.shared.table_id seat.badge.table_id table.now.accounts (face_in seat.badge.views) seat.account k }
-    requires few { length names.now ≤ 1024 }
+    requires few { length names.now ≤ MOST_NAMES }
 {
     for _other in 0..seats.len() {
         let (_, mut other) = learned(table, next_seat(table, seats), names);
@@ -72,7 +73,7 @@ fn agree_at_once<R: Threads + Sync>(
 ) -> bool
     requires seats { (k : ℕ) (seat : AtomSeat) → slice_get seats.old.items k ≡ Some seat → IsNewSharedSeat table.now.table.shared.table_id seat.badge.table_id table.now.accounts (face_in seat.badge.views) seat.account k }
     requires two { 1 < vec_len seats.old }
-    requires few { length names.now ≤ 1024 }
+    requires few { length names.now ≤ MOST_NAMES }
 {
     let a = next_seat(table, seats);
     let b = next_seat(table, seats);
@@ -91,7 +92,7 @@ pub fn agree_in<R: Threads + Sync>(
     alloc: Global,
     accounts: usize,
 ) -> Result<bool, AllocError>
-    requires { (1 < accounts) × (accounts ≤ 16) }
+    requires { (1 < accounts) × (accounts ≤ MOST_ACCOUNTS) }
 {
     let names = names(alloc, 500)?;
     let (table, mut seats) = AtomTable::new(alloc, accounts)?;

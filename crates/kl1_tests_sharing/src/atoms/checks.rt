@@ -1,6 +1,7 @@
 // The checks by their names.
 
 ghost use Rattle.std.specs.Prelude.{◌≤◌, length};
+ghost use Rattle.kl1_model.specs.declared.limits.TheConstants.{MOST_NAMES};
 
 use crate::atoms::agreement::{agree_in, agree_on_one_bucket, agree_on_what_one_knows};
 use crate::atoms::names::names;
@@ -9,6 +10,7 @@ use crate::atoms::sources::{
     seats_share,
 };
 use crate::atoms::tells::threads_find_the_same;
+use kl1_model::limits::{MOST_ACCOUNTS, MOST_NAMES};
 use kl1_tests_rows::{Text, put_check};
 use kl1_text::AtomText;
 use std::rt::Clock;
@@ -16,7 +18,7 @@ use std::thread::Threads;
 
 /// Puts a line on each check after a report.
 pub fn put_atom_checks<R: Threads + Clock + Sync>(rt: &R, out: &mut Text) {
-    match names(out.alloc, 1024) {
+    match names(out.alloc, MOST_NAMES as u32) {
         Ok(names) => put_each(rt, out, names.as_slice()),
         Err(_refused) => out.fail(),
     }
@@ -24,7 +26,7 @@ pub fn put_atom_checks<R: Threads + Clock + Sync>(rt: &R, out: &mut Text) {
 
 /// Puts a line on each check; full seats look these names up.
 fn put_each<R: Threads + Clock + Sync>(rt: &R, out: &mut Text, names: &[AtomText])
-    requires { length names.now ≤ 1024 }
+    requires { length names.now ≤ MOST_NAMES }
 {
     let alloc = out.alloc;
     let done = agree_in(rt, alloc, 2);
@@ -33,10 +35,10 @@ fn put_each<R: Threads + Clock + Sync>(rt: &R, out: &mut Text, names: &[AtomText
         b"atoms two_threads_and_the_seats_of_2_accounts_agree",
         done,
     );
-    let done = agree_in(rt, alloc, 16);
+    let done = agree_in(rt, alloc, MOST_ACCOUNTS);
     put_check(
         out,
-        b"atoms two_threads_and_the_seats_of_16_accounts_agree",
+        b"atoms two_threads_and_the_seats_of_32_accounts_agree",
         done,
     );
     let done = agree_on_one_bucket(rt, alloc);

@@ -1,7 +1,7 @@
 // Look-ups of names that seats know, from one thread and from several at once.
 
 ghost use Rattle.std.specs.Prelude.{◌≡◌, ℕ, ◌+◌, ◌<◌, ◌≤◌, All, IfOk, OnOk, Some, length, slice_get, vec_len};
-ghost use Rattle.kl1_model.specs.Limits.{most_names};
+ghost use Rattle.kl1_model.specs.declared.limits.TheConstants.{MOST_NAMES};
 ghost use Rattle.kl1_atoms.specs.Seats.{IsSharedSeat, IsNewSharedSeat, face_in};
 ghost use Rattle.kl1_atoms.specs.declared.atom_seat.AtomSeat.{AtomSeat};
 ghost use Rattle.kl1_atoms.specs.Knowing.{KnowsFirst};
@@ -19,7 +19,7 @@ use std::thread::{Threads, map_vec};
 #[tactic(auto, using(kl1_atoms::specs::Knowing::few_more))]
 fn learn(table: &AtomTable, mut seat: AtomSeat, texts: &[AtomText]) -> AtomSeat
     requires of { IsSharedSeat table.now.table.shared.table_id seat.badge.table_id table.now.accounts (face_in seat.badge.views) seat.account }
-    requires room { length (face_in seat.badge.views).knows + length texts.now ≤ most_names }
+    requires room { length (face_in seat.badge.views).knows + length texts.now ≤ MOST_NAMES }
     ensures of { IsSharedSeat table.now.table.shared.table_id result.badge.table_id table.now.accounts (face_in result.badge.views) result.account }
     ensures known { KnowsFirst (face_in result.badge.views).knows texts.now (length texts.now) }
 {

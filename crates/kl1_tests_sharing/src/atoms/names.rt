@@ -48,7 +48,7 @@ pub fn put_sharing(table: &AtomTable, bucket: u64, names: &mut [AtomText]) -> us
             return found;
         }
         let name = name_of(number);
-        if table.first_bucket(name) == bucket {
+        if table.first_bucket(&name) == bucket {
             names[found] = name;
             found += 1;
         }

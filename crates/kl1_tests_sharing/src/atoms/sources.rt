@@ -1,6 +1,7 @@
 // Code that takes any table of names, over a plain table and over a shared one.
 
 ghost use Rattle.std.specs.Prelude.{◌≡◌, ◌≢◌, ◌+◌, ◌≤◌, ◌<◌, length};
+ghost use Rattle.kl1_model.specs.declared.limits.TheConstants.{MOST_NAMES};
 
 use crate::atoms::seats::{next_plain_seat, next_seat};
 use kl1_atoms::{AtomSource, AtomTable, PlainTable, SharedAtoms, Turns};
@@ -15,7 +16,7 @@ fn is_numbered<S: AtomSource>(
     number: u32,
 ) -> bool
     requires of { S.is_of source.old seat.old }
-    requires room { length (S.knows seat.old) < 1024 }
+    requires room { length (S.knows seat.old) < MOST_NAMES }
     ensures of { S.is_of source.new seat.new }
     ensures place { S.place seat.new ≡ S.place seat.old }
     ensures others { (other : S.Seat) → S.is_of source.old other → S.place other ≢ S.place seat.old → S.is_of source.new other }
@@ -50,7 +51,7 @@ fn are_found_again<S: AtomSource>(
     first: usize,
 ) -> bool
     requires of { S.is_of source.old seat.old }
-    requires room { length (S.knows seat.old) + length names.now ≤ 1024 }
+    requires room { length (S.knows seat.old) + length names.now ≤ MOST_NAMES }
     requires small { first < 65536 }
 {
     for place in 0..names.len() {
@@ -96,7 +97,7 @@ pub fn own_entries_are_counted(alloc: Global) -> Result<bool, AllocError> {
 
 /// Whether a seat of a plain table that is given `names` finds them again.
 pub fn a_full_plain_seat_finds(alloc: Global, names: &[AtomText]) -> Result<bool, AllocError>
-    requires { length names.now ≤ 1024 }
+    requires { length names.now ≤ MOST_NAMES }
 {
     let (mut table, mut seats) = PlainTable::new(alloc, 2)?;
     let mut seat = next_plain_seat(&table, &mut seats);
@@ -105,7 +106,7 @@ pub fn a_full_plain_seat_finds(alloc: Global, names: &[AtomText]) -> Result<bool
 
 /// Whether the one seat of a shared table that is given `names` finds them again.
 pub fn a_full_seat_finds(alloc: Global, names: &[AtomText]) -> Result<bool, AllocError>
-    requires { length names.now ≤ 1024 }
+    requires { length names.now ≤ MOST_NAMES }
 {
     let (table, mut seats) = AtomTable::new(alloc, 1)?;
     let mut seat = next_seat(&table, &mut seats);

@@ -83,19 +83,19 @@ fn times_in<R: Threads + Clock + Sync>(
     })
 }
 
-/// A map of the names' words.
-fn map_of(alloc: Global, texts: &[AtomText]) -> Result<HashMap<[u64; 8], u32>, AllocError> {
+/// A map of the names.
+fn map_of(alloc: Global, texts: &[AtomText]) -> Result<HashMap<AtomText, u32>, AllocError> {
     let mut map = HashMap::new(alloc);
     for text in texts {
-        map.insert(text.words(), 1)?;
+        map.insert(*text, 1)?;
     }
     Ok(map)
 }
 
-/// Nanoseconds that look-ups take in a map of the names' words, and whether it has all of them.
+/// Nanoseconds that look-ups take in a map of the names, and whether it has all of them.
 fn map_time<R: Clock>(
     rt: &R,
-    map: &HashMap<[u64; 8], u32>,
+    map: &HashMap<AtomText, u32>,
     texts: &[AtomText],
     rounds: usize,
 ) -> (u128, bool) {
@@ -103,7 +103,7 @@ fn map_time<R: Clock>(
     let start = moment(rt);
     for _round in 0..rounds {
         for text in texts {
-            if let Some(number) = map.get(&text.words()) {
+            if let Some(number) = map.get(text) {
                 sum = sum.wrapping_add(*number as usize);
             }
         }

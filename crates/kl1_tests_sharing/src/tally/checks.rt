@@ -2,6 +2,7 @@
 
 use crate::tally::sums::{come_to_the_numbers, threads_come_to_the_sums};
 use crate::tally::tells::threads_count_all;
+use kl1_tally::MOST_ACCOUNTS;
 use kl1_tests_rows::{Text, put_check};
 use std::rt::Clock;
 use std::thread::Threads;
@@ -21,10 +22,10 @@ pub fn put_tally_checks<R: Threads + Clock + Sync>(rt: &R, out: &mut Text) {
         b"tally one_account_comes_to_what_one_share_counted",
         done,
     );
-    let done = come_to_the_numbers(alloc, 16);
+    let done = come_to_the_numbers(alloc, MOST_ACCOUNTS);
     put_check(
         out,
-        b"tally 16_accounts_come_to_what_one_share_counted",
+        b"tally 32_accounts_come_to_what_one_share_counted",
         done,
     );
     let done = threads_count_all(rt, alloc);

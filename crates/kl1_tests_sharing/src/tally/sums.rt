@@ -1,6 +1,7 @@
 // That what shares counted adds up to the books, also when two threads count at once.
 
 ghost use Rattle.std.specs.Prelude.{◌≡◌, ◌+◌, ◌<◌, ◌≤◌, All, OnOk, vec_len};
+ghost use Rattle.kl1_tally.specs.declared.amounts.TheConstants.{MOST_ACCOUNTS};
 
 use crate::tally::counting::{count, give_book, give_share, next_book, next_share};
 use kl1_tally::{Amounts, BookSeat, MOST_ACCOUNTS, ShareSeat, Tally};
@@ -192,7 +193,7 @@ fn are_numbers(amounts: Amounts, accounts: usize) -> bool {
 
 /// Whether a tally of `accounts` accounts comes to what one share counted beside another that counted nothing.
 pub fn come_to_the_numbers(alloc: Global, accounts: usize) -> Result<bool, AllocError>
-    requires { accounts ≤ 16 }
+    requires { accounts ≤ MOST_ACCOUNTS }
 {
     let (tally, mut books, mut shares) = Tally::new(alloc, accounts, 2)?;
     let mut counted = Vec::new(alloc);

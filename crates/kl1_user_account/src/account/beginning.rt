@@ -2,7 +2,7 @@
 
 ghost use Rattle.std.specs.Prelude.{◌≡◌, ◌≤◌, [], length, IfOk, OnOk, OnErr};
 ghost use Rattle.kl1_model.specs.Event.{reset, was_reset};
-ghost use Rattle.kl1_model.specs.Limits.{most_names};
+ghost use Rattle.kl1_model.specs.declared.limits.TheConstants.{MOST_NAMES};
 ghost use Rattle.kl1_model.specs.State.{fresh, fresh_with};
 ghost use Rattle.kl1_model.specs.Step.{step};
 ghost use Rattle.kl1_store.specs.Held.{nothing_held, with_variable};
@@ -16,7 +16,7 @@ use crate::account_name::AccountName;
 use kl1_atoms::AtomSource;
 use kl1_codes::CodeSource;
 use kl1_codes_modules::Modules;
-use kl1_goals::GoalTable;
+use kl1_goals::{GoalTable, Rules};
 use kl1_goals_moves::Trial;
 use kl1_match::Scratch;
 use kl1_shoen::ShoenTree;
@@ -27,21 +27,22 @@ use std::alloc::{AllocError, Global};
 use std::mem;
 
 impl<C: CodeSource> Account<C> {
-    /// An account of this name in which nothing has happened.
-    pub fn fresh(alloc: Global, name: AccountName) -> Result<Self, AllocError>
-        ensures fresh { IfOk result (λ account. (f : Reading) → state_of f account ≡ fresh name) }
+    /// An account of this name, which keeps to these rules, in which nothing has happened.
+    pub fn fresh(alloc: Global, name: AccountName, rules: Rules) -> Result<Self, AllocError>
+        ensures fresh { IfOk result (λ account. (f : Reading) → state_of f account ≡ fresh rules name) }
         ensures names { IfOk result (λ account. account.names ≡ []) }
         ensures modules { IfOk result (λ account. account.modules ≡ []) }
     {
         let store = first_store(alloc)?;
-        Ok(Account::blank(alloc, name, store, AccountNames::new(alloc), 0))
+        Ok(Account::blank(alloc, name, rules, store, AccountNames::new(alloc), 0))
     }
 
-    /// An account of this name in which nothing has happened but that it has used `texts`, and that `sessions` sessions are open. The
-    /// seat knows no name before it and these after it; if memory is refused, it knows none.
+    /// An account of this name, which keeps to these rules, in which nothing has happened but that it has used `texts`, and that
+    /// `sessions` sessions are open. The seat knows no name before it and these after it; if memory is refused, it knows none.
     pub fn with_names<A: AtomSource>(
         alloc: Global,
         name: AccountName,
+        rules: Rules,
         sessions: u64,
         names: &mut A,
         seat: &mut A::Seat,
@@ -50,8 +51,8 @@ impl<C: CodeSource> Account<C> {
         requires of { A.is_of names.old seat.old }
         requires knows { A.knows seat.old ≡ [] }
         requires list { IsNameList texts.now }
-        requires few { length texts.now ≤ most_names }
-        ensures fresh { IfOk result (λ account. (f : Reading) → state_of f account ≡ fresh_with name texts.now sessions) }
+        requires few { length texts.now ≤ MOST_NAMES }
+        ensures fresh { IfOk result (λ account. (f : Reading) → state_of f account ≡ fresh_with rules name texts.now sessions) }
         ensures knows { IfOk result (λ account. A.knows seat.new ≡ account.names) }
         ensures modules { IfOk result (λ account. account.modules ≡ []) }
         ensures keeps { Keeps A.is_of A.place A.knows A.published names.old names.new seat.old seat.new }
@@ -62,10 +63,10 @@ impl<C: CodeSource> Account<C> {
         known.reserve(texts.len())?;
         let mut row = Vec::with_capacity(alloc, texts.len())?;
         publish(names, seat, &mut known, texts, &mut row);
-        Ok(Account::blank(alloc, name, store, known, sessions))
+        Ok(Account::blank(alloc, name, rules, store, known, sessions))
     }
 
-    /// Makes the account fresh again; its names and its sessions stay. If memory is refused, nothing changes.
+    /// Makes the account fresh again; its rules, its names and its sessions stay. If memory is refused, nothing changes.
     pub fn reset(&mut self) -> Result<(), AllocError>
         ensures step { OnOk result ((f : Reading) → Fits self.old.names f → step (state_of f self.old) reset ≡ record { state = state_of f self.new; reply = was_reset }) }
         ensures own { self.new.own_name ≡ self.old.own_name }
@@ -78,28 +79,36 @@ impl<C: CodeSource> Account<C> {
         Ok(())
     }
 
-    /// Puts an account in which nothing has happened in place of this one, of the same name, and with the same names and sessions. Its
-    /// cells are those of a store that holds one variable.
+    /// Puts an account in which nothing has happened in place of this one, of the same name, and with the same rules, names and
+    /// sessions. Its cells are those of a store that holds one variable.
     fn begin_again(&mut self, store: Store<CellName>)
         requires { store.held ≡ with_variable nothing_held }
-        ensures { self.new ≡ begun self.old.own_name self.old.names self.old.sessions }
+        ensures { self.new ≡ begun self.old.own_name self.old.rules self.old.names self.old.sessions }
     {
         let names = mem::replace(&mut self.names, AccountNames::new(self.alloc));
-        *self = Account::blank(self.alloc, self.name, store, names, self.sessions);
+        *self = Account::blank(
+            self.alloc,
+            self.name,
+            self.rules,
+            store,
+            names,
+            self.sessions,
+        );
     }
 
-    /// An account in which nothing has happened but that it has used these names, and that `sessions` sessions are open. Its cells are
-    /// those of a store that holds one variable: the variables of the account are numbered from 1.
+    /// An account that keeps to these rules, in which nothing has happened but that it has used these names, and that `sessions`
+    /// sessions are open. Its cells are those of a store that holds one variable: the variables of the account are numbered from 1.
     fn blank(
         alloc: Global,
         name: AccountName,
+        rules: Rules,
         store: Store<CellName>,
         names: AccountNames,
         sessions: u64,
     ) -> Self
         requires store { store.held ≡ with_variable nothing_held }
         requires small { AreSmall names.names }
-        ensures { result ≡ begun name names.names sessions }
+        ensures { result ≡ begun name rules names.names sessions }
     {
         Account {
             name,
@@ -108,6 +117,7 @@ impl<C: CodeSource> Account<C> {
             shoens: ShoenTree::new(alloc),
             modules: Modules::new(alloc),
             names,
+            rules,
             last_goal: 0,
             variables: 0,
             nodes: 0,

@@ -23,6 +23,14 @@ pub returns-clause-longer_name : goal.returns-clause-longer_name
 unfolding tokens_within expression_at series_by grouped_by body_by
 returns-clause-longer_name c = refl
 
+pub returns-clause-long_variable : goal.returns-clause-long_variable
+unfolding tokens_within expression_at series_by grouped_by body_by
+returns-clause-long_variable c = refl
+
+pub returns-clause-longer_variable : goal.returns-clause-longer_variable
+unfolding tokens_within expression_at series_by grouped_by body_by
+returns-clause-longer_variable c = refl
+
 pub returns-clause-dot : goal.returns-clause-dot
 unfolding tokens_within expression_at series_by grouped_by body_by
 returns-clause-dot c = refl

@@ -1,8 +1,24 @@
-use Rattle.std.proofs.Common.{◌<◌, arith}
+use Rattle.std.proofs.Common.{◌≡◌, ◌+◌, ◌<◌, refl, sym, ap, ◌∙◌, arith}
 use Rattle.crossbeam_queue.specs.Passes.{view}
 use Rattle.kl1_pool_tickets.proofs.Moves.{takes, learns}
+use Rattle.kl1_tally.specs.declared.amounts.TheConstants.{MOST_ACCOUNTS}
+use Rattle.kl1_tally.specs.Numbers.{times}
 use Rattle.kl1_pool_tickets.proofs.Apart.{has_room}
+use Rattle.kl1_pool_tickets.proofs.Zeros.{zeros_at}
 use Rattle.kl1_pool_tickets.proofs.gathering.drain.Goals as goal
+
+pub loop-init : goal.loop-init
+loop-init g c = record {
+  of = c.requires.of.0;
+  free = c.requires.of.1;
+  all = c.requires.all;
+  put = refl;
+  size = refl;
+  counted = λ k below.
+      let taken = times k (view c.args.joint.now).taken in
+      let none : taken ≡ taken + 0 = omega arith in
+      none ∙ ap (λ x. taken + x) (sym (zeros_at MOST_ACCOUNTS k));
+}
 
 pub pop_as-requires-clause-rule : goal.pop_as-requires-clause-rule
 pop_as-requires-clause-rule g c =

@@ -1,4 +1,4 @@
-use Rattle.std.proofs.Common.{◌≡◌, [], ◌∷◌, ◌++◌, refl, sym, ap, ◌∙◌, subst, rules}
+use Rattle.std.proofs.Common.{◌≡◌, List, length, arith, [], ◌∷◌, ◌++◌, refl, sym, ap, ◌∙◌, subst, rules}
 use Rattle.std.specs.Prelude.{All}
 use Rattle.std.proofs.lemmas.List.Elements.{All-push}
 use Rattle.crossbeam_queue.specs.Passes.{view}
@@ -6,7 +6,18 @@ use Rattle.kl1_pool_tickets.specs.Counts.{Counts}
 use Rattle.kl1_pool_tickets.specs.Totals.{TookIn}
 use Rattle.kl1_pool_tickets.proofs.Moves.{merges}
 use Rattle.kl1_pool_tickets.proofs.Apart.{took_share}
+use Rattle.kl1_pool_tickets.proofs.Zeros.{took_none}
 use Rattle.kl1_pool_tickets.proofs.gathering.take_in.Goals as goal
+
+pub loop-share-init : goal.loop-share-init
+loop-share-init g c = record {
+  of = c.requires.of.0;
+  free = c.requires.of.1;
+  seats_of = subst (All (λ seat. seat.tally ≡ g.K.Naming.tally)) (sym c.requires.none) (search rules);
+  room = (let n = ap (λ (ss : List _). length ss) c.requires.none in let r = c.requires.room in let o = c.args.shares.ok in omega (arith, n, r, o));
+  some = c.requires.rest.0;
+  took = took_none c.args.shares.items c.args.seats.now.items (view c.args.joint.now) c.requires.none c.requires.rest.1 c.requires.rest.2;
+}
 
 pub absorb-requires-clause-rule : goal.absorb-requires-clause-rule
 absorb-requires-clause-rule g c = merges c.loop-share.joint.id (view c.loop-share.joint) c.share.inside.pass.id (view c.share.inside.pass) c.loop-share.invariant.some

@@ -1,7 +1,5 @@
-use Rattle.std.proofs.Common.{◌≡◌, ◌+◌, Some, None, nat_eq, subst, arith}
-use Rattle.std.specs.Cmp.Lexicographic.{pointwise}
-use Rattle.std.specs.HashMap.{get, Updates}
-use Rattle.kl1_text.specs.Words.{words_of}
+use Rattle.std.proofs.Common.{◌≡◌, ◌+◌, Some, bytes_eq, subst, arith}
+use Rattle.std.specs.HashMap.{Updates}
 use Rattle.kl1_read.proofs.SeenSpellings.{another, again, first}
 use Rattle.kl1_read.proofs.Steps.{ok_along}
 use Rattle.kl1_read.proofs.numbering.number_of.Goals as goal
@@ -12,14 +10,10 @@ returns-then-is_another c =
     ok_along _ _ c.put.result c.put.ensures (λ n h. another c.args.numbers.now c.args.seen.now.items c.put.new.seen.items c.args.text n c.requires c.if-is_another.ensures h.next h.put)
 
 pub returns-in-Some : goal.returns-in-Some
-returns-in-Some c =
-    let found : Some c.in-Some.number.now ≡ get (pointwise nat_eq) c.args.numbers.now (words_of 8 c.args.text) = rw c.words.ensures at c.in-Some.ensures.value in
-    again c.args.numbers.now c.args.seen.now.items c.args.text c.in-Some.number.now c.requires c.if-is_another.ensures c.shows_text.ensures found
+returns-in-Some c = again c.args.numbers.now c.args.seen.now.items c.args.text c.in-Some.number.now c.requires c.if-is_another.ensures c.in-Some.ensures.value
 
 pub returns : goal.returns
 returns c =
-    let none : None ≡ get (pointwise nat_eq) c.args.numbers.now (words_of 8 c.args.text) = rw c.words.ensures at c.in_default.ensures.value in
-    let update : Updates (pointwise nat_eq) c.args.numbers.now c.insert.new.self (words_of 8 c.args.text) (Some (c.len.result + 1)) = rw c.words-2.ensures at c.in_ok-insert.ensures.updates in
     ok_along _ _ c.put-2.result c.put-2.ensures (λ n h.
     let next : c.len.result + 1 ≡ n = omega (arith, h.next, c.len.ensures, c.args.seen.now.ok.0) in
-    first c.args.numbers.now c.insert.new.self c.args.seen.now.items c.put-2.new.seen.items c.args.text n c.requires c.if-is_another.ensures c.shows_text.ensures none h.next h.put (subst (λ m. Updates (pointwise nat_eq) c.args.numbers.now c.insert.new.self (words_of 8 c.args.text) (Some m)) next update))
+    first c.args.numbers.now c.insert.new.self c.args.seen.now.items c.put-2.new.seen.items c.args.text n c.requires c.if-is_another.ensures c.in_default.ensures.value h.next h.put (subst (λ m. Updates bytes_eq c.args.numbers.now c.insert.new.self c.args.text (Some m)) next c.in_ok-insert.ensures.updates))

@@ -1,5 +1,5 @@
 use Rattle.std.proofs.Common.{nat_lt, ap, sym, ◌∙◌, arith}
-use Rattle.kl1_model.specs.Limits.{most_depth}
+use Rattle.kl1_model.specs.declared.limits.TheConstants.{MOST_DEPTH}
 use Rattle.kl1_read.proofs.FitHeads.{name_unfit, many_unfit, depth_fits}
 use Rattle.kl1_read.proofs.patterns.is_fit.Goals as goal
 
@@ -11,4 +11,4 @@ returns-then-arguments-gt-MOST_ARGUMENTS c = many_unfit c.args.name.now c.args.a
 
 pub returns : goal.returns
 returns c =
-    ap (λ d. nat_lt d most_depth) c.deepest.ensures.value ∙ depth_fits c.args.name.now c.args.arguments.now (omega arith) c.if-arguments-gt-MOST_ARGUMENTS.false (sym c.if-not-may_name_structure.ensures) c.shows_text.ensures c.deepest.ensures.narrow
+    ap (λ d. nat_lt d MOST_DEPTH) c.deepest.ensures.value ∙ depth_fits c.args.name.now c.args.arguments.now (omega arith) c.if-arguments-gt-MOST_ARGUMENTS.false (sym c.if-not-may_name_structure.ensures) c.shows_text.ensures c.deepest.ensures.narrow

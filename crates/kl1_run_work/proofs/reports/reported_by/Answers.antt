@@ -1,6 +1,6 @@
 use Rattle.std.proofs.Common.{◌≡◌, ◌+◌, ◌*◌, take, ◌∙◌, sym, subst, arith}
 use Rattle.std.specs.Prelude.{filter}
-use Rattle.kl1_model.specs.Limits.{most_listed, most_reports}
+use Rattle.kl1_model.specs.declared.limits.TheConstants.{MOST_LISTED, MOST_REPORTS}
 use Rattle.kl1_model_history.specs.Journal.{Kept}
 use Rattle.kl1_model_history.specs.Command.{written_lines}
 use Rattle.kl1_run_work.specs.Answers.{is_exception, reports_in}
@@ -9,7 +9,7 @@ use Rattle.kl1_run_work.proofs.reports.reported_by.Goals as goal
 
 pub loop-page-preserved : goal.loop-page-preserved
 loop-page-preserved g c =
-    let sum : 64 * (c.loop-page.page + 1) ≡ 64 * c.loop-page.page + most_listed = omega arith in
+    let sum : 64 * (c.loop-page.page + 1) ≡ 64 * c.loop-page.page + MOST_LISTED = omega arith in
     record {
       reports = λ f fits.
           let s = (g.H.Host.kept f c.page_from.new.host).state in
@@ -28,10 +28,10 @@ loop-page-preserved g c =
 
 pub returns-clause-reports : goal.returns-clause-reports
 returns-clause-reports g c = λ f fits.
-    let all : 64 * c.loop-page.page ≡ most_reports = omega arith in
+    let all : 64 * c.loop-page.page ≡ MOST_REPORTS = omega arith in
     lines_all (g.H.Host.kept f c.loop-page.host).state c.args.shoen.0 (64 * c.loop-page.page) c.loop-page.reported.reports.items all (c.loop-page.invariant.reports f fits)
 
 pub returns-clause-exceptions : goal.returns-clause-exceptions
 returns-clause-exceptions g c = λ f fits.
-    let all : 64 * c.loop-page.page ≡ most_reports = omega arith in
+    let all : 64 * c.loop-page.page ≡ MOST_REPORTS = omega arith in
     exceptions_all (g.H.Host.kept f c.loop-page.host).state c.args.shoen.0 (64 * c.loop-page.page) c.loop-page.reported.exceptions.items all (c.loop-page.invariant.exceptions f fits)

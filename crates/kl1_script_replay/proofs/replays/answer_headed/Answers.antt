@@ -10,4 +10,4 @@ pub returns-in-Err : goal.returns-in-Err
 returns-in-Err g c =
     let h = c.args.heading in
     let ls = lines_of c.args.text.now in
-    nothing_ends (Unit {0}) (g.W.Sink.contents c.args.sink.now) (g.W.Sink.failures c.args.sink.now) (written_names h.names 2 h.sessions [] ls.whole ls.rest) (λ n. first_names n h.names h.sessions [] ls.whole) (no_first h.names h.sessions [] ls.whole)
+    nothing_ends (Unit {0}) (g.W.Sink.contents c.args.sink.now) (g.W.Sink.failures c.args.sink.now) (written_names h.names 2 h.rules h.sessions [] ls.whole ls.rest) (λ n. first_names n h.names h.rules h.sessions [] ls.whole) (no_first h.names h.rules h.sessions [] ls.whole)

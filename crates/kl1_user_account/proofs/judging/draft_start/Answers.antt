@@ -9,7 +9,7 @@ judge-judged-requires-clause-variables g c =
 pub returns-clause-ok : goal.returns-clause-ok
 returns-clause-ok g c =
     let kept = c.open_streams.new.store in
-    drafted c.args.modules.now.loaded c.args.names.now.names c.args.texts.now c.args.row.now c.args.count c.args.allowance c.args.made c.args.store.now.held c.put_goal_variables.new.store.held kept.held c.back.new.self.held
+    drafted c.args.modules.now c.args.names.now.names c.args.texts.now c.args.row.now c.args.count c.args.allowance c.args.made c.args.store.now.held c.put_goal_variables.new.store.held kept.held c.back.new.self.held
     (goal_variables c.put_goal_variables.new.scratch) (goal_variables c.judge-judged.new.scratch) c.draft_row.new.row.items c.as_slice.result.now c.judge-judged.new.trial.awaited.items c.in_ok-streams.streams c.in_ok-standing.standing
     c.in_ok-put_goal_variables.ensures.held c.in_ok-put_goal_variables.ensures.variables c.in_ok-streams.ensures.ok c.in_ok-streams.ensures.grown.held
     (c.back.ensures.held kept c.mark-mark.ensures.point c.judge-judged.ensures.grown) c.judge-judged.ensures.scratch

@@ -12,11 +12,11 @@ returns-clause-judges g c =
     let h = c.args.store.now.held in
     let cells = goal_variables c.args.scratch.now in
     let awaited = c.standing_of.new.trial.awaited.items in
-    let ms = c.args.modules.now.loaded in
+    let ms = c.args.modules.now in
     IfOk-weaker c.standing_of.result _ (Judges ms c.args.numbers.now c.args.row.now cells h awaited)
     (λ standing stands. judges ms c.args.numbers.now c.args.row.now cells (goal_variables c.reserve_goal.new.scratch) h c.reserve_goal.new.store.held c.put_goal-cell.new.store.held c.put_goal-cell.result c.kind_of-kind.result c.predicate_of-predicate.result awaited standing
     c.reserve_goal.ensures.scratch c.reserve_goal.ensures.same c.put_goal-cell.ensures.goal c.kind_of-kind.ensures.kind c.predicate_of-predicate.ensures.has stands)
-    c.standing_of.ensures.standing
+    (rw c.rules.ensures at c.standing_of.ensures.standing)
 
 pub returns-clause-unbound : goal.returns-clause-unbound
 returns-clause-unbound g c =

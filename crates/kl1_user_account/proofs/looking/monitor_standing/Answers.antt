@@ -4,7 +4,7 @@ use Rattle.std.proofs.lemmas.Result.{IfOk-weaker}
 use Rattle.kl1_text.specs.declared.cell_name.CellName.{CellName}
 use Rattle.kl1_goals.specs.declared.task.Task.TheVariants.{Monitor}
 use Rattle.kl1_shoen_paths.specs.declared.shoen.Shoen.{Shoen}
-use Rattle.kl1_codes_modules.specs.Numbered.{Numbered}
+use Rattle.kl1_codes_modules.specs.Shelves.{Program}
 use Rattle.kl1_user_effects.specs.declared.draft.Change.{Change}
 use Rattle.kl1_user_account.specs.Looking.{HearsAt, StandsAt}
 use Rattle.kl1_user_account.proofs.SettledStays.{control_in}
@@ -24,6 +24,6 @@ returns-in-Some-clause-stands c =
     let hooks = c.control_standing.new.store.hooks in
     let shoens = c.args.shoens.now.shoens in
     let one : Option ℕ → Change = λ s. record { number = c.args.number; standing = s } in
-    IfOk-weaker c.control_standing.result (λ s. HearsAt h hooks c.in-Some.found.now.control (one s)) (λ s. (ms : List Numbered) → StandsAt ms shoens h hooks c.args.shoen Monitor (one s))
+    IfOk-weaker c.control_standing.result (λ s. HearsAt h hooks c.in-Some.found.now.control (one s)) (λ s. (program : Program) → StandsAt program shoens h hooks c.args.shoen Monitor (one s))
     (λ s hears ms. monitor_stands ms shoens h hooks c.args.shoen c.in-Some.found.now (one s) c.in-Some.ensures.value hears)
     c.control_standing.ensures.hears

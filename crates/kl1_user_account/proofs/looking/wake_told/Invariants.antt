@@ -4,4 +4,4 @@ use Rattle.kl1_user_account.proofs.Told.{StillWakes}
 use Rattle.kl1_user_account.proofs.looking.wake_told.Given as goal
 
 abbrev pub invariant-loop-number : goal.invariant-loop-number
-invariant-loop-number g l = StillWakes l.modules.loaded l.shoens.shoens l.initial.store l.store l.goals.goals l.removed l.told (drop l.number-index l.told) l.initial.changes.items l.changes.items
+invariant-loop-number g l = StillWakes l.modules l.shoens.shoens l.initial.store l.store l.goals.goals l.removed l.told (drop l.number-index l.told) l.initial.changes.items l.changes.items

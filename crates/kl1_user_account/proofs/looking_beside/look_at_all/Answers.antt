@@ -3,6 +3,7 @@ use Rattle.kl1_text.specs.declared.cell_name.CellName.{CellName}
 use Rattle.kl1_store.specs.Held.{Held}
 use Rattle.kl1_goals.specs.Lists.{is_after}
 use Rattle.kl1_user_effects.specs.Kept.{IsTaskIn}
+use Rattle.kl1_codes_modules.specs.Shelves.{with_last}
 use Rattle.kl1_user_account.proofs.Told.{task_in}
 use Rattle.kl1_user_account.proofs.Reached.{next_looks, all_looked}
 use Rattle.kl1_user_account.proofs.looking_beside.look_at_all.Goals as goal
@@ -14,8 +15,8 @@ look_at_goal-requires-clause-task g c =
 
 pub loop-goal-preserved : goal.loop-goal-preserved
 loop-goal-preserved g c =
-    next_looks (c.args.modules.now.loaded ++ c.args.draft.now ∷ []) c.args.shoens.now.shoens c.args.store.now c.loop-goal.store c.look_at_goal.new.store c.args.goals.now.goals c.loop-goal.number c.in-Some.goal c.loop-goal.changes.items c.look_at_goal.new.changes.items
+    next_looks (with_last c.args.modules.now c.args.draft.now) c.args.shoens.now.shoens c.args.store.now c.loop-goal.store c.look_at_goal.new.store c.args.goals.now.goals c.loop-goal.number c.in-Some.goal c.loop-goal.changes.items c.look_at_goal.new.changes.items
     c.in-Some.ensures.order c.in-Some.ensures.goal c.loop-goal.invariant c.in_ok-look_at_goal.ensures.held c.in_ok-look_at_goal.ensures.grown c.in_ok-look_at_goal.ensures.finds
 
 pub returns-clause-looks : goal.returns-clause-looks
-returns-clause-looks g c = all_looked (c.args.modules.now.loaded ++ c.args.draft.now ∷ []) c.args.shoens.now.shoens c.args.store.now c.loop-goal.store c.args.goals.now.goals c.loop-goal.number c.loop-goal.changes.items (sym c.in_default.is ∙ c.after.ensures.goal) c.loop-goal.invariant
+returns-clause-looks g c = all_looked (with_last c.args.modules.now c.args.draft.now) c.args.shoens.now.shoens c.args.store.now c.loop-goal.store c.args.goals.now.goals c.loop-goal.number c.loop-goal.changes.items (sym c.in_default.is ∙ c.after.ensures.goal) c.loop-goal.invariant

@@ -11,7 +11,7 @@ control_to_read-requires g c = record { shoens = (c.requires.kept ([], 0)).shoen
 
 pub returns-in-Err-clause-ok : goal.returns-in-Err-clause-ok
 returns-in-Err-clause-ok g c own =
-    let a : Account = account_at own c.args.store.now.held c.args.goals.now.goals c.args.shoens.now c.args.modules.now.loaded c.args.names.now.names c.args.draft.now.last_goal c.args.draft.now.variables c.args.draft.now.nodes c.args.draft.now.reports c.args.entries in
+    let a : Account = account_at own c.args.store.now.held c.args.goals.now.goals c.args.shoens.now c.args.modules.now c.args.names.now.names c.args.draft.now.last_goal c.args.draft.now.variables c.args.draft.now.nodes c.args.draft.now.reports c.args.entries in
     record { held = refl; hooks = refl; tree = refl; steps = c.in-Err.ensures.refused a c.args.goal.number c.requires.steppable c.requires.monitor (c.requires.kept own).enabled }
 
 pub read-requires-clause-shoens : goal.read-requires-clause-shoens
@@ -31,7 +31,7 @@ finish-requires-clause-lets g c shifts ended reached = nobody_lets c.read.new.sh
 
 pub returns-clause-ok : goal.returns-clause-ok
 returns-clause-ok g c own =
-    let a : Account = account_at own c.args.store.now.held c.args.goals.now.goals c.args.shoens.now c.args.modules.now.loaded c.args.names.now.names c.args.draft.now.last_goal c.args.draft.now.variables c.args.draft.now.nodes c.args.draft.now.reports c.args.entries in
+    let a : Account = account_at own c.args.store.now.held c.args.goals.now.goals c.args.shoens.now c.args.modules.now c.args.names.now.names c.args.draft.now.last_goal c.args.draft.now.variables c.args.draft.now.nodes c.args.draft.now.reports c.args.entries in
     let r = c.in_ok-read.ensures in
     heard_reduces a c.args.goal.number c.args.clause c.args.goals.now.shoens c.args.goal c.in-Ok.control c.mark-mark.result c.args.store.now c.read.new.store c.finish.new.store c.args.shoens.now c.read.new.shoens c.finish.new.goals c.read.new.walk.reached.items c.args.draft.now c.read.new.draft (record c.read.new.draft { told = c.push.new.self }) c.finish.new.draft
     (c.requires.kept own) c.requires.steppable c.requires.monitor c.in-Ok.ensures.reads c.in-Ok.ensures.room c.shoens-single.ensures.single

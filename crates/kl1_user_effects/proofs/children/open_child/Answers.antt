@@ -6,10 +6,9 @@ use Rattle.kl1_user_effects.specs.Drafts.{DraftsAll}
 use Rattle.kl1_user_effects.proofs.TreesIn.{never_absent}
 use Rattle.kl1_user_effects.proofs.Joining.{drafts_full, child_of, drafts_child, one_order}
 use Rattle.std.proofs.Common.{◌≤◌}
-use Rattle.kl1_model.specs.Limits.{monitor_priority}
-use Rattle.kl1_user_effects.specs.declared.draft.Draft.{Draft}
+use Rattle.kl1_model.specs.declared.limits.TheConstants.{MONITOR_PRIORITY}
 use Rattle.kl1_user_effects.proofs.States.{found_shoen_in}
-use Rattle.kl1_user_effects.proofs.Arriving.{clipped_low, comes_none, met_none}
+use Rattle.kl1_user_effects.proofs.Arriving.{clipped_low}
 use Rattle.kl1_user_effects.proofs.children.open_child.Goals as goal
 
 pub returns-then-not-may_open-clause-ok : goal.returns-then-not-may_open-clause-ok
@@ -44,16 +43,6 @@ returns-clause-ok c =
 
 -- ---- what comes
 
-pub returns-then-not-may_open-clause-comes : goal.returns-then-not-may_open-clause-comes
-returns-then-not-may_open-clause-comes c =
-    let d = c.args.draft.now in
-    let e = c.raise.new.draft in
-    let last : e.last_goal ≡ d.last_goal = ap (λ (x : Draft). x.last_goal) c.raise.ensures.rest in
-    on_ok_weaker c.raise.result (λ ok. comes_none c.raise.new.store.held (length c.args.shoens.now.shoens) (length c.raise.new.shoens.shoens) d e (ap (λ (x : Draft). x.added.items) c.raise.ensures.rest ∙ c.requires.empty) (omega (arith, last))) c.raise.ensures.ok
-
-pub returns-then-not-may_open-clause-met : goal.returns-then-not-may_open-clause-met
-returns-then-not-may_open-clause-met c = on_ok_weaker c.raise.result (λ ok. met_none c.raise.new.draft (ap (λ (x : Draft). x.added.items) c.raise.ensures.rest ∙ c.requires.empty)) c.raise.ensures.ok
-
 pub returns-then-not-may_open-clause-one_opens : goal.returns-then-not-may_open-clause-one_opens
 returns-then-not-may_open-clause-one_opens c = on_ok_weaker c.raise.result (λ same. omega (arith, same)) c.raise.ensures.count
 
@@ -64,7 +53,7 @@ pub open_shoen-requires-clause-shoen : goal.open_shoen-requires-clause-shoen
 open_shoen-requires-clause-shoen c =
     let parent = c.in-Some.parent in
     let found = found_shoen_in c.args.store.now.held c.args.goal.shoen c.args.shoens.now.shoens parent c.requires.shoens (sym c.lend.ensures.value ∙ (sym c.copied.ensures ∙ c.in-Some.is)) in
-    let L : ℕ → Type 0 = λ n. n ≤ monitor_priority in
+    let L : ℕ → Type 0 = λ n. n ≤ MONITOR_PRIORITY in
     let inside = c.order_at-order.ensures.inside in
     record {
       control = inside.control_in;

@@ -10,11 +10,9 @@ use Rattle.kl1_user_effects.specs.Moving.{priorities_by}
 use Rattle.kl1_user_effects.proofs.States.{shoens_grown}
 use Rattle.kl1_user_effects.proofs.TreesIn.{never_absent}
 use Rattle.kl1_user_effects.proofs.Commits.{drafts_exhausted, drafts_committed}
-use Rattle.std.proofs.Common.{ap}
 use Rattle.kl1_goals.specs.declared.goal.Goal.{Goal}
-use Rattle.kl1_user_effects.specs.declared.draft.Draft.{Draft}
 use Rattle.kl1_user_effects.proofs.States.{found_shoen_in}
-use Rattle.kl1_user_effects.proofs.Arriving.{comes_none, met_none, comes_for, met_for}
+use Rattle.kl1_user_effects.proofs.Arriving.{comes_for, met_for}
 use Rattle.kl1_user_effects.proofs.committing.commit.Goals as goal
 
 pub returns-then-not-has_room-clause-ok : goal.returns-then-not-has_room-clause-ok
@@ -58,16 +56,6 @@ pub returns-clause-stays : goal.returns-clause-stays
 returns-clause-stays c = stays_same c.args.shoens.now
 
 -- ---- what comes
-
-pub returns-then-not-has_room-clause-comes : goal.returns-then-not-has_room-clause-comes
-returns-then-not-has_room-clause-comes c =
-    let d = c.args.draft.now in
-    let e = c.raise.new.draft in
-    let last : e.last_goal ≡ d.last_goal = ap (λ (x : Draft). x.last_goal) c.raise.ensures.rest in
-    on_ok_weaker c.raise.result (λ raised. comes_none c.raise.new.store.held (length c.args.shoens.now.shoens) (length c.raise.new.shoens.shoens) d e (ap (λ (x : Draft). x.added.items) c.raise.ensures.rest ∙ c.requires.empty) (omega (arith, last))) c.raise.ensures.ok
-
-pub returns-then-not-has_room-clause-met : goal.returns-then-not-has_room-clause-met
-returns-then-not-has_room-clause-met c = on_ok_weaker c.raise.result (λ raised. met_none c.raise.new.draft (ap (λ (x : Draft). x.added.items) c.raise.ensures.rest ∙ c.requires.empty)) c.raise.ensures.ok
 
 pub returns-clause-comes : goal.returns-clause-comes
 returns-clause-comes c =

@@ -1,17 +1,18 @@
-use Rattle.kl1_user_effects.proofs.Frames.{stays_same}
-use Rattle.std.proofs.Common.{◌≡◌, ℕ, List, sym, ap, ◌∙◌, subst}
+use Rattle.kl1_user_effects.proofs.Frames.{stays_same, on_ok_both}
+use Rattle.std.proofs.Common.{◌≡◌, ℕ, List, refl, sym, ap, ◌∙◌, subst}
 use Rattle.std.proofs.lemmas.Result.{on_ok_weaker}
 use Rattle.kl1_text.specs.declared.cell_name.CellName.{CellName}
 use Rattle.kl1_goals_moves.specs.declared.moves.Move.{Move}
 use Rattle.kl1_goals_moves.specs.Moves.{taken_places}
+use Rattle.kl1_goals.specs.declared.task.Task.TheVariants.{Reduces}
 use Rattle.kl1_user_effects.specs.Calling.{NamesTerm}
 use Rattle.kl1_user_effects.specs.Moving.{Moves}
-use Rattle.kl1_user_effects.proofs.Moved.{moves_by_commit, moves_by_exception, moves_by_unification, moves_by_name, moves_by_order, moves_by_nothing}
+use Rattle.kl1_user_effects.proofs.Moved.{moves_by_commit, moves_by_exception, moves_by_unification, moves_by_name, moves_by_order, moves_by_nothing, moves_by_giving_way}
 use Rattle.std.proofs.Common.{length, arith}
-use Rattle.kl1_user_effects.specs.declared.draft.Draft.{Draft}
 use Rattle.kl1_user_effects.specs.Frames.{bare}
 use Rattle.kl1_user_effects.proofs.Counts.{count_kept}
 use Rattle.kl1_user_effects.proofs.Arriving.{comes_none, met_none}
+use Rattle.kl1_user_effects.proofs.Substituting.{drafts_replaced, comes_substitute, met_substitute}
 use Rattle.kl1_user_effects.proofs.moving.do_move.Goals as goal
 
 pub returns-in-Commits-clause-ok : goal.returns-in-Commits-clause-ok
@@ -85,7 +86,7 @@ returns-in-Names-clause-ok c =
     let d = c.args.draft.now in
     let goals = c.args.goals.now.goals in
     let same : c.of-text.result ≡ text = c.of-text.ensures ∙ c.as_slice.ensures in
-    let T : List ℕ → Type 0 = λ l. NamesTerm c.args.goal.shoen l known c.in-Names.target c.args.cell h c.name_term.new.store.held t c.name_term.new.shoens d c.name_term.new.draft in
+    let T : List ℕ → Type 0 = λ l. NamesTerm c.args.goal l known c.in-Names.target c.args.cell h c.name_term.new.store.held t c.name_term.new.shoens d c.name_term.new.draft in
     let P : Move CellName → Type 0 = λ m. Moves p m ts text c.args.goal c.args.cell goals known h c.name_term.new.store.held t c.name_term.new.shoens d c.name_term.new.draft in
     on_ok_weaker c.name_term.result (λ ok. subst P (sym c.in-Names.is) (moves_by_name p ts text c.in-Names.target c.args.goal c.args.cell goals known h c.name_term.new.store.held t c.name_term.new.shoens d c.name_term.new.draft (subst T same ok))) c.name_term.ensures.ok
 
@@ -93,36 +94,6 @@ pub returns-in-Goes-clause-stays : goal.returns-in-Goes-clause-stays
 returns-in-Goes-clause-stays c = stays_same c.args.shoens.now
 
 -- ---- what comes
-
-pub returns-in-Raises-clause-comes : goal.returns-in-Raises-clause-comes
-returns-in-Raises-clause-comes c =
-    let d = c.args.draft.now in
-    let e = c.raise.new.draft in
-    let last : e.last_goal ≡ d.last_goal = ap (λ (x : Draft). x.last_goal) c.raise.ensures.rest in
-    on_ok_weaker c.raise.result (λ ok. comes_none c.raise.new.store.held (length c.args.shoens.now.shoens) (length c.raise.new.shoens.shoens) d e (ap (λ (x : Draft). x.added.items) c.raise.ensures.rest ∙ c.requires.empty) (omega (arith, last))) c.raise.ensures.ok
-
-pub returns-in-Raises-clause-met : goal.returns-in-Raises-clause-met
-returns-in-Raises-clause-met c = on_ok_weaker c.raise.result (λ ok. met_none c.raise.new.draft (ap (λ (x : Draft). x.added.items) c.raise.ensures.rest ∙ c.requires.empty)) c.raise.ensures.ok
-
-pub returns-in-Unifies-clause-comes : goal.returns-in-Unifies-clause-comes
-returns-in-Unifies-clause-comes c =
-    let d = c.args.draft.now in
-    let e = c.unify.new.draft in
-    let last : e.last_goal ≡ d.last_goal = ap (λ (x : Draft). x.last_goal) c.unify.ensures.rest in
-    on_ok_weaker c.unify.result (λ ok. comes_none c.unify.new.store.held (length c.args.shoens.now.shoens) (length c.unify.new.shoens.shoens) d e (ap (λ (x : Draft). x.added.items) c.unify.ensures.rest ∙ c.requires.empty) (omega (arith, last))) c.unify.ensures.ok
-
-pub returns-in-Unifies-clause-met : goal.returns-in-Unifies-clause-met
-returns-in-Unifies-clause-met c = on_ok_weaker c.unify.result (λ ok. met_none c.unify.new.draft (ap (λ (x : Draft). x.added.items) c.unify.ensures.rest ∙ c.requires.empty)) c.unify.ensures.ok
-
-pub returns-in-Names-clause-comes : goal.returns-in-Names-clause-comes
-returns-in-Names-clause-comes c =
-    let d = c.args.draft.now in
-    let e = c.name_term.new.draft in
-    let last : e.last_goal ≡ d.last_goal = ap (λ (x : Draft). x.last_goal) c.name_term.ensures.rest in
-    on_ok_weaker c.name_term.result (λ ok. comes_none c.name_term.new.store.held (length c.args.shoens.now.shoens) (length c.name_term.new.shoens.shoens) d e (ap (λ (x : Draft). x.added.items) c.name_term.ensures.rest ∙ c.requires.empty) (omega (arith, last))) c.name_term.ensures.ok
-
-pub returns-in-Names-clause-met : goal.returns-in-Names-clause-met
-returns-in-Names-clause-met c = on_ok_weaker c.name_term.result (λ ok. met_none c.name_term.new.draft (ap (λ (x : Draft). x.added.items) c.name_term.ensures.rest ∙ c.requires.empty)) c.name_term.ensures.ok
 
 pub returns-in-Commits-clause-one_opens : goal.returns-in-Commits-clause-one_opens
 returns-in-Commits-clause-one_opens c = on_ok_weaker c.commit.result (λ same. omega (arith, same)) c.commit.ensures.count
@@ -159,3 +130,46 @@ returns-in-Goes-clause-comes c =
 
 pub returns-in-Goes-clause-met : goal.returns-in-Goes-clause-met
 returns-in-Goes-clause-met c = met_none c.args.draft.now c.requires.empty
+
+-- ---- a substitute that gives way
+
+pub returns-in-GivesWay-clause-ok : goal.returns-in-GivesWay-clause-ok
+returns-in-GivesWay-clause-ok c =
+    let p = c.args.predicate in
+    let ts = taken_places c.args.trial.now in
+    let text = c.args.trial.now.text in
+    let h = c.args.store.now.held in
+    let t = c.args.shoens.now in
+    let d = c.args.draft.now in
+    let e = c.replace_goal.new.draft in
+    let goals = c.args.goals.now.goals in
+    let P : Move CellName → Type 0 = λ m. Moves p m ts text c.args.goal c.args.cell goals c.args.names.now.names h h t t d e in
+    on_ok_both c.replace_goal.result
+    (λ added last. subst P (sym c.in-GivesWay.is) (moves_by_giving_way p ts text c.args.goal c.args.cell goals h h t t d e (drafts_replaced h t d e c.args.goal (Reduces c.args.cell) c.requires.begun c.requires.cell c.requires.owned added last c.replace_goal.ensures.rest) c.args.names.now.names))
+    c.replace_goal.ensures.added c.replace_goal.ensures.last
+
+pub returns-in-GivesWay-clause-comes : goal.returns-in-GivesWay-clause-comes
+returns-in-GivesWay-clause-comes c =
+    let d = c.args.draft.now in
+    let e = c.replace_goal.new.draft in
+    let n = length c.args.shoens.now.shoens in
+    on_ok_both c.replace_goal.result
+    (λ added last. comes_substitute c.args.store.now.held n n d d e c.args.goal (Reduces c.args.cell) c.requires.begun refl c.replace_goal.ensures.rest c.requires.empty refl added last c.requires.owned c.requires.level refl c.requires.cell)
+    c.replace_goal.ensures.added c.replace_goal.ensures.last
+
+pub returns-in-GivesWay-clause-met : goal.returns-in-GivesWay-clause-met
+returns-in-GivesWay-clause-met c =
+    let d = c.args.draft.now in
+    on_ok_weaker c.replace_goal.result (λ added. met_substitute d d c.replace_goal.new.draft c.args.goal (Reduces c.args.cell) refl c.requires.empty added refl) c.replace_goal.ensures.added
+
+pub returns-in-GivesWay-clause-stays : goal.returns-in-GivesWay-clause-stays
+returns-in-GivesWay-clause-stays c = on_ok_weaker c.replace_goal.result (λ added. stays_same c.args.shoens.now) c.replace_goal.ensures.added
+
+pub returns-in-GivesWay-clause-shoens : goal.returns-in-GivesWay-clause-shoens
+returns-in-GivesWay-clause-shoens c = on_ok_weaker c.replace_goal.result (λ added. c.requires.shoens) c.replace_goal.ensures.added
+
+pub returns-in-GivesWay-clause-more : goal.returns-in-GivesWay-clause-more
+returns-in-GivesWay-clause-more c = on_ok_weaker c.replace_goal.result (λ added. omega arith) c.replace_goal.ensures.added
+
+pub returns-in-GivesWay-clause-one_opens : goal.returns-in-GivesWay-clause-one_opens
+returns-in-GivesWay-clause-one_opens c = on_ok_weaker c.replace_goal.result (λ added. omega arith) c.replace_goal.ensures.added

@@ -34,10 +34,10 @@ returns-clause-ok c =
     let y = c.after_reduction.new.draft in
     let names = texts_of c.args.names.now.names in
     on_ok_weaker c.after_reduction.result
-    (λ settled ms modules clause m reads as_found found.
+    (λ settled ms m reads as_found.
     both_drafts ms goals names (λ f s. moved (goal_with (meaning f h) g) (aim f h x) (m f) (charge g.shoen s)) (λ f. after_reduction g.shoen) h c.do_move.new.store.held c.after_reduction.new.store.held t v w d e y
     (both_drafts ms goals names (λ f. charge g.shoen) (λ f. moved (goal_with (meaning f h) g) (aim f h x) (m f)) h h c.do_move.new.store.held t u v d d e
-    (drafts_charged h t u d g.shoen c.in_ok-charge.ensures.ok ms goals names) (c.in_ok-do_move.ensures.ok ms modules clause m reads as_found found))
+    (drafts_charged h t u d g.shoen c.in_ok-charge.ensures.ok ms goals names) (c.in_ok-do_move.ensures.ok ms m reads as_found))
     (settled ms names))
     c.after_reduction.ensures.ok
 

@@ -1,6 +1,7 @@
 use Rattle.std.proofs.Common.{ℕ, ◌<◌, sym, subst, arith, refl}
 use mathlib.Core.Option.{none}
 use Rattle.atomic_table.specs.Table.{step, Allows}
+use Rattle.kl1_text.specs.Words.{name_words}
 use Rattle.kl1_atoms.specs.Rule.{Kept, word_place}
 use Rattle.kl1_atoms.specs.Plays.{DraftsAt}
 use Rattle.kl1_atoms.proofs.Playing.{allows_draft}
@@ -16,6 +17,6 @@ store-requires c =
       place,
       subst (λ k. Allows (Kept k) z c.args.seat.now.id me i (λ m. c.args.value) (λ m. DraftsAt (step z i c.args.value 0 none) me c.args.value)) (sym c.args.self.now.key)
           (allows_draft c.args.self.now.accounts z c.args.seat.now.id i c.args.value me.0 me.1 c.requires.first c.requires.room
-          (subst (λ l. l < 8) c.requires.next c.requires.word)
+          (subst (λ l. l < name_words) c.requires.next c.requires.word)
           (rw (c.requires.accounts, ← c.requires.entry, ← c.requires.next) refl)),
     )

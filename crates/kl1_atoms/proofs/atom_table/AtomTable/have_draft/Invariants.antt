@@ -1,5 +1,4 @@
 use Rattle.std.proofs.Common.{◌≡◌, take}
-use Rattle.kl1_text.specs.Words.{words_of}
 use Rattle.kl1_atoms.specs.Plays.{Steps}
 use Rattle.kl1_atoms.specs.Rounds.{Drafts}
 use Rattle.kl1_atoms.proofs.atom_table.AtomTable.have_draft.Given as goal
@@ -8,5 +7,5 @@ use Rattle.kl1_atoms.proofs.atom_table.AtomTable.have_draft.Given as goal
 abbrev pub invariant-loop-word : goal.invariant-loop-word
 invariant-loop-word l = record {
   of : l.seat.table_id ≡ l.initial.seat.table_id;
-  tells : Steps l.initial.seat.me l.seat.me (λ f g. Drafts f g (take l.word (words_of 8 l.text)));
+  tells : Steps l.initial.seat.me l.seat.me (λ f g. Drafts f g (take l.word l.words));
 }

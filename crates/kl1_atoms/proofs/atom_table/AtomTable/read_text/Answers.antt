@@ -1,33 +1,51 @@
-use Rattle.std.proofs.Common.{◌≡◌, ◌+◌, ◌<◌, Some, length, sym, ◌∙◌, ap, subst, inl, inr, arith, get_or-set_same, get_or-set_other}
-use Rattle.std.proofs.lemmas.Bool.{cases_eq}
+use Rattle.std.proofs.Common.{◌≡◌, ◌+◌, ◌*◌, ◌<◌, ◌≤◌, ◌^◌, length, ◌∙◌, arith}
 use Rattle.std.proofs.lemmas.List.{length-set}
-use Rattle.atomic_table.specs.Table.{Me}
-use Rattle.kl1_model.specs.Limits.{first_number}
-use Rattle.kl1_atoms.specs.declared.face.View.{View}
-use Rattle.kl1_text.specs.Words.{words_of}
-use Rattle.kl1_atoms.specs.Names.{text_in}
-use Rattle.kl1_atoms.specs.Rule.{word_place}
-use Rattle.kl1_atoms.specs.Plays.{own}
-use Rattle.kl1_atoms.proofs.Facing.{same_by_index, length-words_of}
+use Rattle.kl1_model.specs.declared.limits.TheConstants.{MOST_NAME_BYTES}
+use Rattle.kl1_text.specs.Words.{word_at}
+use Rattle.kl1_text.proofs.Words.{full_word, short_word, name_length}
+use Rattle.kl1_atoms.proofs.Comparing.{known_name, known_word, words_put, zeros_left, whole_name}
 use Rattle.kl1_atoms.proofs.atom_table.AtomTable.read_text.Goals as goal
 
 pub loop-word-preserved : goal.loop-word-preserved
-loop-word-preserved c = record {
-  of = c.read.ensures.of ∙ c.loop-word.invariant.of;
-  same = c.read.ensures.same ∙ c.loop-word.invariant.same;
-  eight = length-set c.loop-word.words c.loop-word.word c.read.result ∙ c.loop-word.invariant.eight;
-  words = λ t e k h. elim (cases_eq k c.loop-word.word) [
-    | inl here ↦
-        let accounts = subst (λ (m : Me (Unit {0}) View). (own m.0).accounts ≡ c.args.self.now.accounts) (sym c.loop-word.invariant.same) c.requires.accounts in
-        let known = subst (λ (m : Me (Unit {0}) View). text_in (own m.0).knows (first_number + c.args.entry) ≡ Some t) (sym c.loop-word.invariant.same) e in
-        let inside : c.loop-word.word < length c.loop-word.words = omega (arith, c.loop-word.invariant.eight) in
-        rw here (get_or-set_same c.loop-word.words c.loop-word.word c.read.result 0 inside
-        ∙ c.read.ensures.tells.known t c.args.entry c.loop-word.word known (omega arith) (ap (λ n. word_place n c.args.entry c.loop-word.word) (sym accounts)))
-    | inr other ↦ get_or-set_other c.loop-word.words c.loop-word.word k c.read.result 0 other ∙ c.loop-word.invariant.words t e k (omega arith)
-  ];
-}
+loop-word-preserved c =
+    let w = c.loop-word.word in
+    let before = c.args.seat.now.me in
+    let now = c.loop-word.seat.me in
+    let same = c.loop-word.invariant.same in
+    let inside : w < length c.loop-word.words = omega (arith, c.loop-word.invariant.size) in
+    record {
+      of = c.read-value.ensures.of ∙ c.loop-word.invariant.of;
+      same = c.read-value.ensures.same ∙ same;
+      size = length-set c.loop-word.words w c.read-value.result ∙ c.loop-word.invariant.size;
+      name = λ t e some. known_name before now t c.args.entry _ c.read-value.result same c.read-value.ensures.tells e;
+      words = λ t e.
+          let name = known_name before now t c.args.entry _ c.read-value.result same c.read-value.ensures.tells e in
+          let words = c.loop-word.invariant.words t e in
+          let read = known_word before now t c.args.self.now.accounts c.args.entry w c.read-value.result same c.requires.accounts c.read-value.ensures.tells e words.0 in
+          let full : 256 ^ 7 ≤ word_at t w = omega arith in
+          ((let l = full_word t w name full in omega arith), words_put c.loop-word.words t w c.read-value.result inside read words.1);
+      left = zeros_left c.loop-word.words w c.read-value.result c.loop-word.invariant.left;
+    }
 
+-- the name ends in the word that was read
+pub returns-then-value-lt-FULL_WORD-clause-words : goal.returns-then-value-lt-FULL_WORD-clause-words
+returns-then-value-lt-FULL_WORD-clause-words c = λ t e.
+    let w = c.loop-word.word in
+    let before = c.args.seat.now.me in
+    let now = c.loop-word.seat.me in
+    let same = c.loop-word.invariant.same in
+    let inside : w < length c.loop-word.words = omega (arith, c.loop-word.invariant.size) in
+    let name = known_name before now t c.args.entry _ c.read-value.result same c.read-value.ensures.tells e in
+    let words = c.loop-word.invariant.words t e in
+    let read = known_word before now t c.args.self.now.accounts c.args.entry w c.read-value.result same c.requires.accounts c.read-value.ensures.tells e words.0 in
+    let less : word_at t w < 256 ^ 7 = omega arith in
+    let short : length t < 8 * w + 8 = short_word t w name less in
+    whole_name _ t (w + 1) (length-set c.loop-word.words w c.read-value.result ∙ c.loop-word.invariant.size) (omega arith)
+    (words_put c.loop-word.words t w c.read-value.result inside read words.1) (zeros_left c.loop-word.words w c.read-value.result c.loop-word.invariant.left)
+
+-- a name ends before
 pub returns-clause-words : goal.returns-clause-words
 returns-clause-words c = λ t e.
-    same_by_index c.loop-word.words (words_of 8 t) (c.loop-word.invariant.eight ∙ sym (length-words_of 8 t))
-    (λ k h. c.loop-word.invariant.words t e k (let w : k < 8 = subst (λ m. k < m) c.loop-word.invariant.eight h in omega arith))
+    let more : 8 * c.loop-word.word ≤ length t = (c.loop-word.invariant.words t e).0 in
+    let few : length t ≤ MOST_NAME_BYTES = name_length t (c.loop-word.invariant.name t e (omega arith)) in
+    absurd (omega arith)

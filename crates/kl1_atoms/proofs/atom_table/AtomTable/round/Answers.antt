@@ -1,5 +1,5 @@
 use Rattle.std.proofs.Common.{true}
-use Rattle.kl1_text.specs.Words.{words_of}
+use Rattle.kl1_text.specs.Words.{words_to_end}
 use Rattle.kl1_atoms.specs.Rounds.{Compares, Gives, Drafts}
 use Rattle.kl1_atoms.specs.declared.round.Round.TheVariants.{Made}
 use Rattle.kl1_atoms.specs.Plays.{own, Looks, Publishes}
@@ -20,7 +20,7 @@ publish-value-requires-clause-ready c =
 pub returns-then-value-eq0-clause-gives : goal.returns-then-value-eq0-clause-gives
 returns-then-value-eq0-clause-gives c =
     three_steps c.args.seat.now.me c.look-value.new.seat.me c.have_draft.new.seat.me c.publish-value.new.seat.me (λ f g. Looks f g c.args.bucket c.look-value.result)
-    (λ f g. Drafts f g (words_of 8 c.args.text.now)) (λ f g. Publishes f g c.args.bucket c.publish-value.result) (λ f g. Gives f g c.args.text.now c.args.passed Made)
+    (λ f g. Drafts f g (words_to_end c.args.text.now)) (λ f g. Publishes f g c.args.bucket c.publish-value.result) (λ f g. Gives f g c.args.text.now c.args.passed Made)
     c.look-value.ensures.tells c.have_draft.ensures.tells c.publish-value.ensures.tells
     (published_walks (own c.args.seat.now.me.0) (own c.look-value.new.seat.me.0) (own c.have_draft.new.seat.me.0) (own c.publish-value.new.seat.me.0) c.args.self.now.accounts c.args.bucket c.look-value.result
     c.publish-value.result c.args.text.now c.args.passed c.args.drafted c.look-value.ensures.tells.tells c.if-value-gt0.false c.requires.walks c.requires.accounts c.requires.way
@@ -48,7 +48,7 @@ returns-clause-gives c =
     (published_else (own c.have_draft.new.seat.me.0) (own c.publish-value.new.seat.me.0) c.args.bucket c.publish-value.result c.publish-value.ensures.tells.tells c.if-value-eq0.false) in
     three_steps c.args.seat.now.me c.have_draft.new.seat.me c.publish-value.new.seat.me c.compare-2.new.seat.me (λ f g. Unit {0}) (λ f g. Publishes f g c.args.bucket c.publish-value.result)
     (λ f g. Compares f g c.args.text.now c.args.passed true c.compare-2.result) (λ f g. Gives f g c.args.text.now c.args.passed c.compare-2.result)
-    (two_steps c.args.seat.now.me c.look-value.new.seat.me c.have_draft.new.seat.me (λ f g. Looks f g c.args.bucket c.look-value.result) (λ f g. Drafts f g (words_of 8 c.args.text.now)) (λ f g. Unit {0})
+    (two_steps c.args.seat.now.me c.look-value.new.seat.me c.have_draft.new.seat.me (λ f g. Looks f g c.args.bucket c.look-value.result) (λ f g. Drafts f g (words_to_end c.args.text.now)) (λ f g. Unit {0})
     c.look-value.ensures.tells c.have_draft.ensures.tells tt)
     c.publish-value.ensures.tells c.compare-2.ensures.gives
     (compared_gives (own c.args.seat.now.me.0) (own c.publish-value.new.seat.me.0) (own c.compare-2.new.seat.me.0) c.args.text.now c.args.passed true c.compare-2.result kin c.compare-2.ensures.gives.tells)

@@ -1,6 +1,6 @@
 use Rattle.std.proofs.Common.{◌≡◌, ℕ, ◌+◌, ◌<◌, List, ◌∷◌, [], ◌++◌, None, length, refl, sym, ap, ◌∙◌, inl, inr}
 use Rattle.std.proofs.lemmas.Bool.{false≢true}
-use Rattle.kl1_model.specs.Limits.{first_number, most_names}
+use Rattle.kl1_model.specs.declared.limits.TheConstants.{FIRST_NUMBER, MOST_NAMES}
 use Rattle.kl1_text.specs.BuiltIns.{built_in_of}
 use Rattle.kl1_atoms.specs.declared.known.Known.{Known}
 use Rattle.kl1_atoms.specs.Names.{number_in, HasRoom}
@@ -9,7 +9,7 @@ use Rattle.kl1_atoms.proofs.Rows.{seat_after, other_seat_after, held_publishes}
 use Rattle.kl1_atoms.proofs.plain_table.PlainTableAtomSource.intern.Goals as goal
 
 -- there is room for a text that isn't known
-some_room : (ks : List Known) (t : List ℕ) → built_in_of t ≡ None → number_in ks t ≡ None → HasRoom ks t → length ks < most_names
+some_room : (ks : List Known) (t : List ℕ) → built_in_of t ≡ None → number_in ks t ≡ None → HasRoom ks t → length ks < MOST_NAMES
 some_room ks t own new room = elim room [ inl known ↦ absurd (false≢true (rw (own, new) at known)) | inr few ↦ few ]
 
 -- the text isn't built in
@@ -21,12 +21,12 @@ not_known : (c : goal.After-learn) → number_in c.args.seat.now.known.items c.a
 not_known c = sym (rw (c.in_default-number_in.is, c.as_slice.ensures.value) at c.number_in.ensures)
 
 -- so there is room
-room_left : (c : goal.After-learn) → length c.args.seat.now.known.items < most_names
+room_left : (c : goal.After-learn) → length c.args.seat.now.known.items < MOST_NAMES
 room_left c = some_room c.args.seat.now.known.items c.args.text (not_built_in c) (not_known c) c.requires.room
 
 -- the pair that is learned
 pair : (c : goal.After-learn) → Known
-pair c = record { text = c.args.text; number = record { number = first_number + c.place_of-place.result } }
+pair c = record { text = c.args.text; number = record { number = FIRST_NUMBER + c.place_of-place.result } }
 
 -- what is known after it
 now_known : (c : goal.After-learn) → c.learn.new.self.known.items ≡ c.args.seat.now.known.items ++ pair c ∷ []

@@ -24,7 +24,7 @@ pub returns-in-Long : goal.returns-in-Long
 returns-in-Long c =
     let ws = c.self.inside.wholes.items in
     let ss = c.self.inside.slots.items in
-    let J : List Entry → Journal = λ es. record { sessions = c.self.inside.sessions; names = c.self.inside.names.items; entries = es } in
+    let J : List Entry → Journal = λ es. record { rules = c.self.inside.rules; sessions = c.self.inside.sessions; names = c.self.inside.names.items; entries = es } in
     let place : c.len-place.result ≡ length ws = (let o = c.self.inside.wholes.ok in let e = c.len-place.ensures in omega (arith, o, e)) in
     ap₂ (λ (xs : List Whole) (ys : List Slot). J (map (entry_at xs) ys)) c.push_reserved-in-Long.ensures.items c.push_reserved-in-Long-2.ensures.items
     ∙ ap J (row_more ws c.in-Long.whole ss _ c.self.invariant.places place)

@@ -1,7 +1,7 @@
 use Rattle.std.proofs.Common.{sym, ap, ◌∙◌}
 use Rattle.kl1_codes_modules.specs.Finding.{is_numbered}
 use Rattle.kl1_codes_modules.specs.Numbered.{Numbered, number_of}
-use Rattle.kl1_codes_modules.specs.Shelves.{Shelf}
+use Rattle.kl1_codes_modules.specs.Shelves.{Program}
 use Rattle.kl1_codes_modules.proofs.Placing.{placed_anywhere}
 use Rattle.kl1_tests_goals.proofs.beside.modules.put_beside.Goals as goal
 
@@ -10,6 +10,6 @@ over-coded-requires c = placed_anywhere (λ p. Unit {0}) (λ p. tt) c.args.modul
 
 pub find_beside-requires : goal.find_beside-requires
 find_beside-requires c =
-    ap (λ (s : Shelf). is_numbered s.loaded (number_of c.over-draft.result)) c.over-coded.ensures
+    ap (λ (s : Program). is_numbered s.loaded (number_of c.over-draft.result)) c.over-coded.ensures
     ∙ ap (λ (d : Numbered). is_numbered c.args.modules.now.loaded (number_of d)) c.over-draft.ensures
     ∙ ap (λ name. is_numbered c.args.modules.now.loaded name) (sym c.number.ensures) ∙ sym c.has.ensures.value ∙ c.if-has.false

@@ -19,3 +19,7 @@ returns-in-Start-clause-step g c =
 pub returns-in-Control-clause-step : goal.returns-in-Control-clause-step
 returns-in-Control-clause-step g c =
     leaves_names c.send.result c.args.self.now c.self.inside.account c.send.new.self (model.control c.in-Control.shoen.0 c.in-Control.message) (event_of c.args.event.now) c.self.view_is (sym (ap event_of c.in-Control.is)) c.send.ensures.names c.send.ensures.step
+
+pub returns-in-Answer-clause-step : goal.returns-in-Answer-clause-step
+returns-in-Answer-clause-step g c =
+    does_same c.answer.result c.args.self.now c.self.inside.account c.answer.new.self (model.answer c.in-Answer.shoen.0 c.in-Answer.report c.in-Answer.goal) (event_of c.args.event.now) c.self.view_is (sym (ap event_of c.in-Answer.is)) c.answer.ensures.step

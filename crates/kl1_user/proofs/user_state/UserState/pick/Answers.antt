@@ -1,4 +1,4 @@
-use Rattle.std.proofs.Common.{◌≡◌, sym, ap, subst}
+use Rattle.std.proofs.Common.{sym, subst}
 use Rattle.kl1_atoms.specs.Names.{AreNames}
 use Rattle.kl1_user_effects.specs.Account.{Account}
 use Rattle.kl1_user_effects.specs.Fitting.{reading_of, reading_fits}

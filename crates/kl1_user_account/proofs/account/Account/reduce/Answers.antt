@@ -12,7 +12,7 @@ draft_named-drafted-requires g c =
     let u = c.self.inside in
     let b = c.begin_draft.ensures in
     record {
-      begun = begun_same 0 u.last_goal u.variables u.nodes u.reports c.begin_draft.new.draft b;
+      begun = rw c.over.ensures (begun_same 0 u.rules u.last_goal u.variables u.nodes u.reports c.begin_draft.new.draft b);
       kept = rw (c.over.ensures, b.last_is, b.variables_are, b.nodes_are, b.reports_are) (kept_at (kept_in u) c.begin.new.self u.store.hooks u.goals.shoens (ap (λ (x : Tree CellName). x.shoens) c.begin.ensures) (ap (λ (x : Tree CellName). x.work) c.begin.ensures) c.self.invariant);
     }
 

@@ -85,7 +85,7 @@ pub invariant_of-self-2 : goal.invariant_of-self-2
 invariant_of-self-2 g c =
     let u = c.self.inside in
     let a = kept_in u in
-    let b : Account = record { own_name = u.name; held = c.place.new.store.held; goals = c.place.new.goals.goals; shoens = c.place.new.shoens.shoens; work = c.place.new.shoens.work; modules = u.modules.loaded; names = c.publish.new.known.names; last_goal = c.in_ok-last.last; variables = u.variables + (c.highest-variables.result + 2); nodes = u.nodes + c.nodes.result; reports = c.in_ok-opening.opening.streams.made; entries = u.entries + 1; sessions = u.sessions } in
+    let b : Account = record { own_name = u.name; rules = u.rules; held = c.place.new.store.held; goals = c.place.new.goals.goals; shoens = c.place.new.shoens.shoens; work = c.place.new.shoens.work; modules = u.modules.loaded; names = c.publish.new.known.names; last_goal = c.in_ok-last.last; variables = u.variables + (c.highest-variables.result + 2); nodes = u.nodes + c.nodes.result; reports = c.in_ok-opening.opening.streams.made; entries = u.entries + 1; sessions = u.sessions } in
     let goal_term = c.args.goal.now in
     let may = startable_of (kept_in c.self.inside).names c.counted-counted.result c.args.allowance c.args.low c.args.high c.args.goal.now c.in-Coded.code c.in_ok-refusal.field-0 c.in-Coded.is c.in_ok-refusal.ensures in
     let at : (f : Reading) → HasNames (state_of f (kept_in c.self.inside)) (kept_in c.self.inside).names c.counted-counted.result = λ f. (let H : Account → Type 0 = λ z. HasNames (state_of f z) z.names c.counted-counted.result in subst H (sym c.self.view_is) (c.counted-counted.ensures f)) in
@@ -97,7 +97,7 @@ invariant_of-self-2 g c =
     c.prepare_start.ensures.formed (rw c.over.ensures at c.in_ok-opening.ensures.ok) c.in_ok-opening.ensures.grown c.place.ensures.placed c.prepare_start.ensures.goals c.prepare_start.ensures.shoens c.as_slice.ensures.value c.place.ensures.grown
     may.code_is c.names-texts.ensures.value c.row-row.ensures (may_numbered c.args.allowance c.args.low c.args.high goal_term may.may) c.highest-variables.ensures
     (c.publish.ensures.texts ∙ ap (λ (ks : List Known). with_texts (texts_of ks) texts) c.prepare_start.ensures.names) c.publish.ensures.row (λ f fits. let F : List Known → Type 0 = λ ks. Fits ks f in subst F c.prepare_start.ensures.names (c.publish.ensures.fits f fits))
-    refl refl refl c.place.ensures.work c.prepare_start.ensures.work c.in_ok-last.ensures.value refl c.nodes.ensures refl refl refl in
+    refl refl refl refl c.place.ensures.work c.prepare_start.ensures.work c.in_ok-last.ensures.value refl c.nodes.ensures refl refl refl in
     let N : List Known → Type 0 = λ ks. AreNames ks in
     let once : AreNames a.names = subst N (c.requires.knows ∙ ap (λ (z : Account). z.names) (sym c.self.view_is)) (g.met.A.AtomSource.one_to_one c.args.names.now c.args.seat.now c.requires.of) in
     let hung : c.place.new.store.hooks ≡ (u.store.hooks ++ hooks_on (c.in_ok-opening.opening.streams.control ∷ []) (u.last_goal + 1)) ++ hooks_on awaited (u.last_goal + 2) =
@@ -112,7 +112,7 @@ pub returns-clause-step : goal.returns-clause-step
 returns-clause-step g c =
     let u = c.self.inside in
     let a = kept_in u in
-    let b : Account = record { own_name = u.name; held = c.place.new.store.held; goals = c.place.new.goals.goals; shoens = c.place.new.shoens.shoens; work = c.place.new.shoens.work; modules = u.modules.loaded; names = c.publish.new.known.names; last_goal = c.in_ok-last.last; variables = u.variables + (c.highest-variables.result + 2); nodes = u.nodes + c.nodes.result; reports = c.in_ok-opening.opening.streams.made; entries = u.entries + 1; sessions = u.sessions } in
+    let b : Account = record { own_name = u.name; rules = u.rules; held = c.place.new.store.held; goals = c.place.new.goals.goals; shoens = c.place.new.shoens.shoens; work = c.place.new.shoens.work; modules = u.modules.loaded; names = c.publish.new.known.names; last_goal = c.in_ok-last.last; variables = u.variables + (c.highest-variables.result + 2); nodes = u.nodes + c.nodes.result; reports = c.in_ok-opening.opening.streams.made; entries = u.entries + 1; sessions = u.sessions } in
     let goal_term = c.args.goal.now in
     let may = startable_of (kept_in c.self.inside).names c.counted-counted.result c.args.allowance c.args.low c.args.high c.args.goal.now c.in-Coded.code c.in_ok-refusal.field-0 c.in-Coded.is c.in_ok-refusal.ensures in
     let at : (f : Reading) → HasNames (state_of f (kept_in c.self.inside)) (kept_in c.self.inside).names c.counted-counted.result = λ f. (let H : Account → Type 0 = λ z. HasNames (state_of f z) z.names c.counted-counted.result in subst H (sym c.self.view_is) (c.counted-counted.ensures f)) in
@@ -124,7 +124,7 @@ returns-clause-step g c =
     c.prepare_start.ensures.formed (rw c.over.ensures at c.in_ok-opening.ensures.ok) c.in_ok-opening.ensures.grown c.place.ensures.placed c.prepare_start.ensures.goals c.prepare_start.ensures.shoens c.as_slice.ensures.value c.place.ensures.grown
     may.code_is c.names-texts.ensures.value c.row-row.ensures (may_numbered c.args.allowance c.args.low c.args.high goal_term may.may) c.highest-variables.ensures
     (c.publish.ensures.texts ∙ ap (λ (ks : List Known). with_texts (texts_of ks) texts) c.prepare_start.ensures.names) c.publish.ensures.row (λ f fits. let F : List Known → Type 0 = λ ks. Fits ks f in subst F c.prepare_start.ensures.names (c.publish.ensures.fits f fits))
-    refl refl refl c.place.ensures.work c.prepare_start.ensures.work c.in_ok-last.ensures.value refl c.nodes.ensures refl refl refl in
+    refl refl refl refl c.place.ensures.work c.prepare_start.ensures.work c.in_ok-last.ensures.value refl c.nodes.ensures refl refl refl in
     let k = c.self.invariant in
     let firm : IsFirm a = record { some = k.some; goals = k.goals; shoens = k.shoens; numbered = c.len.ensures.numbered } in
     let P : Account → Type 0 = λ z. (f : Reading) → Fits b.names f → step (state_of f z) (start c.args.allowance c.args.low c.args.high goal_term) ≡ record { state = state_of f b; reply = opened c.in_ok-shoen.shoen } in

@@ -1,9 +1,9 @@
 use Rattle.std.proofs.Common.{◌≡◌, List, sym, ap, ◌∙◌, subst}
-use Rattle.std.specs.Prelude.{Option, Some, None, option_map}
-use Rattle.kl1_user_events.specs.Whole.{whole_value, whole_of}
+use Rattle.std.specs.Prelude.{Some, None}
+use Rattle.kl1_user_events.specs.Whole.{whole_value}
 use Rattle.kl1_atoms.specs.declared.known.Known.{Known}
 use Rattle.kl1_user_effects.specs.Fitting.{Fits}
-use Rattle.kl1_user_effects.specs.Account.{Account, meaning, origin_with, state_of}
+use Rattle.kl1_user_effects.specs.Account.{Account, state_of}
 use Rattle.kl1_user_account.specs.Accounts.{kept_in}
 use Rattle.kl1_user_account.proofs.Origins.{kept_at, origin_in, goal_named, whole_none, whole_some}
 use Rattle.kl1_user_account.proofs.account.Account.whole_value.Goals as goal

@@ -1,18 +1,16 @@
-use Rattle.std.proofs.Common.{◌≡◌, ℕ, ◌≤◌, List, length, sym, ap, ◌∙◌, subst}
-use Rattle.kl1_model.specs.Limits.{most_names}
+use Rattle.std.proofs.Common.{ℕ, ◌≤◌, List, length, sym, ap, ◌∙◌, subst}
+use Rattle.kl1_model.specs.declared.limits.TheConstants.{MOST_NAMES}
 use Rattle.kl1_model.specs.State.{fresh_with}
-use Rattle.kl1_atoms.specs.declared.known.Known.{Known}
-use Rattle.kl1_clause.specs.NameList.{with_texts}
-use Rattle.kl1_user_effects.specs.Account.{state_of, texts_of}
+use Rattle.kl1_user_effects.specs.Account.{state_of}
 use Rattle.kl1_user_account.proofs.GivenNames.{put_to_none}
 use Rattle.kl1_user_account.proofs.account.Account.with_names.Goals as goal
 
 pub publish-requires-clause-few : goal.publish-requires-clause-few
 publish-requires-clause-few g c =
     let few = c.requires.few in
-    subst (λ (ts : List (List ℕ)). length ts ≤ most_names) (sym (put_to_none c.reserve.new.self.names c.args.texts.now (c.reserve.ensures.names ∙ c.new-known.ensures) c.requires.list)) few
+    subst (λ (ts : List (List ℕ)). length ts ≤ MOST_NAMES) (sym (put_to_none c.reserve.new.self.names c.args.texts.now (c.reserve.ensures.names ∙ c.new-known.ensures) c.requires.list)) few
 
 pub returns-clause-fresh : goal.returns-clause-fresh
 returns-clause-fresh g c = λ f.
     ap (state_of f) c.blank.ensures
-    ∙ ap (λ (ts : List (List ℕ)). fresh_with c.args.name ts c.args.sessions) (c.publish.ensures.texts ∙ put_to_none c.reserve.new.self.names c.args.texts.now (c.reserve.ensures.names ∙ c.new-known.ensures) c.requires.list)
+    ∙ ap (λ (ts : List (List ℕ)). fresh_with c.args.rules c.args.name ts c.args.sessions) (c.publish.ensures.texts ∙ put_to_none c.reserve.new.self.names c.args.texts.now (c.reserve.ensures.names ∙ c.new-known.ensures) c.requires.list)

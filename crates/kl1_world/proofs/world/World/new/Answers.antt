@@ -16,7 +16,7 @@ loop-seat-init g c =
     let many : length c.into_iter-seat-iterator.result.rest.items ≡ length c.args.seats.items = ap (λ xs. length xs) rest in
     record {
       lodged = lodged_none g.A.AtomSource.is_of g.A.AtomSource.place (g.C.CodeSource.has c.args.code_source) c.args.names c.new-kept.result.items none;
-      fresh = fresh_none c.new-kept.result.items c.args.accounts.now none;
+      fresh = fresh_none c.args.rules c.new-kept.result.items c.args.accounts.now none;
       rest = seats_all g.A.AtomSource.is_of g.A.AtomSource.place g.A.AtomSource.knows c.args.names (length c.new-kept.result.items) c.args.seats.items c.into_iter-seat-iterator.result.rest.items few rest c.requires.seats;
       count = omega (arith, few, many, c.requires.count);
     }
@@ -42,7 +42,7 @@ loop-seat-preserved g c =
           (subst (g.A.AtomSource.is_of c.args.names) (sym c.in_ok-new.ensures.seat) first.0)
           (ap (λ s. (g.A.AtomSource.place s).1) c.in_ok-new.ensures.seat ∙ first.1 ∙ omega arith)
           (subst (ArePlaced has) (sym c.in_ok-new.ensures.modules) tt));
-      fresh = fresh_next xs c.push.new.self.items x c.args.accounts.now c.index-accounts-len.result items c.loop-seat.invariant.fresh c.in_ok-new.ensures.fresh name_is;
+      fresh = fresh_next c.args.rules xs c.push.new.self.items x c.args.accounts.now c.index-accounts-len.result items c.loop-seat.invariant.fresh c.in_ok-new.ensures.fresh name_is;
       rest = subst (λ n. AreSeatsFrom g.A.AtomSource.is_of g.A.AtomSource.place g.A.AtomSource.knows c.args.names n c.next.new.self.rest.items) (sym longer)
           (seats_left g.A.AtomSource.is_of g.A.AtomSource.place g.A.AtomSource.knows c.args.names (length xs) c.in-Some.seat c.next.new.self.rest.items
           (subst (λ ys. AreSeatsFrom g.A.AtomSource.is_of g.A.AtomSource.place g.A.AtomSource.knows c.args.names (length xs) ys) c.in-Some.ensures.steps.0 c.loop-seat.invariant.rest));

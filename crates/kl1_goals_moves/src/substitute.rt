@@ -1,0 +1,65 @@
+// What substitutes can do.
+
+ghost use Rattle.std.specs.Prelude.{◌≡◌, ℕ, List, OnOk, IfOk};
+ghost use Rattle.kl1_text.specs.Reading.{Reads};
+ghost use Rattle.kl1_store.specs.Held.{IsIn};
+ghost use Rattle.kl1_store.specs.Meaning.{term_of};
+ghost use Rattle.kl1_match.specs.Waiting.{AreUnbound};
+ghost use Rattle.kl1_goals_moves.specs.Substitutes.{giving_way, SubstituteMoves, SubstituteStands};
+
+use crate::look::Look;
+use crate::moves::Move;
+use crate::order::look_at_goal;
+use crate::trial::Trial;
+use kl1_model::BuiltIn;
+use kl1_store::{Cell, Store};
+use kl1_text::NameValue;
+use std::alloc::AllocError;
+
+/// What a substitute does by the look at what it waits for, or nothing while it waits.
+fn giving_way<N: Copy>(look: Look) -> Option<Move<N>>
+    ensures { result ≡ giving_way look }
+{
+    match look {
+        Look::Right => Some(Move::GivesWay),
+        Look::Waits(_) => None,
+        Look::Wrong => Some(Move::Raises(BuiltIn::IllegalInput)),
+    }
+}
+
+/// What a substitute for what a cell is can do by the clause numbered `clause`, or nothing if that isn't allowed.
+pub fn substitute_move<N: NameValue>(
+    store: &Store<N>,
+    term: Cell<N>,
+    clause: u64,
+) -> Option<Move<N>>
+    requires { IsIn store.now.held term }
+    ensures { (f : N → List ℕ) → Reads N.built f → SubstituteMoves (term_of f store.now.held term) clause result }
+{
+    if clause != 0 {
+        return None;
+    }
+    giving_way(look_at_goal(store, term))
+}
+
+/// The clause by which a substitute for what a cell is can step: 0, or none while it waits. The trial gets the variable that it waits
+/// for, which is unbound.
+pub fn substitute_standing<N: NameValue>(
+    store: &Store<N>,
+    term: Cell<N>,
+    trial: &mut Trial<N>,
+) -> Result<Option<u64>, AllocError>
+    requires { IsIn store.now.held term }
+    ensures unbound { OnOk result (AreUnbound store.now.held trial.new.awaited.items) }
+    ensures standing { IfOk result (λ clause. (f : N → List ℕ) → Reads N.built f → SubstituteStands (term_of f store.now.held term) trial.new.awaited.items clause) }
+{
+    trial.awaited.clear();
+    match look_at_goal(store, term) {
+        Look::Right => Ok(Some(0)),
+        Look::Waits(variable) => {
+            trial.awaited.push(variable)?;
+            Ok(None)
+        }
+        Look::Wrong => Ok(Some(0)),
+    }
+}

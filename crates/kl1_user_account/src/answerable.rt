@@ -1,0 +1,112 @@
+// What may be answered.
+
+ghost use Rattle.std.specs.Prelude.{◌≡◌, codes, nat_le, IfOk, OnOk};
+ghost use Rattle.kl1_model.specs.Answering.{answer_line, may_answer};
+ghost use Rattle.kl1_user_effects.specs.Kept.{AreShoensIn};
+ghost use Rattle.kl1_user_account.specs.Answering.{AnswersAs};
+
+use crate::counted::Counted;
+use crate::limits::are_numbers;
+use crate::startable::put_number;
+use kl1_clause::{GoalCode, structures_of};
+use kl1_goals::Rules;
+use kl1_model::limits::{MOST_ENTRIES, MOST_LINE_BYTES};
+use kl1_read::is_goal;
+use kl1_shoen::ShoenTree;
+use kl1_store::Store;
+use kl1_stream::unanswered_at;
+use kl1_term::{Term, put_whole};
+use kl1_text::CellName;
+use kl1_user_effects::AccountNames;
+use kl1_user_events::Refusal;
+use std::alloc::{AllocError, Global};
+
+/// What comes of an answer: a refusal, or the code of its goal and the variable for which a substitute waits.
+#[derive(Drop)]
+pub(crate) enum Answering {
+    Refused(Refusal),
+    Coded(GoalCode, u32),
+}
+
+/// Puts the rest of the line of a journal for an answer after its first word. After an error some of it may be there.
+#[tactic(auto, using(crate::proofs::StartLines::answer_is))]
+fn put_answer(
+    alloc: Global,
+    line: &mut Vec<u8>,
+    number: u64,
+    report: u64,
+    goal: &Term,
+) -> Result<(), AllocError>
+    requires { line.old.items ≡ codes "answer " }
+    ensures { OnOk result (line.new.items ≡ answer_line number report goal.now) }
+{
+    put_number(line, number)?;
+    put_number(line, report)?;
+    put_whole(alloc, line, goal)
+}
+
+/// Whether a report has this number: the first is 1.
+fn is_report(report: u64) -> bool
+    ensures { result ≡ nat_le 1 report }
+{
+    1 <= report
+}
+
+/// Whether an answer has numbers in range, and a goal that can be written in a line of a journal and read back.
+fn may_answer(alloc: Global, number: u64, report: u64, goal: &Term) -> Result<bool, AllocError>
+    ensures { IfOk result (λ may. may ≡ may_answer number report goal.now) }
+{
+    if !are_numbers(number, report) || !is_report(report) || !is_goal(goal) {
+        return Ok(false);
+    }
+    if !goal.is_writable(alloc)? || !goal.is_numbered() {
+        return Ok(false);
+    }
+    let mut line = Vec::from_slice(alloc, b"answer ")?;
+    put_answer(alloc, &mut line, number, report, goal)?;
+    Ok(line.len() <= MOST_LINE_BYTES)
+}
+
+/// The code of the goal of an answer to a report of shoen `number`, in an account with these rules, names and counts, and the
+/// variable for which a substitute waits, or why it is refused.
+pub(crate) fn code_of_answer(
+    alloc: Global,
+    rules: Rules,
+    store: &Store<CellName>,
+    shoens: &ShoenTree<CellName>,
+    names: &AccountNames,
+    counted: Counted,
+    number: u64,
+    report: u64,
+    goal: &Term,
+) -> Result<Answering, AllocError>
+    requires shoens { AreShoensIn store.now.held shoens.now.shoens }
+    ensures { IfOk result (AnswersAs rules store.now.held shoens.now.shoens names.now.names counted number report goal.now) }
+{
+    if !rules.has_substitutes() {
+        return Ok(Answering::Refused(Refusal::Syntax));
+    }
+    if !may_answer(alloc, number, report, goal)? {
+        return Ok(Answering::Refused(Refusal::Syntax));
+    }
+    let Some(origin) = shoens.origin_at(number) else {
+        return Ok(Answering::Refused(Refusal::NoShoen));
+    };
+    if !shoens.lives(number) {
+        return Ok(Answering::Refused(Refusal::Ended));
+    }
+    let code = GoalCode::compile(alloc, goal)?;
+    if names.are_too_many(code.names()) {
+        return Ok(Answering::Refused(Refusal::Names));
+    }
+    if !counted.has_room_to_answer(goal.highest(), structures_of(goal)) {
+        return Ok(Answering::Refused(Refusal::Limit));
+    }
+    if MOST_ENTRIES <= counted.entries {
+        return Ok(Answering::Refused(Refusal::Journal));
+    }
+    match unanswered_at(store, origin.reports, report) {
+        None => Ok(Answering::Refused(Refusal::Answer)),
+        Some(variable) => Ok(Answering::Coded(code, variable)),
+    }
+}

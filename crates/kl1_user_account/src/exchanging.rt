@@ -1,0 +1,70 @@
+// Spare numbers that stand for names which are new, and numbers that take their places.
+
+ghost use Rattle.std.specs.Prelude.{◌≡◌, ◌+◌, [], length, IfOk, OnOk};
+ghost use Rattle.kl1_user_account.specs.Exchanging.{IsSpared, AreSpared, held_with_two, held_exchanged};
+
+use kl1_store::Store;
+use kl1_text::{AtomText, CellName};
+use kl1_user_effects::AccountNames;
+use std::alloc::AllocError;
+
+/// The number of a name that is used, and the spare number of a place for one that is new.
+fn number_or_spare(names: &AccountNames, text: &AtomText, place: u32) -> CellName
+    ensures { IsSpared names.now.names place text.now result }
+{
+    match names.number_of(text) {
+        Some(number) => number,
+        None => CellName::spare(place),
+    }
+}
+
+/// Puts a number for each name into an empty row: that of a name that is used, and for one that is new the spare number of its place.
+pub(crate) fn spare_row(
+    names: &AccountNames,
+    texts: &[AtomText],
+    row: &mut Vec<CellName>,
+) -> Result<(), AllocError>
+    requires { row.old.items ≡ [] }
+    ensures { OnOk result (AreSpared names.now.names 0 texts.now row.new.items) }
+{
+    let mut place = 0;
+    for text in texts {
+        let number = number_or_spare(names, text, place);
+        row.push(number)?;
+        place = next_place(place)?;
+    }
+    Ok(())
+}
+
+/// The place after one. Places that run out are refused as for want of memory.
+fn next_place(place: u32) -> Result<u32, AllocError>
+    ensures { IfOk result (λ next. next ≡ place + 1) }
+{
+    place.checked_add(1).ok_or(AllocError)
+}
+
+/// Lets two numbers stand for one another wherever they stand in a store, without memory. What hangs on variables stays.
+fn exchange_two(store: &mut Store<CellName>, spare: CellName, number: CellName)
+    ensures held { store.new.held ≡ held_with_two spare number store.old.held }
+    ensures hooks { store.new.hooks ≡ store.old.hooks }
+{
+    if spare.number == number.number {
+        return;
+    }
+    let mut beginning = store.mark();
+    beginning.sizes.structures = 0;
+    beginning.sizes.bindings = 0;
+    store.rename(beginning, &[spare, number], &[number, spare]);
+}
+
+/// Lets the spare numbers that stand for names and the numbers that these have got stand for one another wherever they stand in a store,
+/// without memory: what was read by a spare number is read by the other then. What hangs on variables stays.
+pub(crate) fn exchange(store: &mut Store<CellName>, spares: &[CellName], numbers: &[CellName])
+    requires { length numbers.now ≡ length spares.now }
+    ensures held { store.new.held ≡ held_exchanged spares.now numbers.now store.old.held }
+    ensures hooks { store.new.hooks ≡ store.old.hooks }
+{
+    for place in 0..spares.len() {
+        exchange_two(store, spares[place], numbers[place]);
+    }
+}

@@ -1,0 +1,411 @@
+-- Exceptions: with a report alone, and with a substitute in the place of the goal.
+use Rattle.std.proofs.Common.{◌≡◌, ℕ, suc, ◌+◌, ◌-◌, ◌<◌, ◌≤◌, ◌==◌, not, ◌&&◌, ◌||◌, Bool, true, false, if◌then◌else◌, List, [], ◌∷◌, ◌++◌, length, map, take, refl, sym, ap, ◌∙◌, subst, arith}
+use Rattle.std.specs.Prelude.{nat_lt, find, Option, Some, None, option_map}
+use Rattle.std.specs.List.{AllByRecursion}
+use Rattle.std.proofs.lemmas.Bool.{ne_eqb}
+use Rattle.std.proofs.lemmas.List.{map-append, take_all}
+use Rattle.kl1_model.specs.declared.built_in.BuiltIn.{BuiltIn}
+use Rattle.kl1_model.specs.declared.limits.TheConstants.{MOST_REPORTS, MONITOR_PRIORITY}
+use Rattle.kl1_model.specs.Text.{text_of}
+use Rattle.kl1_model.specs.Term.{Term, variable, integer, atom, structure, occurs}
+use Rattle.kl1_model.specs.State as model
+use Rattle.kl1_model.specs.State.{State, has_substitutes}
+use Rattle.kl1_model.specs.Report.{report, is_reported, is_reported_of, is_reported_at, exception, exception_with}
+use Rattle.kl1_model.specs.Reduction.{replaced_by, substituted_by, raised}
+use Rattle.kl1_text.specs.Reading.{Reads}
+use Rattle.kl1_text.specs.declared.cell_name.CellName.{CellName}
+use Rattle.kl1_store.specs.declared.qualified.Qualified.{Qualified}
+use Rattle.kl1_store.specs.declared.cell.Cell.{Cell}
+use Rattle.kl1_store.specs.declared.cell.Cell.TheVariants.{Variable, Integer, Atom, Structure}
+use Rattle.kl1_store.specs.declared.binding.Binding.{Binding}
+use Rattle.kl1_store.specs.declared.point.Point.{Point}
+use Rattle.kl1_store.specs.Held.{Shape, Held, IsIn, is_bound, with_variable}
+use Rattle.kl1_store.specs.Hooks.{Kept, point_of, HasGrown}
+use Rattle.kl1_store.specs.Sound.{Bound, IsFormed, Grown}
+use Rattle.kl1_store.proofs.Terms.{term_of-variable, term_of-unbound}
+use Rattle.kl1_store.proofs.Grows.{Grown-variable, Grown-trans}
+use Rattle.kl1_stream.specs.Exceptions.{IsException, IsExceptionWith}
+use Rattle.kl1_goals.specs.declared.task.Task.{Task}
+use Rattle.kl1_goals.specs.declared.task.Task.TheVariants.{Reduces, Substitutes}
+use Rattle.kl1_goals.specs.declared.goal.Goal.{Goal}
+use Rattle.kl1_goals.specs.Lists.{is_monitor_task}
+use Rattle.kl1_shoen_paths.specs.declared.shoen.Shoen.{Shoen}
+use Rattle.kl1_shoen.specs.Shoens.{Tree, has_number}
+use Rattle.kl1_codes_modules.specs.Numbered.{Numbered}
+use Rattle.kl1_user_effects.specs.declared.draft.Draft.{Draft}
+use Rattle.kl1_user_effects.specs.Fitting.{Reading, built}
+use Rattle.kl1_user_effects.specs.Account.{Means, meaning, aim, task_with, goal_with, shoen_with, with_kept}
+use Rattle.kl1_user_effects.specs.Wholes.{IsWhole}
+use Rattle.kl1_user_effects.specs.Kept.{IsTaskIn, IsOwned, AreShoensIn}
+use Rattle.kl1_user_effects.specs.Drafts.{goals_left, made_of, DraftsAll, HasBegun, one_for}
+use Rattle.kl1_user_effects.specs.Late.{is_variable, is_tail_of, IsNoTail, KeepsFree}
+use Rattle.kl1_user_effects.specs.Reports.{IsTold, IsDropped}
+use Rattle.kl1_user_effects.specs.Leaving.{Comes, AreMet}
+use Rattle.kl1_user_effects.specs.Works.{Made, worked, IsMadeIn, Knows, Turns}
+use Rattle.kl1_user_effects.proofs.States.{Agree, found_in, found_shoen_in}
+use Rattle.kl1_user_effects.proofs.Works.{read_as, rereads, grown_made, turns_then, turns_as}
+use Rattle.kl1_user_effects.proofs.Goals.{goals_in_append, owned_append}
+use Rattle.kl1_user_effects.proofs.Joining.{left_more}
+use Rattle.kl1_user_effects.proofs.Arriving.{comes_none, met_none, comes_one, met_one}
+use Rattle.kl1_user_effects.proofs.LateFree.{off_none, no_higher}
+use Rattle.kl1_user_effects.proofs.Reported.{dropped_is, unmade_turns}
+use Rattle.kl1_user_effects.proofs.Streams.{grown_turns}
+
+-- ---- a goal in the place of one that goes
+
+-- what is made with a goal of another task in the place of one
+abbrev pub with_one : Made → Goal CellName → Task CellName → Made
+with_one w goal task = record w { goals = w.goals ++ one_for w.last_goal goal task; last_goal = suc w.last_goal }
+
+pub replaced_turns : (ms : List Numbered) (h : Held CellName) (w : Made) (goal : Goal CellName) (task : Task CellName) → IsMadeIn h w → IsTaskIn h task → IsOwned (length w.shoens) goal →
+    Turns ms (λ f. replaced_by (goal_with (meaning f h) goal) (task_with (meaning f h) task)) h h w (with_one w goal task)
+replaced_turns ms h w goal task i j own =
+    let one = one_for w.last_goal goal task in
+    record {
+      inside = record {
+        some = i.some;
+        goals = goals_in_append h w.goals one i.goals (j, tt);
+        shoens = i.shoens;
+        owned = owned_append (length w.shoens) w.goals one i.owned (record { low = own.low; high = own.high }, tt);
+      };
+      states = λ f knows s.
+          let t = meaning f h in
+          let S = worked f s h w in
+          ap (λ (gs : List model.Goal). let z : State = record S { goals = gs; last_goal = suc w.last_goal } in z) (sym (map-append (goal_with t) w.goals one));
+    }
+
+-- a draft with a goal of another task in the place of one
+pub drafts_replaced : (h : Held CellName) (t : Tree CellName) (d e : Draft) (goal : Goal CellName) (task : Task CellName) → HasBegun d → IsTaskIn h task → IsOwned (length t.shoens) goal →
+    e.added.items ≡ d.added.items ++ one_for d.last_goal goal task → e.last_goal ≡ suc d.last_goal → e ≡ record d { added = e.added; last_goal = e.last_goal } →
+    DraftsAll (λ f. replaced_by (goal_with (meaning f h) goal) (task_with (meaning f h) task)) h h t t d e
+drafts_replaced h t d e goal task b j own added last is ms goals names i =
+    let w = made_of goals names t d in
+    let one = one_for d.last_goal goal task in
+    let le = b.removed in
+    let T : Made → Type 0 = λ m. Turns ms (λ f. replaced_by (goal_with (meaning f h) goal) (task_with (meaning f h) task)) h h w m in
+    let same : with_one w goal task ≡ made_of goals names t e =
+    ap (λ (gs : List (Goal CellName)). let z : Made = record w { goals = gs; last_goal = suc d.last_goal } in z) (sym (left_more d goals d.added.items one b (omega arith, tt)))
+    ∙ ap (λ (gs : List (Goal CellName)). let z : Made = record w { goals = goals_left (goals ++ gs) d; last_goal = suc d.last_goal } in z) (sym added)
+    ∙ ap (λ n. let z : Made = record w { goals = goals_left (goals ++ e.added.items) d; last_goal = n } in z) (sym last)
+    ∙ ap (made_of goals names t) (sym is) in
+    subst T same (replaced_turns ms h w goal task i j own)
+
+-- ---- a message with a new variable
+
+-- where the variable is another one
+or_none : (b c : Bool) → c ≡ false → (b || (c || false)) ≡ (b || false)
+or_none true c e = refl
+or_none false c e = ap (λ x. x || false) e
+
+-- a variable occurs in an exception with another variable as it does in the exception without that
+pub occurs_beside : (v w : ℕ) (kind : List ℕ) (goal : Term) → (v == w) ≡ false → occurs v (exception_with kind goal (variable w)) ≡ occurs v (exception kind goal)
+occurs_beside v w kind goal e = or_none (occurs v goal) (v == w) e
+
+-- such an exception is reported if the exception without the variable is
+reported_beside : (tail : Term) (kind : List ℕ) (goal : Term) (w made : ℕ) → ((v : ℕ) → tail ≡ variable v → (v == w) ≡ false) → is_reported_at (exception_with kind goal (variable w)) tail made ≡ is_reported_at (exception kind goal) tail made
+reported_beside (variable v) kind goal w made other = ap (λ b. not b && nat_lt made MOST_REPORTS) (occurs_beside v w kind goal (other v refl))
+reported_beside (integer i) kind goal w made other = refl
+reported_beside (atom a) kind goal w made other = refl
+reported_beside (structure g ts) kind goal w made other = refl
+
+-- ---- a variable that is new to a store
+
+unbound_past : {N : Type 0} (vs : ℕ) (ss : List (Shape N)) (before bs : List (Binding N)) (v : ℕ) → vs ≤ v → Bound vs ss before bs → is_bound v bs ≡ false
+unbound_past vs ss before [] v le p = refl
+unbound_past vs ss before (b ∷ bs) v le p =
+    let i = p.0.inside in
+    let other : b.variable ≡ v → ⊥ = λ e. omega arith in
+    ap (λ c. c || is_bound v bs) (ne_eqb b.variable v other) ∙ unbound_past vs ss (before ++ b ∷ []) bs v le p.1
+
+-- it means itself
+new_means : (f : Reading) (h : Held CellName) → IsFormed h → meaning f (with_variable h) (Variable h.variables) ≡ variable h.variables
+new_means f h p = term_of-unbound f (with_variable h) h.variables (unbound_past h.variables h.structures [] h.bindings h.variables (omega arith) p.bound)
+
+-- what means a variable was there before it
+tail_lower : (h : Held CellName) (f : Reading) (v : ℕ) (x : Cell CellName) → IsFormed h → IsIn h x → meaning f h x ≡ variable v → v < h.variables
+tail_lower h f v (Variable w) p i e = let le = no_higher (suc w) h f v w (omega arith) p (omega (arith, i)) e in omega (arith, le, i)
+tail_lower h f v (Integer n) p i e = absurd (off_none h f v (Integer n) tt p i e)
+tail_lower h f v (Atom a) p i e = absurd (off_none h f v (Atom a) tt p i e)
+tail_lower h f v (Structure s) p i e = absurd (off_none h f v (Structure s) tt p i e)
+
+-- so it is none of the cells that were there
+never_new : (h : Held CellName) (f : Reading) (v : ℕ) (x : Cell CellName) → IsFormed h → IsIn h x → meaning f h x ≡ variable v → (v == h.variables) ≡ false
+never_new h f v x p i e = let lt = tail_lower h f v x p i e in ne_eqb v h.variables (λ q. omega (arith, lt, q))
+
+-- an exception with it is reported if the exception without it is
+pub reported_here : (f : Reading) (h k : Held CellName) (ss : List (Shoen CellName)) (n made : ℕ) (kind : List ℕ) (goal : Term) → IsFormed h → AreShoensIn h ss → Agree h (meaning f k) (meaning f h) →
+    is_reported_of (option_map (shoen_with (meaning f h)) (find (has_number n) ss)) (exception kind goal) made ≡ is_reported_of (option_map (shoen_with (meaning f k)) (find (has_number n) ss)) (exception_with kind goal (variable h.variables)) made
+reported_here f h k ss n made kind goal p i agree = by_case (find (has_number n) ss) refl
+  where
+    by_case : (o : Option (Shoen CellName)) → find (has_number n) ss ≡ o →
+        is_reported_of (option_map (shoen_with (meaning f h)) o) (exception kind goal) made ≡ is_reported_of (option_map (shoen_with (meaning f k)) o) (exception_with kind goal (variable h.variables)) made
+    by_case None e = refl
+    by_case (Some sh) e =
+        let inside = found_shoen_in h n ss sh i e in
+        ap (λ b. not sh.is_broken && b) (sym (reported_beside (meaning f h sh.tail) kind goal h.variables made (λ v q. never_new h f v sh.tail p inside.tail q)))
+        ∙ ap (λ (t : Term). not sh.is_broken && is_reported_at (exception_with kind goal (variable h.variables)) t made) (sym (agree sh.tail inside.tail))
+
+none_is : (v : ℕ) (t : Term) → ((w : ℕ) → t ≡ variable w → (w == v) ≡ false) → is_variable v t ≡ false
+none_is v (variable w) other = other w refl
+none_is v (integer i) other = refl
+none_is v (atom a) other = refl
+none_is v (structure g ts) other = refl
+
+and_none : (b c : Bool) → c ≡ false → (b && c) ≡ false
+and_none true c e = e
+and_none false c e = refl
+
+-- it is the tail of no stream
+new_no_tail : (h k : Held CellName) (ss : List (Shoen CellName)) (n : ℕ) → IsFormed h → AreShoensIn h ss → ((f : Reading) → Agree h (meaning f k) (meaning f h)) → IsNoTail h.variables n k ss
+new_no_tail h k ss n p i agree f = by_case (find (has_number n) ss) refl
+  where
+    by_case : (o : Option (Shoen CellName)) → find (has_number n) ss ≡ o → is_tail_of h.variables (option_map (shoen_with (meaning f k)) o) ≡ false
+    by_case None e = refl
+    by_case (Some sh) e =
+        let inside = found_shoen_in h n ss sh i e in
+        and_none (not sh.is_broken) (is_variable h.variables (meaning f k sh.tail))
+        (none_is h.variables (meaning f k sh.tail) (λ w q. never_new h f w sh.tail p inside.tail (sym (agree f sh.tail inside.tail) ∙ q)))
+
+-- ---- a store with a new variable and an exception with it
+
+-- what a store is after a variable and an exception with it, in which nothing else is new
+pub record IsAsked (h mid : Held CellName) (kind : BuiltIn) (term message : Cell CellName) : Type 0 where
+  pub formed : IsFormed h
+  pub inside : IsIn h term
+  pub grown : Grown (with_variable h) mid
+  pub asks : IsExceptionWith built (with_variable h) mid kind term (Variable h.variables) message
+
+-- what is after a new variable and an exception with it
+pub asked : (h next mid : Held CellName) (kind : BuiltIn) (term message : Cell CellName) (v : ℕ) → IsFormed h → IsIn h term → (v ≡ h.variables) × (next ≡ with_variable h) → Grown next mid → IsExceptionWith built next mid kind term (Variable v) message → IsAsked h mid kind term message
+asked h next mid kind term message v p i fresh g e =
+    let G : Held CellName → Type 0 = λ x. Grown x mid in
+    let E : Held CellName → Type 0 = λ x. IsExceptionWith built x mid kind term (Variable v) message in
+    let V : ℕ → Type 0 = λ n. IsExceptionWith built (with_variable h) mid kind term (Variable n) message in
+    record { formed = p; inside = i; grown = subst G fresh.1 g; asks = subst V fresh.0 (subst E fresh.1 e) }
+
+in_next : (h : Held CellName) (x : Cell CellName) → IsIn h x → IsIn (with_variable h) x
+in_next h (Variable v) i = omega arith
+in_next h (Structure s) i = i
+in_next h (Integer n) i = tt
+in_next h (Atom a) i = tt
+
+-- a cell that was there is there after a new variable
+pub next_still : (h next : Held CellName) (v : ℕ) (x : Cell CellName) → (v ≡ h.variables) × (next ≡ with_variable h) → IsIn h x → IsIn next x
+next_still h next v x fresh i = let P : Held CellName → Type 0 = λ y. IsIn y x in subst P (sym fresh.1) (in_next h x i)
+
+-- and so is the variable
+pub next_there : (h next : Held CellName) (v : ℕ) → (v ≡ h.variables) × (next ≡ with_variable h) → IsIn next (Variable v)
+next_there h next v fresh =
+    let P : Held CellName → Type 0 = λ y. IsIn y (Variable v) in
+    let e = fresh.0 in
+    subst P (sym fresh.1) (omega (arith, e))
+
+pub next_grown : (h next : Held CellName) (v : ℕ) → (v ≡ h.variables) × (next ≡ with_variable h) → Grown h next
+next_grown h next v fresh = let P : Held CellName → Type 0 = λ y. Grown h y in subst P (sym fresh.1) (Grown-variable h)
+
+asked_agree : (h mid : Held CellName) (kind : BuiltIn) (term message : Cell CellName) → IsAsked h mid kind term message → (f : Reading) → Agree h (meaning f mid) (meaning f h)
+asked_agree h mid kind term message a f x i = a.asks.others f x (in_next h x i) ∙ term_of-variable f h x
+
+asked_means : (h mid : Held CellName) (kind : BuiltIn) (term message : Cell CellName) → IsAsked h mid kind term message → (f : Reading) → Reads built f → meaning f mid message ≡ exception_with (text_of kind) (meaning f h term) (variable h.variables)
+asked_means h mid kind term message a f reads =
+    a.asks.means f reads
+    ∙ ap (λ (t : Term). exception_with (text_of kind) t (meaning f (with_variable h) (Variable h.variables))) (term_of-variable f h term)
+    ∙ ap (λ (t : Term). exception_with (text_of kind) (meaning f h term) t) (new_means f h a.formed)
+
+pub asked_grown : (h mid : Held CellName) (kind : BuiltIn) (term message : Cell CellName) → IsAsked h mid kind term message → Grown h mid
+asked_grown h mid kind term message a = Grown-trans h (with_variable h) mid (Grown-variable h) a.grown
+
+-- the new variable is of each store that is later
+pub new_in : (h mid k : Held CellName) (kind : BuiltIn) (term message : Cell CellName) → IsAsked h mid kind term message → Grown mid k → IsIn k (Variable h.variables)
+new_in h mid k kind term message a g =
+    let more : mid.variables ≡ h.variables + 1 = a.asks.variables in
+    let le = g.variables in
+    omega (arith, more, le)
+
+-- the new variable stays unbound while the exception is reported
+pub new_stays : (h mid k : Held CellName) (kind : BuiltIn) (term message : Cell CellName) (ss : List (Shoen CellName)) (n : ℕ) → IsAsked h mid kind term message → AreShoensIn h ss → KeepsFree n ss mid k → (f : Reading) → Reads built f →
+    meaning f k (Variable h.variables) ≡ variable h.variables
+new_stays h mid k kind term message ss n a i free f reads =
+    let more : mid.variables ≡ h.variables + 1 = a.asks.variables in
+    free h.variables (omega (arith, more)) (new_no_tail h mid ss n a.formed i (asked_agree h mid kind term message a)) f reads
+    (a.asks.others f (Variable h.variables) (omega arith) ∙ new_means f h a.formed)
+
+-- whether the exception is reported is told of the exception without the variable
+pub told_here : (h mid k : Held CellName) (kind : BuiltIn) (term message : Cell CellName) (t : Tree CellName) (d : Draft) (n : ℕ) (made : Bool) → IsAsked h mid kind term message → AreShoensIn h t.shoens → IsTold n message mid k t.shoens d made →
+    (f : Reading) → Reads built f → (s : State) (goals : List (Goal CellName)) (names : List (List ℕ)) → is_reported n (exception (text_of kind) (meaning f h term)) (worked f s h (made_of goals names t d)) ≡ made
+told_here h mid k kind term message t d n made a i told f reads s goals names =
+    let E = exception (text_of kind) (meaning f h term) in
+    let M = exception_with (text_of kind) (meaning f h term) (variable h.variables) in
+    ap (λ (p : Option model.Shoen). is_reported_of p E d.reports) (found_in (meaning f h) n t.shoens)
+    ∙ reported_here f h mid t.shoens n d.reports (text_of kind) (meaning f h term) a.formed i (asked_agree h mid kind term message a f)
+    ∙ ap (λ (p : Option model.Shoen). is_reported_of p M d.reports) (sym (found_in (meaning f mid) n t.shoens))
+    ∙ ap (λ (m : Term). is_reported_of (model.shoen_at n (map (shoen_with (meaning f mid)) t.shoens)) m d.reports) (sym (asked_means h mid kind term message a f reads))
+    ∙ sym (told.is f reads s goals)
+
+-- ---- drafts after reports
+
+-- a draft that has begun still has after a report
+pub told_begun : (d e : Draft) → e ≡ record d { reports = e.reports } → HasBegun d → HasBegun e
+told_begun d e is b = let P : Draft → Type 0 = λ x. HasBegun x in subst P (sym is) (record { aborted = b.aborted; ended = b.ended; removed = b.removed })
+
+-- ---- exceptions by the rules
+
+-- if there are no substitutes an exception is a report
+pub plain_turns : (ms : List Numbered) (h k : Held CellName) (w v : Made) (goal : Goal CellName) (kind : List ℕ) (x : Cell CellName) → has_substitutes w.rules ≡ false → Turns ms (λ f. report goal.shoen (exception kind (meaning f h x))) h k w v →
+    Turns ms (λ f. raised (goal_with (meaning f h) goal) kind (meaning f h x)) h k w v
+plain_turns ms h k w v goal kind x one t =
+    turns_as ms (λ f. report goal.shoen (exception kind (meaning f h x))) (λ f. raised (goal_with (meaning f h) goal) kind (meaning f h x)) h k w v
+    (λ f knows s.
+    let S = worked f s h w in
+    let G = goal_with (meaning f h) goal in
+    let T = meaning f h x in
+    ap (λ b. if b && is_reported goal.shoen (exception kind T) S then substituted_by G kind T S else report goal.shoen (exception kind T) S) one)
+    t
+
+-- one that isn't reported is one too
+pub unreported_turns : (ms : List Numbered) (h k : Held CellName) (w v : Made) (goal : Goal CellName) (kind : List ℕ) (x : Cell CellName) → has_substitutes w.rules ≡ true → ((f : Reading) → Knows ms f → (s : State) → is_reported goal.shoen (exception kind (meaning f h x)) (worked f s h w) ≡ false) →
+    Turns ms (λ f. report goal.shoen (exception kind (meaning f h x))) h k w v → Turns ms (λ f. raised (goal_with (meaning f h) goal) kind (meaning f h x)) h k w v
+unreported_turns ms h k w v goal kind x two unmade t =
+    turns_as ms (λ f. report goal.shoen (exception kind (meaning f h x))) (λ f. raised (goal_with (meaning f h) goal) kind (meaning f h x)) h k w v
+    (λ f knows s.
+    let S = worked f s h w in
+    let G = goal_with (meaning f h) goal in
+    let T = meaning f h x in
+    ap (λ b. if b && is_reported goal.shoen (exception kind T) S then substituted_by G kind T S else report goal.shoen (exception kind T) S) two
+    ∙ ap (λ b. if b then substituted_by G kind T S else report goal.shoen (exception kind T) S) (unmade f knows s))
+    t
+
+-- a store with one variable more
+new_turns : (ms : List Numbered) (h : Held CellName) (w : Made) → IsMadeIn h w → Turns ms (λ f s. record s { last_variable = suc s.last_variable }) h (with_variable h) w w
+new_turns ms h w i = record {
+  inside = grown_made h (with_variable h) w (Grown-variable h) i;
+  states = λ f knows s.
+      let some = i.some in
+      let last : suc (h.variables - 1) ≡ (h.variables + 1) - 1 = omega arith in
+      rereads s (meaning f h) (meaning f (with_variable h)) (suc (h.variables - 1)) h w (λ x j. sym (term_of-variable f h x)) i
+      ∙ ap (λ n. read_as s (meaning f (with_variable h)) n w) last;
+}
+
+-- what becomes of a state whose goal gets a substitute for this term, with this message and this last variable
+abbrev substituted_at : Goal CellName → State → ℕ → Term → Term → State
+substituted_at goal s new message awaited =
+    record (report goal.shoen message (record s { last_variable = new })) {
+      goals = (report goal.shoen message (record s { last_variable = new })).goals ++ record { number = suc (report goal.shoen message (record s { last_variable = new })).last_goal; task = model.substitutes awaited; shoen = goal.shoen; priority = goal.priority } ∷ [];
+      last_goal = suc (report goal.shoen message (record s { last_variable = new })).last_goal;
+    }
+
+substituted_state : (f : Reading) (h mid k : Held CellName) (w : Made) (goal : Goal CellName) (kind : BuiltIn) (term message : Cell CellName) (s : State) → has_substitutes w.rules ≡ true → 0 < h.variables → is_reported goal.shoen (exception (text_of kind) (meaning f h term)) (worked f s h w) ≡ true →
+    meaning f mid message ≡ exception_with (text_of kind) (meaning f h term) (variable h.variables) → meaning f k (Variable h.variables) ≡ variable h.variables →
+    raised (goal_with (meaning f h) goal) (text_of kind) (meaning f h term) (worked f s h w) ≡ substituted_at goal (worked f s h w) (suc (h.variables - 1)) (meaning f mid message) (meaning f k (Variable h.variables))
+substituted_state f h mid k w goal kind term message s two some reported means stays =
+    let S = worked f s h w in
+    let G = goal_with (meaning f h) goal in
+    let K = text_of kind in
+    let T = meaning f h term in
+    let new : suc (h.variables - 1) ≡ h.variables = omega arith in
+    ap (λ b. if b && is_reported goal.shoen (exception K T) S then substituted_by G K T S else report goal.shoen (exception K T) S) two
+    ∙ ap (λ b. if b then substituted_by G K T S else report goal.shoen (exception K T) S) reported
+    ∙ ap (λ v. substituted_at goal S (suc (h.variables - 1)) (exception_with K T (variable v)) (variable v)) new
+    ∙ ap (λ (m : Term). substituted_at goal S (suc (h.variables - 1)) m (variable h.variables)) (sym means)
+    ∙ ap (λ (x : Term). substituted_at goal S (suc (h.variables - 1)) (meaning f mid message) x) (sym stays)
+
+-- an exception that is reported with a new variable, for which a substitute waits in the place of the goal
+pub drafts_substituted : (h mid k : Held CellName) (t u : Tree CellName) (d e x : Draft) (goal : Goal CellName) (kind : BuiltIn) (term message : Cell CellName) → has_substitutes d.rules ≡ true → IsAsked h mid kind term message → AreShoensIn h t.shoens →
+    IsTold goal.shoen message mid k t.shoens d true → KeepsFree goal.shoen t.shoens mid k → DraftsAll (λ f. report goal.shoen (meaning f mid message)) mid k t u d e → DraftsAll (λ f. replaced_by (goal_with (meaning f k) goal) (task_with (meaning f k) (Substitutes (Variable h.variables)))) k k u u e x →
+    DraftsAll (λ f. raised (goal_with (meaning f h) goal) (text_of kind) (meaning f h term)) h k t u d x
+drafts_substituted h mid k t u d e x goal kind term message two a shoens told free reporting replacing ms goals names i =
+    let w = made_of goals names t d in
+    let v = made_of goals names u e in
+    let z = made_of goals names u x in
+    let new : Reading → State → State = λ f s. record s { last_variable = suc s.last_variable } in
+    let tells : Reading → State → State = λ f. report goal.shoen (meaning f mid message) in
+    let stands : Reading → State → State = λ f. replaced_by (goal_with (meaning f k) goal) (task_with (meaning f k) (Substitutes (Variable h.variables))) in
+    let first = new_turns ms h w i in
+    let second = grown_turns ms (with_variable h) mid w a.grown a.asks.variables a.asks.others first.inside in
+    let both = turns_then ms new (λ f s. s) h (with_variable h) mid w w w first second in
+    let third = reporting ms goals names both.inside in
+    let so_far = turns_then ms new tells h mid k w w v both third in
+    let all = turns_then ms (λ f s. tells f (new f s)) stands h k k w v z so_far (replacing ms goals names third.inside) in
+    turns_as ms (λ f s. stands f (tells f (new f s))) (λ f. raised (goal_with (meaning f h) goal) (text_of kind) (meaning f h term)) h k w z
+    (λ f knows s. substituted_state f h mid k w goal kind term message s two i.some (told_here h mid k kind term message t d goal.shoen true a shoens told f knows.reads s goals names) (asked_means h mid kind term message a f knows.reads)
+    (new_stays h mid k kind term message t.shoens goal.shoen a shoens free f knows.reads))
+    all
+
+-- with what the code has for the substitute: a goal with the variable's number
+pub drafts_asked : (h mid k : Held CellName) (t u : Tree CellName) (d e x : Draft) (goal : Goal CellName) (kind : BuiltIn) (term message : Cell CellName) (v : ℕ) (made : Bool) → has_substitutes d.rules ≡ true → HasBegun d → IsOwned (length t.shoens) goal → IsAsked h mid kind term message → AreShoensIn h t.shoens → v ≡ h.variables →
+    made ≡ true → IsTold goal.shoen message mid k t.shoens d made → KeepsFree goal.shoen t.shoens mid k → DraftsAll (λ f. report goal.shoen (meaning f mid message)) mid k t u d e → Grown mid k → length u.shoens ≡ length t.shoens → e ≡ record d { reports = e.reports } →
+    x.added.items ≡ e.added.items ++ one_for e.last_goal goal (Substitutes (Variable v)) → x.last_goal ≡ suc e.last_goal → x ≡ record e { added = x.added; last_goal = x.last_goal } →
+    DraftsAll (λ f. raised (goal_with (meaning f h) goal) (text_of kind) (meaning f h term)) h k t u d x
+drafts_asked h mid k t u d e x goal kind term message v made two begun own a shoens number so told free reporting g count first added last is =
+    let N : ℕ → Type 0 = λ n. x.added.items ≡ e.added.items ++ one_for e.last_goal goal (Substitutes (Variable n)) in
+    let T : Bool → Type 0 = λ b. IsTold goal.shoen message mid k t.shoens d b in
+    let O : ℕ → Type 0 = λ n. IsOwned n goal in
+    drafts_substituted h mid k t u d e x goal kind term message two a shoens (subst T so told) free reporting
+    (drafts_replaced k u e x goal (Substitutes (Variable h.variables)) (told_begun d e first begun) (new_in h mid k kind term message a g) (subst O (sym count) own) (subst N number added) last is)
+
+-- going back to a mark from before the new variable, after a report that wasn't made, leaves the store as it was, and what a report
+-- without the variable leaves of the rest
+pub drafts_unsubstituted : (h mid k : Held CellName) (t u : Tree CellName) (d e : Draft) (goal : Goal CellName) (kind : BuiltIn) (term message : Cell CellName) → has_substitutes d.rules ≡ true → IsAsked h mid kind term message → AreShoensIn h t.shoens →
+    IsTold goal.shoen message mid k t.shoens d false → IsDropped goal.shoen t u d e → DraftsAll (λ f. raised (goal_with (meaning f h) goal) (text_of kind) (meaning f h term)) h h t u d e
+drafts_unsubstituted h mid k t u d e goal kind term message two a shoens told dropped ms goals names i =
+    let w = made_of goals names t d in
+    let unmade : (f : Reading) → Knows ms f → (s : State) → is_reported goal.shoen (exception (text_of kind) (meaning f h term)) (worked f s h w) ≡ false =
+    λ f knows s. told_here h mid k kind term message t d goal.shoen false a shoens told f knows.reads s goals names in
+    let T : Made → Type 0 = λ m. Turns ms (λ f. report goal.shoen (exception (text_of kind) (meaning f h term))) h h w m in
+    unreported_turns ms h h w (made_of goals names u e) goal (text_of kind) term two unmade
+    (subst T (dropped_is goals names t u d e goal.shoen dropped) (unmade_turns ms h w goal.shoen (λ f. exception (text_of kind) (meaning f h term)) i unmade))
+
+-- a store that has only grown, by no hook, still has all that it had
+pub has_grown : (old new : Kept CellName) → Grown old.held new.held → new.hooks ≡ old.hooks → HasGrown old new
+has_grown old new grown hooks = record { held = grown; hooks = ap (take (length old.hooks)) hooks ∙ take_all (length old.hooks) old.hooks (omega arith) }
+
+-- so it can go back to its mark
+pub can_go_back : (old new : Kept CellName) (mark : Point) → mark ≡ point_of old → IsFormed old.held → Grown old.held new.held → new.hooks ≡ old.hooks → (k : Kept CellName) × ((mark ≡ point_of k) × (IsFormed k.held × HasGrown k new))
+can_go_back old new mark is formed grown hooks = (old, (is, (formed, has_grown old new grown hooks)))
+
+-- and is then as it was
+pub went_back : (old new back : Kept CellName) (mark : Point) → ((k : Kept CellName) → mark ≡ point_of k → HasGrown k new → back.held ≡ k.held) → mark ≡ point_of old → Grown old.held new.held → new.hooks ≡ old.hooks → back.held ≡ old.held
+went_back old new back mark held is grown hooks = held old is (has_grown old new grown hooks)
+
+-- a store after a new variable, and after what has come since
+pub grown_since : (h next mid k : Held CellName) (v : ℕ) → (v ≡ h.variables) × (next ≡ with_variable h) → Grown next mid → Grown mid k → Grown h k
+grown_since h next mid k v fresh g more = Grown-trans h mid k (Grown-trans h next mid (next_grown h next v fresh) g) more
+
+-- ---- goals that were made whole
+
+-- an exception of a goal that was made whole before
+pub whole_turns : (ms : List Numbered) (h mid k : Held CellName) (w v : Made) (goal : Goal CellName) (kind : List ℕ) (cell : Qualified CellName) (x : Cell CellName) → Grown h mid → IsWhole h mid cell x → IsMadeIn h w →
+    (IsMadeIn mid w → Turns ms (λ f. raised (goal_with (meaning f mid) goal) kind (meaning f mid x)) mid k w v) → Turns ms (λ f. raised (goal_with (meaning f h) goal) kind (aim f h cell)) h k w v
+whole_turns ms h mid k w v goal kind cell x g e i next =
+    let first = grown_turns ms h mid w g e.variables e.others i in
+    turns_as ms (λ f. raised (goal_with (meaning f mid) goal) kind (meaning f mid x)) (λ f. raised (goal_with (meaning f h) goal) kind (aim f h cell)) h k w v
+    (λ f knows s. ap (λ t. raised (goal_with (meaning f h) goal) kind t (worked f s h w)) (sym (e.means f knows.reads)))
+    (turns_then ms (λ f s. s) (λ f. raised (goal_with (meaning f mid) goal) kind (meaning f mid x)) h mid k w w v first (next first.inside))
+
+-- ---- what comes
+
+-- after a report alone none comes
+pub comes_told : (k : Held CellName) (n count : ℕ) (d e : Draft) → e ≡ record d { reports = e.reports } → d.added.items ≡ [] → Comes k n count d e
+comes_told k n count d e is none = let last : e.last_goal ≡ d.last_goal = ap (λ (x : Draft). x.last_goal) is in comes_none k n count d e (ap (λ (x : Draft). x.added.items) is ∙ none) (omega (arith, last))
+
+pub met_told : (d e : Draft) → e ≡ record d { reports = e.reports } → d.added.items ≡ [] → AreMet e.added.items
+met_told d e is none = met_none e (ap (λ (x : Draft). x.added.items) is ∙ none)
+
+-- a substitute comes in the place of a goal, after a report
+pub comes_substitute : (k : Held CellName) (n count : ℕ) (d e x : Draft) (g : Goal CellName) (task : Task CellName) → HasBegun d → e ≡ record d { reports = e.reports } → x ≡ record e { added = x.added; last_goal = x.last_goal } → d.added.items ≡ [] → count ≡ n →
+    x.added.items ≡ e.added.items ++ one_for e.last_goal g task → x.last_goal ≡ suc e.last_goal → IsOwned n g → g.priority ≤ MONITOR_PRIORITY → is_monitor_task task ≡ false → IsTaskIn k task → Comes k n count d x
+comes_substitute k n count d e x g task begun first second none same added last own level other inside =
+    let low = own.low in
+    let high = own.high in
+    let last_is : e.last_goal ≡ d.last_goal = ap (λ (y : Draft). y.last_goal) first in
+    let is : x.added.items ≡ one_for d.last_goal g task = added ∙ ap (λ (gs : List (Goal CellName)). gs ++ one_for e.last_goal g task) (ap (λ (y : Draft). y.added.items) first ∙ none) ∙ ap (λ m. one_for m g task) last_is in
+    comes_one k n count d x g task begun (ap (λ (y : Draft). y.removed) second ∙ ap (λ (y : Draft). y.removed) first) (ap (λ (y : Draft). y.aborted.items) second ∙ ap (λ (y : Draft). y.aborted.items) first)
+    (ap (λ (y : Draft). y.ended.items) second ∙ ap (λ (y : Draft). y.ended.items) first) is (last ∙ ap suc last_is) low (omega (arith, high, same)) level other inside
+
+pub met_substitute : (d e x : Draft) (g : Goal CellName) (task : Task CellName) → e ≡ record d { reports = e.reports } → d.added.items ≡ [] → x.added.items ≡ e.added.items ++ one_for e.last_goal g task → is_monitor_task task ≡ false → AreMet x.added.items
+met_substitute d e x g task first none added other =
+    met_one x e.last_goal g task (added ∙ ap (λ (gs : List (Goal CellName)). gs ++ one_for e.last_goal g task) (ap (λ (y : Draft). y.added.items) first ∙ none)) other
+
+-- after a report alone nothing else is another
+pub told_rest : (d e : Draft) → e ≡ record d { reports = e.reports } → e ≡ record d { reports = e.reports; added = e.added; last_goal = e.last_goal }
+told_rest d e is = is ∙ sym (ap (λ (y : Draft). let z : Draft = record d { reports = e.reports; added = y.added; last_goal = y.last_goal } in z) is)
