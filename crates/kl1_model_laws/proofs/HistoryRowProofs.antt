@@ -1,7 +1,7 @@
 -- What accounts come to in the course of events, computed from the definitions.
 use Rattle.std.specs.Prelude.{◌≡◌, refl, codes, [], ◌∷◌, ◌++◌, Some, None, pos}
 use Rattle.kl1_model.specs.declared.message.Message.TheVariants.{Allow}
-use Rattle.kl1_model.specs.declared.rules.Rules.TheVariants.{One, Two}
+use Rattle.kl1_model.specs.declared.rules.Rules.TheVariants.{One, Three}
 use Rattle.kl1_model.specs.Term.{variable, integer}
 use Rattle.kl1_model.specs.State.{fresh, fresh_with}
 use Rattle.kl1_model.specs.Event.{load, start, reduce, login, logout, reset, loaded, opened, welcome, bye, was_reset, refused, step_refused, too_many_names, sessions_refused}
@@ -31,7 +31,7 @@ session_after_another_row : replies_to (kept_after_lines alice (codes "login" �
 unfolding digits tokens_within expression_at series_by grouped_by body_by mgu_within walk path_within
 session_after_another_row = refl
 
-sessions_of_a_journal_row : (kept_after_lines alice (codes "login" ∷ codes "login" ∷ codes "logout" ∷ [])).journal ≡ new_journal Two [] 1
+sessions_of_a_journal_row : (kept_after_lines alice (codes "login" ∷ codes "login" ∷ codes "logout" ∷ [])).journal ≡ new_journal Three [] 1
 unfolding digits tokens_within expression_at series_by grouped_by body_by mgu_within walk path_within
 sessions_of_a_journal_row = refl
 
@@ -91,11 +91,11 @@ queries_row : kept_after_lines with_each_entry (codes "status 1" ∷ codes "jour
 unfolding digits tokens_within expression_at series_by grouped_by body_by mgu_within walk path_within
 queries_row = refl
 
-account_after_a_reset_row : (done with_each_entry reset).kept.state ≡ fresh_with Two (codes "alice") (codes "e" ∷ codes "f" ∷ []) 1
+account_after_a_reset_row : (done with_each_entry reset).kept.state ≡ fresh_with Three (codes "alice") (codes "e" ∷ codes "f" ∷ []) 1
 unfolding digits tokens_within expression_at series_by grouped_by body_by mgu_within walk path_within
 account_after_a_reset_row = refl
 
-journal_after_a_reset_row : (done with_each_entry reset).kept.journal ≡ new_journal Two (codes "e" ∷ codes "f" ∷ []) 1
+journal_after_a_reset_row : (done with_each_entry reset).kept.journal ≡ new_journal Three (codes "e" ∷ codes "f" ∷ []) 1
 unfolding digits tokens_within expression_at series_by grouped_by body_by mgu_within walk path_within
 journal_after_a_reset_row = refl
 
@@ -103,39 +103,39 @@ reply_of_a_reset_row : (done with_each_entry reset).reply ≡ was_reset
 unfolding digits tokens_within expression_at series_by grouped_by body_by mgu_within walk path_within
 reply_of_a_reset_row = refl
 
-names_read_back_row : journal_in (written_lines (journal_lines (done with_each_entry reset).kept.journal)) ≡ Some (new_journal Two (codes "e" ∷ codes "f" ∷ []) 1)
+names_read_back_row : journal_in (written_lines (journal_lines (done with_each_entry reset).kept.journal)) ≡ Some (new_journal Three (codes "e" ∷ codes "f" ∷ []) 1)
 unfolding digits tokens_within expression_at series_by grouped_by body_by mgu_within walk path_within
 names_read_back_row = refl
 
-full_journal_reset_row : (step (after_reset (with_entries 262144 (fresh Two (codes "alice")))) (start 1 0 1 true_term)).reply ≡ opened 1
+full_journal_reset_row : (step (after_reset (with_entries 262144 (fresh Three (codes "alice")))) (start 1 0 1 true_term)).reply ≡ opened 1
 unfolding digits tokens_within expression_at series_by grouped_by body_by mgu_within walk path_within
 full_journal_reset_row = refl
 
-full_journal_login_row : (step (with_entries 262144 (fresh Two (codes "alice"))) login).reply ≡ welcome (codes "alice")
+full_journal_login_row : (step (with_entries 262144 (fresh Three (codes "alice"))) login).reply ≡ welcome (codes "alice")
 unfolding digits tokens_within expression_at series_by grouped_by body_by mgu_within walk path_within
 full_journal_login_row = refl
 
-names_reset_row : (step (after_reset (with_many_names 1024 (fresh Two (codes "alice")))) (start_of (codes "y"))).reply ≡ refused too_many_names
+names_reset_row : (step (after_reset (with_many_names 1024 (fresh Three (codes "alice")))) (start_of (codes "y"))).reply ≡ refused too_many_names
 unfolding digits tokens_within expression_at series_by grouped_by body_by mgu_within walk path_within
 names_reset_row = refl
 
-names_used_again_row : (step (after_reset (with_many_names 1024 (fresh Two (codes "alice")))) (start_of (codes "x1023"))).reply ≡ opened 1
+names_used_again_row : (step (after_reset (with_many_names 1024 (fresh Three (codes "alice")))) (start_of (codes "x1023"))).reply ≡ opened 1
 unfolding digits tokens_within expression_at series_by grouped_by body_by mgu_within walk path_within
 names_used_again_row = refl
 
-counts_reset_row : (step (after_reset (with_counts 262144 1048576 (fresh Two (codes "alice")))) (start 1 0 1 true_term)).reply ≡ opened 1
+counts_reset_row : (step (after_reset (with_counts 262144 1048576 (fresh Three (codes "alice")))) (start 1 0 1 true_term)).reply ≡ opened 1
 unfolding digits tokens_within expression_at series_by grouped_by body_by mgu_within walk path_within
 counts_reset_row = refl
 
-shoens_reset_row : (step (after_reset (with_last_shoen 1024 (fresh Two (codes "alice")))) (start 1 0 1 true_term)).reply ≡ opened 1
+shoens_reset_row : (step (after_reset (with_last_shoen 1024 (fresh Three (codes "alice")))) (start 1 0 1 true_term)).reply ≡ opened 1
 unfolding digits tokens_within expression_at series_by grouped_by body_by mgu_within walk path_within
 shoens_reset_row = refl
 
-reports_reset_row : stream 1 (step (after_reset (with_reports 65536 (fresh Two (codes "alice")))) (start 1 0 1 true_term)).state ≡ codes "[started|_3]"
+reports_reset_row : stream 1 (step (after_reset (with_reports 65536 (fresh Three (codes "alice")))) (start 1 0 1 true_term)).state ≡ codes "[started|_3]"
 unfolding digits tokens_within expression_at series_by grouped_by body_by mgu_within walk path_within
 reports_reset_row = refl
 
-modules_reset_row : (step (after_reset (with_modules 32 (fresh Two (codes "alice")))) (load no_clauses)).reply ≡ loaded (codes "e")
+modules_reset_row : (step (after_reset (with_modules 32 (fresh Three (codes "alice")))) (load no_clauses)).reply ≡ loaded (codes "e")
 unfolding digits tokens_within expression_at series_by grouped_by body_by mgu_within walk path_within
 modules_reset_row = refl
 

@@ -10,6 +10,7 @@ pub mod HistoryRowProofs
 pub mod GuardRowProofs
 pub mod ShoenRowProofs
 pub mod SubstituteRowProofs
+pub mod SpellingRowProofs
 pub mod StreamRowProofs
 pub mod SectionOrder
 pub mod Allowances

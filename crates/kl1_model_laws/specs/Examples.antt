@@ -176,7 +176,7 @@ answers_that_are_refused_script = codes "accounts alice" ++ 10 ∷ [] ++ codes "
 
 -- the bytes of answers_that_are_refused.expected
 abbrev pub answers_that_are_refused_output : List ℕ
-answers_that_are_refused_output = codes "alice + shoen 1" ++ 10 ∷ [] ++ codes "alice + shoen 2" ++ 10 ∷ [] ++ codes "alice + 3" ++ 10 ∷ [] ++ codes "alice - 1 syntax" ++ 10 ∷ [] ++ codes "alice - 1 syntax" ++ 10 ∷ [] ++ codes "alice - 1 syntax" ++ 10 ∷ [] ++ codes "alice - 1 syntax" ++ 10 ∷ [] ++ codes "alice - 1 syntax" ++ 10 ∷ [] ++ codes "alice - 1 syntax" ++ 10 ∷ [] ++ codes "alice - 1 syntax" ++ 10 ∷ [] ++ codes "alice - 1 syntax" ++ 10 ∷ [] ++ codes "alice - 4 noshoen" ++ 10 ∷ [] ++ codes "alice - 4 noshoen" ++ 10 ∷ [] ++ codes "alice - 4 noshoen" ++ 10 ∷ [] ++ codes "alice - 13 answer" ++ 10 ∷ [] ++ codes "alice - 13 answer" ++ 10 ∷ [] ++ codes "alice + 2" ++ 10 ∷ [] ++ codes "alice started" ++ 10 ∷ [] ++ codes "alice exception(failure,'='(1,2),_9)" ++ 10 ∷ [] ++ codes "alice + 0" ++ 10 ∷ [] ++ codes "alice + 6" ++ 10 ∷ [] ++ codes "alice journal 2 0 0" ++ 10 ∷ [] ++ codes "alice start 10 0 9 '='(1,2)" ++ 10 ∷ [] ++ codes "alice start 10 0 9 shoen:execute('='(1,2),0,9,9,_1,_2)" ++ 10 ∷ [] ++ codes "alice reduce 2 0" ++ 10 ∷ [] ++ codes "alice reduce 4 0" ++ 10 ∷ [] ++ codes "alice reduce 7 0" ++ 10 ∷ []
+answers_that_are_refused_output = codes "alice + shoen 1" ++ 10 ∷ [] ++ codes "alice + shoen 2" ++ 10 ∷ [] ++ codes "alice + 3" ++ 10 ∷ [] ++ codes "alice - 1 syntax" ++ 10 ∷ [] ++ codes "alice - 1 syntax" ++ 10 ∷ [] ++ codes "alice - 1 syntax" ++ 10 ∷ [] ++ codes "alice - 1 syntax" ++ 10 ∷ [] ++ codes "alice - 1 syntax" ++ 10 ∷ [] ++ codes "alice - 1 syntax" ++ 10 ∷ [] ++ codes "alice - 1 syntax" ++ 10 ∷ [] ++ codes "alice - 1 syntax" ++ 10 ∷ [] ++ codes "alice - 4 noshoen" ++ 10 ∷ [] ++ codes "alice - 4 noshoen" ++ 10 ∷ [] ++ codes "alice - 4 noshoen" ++ 10 ∷ [] ++ codes "alice - 13 answer" ++ 10 ∷ [] ++ codes "alice - 13 answer" ++ 10 ∷ [] ++ codes "alice + 2" ++ 10 ∷ [] ++ codes "alice started" ++ 10 ∷ [] ++ codes "alice exception(failure,'='(1,2),_9)" ++ 10 ∷ [] ++ codes "alice + 0" ++ 10 ∷ [] ++ codes "alice + 6" ++ 10 ∷ [] ++ codes "alice journal 3 0 0" ++ 10 ∷ [] ++ codes "alice start 10 0 9 '='(1,2)" ++ 10 ∷ [] ++ codes "alice start 10 0 9 shoen:execute('='(1,2),0,9,9,_1,_2)" ++ 10 ∷ [] ++ codes "alice reduce 2 0" ++ 10 ∷ [] ++ codes "alice reduce 4 0" ++ 10 ∷ [] ++ codes "alice reduce 7 0" ++ 10 ∷ []
 
 -- the bytes of append_beside_another_account.script
 abbrev pub append_beside_another_account_script : List ℕ
@@ -536,7 +536,7 @@ journal_by_pages_script = codes "accounts alice bob" ++ 10 ∷ [] ++ codes "alic
 
 -- the bytes of journal_by_pages.expected
 abbrev pub journal_by_pages_output : List ℕ
-journal_by_pages_output = codes "alice + shoen 1" ++ 10 ∷ [] ++ codes "alice + shoen 2" ++ 10 ∷ [] ++ codes "alice + 2" ++ 10 ∷ [] ++ codes "alice + 1" ++ 10 ∷ [] ++ codes "alice journal 2 0 0" ++ 10 ∷ [] ++ codes "alice + 2" ++ 10 ∷ [] ++ codes "alice start 9 0 9 true" ++ 10 ∷ [] ++ codes "alice start 8 0 9 true" ++ 10 ∷ [] ++ codes "alice + 2" ++ 10 ∷ [] ++ codes "alice reduce 2 0" ++ 10 ∷ [] ++ codes "alice reduce 4 0" ++ 10 ∷ [] ++ codes "alice + 1" ++ 10 ∷ [] ++ codes "alice reduce 4 0" ++ 10 ∷ [] ++ codes "alice + 0" ++ 10 ∷ [] ++ codes "alice + 0" ++ 10 ∷ []
+journal_by_pages_output = codes "alice + shoen 1" ++ 10 ∷ [] ++ codes "alice + shoen 2" ++ 10 ∷ [] ++ codes "alice + 2" ++ 10 ∷ [] ++ codes "alice + 1" ++ 10 ∷ [] ++ codes "alice journal 3 0 0" ++ 10 ∷ [] ++ codes "alice + 2" ++ 10 ∷ [] ++ codes "alice start 9 0 9 true" ++ 10 ∷ [] ++ codes "alice start 8 0 9 true" ++ 10 ∷ [] ++ codes "alice + 2" ++ 10 ∷ [] ++ codes "alice reduce 2 0" ++ 10 ∷ [] ++ codes "alice reduce 4 0" ++ 10 ∷ [] ++ codes "alice + 1" ++ 10 ∷ [] ++ codes "alice reduce 4 0" ++ 10 ∷ [] ++ codes "alice + 0" ++ 10 ∷ [] ++ codes "alice + 0" ++ 10 ∷ []
 
 -- the bytes of journal_names_in_quotes.script
 abbrev pub journal_names_in_quotes_script : List ℕ
@@ -544,7 +544,7 @@ journal_names_in_quotes_script = codes "accounts alice bob" ++ 10 ∷ [] ++ code
 
 -- the bytes of journal_names_in_quotes.expected
 abbrev pub journal_names_in_quotes_output : List ℕ
-journal_names_in_quotes_output = codes "alice + shoen 1" ++ 10 ∷ [] ++ codes "alice + reset" ++ 10 ∷ [] ++ codes "alice + 7" ++ 10 ∷ [] ++ codes "alice journal 2 0 6" ++ 10 ∷ [] ++ codes "alice name f" ++ 10 ∷ [] ++ codes "alice name 'A b'" ++ 10 ∷ [] ++ codes "alice name 'it''s'" ++ 10 ∷ [] ++ codes "alice name ''" ++ 10 ∷ [] ++ codes "alice name '_'" ++ 10 ∷ [] ++ codes "alice name x1" ++ 10 ∷ []
+journal_names_in_quotes_output = codes "alice + shoen 1" ++ 10 ∷ [] ++ codes "alice + reset" ++ 10 ∷ [] ++ codes "alice + 7" ++ 10 ∷ [] ++ codes "alice journal 3 0 6" ++ 10 ∷ [] ++ codes "alice name f" ++ 10 ∷ [] ++ codes "alice name 'A b'" ++ 10 ∷ [] ++ codes "alice name 'it''s'" ++ 10 ∷ [] ++ codes "alice name ''" ++ 10 ∷ [] ++ codes "alice name '_'" ++ 10 ∷ [] ++ codes "alice name x1" ++ 10 ∷ []
 
 -- the bytes of journal_of_a_start.script
 abbrev pub journal_of_a_start_script : List ℕ
@@ -552,7 +552,7 @@ journal_of_a_start_script = codes "accounts alice bob" ++ 10 ∷ [] ++ codes "al
 
 -- the bytes of journal_of_a_start.expected
 abbrev pub journal_of_a_start_output : List ℕ
-journal_of_a_start_output = codes "alice + shoen 1" ++ 10 ∷ [] ++ codes "alice + 1" ++ 10 ∷ [] ++ codes "alice + 3" ++ 10 ∷ [] ++ codes "alice journal 2 0 0" ++ 10 ∷ [] ++ codes "alice start 10 0 10 '='(_1,1)" ++ 10 ∷ [] ++ codes "alice reduce 2 0" ++ 10 ∷ [] ++ codes "bob + 1" ++ 10 ∷ [] ++ codes "bob journal 2 0 0" ++ 10 ∷ []
+journal_of_a_start_output = codes "alice + shoen 1" ++ 10 ∷ [] ++ codes "alice + 1" ++ 10 ∷ [] ++ codes "alice + 3" ++ 10 ∷ [] ++ codes "alice journal 3 0 0" ++ 10 ∷ [] ++ codes "alice start 10 0 10 '='(_1,1)" ++ 10 ∷ [] ++ codes "alice reduce 2 0" ++ 10 ∷ [] ++ codes "bob + 1" ++ 10 ∷ [] ++ codes "bob journal 3 0 0" ++ 10 ∷ []
 
 -- the bytes of journal_of_each_event.script
 abbrev pub journal_of_each_event_script : List ℕ
@@ -560,7 +560,7 @@ journal_of_each_event_script = codes "accounts alice bob" ++ 10 ∷ [] ++ codes 
 
 -- the bytes of journal_of_each_event.expected
 abbrev pub journal_of_each_event_output : List ℕ
-journal_of_each_event_output = codes "alice + loaded e" ++ 10 ∷ [] ++ codes "alice - 3 exists" ++ 10 ∷ [] ++ codes "alice + shoen 1" ++ 10 ∷ [] ++ codes "alice + sent" ++ 10 ∷ [] ++ codes "alice + sent" ++ 10 ∷ [] ++ codes "alice + sent" ++ 10 ∷ [] ++ codes "alice + sent" ++ 10 ∷ [] ++ codes "alice + running 0 9 1" ++ 10 ∷ [] ++ codes "alice + welcome alice" ++ 10 ∷ [] ++ codes "alice + 4" ++ 10 ∷ [] ++ codes "alice - 5 ended" ++ 10 ∷ [] ++ codes "alice - 4 noshoen" ++ 10 ∷ [] ++ codes "alice + 11" ++ 10 ∷ [] ++ codes "alice journal 2 1 0" ++ 10 ∷ [] ++ codes "alice load 3a2d206d6f64756c6520652e" ++ 10 ∷ [] ++ codes "alice start 9 0 9 ':='(_1,_2)" ++ 10 ∷ [] ++ codes "alice stop 1" ++ 10 ∷ [] ++ codes "alice resume 1" ++ 10 ∷ [] ++ codes "alice allow 1 5" ++ 10 ∷ [] ++ codes "alice abort 1" ++ 10 ∷ [] ++ codes "alice reduce 1 0" ++ 10 ∷ [] ++ codes "alice reduce 1 0" ++ 10 ∷ [] ++ codes "alice reduce 1 0" ++ 10 ∷ [] ++ codes "alice reduce 1 0" ++ 10 ∷ []
+journal_of_each_event_output = codes "alice + loaded e" ++ 10 ∷ [] ++ codes "alice - 3 exists" ++ 10 ∷ [] ++ codes "alice + shoen 1" ++ 10 ∷ [] ++ codes "alice + sent" ++ 10 ∷ [] ++ codes "alice + sent" ++ 10 ∷ [] ++ codes "alice + sent" ++ 10 ∷ [] ++ codes "alice + sent" ++ 10 ∷ [] ++ codes "alice + running 0 9 1" ++ 10 ∷ [] ++ codes "alice + welcome alice" ++ 10 ∷ [] ++ codes "alice + 4" ++ 10 ∷ [] ++ codes "alice - 5 ended" ++ 10 ∷ [] ++ codes "alice - 4 noshoen" ++ 10 ∷ [] ++ codes "alice + 11" ++ 10 ∷ [] ++ codes "alice journal 3 1 0" ++ 10 ∷ [] ++ codes "alice load 3a2d206d6f64756c6520652e" ++ 10 ∷ [] ++ codes "alice start 9 0 9 ':='(_1,_2)" ++ 10 ∷ [] ++ codes "alice stop 1" ++ 10 ∷ [] ++ codes "alice resume 1" ++ 10 ∷ [] ++ codes "alice allow 1 5" ++ 10 ∷ [] ++ codes "alice abort 1" ++ 10 ∷ [] ++ codes "alice reduce 1 0" ++ 10 ∷ [] ++ codes "alice reduce 1 0" ++ 10 ∷ [] ++ codes "alice reduce 1 0" ++ 10 ∷ [] ++ codes "alice reduce 1 0" ++ 10 ∷ []
 
 -- the bytes of journal_of_reductions.script
 abbrev pub journal_of_reductions_script : List ℕ
@@ -712,7 +712,7 @@ names_in_order_of_first_use_script = codes "accounts alice bob" ++ 10 ∷ [] ++ 
 
 -- the bytes of names_in_order_of_first_use.expected
 abbrev pub names_in_order_of_first_use_output : List ℕ
-names_in_order_of_first_use_output = codes "bob + shoen 1" ++ 10 ∷ [] ++ codes "alice + shoen 1" ++ 10 ∷ [] ++ codes "bob + reset" ++ 10 ∷ [] ++ codes "alice + reset" ++ 10 ∷ [] ++ codes "alice + 4" ++ 10 ∷ [] ++ codes "alice journal 2 0 3" ++ 10 ∷ [] ++ codes "alice name alpha" ++ 10 ∷ [] ++ codes "alice name f" ++ 10 ∷ [] ++ codes "alice name zeta" ++ 10 ∷ [] ++ codes "bob + 3" ++ 10 ∷ [] ++ codes "bob journal 2 0 2" ++ 10 ∷ [] ++ codes "bob name zeta" ++ 10 ∷ [] ++ codes "bob name alpha" ++ 10 ∷ []
+names_in_order_of_first_use_output = codes "bob + shoen 1" ++ 10 ∷ [] ++ codes "alice + shoen 1" ++ 10 ∷ [] ++ codes "bob + reset" ++ 10 ∷ [] ++ codes "alice + reset" ++ 10 ∷ [] ++ codes "alice + 4" ++ 10 ∷ [] ++ codes "alice journal 3 0 3" ++ 10 ∷ [] ++ codes "alice name alpha" ++ 10 ∷ [] ++ codes "alice name f" ++ 10 ∷ [] ++ codes "alice name zeta" ++ 10 ∷ [] ++ codes "bob + 3" ++ 10 ∷ [] ++ codes "bob journal 3 0 2" ++ 10 ∷ [] ++ codes "bob name zeta" ++ 10 ∷ [] ++ codes "bob name alpha" ++ 10 ∷ []
 
 -- the bytes of names_in_quotes.script
 abbrev pub names_in_quotes_script : List ℕ
@@ -920,7 +920,7 @@ refused_reduction_leaves_the_journal_script = codes "accounts alice bob" ++ 10 �
 
 -- the bytes of refused_reduction_leaves_the_journal.expected
 abbrev pub refused_reduction_leaves_the_journal_output : List ℕ
-refused_reduction_leaves_the_journal_output = codes "alice + shoen 1" ++ 10 ∷ [] ++ codes "bob + shoen 1" ++ 10 ∷ [] ++ codes "alice + 2" ++ 10 ∷ [] ++ codes "alice journal 2 0 0" ++ 10 ∷ [] ++ codes "alice start 10 0 10 '='(_1,1)" ++ 10 ∷ [] ++ codes "alice - 6 step" ++ 10 ∷ [] ++ codes "alice + 2" ++ 10 ∷ [] ++ codes "alice journal 2 0 0" ++ 10 ∷ [] ++ codes "alice start 10 0 10 '='(_1,1)" ++ 10 ∷ [] ++ codes "bob + 1" ++ 10 ∷ [] ++ codes "! truncated" ++ 10 ∷ []
+refused_reduction_leaves_the_journal_output = codes "alice + shoen 1" ++ 10 ∷ [] ++ codes "bob + shoen 1" ++ 10 ∷ [] ++ codes "alice + 2" ++ 10 ∷ [] ++ codes "alice journal 3 0 0" ++ 10 ∷ [] ++ codes "alice start 10 0 10 '='(_1,1)" ++ 10 ∷ [] ++ codes "alice - 6 step" ++ 10 ∷ [] ++ codes "alice + 2" ++ 10 ∷ [] ++ codes "alice journal 3 0 0" ++ 10 ∷ [] ++ codes "alice start 10 0 10 '='(_1,1)" ++ 10 ∷ [] ++ codes "bob + 1" ++ 10 ∷ [] ++ codes "! truncated" ++ 10 ∷ []
 
 -- the bytes of report_that_holds_its_tail.script
 abbrev pub report_that_holds_its_tail_script : List ℕ
@@ -936,7 +936,7 @@ reset_after_each_event_script = codes "accounts alice bob" ++ 10 ∷ [] ++ codes
 
 -- the bytes of reset_after_each_event.expected
 abbrev pub reset_after_each_event_output : List ℕ
-reset_after_each_event_output = codes "alice + reset" ++ 10 ∷ [] ++ codes "alice + 1" ++ 10 ∷ [] ++ codes "alice journal 2 0 0" ++ 10 ∷ [] ++ codes "alice + loaded e" ++ 10 ∷ [] ++ codes "alice + reset" ++ 10 ∷ [] ++ codes "alice + 0" ++ 10 ∷ [] ++ codes "alice + loaded e" ++ 10 ∷ [] ++ codes "alice + shoen 1" ++ 10 ∷ [] ++ codes "alice + reset" ++ 10 ∷ [] ++ codes "alice - 4 noshoen" ++ 10 ∷ [] ++ codes "alice + shoen 1" ++ 10 ∷ [] ++ codes "alice + sent" ++ 10 ∷ [] ++ codes "alice + reset" ++ 10 ∷ [] ++ codes "alice + 0" ++ 10 ∷ [] ++ codes "alice + shoen 1" ++ 10 ∷ [] ++ codes "alice + reduced" ++ 10 ∷ [] ++ codes "alice + reset" ++ 10 ∷ [] ++ codes "alice - 4 noshoen" ++ 10 ∷ [] ++ codes "alice + shoen 1" ++ 10 ∷ [] ++ codes "alice + true" ++ 10 ∷ [] ++ codes "alice + reset" ++ 10 ∷ [] ++ codes "alice - 4 noshoen" ++ 10 ∷ [] ++ codes "alice - 6 step" ++ 10 ∷ [] ++ codes "alice + reset" ++ 10 ∷ [] ++ codes "alice + welcome alice" ++ 10 ∷ [] ++ codes "alice + reset" ++ 10 ∷ [] ++ codes "alice + 1" ++ 10 ∷ [] ++ codes "alice journal 2 1 2" ++ 10 ∷ [] ++ codes "alice + bye" ++ 10 ∷ [] ++ codes "alice + reset" ++ 10 ∷ [] ++ codes "alice - 12 sessions" ++ 10 ∷ [] ++ codes "alice + 3" ++ 10 ∷ [] ++ codes "alice journal 2 0 2" ++ 10 ∷ [] ++ codes "alice name e" ++ 10 ∷ [] ++ codes "alice name p" ++ 10 ∷ []
+reset_after_each_event_output = codes "alice + reset" ++ 10 ∷ [] ++ codes "alice + 1" ++ 10 ∷ [] ++ codes "alice journal 3 0 0" ++ 10 ∷ [] ++ codes "alice + loaded e" ++ 10 ∷ [] ++ codes "alice + reset" ++ 10 ∷ [] ++ codes "alice + 0" ++ 10 ∷ [] ++ codes "alice + loaded e" ++ 10 ∷ [] ++ codes "alice + shoen 1" ++ 10 ∷ [] ++ codes "alice + reset" ++ 10 ∷ [] ++ codes "alice - 4 noshoen" ++ 10 ∷ [] ++ codes "alice + shoen 1" ++ 10 ∷ [] ++ codes "alice + sent" ++ 10 ∷ [] ++ codes "alice + reset" ++ 10 ∷ [] ++ codes "alice + 0" ++ 10 ∷ [] ++ codes "alice + shoen 1" ++ 10 ∷ [] ++ codes "alice + reduced" ++ 10 ∷ [] ++ codes "alice + reset" ++ 10 ∷ [] ++ codes "alice - 4 noshoen" ++ 10 ∷ [] ++ codes "alice + shoen 1" ++ 10 ∷ [] ++ codes "alice + true" ++ 10 ∷ [] ++ codes "alice + reset" ++ 10 ∷ [] ++ codes "alice - 4 noshoen" ++ 10 ∷ [] ++ codes "alice - 6 step" ++ 10 ∷ [] ++ codes "alice + reset" ++ 10 ∷ [] ++ codes "alice + welcome alice" ++ 10 ∷ [] ++ codes "alice + reset" ++ 10 ∷ [] ++ codes "alice + 1" ++ 10 ∷ [] ++ codes "alice journal 3 1 2" ++ 10 ∷ [] ++ codes "alice + bye" ++ 10 ∷ [] ++ codes "alice + reset" ++ 10 ∷ [] ++ codes "alice - 12 sessions" ++ 10 ∷ [] ++ codes "alice + 3" ++ 10 ∷ [] ++ codes "alice journal 3 0 2" ++ 10 ∷ [] ++ codes "alice name e" ++ 10 ∷ [] ++ codes "alice name p" ++ 10 ∷ []
 
 -- the bytes of reset_keeps_names.script
 abbrev pub reset_keeps_names_script : List ℕ
@@ -944,7 +944,7 @@ reset_keeps_names_script = codes "accounts alice bob" ++ 10 ∷ [] ++ codes "ali
 
 -- the bytes of reset_keeps_names.expected
 abbrev pub reset_keeps_names_output : List ℕ
-reset_keeps_names_output = codes "alice + loaded e" ++ 10 ∷ [] ++ codes "alice + 1" ++ 10 ∷ [] ++ codes "alice e 12 0" ++ 10 ∷ [] ++ codes "alice + 2" ++ 10 ∷ [] ++ codes "alice journal 2 0 0" ++ 10 ∷ [] ++ codes "alice load 3a2d206d6f64756c6520652e" ++ 10 ∷ [] ++ codes "alice + reset" ++ 10 ∷ [] ++ codes "alice + 2" ++ 10 ∷ [] ++ codes "alice journal 2 0 1" ++ 10 ∷ [] ++ codes "alice name e" ++ 10 ∷ [] ++ codes "alice + 0" ++ 10 ∷ [] ++ codes "alice + loaded e" ++ 10 ∷ [] ++ codes "alice + 3" ++ 10 ∷ [] ++ codes "alice journal 2 0 1" ++ 10 ∷ [] ++ codes "alice name e" ++ 10 ∷ [] ++ codes "alice load 3a2d206d6f64756c6520652e" ++ 10 ∷ []
+reset_keeps_names_output = codes "alice + loaded e" ++ 10 ∷ [] ++ codes "alice + 1" ++ 10 ∷ [] ++ codes "alice e 12 0" ++ 10 ∷ [] ++ codes "alice + 2" ++ 10 ∷ [] ++ codes "alice journal 3 0 0" ++ 10 ∷ [] ++ codes "alice load 3a2d206d6f64756c6520652e" ++ 10 ∷ [] ++ codes "alice + reset" ++ 10 ∷ [] ++ codes "alice + 2" ++ 10 ∷ [] ++ codes "alice journal 3 0 1" ++ 10 ∷ [] ++ codes "alice name e" ++ 10 ∷ [] ++ codes "alice + 0" ++ 10 ∷ [] ++ codes "alice + loaded e" ++ 10 ∷ [] ++ codes "alice + 3" ++ 10 ∷ [] ++ codes "alice journal 3 0 1" ++ 10 ∷ [] ++ codes "alice name e" ++ 10 ∷ [] ++ codes "alice load 3a2d206d6f64756c6520652e" ++ 10 ∷ []
 
 -- the bytes of reset_of_another_account.script
 abbrev pub reset_of_another_account_script : List ℕ
@@ -952,7 +952,7 @@ reset_of_another_account_script = codes "accounts alice bob" ++ 10 ∷ [] ++ cod
 
 -- the bytes of reset_of_another_account.expected
 abbrev pub reset_of_another_account_output : List ℕ
-reset_of_another_account_output = codes "alice + shoen 1" ++ 10 ∷ [] ++ codes "bob + shoen 1" ++ 10 ∷ [] ++ codes "bob + welcome bob" ++ 10 ∷ [] ++ codes "bob + reset" ++ 10 ∷ [] ++ codes "bob - 4 noshoen" ++ 10 ∷ [] ++ codes "alice + running 0 9 1" ++ 10 ∷ [] ++ codes "alice + 2" ++ 10 ∷ [] ++ codes "alice journal 2 0 0" ++ 10 ∷ [] ++ codes "alice start 9 0 9 ':='(_1,_2)" ++ 10 ∷ [] ++ codes "bob + 1" ++ 10 ∷ [] ++ codes "bob journal 2 1 0" ++ 10 ∷ []
+reset_of_another_account_output = codes "alice + shoen 1" ++ 10 ∷ [] ++ codes "bob + shoen 1" ++ 10 ∷ [] ++ codes "bob + welcome bob" ++ 10 ∷ [] ++ codes "bob + reset" ++ 10 ∷ [] ++ codes "bob - 4 noshoen" ++ 10 ∷ [] ++ codes "alice + running 0 9 1" ++ 10 ∷ [] ++ codes "alice + 2" ++ 10 ∷ [] ++ codes "alice journal 3 0 0" ++ 10 ∷ [] ++ codes "alice start 9 0 9 ':='(_1,_2)" ++ 10 ∷ [] ++ codes "bob + 1" ++ 10 ∷ [] ++ codes "bob journal 3 1 0" ++ 10 ∷ []
 
 -- the bytes of reversed_list.script
 abbrev pub reversed_list_script : List ℕ
@@ -976,7 +976,7 @@ sessions_stay_through_a_reset_script = codes "accounts alice bob" ++ 10 ∷ [] +
 
 -- the bytes of sessions_stay_through_a_reset.expected
 abbrev pub sessions_stay_through_a_reset_output : List ℕ
-sessions_stay_through_a_reset_output = codes "alice + welcome alice" ++ 10 ∷ [] ++ codes "alice + welcome alice" ++ 10 ∷ [] ++ codes "alice + 1" ++ 10 ∷ [] ++ codes "alice journal 2 2 0" ++ 10 ∷ [] ++ codes "alice + shoen 1" ++ 10 ∷ [] ++ codes "alice + reset" ++ 10 ∷ [] ++ codes "alice + 1" ++ 10 ∷ [] ++ codes "alice journal 2 2 0" ++ 10 ∷ [] ++ codes "alice + welcome alice" ++ 10 ∷ [] ++ codes "alice + welcome alice" ++ 10 ∷ [] ++ codes "alice - 12 sessions" ++ 10 ∷ [] ++ codes "alice + bye" ++ 10 ∷ [] ++ codes "alice + 1" ++ 10 ∷ [] ++ codes "alice journal 2 3 0" ++ 10 ∷ []
+sessions_stay_through_a_reset_output = codes "alice + welcome alice" ++ 10 ∷ [] ++ codes "alice + welcome alice" ++ 10 ∷ [] ++ codes "alice + 1" ++ 10 ∷ [] ++ codes "alice journal 3 2 0" ++ 10 ∷ [] ++ codes "alice + shoen 1" ++ 10 ∷ [] ++ codes "alice + reset" ++ 10 ∷ [] ++ codes "alice + 1" ++ 10 ∷ [] ++ codes "alice journal 3 2 0" ++ 10 ∷ [] ++ codes "alice + welcome alice" ++ 10 ∷ [] ++ codes "alice + welcome alice" ++ 10 ∷ [] ++ codes "alice - 12 sessions" ++ 10 ∷ [] ++ codes "alice + bye" ++ 10 ∷ [] ++ codes "alice + 1" ++ 10 ∷ [] ++ codes "alice journal 3 3 0" ++ 10 ∷ []
 
 -- the bytes of shoens_32_deep.script
 abbrev pub shoens_32_deep_script : List ℕ

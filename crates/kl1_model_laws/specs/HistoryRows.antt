@@ -1,7 +1,7 @@
 -- Rows of sessions, resets, journals and replays: what accounts come to in the course of events.
 use Rattle.std.specs.Prelude.{◌≡◌, codes, List, [], ◌∷◌, ◌++◌, Some, None, pos, ℕ}
 use Rattle.kl1_model.specs.declared.message.Message.TheVariants.{Allow}
-use Rattle.kl1_model.specs.declared.rules.Rules.TheVariants.{One, Two}
+use Rattle.kl1_model.specs.declared.rules.Rules.TheVariants.{One, Three}
 use Rattle.kl1_model.specs.Term.{variable, integer, atom}
 use Rattle.kl1_model.specs.State.{State, fresh, fresh_with}
 use Rattle.kl1_model.specs.Event.{Event, load, start, reduce, login, logout, reset, Reply, loaded, opened, welcome, bye, was_reset, refused, step_refused, too_many_names, sessions_refused}
@@ -16,7 +16,7 @@ use Rattle.kl1_model_laws.specs.ShoenRows.{with_counts, with_reports, with_last_
 
 -- the account of alice with its journal, in which nothing has happened
 abbrev pub alice : Kept
-alice = fresh_kept Two (codes "alice")
+alice = fresh_kept Three (codes "alice")
 
 -- a module without clauses
 abbrev pub no_clauses : List ℕ
@@ -57,7 +57,7 @@ pub record HistoryRowsHold : Type 0 where
   -- a session that was closed makes room for another
   pub session_after_another : replies_to (kept_after_lines alice (codes "login" ∷ codes "login" ∷ codes "login" ∷ codes "login" ∷ codes "logout" ∷ [])) (codes "login" ∷ codes "login" ∷ []) ≡ welcome (codes "alice") ∷ refused sessions_refused ∷ []
   -- a journal tells the sessions that are open
-  pub sessions_of_a_journal : (kept_after_lines alice (codes "login" ∷ codes "login" ∷ codes "logout" ∷ [])).journal ≡ new_journal Two [] 1
+  pub sessions_of_a_journal : (kept_after_lines alice (codes "login" ∷ codes "login" ∷ codes "logout" ∷ [])).journal ≡ new_journal Three [] 1
   -- the lines of each kind of entry
   pub lines_of_entries : journal_lines with_each_entry.journal ≡ codes "journal 2 1 0" ∷ codes "load 3a2d206d6f64756c6520652e" ∷ codes "start 9 0 9 ':='(_1,f(_2))" ∷ codes "stop 1" ∷ codes "resume 1" ∷ codes "allow 1 5" ∷ codes "abort 1" ∷ codes "reduce 1 0" ∷ codes "reduce 1 0" ∷ codes "reduce 1 0" ∷ codes "reduce 1 0" ∷ []
   -- they read back
@@ -87,29 +87,29 @@ pub record HistoryRowsHold : Type 0 where
   -- queries, and lines that are no command, leave account and journal
   pub queries : kept_after_lines with_each_entry (codes "status 1" ∷ codes "journal 1 64" ∷ codes "quiet" ∷ codes "journal 0 1" ∷ []) ≡ with_each_entry
   -- after a reset the account is fresh but for its names and sessions
-  pub account_after_a_reset : (done with_each_entry reset).kept.state ≡ fresh_with Two (codes "alice") (codes "e" ∷ codes "f" ∷ []) 1
+  pub account_after_a_reset : (done with_each_entry reset).kept.state ≡ fresh_with Three (codes "alice") (codes "e" ∷ codes "f" ∷ []) 1
   -- and its journal has no entry
-  pub journal_after_a_reset : (done with_each_entry reset).kept.journal ≡ new_journal Two (codes "e" ∷ codes "f" ∷ []) 1
+  pub journal_after_a_reset : (done with_each_entry reset).kept.journal ≡ new_journal Three (codes "e" ∷ codes "f" ∷ []) 1
   -- the reply of a reset
   pub reply_of_a_reset : (done with_each_entry reset).reply ≡ was_reset
   -- names of a journal read back
-  pub names_read_back : journal_in (written_lines (journal_lines (done with_each_entry reset).kept.journal)) ≡ Some (new_journal Two (codes "e" ∷ codes "f" ∷ []) 1)
+  pub names_read_back : journal_in (written_lines (journal_lines (done with_each_entry reset).kept.journal)) ≡ Some (new_journal Three (codes "e" ∷ codes "f" ∷ []) 1)
   -- a full journal has room after a reset
-  pub full_journal_reset : (step (after_reset (with_entries 262144 (fresh Two (codes "alice")))) (start 1 0 1 true_term)).reply ≡ opened 1
+  pub full_journal_reset : (step (after_reset (with_entries 262144 (fresh Three (codes "alice")))) (start 1 0 1 true_term)).reply ≡ opened 1
   -- a full journal refuses no session
-  pub full_journal_login : (step (with_entries 262144 (fresh Two (codes "alice"))) login).reply ≡ welcome (codes "alice")
+  pub full_journal_login : (step (with_entries 262144 (fresh Three (codes "alice"))) login).reply ≡ welcome (codes "alice")
   -- names stay used after a reset
-  pub names_reset : (step (after_reset (with_many_names 1024 (fresh Two (codes "alice")))) (start_of (codes "y"))).reply ≡ refused too_many_names
+  pub names_reset : (step (after_reset (with_many_names 1024 (fresh Three (codes "alice")))) (start_of (codes "y"))).reply ≡ refused too_many_names
   -- and can be used again
-  pub names_used_again : (step (after_reset (with_many_names 1024 (fresh Two (codes "alice")))) (start_of (codes "x1023"))).reply ≡ opened 1
+  pub names_used_again : (step (after_reset (with_many_names 1024 (fresh Three (codes "alice")))) (start_of (codes "x1023"))).reply ≡ opened 1
   -- variables and structures are counted anew after a reset
-  pub counts_reset : (step (after_reset (with_counts 262144 1048576 (fresh Two (codes "alice")))) (start 1 0 1 true_term)).reply ≡ opened 1
+  pub counts_reset : (step (after_reset (with_counts 262144 1048576 (fresh Three (codes "alice")))) (start 1 0 1 true_term)).reply ≡ opened 1
   -- so are shoens
-  pub shoens_reset : (step (after_reset (with_last_shoen 1024 (fresh Two (codes "alice")))) (start 1 0 1 true_term)).reply ≡ opened 1
+  pub shoens_reset : (step (after_reset (with_last_shoen 1024 (fresh Three (codes "alice")))) (start 1 0 1 true_term)).reply ≡ opened 1
   -- reports
-  pub reports_reset : stream 1 (step (after_reset (with_reports 65536 (fresh Two (codes "alice")))) (start 1 0 1 true_term)).state ≡ codes "[started|_3]"
+  pub reports_reset : stream 1 (step (after_reset (with_reports 65536 (fresh Three (codes "alice")))) (start 1 0 1 true_term)).state ≡ codes "[started|_3]"
   -- and modules
-  pub modules_reset : (step (after_reset (with_modules 32 (fresh Two (codes "alice")))) (load no_clauses)).reply ≡ loaded (codes "e")
+  pub modules_reset : (step (after_reset (with_modules 32 (fresh Three (codes "alice")))) (load no_clauses)).reply ≡ loaded (codes "e")
   -- the entry of a load
   pub load_line : entry_in (codes "load 3a0a7e") ≡ Some (loads (58 ∷ 10 ∷ 126 ∷ []))
   -- a letter after f is no digit

@@ -412,7 +412,7 @@ heading_without_a_feed_output = codes "fault 1" ++ 10 ∷ []
 
 -- the bytes of later_version.journal
 abbrev pub later_version_journal : List ℕ
-later_version_journal = codes "journal 3 0 0" ++ 10 ∷ []
+later_version_journal = codes "journal 4 0 0" ++ 10 ∷ []
 
 -- the bytes of later_version.expected
 abbrev pub later_version_output : List ℕ
@@ -498,21 +498,37 @@ module_is_used_journal = codes "journal 1 0 0" ++ 10 ∷ [] ++ codes "load 3a2d2
 abbrev pub module_is_used_output : List ℕ
 module_is_used_output = codes "+ loaded t" ++ 10 ∷ [] ++ codes "+ shoen 1" ++ 10 ∷ [] ++ codes "+ reduced" ++ 10 ∷ [] ++ codes "+ end 3" ++ 10 ∷ []
 
--- the bytes of name_of_63_bytes.journal
-abbrev pub name_of_63_bytes_journal : List ℕ
-name_of_63_bytes_journal = codes "journal 1 0 1" ++ 10 ∷ [] ++ codes "name nnnnnnnnnnnnnnnnnnnnnnnnnnnnnnnnnnnnnnnnnnnnnnnnnnnnnnnnnnnnnnn" ++ 10 ∷ []
+-- the bytes of name_of_127_bytes.journal
+abbrev pub name_of_127_bytes_journal : List ℕ
+name_of_127_bytes_journal = codes "journal 1 0 1" ++ 10 ∷ [] ++ codes "name nnnnnnnnnnnnnnnnnnnnnnnnnnnnnnnnnnnnnnnnnnnnnnnnnnnnnnnnnnnnnnnnnnnnnnnnnnnnnnnnnnnnnnnnnnnnnnnnnnnnnnnnnnnnnnnnnnnnnnnnnnnnnnn" ++ 10 ∷ []
 
--- the bytes of name_of_63_bytes.expected
-abbrev pub name_of_63_bytes_output : List ℕ
-name_of_63_bytes_output = codes "+ end 0" ++ 10 ∷ []
+-- the bytes of name_of_127_bytes.expected
+abbrev pub name_of_127_bytes_output : List ℕ
+name_of_127_bytes_output = codes "+ end 0" ++ 10 ∷ []
 
--- the bytes of name_of_64_bytes.journal
-abbrev pub name_of_64_bytes_journal : List ℕ
-name_of_64_bytes_journal = codes "journal 1 0 1" ++ 10 ∷ [] ++ codes "name nnnnnnnnnnnnnnnnnnnnnnnnnnnnnnnnnnnnnnnnnnnnnnnnnnnnnnnnnnnnnnnn" ++ 10 ∷ []
+-- the bytes of name_of_128_bytes.journal
+abbrev pub name_of_128_bytes_journal : List ℕ
+name_of_128_bytes_journal = codes "journal 1 0 1" ++ 10 ∷ [] ++ codes "name nnnnnnnnnnnnnnnnnnnnnnnnnnnnnnnnnnnnnnnnnnnnnnnnnnnnnnnnnnnnnnnnnnnnnnnnnnnnnnnnnnnnnnnnnnnnnnnnnnnnnnnnnnnnnnnnnnnnnnnnnnnnnnnn" ++ 10 ∷ []
 
--- the bytes of name_of_64_bytes.expected
-abbrev pub name_of_64_bytes_output : List ℕ
-name_of_64_bytes_output = codes "fault 2" ++ 10 ∷ []
+-- the bytes of name_of_128_bytes.expected
+abbrev pub name_of_128_bytes_output : List ℕ
+name_of_128_bytes_output = codes "fault 2" ++ 10 ∷ []
+
+-- the bytes of name_of_64_codes_of_version_2.journal
+abbrev pub name_of_64_codes_of_version_2_journal : List ℕ
+name_of_64_codes_of_version_2_journal = codes "journal 2 0 0" ++ 10 ∷ [] ++ codes "start 10 0 10 atom_from([97,97,97,97,97,97,97,97,97,97,97,97,97,97,97,97,97,97,97,97,97,97,97,97,97,97,97,97,97,97,97,97,97,97,97,97,97,97,97,97,97,97,97,97,97,97,97,97,97,97,97,97,97,97,97,97,97,97,97,97,97,97,97,97],_1)" ++ 10 ∷ [] ++ codes "reduce 2 0" ++ 10 ∷ [] ++ codes "answer 1 2 true" ++ 10 ∷ []
+
+-- the bytes of name_of_64_codes_of_version_2.expected
+abbrev pub name_of_64_codes_of_version_2_output : List ℕ
+name_of_64_codes_of_version_2_output = codes "+ shoen 1" ++ 10 ∷ [] ++ codes "+ reduced" ++ 10 ∷ [] ++ codes "+ sent" ++ 10 ∷ [] ++ codes "+ end 3" ++ 10 ∷ []
+
+-- the bytes of name_of_64_codes_of_version_3.journal
+abbrev pub name_of_64_codes_of_version_3_journal : List ℕ
+name_of_64_codes_of_version_3_journal = codes "journal 3 0 0" ++ 10 ∷ [] ++ codes "start 10 0 10 atom_from([97,97,97,97,97,97,97,97,97,97,97,97,97,97,97,97,97,97,97,97,97,97,97,97,97,97,97,97,97,97,97,97,97,97,97,97,97,97,97,97,97,97,97,97,97,97,97,97,97,97,97,97,97,97,97,97,97,97,97,97,97,97,97,97],_1)" ++ 10 ∷ [] ++ codes "reduce 2 0" ++ 10 ∷ [] ++ codes "answer 1 2 true" ++ 10 ∷ []
+
+-- the bytes of name_of_64_codes_of_version_3.expected
+abbrev pub name_of_64_codes_of_version_3_output : List ℕ
+name_of_64_codes_of_version_3_output = codes "+ shoen 1" ++ 10 ∷ [] ++ codes "+ reduced" ++ 10 ∷ [] ++ codes "fault 4" ++ 10 ∷ []
 
 -- the bytes of name_that_is_missing.journal
 abbrev pub name_that_is_missing_journal : List ℕ
@@ -698,6 +714,14 @@ start_and_reduction_of_version_2_journal = codes "journal 2 0 0" ++ 10 ∷ [] ++
 abbrev pub start_and_reduction_of_version_2_output : List ℕ
 start_and_reduction_of_version_2_output = codes "+ shoen 1" ++ 10 ∷ [] ++ codes "+ reduced" ++ 10 ∷ [] ++ codes "+ end 2" ++ 10 ∷ []
 
+-- the bytes of start_and_reduction_of_version_3.journal
+abbrev pub start_and_reduction_of_version_3_journal : List ℕ
+start_and_reduction_of_version_3_journal = codes "journal 3 0 0" ++ 10 ∷ [] ++ codes "start 10 0 10 '='(_1,1)" ++ 10 ∷ [] ++ codes "reduce 2 0" ++ 10 ∷ []
+
+-- the bytes of start_and_reduction_of_version_3.expected
+abbrev pub start_and_reduction_of_version_3_output : List ℕ
+start_and_reduction_of_version_3_output = codes "+ shoen 1" ++ 10 ∷ [] ++ codes "+ reduced" ++ 10 ∷ [] ++ codes "+ end 2" ++ 10 ∷ []
+
 -- the bytes of start_without_a_goal.journal
 abbrev pub start_without_a_goal_journal : List ℕ
 start_without_a_goal_journal = codes "journal 1 0 0" ++ 10 ∷ [] ++ codes "start 10 0 10" ++ 10 ∷ []
@@ -802,8 +826,10 @@ pub record JournalsHold : Type 0 where
   pub many_names_told : replay_output many_names_told_journal ≡ many_names_told_output
   pub messages_of_a_program : replay_output messages_of_a_program_journal ≡ messages_of_a_program_output
   pub module_is_used : replay_output module_is_used_journal ≡ module_is_used_output
-  pub name_of_63_bytes : replay_output name_of_63_bytes_journal ≡ name_of_63_bytes_output
-  pub name_of_64_bytes : replay_output name_of_64_bytes_journal ≡ name_of_64_bytes_output
+  pub name_of_127_bytes : replay_output name_of_127_bytes_journal ≡ name_of_127_bytes_output
+  pub name_of_128_bytes : replay_output name_of_128_bytes_journal ≡ name_of_128_bytes_output
+  pub name_of_64_codes_of_version_2 : replay_output name_of_64_codes_of_version_2_journal ≡ name_of_64_codes_of_version_2_output
+  pub name_of_64_codes_of_version_3 : replay_output name_of_64_codes_of_version_3_journal ≡ name_of_64_codes_of_version_3_output
   pub name_that_is_missing : replay_output name_that_is_missing_journal ≡ name_that_is_missing_output
   pub name_too_many : replay_output name_too_many_journal ≡ name_too_many_output
   pub name_twice : replay_output name_twice_journal ≡ name_twice_output
@@ -827,6 +853,7 @@ pub record JournalsHold : Type 0 where
   pub shoens_in_shoens : replay_output shoens_in_shoens_journal ≡ shoens_in_shoens_output
   pub start_and_reduction : replay_output start_and_reduction_journal ≡ start_and_reduction_output
   pub start_and_reduction_of_version_2 : replay_output start_and_reduction_of_version_2_journal ≡ start_and_reduction_of_version_2_output
+  pub start_and_reduction_of_version_3 : replay_output start_and_reduction_of_version_3_journal ≡ start_and_reduction_of_version_3_output
   pub start_without_a_goal : replay_output start_without_a_goal_journal ≡ start_without_a_goal_output
   pub step_that_is_refused : replay_output step_that_is_refused_journal ≡ step_that_is_refused_output
   pub too_many_names_told : replay_output too_many_names_told_journal ≡ too_many_names_told_output

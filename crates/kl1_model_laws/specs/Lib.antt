@@ -4,6 +4,7 @@ pub mod AccountRows
 pub mod HistoryRows
 pub mod ShoenRows
 pub mod SubstituteRows
+pub mod SpellingRows
 pub mod ReadRows
 pub mod ReadFaults
 pub mod GuardRows

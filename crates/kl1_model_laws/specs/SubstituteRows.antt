@@ -1,6 +1,6 @@
 -- Rows of substitutes: exceptions, and answers to them, by the second rules.
 use Rattle.std.specs.Prelude.{◌≡◌, [], ◌∷◌, codes, Some, None, pos, map, option_map}
-use Rattle.kl1_model.specs.declared.rules.Rules.TheVariants.{One, Two}
+use Rattle.kl1_model.specs.declared.rules.Rules.TheVariants.{One, Two, Three}
 use Rattle.kl1_model.specs.declared.condition.Condition.TheVariants.{Running}
 use Rattle.kl1_model.specs.declared.life.Life.TheVariants.{Terminated}
 use Rattle.kl1_model.specs.Term.{variable, integer, atom}
@@ -101,5 +101,7 @@ pub record SubstituteRowsHold : Type 0 where
   pub answer_line_in_another_spelling : entry_in (codes "answer 1 2 X = 2") ≡ None
   -- a journal of version 2
   pub heading_line : heading_in (codes "journal 2 4 1024") ≡ Some (record { rules = Two; sessions = 4; names = 1024 })
+  -- a journal of version 3
+  pub heading_line_of_version_3 : heading_in (codes "journal 3 4 1024") ≡ Some (record { rules = Three; sessions = 4; names = 1024 })
   -- a version that there isn't
-  pub heading_line_of_version_3 : heading_in (codes "journal 3 0 0") ≡ None
+  pub heading_line_of_version_4 : heading_in (codes "journal 4 0 0") ≡ None

@@ -5,6 +5,7 @@ ghost use Rattle.kl1_model_laws.specs.GuardRows.{GuardRowsHold};
 ghost use Rattle.kl1_model_laws.specs.HistoryRows.{HistoryRowsHold};
 ghost use Rattle.kl1_model_laws.specs.JournalExamples.{JournalsHold};
 ghost use Rattle.kl1_model_laws.specs.ShoenRows.{ShoenRowsHold};
+ghost use Rattle.kl1_model_laws.specs.SpellingRows.{SpellingRowsHold};
 ghost use Rattle.kl1_model_laws.specs.StreamRows.{StreamRowsHold};
 ghost use Rattle.kl1_model_laws.specs.SubstituteRows.{SubstituteRowsHold};
 
@@ -42,6 +43,12 @@ pub fn shoen_rows_hold()
 /// contract is this law.
 pub fn substitute_rows_hold()
     ensures { SubstituteRowsHold }
+{}
+
+/// What `atom_from` makes of lists of codes by each of the rules, and what it waits for, is what the rows say, computed from the
+/// definitions. It does nothing: its contract is this law.
+pub fn spelling_rows_hold()
+    ensures { SpellingRowsHold }
 {}
 
 /// Arithmetic, tests, verdicts and the reader come to what the rows say, computed from the definitions. It does nothing: this is

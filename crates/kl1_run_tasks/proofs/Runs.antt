@@ -3,7 +3,7 @@ use Rattle.std.proofs.Common.{◌≡◌, ℕ, List, [], ◌∷◌, Ok, Err, ap, 
 use Rattle.std.specs.Prelude.{None, Some}
 use Rattle.std.specs.declared.option.Option.{Option}
 use Rattle.std.specs.declared.result.Result.{Result}
-use Rattle.kl1_model.specs.declared.rules.Rules.TheVariants.{Two}
+use Rattle.kl1_model.specs.declared.rules.Rules.TheVariants.{Three}
 use Rattle.kl1_model.specs.Term.{Term}
 use Rattle.kl1_model_history.specs.Journal.{Journal, Kept, fresh_kept}
 use Rattle.kl1_model_history.specs.JournalText.{journal_lines}
@@ -27,14 +27,14 @@ use Rattle.kl1_run_tasks.specs.Alone.{account_name, seen_if, alone_of, RunsAlone
 
 -- a run from an account that is the fresh one
 runs_alone : (k after : Kept) (texts : List (List ℕ)) (goal : Term) (allowance steps : ℕ) (q : Wanted) (out out' err err' book book' : Stream) (r : Result Ending Stop) (told : Result (Unit {0}) Stop) →
-    k ≡ fresh_kept Two account_name → IsRun (worked_of k texts goal allowance steps) q out out' err err' r after → IsTold after.journal book book' told → RunsAlone texts goal allowance steps q out out' err err' book book' (record { ending = r; journal = told })
+    k ≡ fresh_kept Three account_name → IsRun (worked_of k texts goal allowance steps) q out out' err err' r after → IsTold after.journal book book' told → RunsAlone texts goal allowance steps q out out' err err' book book' (record { ending = r; journal = told })
 runs_alone k after texts goal allowance steps q out out' err err' book book' r told e is journal =
     let P : Kept → Type 0 = λ from. IsRun (worked_of from texts goal allowance steps) q out out' err err' r after in
     record { after = after; runs = subst P e is; journal = journal }
 
 -- the only account of a world in which nothing has happened
-account_alone : (old : List Held) (i : ℕ) (name : List ℕ) (f : Reading) → name ≡ account_name → AreFresh Two old (name ∷ []) → i ≡ 0 → kept_of f (account_in old i) ≡ fresh_kept Two account_name
-account_alone old i name f named fresh first = ap (λ n. kept_of f (account_in old n)) first ∙ fresh 0 f (omega arith) ∙ ap (fresh_kept Two) named
+account_alone : (old : List Held) (i : ℕ) (name : List ℕ) (f : Reading) → name ≡ account_name → AreFresh Three old (name ∷ []) → i ≡ 0 → kept_of f (account_in old i) ≡ fresh_kept Three account_name
+account_alone old i name f named fresh first = ap (λ n. kept_of f (account_in old n)) first ∙ fresh 0 f (omega arith) ∙ ap (fresh_kept Three) named
 
 -- a reading that fits the names of the only account of a world
 fits_alone : (new : List Held) (j : ℕ) → j ≡ 0 → AreNames (account_in new 0).0.names → Fits (account_in new j).0.names (reading_of (account_in new 0).0.names)
@@ -44,7 +44,7 @@ fits_alone new j same known =
 
 -- a run on the account of a world in which nothing has happened
 pub world_alone : (old new : List Held) (i j : ℕ) (name : List ℕ) (texts : List (List ℕ)) (goal : Term) (allowance steps : ℕ) (q : Wanted) (out out' err err' book book' : Stream) (r : Result Ending Stop) (told : Result (Unit {0}) Stop) →
-    name ≡ account_name → AreFresh Two old (name ∷ []) → i ≡ 0 → j ≡ 0 → AreNames (account_in new 0).0.names →
+    name ≡ account_name → AreFresh Three old (name ∷ []) → i ≡ 0 → j ≡ 0 → AreNames (account_in new 0).0.names →
     ((f : Reading) → Fits (account_in new j).0.names f → IsRun (worked_of (kept_of f (account_in old i)) texts goal allowance steps) q out out' err err' r (kept_of f (account_in new j))) →
     ((f : Reading) → Fits (account_in new j).0.names f → IsTold (kept_of f (account_in new j)).journal book book' told) →
     RunsAlone texts goal allowance steps q out out' err err' book book' (record { ending = r; journal = told })
@@ -55,7 +55,7 @@ world_alone old new i j name texts goal allowance steps q out out' err err' book
 
 -- what is told of a run on that account
 pub world_followed : (old new : List Held) (i j : ℕ) (name : List ℕ) (texts : List (List ℕ)) (goal : Term) (allowance steps : ℕ) (heard heard' : Option (List (ℕ × ℕ))) →
-    name ≡ account_name → AreFresh Two old (name ∷ []) → i ≡ 0 → j ≡ 0 → AreNames (account_in new 0).0.names →
+    name ≡ account_name → AreFresh Three old (name ∷ []) → i ≡ 0 → j ≡ 0 → AreNames (account_in new 0).0.names →
     ((f : Reading) → Fits (account_in new j).0.names f → Follows (worked_of (kept_of f (account_in old i)) texts goal allowance) steps heard heard') →
     Follows (alone_of texts goal allowance) steps heard heard'
 world_followed old new i j name texts goal allowance steps heard heard' named fresh first same known follows =
@@ -69,7 +69,7 @@ pub refused_alone : (texts : List (List ℕ)) (goal : Term) (allowance steps : �
 refused_alone texts goal allowance steps q out err book outcome e =
     let P : Outcome → Type 0 = λ x. RunsAlone texts goal allowance steps q out out err err book book x in
     subst P (sym e) (record {
-      after = fresh_kept Two account_name;
+      after = fresh_kept Three account_name;
       runs = record { first = refl; second = refl };
       journal = (0, record { written = appends_none book.bytes; kept = refl });
     })

@@ -1,6 +1,6 @@
 -- What work on an account of its own comes to.
 use Rattle.std.specs.Prelude.{ℕ, List, codes, Option, None, Some}
-use Rattle.kl1_model.specs.declared.rules.Rules.TheVariants.{Two}
+use Rattle.kl1_model.specs.declared.rules.Rules.TheVariants.{Three}
 use Rattle.kl1_model.specs.Term.{Term}
 use Rattle.kl1_model_history.specs.Journal.{Kept, fresh_kept}
 use Rattle.kl1_run_work.specs.declared.wanted.Wanted.{Wanted}
@@ -21,7 +21,7 @@ seen_if contents failures (Some s) = seen contents failures s
 -- what the work comes to that loads these sources in an account in which nothing has happened, starts a goal with an allowance, and
 -- does first steps, at most `steps`
 abbrev pub alone_of : List (List ℕ) → Term → ℕ → ℕ → Worked
-alone_of texts goal allowance steps = worked_of (fresh_kept Two account_name) texts goal allowance steps
+alone_of texts goal allowance steps = worked_of (fresh_kept Three account_name) texts goal allowance steps
 
 -- that work is done, and what came of it was written to two streams, by how the work ended; and the journal of the account after it
 -- was written to a third

@@ -61,7 +61,7 @@ pub fn run_alone<T: Watch, W: Sink, E: Sink, J: Sink>(
                 seats,
                 PlainCodes::new(alloc),
                 &[name],
-                Rules::Two,
+                Rules::Three,
             ) {
                 Ok(mut world) => {
                     let ending = run(alloc, &mut world, work, wanted, watch, out, err);

@@ -6,7 +6,7 @@ use Rattle.std.proofs.lemmas.List.Folds.{list_any_at}
 use Rattle.std.proofs.lemmas.Slice.Eq.{bytes_eq-Decides}
 use Rattle.std.proofs.lemmas.Bool.{and_parts}
 use Rattle.kl1_model.specs.Record.{Record}
-use Rattle.kl1_model.specs.declared.rules.Rules.TheVariants.{Two}
+use Rattle.kl1_model.specs.declared.rules.Rules.TheVariants.{Three}
 use Rattle.kl1_model_history.specs.Journal.{Kept, fresh_kept}
 use Rattle.kl1_model_history.specs.Command.{Command, command_of}
 use Rattle.kl1_model_history.specs.Script.{are_distinct, is_account, commands_of, done_by, after_all, alone_after}
@@ -28,7 +28,7 @@ alone_by true k cs c = after_more k cs c
 alone_by false k cs c = ap (after_all k) (append-nil cs)
 
 alone_more : (name : List ℕ) (bs : List Record) (r : Record) → alone_after name (bs ++ r ∷ []) ≡ (if bytes_eq r.name name then (done_by (alone_after name bs) (command_of r.request)).kept else alone_after name bs)
-alone_more name bs r = ap (after_all (fresh_kept Two name)) (commands_more name bs r) ∙ alone_by (bytes_eq r.name name) (fresh_kept Two name) (commands_of name bs) (command_of r.request)
+alone_more name bs r = ap (after_all (fresh_kept Three name)) (commands_more name bs r) ∙ alone_by (bytes_eq r.name name) (fresh_kept Three name) (commands_of name bs) (command_of r.request)
 
 -- an account alone after one record more, of its name
 pub own_more : (name : List ℕ) (bs : List Record) (r : Record) → r.name ≡ name → alone_after name (bs ++ r ∷ []) ≡ (done_by (alone_after name bs) (command_of r.request)).kept

@@ -4,7 +4,7 @@ use Rattle.std.specs.Prelude.{◌⊎◌, None, Ok, Err, OnOk, slice_get}
 use Rattle.std.specs.declared.result.Result.{Result}
 use Rattle.std.proofs.lemmas.Bool.{cases_eq}
 use Rattle.std.proofs.lemmas.Option.{slice_get_within, get_or_from_slice_get}
-use Rattle.kl1_model.specs.declared.rules.Rules.TheVariants.{Two}
+use Rattle.kl1_model.specs.declared.rules.Rules.TheVariants.{Three}
 use Rattle.kl1_model.specs.Record.{Record}
 use Rattle.kl1_model.specs.Event.{refused, syntax}
 use Rattle.kl1_model_history.specs.Journal.{Kept}
@@ -44,7 +44,7 @@ does_command old new place c d is kept before others many = record {
 }
 
 -- nothing has happened in fresh accounts
-pub alone_fresh : (names : List (List ℕ)) (world : List Held) → length world ≡ length names → AreFresh Two world names → AreAlone names world []
+pub alone_fresh : (names : List (List ℕ)) (world : List Held) → length world ≡ length names → AreFresh Three world names → AreAlone names world []
 alone_fresh names world many fresh = record { many = many; kept = λ u f within fits. fresh u f within }
 
 -- the accounts after a record of another name

@@ -114,7 +114,7 @@ pub fn answer_over<A: AtomSource + Drop, C: CodeSource + Drop, W: Sink>(
     requires seats { AreNewSeats A.is_of A.place A.knows names seats.items }
     ensures { Ends (W.contents sink.old) (W.contents sink.new) (W.failures sink.old) (W.failures sink.new) (written_records accounts.now (records_of text.now)) (λ n. first_written n (Some accounts.now) (records_of text.now).list) result }
 {
-    match World::new(alloc, names, seats, codes, accounts, Rules::Two) {
+    match World::new(alloc, names, seats, codes, accounts, Rules::Three) {
         Ok(mut world) => {
             let mut out = Vec::new(alloc);
             answer_each(alloc, accounts, &mut world, text, &mut out, sink)

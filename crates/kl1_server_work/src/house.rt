@@ -136,7 +136,7 @@ where
         &table,
         &codes,
         names.as_slice(),
-        Rules::Two,
+        Rules::Three,
         seats,
         workers + usize::from(accept),
     )?;

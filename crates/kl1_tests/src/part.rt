@@ -83,7 +83,15 @@ const PARTS: [(&[u8], Part); 64] = [
     ),
     (
         b"read moves ",
-        Part::Match(kl1_tests_read::MatchKind::Moves),
+        Part::Match(kl1_tests_read::MatchKind::Moves(Rules::Three)),
+    ),
+    (
+        b"read second_moves ",
+        Part::Match(kl1_tests_read::MatchKind::Moves(Rules::Two)),
+    ),
+    (
+        b"read first_moves ",
+        Part::Match(kl1_tests_read::MatchKind::Moves(Rules::One)),
     ),
     (
         b"read built ",

@@ -88,7 +88,7 @@ pub fn tried<J: Job + Sync, R: Threads + Wait + Clock + Sync>(
         &table,
         &codes,
         names.as_slice(),
-        Rules::Two,
+        Rules::Three,
         seats,
         threads,
     )?;

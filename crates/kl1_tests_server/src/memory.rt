@@ -103,7 +103,7 @@ fn is_same_in<R: Wait>(rt: &R, alloc: Global, way: Way) -> Result<bool, AllocErr
     };
     let (table, seats) = AtomTable::new(alloc, 1)?;
     let codes = CodeTable::new(alloc)?;
-    let parts = PoolParts::new(alloc, &table, &codes, &[name], Rules::Two, seats, 1)?;
+    let parts = PoolParts::new(alloc, &table, &codes, &[name], Rules::Three, seats, 1)?;
     is_same_of(rt, alloc, parts, way)
 }
 

@@ -56,7 +56,7 @@ fn entries_in(
     let mut names = SharedAtoms { table };
     let mut seat = seat;
     let mut codes = PlainCodes::new(alloc);
-    let mut user = UserState::fresh(alloc, name, Rules::Two)?;
+    let mut user = UserState::fresh(alloc, name, Rules::Three)?;
     Ok(entries_after(&mut names, &mut seat, &mut user, &mut codes, load))
 }
 

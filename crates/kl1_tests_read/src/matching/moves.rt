@@ -10,7 +10,7 @@ use crate::matching::heads::{behind_colon, cell_of, put_numbers};
 use crate::matching::printed_cells::{push_arguments, put_cells, put_goals};
 use kl1_clause::{Code, Predicate};
 use kl1_goals_moves::{Kind, Move, Trial, commit, kind_of, move_of, or_none, standing_of};
-use kl1_model::BuiltIn;
+use kl1_model::{BuiltIn, Rules};
 use kl1_read::read_goal;
 use kl1_store::{Cell, Store};
 use kl1_term::Term;
@@ -18,11 +18,17 @@ use kl1_tests_rows::Text;
 use kl1_text::{AtomText, NameValue, put_atom};
 use std::alloc::AllocError;
 
-/// Puts what each argument of the goal after the colon of a goal can do, as a goal, in a new store.
-pub fn put_moves(answer: &mut Text, store: &mut Store<AtomText>, code: &Code, text: &[u8]) {
+/// Puts what each argument of the goal after the colon of a goal can do, as a goal, by rules, in a new store.
+pub fn put_moves(
+    answer: &mut Text,
+    store: &mut Store<AtomText>,
+    code: &Code,
+    rules: Rules,
+    text: &[u8],
+) {
     match read_goal(answer.alloc, text) {
         Ok(goal) => {
-            let done = put_each(answer, store, code, &goal);
+            let done = put_each(answer, store, code, rules, &goal);
             answer.note(done);
         }
         Err(_fault) => answer.fail(),
@@ -34,6 +40,7 @@ fn put_each(
     answer: &mut Text,
     store: &mut Store<AtomText>,
     code: &Code,
+    rules: Rules,
     goal: &Term,
 ) -> Result<(), AllocError> {
     let _zero = store.fresh()?;
@@ -44,7 +51,7 @@ fn put_each(
     let mut goals = Vec::new(answer.alloc);
     push_arguments(store, structure, &mut goals)?;
     goals.reverse();
-    put_all(answer, store, code, goals.as_slice())
+    put_all(answer, store, code, rules, goals.as_slice())
 }
 
 /// Puts what each of some cells can do, as a goal.
@@ -52,10 +59,11 @@ fn put_all(
     answer: &mut Text,
     store: &mut Store<AtomText>,
     code: &Code,
+    rules: Rules,
     goals: &[Cell<AtomText>],
 ) -> Result<(), AllocError> {
     for goal in goals {
-        put_move(answer, store, code, *goal)?;
+        put_move(answer, store, code, rules, *goal)?;
     }
     Ok(())
 }
@@ -103,10 +111,11 @@ fn put_move(
     answer: &mut Text,
     store: &mut Store<AtomText>,
     code: &Code,
+    rules: Rules,
     goal: Cell<AtomText>,
 ) -> Result<(), AllocError> {
     match kind_in(store, goal) {
-        Some(kind) => put_of_kind(answer, store, code, &kind),
+        Some(kind) => put_of_kind(answer, store, code, rules, &kind),
         None => Err(AllocError),
     }
 }
@@ -116,19 +125,28 @@ fn put_of_kind(
     answer: &mut Text,
     store: &mut Store<AtomText>,
     code: &Code,
+    rules: Rules,
     kind: &Kind<AtomText>,
 ) -> Result<(), AllocError>
     requires { KindIn store.old.held kind.now }
 {
     put_kind(answer, kind);
     let mut trial = Trial::new(answer.alloc);
-    put_tried(answer, store, kind, predicate_of(code, kind), &mut trial)
+    put_tried(
+        answer,
+        store,
+        rules,
+        kind,
+        predicate_of(code, kind),
+        &mut trial,
+    )
 }
 
 /// Puts the variables that a goal of a kind waits for, or what it does, with a trial for what is tried.
 fn put_tried(
     answer: &mut Text,
     store: &mut Store<AtomText>,
+    rules: Rules,
     kind: &Kind<AtomText>,
     predicate: Predicate<'_, AtomText>,
     trial: &mut Trial<AtomText>,
@@ -137,10 +155,10 @@ fn put_tried(
     requires predicate { AreSome predicate.names.now predicate.clauses.now }
 {
     let tried = *kind;
-    match standing_of(store, tried, predicate, trial)? {
+    match standing_of(store, rules, tried, predicate, trial)? {
         Some(clause) => {
             let moved = *kind;
-            put_done(answer, store, moved, predicate, clause, trial)
+            put_done(answer, store, rules, moved, predicate, clause, trial)
         }
         None => {
             answer.put(b" waits");
@@ -187,6 +205,7 @@ fn put_opened(
 fn put_done(
     answer: &mut Text,
     store: &mut Store<AtomText>,
+    rules: Rules,
     kind: Kind<AtomText>,
     predicate: Predicate<'_, AtomText>,
     clause: u64,
@@ -195,7 +214,7 @@ fn put_done(
     requires kind { KindIn store.old.held kind }
     requires predicate { AreSome predicate.names.now predicate.clauses.now }
 {
-    match move_of(store, kind, predicate, clause, trial)? {
+    match move_of(store, rules, kind, predicate, clause, trial)? {
         None => answer.fail(),
         Some(Move::Raises(kind)) => put_raised(answer, kind)?,
         Some(Move::Goes) => answer.put(b" goes"),

@@ -21,10 +21,10 @@ fn put_in(answer: &mut Text, store: &mut Store<AtomText>, kind: Kind, act: &[u8]
     if matches!(kind, Kind::Built) {
         return put_built(answer, store, front, goal);
     }
-    match Code::compile(answer.alloc, front) {
-        Ok(code) if matches!(kind, Kind::Moves) => put_moves(answer, store, &code, goal),
-        Ok(code) => put_verdict(answer, store, kind, &code, goal),
-        Err(_fault) => answer.fail(),
+    match (Code::compile(answer.alloc, front), kind) {
+        (Ok(code), Kind::Moves(rules)) => put_moves(answer, store, &code, rules, goal),
+        (Ok(code), _) => put_verdict(answer, store, kind, &code, goal),
+        (Err(_fault), _) => answer.fail(),
     }
 }
 
