@@ -34,8 +34,13 @@ record Finds (t : Term) (most : ℕ) (e : ArithmeticExpression) (left : ℕ) : T
   writes : formula_term e ≡ t
   counts : most ≡ operators_of e + left
 
+same_scanned : (x y : Scanned) → found x ≡ found y → x ≡ y
+same_scanned x y e = cc
+
 found_parts : {a b : ArithmeticExpression} {m n : ℕ} → ◌≡◌ {A = Found Scanned} (found (record { expression = a; left = m })) (found (record { expression = b; left = n })) → (a ≡ b) × (m ≡ n)
-found_parts e = (cc, cc)
+found_parts {a} {b} {m} {n} e =
+    let same : ◌≡◌ {A = Scanned} (record { expression = a; left = m }) (record { expression = b; left = n }) = same_scanned (record { expression = a; left = m }) (record { expression = b; left = n }) e in
+    (ap (λ (x : Scanned). x.expression) same, ap (λ (x : Scanned). x.left) same)
 
 by_right : (o : Operator) (t u : Term) (most m left : ℕ) (a e : ArithmeticExpression) (y : Found Scanned) → Finds t most a m → with_right o a y ≡ found (record { expression = e; left = left }) → ((b : ArithmeticExpression) (n : ℕ) → y ≡ found (record { expression = b; left = n }) → Finds u m b n) → Finds (structure (operator_name o) (more t (more u none))) (suc most) e left
 by_right o t u most m left a e (found z) first h k =

@@ -1,6 +1,6 @@
 -- By which clause a term can step, and for what it waits, when variables are replaced.
 use Rattle.std.proofs.Common.{◌≡◌, ℕ, ◌==◌, Bool, true, false, if◌then◌else◌, List, [], ◌∷◌, ◌++◌, refl, sym, ap, ap₂, ◌∙◌}
-use Rattle.std.specs.Prelude.{not, ◌&&◌, codes, bytes_eq, Option, Some, None, option_map, is_some, find, filter, ⊤}
+use Rattle.std.specs.Prelude.{not, ◌&&◌, codes, bytes_eq, Option, Some, None, option_map, is_some, find, filter}
 use Rattle.std.proofs.lemmas.Bool.{cond-false}
 use Rattle.kl1_model.specs.Goal.{is_called, is_execute}
 use Rattle.kl1_model.specs.Look.{spelling, ExecuteArguments, arguments_look}
@@ -10,7 +10,7 @@ use Rattle.kl1_model.specs.Term.{Term, variable, integer, atom, structure, Terms
 use Rattle.kl1_model.specs.Module.{Module, is_of}
 use Rattle.kl1_model.specs.Match.{Call, call_of, module_of, clauses_in, clauses_of}
 use Rattle.kl1_model.specs.Arithmetic.{evaluated}
-use Rattle.kl1_model.specs.Reduction.{Move, unifies, assigned, spells, ordered, order_move, execute_move, built_in_move, term_move}
+use Rattle.kl1_model.specs.Reduction.{Move, unifies, names, opens, move_found, becomes, order_move, execute_move, built_in_move, term_move}
 use Rattle.kl1_model.specs.Choice.{call_clauses}
 use Rattle.kl1_model.specs.code.Waits.{LeavesEach, least_clause, term_clause, awaited_by_clauses, awaited_by_order, awaited_by_execute, awaited_by_built_in, awaited_by_call, awaited_in_call, awaited_at_head}
 use Rattle.kl1_model.specs.laws.WaitsLaws.{call_substituted, HeadStays, TermStays}
@@ -21,7 +21,6 @@ use Rattle.kl1_model.proofs.ScanStays.{evaluated_stays}
 use Rattle.kl1_model.proofs.LookStays.{spelling_stays, order_substituted, order_stays}
 use Rattle.kl1_model.proofs.VerdictStays.{clauses_stay}
 use Rattle.kl1_model.specs.Found.{Found, found, awaits, wrong, awaited_by_found}
-use Rattle.kl1_model.specs.declared.number.Number.{Number}
 
 -- ---- calls
 
@@ -111,20 +110,10 @@ some-if : (c : Bool) (m n : Move) → is_some (if c then Some m else None) ≡ i
 some-if true m n = refl
 some-if false m n = refl
 
-assigned_is : (a b : Term) (x y : Found Number) → x ≡ y → is_some (assigned a x) ≡ is_some (assigned b y)
-assigned_is a b x (found n) e = ap (λ z. is_some (assigned a z)) e
-assigned_is a b x (awaits v) e = ap (λ z. is_some (assigned a z)) e
-assigned_is a b x wrong e = ap (λ z. is_some (assigned a z)) e
-
-spells_is : (a b : Term) (x y : Found (List ℕ)) → x ≡ y → is_some (spells a x) ≡ is_some (spells b y)
-spells_is a b x (found text) e = ap (λ z. is_some (spells a z)) e
-spells_is a b x (awaits v) e = ap (λ z. is_some (spells a z)) e
-spells_is a b x wrong e = ap (λ z. is_some (spells a z)) e
-
-ordered_is : (o p : ExecuteArguments) (x y : Found ⊤) → x ≡ y → is_some (ordered o x) ≡ is_some (ordered p y)
-ordered_is o p x (found right) e = ap (λ z. is_some (ordered o z)) e
-ordered_is o p x (awaits v) e = ap (λ z. is_some (ordered o z)) e
-ordered_is o p x wrong e = ap (λ z. is_some (ordered o z)) e
+moves_as : {A : Type 0} (f g : A → Move) (x y : Found A) → x ≡ y → is_some (move_found f x) ≡ is_some (move_found g y)
+moves_as f g x (found a) e = ap (λ z. is_some (move_found f z)) e
+moves_as f g x (awaits v) e = ap (λ z. is_some (move_found f z)) e
+moves_as f g x wrong e = ap (λ z. is_some (move_found f z)) e
 
 no_order : (s : ℕ → Term) (c d : Bool) → is_some (if c then order_move None else None) ≡ is_some (if d then order_move None else None)
 no_order s true true = refl
@@ -139,8 +128,8 @@ no_awaited s false true = refl
 no_awaited s false false = refl
 
 six_stay : (s : ℕ → Term) (c : Bool) (o : ExecuteArguments) → LeavesEach s (if c then awaited_by_found (arguments_look o) else []) →
-    is_some (if c then ordered (order_substituted s o) (arguments_look (order_substituted s o)) else None) ≡ is_some (if c then ordered o (arguments_look o) else None)
-six_stay s true o l = ordered_is (order_substituted s o) o (arguments_look (order_substituted s o)) (arguments_look o) (order_stays s o l)
+    is_some (if c then move_found (λ right. opens (order_substituted s o)) (arguments_look (order_substituted s o)) else None) ≡ is_some (if c then move_found (λ right. opens o) (arguments_look o) else None)
+six_stay s true o l = moves_as (λ right. opens (order_substituted s o)) (λ right. opens o) (arguments_look (order_substituted s o)) (arguments_look o) (order_stays s o l)
 six_stay s false o l = refl
 
 execute_stays : (s : ℕ → Term) (a b : Term) → LeavesEach s (awaited_in_call a b) → LeavesEach s (awaited_by_execute a b) → is_some (execute_move (substituted s a) (substituted s b)) ≡ is_some (execute_move a b)
@@ -184,11 +173,11 @@ execute_awaited_stays s (atom m) (structure p (more a (more b (more c (more d (m
 
 pair_stays_by : (rules : Rules) (s : ℕ → Term) (c d e g : Bool) (a b : Term) → LeavesEach s (if g then awaited_in_call a b else []) →
     LeavesEach s (if d then awaited_by_found (evaluated b) else if e then awaited_by_found (spelling (most_spelled rules) a) else if g then awaited_by_execute a b else []) →
-    is_some (if c then Some (unifies (substituted s a) (substituted s b)) else if d then assigned (substituted s a) (evaluated (substituted s b)) else if e then spells (substituted s b) (spelling (most_spelled rules) (substituted s a)) else if g then execute_move (substituted s a) (substituted s b) else None)
-    ≡ is_some (if c then Some (unifies a b) else if d then assigned a (evaluated b) else if e then spells b (spelling (most_spelled rules) a) else if g then execute_move a b else None)
+    is_some (if c then Some (unifies (substituted s a) (substituted s b)) else if d then move_found (becomes (substituted s a)) (evaluated (substituted s b)) else if e then move_found (λ text. names text (substituted s b)) (spelling (most_spelled rules) (substituted s a)) else if g then execute_move (substituted s a) (substituted s b) else None)
+    ≡ is_some (if c then Some (unifies a b) else if d then move_found (becomes a) (evaluated b) else if e then move_found (λ text. names text b) (spelling (most_spelled rules) a) else if g then execute_move a b else None)
 pair_stays_by rules s true d e g a b l k = refl
-pair_stays_by rules s false true e g a b l k = assigned_is (substituted s a) a (evaluated (substituted s b)) (evaluated b) (evaluated_stays s b k)
-pair_stays_by rules s false false true g a b l k = spells_is (substituted s b) b (spelling (most_spelled rules) (substituted s a)) (spelling (most_spelled rules) a) (spelling_stays s (most_spelled rules) a k)
+pair_stays_by rules s false true e g a b l k = moves_as (becomes (substituted s a)) (becomes a) (evaluated (substituted s b)) (evaluated b) (evaluated_stays s b k)
+pair_stays_by rules s false false true g a b l k = moves_as (λ text. names text (substituted s b)) (λ text. names text b) (spelling (most_spelled rules) (substituted s a)) (spelling (most_spelled rules) a) (spelling_stays s (most_spelled rules) a k)
 pair_stays_by rules s false false false true a b l k = execute_stays s a b l k
 pair_stays_by rules s false false false false a b l k = refl
 

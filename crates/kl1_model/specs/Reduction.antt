@@ -60,21 +60,7 @@ becomes a (Value z) = unifies a (integer z)
 becomes a Overflow = raises overflow
 becomes a ZeroDivisor = raises illegal_input
 
--- what comes of a term that becomes what an expression comes to; it waits while the expression does
-abbrev pub assigned : Term → Found Number → Option Move
-assigned a x = move_found (becomes a) x
-
--- ---- the goal `atom_from`
-
--- what comes of a term that becomes the name that codes spell; it waits while the codes do
-abbrev pub spells : Term → Found (List ℕ) → Option Move
-spells a x = move_found (λ text. names text a) x
-
 -- ---- the goal `shoen:execute`
-
--- what comes of the arguments of `shoen:execute` by the look at them; it waits while an argument does
-abbrev pub ordered : ExecuteArguments → Found ⊤ → Option Move
-ordered o x = move_found (λ right. opens o) x
 
 -- the arguments of `shoen:execute`, if a term has six
 abbrev pub execute_arguments : Term → Option ExecuteArguments
@@ -84,7 +70,7 @@ execute_arguments t = None
 -- what comes of arguments that may be there
 abbrev pub order_move : Option ExecuteArguments → Option Move
 order_move None = None
-order_move (Some o) = ordered o (arguments_look o)
+order_move (Some o) = move_found (λ right. opens o) (arguments_look o)
 
 -- what a goal `a:b` does, if it is `shoen:execute` with six arguments
 abbrev pub execute_move : Term → Term → Option Move
@@ -93,12 +79,13 @@ execute_move a b = None
 
 -- ---- built-in goals together: `true`, `=`, and those above
 
--- what a built-in goal of two terms does
+-- what a built-in goal of two terms does; `:=` waits while the expression does, `atom_from` while the codes do, and `shoen:execute`
+-- while an argument does
 abbrev pub pair_move : Rules → List ℕ → Term → Term → Option Move
 pair_move rules f a b =
     if bytes_eq f (codes "=") then Some (unifies a b)
-    else if bytes_eq f (codes ":=") then assigned a (evaluated b)
-    else if bytes_eq f (codes "atom_from") then spells b (spelling (most_spelled rules) a)
+    else if bytes_eq f (codes ":=") then move_found (becomes a) (evaluated b)
+    else if bytes_eq f (codes "atom_from") then move_found (λ text. names text b) (spelling (most_spelled rules) a)
     else if bytes_eq f (codes ":") then execute_move a b
     else None
 

@@ -19,7 +19,7 @@ use Rattle.kl1_model.specs.Control.{Control, awaits_message, tells, tells_other,
 use Rattle.kl1_model.specs.State.{Task, monitor, reduces, substitutes, Goal, Shoen, State, shoen_at, most_spelled}
 use Rattle.kl1_model.specs.Tree.{is_enabled}
 use Rattle.kl1_model.specs.Report.{failure}
-use Rattle.kl1_model.specs.Reduction.{Move, commits, raises, unifies, names, opens, goes, gives_way, call_move, becomes, assigned, spells, ordered, execute_arguments, order_move, execute_move, pair_move, built_in_move, term_move, substitute_move, Action, moves, reads, read_action, monitor_action, task_action, action_of}
+use Rattle.kl1_model.specs.Reduction.{Move, commits, raises, unifies, names, opens, goes, gives_way, call_move, move_found, becomes, execute_arguments, order_move, execute_move, pair_move, built_in_move, term_move, substitute_move, Action, moves, reads, read_action, monitor_action, task_action, action_of}
 use Rattle.kl1_model.specs.Found.{Found, found, awaits, wrong}
 
 -- a text that is spelled is bytes of names, and no more of them than cells
@@ -84,7 +84,7 @@ most_in_names One = let le : MOST_SPELLED_BEFORE ≤ MOST_NAME_BYTES = omega ari
 most_in_names Two = let le : MOST_SPELLED_BEFORE ≤ MOST_NAME_BYTES = omega arith in le
 most_in_names Three = let le : MOST_NAME_BYTES ≤ MOST_NAME_BYTES = omega arith in le
 
-spelled_names : (most : ℕ) (a : Term) (s : Found (List ℕ)) → most ≤ MOST_NAME_BYTES → IsSpelled most s → MayName (spells a s)
+spelled_names : (most : ℕ) (a : Term) (s : Found (List ℕ)) → most ≤ MOST_NAME_BYTES → IsSpelled most s → MayName (move_found (λ text. names text a) s)
 spelled_names most a (found text) le h = and_from (nat_le (length text) MOST_NAME_BYTES) (list_all is_name_byte text) (le-leb (length text) MOST_NAME_BYTES (let few = h.1 in omega arith)) h.0
 spelled_names most a (awaits v) le h = tt
 spelled_names most a wrong le h = tt
@@ -94,13 +94,13 @@ become_names a (Value z) = tt
 become_names a Overflow = tt
 become_names a ZeroDivisor = tt
 
-assigned_names : (a : Term) (e : Found Number) → MayName (assigned a e)
+assigned_names : (a : Term) (e : Found Number) → MayName (move_found (becomes a) e)
 assigned_names a (found n) = become_names a n
 assigned_names a (awaits v) = tt
 assigned_names a wrong = tt
 
-ordered_names : (o : ExecuteArguments) (l : Found ⊤) → MayName (ordered o l)
-ordered_names o (found tt) = tt
+ordered_names : (o : ExecuteArguments) (l : Found ⊤) → MayName (move_found (λ right. opens o) l)
+ordered_names o (found right) = tt
 ordered_names o (awaits v) = tt
 ordered_names o wrong = tt
 
@@ -118,11 +118,11 @@ pair_names : (rules : Rules) (f : List ℕ) (a b : Term) → MayName (pair_move 
 pair_names rules f a b =
     let last = if bytes_eq f (codes ":") then execute_move a b else None in
     let most = most_spelled rules in
-    let third = if bytes_eq f (codes "atom_from") then spells b (spelling most a) else last in
-    let second = if bytes_eq f (codes ":=") then assigned a (evaluated b) else third in
+    let third = if bytes_eq f (codes "atom_from") then move_found (λ text. names text b) (spelling most a) else last in
+    let second = if bytes_eq f (codes ":=") then move_found (becomes a) (evaluated b) else third in
     either_names (bytes_eq f (codes "=")) (Some (unifies a b)) second tt
-    (either_names (bytes_eq f (codes ":=")) (assigned a (evaluated b)) third (assigned_names a (evaluated b))
-    (either_names (bytes_eq f (codes "atom_from")) (spells b (spelling most a)) last (spelled_names most b (spelling most a) (most_in_names rules) (is_spelled most a))
+    (either_names (bytes_eq f (codes ":=")) (move_found (becomes a) (evaluated b)) third (assigned_names a (evaluated b))
+    (either_names (bytes_eq f (codes "atom_from")) (move_found (λ text. names text b) (spelling most a)) last (spelled_names most b (spelling most a) (most_in_names rules) (is_spelled most a))
     (either_names (bytes_eq f (codes ":")) (execute_move a b) None (execute_names a b) tt)))
 
 built_in_names : (rules : Rules) (t : Term) → MayName (built_in_move rules t)
@@ -149,7 +149,7 @@ term_names rules modules t clause None = either_names (clause == 0) (built_in_mo
 term_names rules modules t clause (Some call) = call_names modules call clause
 
 substitute_names : (l : Found ⊤) → MayName (substitute_move l)
-substitute_names (found tt) = tt
+substitute_names (found right) = tt
 substitute_names (awaits v) = tt
 substitute_names wrong = tt
 
