@@ -12,8 +12,8 @@ use Rattle.kl1_model.specs.Look as model_look
 use Rattle.kl1_model.specs.Look.{spelling, arguments_look}
 use Rattle.kl1_model.specs.declared.rules.Rules.{Rules}
 use Rattle.kl1_model.specs.State.{most_spelled}
-use Rattle.kl1_model.specs.Reduction.{Move, unifies, goes, assigned, spells, ordered, execute_arguments, order_move, execute_move, built_in_move}
-use Rattle.kl1_model.specs.code.Waits.{awaited_in_call, awaited_at_head, awaited_by_evaluated, awaited_by_spelling, awaited_by_look, awaited_by_order, awaited_by_execute, awaited_by_built_in}
+use Rattle.kl1_model.specs.Reduction.{Move, unifies, goes, execute_arguments, order_move, execute_move, built_in_move, becomes, move_found, names, opens}
+use Rattle.kl1_model.specs.code.Waits.{awaited_in_call, awaited_at_head, awaited_by_order, awaited_by_execute, awaited_by_built_in}
 use Rattle.kl1_store.specs.declared.cell.Cell.{Cell}
 use Rattle.kl1_store.specs.declared.qualified.Qualified.{Qualified}
 use Rattle.kl1_store.specs.declared.cell.Cell.TheVariants.{Atom, Structure}
@@ -35,6 +35,7 @@ use Rattle.kl1_goals_moves.specs.declared.order.ExecuteArguments.{ExecuteArgumen
 use Rattle.kl1_goals_moves.specs.Orders.{order_at, IsOrder}
 use Rattle.kl1_goals_moves.specs.Calls.{atom_in, name_in, cell_in, cell_of, IsOf, IsNameless, CallsNothing, Calls, CalledIn, CalledBetween, CalledAs, CalledInside, IsCounted, is_order}
 use Rattle.kl1_goals_moves.specs.Kinds.{IsCall, IsUnification, IsAssignment, IsSpelling, IsExecution, IsTrueGoal, IsKind, KindIn, order_kind, callee_kind}
+use Rattle.kl1_model.specs.Found.{awaited_by_found}
 
 -- ---- under another name than `:`
 
@@ -60,20 +61,20 @@ by_module f a b = if bytes_eq f (codes ":") then execute_move a b else None
 
 -- and one that is neither `=` nor `:=`
 abbrev by_spelling : Rules → List ℕ → Term → Term → Option Move
-by_spelling rules f a b = if bytes_eq f (codes "atom_from") then spells b (spelling (most_spelled rules) a) else by_module f a b
+by_spelling rules f a b = if bytes_eq f (codes "atom_from") then move_found (λ text. names text b) (spelling (most_spelled rules) a) else by_module f a b
 
 -- and one that isn't `=`
 abbrev by_assignment : Rules → List ℕ → Term → Term → Option Move
-by_assignment rules f a b = if bytes_eq f (codes ":=") then assigned a (evaluated b) else by_spelling rules f a b
+by_assignment rules f a b = if bytes_eq f (codes ":=") then move_found (becomes a) (evaluated b) else by_spelling rules f a b
 
 no_unification : (rules : Rules) (f : List ℕ) (a b : Term) → bytes_eq f (codes "=") ≡ false → built_in_move rules (structure f (more a (more b none))) ≡ by_assignment rules f a b
 no_unification rules f a b e = cond-false (bytes_eq f (codes "=")) (Some (unifies a b)) (by_assignment rules f a b) e
 
 no_assignment : (rules : Rules) (f : List ℕ) (a b : Term) → bytes_eq f (codes "=") ≡ false → bytes_eq f (codes ":=") ≡ false → built_in_move rules (structure f (more a (more b none))) ≡ by_spelling rules f a b
-no_assignment rules f a b e n = no_unification rules f a b e ∙ cond-false (bytes_eq f (codes ":=")) (assigned a (evaluated b)) (by_spelling rules f a b) n
+no_assignment rules f a b e n = no_unification rules f a b e ∙ cond-false (bytes_eq f (codes ":=")) (move_found (becomes a) (evaluated b)) (by_spelling rules f a b) n
 
 no_spelling : (rules : Rules) (f : List ℕ) (a b : Term) → bytes_eq f (codes "=") ≡ false → bytes_eq f (codes ":=") ≡ false → bytes_eq f (codes "atom_from") ≡ false → built_in_move rules (structure f (more a (more b none))) ≡ by_module f a b
-no_spelling rules f a b e n s = no_assignment rules f a b e n ∙ cond-false (bytes_eq f (codes "atom_from")) (spells b (spelling (most_spelled rules) a)) (by_module f a b) s
+no_spelling rules f a b e n s = no_assignment rules f a b e n ∙ cond-false (bytes_eq f (codes "atom_from")) (move_found (λ text. names text b) (spelling (most_spelled rules) a)) (by_module f a b) s
 
 -- what a name waits for of two terms that is neither `:=` nor `atom_from`
 abbrev waits_by_module : List ℕ → Term → Term → List ℕ
@@ -81,13 +82,13 @@ waits_by_module f a b = if bytes_eq f (codes ":") then awaited_by_execute a b el
 
 -- and one that isn't `:=`
 abbrev waits_by_spelling : Rules → List ℕ → Term → Term → List ℕ
-waits_by_spelling rules f a b = if bytes_eq f (codes "atom_from") then awaited_by_spelling (spelling (most_spelled rules) a) else waits_by_module f a b
+waits_by_spelling rules f a b = if bytes_eq f (codes "atom_from") then awaited_by_found (spelling (most_spelled rules) a) else waits_by_module f a b
 
 no_expression : (rules : Rules) (f : List ℕ) (a b : Term) → bytes_eq f (codes ":=") ≡ false → awaited_by_built_in rules (structure f (more a (more b none))) ≡ waits_by_spelling rules f a b
-no_expression rules f a b n = cond-false (bytes_eq f (codes ":=")) (awaited_by_evaluated (evaluated b)) (waits_by_spelling rules f a b) n
+no_expression rules f a b n = cond-false (bytes_eq f (codes ":=")) (awaited_by_found (evaluated b)) (waits_by_spelling rules f a b) n
 
 no_codes : (rules : Rules) (f : List ℕ) (a b : Term) → bytes_eq f (codes ":=") ≡ false → bytes_eq f (codes "atom_from") ≡ false → awaited_by_built_in rules (structure f (more a (more b none))) ≡ waits_by_module f a b
-no_codes rules f a b n s = no_expression rules f a b n ∙ cond-false (bytes_eq f (codes "atom_from")) (awaited_by_spelling (spelling (most_spelled rules) a)) (waits_by_module f a b) s
+no_codes rules f a b n s = no_expression rules f a b n ∙ cond-false (bytes_eq f (codes "atom_from")) (awaited_by_found (spelling (most_spelled rules) a)) (waits_by_module f a b) s
 
 waits_for_none : (rules : Rules) (f : List ℕ) (a b : Term) → bytes_eq f (codes ":") ≡ false → bytes_eq f (codes ":=") ≡ false → bytes_eq f (codes "atom_from") ≡ false → awaited_by_built_in rules (structure f (more a (more b none))) ≡ []
 waits_for_none rules f a b e n s = no_codes rules f a b n s ∙ cond-false (bytes_eq f (codes ":")) (awaited_by_execute a b) [] e
@@ -107,18 +108,18 @@ is_unification f h name left right ne e = record {
 pub is_assignment : {N : Type 0} (f : N → List ℕ) (h : Held N) (name : N) (left right : Cell N) → bytes_eq (f name) (codes ":") ≡ false → bytes_eq (f name) (codes "=") ≡ false → bytes_eq (f name) (codes ":=") ≡ true → IsAssignment f h (two_terms f h name left right) left right
 is_assignment f h name left right ne other e = record {
   call = other_name (f name) (term_of f h left) (term_of f h right) ne;
-  built_in = λ rules. no_unification rules (f name) (term_of f h left) (term_of f h right) other ∙ cond-true (bytes_eq (f name) (codes ":=")) (assigned (term_of f h left) (evaluated (term_of f h right))) (by_spelling rules (f name) (term_of f h left) (term_of f h right)) e;
+  built_in = λ rules. no_unification rules (f name) (term_of f h left) (term_of f h right) other ∙ cond-true (bytes_eq (f name) (codes ":=")) (move_found (becomes (term_of f h left)) (evaluated (term_of f h right))) (by_spelling rules (f name) (term_of f h left) (term_of f h right)) e;
   awaits = other_head (f name) (term_of f h left) (term_of f h right) ne;
-  waits_for = λ rules. cond-true (bytes_eq (f name) (codes ":=")) (awaited_by_evaluated (evaluated (term_of f h right))) (waits_by_spelling rules (f name) (term_of f h left) (term_of f h right)) e;
+  waits_for = λ rules. cond-true (bytes_eq (f name) (codes ":=")) (awaited_by_found (evaluated (term_of f h right))) (waits_by_spelling rules (f name) (term_of f h left) (term_of f h right)) e;
 }
 
 pub is_spelling : {N : Type 0} (f : N → List ℕ) (h : Held N) (name : N) (left right : Cell N) → bytes_eq (f name) (codes ":") ≡ false → bytes_eq (f name) (codes "=") ≡ false → bytes_eq (f name) (codes ":=") ≡ false → bytes_eq (f name) (codes "atom_from") ≡ true →
     IsSpelling f h (two_terms f h name left right) left right
 is_spelling f h name left right ne other n e = record {
   call = other_name (f name) (term_of f h left) (term_of f h right) ne;
-  built_in = λ rules. no_assignment rules (f name) (term_of f h left) (term_of f h right) other n ∙ cond-true (bytes_eq (f name) (codes "atom_from")) (spells (term_of f h right) (spelling (most_spelled rules) (term_of f h left))) (by_module (f name) (term_of f h left) (term_of f h right)) e;
+  built_in = λ rules. no_assignment rules (f name) (term_of f h left) (term_of f h right) other n ∙ cond-true (bytes_eq (f name) (codes "atom_from")) (move_found (λ text. names text (term_of f h right)) (spelling (most_spelled rules) (term_of f h left))) (by_module (f name) (term_of f h left) (term_of f h right)) e;
   awaits = other_head (f name) (term_of f h left) (term_of f h right) ne;
-  waits_for = λ rules. no_expression rules (f name) (term_of f h left) (term_of f h right) n ∙ cond-true (bytes_eq (f name) (codes "atom_from")) (awaited_by_spelling (spelling (most_spelled rules) (term_of f h left))) (waits_by_module (f name) (term_of f h left) (term_of f h right)) e;
+  waits_for = λ rules. no_expression rules (f name) (term_of f h left) (term_of f h right) n ∙ cond-true (bytes_eq (f name) (codes "atom_from")) (awaited_by_found (spelling (most_spelled rules) (term_of f h left))) (waits_by_module (f name) (term_of f h left) (term_of f h right)) e;
 }
 
 pub other_two : {N : Type 0} (f : N → List ℕ) (h : Held N) (name : N) (left right : Cell N) → bytes_eq (f name) (codes ":") ≡ false → bytes_eq (f name) (codes "=") ≡ false → bytes_eq (f name) (codes ":=") ≡ false → bytes_eq (f name) (codes "atom_from") ≡ false →
@@ -319,13 +320,13 @@ no_call f m (atom n) (structure q ts) l e =
     let is : is_execute n (structure q ts) ≡ true = ap (λ x. is_execute x (structure q ts)) (some_text l) ∙ e in
     cond-false (bytes_eq f (codes ":") && not (is_execute n (structure q ts))) (Some (call_with n q ts)) None (and_right (bytes_eq f (codes ":")) (not (is_execute n (structure q ts))) (ap not is))
 
-execution_moves : (m : List ℕ) (a b : Term) (o : model_look.ExecuteArguments) → atom_in a ≡ Some m → is_execute m b ≡ true → execute_arguments b ≡ Some o → execute_move a b ≡ ordered o (arguments_look o)
+execution_moves : (m : List ℕ) (a b : Term) (o : model_look.ExecuteArguments) → atom_in a ≡ Some m → is_execute m b ≡ true → execute_arguments b ≡ Some o → execute_move a b ≡ move_found (λ right. opens o) (arguments_look o)
 execution_moves m (variable n) b o l e k = absurd (cc)
 execution_moves m (integer n) b o l e k = absurd (cc)
 execution_moves m (structure g us) b o l e k = absurd (cc)
 execution_moves m (atom n) b o l e k = cond-true (is_execute n b) (order_move (execute_arguments b)) None (ap (λ x. is_execute x b) (some_text l) ∙ e) ∙ ap order_move k
 
-execution_waits : (m : List ℕ) (a b : Term) (o : model_look.ExecuteArguments) → atom_in a ≡ Some m → is_execute m b ≡ true → execute_arguments b ≡ Some o → awaited_by_execute a b ≡ awaited_by_look (arguments_look o)
+execution_waits : (m : List ℕ) (a b : Term) (o : model_look.ExecuteArguments) → atom_in a ≡ Some m → is_execute m b ≡ true → execute_arguments b ≡ Some o → awaited_by_execute a b ≡ awaited_by_found (arguments_look o)
 execution_waits m (variable n) b o l e k = absurd (cc)
 execution_waits m (integer n) b o l e k = absurd (cc)
 execution_waits m (structure g us) b o l e k = absurd (cc)

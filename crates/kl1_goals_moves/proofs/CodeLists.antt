@@ -9,8 +9,7 @@ use Rattle.kl1_model.specs.declared.rules.Rules.TheVariants.{One, Two, Three}
 use Rattle.kl1_model.specs.State.{most_spelled}
 use Rattle.kl1_model.specs.Text.{is_name_byte, is_text}
 use Rattle.kl1_model.specs.Term.{Term, variable, integer, atom, structure, none, more}
-use Rattle.kl1_model.specs.Look as model
-use Rattle.kl1_model.specs.Look.{spelled, awaits_code, misspelled, spelled_before, spelled_by, spelling}
+use Rattle.kl1_model.specs.Look.{spelled_before, spelled_by, spelling}
 use Rattle.kl1_model.specs.declared.built_in.BuiltIn.{BuiltIn}
 use Rattle.kl1_text.specs.Reading.{Reads}
 use Rattle.kl1_store.specs.declared.cell.Cell.{Cell}
@@ -23,18 +22,19 @@ use Rattle.kl1_goals_moves.specs.declared.codes.Code.{Code}
 use Rattle.kl1_goals_moves.specs.declared.codes.Code.TheVariants.{Byte, Waits, Wrong}
 use Rattle.kl1_goals_moves.specs.declared.codes.Front.{Front}
 use Rattle.kl1_goals_moves.specs.Spellings.{code_by, front_by, HasFront, spelled_after}
+use Rattle.kl1_model.specs.Found.{Found, found, awaits, wrong}
 
 -- what an element of a list of codes makes of what is spelled after it
-abbrev code_before : Code → model.Spelling → model.Spelling
+abbrev code_before : Code → Found (List ℕ) → Found (List ℕ)
 code_before (Byte n) rest = spelled_before n rest
-code_before (Waits v) rest = awaits_code v
-code_before Wrong rest = misspelled
+code_before (Waits v) rest = awaits v
+code_before Wrong rest = wrong
 
-byte_before : (n : ℕ) (b : Bool) (rest : model.Spelling) → (if b then spelled_before n rest else misspelled) ≡ code_before (if b then Byte n else Wrong) rest
+byte_before : (n : ℕ) (b : Bool) (rest : Found (List ℕ)) → (if b then spelled_before n rest else wrong) ≡ code_before (if b then Byte n else Wrong) rest
 byte_before n true rest = refl
 byte_before n false rest = refl
 
-element_as : {N : Type 0} (f : N → List ℕ) (t : Term) (x : Cell N) (rest : model.Spelling) → HasTop f t x → spelled_by t rest ≡ code_before (code_by x) rest
+element_as : {N : Type 0} (f : N → List ℕ) (t : Term) (x : Cell N) (rest : Found (List ℕ)) → HasTop f t x → spelled_by t rest ≡ code_before (code_by x) rest
 element_as f t (Variable v) rest e = ap (λ k. spelled_by k rest) e
 element_as f t (Integer (pos n)) rest e = ap (λ k. spelled_by k rest) e ∙ byte_before n (is_name_byte n) rest
 element_as f t (Integer (negsuc n)) rest e = ap (λ k. spelled_by k rest) e
@@ -48,7 +48,7 @@ cell_spelled : (left : ℕ) (g : List ℕ) (a b : Term) → (left ≡ 0 → ⊥)
 cell_spelled zero g a b some e = absurd (some refl)
 cell_spelled (suc left) g a b some e =
     let one : left ≡ suc left - 1 = omega arith in
-    cond-true (bytes_eq g (codes ".")) (spelled_by a (spelling left b)) misspelled e ∙ ap (λ k. spelled_by a (spelling k b)) one
+    cond-true (bytes_eq g (codes ".")) (spelled_by a (spelling left b)) wrong e ∙ ap (λ k. spelled_by a (spelling k b)) one
 
 front_as : {N : Type 0} (f : N → List ℕ) (h : Held N) (left : ℕ) (t : Term) (rest : Cell N) (k : Code) → spelling left t ≡ code_before k (spelling (left - 1) (term_of f h rest)) → HasFront f h left t (front_by k rest)
 front_as f h left t rest (Byte n) e = e
@@ -66,10 +66,10 @@ cell_front {N = N} f h left t name element rest top k r e some cell has is own =
 
 -- ---- the walk over a list of codes
 
-after_before : (text : List ℕ) (n : ℕ) (x : model.Spelling) → spelled_after text (spelled_before n x) ≡ spelled_after (text ++ n ∷ []) x
-after_before text n (spelled rest) = ap (λ l. spelled l) (sym (append_assoc text (n ∷ []) rest))
-after_before text n (awaits_code v) = refl
-after_before text n misspelled = refl
+after_before : (text : List ℕ) (n : ℕ) (x : Found (List ℕ)) → spelled_after text (spelled_before n x) ≡ spelled_after (text ++ n ∷ []) x
+after_before text n (found rest) = ap (λ l. found l) (sym (append_assoc text (n ∷ []) rest))
+after_before text n (awaits v) = refl
+after_before text n wrong = refl
 
 -- what the rest of a list spells after a text is what the whole list spells
 abbrev pub SpellsOn : {N : Type 0} → (BuiltIn → N) → Held N → ℕ → List ℕ → ℕ → Cell N → Cell N → Type 0
@@ -79,13 +79,13 @@ pub no_codes_yet : {N : Type 0} (built : BuiltIn → N) (h : Held N) (most : ℕ
 no_codes_yet built h most text left rest whole et el er = λ f r.
     ap (λ l. spelled_after l (spelling left (term_of f h rest))) et ∙ nothing (spelling left (term_of f h rest)) ∙ ap (λ n. spelling n (term_of f h rest)) el ∙ ap (λ x. spelling most (term_of f h x)) er
   where
-    nothing : (x : model.Spelling) → spelled_after [] x ≡ x
-    nothing (spelled rest) = refl
-    nothing (awaits_code v) = refl
-    nothing misspelled = refl
+    nothing : (x : Found (List ℕ)) → spelled_after [] x ≡ x
+    nothing (found rest) = refl
+    nothing (awaits v) = refl
+    nothing wrong = refl
 
 -- one code more is put after the text
-pub code_taken : (text text' : List ℕ) (n left left' : ℕ) (t rest : Term) (whole : model.Spelling) → text' ≡ text ++ n ∷ [] → left' ≡ left - 1 → spelling left t ≡ spelled_before n (spelling (left - 1) rest) → spelled_after text (spelling left t) ≡ whole → spelled_after text' (spelling left' rest) ≡ whole
+pub code_taken : (text text' : List ℕ) (n left left' : ℕ) (t rest : Term) (whole : Found (List ℕ)) → text' ≡ text ++ n ∷ [] → left' ≡ left - 1 → spelling left t ≡ spelled_before n (spelling (left - 1) rest) → spelled_after text (spelling left t) ≡ whole → spelled_after text' (spelling left' rest) ≡ whole
 code_taken text text' n left left' t rest whole et el front so_far =
     ap (λ l. spelled_after l (spelling left' rest)) et ∙ ap (λ k. spelled_after (text ++ n ∷ []) (spelling k rest)) el
     ∙ sym (after_before text n (spelling (left - 1) rest)) ∙ sym (ap (spelled_after text) front) ∙ so_far

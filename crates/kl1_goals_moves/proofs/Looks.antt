@@ -1,10 +1,10 @@
 -- What looks at cells come to, by what stands at their tops.
 use Rattle.std.proofs.Common.{◌≡◌, ℕ, Bool, true, false, List, refl, sym, ap, ap₂, ◌∙◌, ℤ}
-use Rattle.std.specs.Prelude.{pos, negsuc, nat_le, ◌||◌, codes, bytes_eq}
+use Rattle.std.specs.Prelude.{pos, negsuc, nat_le, ◌||◌, codes, bytes_eq, ⊤}
 use Rattle.std.proofs.lemmas.Bool.{cond-true, cond-false}
 use Rattle.kl1_model.specs.Term.{Term, variable, integer, atom, structure, Terms, none, more}
 use Rattle.kl1_model.specs.declared.limits.TheConstants.{MOST_PRIORITY}
-use Rattle.kl1_model.specs.Look as model
+use Rattle.kl1_model.specs.Found as model
 use Rattle.kl1_model.specs.Look.{callee_look, goal_look, priority_look, allowance_look, number_of_term, arguments_look}
 use Rattle.kl1_store.specs.declared.cell.Cell.{Cell}
 use Rattle.kl1_store.specs.declared.cell.Cell.TheVariants.{Variable, Integer, Atom, Structure}
@@ -22,7 +22,7 @@ look_right : (b : Bool) → look_of (right_if b) ≡ model.right_if b
 look_right true = refl
 look_right false = refl
 
-look_then : (x y : Look) → look_of (then_look x y) ≡ model.then_look (look_of x) (look_of y)
+look_then : (x y : Look) → look_of (then_look x y) ≡ model.then_found (look_of x) (λ right. look_of y)
 look_then Right y = refl
 look_then (Waits v) y = refl
 look_then Wrong y = refl
@@ -143,6 +143,6 @@ order_as_look f h o g l u n least most eg el eu en least_is most_is =
     let range = model.right_if (nat_le (number_of_term (term_of f h o.low)) (number_of_term (term_of f h o.high))) in
     let last : look_of (right_if (nat_le least most)) ≡ range = look_right (nat_le least most) ∙ ap₂ (λ x y. model.right_if (nat_le x y)) least_is most_is in
     look_then g (then_look l (then_look u (then_look n (right_if (nat_le least most)))))
-    ∙ ap₂ model.then_look eg (look_then l (then_look u (then_look n (right_if (nat_le least most))))
-    ∙ ap₂ model.then_look el (look_then u (then_look n (right_if (nat_le least most)))
-    ∙ ap₂ model.then_look eu (look_then n (right_if (nat_le least most)) ∙ ap₂ model.then_look en last)))
+    ∙ ap₂ (λ (x y : model.Found ⊤). model.then_found x (λ right. y)) eg (look_then l (then_look u (then_look n (right_if (nat_le least most))))
+    ∙ ap₂ (λ (x y : model.Found ⊤). model.then_found x (λ right. y)) el (look_then u (then_look n (right_if (nat_le least most)))
+    ∙ ap₂ (λ (x y : model.Found ⊤). model.then_found x (λ right. y)) eu (look_then n (right_if (nat_le least most)) ∙ ap₂ (λ (x y : model.Found ⊤). model.then_found x (λ right. y)) en last)))

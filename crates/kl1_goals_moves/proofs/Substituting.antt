@@ -4,7 +4,7 @@ use Rattle.std.specs.Prelude.{Option}
 use Rattle.kl1_model.specs.Term.{Term}
 use Rattle.kl1_model.specs.Look.{goal_look}
 use Rattle.kl1_model.specs.Reduction as model
-use Rattle.kl1_model.specs.code.Waits.{awaited_by_look, look_clause, awaited_by_substitute}
+use Rattle.kl1_model.specs.code.Waits.{look_clause, awaited_by_substitute}
 use Rattle.kl1_match.specs.Waiting.{AreSame}
 use Rattle.kl1_match.proofs.Naming.{same_as_itself}
 use Rattle.kl1_goals_moves.specs.declared.look.Look.{Look}
@@ -12,6 +12,7 @@ use Rattle.kl1_goals_moves.specs.declared.look.Look.TheVariants as look
 use Rattle.kl1_goals_moves.specs.declared.moves.Move.{Move}
 use Rattle.kl1_goals_moves.specs.Looks.{look_of}
 use Rattle.kl1_goals_moves.specs.Substitutes.{giving_way, substitute_move_of, SubstituteMoves, SubstituteStands}
+use Rattle.kl1_model.specs.Found.{awaited_by_found}
 
 -- by 0 it does what the look says
 gives_as : (N : Type 0) (t : Term) (x : Look) → look_of x ≡ goal_look t → let m : Option (Move N) = giving_way x in substitute_move_of m (model.substitute_move (goal_look t))
@@ -26,8 +27,8 @@ moves_as {N = N} t clause x found z own e =
     subst Q (sym z) (subst P (sym own) (gives_as N t x e))
 
 -- the clause by which it can step and what it waits for, by the look
-pub stands_as : (t : Term) (x : Look) (awaited : List ℕ) (clause : Option ℕ) → look_of x ≡ goal_look t → awaited ≡ awaited_by_look (look_of x) → clause ≡ look_clause (look_of x) → SubstituteStands t awaited clause
+pub stands_as : (t : Term) (x : Look) (awaited : List ℕ) (clause : Option ℕ) → look_of x ≡ goal_look t → awaited ≡ awaited_by_found (look_of x) → clause ≡ look_clause (look_of x) → SubstituteStands t awaited clause
 stands_as t x awaited clause e a k = record {
   clause_is = k ∙ ap look_clause e;
-  awaits = subst (λ (vs : List ℕ). AreSame vs (awaited_by_substitute t)) (sym (a ∙ ap awaited_by_look e)) (same_as_itself (awaited_by_substitute t));
+  awaits = subst (λ (vs : List ℕ). AreSame vs (awaited_by_substitute t)) (sym (a ∙ ap awaited_by_found e)) (same_as_itself (awaited_by_substitute t));
 }

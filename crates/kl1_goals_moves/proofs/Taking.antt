@@ -17,7 +17,7 @@ use Rattle.kl1_model.specs.declared.rules.Rules.{Rules}
 use Rattle.kl1_model.specs.State.{most_spelled}
 use Rattle.kl1_model.specs.Reduction as model_moves
 use Rattle.kl1_model.specs.Reduction.{raises, unifies, goes, illegal_input, built_in_move}
-use Rattle.kl1_model.specs.code.Waits.{move_by, awaited_by_term, awaited_by_call, awaited_by_clauses, awaited_at_head, awaited_by_evaluated, awaited_by_spelling, awaited_by_look, awaited_by_built_in}
+use Rattle.kl1_model.specs.code.Waits.{move_by, awaited_by_term, awaited_by_call, awaited_by_clauses, awaited_at_head, awaited_by_built_in}
 use Rattle.kl1_model.proofs.LeastClause.{term_clause-call, term_clause-built_in, term_clause-none}
 use Rattle.kl1_text.specs.Reading.{Reads}
 use Rattle.kl1_store.specs.declared.cell.Cell.{Cell}
@@ -62,6 +62,7 @@ use Rattle.kl1_goals_moves.specs.Moves.{HasPredicate, FailsAs, candidate_at, IsC
 use Rattle.kl1_goals_moves.specs.Standing.{StandsAs}
 use Rattle.kl1_goals_moves.specs.Bodies.{IsBody, AreNeeds}
 use Rattle.kl1_goals_moves.proofs.Candidates.{none_behind, fails_by, goes_on_by, commits_by, by_zero}
+use Rattle.kl1_model.specs.Found.{awaited_by_found}
 
 -- ---- compiled clauses of a predicate
 
@@ -160,9 +161,9 @@ becomes_as f h rules modules t n p places text a ZeroDivisor e = e
 -- and of one that becomes what an expression comes to
 pub assigned_as : {N : Type 0} (f : N → List ℕ) (h : Held N) (rules : Rules) (modules : List Module) (t : Term) (n : ℕ) (p : Predicate N) (places : List (Place N)) (text : List ℕ) (a b : Cell N) (x : Evaluated ℕ) → IsAssignment f h t a b → n ≡ 0 → evaluated_of (λ v. v) x ≡ evaluated (term_of f h b) →
     MovesAs f h rules modules t n p places text (assigning.assigned a x)
-assigned_as f h rules modules t n p places text a b x u z e = by x (by_zero rules modules t n (model_moves.assigned (term_of f h a) (evaluated (term_of f h b))) u.call (u.built_in rules) z ∙ ap (model_moves.assigned (term_of f h a)) (sym e))
+assigned_as f h rules modules t n p places text a b x u z e = by x (by_zero rules modules t n (model_moves.move_found (model_moves.becomes (term_of f h a)) (evaluated (term_of f h b))) u.call (u.built_in rules) z ∙ ap (model_moves.move_found (model_moves.becomes (term_of f h a))) (sym e))
   where
-    by : (x : Evaluated ℕ) → move_by rules modules t n ≡ model_moves.assigned (term_of f h a) (evaluated_of (λ v. v) x) → MovesAs f h rules modules t n p places text (assigning.assigned a x)
+    by : (x : Evaluated ℕ) → move_by rules modules t n ≡ model_moves.move_found (model_moves.becomes (term_of f h a)) (evaluated_of (λ v. v) x) → MovesAs f h rules modules t n p places text (assigning.assigned a x)
     by (ComesTo k) m = becomes_as f h rules modules t n p places text a k m
     by (Awaits v) m = m
     by IsNoExpression m = m
@@ -170,9 +171,9 @@ assigned_as f h rules modules t n p places text a b x u z e = by x (by_zero rule
 -- what comes of a cell that becomes the name that codes spell
 pub named_as : {N : Type 0} (f : N → List ℕ) (h : Held N) (rules : Rules) (modules : List Module) (t : Term) (n : ℕ) (p : Predicate N) (places : List (Place N)) (text : List ℕ) (codes target : Cell N) (x : Spelling) → IsSpelling f h t codes target → n ≡ 0 →
     spelling_of x text ≡ spelling (most_spelled rules) (term_of f h codes) → MovesAs f h rules modules t n p places text (naming target x)
-named_as f h rules modules t n p places text codes target x u z e = by x (by_zero rules modules t n (model_moves.spells (term_of f h target) (spelling (most_spelled rules) (term_of f h codes))) u.call (u.built_in rules) z ∙ ap (model_moves.spells (term_of f h target)) (sym e))
+named_as f h rules modules t n p places text codes target x u z e = by x (by_zero rules modules t n (model_moves.move_found (λ text. model_moves.names text (term_of f h target)) (spelling (most_spelled rules) (term_of f h codes))) u.call (u.built_in rules) z ∙ ap (model_moves.move_found (λ text. model_moves.names text (term_of f h target))) (sym e))
   where
-    by : (x : Spelling) → move_by rules modules t n ≡ model_moves.spells (term_of f h target) (spelling_of x text) → MovesAs f h rules modules t n p places text (naming target x)
+    by : (x : Spelling) → move_by rules modules t n ≡ model_moves.move_found (λ text. model_moves.names text (term_of f h target)) (spelling_of x text) → MovesAs f h rules modules t n p places text (naming target x)
     by spelled.Spelled m = m
     by (spelled.Waits v) m = m
     by spelled.Misspelled m = m
@@ -194,9 +195,9 @@ one_order {N = N} h s o q a b =
 -- what comes of an order by the look at it
 pub opened_as : {N : Type 0} (f : N → List ℕ) (h : Held N) (rules : Rules) (modules : List Module) (t : Term) (n : ℕ) (p : Predicate N) (places : List (Place N)) (text : List ℕ) (s : ℕ) (o : ExecuteArguments N) (x : Look) → IsExecution f h t s → n ≡ 0 → IsOrder h s o →
     look_of x ≡ arguments_look (order_at f h o) → MovesAs f h rules modules t n p places text (opening s x)
-opened_as {N = N} f h rules modules t n p places text s o x u z at e = by x (by_zero rules modules t n (model_moves.ordered (order_at f h o) (arguments_look (order_at f h o))) u.call (u.built_in rules o at) z ∙ ap (model_moves.ordered (order_at f h o)) (sym e))
+opened_as {N = N} f h rules modules t n p places text s o x u z at e = by x (by_zero rules modules t n (model_moves.move_found (λ right. model_moves.opens (order_at f h o)) (arguments_look (order_at f h o))) u.call (u.built_in rules o at) z ∙ ap (model_moves.move_found (λ right. model_moves.opens (order_at f h o))) (sym e))
   where
-    by : (x : Look) → move_by rules modules t n ≡ model_moves.ordered (order_at f h o) (look_of x) → MovesAs f h rules modules t n p places text (opening s x)
+    by : (x : Look) → move_by rules modules t n ≡ model_moves.move_found (λ right. model_moves.opens (order_at f h o)) (look_of x) → MovesAs f h rules modules t n p places text (opening s x)
     by look.Right m = λ q k. m ∙ ap (λ (y : ExecuteArguments N). Some (model_moves.opens (order_at f h y))) (one_order h s o q at k)
     by (look.Waits v) m = m
     by look.Wrong m = m
@@ -250,9 +251,9 @@ waits_by IsNoExpression = []
 pub assignment_stands : {N : Type 0} (f : N → List ℕ) (h : Held N) (rules : Rules) (modules : List Module) (t : Term) (left right : Cell N) (x : Evaluated ℕ) (awaited : List ℕ) → IsAssignment f h t left right → evaluated_of (λ v. v) x ≡ evaluated (term_of f h right) → awaited ≡ waits_by x →
     StandsAs rules modules t awaited (clause_by x)
 assignment_stands f h rules modules t left right x awaited u e a =
-    by x (u.built_in rules ∙ ap (model_moves.assigned (term_of f h left)) (sym e)) (awaited_parts rules modules t [] (awaited_by_evaluated (evaluated (term_of f h right))) None u.awaits u.call (u.waits_for rules) ∙ ap awaited_by_evaluated (sym e)) a
+    by x (u.built_in rules ∙ ap (model_moves.move_found (model_moves.becomes (term_of f h left))) (sym e)) (awaited_parts rules modules t [] (awaited_by_found (evaluated (term_of f h right))) None u.awaits u.call (u.waits_for rules) ∙ ap awaited_by_found (sym e)) a
   where
-    by : (x : Evaluated ℕ) → built_in_move rules t ≡ model_moves.assigned (term_of f h left) (evaluated_of (λ v. v) x) → awaited_by_term rules modules t ≡ awaited_by_evaluated (evaluated_of (λ v. v) x) → awaited ≡ waits_by x → StandsAs rules modules t awaited (clause_by x)
+    by : (x : Evaluated ℕ) → built_in_move rules t ≡ model_moves.move_found (model_moves.becomes (term_of f h left)) (evaluated_of (λ v. v) x) → awaited_by_term rules modules t ≡ awaited_by_found (evaluated_of (λ v. v) x) → awaited ≡ waits_by x → StandsAs rules modules t awaited (clause_by x)
     by (ComesTo k) m w b = record { clause_is = sym (term_clause-built_in rules modules t (model_moves.becomes (term_of f h left) k) u.call m); awaits = same_by (awaited_by_term rules modules t) awaited (b ∙ sym w) }
     by (Awaits v) m w b = record { clause_is = sym (term_clause-none rules modules t u.call m); awaits = same_by (awaited_by_term rules modules t) awaited (b ∙ sym w) }
     by IsNoExpression m w b = record { clause_is = sym (term_clause-built_in rules modules t (raises illegal_input) u.call m); awaits = same_by (awaited_by_term rules modules t) awaited (b ∙ sym w) }
@@ -272,9 +273,9 @@ waits_by_spelling spelled.Misspelled = []
 pub spelling_stands : {N : Type 0} (f : N → List ℕ) (h : Held N) (rules : Rules) (modules : List Module) (t : Term) (codes target : Cell N) (x : Spelling) (text awaited : List ℕ) → IsSpelling f h t codes target → spelling_of x text ≡ spelling (most_spelled rules) (term_of f h codes) → awaited ≡ waits_by_spelling x →
     StandsAs rules modules t awaited (clause_by_spelling x)
 spelling_stands f h rules modules t codes target x text awaited u e a =
-    by x (u.built_in rules ∙ ap (model_moves.spells (term_of f h target)) (sym e)) (awaited_parts rules modules t [] (awaited_by_spelling (spelling (most_spelled rules) (term_of f h codes))) None u.awaits u.call (u.waits_for rules) ∙ ap awaited_by_spelling (sym e)) a
+    by x (u.built_in rules ∙ ap (model_moves.move_found (λ text. model_moves.names text (term_of f h target))) (sym e)) (awaited_parts rules modules t [] (awaited_by_found (spelling (most_spelled rules) (term_of f h codes))) None u.awaits u.call (u.waits_for rules) ∙ ap awaited_by_found (sym e)) a
   where
-    by : (x : Spelling) → built_in_move rules t ≡ model_moves.spells (term_of f h target) (spelling_of x text) → awaited_by_term rules modules t ≡ awaited_by_spelling (spelling_of x text) → awaited ≡ waits_by_spelling x → StandsAs rules modules t awaited (clause_by_spelling x)
+    by : (x : Spelling) → built_in_move rules t ≡ model_moves.move_found (λ text. model_moves.names text (term_of f h target)) (spelling_of x text) → awaited_by_term rules modules t ≡ awaited_by_found (spelling_of x text) → awaited ≡ waits_by_spelling x → StandsAs rules modules t awaited (clause_by_spelling x)
     by spelled.Spelled m w b = record { clause_is = sym (term_clause-built_in rules modules t (model_moves.names text (term_of f h target)) u.call m); awaits = same_by (awaited_by_term rules modules t) awaited (b ∙ sym w) }
     by (spelled.Waits v) m w b = record { clause_is = sym (term_clause-none rules modules t u.call m); awaits = same_by (awaited_by_term rules modules t) awaited (b ∙ sym w) }
     by spelled.Misspelled m w b = record { clause_is = sym (term_clause-built_in rules modules t (raises illegal_input) u.call m); awaits = same_by (awaited_by_term rules modules t) awaited (b ∙ sym w) }
@@ -294,9 +295,9 @@ waits_by_look look.Wrong = []
 pub execution_stands : {N : Type 0} (f : N → List ℕ) (h : Held N) (rules : Rules) (modules : List Module) (t : Term) (s : ℕ) (o : ExecuteArguments N) (x : Look) (awaited : List ℕ) → IsExecution f h t s → IsOrder h s o → look_of x ≡ arguments_look (order_at f h o) → awaited ≡ waits_by_look x →
     StandsAs rules modules t awaited (clause_by_look x)
 execution_stands f h rules modules t s o x awaited u at e a =
-    by x (u.built_in rules o at ∙ ap (model_moves.ordered (order_at f h o)) (sym e)) (awaited_parts rules modules t [] (awaited_by_look (arguments_look (order_at f h o))) None u.awaits u.call (u.waits_for rules o at) ∙ ap awaited_by_look (sym e)) a
+    by x (u.built_in rules o at ∙ ap (model_moves.move_found (λ right. model_moves.opens (order_at f h o))) (sym e)) (awaited_parts rules modules t [] (awaited_by_found (arguments_look (order_at f h o))) None u.awaits u.call (u.waits_for rules o at) ∙ ap awaited_by_found (sym e)) a
   where
-    by : (x : Look) → built_in_move rules t ≡ model_moves.ordered (order_at f h o) (look_of x) → awaited_by_term rules modules t ≡ awaited_by_look (look_of x) → awaited ≡ waits_by_look x → StandsAs rules modules t awaited (clause_by_look x)
+    by : (x : Look) → built_in_move rules t ≡ model_moves.move_found (λ right. model_moves.opens (order_at f h o)) (look_of x) → awaited_by_term rules modules t ≡ awaited_by_found (look_of x) → awaited ≡ waits_by_look x → StandsAs rules modules t awaited (clause_by_look x)
     by look.Right m w b = record { clause_is = sym (term_clause-built_in rules modules t (model_moves.opens (order_at f h o)) u.call m); awaits = same_by (awaited_by_term rules modules t) awaited (b ∙ sym w) }
     by (look.Waits v) m w b = record { clause_is = sym (term_clause-none rules modules t u.call m); awaits = same_by (awaited_by_term rules modules t) awaited (b ∙ sym w) }
     by look.Wrong m w b = record { clause_is = sym (term_clause-built_in rules modules t (raises illegal_input) u.call m); awaits = same_by (awaited_by_term rules modules t) awaited (b ∙ sym w) }

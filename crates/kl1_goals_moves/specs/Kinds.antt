@@ -6,8 +6,8 @@ use Rattle.kl1_model.specs.Arithmetic.{evaluated}
 use Rattle.kl1_model.specs.Look.{spelling, arguments_look}
 use Rattle.kl1_model.specs.declared.rules.Rules.{Rules}
 use Rattle.kl1_model.specs.State.{most_spelled}
-use Rattle.kl1_model.specs.Reduction.{unifies, goes, assigned, spells, ordered, built_in_move}
-use Rattle.kl1_model.specs.code.Waits.{awaited_at_head, awaited_by_evaluated, awaited_by_spelling, awaited_by_look, awaited_by_built_in}
+use Rattle.kl1_model.specs.Reduction.{unifies, goes, built_in_move, becomes, move_found, names, opens}
+use Rattle.kl1_model.specs.code.Waits.{awaited_at_head, awaited_by_built_in}
 use Rattle.kl1_store.specs.declared.cell.Cell.{Cell}
 use Rattle.kl1_store.specs.Held.{Held, IsIn, arguments_of}
 use Rattle.kl1_store.specs.Meaning.{term_of}
@@ -21,6 +21,7 @@ use Rattle.kl1_goals_moves.specs.Shapes.{IsNoGoal}
 use Rattle.kl1_match.specs.Waiting.{IsUnbound}
 use Rattle.kl1_goals_moves.specs.Orders.{order_at, IsOrder}
 use Rattle.kl1_goals_moves.specs.Calls.{cell_of, arguments_at, call_at, is_order}
+use Rattle.kl1_model.specs.Found.{awaited_by_found}
 
 -- a term is this call
 pub record IsCall {N : Type 0} (f : N → List ℕ) (h : Held N) (t : Term) (c : Call N) : Type 0 where
@@ -39,23 +40,23 @@ pub record IsUnification {N : Type 0} (f : N → List ℕ) (h : Held N) (t : Ter
 -- a term makes a cell what another comes to as an expression
 pub record IsAssignment {N : Type 0} (f : N → List ℕ) (h : Held N) (t : Term) (left right : Cell N) : Type 0 where
   pub call : call_of t ≡ None
-  pub built_in : (rules : Rules) → built_in_move rules t ≡ assigned (term_of f h left) (evaluated (term_of f h right))
+  pub built_in : (rules : Rules) → built_in_move rules t ≡ move_found (becomes (term_of f h left)) (evaluated (term_of f h right))
   pub awaits : awaited_at_head t ≡ []
-  pub waits_for : (rules : Rules) → awaited_by_built_in rules t ≡ awaited_by_evaluated (evaluated (term_of f h right))
+  pub waits_for : (rules : Rules) → awaited_by_built_in rules t ≡ awaited_by_found (evaluated (term_of f h right))
 
 -- a term makes of a cell the name that another spells
 pub record IsSpelling {N : Type 0} (f : N → List ℕ) (h : Held N) (t : Term) (codes target : Cell N) : Type 0 where
   pub call : call_of t ≡ None
-  pub built_in : (rules : Rules) → built_in_move rules t ≡ spells (term_of f h target) (spelling (most_spelled rules) (term_of f h codes))
+  pub built_in : (rules : Rules) → built_in_move rules t ≡ move_found (λ text. names text (term_of f h target)) (spelling (most_spelled rules) (term_of f h codes))
   pub awaits : awaited_at_head t ≡ []
-  pub waits_for : (rules : Rules) → awaited_by_built_in rules t ≡ awaited_by_spelling (spelling (most_spelled rules) (term_of f h codes))
+  pub waits_for : (rules : Rules) → awaited_by_built_in rules t ≡ awaited_by_found (spelling (most_spelled rules) (term_of f h codes))
 
 -- a term is `shoen:execute` with the arguments of a structure, which are an order for a new shoen
 pub record IsExecution {N : Type 0} (f : N → List ℕ) (h : Held N) (t : Term) (s : ℕ) : Type 0 where
   pub call : call_of t ≡ None
-  pub built_in : (rules : Rules) (o : ExecuteArguments N) → IsOrder h s o → built_in_move rules t ≡ ordered (order_at f h o) (arguments_look (order_at f h o))
+  pub built_in : (rules : Rules) (o : ExecuteArguments N) → IsOrder h s o → built_in_move rules t ≡ move_found (λ right. opens (order_at f h o)) (arguments_look (order_at f h o))
   pub awaits : awaited_at_head t ≡ []
-  pub waits_for : (rules : Rules) (o : ExecuteArguments N) → IsOrder h s o → awaited_by_built_in rules t ≡ awaited_by_look (arguments_look (order_at f h o))
+  pub waits_for : (rules : Rules) (o : ExecuteArguments N) → IsOrder h s o → awaited_by_built_in rules t ≡ awaited_by_found (arguments_look (order_at f h o))
 
 -- a term is `true`
 pub record IsTrueGoal (t : Term) : Type 0 where

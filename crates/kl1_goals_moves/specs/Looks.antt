@@ -1,19 +1,19 @@
 -- What looks at cells come to.
-use Rattle.std.specs.Prelude.{ℕ, nat_le, Bool, if◌then◌else◌, ℤ, pos, negsuc, Option, Some, None}
+use Rattle.std.specs.Prelude.{ℕ, nat_le, Bool, if◌then◌else◌, ℤ, pos, negsuc, Option, Some, None, ⊤}
 use Rattle.kl1_model.specs.declared.limits.TheConstants.{MOST_PRIORITY}
-use Rattle.kl1_model.specs.Look as model
 use Rattle.kl1_store.specs.declared.cell.Cell.{Cell}
 use Rattle.kl1_store.specs.declared.cell.Cell.TheVariants.{Variable, Integer, Atom, Structure}
 use Rattle.kl1_store.specs.Held.{Held}
 use Rattle.kl1_match.specs.Waiting.{IsUnbound}
 use Rattle.kl1_goals_moves.specs.declared.look.Look.{Look}
 use Rattle.kl1_goals_moves.specs.declared.look.Look.TheVariants.{Right, Waits, Wrong}
+use Rattle.kl1_model.specs.Found.{Found, found, awaits, wrong}
 
 -- a look as in the definitions
-abbrev pub look_of : Look → model.Look
-look_of Right = model.right
-look_of (Waits v) = model.waits_on v
-look_of Wrong = model.wrong
+abbrev pub look_of : Look → Found ⊤
+look_of Right = found tt
+look_of (Waits v) = awaits v
+look_of Wrong = wrong
 
 -- the variable that a look waits for is unbound
 abbrev pub LookIn : {N : Type 0} → Held N → Look → Type 0

@@ -1,8 +1,7 @@
 -- What lists of codes spell, told of cells.
 use Rattle.std.specs.Prelude.{◌≡◌, ℕ, ◌-◌, ◌<◌, IsTrue, if◌then◌else◌, List, [], ◌++◌, Option, Some, None}
 use Rattle.kl1_model.specs.Text.{is_name_byte, is_text}
-use Rattle.kl1_model.specs.Look as model
-use Rattle.kl1_model.specs.Look.{spelled, awaits_code, misspelled, spelled_before, spelling}
+use Rattle.kl1_model.specs.Look.{spelled_before, spelling}
 use Rattle.kl1_model.specs.Term.{Term}
 use Rattle.kl1_store.specs.declared.cell.Cell.{Cell}
 use Rattle.kl1_store.specs.declared.cell.Cell.TheVariants.{Variable, Integer, Atom, Structure}
@@ -16,12 +15,13 @@ use Rattle.kl1_goals_moves.specs.declared.codes.Code.{Code}
 use Rattle.kl1_goals_moves.specs.declared.codes.Code.TheVariants as code
 use Rattle.kl1_goals_moves.specs.declared.codes.Front.{Front}
 use Rattle.kl1_goals_moves.specs.declared.codes.Front.TheVariants as front
+use Rattle.kl1_model.specs.Found.{Found, found, awaits, wrong}
 
 -- a spelling as in the definitions, if this is the text that is spelled
-abbrev pub spelling_of : Spelling → List ℕ → model.Spelling
-spelling_of Spelled text = spelled text
-spelling_of (Waits v) text = awaits_code v
-spelling_of Misspelled text = misspelled
+abbrev pub spelling_of : Spelling → List ℕ → Found (List ℕ)
+spelling_of Spelled text = found text
+spelling_of (Waits v) text = awaits v
+spelling_of Misspelled text = wrong
 
 -- what is spelled is a name, and the variable that is waited for is unbound
 abbrev pub SpellingIn : {N : Type 0} → Held N → List ℕ → Spelling → Type 0
@@ -30,10 +30,10 @@ SpellingIn h text (Waits v) = IsUnbound h v
 SpellingIn h text Misspelled = Unit {0}
 
 -- a text in front of what is spelled after it
-abbrev pub spelled_after : List ℕ → model.Spelling → model.Spelling
-spelled_after text (spelled more) = spelled (text ++ more)
-spelled_after text (awaits_code v) = awaits_code v
-spelled_after text misspelled = misspelled
+abbrev pub spelled_after : List ℕ → Found (List ℕ) → Found (List ℕ)
+spelled_after text (found more) = found (text ++ more)
+spelled_after text (awaits v) = awaits v
+spelled_after text wrong = wrong
 
 -- the byte of a name that a number is
 abbrev pub code_in : Option ℕ → Code
@@ -55,9 +55,9 @@ front_by code.Wrong rest = front.Wrong
 
 -- what a list of codes comes to that may have `left` cells more, by its front
 abbrev pub HasFront : {N : Type 0} → (N → List ℕ) → Held N → ℕ → Term → Front N → Type 0
-HasFront f h left t front.Ends = spelling left t ≡ spelled []
-HasFront f h left t (front.Waits v) = spelling left t ≡ awaits_code v
-HasFront f h left t front.Wrong = spelling left t ≡ misspelled
+HasFront f h left t front.Ends = spelling left t ≡ found []
+HasFront f h left t (front.Waits v) = spelling left t ≡ awaits v
+HasFront f h left t front.Wrong = spelling left t ≡ wrong
 HasFront f h left t (front.Code n rest) = spelling left t ≡ spelled_before n (spelling (left - 1) (term_of f h rest))
 
 -- a byte is one of a name, before which there was room for one; the rest is of the store, and a variable is unbound

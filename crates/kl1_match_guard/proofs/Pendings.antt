@@ -6,31 +6,32 @@ use Rattle.kl1_model.specs.declared.operator.Operator.{Operator}
 use Rattle.kl1_model.specs.declared.number.Number.{Number}
 use Rattle.kl1_model.specs.declared.number.Number.TheVariants.{Value}
 use Rattle.kl1_model.specs.Term.{Term}
-use Rattle.kl1_model.specs.Arithmetic.{Scan, ArithmeticExpression, number, found, waits_for, wrong_type, scan, with_left, with_right, applied, compute, Evaluated, comes_to}
+use Rattle.kl1_model.specs.Arithmetic.{ArithmeticExpression, number, scan, with_left, with_right, applied, compute, Scanned}
 use Rattle.kl1_match_guard.specs.declared.pending.Pending.{Pending}
 use Rattle.kl1_match_guard.specs.declared.pending.Pending.TheVariants.{Right, With, Apply}
 use Rattle.kl1_match_guard.specs.declared.part.Part.TheVariants.{Operation}
 use Rattle.kl1_match_guard.specs.Pendings.{going_on, after_one, after_from, after, rights_of, IsPending}
 use Rattle.kl1_match_guard.specs.Parts.{ScansAs}
+use Rattle.kl1_model.specs.Found.{Found, found, awaits, wrong}
 
-right_on : (o : Operator) (a : ArithmeticExpression) (s : Scan) (next : Number → ℕ → Evaluated) → going_on (with_right o a s) next ≡ going_on s (λ y left. next (applied o (compute a) y) left)
-right_on o a (found b left) next = refl
-right_on o a (waits_for v) next = refl
-right_on o a wrong_type next = refl
+right_on : (o : Operator) (a : ArithmeticExpression) (s : Found Scanned) (next : Number → ℕ → Found Number) → going_on (with_right o a s) next ≡ going_on s (λ y left. next (applied o (compute a) y) left)
+right_on o a (found b) next = refl
+right_on o a (awaits v) next = refl
+right_on o a wrong next = refl
 
 -- an operation goes on with its left operand, and what that comes to with the right one
-left_on : (o : Operator) (s : Scan) (right : ℕ → Scan) (next : Number → ℕ → Evaluated) → going_on (with_left o s right) next ≡ going_on s (λ x left. going_on (right left) (λ y more. next (applied o x y) more))
-left_on o (found a left) right next = right_on o a (right left) next
-left_on o (waits_for v) right next = refl
-left_on o wrong_type right next = refl
+left_on : (o : Operator) (s : Found Scanned) (right : ℕ → Found Scanned) (next : Number → ℕ → Found Number) → going_on (with_left o s right) next ≡ going_on s (λ x left. going_on (right left) (λ y more. next (applied o x y) more))
+left_on o (found a) right next = right_on o a.expression (right a.left) next
+left_on o (awaits v) right next = refl
+left_on o wrong right next = refl
 
-after_from-push : {A : Type 0} (term : A → Term) (next : Number → ℕ → Evaluated) (ps : List (Pending A)) (p : Pending A) → after_from term next (ps ++ p ∷ []) ≡ after_one term p (after_from term next ps)
+after_from-push : {A : Type 0} (term : A → Term) (next : Number → ℕ → Found Number) (ps : List (Pending A)) (p : Pending A) → after_from term next (ps ++ p ∷ []) ≡ after_one term p (after_from term next ps)
 after_from-push term next [] p = refl
 after_from-push term next (q ∷ ps) p = after_from-push term (after_one term q next) ps p
 
 -- the last operation comes first
 after-push : {A : Type 0} (term : A → Term) (ps : List (Pending A)) (p : Pending A) → after term (ps ++ p ∷ []) ≡ after_one term p (after term ps)
-after-push term ps p = after_from-push term (λ x left. comes_to x) ps p
+after-push term ps p = after_from-push term (λ x left. found x) ps p
 
 rights_of-right : {A : Type 0} (ps : List (Pending A)) (o : Operator) (b : A) → rights_of (ps ++ Right o b ∷ []) ≡ rights_of ps ++ b ∷ []
 rights_of-right [] o b = refl
@@ -91,12 +92,12 @@ same_rights_with before now p o i e is = ap rights_of (e ∙ ap (λ q. now ++ q 
 -- ---- a term is looked at
 
 -- an integer goes to the operations that wait
-pub number_on : {A : Type 0} (term : A → Term) (s : Scan) (left : ℕ) (ps : List (Pending A)) (i j : ℤ) (e came : Evaluated) →
-    j ≡ i → s ≡ found (number i) left → after term ps (Value j) left ≡ came → going_on s (after term ps) ≡ e → came ≡ e
+pub number_on : {A : Type 0} (term : A → Term) (s : Found Scanned) (left : ℕ) (ps : List (Pending A)) (i j : ℤ) (e came : Found Number) →
+    j ≡ i → s ≡ found (record { expression = number i; left = left }) → after term ps (Value j) left ≡ came → going_on s (after term ps) ≡ e → came ≡ e
 number_on term s left ps i j e came same is comes value = sym comes ∙ ap (λ z. after term ps (Value z) left) same ∙ ap (λ q. going_on q (after term ps)) (sym is) ∙ value
 
 -- an operation goes on with its left operand
-pub operation_on : {V A : Type 0} (number_of : V → ℕ) (term : A → Term) (t : Term) (left less : ℕ) (o : Operator) (a b : A) (p : Pending A) (ps qs : List (Pending A)) (e : Evaluated) →
+pub operation_on : {V A : Type 0} (number_of : V → ℕ) (term : A → Term) (t : Term) (left less : ℕ) (o : Operator) (a b : A) (p : Pending A) (ps qs : List (Pending A)) (e : Found Number) →
     left ≡ suc less → ScansAs number_of term t (Operation o a b) → IsPending term o b p → qs ≡ ps ++ p ∷ [] → going_on (scan left t) (after term ps) ≡ e → going_on (scan less (term a)) (after term qs) ≡ e
 operation_on number_of term t left less o a b p ps qs e more scans pends pushed value =
     ap (going_on (scan less (term a))) (ap (after term) pushed ∙ after-push term ps p ∙ pends (after term ps))

@@ -8,12 +8,14 @@ use Rattle.kl1_text.specs.Reading.{Reads}
 use Rattle.kl1_match_guard.specs.declared.evaluated.Evaluated.{Evaluated}
 use Rattle.kl1_match_guard.specs.declared.evaluated.Evaluated.TheVariants.{ComesTo, Awaits, IsNoExpression}
 use Rattle.kl1_match_guard.specs.declared.scratch.Scratch.{Scratch}
+use Rattle.kl1_model.specs.Found.{Found, found, awaits, wrong}
+use Rattle.kl1_model.specs.declared.number.Number.{Number}
 
 -- what the definitions call it, if variables have these numbers
-abbrev pub evaluated_of : {V : Type 0} → (V → ℕ) → Evaluated V → model.Evaluated
-evaluated_of number (ComesTo x) = model.comes_to x
-evaluated_of number (Awaits v) = model.awaits (number v)
-evaluated_of number IsNoExpression = model.is_no_expression
+abbrev pub evaluated_of : {V : Type 0} → (V → ℕ) → Evaluated V → Found Number
+evaluated_of number (ComesTo x) = found x
+evaluated_of number (Awaits v) = awaits (number v)
+evaluated_of number IsNoExpression = wrong
 
 -- what a term comes to, however names are read
 abbrev pub EvaluatesAs : {N V : Type 0} → (BuiltIn → N) → (V → ℕ) → ((N → List ℕ) → Term) → Evaluated V → Type 0

@@ -1,17 +1,18 @@
 -- What a term is as a part of an expression.
 use Rattle.std.specs.Prelude.{◌≡◌, ℕ, zero, suc}
 use Rattle.kl1_model.specs.Term.{Term}
-use Rattle.kl1_model.specs.Arithmetic.{Scan, found, waits_for, wrong_type, number, with_left, scan}
+use Rattle.kl1_model.specs.Arithmetic.{number, with_left, scan, Scanned}
 use Rattle.kl1_match_guard.specs.declared.part.Part.{Part}
 use Rattle.kl1_match_guard.specs.declared.part.Part.TheVariants.{Variable, Integer, Operation, Other}
+use Rattle.kl1_model.specs.Found.{Found, found, awaits, wrong}
 
 -- what is found in a part, if there may be this many operators, variables have these numbers, and these terms stand there
-abbrev pub part_scan : {V A : Type 0} → (V → ℕ) → (A → Term) → ℕ → Part V A → Scan
-part_scan number_of term n (Variable v) = waits_for (number_of v)
-part_scan number_of term n (Integer i) = found (number i) n
-part_scan number_of term zero (Operation o a b) = wrong_type
+abbrev pub part_scan : {V A : Type 0} → (V → ℕ) → (A → Term) → ℕ → Part V A → Found Scanned
+part_scan number_of term n (Variable v) = awaits (number_of v)
+part_scan number_of term n (Integer i) = found (record { expression = number i; left = n })
+part_scan number_of term zero (Operation o a b) = wrong
 part_scan number_of term (suc n) (Operation o a b) = with_left o (scan n (term a)) (λ left. scan left (term b))
-part_scan number_of term n Other = wrong_type
+part_scan number_of term n Other = wrong
 
 -- a term in which a scan finds what it finds in such a part
 abbrev pub ScansAs : {V A : Type 0} → (V → ℕ) → (A → Term) → Term → Part V A → Type 0

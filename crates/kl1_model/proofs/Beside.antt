@@ -7,9 +7,10 @@ use Rattle.kl1_model.specs.declared.operator.Operator.{Operator}
 use Rattle.kl1_model.specs.Term.{Term, variable, integer, atom, structure, Terms, none, more, count_of, same_term, same_terms, each_substituted}
 use Rattle.kl1_model.specs.Same.{clash, any_clash, same, differs, unknown, passive}
 use Rattle.kl1_model.specs.code.Awaited.{awaited, all_awaited}
-use Rattle.kl1_model.specs.Arithmetic.{ArithmeticExpression, Scan, found, waits_for, wrong_type, with_left, with_right, operator_named, scan, scan_operation}
+use Rattle.kl1_model.specs.Arithmetic.{ArithmeticExpression, with_left, with_right, operator_named, scan, scan_operation, Scanned}
 use Rattle.kl1_model.specs.code.Outcome.{beside, own_variables}
 use Rattle.kl1_model.proofs.Substitutions.{count-each_substituted}
+use Rattle.kl1_model.specs.Found.{Found, found, awaits, wrong}
 
 -- the number of a variable of the goal there
 abbrev pub moved : ℕ → ℕ → ℕ
@@ -119,20 +120,20 @@ own_moved last (v ∷ vs) =
     ∙ ap₂ (λ (n : ℕ) (l : List ℕ). n ∷ l) back (own_moved last vs)
 
 -- a scan there
-abbrev pub scan_moved : ℕ → Scan → Scan
-scan_moved last (found e left) = found e left
-scan_moved last (waits_for v) = waits_for (moved last v)
-scan_moved last wrong_type = wrong_type
+abbrev pub scan_moved : ℕ → Found Scanned → Found Scanned
+scan_moved last (found e) = found e
+scan_moved last (awaits v) = awaits (moved last v)
+scan_moved last wrong = wrong
 
-right_moved : (last : ℕ) (o : Operator) (e : ArithmeticExpression) (y : Scan) → with_right o e (scan_moved last y) ≡ scan_moved last (with_right o e y)
-right_moved last o e (found b left) = refl
-right_moved last o e (waits_for v) = refl
-right_moved last o e wrong_type = refl
+right_moved : (last : ℕ) (o : Operator) (e : ArithmeticExpression) (y : Found Scanned) → with_right o e (scan_moved last y) ≡ scan_moved last (with_right o e y)
+right_moved last o e (found b) = refl
+right_moved last o e (awaits v) = refl
+right_moved last o e wrong = refl
 
-left_moved : (last : ℕ) (o : Operator) (x : Scan) (right other : ℕ → Scan) → ((m : ℕ) → other m ≡ scan_moved last (right m)) → with_left o (scan_moved last x) other ≡ scan_moved last (with_left o x right)
-left_moved last o (found e m) right other f = ap (with_right o e) (f m) ∙ right_moved last o e (right m)
-left_moved last o (waits_for v) right other f = refl
-left_moved last o wrong_type right other f = refl
+left_moved : (last : ℕ) (o : Operator) (x : Found Scanned) (right other : ℕ → Found Scanned) → ((m : ℕ) → other m ≡ scan_moved last (right m)) → with_left o (scan_moved last x) other ≡ scan_moved last (with_left o x right)
+left_moved last o (found e) right other f = ap (with_right o e.expression) (f e.left) ∙ right_moved last o e.expression (right e.left)
+left_moved last o (awaits v) right other f = refl
+left_moved last o wrong right other f = refl
 
 mutual
   pub scan_beside : (last n : ℕ) (t : Term) → scan n (beside last t) ≡ scan_moved last (scan n t)

@@ -2,29 +2,25 @@
 use Rattle.std.proofs.Common.{◌≡◌, ℕ, Bool, true, false, if◌then◌else◌, List, [], ◌∷◌, refl, ap, ◌∙◌}
 use Rattle.std.specs.Prelude.{codes, bytes_eq, pos, negsuc}
 use Rattle.kl1_model.specs.Term.{Term, variable, integer, atom, structure, none, more, substituted}
-use Rattle.kl1_model.specs.Control.{Word, says, says_other, unsaid, allow_word, word_of, ends, breaks_off, control_by, control_of}
+use Rattle.kl1_model.specs.Control.{allow_word, word_of, ends, breaks_off, control_by, control_of}
 use Rattle.kl1_model.specs.code.Awaited.{awaited_by_control}
 use Rattle.kl1_model.specs.code.Waits.{LeavesEach}
 use Rattle.kl1_model.specs.laws.WaitsLaws.{control_substituted, ControlStays}
+use Rattle.kl1_model.specs.Found.{Found, found, awaits, wrong, awaited_by_found}
+use Rattle.kl1_model.specs.declared.message.Message.{Message}
 
--- the variable for which a word waits
-abbrev awaited_by_word : Word → List ℕ
-awaited_by_word (says m) = []
-awaited_by_word says_other = []
-awaited_by_word (unsaid v) = v ∷ []
-
-allow_stays : (s : ℕ → Term) (t : Term) → LeavesEach s (awaited_by_word (allow_word t)) → allow_word (substituted s t) ≡ allow_word t
+allow_stays : (s : ℕ → Term) (t : Term) → LeavesEach s (awaited_by_found (allow_word t)) → allow_word (substituted s t) ≡ allow_word t
 allow_stays s (variable v) l = ap allow_word l.0
 allow_stays s (integer (pos n)) l = refl
 allow_stays s (integer (negsuc n)) l = refl
 allow_stays s (atom a) l = refl
 allow_stays s (structure f ts) l = refl
 
-one_stays : (s : ℕ → Term) (c : Bool) (t : Term) → LeavesEach s (awaited_by_word (if c then allow_word t else says_other)) → (if c then allow_word (substituted s t) else says_other) ≡ (if c then allow_word t else says_other)
+one_stays : (s : ℕ → Term) (c : Bool) (t : Term) → LeavesEach s (awaited_by_found (if c then allow_word t else wrong)) → (if c then allow_word (substituted s t) else wrong) ≡ (if c then allow_word t else wrong)
 one_stays s true t l = allow_stays s t l
 one_stays s false t l = refl
 
-word_stays : (s : ℕ → Term) (t : Term) → LeavesEach s (awaited_by_word (word_of t)) → word_of (substituted s t) ≡ word_of t
+word_stays : (s : ℕ → Term) (t : Term) → LeavesEach s (awaited_by_found (word_of t)) → word_of (substituted s t) ≡ word_of t
 word_stays s (variable v) l = ap word_of l.0
 word_stays s (integer i) l = refl
 word_stays s (atom a) l = refl
@@ -32,15 +28,15 @@ word_stays s (structure f none) l = refl
 word_stays s (structure f (more n none)) l = one_stays s (bytes_eq f (codes "allow")) n l
 word_stays s (structure f (more a (more b us))) l = refl
 
-word_left : (s : ℕ → Term) (m rest : Term) (w : Word) → LeavesEach s (awaited_by_control (control_by m rest w)) → LeavesEach s (awaited_by_word w)
-word_left s m rest (says n) l = tt
-word_left s m rest says_other l = tt
-word_left s m rest (unsaid v) l = l
+word_left : (s : ℕ → Term) (m rest : Term) (w : Found Message) → LeavesEach s (awaited_by_control (control_by m rest w)) → LeavesEach s (awaited_by_found w)
+word_left s m rest (found n) l = tt
+word_left s m rest wrong l = tt
+word_left s m rest (awaits v) l = l
 
-front_substituted : (s : ℕ → Term) (m rest : Term) (w : Word) → control_by (substituted s m) (substituted s rest) w ≡ control_substituted s (control_by m rest w)
-front_substituted s m rest (says n) = refl
-front_substituted s m rest says_other = refl
-front_substituted s m rest (unsaid v) = refl
+front_substituted : (s : ℕ → Term) (m rest : Term) (w : Found Message) → control_by (substituted s m) (substituted s rest) w ≡ control_substituted s (control_by m rest w)
+front_substituted s m rest (found n) = refl
+front_substituted s m rest wrong = refl
+front_substituted s m rest (awaits v) = refl
 
 two_stay : (s : ℕ → Term) (c : Bool) (f : List ℕ) (m rest : Term) → LeavesEach s (awaited_by_control (if c then control_by m rest (word_of m) else breaks_off (structure f (more m (more rest none))))) →
     (if c then control_by (substituted s m) (substituted s rest) (word_of (substituted s m)) else breaks_off (structure f (more (substituted s m) (more (substituted s rest) none))))

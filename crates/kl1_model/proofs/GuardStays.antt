@@ -10,14 +10,16 @@ use Rattle.kl1_model.specs.Term.{Term, variable, integer, atom, structure, Terms
 use Rattle.kl1_model.specs.Meaning.{highest, highest_in}
 use Rattle.kl1_model.specs.Same.{Passive, same, differs, unknown, passive}
 use Rattle.kl1_model.specs.code.Awaited.{awaited, all_awaited}
-use Rattle.kl1_model.specs.Arithmetic.{Evaluated, comes_to, awaits, is_no_expression, evaluated}
+use Rattle.kl1_model.specs.Arithmetic.{evaluated}
 use Rattle.kl1_model.specs.Guard.{Test, holds, looks, is_same, is_other, compares, test_of, type_test_named, comparison_named, test_substituted, is_found}
 use Rattle.kl1_model.specs.code.Outcome.{Outcome, agrees, clashes, waits, both, decided, look, same_outcome, other_outcome, alike, compared_sides, outcome_of, outcome_by, awaited_in, places_alike, alike_with, each_alike, beside, test_variable, own_variables, own_outcome, test_outcome, tests_outcome, guard_outcome}
-use Rattle.kl1_model.specs.code.Waits.{LeavesEach, awaited_by_evaluated}
+use Rattle.kl1_model.specs.code.Waits.{LeavesEach}
 use Rattle.kl1_model.specs.laws.WaitsLaws.{place_substituted, places_substituted}
 use Rattle.kl1_model.proofs.SameEach.{awaited_self}
 use Rattle.kl1_model.proofs.SameStays.{left_front, left_back, same_stays, differs_stays, unknown_stays}
 use Rattle.kl1_model.proofs.ScanStays.{evaluated_stays}
+use Rattle.kl1_model.specs.Found.{Found, found, awaits, wrong, awaited_by_found}
+use Rattle.kl1_model.specs.declared.number.Number.{Number}
 
 -- ---- an outcome and what becomes of it
 
@@ -98,12 +100,12 @@ look_stays s i (integer n) l = refl
 look_stays s i (atom a) l = refl
 look_stays s i (structure f ts) l = ap decided (found_stays s i f ts)
 
-sides_stay : (s : ℕ → Term) (c : Comparison) (p q x y : Evaluated) → (LeavesEach s (awaited_by_evaluated x) → p ≡ x) → (LeavesEach s (awaited_by_evaluated y) → q ≡ y) → Stays s (compared_sides c x y) (compared_sides c p q)
+sides_stay : (s : ℕ → Term) (c : Comparison) (p q x y : Found Number) → (LeavesEach s (awaited_by_found x) → p ≡ x) → (LeavesEach s (awaited_by_found y) → q ≡ y) → Stays s (compared_sides c x y) (compared_sides c p q)
 sides_stay s c p q (awaits v) y f g l = ap (λ x. compared_sides c x q) (f l)
-sides_stay s c p q is_no_expression y f g l = ap (λ x. compared_sides c x q) (f tt)
-sides_stay s c p q (comes_to n) (awaits v) f g l = ap₂ (compared_sides c) (f tt) (g l)
-sides_stay s c p q (comes_to n) is_no_expression f g l = ap₂ (compared_sides c) (f tt) (g tt)
-sides_stay s c p q (comes_to n) (comes_to m) f g l = ap₂ (compared_sides c) (f tt) (g tt)
+sides_stay s c p q wrong y f g l = ap (λ x. compared_sides c x q) (f tt)
+sides_stay s c p q (found n) (awaits v) f g l = ap₂ (compared_sides c) (f tt) (g l)
+sides_stay s c p q (found n) wrong f g l = ap₂ (compared_sides c) (f tt) (g tt)
+sides_stay s c p q (found n) (found m) f g l = ap₂ (compared_sides c) (f tt) (g tt)
 
 -- the outcome of a test stays until a variable for which it waits is replaced
 pub outcome_stays : (s : ℕ → Term) (test : Test) → Stays s (outcome_of test) (outcome_of (test_substituted s test))

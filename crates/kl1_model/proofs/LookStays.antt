@@ -1,38 +1,39 @@
 -- What looks at arguments come to, and what lists of codes spell, when variables are replaced.
 use Rattle.std.proofs.Common.{◌≡◌, ℕ, zero, suc, Bool, true, false, if◌then◌else◌, refl, ap, ap₂, ◌∙◌}
-use Rattle.std.specs.Prelude.{codes, bytes_eq, pos, negsuc, nat_le, ◌||◌}
+use Rattle.std.specs.Prelude.{codes, bytes_eq, pos, negsuc, nat_le, ◌||◌, ⊤, List}
 use Rattle.kl1_model.specs.Text.{is_name_byte}
 use Rattle.kl1_model.specs.Term.{Term, variable, integer, atom, structure, none, more, substituted}
-use Rattle.kl1_model.specs.Look.{Spelling, spelled, awaits_code, misspelled, spelled_before, spelled_by, spelling, Look, right, waits_on, wrong, right_if, then_look, callee_look, goal_look, priority_look, allowance_look, number_of_term, ExecuteArguments, arguments_look}
-use Rattle.kl1_model.specs.code.Waits.{LeavesEach, awaited_by_spelling, awaited_by_look}
+use Rattle.kl1_model.specs.Look.{spelled_before, spelled_by, spelling, callee_look, goal_look, priority_look, allowance_look, number_of_term, ExecuteArguments, arguments_look}
+use Rattle.kl1_model.specs.code.Waits.{LeavesEach}
 use Rattle.kl1_model.specs.laws.WaitsLaws.{SubstitutesStay}
+use Rattle.kl1_model.specs.Found.{Found, found, awaits, wrong, then_found, right_if, awaited_by_found}
 
 -- ---- lists of codes
 
-before_left : (s : ℕ → Term) (n : ℕ) (x : Spelling) → LeavesEach s (awaited_by_spelling (spelled_before n x)) → LeavesEach s (awaited_by_spelling x)
-before_left s n (spelled text) l = tt
-before_left s n (awaits_code v) l = l
-before_left s n misspelled l = tt
+before_left : (s : ℕ → Term) (n : ℕ) (x : Found (List ℕ)) → LeavesEach s (awaited_by_found (spelled_before n x)) → LeavesEach s (awaited_by_found x)
+before_left s n (found text) l = tt
+before_left s n (awaits v) l = l
+before_left s n wrong l = tt
 
-code_stays : (s : ℕ → Term) (n : ℕ) (fits : Bool) (x y : Spelling) → (LeavesEach s (awaited_by_spelling x) → y ≡ x) → LeavesEach s (awaited_by_spelling (if fits then spelled_before n x else misspelled)) →
-    (if fits then spelled_before n y else misspelled) ≡ (if fits then spelled_before n x else misspelled)
+code_stays : (s : ℕ → Term) (n : ℕ) (fits : Bool) (x y : Found (List ℕ)) → (LeavesEach s (awaited_by_found x) → y ≡ x) → LeavesEach s (awaited_by_found (if fits then spelled_before n x else wrong)) →
+    (if fits then spelled_before n y else wrong) ≡ (if fits then spelled_before n x else wrong)
 code_stays s n true x y f l = ap (spelled_before n) (f (before_left s n x l))
 code_stays s n false x y f l = refl
 
-element_stays : (s : ℕ → Term) (h : Term) (x y : Spelling) → (LeavesEach s (awaited_by_spelling x) → y ≡ x) → LeavesEach s (awaited_by_spelling (spelled_by h x)) → spelled_by (substituted s h) y ≡ spelled_by h x
+element_stays : (s : ℕ → Term) (h : Term) (x y : Found (List ℕ)) → (LeavesEach s (awaited_by_found x) → y ≡ x) → LeavesEach s (awaited_by_found (spelled_by h x)) → spelled_by (substituted s h) y ≡ spelled_by h x
 element_stays s (variable v) x y f l = ap (λ t. spelled_by t y) l.0
 element_stays s (integer (pos n)) x y f l = code_stays s n (is_name_byte n) x y f l
 element_stays s (integer (negsuc n)) x y f l = refl
 element_stays s (atom a) x y f l = refl
 element_stays s (structure g us) x y f l = refl
 
-cell_stays : (s : ℕ → Term) (is_cell : Bool) (h : Term) (x y : Spelling) → (LeavesEach s (awaited_by_spelling x) → y ≡ x) → LeavesEach s (awaited_by_spelling (if is_cell then spelled_by h x else misspelled)) →
-    (if is_cell then spelled_by (substituted s h) y else misspelled) ≡ (if is_cell then spelled_by h x else misspelled)
+cell_stays : (s : ℕ → Term) (is_cell : Bool) (h : Term) (x y : Found (List ℕ)) → (LeavesEach s (awaited_by_found x) → y ≡ x) → LeavesEach s (awaited_by_found (if is_cell then spelled_by h x else wrong)) →
+    (if is_cell then spelled_by (substituted s h) y else wrong) ≡ (if is_cell then spelled_by h x else wrong)
 cell_stays s true h x y f l = element_stays s h x y f l
 cell_stays s false h x y f l = refl
 
 -- what a list of codes comes to stays until the variable that it waits for is replaced
-pub spelling_stays : (s : ℕ → Term) (most : ℕ) (t : Term) → LeavesEach s (awaited_by_spelling (spelling most t)) → spelling most (substituted s t) ≡ spelling most t
+pub spelling_stays : (s : ℕ → Term) (most : ℕ) (t : Term) → LeavesEach s (awaited_by_found (spelling most t)) → spelling most (substituted s t) ≡ spelling most t
 spelling_stays s zero (variable v) l = ap (spelling zero) l.0
 spelling_stays s zero (integer i) l = refl
 spelling_stays s zero (atom a) l = refl
@@ -50,13 +51,13 @@ spelling_stays s (suc most) (structure f (more h (more t (more u us)))) l = refl
 
 -- ---- looks
 
-then_stays : (s : ℕ → Term) (x y x' y' : Look) → (LeavesEach s (awaited_by_look x) → x' ≡ x) → (LeavesEach s (awaited_by_look x) → LeavesEach s (awaited_by_look y) → y' ≡ y) →
-    LeavesEach s (awaited_by_look (then_look x y)) → then_look x' y' ≡ then_look x y
-then_stays s right y x' y' f g l = ap (λ z. then_look z y') (f tt) ∙ g tt l
-then_stays s (waits_on v) y x' y' f g l = ap (λ z. then_look z y') (f l)
-then_stays s wrong y x' y' f g l = ap (λ z. then_look z y') (f tt)
+then_stays : {A B : Type 0} (s : ℕ → Term) (x x' : Found A) (y y' : A → Found B) → (LeavesEach s (awaited_by_found x) → x' ≡ x) → ((a : A) → LeavesEach s (awaited_by_found x) → LeavesEach s (awaited_by_found (y a)) → y' a ≡ y a) →
+    LeavesEach s (awaited_by_found (then_found x y)) → then_found x' y' ≡ then_found x y
+then_stays s (found a) x' y y' f g l = ap (λ z. then_found z y') (f tt) ∙ g a tt l
+then_stays s (awaits v) x' y y' f g l = ap (λ z. then_found z y') (f l)
+then_stays s wrong x' y y' f g l = ap (λ z. then_found z y') (f tt)
 
-callee_stays : (s : ℕ → Term) (a b : Term) → LeavesEach s (awaited_by_look (callee_look a b)) → callee_look (substituted s a) (substituted s b) ≡ callee_look a b
+callee_stays : (s : ℕ → Term) (a b : Term) → LeavesEach s (awaited_by_found (callee_look a b)) → callee_look (substituted s a) (substituted s b) ≡ callee_look a b
 callee_stays s (variable m) b l = ap (λ t. callee_look t (substituted s b)) l.0
 callee_stays s (integer i) (variable p) l = ap (callee_look (integer i)) l.0
 callee_stays s (integer i) (integer j) l = refl
@@ -71,12 +72,12 @@ callee_stays s (structure f ts) (integer j) l = refl
 callee_stays s (structure f ts) (atom p) l = refl
 callee_stays s (structure f ts) (structure g us) l = refl
 
-two_stay : (s : ℕ → Term) (c d : Bool) (a b : Term) → LeavesEach s (awaited_by_look (if c then callee_look a b else right_if d)) →
+two_stay : (s : ℕ → Term) (c d : Bool) (a b : Term) → LeavesEach s (awaited_by_found (if c then callee_look a b else right_if d)) →
     (if c then callee_look (substituted s a) (substituted s b) else right_if d) ≡ (if c then callee_look a b else right_if d)
 two_stay s true d a b l = callee_stays s a b l
 two_stay s false d a b l = refl
 
-pub goal_stays : (s : ℕ → Term) (t : Term) → LeavesEach s (awaited_by_look (goal_look t)) → goal_look (substituted s t) ≡ goal_look t
+pub goal_stays : (s : ℕ → Term) (t : Term) → LeavesEach s (awaited_by_found (goal_look t)) → goal_look (substituted s t) ≡ goal_look t
 goal_stays s (variable v) l = ap goal_look l.0
 goal_stays s (integer i) l = refl
 goal_stays s (atom a) l = refl
@@ -90,21 +91,21 @@ goal_stays s (structure f (more a (more b (more c us)))) l = refl
 pub substitutes_stay : SubstitutesStay
 substitutes_stay s t l = goal_stays s t l
 
-priority_stays : (s : ℕ → Term) (t : Term) → LeavesEach s (awaited_by_look (priority_look t)) → priority_look (substituted s t) ≡ priority_look t
+priority_stays : (s : ℕ → Term) (t : Term) → LeavesEach s (awaited_by_found (priority_look t)) → priority_look (substituted s t) ≡ priority_look t
 priority_stays s (variable v) l = ap priority_look l.0
 priority_stays s (integer (pos n)) l = refl
 priority_stays s (integer (negsuc n)) l = refl
 priority_stays s (atom a) l = refl
 priority_stays s (structure f ts) l = refl
 
-allowance_stays : (s : ℕ → Term) (t : Term) → LeavesEach s (awaited_by_look (allowance_look t)) → allowance_look (substituted s t) ≡ allowance_look t
+allowance_stays : (s : ℕ → Term) (t : Term) → LeavesEach s (awaited_by_found (allowance_look t)) → allowance_look (substituted s t) ≡ allowance_look t
 allowance_stays s (variable v) l = ap allowance_look l.0
 allowance_stays s (integer (pos n)) l = refl
 allowance_stays s (integer (negsuc n)) l = refl
 allowance_stays s (atom a) l = refl
 allowance_stays s (structure f ts) l = refl
 
-number_stays : (s : ℕ → Term) (t : Term) → LeavesEach s (awaited_by_look (priority_look t)) → number_of_term (substituted s t) ≡ number_of_term t
+number_stays : (s : ℕ → Term) (t : Term) → LeavesEach s (awaited_by_found (priority_look t)) → number_of_term (substituted s t) ≡ number_of_term t
 number_stays s (variable v) l = ap number_of_term l.0
 number_stays s (integer i) l = refl
 number_stays s (atom a) l = refl
@@ -122,19 +123,19 @@ order_substituted s o = record {
 }
 
 -- the look at an order stays until the variable that it waits for is replaced
-pub order_stays : (s : ℕ → Term) (o : ExecuteArguments) → LeavesEach s (awaited_by_look (arguments_look o)) → arguments_look (order_substituted s o) ≡ arguments_look o
+pub order_stays : (s : ℕ → Term) (o : ExecuteArguments) → LeavesEach s (awaited_by_found (arguments_look o)) → arguments_look (order_substituted s o) ≡ arguments_look o
 order_stays s o l =
     let p = order_substituted s o in
-    let range = right_if (nat_le (number_of_term o.low) (number_of_term o.high)) in
-    let range' = right_if (nat_le (number_of_term p.low) (number_of_term p.high)) in
-    let third = then_look (allowance_look o.allowance) range in
-    let third' = then_look (allowance_look p.allowance) range' in
-    let second = then_look (priority_look o.high) third in
-    let second' = then_look (priority_look p.high) third' in
-    let first = then_look (priority_look o.low) second in
-    let first' = then_look (priority_look p.low) second' in
-    then_stays s (goal_look o.goal) first (goal_look p.goal) first' (goal_stays s o.goal) (λ g.
-    then_stays s (priority_look o.low) second (priority_look p.low) second' (priority_stays s o.low) (λ low.
-    then_stays s (priority_look o.high) third (priority_look p.high) third' (priority_stays s o.high) (λ high.
-    then_stays s (allowance_look o.allowance) range (allowance_look p.allowance) range' (allowance_stays s o.allowance) (λ n r.
+    let range : Found ⊤ = right_if (nat_le (number_of_term o.low) (number_of_term o.high)) in
+    let range' : Found ⊤ = right_if (nat_le (number_of_term p.low) (number_of_term p.high)) in
+    let third : Found ⊤ = then_found (allowance_look o.allowance) (λ n. range) in
+    let third' : Found ⊤ = then_found (allowance_look p.allowance) (λ n. range') in
+    let second : Found ⊤ = then_found (priority_look o.high) (λ high. third) in
+    let second' : Found ⊤ = then_found (priority_look p.high) (λ high. third') in
+    let first : Found ⊤ = then_found (priority_look o.low) (λ low. second) in
+    let first' : Found ⊤ = then_found (priority_look p.low) (λ low. second') in
+    then_stays s (goal_look o.goal) (goal_look p.goal) (λ goal. first) (λ goal. first') (goal_stays s o.goal) (λ goal g.
+    then_stays s (priority_look o.low) (priority_look p.low) (λ low. second) (λ low. second') (priority_stays s o.low) (λ a low.
+    then_stays s (priority_look o.high) (priority_look p.high) (λ high. third) (λ high. third') (priority_stays s o.high) (λ b high.
+    then_stays s (allowance_look o.allowance) (allowance_look p.allowance) (λ n. range) (λ n. range') (allowance_stays s o.allowance) (λ c n r.
     ap₂ (λ x y. right_if (nat_le x y)) (number_stays s o.low low) (number_stays s o.high high))))) l

@@ -9,11 +9,12 @@ use Rattle.kl1_model.specs.Term.{Term, variable, integer, atom, structure, Terms
 use Rattle.kl1_model.specs.Meaning.{highest, highest_in}
 use Rattle.kl1_model.specs.Same.{Passive, same, differs, unknown, passive}
 use Rattle.kl1_model.specs.code.Awaited.{awaited}
-use Rattle.kl1_model.specs.Arithmetic.{Evaluated, comes_to, awaits, is_no_expression, evaluated}
+use Rattle.kl1_model.specs.Arithmetic.{evaluated}
 use Rattle.kl1_model.specs.Guard.{Test, holds, looks, is_same, is_other, compares, test_of, type_test_named, comparison_named, test_substituted, is_found, compared, together, known, same_answer, other_answer, numbers_answer, sides_answer, test_answer, answer_by}
 use Rattle.kl1_model.specs.code.Outcome.{Outcome, agrees, clashes, waits, both, decided, alike, same_outcome, other_outcome, compared_numbers, compared_sides, outcome_by, answer_of}
 use Rattle.kl1_model.specs.laws.OutcomeLaws.{OutcomesAnswer}
 use Rattle.kl1_model.proofs.Renamed.{renamed, each_renamed, IsOneToOne, passive_renamed, evaluated_renamed, comes_renamed, found_renamed}
+use Rattle.kl1_model.specs.Found.{Found, found, awaits, wrong}
 
 -- ---- an outcome without what it waits for
 
@@ -48,12 +49,12 @@ answer_numbers c (Value x) ZeroDivisor = refl
 answer_numbers c Overflow y = refl
 answer_numbers c ZeroDivisor y = refl
 
-answer_sides : (c : Comparison) (x y : Evaluated) → answer_of (compared_sides c x y) ≡ sides_answer c x y
+answer_sides : (c : Comparison) (x y : Found Number) → answer_of (compared_sides c x y) ≡ sides_answer c x y
 answer_sides c (awaits v) y = refl
-answer_sides c is_no_expression y = refl
-answer_sides c (comes_to x) (awaits v) = refl
-answer_sides c (comes_to x) is_no_expression = refl
-answer_sides c (comes_to x) (comes_to y) = answer_numbers c x y
+answer_sides c wrong y = refl
+answer_sides c (found x) (awaits v) = refl
+answer_sides c (found x) wrong = refl
+answer_sides c (found x) (found y) = answer_numbers c x y
 
 -- the outcome of a test is its answer
 pub outcomes_answer : OutcomesAnswer
@@ -80,12 +81,12 @@ IsUpTo most (is_same t u) = (highest t ≤ most) × (highest u ≤ most)
 IsUpTo most (is_other t u) = (highest t ≤ most) × (highest u ≤ most)
 IsUpTo most (compares c t u) = (highest t ≤ most) × (highest u ≤ most)
 
-sides_renamed : (r : ℕ → ℕ) (c : Comparison) (x y : Evaluated) → sides_answer c (evaluated_renamed r x) (evaluated_renamed r y) ≡ sides_answer c x y
+sides_renamed : (r : ℕ → ℕ) (c : Comparison) (x y : Found Number) → sides_answer c (evaluated_renamed r x) (evaluated_renamed r y) ≡ sides_answer c x y
 sides_renamed r c (awaits v) y = refl
-sides_renamed r c is_no_expression y = refl
-sides_renamed r c (comes_to x) (awaits v) = refl
-sides_renamed r c (comes_to x) is_no_expression = refl
-sides_renamed r c (comes_to x) (comes_to y) = refl
+sides_renamed r c wrong y = refl
+sides_renamed r c (found x) (awaits v) = refl
+sides_renamed r c (found x) wrong = refl
+sides_renamed r c (found x) (found y) = refl
 
 pub answer_renamed : (r : ℕ → ℕ) (most : ℕ) (test : Test) → IsOneToOne r most → IsUpTo most test → test_answer (test_substituted (λ v. variable (r v)) test) ≡ test_answer test
 answer_renamed r most holds once few = refl

@@ -8,12 +8,13 @@ use Rattle.kl1_model.specs.declared.number.Number.TheVariants.{Value, Overflow, 
 use Rattle.kl1_model.specs.Term.{Term, variable, integer, atom, structure, Terms, none, more, count_of, same_term, Replacement}
 use Rattle.kl1_model.specs.Same.{Passive, same, differs, unknown, passive, clash}
 use Rattle.kl1_model.specs.code.Awaited.{awaited}
-use Rattle.kl1_model.specs.Arithmetic.{Evaluated, comes_to, awaits, is_no_expression, evaluated}
+use Rattle.kl1_model.specs.Arithmetic.{evaluated}
 use Rattle.kl1_model.specs.Guard.{known, same_answer, other_answer, numbers_answer, sides_answer, Test, holds, looks, is_same, is_other, compares, test_substituted, is_found, compared}
 use Rattle.kl1_model.specs.code.Outcome.{Outcome, agrees, clashes, waits, both, decided, alike, same_outcome, other_outcome, compared_numbers, compared_sides, outcome_of, outcome_by, with_outcome, Matched, match_term, match_terms, places_alike, alike_with, each_alike}
 use Rattle.kl1_model.specs.code.Waits.{while_waiting, awaited_by_pattern, awaited_by_patterns, awaited_by_two, awaited_by_one, awaited_by_each, awaited_by_sides, awaited_by_test, awaited_by_option}
 use Rattle.kl1_model.proofs.TermFacts.{same_term-true}
 use Rattle.kl1_model.proofs.SameEach.{awaited_self}
+use Rattle.kl1_model.specs.Found.{Found, found, awaits, wrong}
 
 -- an outcome that waits does so for these variables, and one that agrees for none
 abbrev pub Carries : Outcome → List ℕ → Type 0
@@ -117,12 +118,12 @@ carries_numbers c (Value x) ZeroDivisor = tt
 carries_numbers c Overflow y = tt
 carries_numbers c ZeroDivisor y = tt
 
-carries_sides : (c : Comparison) (x y : Evaluated) → Carries (compared_sides c x y) (while_waiting (sides_answer c x y) (awaited_by_sides x y))
+carries_sides : (c : Comparison) (x y : Found Number) → Carries (compared_sides c x y) (while_waiting (sides_answer c x y) (awaited_by_sides x y))
 carries_sides c (awaits v) y = refl
-carries_sides c is_no_expression y = tt
-carries_sides c (comes_to x) (awaits v) = refl
-carries_sides c (comes_to x) is_no_expression = tt
-carries_sides c (comes_to x) (comes_to y) = carries_numbers c x y
+carries_sides c wrong y = tt
+carries_sides c (found x) (awaits v) = refl
+carries_sides c (found x) wrong = tt
+carries_sides c (found x) (found y) = carries_numbers c x y
 
 carries_test : (test : Test) → Carries (outcome_of test) (awaited_by_test test)
 carries_test holds = refl

@@ -9,9 +9,11 @@ use Rattle.kl1_model.specs.declared.limits.TheConstants.{MOST_OPERATORS}
 use Rattle.kl1_model.specs.Term.{Term, variable, integer, atom, structure, Terms, none, more, count_of, same_term, same_terms, substituted, each_substituted}
 use Rattle.kl1_model.specs.Meaning.{highest, highest_in}
 use Rattle.kl1_model.specs.Same.{clash, any_clash, same, differs, unknown, passive}
-use Rattle.kl1_model.specs.Arithmetic.{ArithmeticExpression, Scan, found, waits_for, wrong_type, with_left, with_right, operator_named, scan, scan_operation, Evaluated, comes_to, awaits, is_no_expression, computed, evaluated}
+use Rattle.kl1_model.specs.Arithmetic.{ArithmeticExpression, with_left, with_right, operator_named, scan, scan_operation, computed, evaluated, Scanned}
 use Rattle.kl1_model.specs.Guard.{is_found}
 use Rattle.kl1_model.proofs.Substitutions.{count-each_substituted}
+use Rattle.kl1_model.specs.Found.{Found, found, awaits, wrong}
+use Rattle.kl1_model.specs.declared.number.Number.{Number}
 
 -- a term with these numbers for its variables
 abbrev pub renamed : (ℕ → ℕ) → Term → Term
@@ -91,20 +93,20 @@ passive_renamed r most t u once few less = ap₂ (λ (p q : Bool). if p then sam
 
 -- ---- what a term comes to
 
-abbrev scan_renamed : (ℕ → ℕ) → Scan → Scan
-scan_renamed r (found e left) = found e left
-scan_renamed r (waits_for v) = waits_for (r v)
-scan_renamed r wrong_type = wrong_type
+abbrev scan_renamed : (ℕ → ℕ) → Found Scanned → Found Scanned
+scan_renamed r (found e) = found e
+scan_renamed r (awaits v) = awaits (r v)
+scan_renamed r wrong = wrong
 
-right_renamed : (r : ℕ → ℕ) (o : Operator) (e : ArithmeticExpression) (y : Scan) → with_right o e (scan_renamed r y) ≡ scan_renamed r (with_right o e y)
-right_renamed r o e (found b left) = refl
-right_renamed r o e (waits_for v) = refl
-right_renamed r o e wrong_type = refl
+right_renamed : (r : ℕ → ℕ) (o : Operator) (e : ArithmeticExpression) (y : Found Scanned) → with_right o e (scan_renamed r y) ≡ scan_renamed r (with_right o e y)
+right_renamed r o e (found b) = refl
+right_renamed r o e (awaits v) = refl
+right_renamed r o e wrong = refl
 
-left_renamed : (r : ℕ → ℕ) (o : Operator) (x : Scan) (right other : ℕ → Scan) → ((m : ℕ) → other m ≡ scan_renamed r (right m)) → with_left o (scan_renamed r x) other ≡ scan_renamed r (with_left o x right)
-left_renamed r o (found e m) right other f = ap (with_right o e) (f m) ∙ right_renamed r o e (right m)
-left_renamed r o (waits_for v) right other f = refl
-left_renamed r o wrong_type right other f = refl
+left_renamed : (r : ℕ → ℕ) (o : Operator) (x : Found Scanned) (right other : ℕ → Found Scanned) → ((m : ℕ) → other m ≡ scan_renamed r (right m)) → with_left o (scan_renamed r x) other ≡ scan_renamed r (with_left o x right)
+left_renamed r o (found e) right other f = ap (with_right o e.expression) (f e.left) ∙ right_renamed r o e.expression (right e.left)
+left_renamed r o (awaits v) right other f = refl
+left_renamed r o wrong right other f = refl
 
 mutual
   scanned : (r : ℕ → ℕ) (n : ℕ) (t : Term) → scan n (renamed r t) ≡ scan_renamed r (scan n t)
@@ -123,15 +125,15 @@ mutual
   operation_scanned r (Some o) (suc n) (more a (more b (more c ts))) = refl
 
 -- what a term comes to, with the other number of the variable that it waits for
-abbrev pub evaluated_renamed : (ℕ → ℕ) → Evaluated → Evaluated
-evaluated_renamed r (comes_to n) = comes_to n
+abbrev pub evaluated_renamed : (ℕ → ℕ) → Found Number → Found Number
+evaluated_renamed r (found n) = found n
 evaluated_renamed r (awaits v) = awaits (r v)
-evaluated_renamed r is_no_expression = is_no_expression
+evaluated_renamed r wrong = wrong
 
-computed_renamed : (r : ℕ → ℕ) (x : Scan) → computed (scan_renamed r x) ≡ evaluated_renamed r (computed x)
-computed_renamed r (found e left) = refl
-computed_renamed r (waits_for v) = refl
-computed_renamed r wrong_type = refl
+computed_renamed : (r : ℕ → ℕ) (x : Found Scanned) → computed (scan_renamed r x) ≡ evaluated_renamed r (computed x)
+computed_renamed r (found e) = refl
+computed_renamed r (awaits v) = refl
+computed_renamed r wrong = refl
 
 pub comes_renamed : (r : ℕ → ℕ) (t : Term) → evaluated (renamed r t) ≡ evaluated_renamed r (evaluated t)
 comes_renamed r t = ap computed (scanned r MOST_OPERATORS t) ∙ computed_renamed r (scan MOST_OPERATORS t)

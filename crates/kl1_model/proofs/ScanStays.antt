@@ -4,25 +4,26 @@ use Rattle.std.specs.Prelude.{Option, Some, None}
 use Rattle.kl1_model.specs.declared.operator.Operator.{Operator}
 use Rattle.kl1_model.specs.declared.limits.TheConstants.{MOST_OPERATORS}
 use Rattle.kl1_model.specs.Term.{Term, variable, integer, atom, structure, Terms, none, more, substituted, each_substituted}
-use Rattle.kl1_model.specs.Arithmetic.{Scan, ArithmeticExpression, found, waits_for, wrong_type, operator_named, with_left, with_right, scan, scan_operation, computed, evaluated}
-use Rattle.kl1_model.specs.code.Waits.{LeavesEach, awaited_by_evaluated}
+use Rattle.kl1_model.specs.Arithmetic.{ArithmeticExpression, operator_named, with_left, with_right, scan, scan_operation, computed, evaluated, Scanned}
+use Rattle.kl1_model.specs.code.Waits.{LeavesEach}
+use Rattle.kl1_model.specs.Found.{Found, found, awaits, wrong, awaited_by_found}
 
 -- the variable for which a scan waits is left
-abbrev LeftScan : (ℕ → Term) → Scan → Type 0
-LeftScan s (found e left) = Unit {0}
-LeftScan s (waits_for v) = s v ≡ variable v
-LeftScan s wrong_type = Unit {0}
+abbrev LeftScan : (ℕ → Term) → Found Scanned → Type 0
+LeftScan s (found e) = Unit {0}
+LeftScan s (awaits v) = s v ≡ variable v
+LeftScan s wrong = Unit {0}
 
-right_left : (s : ℕ → Term) (o : Operator) (e : ArithmeticExpression) (y : Scan) → LeftScan s (with_right o e y) → LeftScan s y
-right_left s o e (found b left) l = tt
-right_left s o e (waits_for v) l = l
-right_left s o e wrong_type l = tt
+right_left : (s : ℕ → Term) (o : Operator) (e : ArithmeticExpression) (y : Found Scanned) → LeftScan s (with_right o e y) → LeftScan s y
+right_left s o e (found b) l = tt
+right_left s o e (awaits v) l = l
+right_left s o e wrong l = tt
 
-sides_stay : (s : ℕ → Term) (o : Operator) (p q x : Scan) (right other : ℕ → Scan) → p ≡ x → (LeftScan s p → q ≡ p) → ((m : ℕ) → LeftScan s (right m) → other m ≡ right m) → LeftScan s (with_left o x right) → with_left o q other ≡ with_left o x right
-sides_stay s o p q (found e m) right other is front back l =
-    ap (λ y. with_left o y other) (front (subst (λ y. LeftScan s y) (sym is) tt) ∙ is) ∙ ap (with_right o e) (back m (right_left s o e (right m) l))
-sides_stay s o p q (waits_for v) right other is front back l = ap (λ y. with_left o y other) (front (subst (λ y. LeftScan s y) (sym is) l) ∙ is)
-sides_stay s o p q wrong_type right other is front back l = ap (λ y. with_left o y other) (front (subst (λ y. LeftScan s y) (sym is) tt) ∙ is)
+sides_stay : (s : ℕ → Term) (o : Operator) (p q x : Found Scanned) (right other : ℕ → Found Scanned) → p ≡ x → (LeftScan s p → q ≡ p) → ((m : ℕ) → LeftScan s (right m) → other m ≡ right m) → LeftScan s (with_left o x right) → with_left o q other ≡ with_left o x right
+sides_stay s o p q (found e) right other is front back l =
+    ap (λ y. with_left o y other) (front (subst (λ y. LeftScan s y) (sym is) tt) ∙ is) ∙ ap (with_right o e.expression) (back e.left (right_left s o e.expression (right e.left) l))
+sides_stay s o p q (awaits v) right other is front back l = ap (λ y. with_left o y other) (front (subst (λ y. LeftScan s y) (sym is) l) ∙ is)
+sides_stay s o p q wrong right other is front back l = ap (λ y. with_left o y other) (front (subst (λ y. LeftScan s y) (sym is) tt) ∙ is)
 
 mutual
   scan_stays : (s : ℕ → Term) (n : ℕ) (t : Term) → LeftScan s (scan n t) → scan n (substituted s t) ≡ scan n t
@@ -40,11 +41,11 @@ mutual
       sides_stay s o (scan n a) (scan n (substituted s a)) (scan n a) (λ m. scan m b) (λ m. scan m (substituted s b)) refl (scan_stays s n a) (λ m. scan_stays s m b) l
   operation_stays s (Some o) (suc n) (more a (more b (more c ts))) l = refl
 
-computed_left : (s : ℕ → Term) (x : Scan) → LeavesEach s (awaited_by_evaluated (computed x)) → LeftScan s x
-computed_left s (found e left) l = tt
-computed_left s (waits_for v) l = l.0
-computed_left s wrong_type l = tt
+computed_left : (s : ℕ → Term) (x : Found Scanned) → LeavesEach s (awaited_by_found (computed x)) → LeftScan s x
+computed_left s (found e) l = tt
+computed_left s (awaits v) l = l.0
+computed_left s wrong l = tt
 
 -- a term comes to the same until the variable that it waits for is replaced
-pub evaluated_stays : (s : ℕ → Term) (t : Term) → LeavesEach s (awaited_by_evaluated (evaluated t)) → evaluated (substituted s t) ≡ evaluated t
+pub evaluated_stays : (s : ℕ → Term) (t : Term) → LeavesEach s (awaited_by_found (evaluated t)) → evaluated (substituted s t) ≡ evaluated t
 evaluated_stays s t l = ap computed (scan_stays s MOST_OPERATORS t (computed_left s (scan MOST_OPERATORS t) l))

@@ -3,16 +3,16 @@ use Rattle.std.proofs.Common.{◌≡◌, ℕ, ◌==◌, Bool, true, false, if◌
 use Rattle.std.specs.Prelude.{not, ◌&&◌, codes, bytes_eq, Option, Some, None, option_map, is_some, find, filter}
 use Rattle.std.proofs.lemmas.Bool.{cond-false}
 use Rattle.kl1_model.specs.Goal.{is_called, is_execute}
-use Rattle.kl1_model.specs.Look.{Spelling, spelled, awaits_code, misspelled, spelling, Look, right, waits_on, wrong, ExecuteArguments, arguments_look}
+use Rattle.kl1_model.specs.Look.{spelling, ExecuteArguments, arguments_look}
 use Rattle.kl1_model.specs.declared.rules.Rules.{Rules}
 use Rattle.kl1_model.specs.State.{most_spelled}
 use Rattle.kl1_model.specs.Term.{Term, variable, integer, atom, structure, Terms, none, more, count_of, substituted, each_substituted, Replacement, replaced}
 use Rattle.kl1_model.specs.Module.{Module, is_of}
 use Rattle.kl1_model.specs.Match.{Call, call_of, module_of, clauses_in, clauses_of}
-use Rattle.kl1_model.specs.Arithmetic.{Evaluated, comes_to, awaits, is_no_expression, evaluated}
-use Rattle.kl1_model.specs.Reduction.{Move, unifies, assigned, spells, ordered, order_move, execute_move, built_in_move, term_move}
+use Rattle.kl1_model.specs.Arithmetic.{evaluated}
+use Rattle.kl1_model.specs.Reduction.{Move, unifies, names, opens, move_found, becomes, order_move, execute_move, built_in_move, term_move}
 use Rattle.kl1_model.specs.Choice.{call_clauses}
-use Rattle.kl1_model.specs.code.Waits.{LeavesEach, least_clause, term_clause, awaited_by_clauses, awaited_by_evaluated, awaited_by_spelling, awaited_by_look, awaited_by_order, awaited_by_execute, awaited_by_built_in, awaited_by_call, awaited_in_call, awaited_at_head}
+use Rattle.kl1_model.specs.code.Waits.{LeavesEach, least_clause, term_clause, awaited_by_clauses, awaited_by_order, awaited_by_execute, awaited_by_built_in, awaited_by_call, awaited_in_call, awaited_at_head}
 use Rattle.kl1_model.specs.laws.WaitsLaws.{call_substituted, HeadStays, TermStays}
 use Rattle.kl1_model.proofs.Substitutions.{count-each_substituted}
 use Rattle.kl1_model.proofs.LeastClause.{term_clause-call}
@@ -20,6 +20,7 @@ use Rattle.kl1_model.proofs.SameStays.{left_front, left_back}
 use Rattle.kl1_model.proofs.ScanStays.{evaluated_stays}
 use Rattle.kl1_model.proofs.LookStays.{spelling_stays, order_substituted, order_stays}
 use Rattle.kl1_model.proofs.VerdictStays.{clauses_stay}
+use Rattle.kl1_model.specs.Found.{Found, found, awaits, wrong, awaited_by_found}
 
 -- ---- calls
 
@@ -109,20 +110,10 @@ some-if : (c : Bool) (m n : Move) → is_some (if c then Some m else None) ≡ i
 some-if true m n = refl
 some-if false m n = refl
 
-assigned_is : (a b : Term) (x y : Evaluated) → x ≡ y → is_some (assigned a x) ≡ is_some (assigned b y)
-assigned_is a b x (comes_to n) e = ap (λ z. is_some (assigned a z)) e
-assigned_is a b x (awaits v) e = ap (λ z. is_some (assigned a z)) e
-assigned_is a b x is_no_expression e = ap (λ z. is_some (assigned a z)) e
-
-spells_is : (a b : Term) (x y : Spelling) → x ≡ y → is_some (spells a x) ≡ is_some (spells b y)
-spells_is a b x (spelled text) e = ap (λ z. is_some (spells a z)) e
-spells_is a b x (awaits_code v) e = ap (λ z. is_some (spells a z)) e
-spells_is a b x misspelled e = ap (λ z. is_some (spells a z)) e
-
-ordered_is : (o p : ExecuteArguments) (x y : Look) → x ≡ y → is_some (ordered o x) ≡ is_some (ordered p y)
-ordered_is o p x right e = ap (λ z. is_some (ordered o z)) e
-ordered_is o p x (waits_on v) e = ap (λ z. is_some (ordered o z)) e
-ordered_is o p x wrong e = ap (λ z. is_some (ordered o z)) e
+moves_as : {A : Type 0} (f g : A → Move) (x y : Found A) → x ≡ y → is_some (move_found f x) ≡ is_some (move_found g y)
+moves_as f g x (found a) e = ap (λ z. is_some (move_found f z)) e
+moves_as f g x (awaits v) e = ap (λ z. is_some (move_found f z)) e
+moves_as f g x wrong e = ap (λ z. is_some (move_found f z)) e
 
 no_order : (s : ℕ → Term) (c d : Bool) → is_some (if c then order_move None else None) ≡ is_some (if d then order_move None else None)
 no_order s true true = refl
@@ -136,9 +127,9 @@ no_awaited s true false = refl
 no_awaited s false true = refl
 no_awaited s false false = refl
 
-six_stay : (s : ℕ → Term) (c : Bool) (o : ExecuteArguments) → LeavesEach s (if c then awaited_by_look (arguments_look o) else []) →
-    is_some (if c then ordered (order_substituted s o) (arguments_look (order_substituted s o)) else None) ≡ is_some (if c then ordered o (arguments_look o) else None)
-six_stay s true o l = ordered_is (order_substituted s o) o (arguments_look (order_substituted s o)) (arguments_look o) (order_stays s o l)
+six_stay : (s : ℕ → Term) (c : Bool) (o : ExecuteArguments) → LeavesEach s (if c then awaited_by_found (arguments_look o) else []) →
+    is_some (if c then move_found (λ right. opens (order_substituted s o)) (arguments_look (order_substituted s o)) else None) ≡ is_some (if c then move_found (λ right. opens o) (arguments_look o) else None)
+six_stay s true o l = moves_as (λ right. opens (order_substituted s o)) (λ right. opens o) (arguments_look (order_substituted s o)) (arguments_look o) (order_stays s o l)
 six_stay s false o l = refl
 
 execute_stays : (s : ℕ → Term) (a b : Term) → LeavesEach s (awaited_in_call a b) → LeavesEach s (awaited_by_execute a b) → is_some (execute_move (substituted s a) (substituted s b)) ≡ is_some (execute_move a b)
@@ -158,9 +149,9 @@ execute_stays s (atom m) (structure p (more a (more b (more c (more d (more e (m
     six_stay s (is_execute m (structure p (more a (more b (more c (more d (more e (more g none)))))))) (record { goal = a; low = b; high = c; allowance = d; control = e; reports = g }) k
 execute_stays s (atom m) (structure p (more a (more b (more c (more d (more e (more g (more h us)))))))) l k = no_order s (bytes_eq m (codes "shoen") && is_called (codes "execute") 6 p (count_of (each_substituted s (more a (more b (more c (more d (more e (more g (more h us)))))))))) (bytes_eq m (codes "shoen") && is_called (codes "execute") 6 p (count_of (more a (more b (more c (more d (more e (more g (more h us)))))))))
 
-six_awaited_stay : (s : ℕ → Term) (c : Bool) (o : ExecuteArguments) → LeavesEach s (if c then awaited_by_look (arguments_look o) else []) →
-    (if c then awaited_by_look (arguments_look (order_substituted s o)) else []) ≡ (if c then awaited_by_look (arguments_look o) else [])
-six_awaited_stay s true o l = ap awaited_by_look (order_stays s o l)
+six_awaited_stay : (s : ℕ → Term) (c : Bool) (o : ExecuteArguments) → LeavesEach s (if c then awaited_by_found (arguments_look o) else []) →
+    (if c then awaited_by_found (arguments_look (order_substituted s o)) else []) ≡ (if c then awaited_by_found (arguments_look o) else [])
+six_awaited_stay s true o l = ap awaited_by_found (order_stays s o l)
 six_awaited_stay s false o l = refl
 
 execute_awaited_stays : (s : ℕ → Term) (a b : Term) → LeavesEach s (awaited_in_call a b) → LeavesEach s (awaited_by_execute a b) → awaited_by_execute (substituted s a) (substituted s b) ≡ awaited_by_execute a b
@@ -181,12 +172,12 @@ execute_awaited_stays s (atom m) (structure p (more a (more b (more c (more d (m
 execute_awaited_stays s (atom m) (structure p (more a (more b (more c (more d (more e (more g (more h us)))))))) l k = no_awaited s (bytes_eq m (codes "shoen") && is_called (codes "execute") 6 p (count_of (each_substituted s (more a (more b (more c (more d (more e (more g (more h us)))))))))) (bytes_eq m (codes "shoen") && is_called (codes "execute") 6 p (count_of (more a (more b (more c (more d (more e (more g (more h us)))))))))
 
 pair_stays_by : (rules : Rules) (s : ℕ → Term) (c d e g : Bool) (a b : Term) → LeavesEach s (if g then awaited_in_call a b else []) →
-    LeavesEach s (if d then awaited_by_evaluated (evaluated b) else if e then awaited_by_spelling (spelling (most_spelled rules) a) else if g then awaited_by_execute a b else []) →
-    is_some (if c then Some (unifies (substituted s a) (substituted s b)) else if d then assigned (substituted s a) (evaluated (substituted s b)) else if e then spells (substituted s b) (spelling (most_spelled rules) (substituted s a)) else if g then execute_move (substituted s a) (substituted s b) else None)
-    ≡ is_some (if c then Some (unifies a b) else if d then assigned a (evaluated b) else if e then spells b (spelling (most_spelled rules) a) else if g then execute_move a b else None)
+    LeavesEach s (if d then awaited_by_found (evaluated b) else if e then awaited_by_found (spelling (most_spelled rules) a) else if g then awaited_by_execute a b else []) →
+    is_some (if c then Some (unifies (substituted s a) (substituted s b)) else if d then move_found (becomes (substituted s a)) (evaluated (substituted s b)) else if e then move_found (λ text. names text (substituted s b)) (spelling (most_spelled rules) (substituted s a)) else if g then execute_move (substituted s a) (substituted s b) else None)
+    ≡ is_some (if c then Some (unifies a b) else if d then move_found (becomes a) (evaluated b) else if e then move_found (λ text. names text b) (spelling (most_spelled rules) a) else if g then execute_move a b else None)
 pair_stays_by rules s true d e g a b l k = refl
-pair_stays_by rules s false true e g a b l k = assigned_is (substituted s a) a (evaluated (substituted s b)) (evaluated b) (evaluated_stays s b k)
-pair_stays_by rules s false false true g a b l k = spells_is (substituted s b) b (spelling (most_spelled rules) (substituted s a)) (spelling (most_spelled rules) a) (spelling_stays s (most_spelled rules) a k)
+pair_stays_by rules s false true e g a b l k = moves_as (becomes (substituted s a)) (becomes a) (evaluated (substituted s b)) (evaluated b) (evaluated_stays s b k)
+pair_stays_by rules s false false true g a b l k = moves_as (λ text. names text (substituted s b)) (λ text. names text b) (spelling (most_spelled rules) (substituted s a)) (spelling (most_spelled rules) a) (spelling_stays s (most_spelled rules) a k)
 pair_stays_by rules s false false false true a b l k = execute_stays s a b l k
 pair_stays_by rules s false false false false a b l k = refl
 
@@ -200,11 +191,11 @@ built_in_stays rules s (structure f (more a (more b none))) l k = pair_stays_by 
 built_in_stays rules s (structure f (more a (more b (more c us)))) l k = refl
 
 awaited_if_stays : (rules : Rules) (s : ℕ → Term) (d e g : Bool) (a b : Term) → LeavesEach s (if g then awaited_in_call a b else []) →
-    LeavesEach s (if d then awaited_by_evaluated (evaluated b) else if e then awaited_by_spelling (spelling (most_spelled rules) a) else if g then awaited_by_execute a b else []) →
-    (if d then awaited_by_evaluated (evaluated (substituted s b)) else if e then awaited_by_spelling (spelling (most_spelled rules) (substituted s a)) else if g then awaited_by_execute (substituted s a) (substituted s b) else [])
-    ≡ (if d then awaited_by_evaluated (evaluated b) else if e then awaited_by_spelling (spelling (most_spelled rules) a) else if g then awaited_by_execute a b else [])
-awaited_if_stays rules s true e g a b l k = ap awaited_by_evaluated (evaluated_stays s b k)
-awaited_if_stays rules s false true g a b l k = ap awaited_by_spelling (spelling_stays s (most_spelled rules) a k)
+    LeavesEach s (if d then awaited_by_found (evaluated b) else if e then awaited_by_found (spelling (most_spelled rules) a) else if g then awaited_by_execute a b else []) →
+    (if d then awaited_by_found (evaluated (substituted s b)) else if e then awaited_by_found (spelling (most_spelled rules) (substituted s a)) else if g then awaited_by_execute (substituted s a) (substituted s b) else [])
+    ≡ (if d then awaited_by_found (evaluated b) else if e then awaited_by_found (spelling (most_spelled rules) a) else if g then awaited_by_execute a b else [])
+awaited_if_stays rules s true e g a b l k = ap awaited_by_found (evaluated_stays s b k)
+awaited_if_stays rules s false true g a b l k = ap awaited_by_found (spelling_stays s (most_spelled rules) a k)
 awaited_if_stays rules s false false true a b l k = execute_awaited_stays s a b l k
 awaited_if_stays rules s false false false a b l k = refl
 

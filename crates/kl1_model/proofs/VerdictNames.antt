@@ -9,16 +9,18 @@ use Rattle.kl1_model.specs.declared.limits.TheConstants.{MOST_OPERATORS}
 use Rattle.kl1_model.specs.Term.{Term, variable, integer, atom, structure, Terms, none, more, terms_of, Replacement}
 use Rattle.kl1_model.specs.Meaning.{highest, highest_in}
 use Rattle.kl1_model.specs.code.Awaited.{awaited, all_awaited}
-use Rattle.kl1_model.specs.Arithmetic.{ArithmeticExpression, Scan, found, waits_for, wrong_type, with_left, with_right, operator_named, scan, scan_operation, Evaluated, comes_to, awaits, is_no_expression, computed, evaluated}
+use Rattle.kl1_model.specs.Arithmetic.{ArithmeticExpression, with_left, with_right, operator_named, scan, scan_operation, computed, evaluated, Scanned}
 use Rattle.kl1_model.specs.Guard.{Answer, yes, no, wait, Test, holds, looks, is_same, is_other, compares, test_of, test_substituted, test_answer}
 use Rattle.kl1_model.specs.Match.{Match, match_patterns, guard_term, places_of}
 use Rattle.kl1_model.specs.code.Outcome.{Outcome, agrees, clashes, waits, both, outcome_by, answer_of, Matched, match_terms, each_alike, test_variable, own_variables, own_outcome, test_outcome, tests_outcome, guard_outcome, awaited_in, verdict_with}
 use Rattle.kl1_model.specs.laws.OutcomeLaws.{named_in, VerdictsName}
-use Rattle.kl1_model.specs.code.Waits.{while_waiting, awaited_by_patterns, awaited_by_each, awaited_by_evaluated, awaited_by_sides, awaited_in_test, awaited_by_test, awaited_by_option, own_of, awaited_by_tests, awaited_by_match, awaited_by_verdict}
+use Rattle.kl1_model.specs.code.Waits.{while_waiting, awaited_by_patterns, awaited_by_each, awaited_by_sides, awaited_in_test, awaited_by_test, awaited_by_option, own_of, awaited_by_tests, awaited_by_match, awaited_by_verdict}
 use Rattle.kl1_model.proofs.Renamed.{renamed, each_renamed, IsOneToOne, number_renamed, evaluated_renamed, comes_renamed}
 use Rattle.kl1_model.proofs.OutcomeAnswers.{IsUpTo, MayBeUpTo, Renames, answer_renamed, test_made, test_up_to, read_up_to}
 use Rattle.kl1_model.proofs.OutcomeNames.{Carries, carries_both, carries_patterns, carries_each, carries_option}
 use Rattle.kl1_model.proofs.VerdictAnswers.{AreUpTo, guard_number, own_number, goal_number, renames, answered, patterns_answer, same_places, places_up_to, whole, verdict_is_whole}
+use Rattle.kl1_model.specs.Found.{Found, found, awaits, wrong, awaited_by_found}
+use Rattle.kl1_model.specs.declared.number.Number.{Number}
 
 -- ---- the variables with other numbers
 
@@ -54,15 +56,15 @@ mutual
       (all_awaited_renamed r most ts us once (omega (arith, few)) (omega (arith, less)))
       ∙ sym (map-append r (awaited t u) (all_awaited ts us))
 
-expression_renamed : (r : ℕ → ℕ) (x : Evaluated) → awaited_by_evaluated (evaluated_renamed r x) ≡ map r (awaited_by_evaluated x)
-expression_renamed r (comes_to n) = refl
+expression_renamed : (r : ℕ → ℕ) (x : Found Number) → awaited_by_found (evaluated_renamed r x) ≡ map r (awaited_by_found x)
+expression_renamed r (found n) = refl
 expression_renamed r (awaits v) = refl
-expression_renamed r is_no_expression = refl
+expression_renamed r wrong = refl
 
-sides_renamed : (r : ℕ → ℕ) (x y : Evaluated) → awaited_by_sides (evaluated_renamed r x) (evaluated_renamed r y) ≡ map r (awaited_by_sides x y)
+sides_renamed : (r : ℕ → ℕ) (x y : Found Number) → awaited_by_sides (evaluated_renamed r x) (evaluated_renamed r y) ≡ map r (awaited_by_sides x y)
 sides_renamed r (awaits v) y = refl
-sides_renamed r is_no_expression y = refl
-sides_renamed r (comes_to n) y = expression_renamed r y
+sides_renamed r wrong y = refl
+sides_renamed r (found n) y = expression_renamed r y
 
 in_test_renamed : (r : ℕ → ℕ) (most : ℕ) (test : Test) → IsOneToOne r most → IsUpTo most test → awaited_in_test (test_substituted (λ v. variable (r v)) test) ≡ map r (awaited_in_test test)
 in_test_renamed r most holds once few = refl
@@ -132,20 +134,20 @@ mutual
       (all_awaited_up_to most ts us (omega (arith, few)) (omega (arith, less)))
 
 -- the variable for which a scan waits
-abbrev ScanUpTo : ℕ → Scan → Type 0
-ScanUpTo most (found e left) = Unit {0}
-ScanUpTo most (waits_for v) = v ≤ most
-ScanUpTo most wrong_type = Unit {0}
+abbrev ScanUpTo : ℕ → Found Scanned → Type 0
+ScanUpTo most (found e) = Unit {0}
+ScanUpTo most (awaits v) = v ≤ most
+ScanUpTo most wrong = Unit {0}
 
-right_up_to : (most : ℕ) (o : Operator) (e : ArithmeticExpression) (y : Scan) → ScanUpTo most y → ScanUpTo most (with_right o e y)
-right_up_to most o e (found b left) a = tt
-right_up_to most o e (waits_for v) a = a
-right_up_to most o e wrong_type a = tt
+right_up_to : (most : ℕ) (o : Operator) (e : ArithmeticExpression) (y : Found Scanned) → ScanUpTo most y → ScanUpTo most (with_right o e y)
+right_up_to most o e (found b) a = tt
+right_up_to most o e (awaits v) a = a
+right_up_to most o e wrong a = tt
 
-left_up_to : (most : ℕ) (o : Operator) (x : Scan) (right : ℕ → Scan) → ScanUpTo most x → ((m : ℕ) → ScanUpTo most (right m)) → ScanUpTo most (with_left o x right)
-left_up_to most o (found e m) right a f = right_up_to most o e (right m) (f m)
-left_up_to most o (waits_for v) right a f = a
-left_up_to most o wrong_type right a f = tt
+left_up_to : (most : ℕ) (o : Operator) (x : Found Scanned) (right : ℕ → Found Scanned) → ScanUpTo most x → ((m : ℕ) → ScanUpTo most (right m)) → ScanUpTo most (with_left o x right)
+left_up_to most o (found e) right a f = right_up_to most o e.expression (right e.left) (f e.left)
+left_up_to most o (awaits v) right a f = a
+left_up_to most o wrong right a f = tt
 
 mutual
   scan_up_to : (most n : ℕ) (t : Term) → highest t ≤ most → ScanUpTo most (scan n t)
@@ -163,18 +165,18 @@ mutual
       left_up_to most o (scan n a) (λ m. scan m b) (scan_up_to most n a (omega (arith, few))) (λ m. scan_up_to most m b (omega (arith, few)))
   operation_up_to most (Some o) (suc n) (more a (more b (more c ts))) few = tt
 
-computed_up_to : (most : ℕ) (x : Scan) → ScanUpTo most x → EachUpTo most (awaited_by_evaluated (computed x))
-computed_up_to most (found e left) a = tt
-computed_up_to most (waits_for v) a = (a, tt)
-computed_up_to most wrong_type a = tt
+computed_up_to : (most : ℕ) (x : Found Scanned) → ScanUpTo most x → EachUpTo most (awaited_by_found (computed x))
+computed_up_to most (found e) a = tt
+computed_up_to most (awaits v) a = (a, tt)
+computed_up_to most wrong a = tt
 
-expression_up_to : (most : ℕ) (t : Term) → highest t ≤ most → EachUpTo most (awaited_by_evaluated (evaluated t))
+expression_up_to : (most : ℕ) (t : Term) → highest t ≤ most → EachUpTo most (awaited_by_found (evaluated t))
 expression_up_to most t few = computed_up_to most (scan MOST_OPERATORS t) (scan_up_to most MOST_OPERATORS t few)
 
-sides_up_to : (most : ℕ) (x y : Evaluated) → EachUpTo most (awaited_by_evaluated x) → EachUpTo most (awaited_by_evaluated y) → EachUpTo most (awaited_by_sides x y)
+sides_up_to : (most : ℕ) (x y : Found Number) → EachUpTo most (awaited_by_found x) → EachUpTo most (awaited_by_found y) → EachUpTo most (awaited_by_sides x y)
 sides_up_to most (awaits v) y a b = a
-sides_up_to most is_no_expression y a b = tt
-sides_up_to most (comes_to n) y a b = b
+sides_up_to most wrong y a b = tt
+sides_up_to most (found n) y a b = b
 
 in_test_up_to : (most : ℕ) (test : Test) → IsUpTo most test → EachUpTo most (awaited_in_test test)
 in_test_up_to most holds few = tt

@@ -16,11 +16,12 @@ use Rattle.kl1_model.specs.Meaning.{variables_of, variables_in, highest_in}
 use Rattle.kl1_model.specs.Module.{is_among, has_only}
 use Rattle.kl1_model.specs.Same.{Passive, same, differs, unknown, passive}
 use Rattle.kl1_model.specs.code.Awaited.{awaited, all_awaited}
-use Rattle.kl1_model.specs.Arithmetic.{ArithmeticExpression, Scan, found, waits_for, wrong_type, with_left, with_right, operator_named, scan, scan_operation, Evaluated, comes_to, awaits, is_no_expression, computed, evaluated}
+use Rattle.kl1_model.specs.Arithmetic.{ArithmeticExpression, with_left, with_right, operator_named, scan, scan_operation, computed, evaluated, Scanned}
 use Rattle.kl1_model.specs.Guard.{type_test_named, comparison_named, Test, holds, looks, is_same, is_other, compares, test_of, test_substituted, is_found, compared}
 use Rattle.kl1_model.specs.code.Outcome.{Outcome, agrees, clashes, waits, both, decided, look, same_outcome, other_outcome, alike, compared_numbers, compared_sides, outcome_of, outcome_by, Matched, with_outcome, match_term, match_terms, places_alike, alike_with, each_alike, beside, test_variable, own_variables, own_outcome, test_outcome, tests_outcome, guard_outcome, suspends, verdict_with}
 use Rattle.kl1_model.specs.laws.OutcomeLaws.{NamedSuspendsWaits}
 use Rattle.kl1_model.proofs.SameStays.{unknown_waits}
+use Rattle.kl1_model.specs.Found.{Found, found, awaits, wrong}
 
 -- ---- who waits names a variable
 
@@ -184,20 +185,20 @@ look_own last i (integer n) a = decided_own last (is_found i (integer n))
 look_own last i (atom x) a = decided_own last (is_found i (atom x))
 look_own last i (structure f ts) a = decided_own last (is_found i (structure f ts))
 
-abbrev ScanAbove : ℕ → Scan → Type 0
-ScanAbove last (found e left) = Unit {0}
-ScanAbove last (waits_for v) = suc last ≤ v
-ScanAbove last wrong_type = Unit {0}
+abbrev ScanAbove : ℕ → Found Scanned → Type 0
+ScanAbove last (found e) = Unit {0}
+ScanAbove last (awaits v) = suc last ≤ v
+ScanAbove last wrong = Unit {0}
 
-right_above : (last : ℕ) (o : Operator) (e : ArithmeticExpression) (y : Scan) → ScanAbove last y → ScanAbove last (with_right o e y)
-right_above last o e (found b left) a = tt
-right_above last o e (waits_for v) a = a
-right_above last o e wrong_type a = tt
+right_above : (last : ℕ) (o : Operator) (e : ArithmeticExpression) (y : Found Scanned) → ScanAbove last y → ScanAbove last (with_right o e y)
+right_above last o e (found b) a = tt
+right_above last o e (awaits v) a = a
+right_above last o e wrong a = tt
 
-left_above : (last : ℕ) (o : Operator) (x : Scan) (right : ℕ → Scan) → ScanAbove last x → ((m : ℕ) → ScanAbove last (right m)) → ScanAbove last (with_left o x right)
-left_above last o (found e m) right a f = right_above last o e (right m) (f m)
-left_above last o (waits_for v) right a f = a
-left_above last o wrong_type right a f = tt
+left_above : (last : ℕ) (o : Operator) (x : Found Scanned) (right : ℕ → Found Scanned) → ScanAbove last x → ((m : ℕ) → ScanAbove last (right m)) → ScanAbove last (with_left o x right)
+left_above last o (found e) right a f = right_above last o e.expression (right e.left) (f e.left)
+left_above last o (awaits v) right a f = a
+left_above last o wrong right a f = tt
 
 mutual
   scan_above : (last n : ℕ) (t : Term) → Above last t → ScanAbove last (scan n t)
@@ -214,15 +215,15 @@ mutual
   operation_above last (Some o) (suc n) (more t (more u none)) a = left_above last o (scan n t) (λ m. scan m u) (scan_above last n t a.0) (λ m. scan_above last m u a.1.0)
   operation_above last (Some o) (suc n) (more t (more u (more w ts))) a = tt
 
-abbrev EvaluatedAbove : ℕ → Evaluated → Type 0
-EvaluatedAbove last (comes_to n) = Unit {0}
+abbrev EvaluatedAbove : ℕ → Found Number → Type 0
+EvaluatedAbove last (found n) = Unit {0}
 EvaluatedAbove last (awaits v) = suc last ≤ v
-EvaluatedAbove last is_no_expression = Unit {0}
+EvaluatedAbove last wrong = Unit {0}
 
-computed_above : (last : ℕ) (x : Scan) → ScanAbove last x → EvaluatedAbove last (computed x)
-computed_above last (found e left) a = tt
-computed_above last (waits_for v) a = a
-computed_above last wrong_type a = tt
+computed_above : (last : ℕ) (x : Found Scanned) → ScanAbove last x → EvaluatedAbove last (computed x)
+computed_above last (found e) a = tt
+computed_above last (awaits v) a = a
+computed_above last wrong a = tt
 
 numbers_own : (last : ℕ) (c : Comparison) (x y : Number) → Own last (compared_numbers c x y)
 numbers_own last c (Value i) (Value j) = decided_own last (compared c i j)
@@ -231,12 +232,12 @@ numbers_own last c (Value i) ZeroDivisor = tt
 numbers_own last c Overflow y = tt
 numbers_own last c ZeroDivisor y = tt
 
-sides_own : (last : ℕ) (c : Comparison) (x y : Evaluated) → EvaluatedAbove last x → EvaluatedAbove last y → Own last (compared_sides c x y)
+sides_own : (last : ℕ) (c : Comparison) (x y : Found Number) → EvaluatedAbove last x → EvaluatedAbove last y → Own last (compared_sides c x y)
 sides_own last c (awaits v) y a b = a
-sides_own last c is_no_expression y a b = tt
-sides_own last c (comes_to n) (awaits v) a b = b
-sides_own last c (comes_to n) is_no_expression a b = tt
-sides_own last c (comes_to n) (comes_to m) a b = numbers_own last c n m
+sides_own last c wrong y a b = tt
+sides_own last c (found n) (awaits v) a b = b
+sides_own last c (found n) wrong a b = tt
+sides_own last c (found n) (found m) a b = numbers_own last c n m
 
 abbrev TestAbove : ℕ → Test → Type 0
 TestAbove last holds = Unit {0}

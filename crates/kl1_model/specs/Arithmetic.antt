@@ -7,6 +7,7 @@ use Rattle.kl1_model.specs.declared.operator.Operator.TheVariants.{Plus, Minus, 
 use Rattle.kl1_model.specs.declared.number.Number.{Number}
 use Rattle.kl1_model.specs.declared.number.Number.TheVariants.{Value, Overflow, ZeroDivisor}
 use Rattle.kl1_model.specs.Term.{Term, variable, integer, atom, structure, Terms, none, more}
+use Rattle.kl1_model.specs.Found.{Found, found, awaits, wrong, then_found, found_map}
 
 -- the name of an operator
 abbrev pub operator_name : Operator → List ℕ
@@ -29,36 +30,31 @@ pub data ArithmeticExpression : Type 0 where
   number : ℤ → ArithmeticExpression
   operation : Operator → ArithmeticExpression → ArithmeticExpression → ArithmeticExpression
 
--- what is found in a term, each operator before its operands and the left before the right: an expression, and how many
--- operators more there might have been; or an unbound variable; or else something that belongs in no expression
-pub data Scan : Type 0 where
-  found : ArithmeticExpression → ℕ → Scan
-  waits_for : ℕ → Scan
-  wrong_type : Scan
+-- an expression that is found in a term, and how many operators more there might have been
+pub record Scanned : Type 0 where
+  pub expression : ArithmeticExpression
+  pub left : ℕ
 
 -- an operation, if its right operand is found
-abbrev pub with_right : Operator → ArithmeticExpression → Scan → Scan
-with_right o a (found b left) = found (operation o a b) left
-with_right o a (waits_for v) = waits_for v
-with_right o a wrong_type = wrong_type
+abbrev pub with_right : Operator → ArithmeticExpression → Found Scanned → Found Scanned
+with_right o a right = found_map (λ b. record { expression = operation o a b.expression; left = b.left }) right
 
 -- an operation, if its left operand is found; the right one is scanned then
-abbrev pub with_left : Operator → Scan → (ℕ → Scan) → Scan
-with_left o (found a left) right = with_right o a (right left)
-with_left o (waits_for v) right = waits_for v
-with_left o wrong_type right = wrong_type
+abbrev pub with_left : Operator → Found Scanned → (ℕ → Found Scanned) → Found Scanned
+with_left o left right = then_found left (λ a. with_right o a.expression (right a.left))
 
--- a term scanned for at most `most` operators: the first leaf that is no integer decides
+-- a term scanned for at most `most` operators, each operator before its operands and the left before the right: the first leaf that
+-- is no integer decides
 abbrev mutual
-  pub scan : ℕ → Term → Scan
-  scan most (variable v) = waits_for v
-  scan most (integer i) = found (number i) most
-  scan most (atom a) = wrong_type
+  pub scan : ℕ → Term → Found Scanned
+  scan most (variable v) = awaits v
+  scan most (integer i) = found (record { expression = number i; left = most })
+  scan most (atom a) = wrong
   scan most (structure f ts) = scan_operation (operator_named f) most ts
 
-  pub scan_operation : Option Operator → ℕ → Terms → Scan
+  pub scan_operation : Option Operator → ℕ → Terms → Found Scanned
   scan_operation (Some o) (suc most) (more a (more b none)) = with_left o (scan most a) (λ left. scan left b)
-  scan_operation o most ts = wrong_type
+  scan_operation o most ts = wrong
 
 -- whether an integer has 64 bits
 abbrev pub fits : ℤ → Bool
@@ -95,18 +91,10 @@ abbrev pub compute : ArithmeticExpression → Number
 compute (number i) = Value i
 compute (operation o a b) = applied o (compute a) (compute b)
 
--- what a term comes to as an expression: a number or a fault of computing, or the wait for a variable, or it is none
-pub data Evaluated : Type 0 where
-  comes_to : Number → Evaluated
-  awaits : ℕ → Evaluated
-  is_no_expression : Evaluated
-
 -- what a scan leads to
-abbrev pub computed : Scan → Evaluated
-computed (found e left) = comes_to (compute e)
-computed (waits_for v) = awaits v
-computed wrong_type = is_no_expression
+abbrev pub computed : Found Scanned → Found Number
+computed x = found_map (λ a. compute a.expression) x
 
 -- what a term comes to as an expression, which has at most 64 operators
-abbrev pub evaluated : Term → Evaluated
+abbrev pub evaluated : Term → Found Number
 evaluated t = computed (scan MOST_OPERATORS t)

@@ -3,6 +3,7 @@ use Rattle.std.specs.Prelude.{ℕ, if◌then◌else◌, pos, List, codes, bytes_
 use Rattle.kl1_model.specs.declared.message.Message.{Message}
 use Rattle.kl1_model.specs.declared.message.Message.TheVariants.{Stop, Start, Abort, Allow}
 use Rattle.kl1_model.specs.Term.{Term, variable, integer, atom, structure, none, more}
+use Rattle.kl1_model.specs.Found.{Found, found, awaits, wrong}
 
 -- the term of a message
 abbrev pub message_term : Message → Term
@@ -18,32 +19,26 @@ message_nodes Start = 1
 message_nodes Abort = 1
 message_nodes (Allow n) = 2
 
--- what an element of a control stream says: a message, any other thing, or nothing as long as a variable is unbound
-pub data Word : Type 0 where
-  says : Message → Word
-  says_other : Word
-  unsaid : ℕ → Word
-
 -- what an atom says
-abbrev pub atom_word : List ℕ → Word
+abbrev pub atom_word : List ℕ → Found Message
 atom_word a =
-    if bytes_eq a (codes "stop") then says Stop
-    else if bytes_eq a (codes "start") then says Start
-    else if bytes_eq a (codes "abort") then says Abort
-    else says_other
+    if bytes_eq a (codes "stop") then found Stop
+    else if bytes_eq a (codes "start") then found Start
+    else if bytes_eq a (codes "abort") then found Abort
+    else wrong
 
 -- what `allow` of a term says: the term is an integer from 0
-abbrev pub allow_word : Term → Word
-allow_word (variable v) = unsaid v
-allow_word (integer (pos n)) = says (Allow n)
-allow_word _ = says_other
+abbrev pub allow_word : Term → Found Message
+allow_word (variable v) = awaits v
+allow_word (integer (pos n)) = found (Allow n)
+allow_word _ = wrong
 
 -- what an element of a control stream says
-abbrev pub word_of : Term → Word
-word_of (variable v) = unsaid v
+abbrev pub word_of : Term → Found Message
+word_of (variable v) = awaits v
 word_of (atom a) = atom_word a
-word_of (structure f (more n none)) = if bytes_eq f (codes "allow") then allow_word n else says_other
-word_of _ = says_other
+word_of (structure f (more n none)) = if bytes_eq f (codes "allow") then allow_word n else wrong
+word_of _ = wrong
 
 -- what stands at the front of a control stream: nothing yet, for want of a variable's value; a message and the rest; any other
 -- element and the rest; the end; or a term that is no stream
@@ -55,10 +50,10 @@ pub data Control : Type 0 where
   breaks_off : Term → Control
 
 -- what an element at the front of a control stream comes to, with the rest after it
-abbrev pub control_by : Term → Term → Word → Control
-control_by m rest (says message) = tells message rest
-control_by m rest says_other = tells_other m rest
-control_by m rest (unsaid v) = awaits_message v
+abbrev pub control_by : Term → Term → Found Message → Control
+control_by m rest (found message) = tells message rest
+control_by m rest wrong = tells_other m rest
+control_by m rest (awaits v) = awaits_message v
 
 -- what stands at the front of a control stream
 abbrev pub control_of : Term → Control

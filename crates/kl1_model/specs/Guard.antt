@@ -9,7 +9,8 @@ use Rattle.kl1_model.specs.declared.number.Number.{Number}
 use Rattle.kl1_model.specs.declared.number.Number.TheVariants.{Value}
 use Rattle.kl1_model.specs.Term.{Term, variable, integer, atom, structure, none, more, substituted}
 use Rattle.kl1_model.specs.Same.{Passive, same, differs, unknown, passive}
-use Rattle.kl1_model.specs.Arithmetic.{Evaluated, comes_to, awaits, is_no_expression, evaluated}
+use Rattle.kl1_model.specs.Arithmetic.{evaluated}
+use Rattle.kl1_model.specs.Found.{Found, found, awaits, wrong}
 
 -- yes, no, or not yet
 pub data Answer : Type 0 where
@@ -132,12 +133,12 @@ numbers_answer c (Value x) (Value y) = known (compared c x y)
 numbers_answer c a b = no
 
 -- a comparison by its sides, the left one first: one that waits is wait, and one that is no expression is no
-abbrev pub sides_answer : Comparison → Evaluated → Evaluated → Answer
+abbrev pub sides_answer : Comparison → Found Number → Found Number → Answer
 sides_answer c (awaits v) b = wait
-sides_answer c is_no_expression b = no
-sides_answer c (comes_to x) (awaits v) = wait
-sides_answer c (comes_to x) is_no_expression = no
-sides_answer c (comes_to x) (comes_to y) = numbers_answer c x y
+sides_answer c wrong b = no
+sides_answer c (found x) (awaits v) = wait
+sides_answer c (found x) wrong = no
+sides_answer c (found x) (found y) = numbers_answer c x y
 
 -- the answer of a test: a look at a term waits while the term is an unbound variable, and each side of a comparison has its own 64
 -- operators

@@ -1,6 +1,7 @@
 pub mod Text
 pub mod Name
 pub mod Term
+pub mod Found
 pub mod Unify
 pub mod Print
 pub mod Same

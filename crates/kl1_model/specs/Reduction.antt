@@ -1,5 +1,5 @@
 -- Reductions: what a goal can do, and what comes of it.
-use Rattle.std.specs.Prelude.{ℕ, suc, ◌+◌, ◌==◌, nat_le, min, ◌&&◌, Bool, true, false, if◌then◌else◌, List, [], ◌∷◌, ◌++◌, length, map, find, codes, bytes_eq, Option, Some, None, option_map}
+use Rattle.std.specs.Prelude.{ℕ, suc, ◌+◌, ◌==◌, nat_le, min, ◌&&◌, Bool, true, false, if◌then◌else◌, List, [], ◌∷◌, ◌++◌, length, map, find, codes, bytes_eq, Option, Some, None, option_map, ⊤}
 use Rattle.kl1_model.specs.declared.limits.TheConstants.{MOST_GOALS, MOST_VARIABLES, MOST_NODES, MOST_NAMES, MOST_ALLOWANCE}
 use Rattle.kl1_model.specs.Term.{Term, variable, integer, atom, structure, none, more, Replacement}
 use Rattle.kl1_model.specs.declared.rules.Rules.{Rules}
@@ -7,14 +7,14 @@ use Rattle.kl1_model.specs.declared.number.Number.{Number}
 use Rattle.kl1_model.specs.declared.number.Number.TheVariants.{Value, Overflow, ZeroDivisor}
 use Rattle.kl1_model.specs.declared.message.Message.{Message}
 use Rattle.kl1_model.specs.declared.message.Message.TheVariants.{Stop, Start, Abort, Allow}
-use Rattle.kl1_model.specs.Arithmetic.{Evaluated, comes_to, awaits, is_no_expression, evaluated}
+use Rattle.kl1_model.specs.Arithmetic.{evaluated}
 use Rattle.kl1_model.specs.Unify.{Equation, mgu}
 use Rattle.kl1_model.specs.Goal.{is_execute}
 use Rattle.kl1_model.specs.Nodes.{goals_nodes}
 use Rattle.kl1_model.specs.Module.{Clause, goals_of, Module}
 use Rattle.kl1_model.specs.Match.{Call, call_of, Candidate, candidates_of, fails}
 use Rattle.kl1_model.specs.Instance.{body_instance, body_priorities, fresh_variables}
-use Rattle.kl1_model.specs.Look.{Spelling, spelled, awaits_code, misspelled, spelling, Look, right, waits_on, wrong, goal_look, ExecuteArguments, arguments_look}
+use Rattle.kl1_model.specs.Look.{spelling, goal_look, ExecuteArguments, arguments_look}
 use Rattle.kl1_model.specs.Control.{Control, awaits_message, tells, tells_other, ends, breaks_off, control_of}
 use Rattle.kl1_model.specs.State.{Task, monitor, reduces, substitutes, Goal, Shoen, State, has_substitutes, most_spelled, shoen_at, replace_all, change_shoen, without_goal, with_name}
 use Rattle.kl1_model.specs.Tree.{goals_alive, charge, is_enabled}
@@ -23,6 +23,7 @@ pub use Rattle.kl1_model.specs.Report.{failure, overflow, illegal_input, exhaust
 use Rattle.kl1_model.specs.Report.{report, is_reported, exception, exception_with, stopped_report, resumed_report}
 use Rattle.kl1_model.specs.Ending.{without_monitor, settle, after_reduction, abort}
 use Rattle.kl1_model.specs.Opening.{clipped_to, has_room_for_child, open_child}
+use Rattle.kl1_model.specs.Found.{Found, found, awaits, wrong}
 
 -- ---- what goals can do
 
@@ -36,6 +37,12 @@ pub data Move : Type 0 where
   opens : ExecuteArguments → Move
   goes : Move
   gives_way : Move
+
+-- what a goal does by what a look at its terms finds: what the value leads to, nothing while the look waits, or an exception
+abbrev pub move_found : {A : Type 0} → (A → Move) → Found A → Option Move
+move_found act (found a) = Some (act a)
+move_found act (awaits v) = None
+move_found act wrong = Some (raises illegal_input)
 
 -- ---- a goal of a user's predicate
 
@@ -53,27 +60,7 @@ becomes a (Value z) = unifies a (integer z)
 becomes a Overflow = raises overflow
 becomes a ZeroDivisor = raises illegal_input
 
--- what comes of a term that becomes what an expression comes to; it waits while the expression does
-abbrev pub assigned : Term → Evaluated → Option Move
-assigned a (comes_to n) = Some (becomes a n)
-assigned a (awaits v) = None
-assigned a is_no_expression = Some (raises illegal_input)
-
--- ---- the goal `atom_from`
-
--- what comes of a term that becomes the name that codes spell; it waits while the codes do
-abbrev pub spells : Term → Spelling → Option Move
-spells a (spelled text) = Some (names text a)
-spells a (awaits_code v) = None
-spells a misspelled = Some (raises illegal_input)
-
 -- ---- the goal `shoen:execute`
-
--- what comes of the arguments of `shoen:execute` by the look at them; it waits while an argument does
-abbrev pub ordered : ExecuteArguments → Look → Option Move
-ordered o right = Some (opens o)
-ordered o (waits_on v) = None
-ordered o wrong = Some (raises illegal_input)
 
 -- the arguments of `shoen:execute`, if a term has six
 abbrev pub execute_arguments : Term → Option ExecuteArguments
@@ -83,7 +70,7 @@ execute_arguments t = None
 -- what comes of arguments that may be there
 abbrev pub order_move : Option ExecuteArguments → Option Move
 order_move None = None
-order_move (Some o) = ordered o (arguments_look o)
+order_move (Some o) = move_found (λ right. opens o) (arguments_look o)
 
 -- what a goal `a:b` does, if it is `shoen:execute` with six arguments
 abbrev pub execute_move : Term → Term → Option Move
@@ -92,12 +79,13 @@ execute_move a b = None
 
 -- ---- built-in goals together: `true`, `=`, and those above
 
--- what a built-in goal of two terms does
+-- what a built-in goal of two terms does; `:=` waits while the expression does, `atom_from` while the codes do, and `shoen:execute`
+-- while an argument does
 abbrev pub pair_move : Rules → List ℕ → Term → Term → Option Move
 pair_move rules f a b =
     if bytes_eq f (codes "=") then Some (unifies a b)
-    else if bytes_eq f (codes ":=") then assigned a (evaluated b)
-    else if bytes_eq f (codes "atom_from") then spells b (spelling (most_spelled rules) a)
+    else if bytes_eq f (codes ":=") then move_found (becomes a) (evaluated b)
+    else if bytes_eq f (codes "atom_from") then move_found (λ text. names text b) (spelling (most_spelled rules) a)
     else if bytes_eq f (codes ":") then execute_move a b
     else None
 
@@ -115,10 +103,8 @@ term_move rules modules t clause (Some call) = call_move modules call clause
 -- ---- substitutes
 
 -- what a substitute does by the look at the term that it waits for, as at the goal of a new shoen
-abbrev pub substitute_move : Look → Option Move
-substitute_move right = Some gives_way
-substitute_move (waits_on v) = None
-substitute_move wrong = Some (raises illegal_input)
+abbrev pub substitute_move : Found ⊤ → Option Move
+substitute_move x = move_found (λ right. gives_way) x
 
 -- ---- goals and monitors of an account
 

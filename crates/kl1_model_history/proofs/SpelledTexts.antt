@@ -1,5 +1,5 @@
 -- What a goal names is the text of a name.
-use Rattle.std.specs.Prelude.{◌≡◌, ℕ, zero, suc, ◌≤◌, ◌==◌, nat_le, Bool, true, false, if◌then◌else◌, pos, negsuc, List, [], length, codes, bytes_eq, Option, Some, None, find, option_map}
+use Rattle.std.specs.Prelude.{◌≡◌, ℕ, zero, suc, ◌≤◌, ◌==◌, nat_le, Bool, true, false, if◌then◌else◌, pos, negsuc, List, [], length, codes, bytes_eq, Option, Some, None, find, option_map, ⊤}
 use Rattle.std.specs.List.{list_all}
 use Rattle.std.proofs.Common.{refl, arith}
 use Rattle.std.proofs.lemmas.Bool.{and_from, le-leb}
@@ -8,47 +8,48 @@ use Rattle.kl1_model.specs.declared.rules.Rules.{Rules}
 use Rattle.kl1_model.specs.declared.rules.Rules.TheVariants.{One, Two, Three}
 use Rattle.kl1_model.specs.Text.{is_name_byte, is_text}
 use Rattle.kl1_model.specs.Term.{Term, variable, integer, atom, structure, none, more}
-use Rattle.kl1_model.specs.Arithmetic.{Evaluated, comes_to, awaits, is_no_expression, evaluated}
+use Rattle.kl1_model.specs.Arithmetic.{evaluated}
 use Rattle.kl1_model.specs.declared.number.Number.{Number}
 use Rattle.kl1_model.specs.declared.number.Number.TheVariants.{Value, Overflow, ZeroDivisor}
 use Rattle.kl1_model.specs.Goal.{is_execute}
 use Rattle.kl1_model.specs.Module.{Module}
 use Rattle.kl1_model.specs.Match.{Call, call_of, Candidate, candidates_of, fails}
-use Rattle.kl1_model.specs.Look.{Spelling, spelled, awaits_code, misspelled, spelled_before, spelled_by, spelling, Look, right, waits_on, wrong, goal_look, ExecuteArguments, arguments_look}
+use Rattle.kl1_model.specs.Look.{spelled_before, spelled_by, spelling, goal_look, ExecuteArguments, arguments_look}
 use Rattle.kl1_model.specs.Control.{Control, awaits_message, tells, tells_other, ends, breaks_off, control_of}
 use Rattle.kl1_model.specs.State.{Task, monitor, reduces, substitutes, Goal, Shoen, State, shoen_at, most_spelled}
 use Rattle.kl1_model.specs.Tree.{is_enabled}
 use Rattle.kl1_model.specs.Report.{failure}
-use Rattle.kl1_model.specs.Reduction.{Move, commits, raises, unifies, names, opens, goes, gives_way, call_move, becomes, assigned, spells, ordered, execute_arguments, order_move, execute_move, pair_move, built_in_move, term_move, substitute_move, Action, moves, reads, read_action, monitor_action, task_action, action_of}
+use Rattle.kl1_model.specs.Reduction.{Move, commits, raises, unifies, names, opens, goes, gives_way, call_move, move_found, becomes, execute_arguments, order_move, execute_move, pair_move, built_in_move, term_move, substitute_move, Action, moves, reads, read_action, monitor_action, task_action, action_of}
+use Rattle.kl1_model.specs.Found.{Found, found, awaits, wrong}
 
 -- a text that is spelled is bytes of names, and no more of them than cells
-abbrev IsSpelled : ℕ → Spelling → Type 0
-IsSpelled most (spelled text) = (list_all is_name_byte text ≡ true) × (length text ≤ most)
-IsSpelled most (awaits_code v) = Unit {0}
-IsSpelled most misspelled = Unit {0}
+abbrev IsSpelled : ℕ → Found (List ℕ) → Type 0
+IsSpelled most (found text) = (list_all is_name_byte text ≡ true) × (length text ≤ most)
+IsSpelled most (awaits v) = Unit {0}
+IsSpelled most wrong = Unit {0}
 
-before_spelled : (x : Bool) (n most : ℕ) (s : Spelling) → is_name_byte n ≡ x → IsSpelled most s → IsSpelled (suc most) (if x then spelled_before n s else misspelled)
-before_spelled true n most (spelled text) is h = (and_from (is_name_byte n) (list_all is_name_byte text) is h.0, omega (arith, h.1))
-before_spelled true n most (awaits_code v) is h = tt
-before_spelled true n most misspelled is h = tt
+before_spelled : (x : Bool) (n most : ℕ) (s : Found (List ℕ)) → is_name_byte n ≡ x → IsSpelled most s → IsSpelled (suc most) (if x then spelled_before n s else wrong)
+before_spelled true n most (found text) is h = (and_from (is_name_byte n) (list_all is_name_byte text) is h.0, omega (arith, h.1))
+before_spelled true n most (awaits v) is h = tt
+before_spelled true n most wrong is h = tt
 before_spelled false n most s is h = tt
 
-by_spelled : (t : Term) (most : ℕ) (s : Spelling) → IsSpelled most s → IsSpelled (suc most) (spelled_by t s)
+by_spelled : (t : Term) (most : ℕ) (s : Found (List ℕ)) → IsSpelled most s → IsSpelled (suc most) (spelled_by t s)
 by_spelled (variable v) most s h = tt
 by_spelled (integer (pos n)) most s h = before_spelled (is_name_byte n) n most s refl h
 by_spelled (integer (negsuc n)) most s h = tt
 by_spelled (atom a) most s h = tt
 by_spelled (structure f ts) most s h = tt
 
-either_spelled : (x : Bool) (most : ℕ) (r s : Spelling) → IsSpelled most r → IsSpelled most s → IsSpelled most (if x then r else s)
+either_spelled : (x : Bool) (most : ℕ) (r s : Found (List ℕ)) → IsSpelled most r → IsSpelled most s → IsSpelled most (if x then r else s)
 either_spelled true most r s g h = g
 either_spelled false most r s g h = h
 
 is_spelled : (most : ℕ) (t : Term) → IsSpelled most (spelling most t)
 is_spelled most (variable v) = tt
-is_spelled most (atom a) = either_spelled (bytes_eq a (codes "[]")) most (spelled []) misspelled (refl, omega arith) tt
+is_spelled most (atom a) = either_spelled (bytes_eq a (codes "[]")) most (found []) wrong (refl, omega arith) tt
 is_spelled (suc most) (structure f (more h (more t none))) =
-    either_spelled (bytes_eq f (codes ".")) (suc most) (spelled_by h (spelling most t)) misspelled (by_spelled h most (spelling most t) (is_spelled most t)) tt
+    either_spelled (bytes_eq f (codes ".")) (suc most) (spelled_by h (spelling most t)) wrong (by_spelled h most (spelling most t) (is_spelled most t)) tt
 is_spelled zero (structure f (more h (more t none))) = tt
 is_spelled zero (integer i) = tt
 is_spelled (suc most) (integer i) = tt
@@ -83,24 +84,24 @@ most_in_names One = let le : MOST_SPELLED_BEFORE ≤ MOST_NAME_BYTES = omega ari
 most_in_names Two = let le : MOST_SPELLED_BEFORE ≤ MOST_NAME_BYTES = omega arith in le
 most_in_names Three = let le : MOST_NAME_BYTES ≤ MOST_NAME_BYTES = omega arith in le
 
-spelled_names : (most : ℕ) (a : Term) (s : Spelling) → most ≤ MOST_NAME_BYTES → IsSpelled most s → MayName (spells a s)
-spelled_names most a (spelled text) le h = and_from (nat_le (length text) MOST_NAME_BYTES) (list_all is_name_byte text) (le-leb (length text) MOST_NAME_BYTES (let few = h.1 in omega arith)) h.0
-spelled_names most a (awaits_code v) le h = tt
-spelled_names most a misspelled le h = tt
+spelled_names : (most : ℕ) (a : Term) (s : Found (List ℕ)) → most ≤ MOST_NAME_BYTES → IsSpelled most s → MayName (move_found (λ text. names text a) s)
+spelled_names most a (found text) le h = and_from (nat_le (length text) MOST_NAME_BYTES) (list_all is_name_byte text) (le-leb (length text) MOST_NAME_BYTES (let few = h.1 in omega arith)) h.0
+spelled_names most a (awaits v) le h = tt
+spelled_names most a wrong le h = tt
 
 become_names : (a : Term) (n : Number) → NamesText (becomes a n)
 become_names a (Value z) = tt
 become_names a Overflow = tt
 become_names a ZeroDivisor = tt
 
-assigned_names : (a : Term) (e : Evaluated) → MayName (assigned a e)
-assigned_names a (comes_to n) = become_names a n
+assigned_names : (a : Term) (e : Found Number) → MayName (move_found (becomes a) e)
+assigned_names a (found n) = become_names a n
 assigned_names a (awaits v) = tt
-assigned_names a is_no_expression = tt
+assigned_names a wrong = tt
 
-ordered_names : (o : ExecuteArguments) (l : Look) → MayName (ordered o l)
-ordered_names o right = tt
-ordered_names o (waits_on v) = tt
+ordered_names : (o : ExecuteArguments) (l : Found ⊤) → MayName (move_found (λ right. opens o) l)
+ordered_names o (found right) = tt
+ordered_names o (awaits v) = tt
 ordered_names o wrong = tt
 
 order_names : (o : Option ExecuteArguments) → MayName (order_move o)
@@ -117,11 +118,11 @@ pair_names : (rules : Rules) (f : List ℕ) (a b : Term) → MayName (pair_move 
 pair_names rules f a b =
     let last = if bytes_eq f (codes ":") then execute_move a b else None in
     let most = most_spelled rules in
-    let third = if bytes_eq f (codes "atom_from") then spells b (spelling most a) else last in
-    let second = if bytes_eq f (codes ":=") then assigned a (evaluated b) else third in
+    let third = if bytes_eq f (codes "atom_from") then move_found (λ text. names text b) (spelling most a) else last in
+    let second = if bytes_eq f (codes ":=") then move_found (becomes a) (evaluated b) else third in
     either_names (bytes_eq f (codes "=")) (Some (unifies a b)) second tt
-    (either_names (bytes_eq f (codes ":=")) (assigned a (evaluated b)) third (assigned_names a (evaluated b))
-    (either_names (bytes_eq f (codes "atom_from")) (spells b (spelling most a)) last (spelled_names most b (spelling most a) (most_in_names rules) (is_spelled most a))
+    (either_names (bytes_eq f (codes ":=")) (move_found (becomes a) (evaluated b)) third (assigned_names a (evaluated b))
+    (either_names (bytes_eq f (codes "atom_from")) (move_found (λ text. names text b) (spelling most a)) last (spelled_names most b (spelling most a) (most_in_names rules) (is_spelled most a))
     (either_names (bytes_eq f (codes ":")) (execute_move a b) None (execute_names a b) tt)))
 
 built_in_names : (rules : Rules) (t : Term) → MayName (built_in_move rules t)
@@ -147,9 +148,9 @@ term_names : (rules : Rules) (modules : List Module) (t : Term) (clause : ℕ) (
 term_names rules modules t clause None = either_names (clause == 0) (built_in_move rules t) None (built_in_names rules t) tt
 term_names rules modules t clause (Some call) = call_names modules call clause
 
-substitute_names : (l : Look) → MayName (substitute_move l)
-substitute_names right = tt
-substitute_names (waits_on v) = tt
+substitute_names : (l : Found ⊤) → MayName (substitute_move l)
+substitute_names (found right) = tt
+substitute_names (awaits v) = tt
 substitute_names wrong = tt
 
 -- what an action names is a text

@@ -5,7 +5,7 @@ use Rattle.kl1_model.specs.declared.comparison.Comparison.TheVariants.{SameNumbe
 use Rattle.kl1_model.specs.declared.number.Number.TheVariants.{Value, Overflow, ZeroDivisor}
 use Rattle.kl1_model.specs.Term.{integer, atom, variable}
 use Rattle.kl1_model.specs.Meaning.{pair}
-use Rattle.kl1_model.specs.Arithmetic.{operated, comes_to, awaits, is_no_expression, evaluated}
+use Rattle.kl1_model.specs.Arithmetic.{operated, evaluated}
 use Rattle.kl1_model.specs.Module.{bad, read_module}
 use Rattle.kl1_model.specs.code.Outcome.{agrees, clashes, waits, comparison, accepts, rejects, suspends}
 use Rattle.kl1_model.specs.Print.{print}
@@ -13,6 +13,7 @@ use Rattle.std.specs.Fmt.{digits}
 use Rattle.kl1_model.specs.Token.{tokens_within}
 use Rattle.kl1_model.specs.Reader.{expression_at, series_by, grouped_by, body_by}
 use Rattle.kl1_model_laws.specs.GuardRows.{lines, term_in, outcome_in, ones_to_the_left, ones_to_the_right, ones_behind, is_read, sections_in, verdict_in, GuardRowsHold}
+use Rattle.kl1_model.specs.Found.{found, awaits, wrong}
 
 sum_at_the_end_row : operated Plus (pos 9223372036854775807) (pos 0) ≡ Value (pos 9223372036854775807)
 unfolding digits tokens_within expression_at series_by grouped_by body_by
@@ -90,11 +91,11 @@ remainder_by_zero_row : operated Modulo (pos 1) (pos 0) ≡ ZeroDivisor
 unfolding digits tokens_within expression_at series_by grouped_by body_by
 remainder_by_zero_row = refl
 
-left_fault_first_row : option_map evaluated (term_in (codes "(9223372036854775807 + 1) + (1 / 0)")) ≡ Some (comes_to Overflow)
+left_fault_first_row : option_map evaluated (term_in (codes "(9223372036854775807 + 1) + (1 / 0)")) ≡ Some (found Overflow)
 unfolding digits tokens_within expression_at series_by grouped_by body_by
 left_fault_first_row = refl
 
-right_fault_before_its_own_row : option_map evaluated (term_in (codes "9223372036854775807 + (1 / 0)")) ≡ Some (comes_to ZeroDivisor)
+right_fault_before_its_own_row : option_map evaluated (term_in (codes "9223372036854775807 + (1 / 0)")) ≡ Some (found ZeroDivisor)
 unfolding digits tokens_within expression_at series_by grouped_by body_by
 right_fault_before_its_own_row = refl
 
@@ -102,39 +103,39 @@ first_leaf_waits_row : option_map evaluated (term_in (codes "(1 + X) * a")) ≡ 
 unfolding digits tokens_within expression_at series_by grouped_by body_by
 first_leaf_waits_row = refl
 
-first_leaf_is_wrong_row : option_map evaluated (term_in (codes "(1 + a) * X")) ≡ Some (is_no_expression)
+first_leaf_is_wrong_row : option_map evaluated (term_in (codes "(1 + a) * X")) ≡ Some (wrong)
 unfolding digits tokens_within expression_at series_by grouped_by body_by
 first_leaf_is_wrong_row = refl
 
-scan_goes_before_computing_row : option_map evaluated (term_in (codes "(1 / 0) + a")) ≡ Some (is_no_expression)
+scan_goes_before_computing_row : option_map evaluated (term_in (codes "(1 / 0) + a")) ≡ Some (wrong)
 unfolding digits tokens_within expression_at series_by grouped_by body_by
 scan_goes_before_computing_row = refl
 
-operators_have_two_operands_row : option_map evaluated (term_in (codes "'-'(1)")) ≡ Some (is_no_expression)
+operators_have_two_operands_row : option_map evaluated (term_in (codes "'-'(1)")) ≡ Some (wrong)
 unfolding digits tokens_within expression_at series_by grouped_by body_by
 operators_have_two_operands_row = refl
 
-sums_group_to_the_left_row : option_map evaluated (term_in (codes "1 - 2 - 3")) ≡ Some (comes_to (Value (negsuc 3)))
+sums_group_to_the_left_row : option_map evaluated (term_in (codes "1 - 2 - 3")) ≡ Some (found (Value (negsuc 3)))
 unfolding digits tokens_within expression_at series_by grouped_by body_by
 sums_group_to_the_left_row = refl
 
-products_go_before_sums_row : option_map evaluated (term_in (codes "2 + 9 / 2 * 3 mod 5")) ≡ Some (comes_to (Value (pos 4)))
+products_go_before_sums_row : option_map evaluated (term_in (codes "2 + 9 / 2 * 3 mod 5")) ≡ Some (found (Value (pos 4)))
 unfolding digits tokens_within expression_at series_by grouped_by body_by
 products_go_before_sums_row = refl
 
-parentheses_group_row : option_map evaluated (term_in (codes "1 - (2 - 3)")) ≡ Some (comes_to (Value (pos 2)))
+parentheses_group_row : option_map evaluated (term_in (codes "1 - (2 - 3)")) ≡ Some (found (Value (pos 2)))
 unfolding digits tokens_within expression_at series_by grouped_by body_by
 parentheses_group_row = refl
 
-minus_before_digits_row : option_map evaluated (term_in (codes "1 - -1")) ≡ Some (comes_to (Value (pos 2)))
+minus_before_digits_row : option_map evaluated (term_in (codes "1 - -1")) ≡ Some (found (Value (pos 2)))
 unfolding digits tokens_within expression_at series_by grouped_by body_by
 minus_before_digits_row = refl
 
-minus_between_digits_row : option_map evaluated (term_in (codes "3 -1")) ≡ Some (comes_to (Value (pos 2)))
+minus_between_digits_row : option_map evaluated (term_in (codes "3 -1")) ≡ Some (found (Value (pos 2)))
 unfolding digits tokens_within expression_at series_by grouped_by body_by
 minus_between_digits_row = refl
 
-mod_before_an_operand_row : option_map evaluated (term_in (codes "7 mod(4)")) ≡ Some (comes_to (Value (pos 3)))
+mod_before_an_operand_row : option_map evaluated (term_in (codes "7 mod(4)")) ≡ Some (found (Value (pos 3)))
 unfolding digits tokens_within expression_at series_by grouped_by body_by
 mod_before_an_operand_row = refl
 
@@ -150,19 +151,19 @@ mod_alone_row : term_in (codes "mod") ≡ Some (atom (codes "mod"))
 unfolding digits tokens_within expression_at series_by grouped_by body_by
 mod_alone_row = refl
 
-expression_of_64_operators_row : evaluated (ones_to_the_left 64) ≡ comes_to (Value (pos 65))
+expression_of_64_operators_row : evaluated (ones_to_the_left 64) ≡ found (Value (pos 65))
 unfolding digits tokens_within expression_at series_by grouped_by body_by
 expression_of_64_operators_row = refl
 
-expression_of_65_operators_row : evaluated (ones_to_the_left 65) ≡ is_no_expression
+expression_of_65_operators_row : evaluated (ones_to_the_left 65) ≡ wrong
 unfolding digits tokens_within expression_at series_by grouped_by body_by
 expression_of_65_operators_row = refl
 
-expression_of_64_to_the_right_row : evaluated (ones_to_the_right 64) ≡ comes_to (Value (pos 65))
+expression_of_64_to_the_right_row : evaluated (ones_to_the_right 64) ≡ found (Value (pos 65))
 unfolding digits tokens_within expression_at series_by grouped_by body_by
 expression_of_64_to_the_right_row = refl
 
-expression_of_65_to_the_right_row : evaluated (ones_to_the_right 65) ≡ is_no_expression
+expression_of_65_to_the_right_row : evaluated (ones_to_the_right 65) ≡ wrong
 unfolding digits tokens_within expression_at series_by grouped_by body_by
 expression_of_65_to_the_right_row = refl
 
@@ -542,7 +543,7 @@ unbound_below_64_operators_row : evaluated (ones_behind 64 (variable 1)) ≡ awa
 unfolding digits tokens_within expression_at series_by grouped_by body_by
 unbound_below_64_operators_row = refl
 
-unbound_below_65_operators_row : evaluated (ones_behind 65 (variable 1)) ≡ is_no_expression
+unbound_below_65_operators_row : evaluated (ones_behind 65 (variable 1)) ≡ wrong
 unfolding digits tokens_within expression_at series_by grouped_by body_by
 unbound_below_65_operators_row = refl
 

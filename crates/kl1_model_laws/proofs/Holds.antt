@@ -1,6 +1,6 @@
 -- What holds of each variable of a goal holds of each variable of what its step makes of it.
 use Rattle.std.proofs.Common.{◌≡◌, ◌≤◌, ◌<◌, ℕ, zero, suc, ◌-◌, ◌==◌, ◌&&◌, Bool, true, false, if◌then◌else◌, List, [], ◌∷◌, ◌++◌, max, refl, ap, ap₂, subst, arith}
-use Rattle.std.specs.Prelude.{nat_le, find, slice_get, codes, bytes_eq, Option, Some, None, option_map, option_and_then}
+use Rattle.std.specs.Prelude.{nat_le, find, slice_get, codes, bytes_eq, Option, Some, None, option_map, option_and_then, ⊤}
 use Rattle.std.specs.List.{AllByRecursion}
 use Rattle.std.proofs.lemmas.Bool.{and_parts, leb-true, cond_both, ne_eqb}
 use Rattle.std.proofs.Math.Nat.{le-max_left, le-max_right}
@@ -8,18 +8,19 @@ use Rattle.kl1_model.specs.declared.number.Number.{Number}
 use Rattle.kl1_model.specs.declared.number.Number.TheVariants.{Value, Overflow, ZeroDivisor}
 use Rattle.kl1_model.specs.Term.{Term, variable, integer, atom, structure, Terms, none, more, count_of, replace, replace_each, Replacement, substituted, each_substituted}
 use Rattle.kl1_model.specs.Meaning.{nil, variables_of, variables_in, highest, highest_in, numbered_after}
-use Rattle.kl1_model.specs.Arithmetic.{Evaluated, comes_to, awaits, is_no_expression, evaluated}
+use Rattle.kl1_model.specs.Arithmetic.{evaluated}
 use Rattle.kl1_model.specs.Unify.{Equation, argument_equations, replace_in_all, mgu}
 use Rattle.kl1_model.specs.Goal.{is_execute}
 use Rattle.kl1_model.specs.Module.{Clause, Module}
 use Rattle.kl1_model.specs.Match.{Answer, yes, no, wait, Match, with_answer, match_pattern, match_patterns, term_at, places_of, verdict, Call, call_of, clauses_of, is_no, Candidate, candidate_by, candidates_within, candidates_from, candidates_of, fails}
-use Rattle.kl1_model.specs.Look.{Spelling, spelled, awaits_code, misspelled, spelling, Look, right, waits_on, wrong, ExecuteArguments, arguments_look}
+use Rattle.kl1_model.specs.Look.{spelling, ExecuteArguments, arguments_look}
 use Rattle.kl1_model.specs.declared.rules.Rules.{Rules}
 use Rattle.kl1_model.specs.State.{most_spelled}
-use Rattle.kl1_model.specs.Reduction.{Move, commits, raises, unifies, names, opens, goes, gives_way, failure, call_move, becomes, assigned, spells, ordered, execute_arguments, order_move, execute_move, pair_move, built_in_move, term_move, substitute_move, equation}
+use Rattle.kl1_model.specs.Reduction.{Move, commits, raises, unifies, names, opens, goes, gives_way, failure, call_move, becomes, execute_arguments, order_move, execute_move, pair_move, built_in_move, term_move, substitute_move, equation, move_found}
 use Rattle.kl1_model.specs.Asking.{elements_of, elements_in}
 use Rattle.kl1_model.specs.Answering.{unanswered, unanswered_at}
 use Rattle.kl1_model_laws.proofs.UnifySound.{HoldsInEachCase, holds_of_solution}
+use Rattle.kl1_model.specs.Found.{Found, found, awaits, wrong}
 
 -- ---- terms
 
@@ -255,20 +256,20 @@ if_moves : (c : Bool) (P : ℕ → Type 0) (m n : Option Move) → MayMove P m �
 if_moves true P m n a b = a
 if_moves false P m n a b = b
 
-in_spelled : (P : ℕ → Type 0) (a : Term) (s : Spelling) → Holds P a → MayMove P (spells a s)
-in_spelled P a (spelled text) h = h
-in_spelled P a (awaits_code v) h = tt
-in_spelled P a misspelled h = tt
+in_spelled : (P : ℕ → Type 0) (a : Term) (s : Found (List ℕ)) → Holds P a → MayMove P (move_found (λ text. names text a) s)
+in_spelled P a (found text) h = h
+in_spelled P a (awaits v) h = tt
+in_spelled P a wrong h = tt
 
 in_number : (P : ℕ → Type 0) (a : Term) (n : Number) → Holds P a → InMove P (becomes a n)
 in_number P a (Value z) h = (h, tt)
 in_number P a Overflow h = tt
 in_number P a ZeroDivisor h = tt
 
-in_assigned : (P : ℕ → Type 0) (a : Term) (e : Evaluated) → Holds P a → MayMove P (assigned a e)
-in_assigned P a (comes_to n) h = in_number P a n h
+in_assigned : (P : ℕ → Type 0) (a : Term) (e : Found Number) → Holds P a → MayMove P (move_found (becomes a) e)
+in_assigned P a (found n) h = in_number P a n h
 in_assigned P a (awaits v) h = tt
-in_assigned P a is_no_expression h = tt
+in_assigned P a wrong h = tt
 
 -- a fact holds of the terms of an order that may be there
 abbrev MayOrder : (ℕ → Type 0) → Option ExecuteArguments → Type 0
@@ -279,9 +280,9 @@ in_order : (P : ℕ → Type 0) (t : Term) → Holds P t → MayOrder P (execute
 in_order P (structure p (more g (more l (more i (more n (more c (more r none))))))) h = (h.0, h.1.1.1.1.0, h.1.1.1.1.1.0)
 in_order P t h = tt
 
-in_ordered : (P : ℕ → Type 0) (o : ExecuteArguments) (l : Look) → InOrder P o → MayMove P (ordered o l)
-in_ordered P o right h = h
-in_ordered P o (waits_on v) h = tt
+in_ordered : (P : ℕ → Type 0) (o : ExecuteArguments) (l : Found ⊤) → InOrder P o → MayMove P (move_found (λ right. opens o) l)
+in_ordered P o (found right) h = h
+in_ordered P o (awaits v) h = tt
 in_ordered P o wrong h = tt
 
 in_order_move : (P : ℕ → Type 0) (o : Option ExecuteArguments) → MayOrder P o → MayMove P (order_move o)
@@ -297,11 +298,11 @@ in_execute P (structure f ts) b h = tt
 in_pair : (P : ℕ → Type 0) (rules : Rules) (f : List ℕ) (a b : Term) → Holds P a → Holds P b → MayMove P (pair_move rules f a b)
 in_pair P rules f a b g h =
     let last = if bytes_eq f (codes ":") then execute_move a b else None in
-    let third = if bytes_eq f (codes "atom_from") then spells b (spelling (most_spelled rules) a) else last in
-    let second = if bytes_eq f (codes ":=") then assigned a (evaluated b) else third in
+    let third = if bytes_eq f (codes "atom_from") then move_found (λ text. names text b) (spelling (most_spelled rules) a) else last in
+    let second = if bytes_eq f (codes ":=") then move_found (becomes a) (evaluated b) else third in
     if_moves (bytes_eq f (codes "=")) P (Some (unifies a b)) second (g, h)
-    (if_moves (bytes_eq f (codes ":=")) P (assigned a (evaluated b)) third (in_assigned P a (evaluated b) g)
-    (if_moves (bytes_eq f (codes "atom_from")) P (spells b (spelling (most_spelled rules) a)) last (in_spelled P b (spelling (most_spelled rules) a) h)
+    (if_moves (bytes_eq f (codes ":=")) P (move_found (becomes a) (evaluated b)) third (in_assigned P a (evaluated b) g)
+    (if_moves (bytes_eq f (codes "atom_from")) P (move_found (λ text. names text b) (spelling (most_spelled rules) a)) last (in_spelled P b (spelling (most_spelled rules) a) h)
     (if_moves (bytes_eq f (codes ":")) P (execute_move a b) None (in_execute P a b h) tt)))
 
 in_built_in : (P : ℕ → Type 0) (rules : Rules) (t : Term) → Holds P t → MayMove P (built_in_move rules t)
@@ -350,13 +351,13 @@ in_term P rules modules t clause (Some call) h c = in_called P modules call clau
 pub in_move : (P : ℕ → Type 0) (rules : Rules) (modules : List Module) (t : Term) (clause : ℕ) (m : Move) → Holds P t → term_move rules modules t clause (call_of t) ≡ Some m → InMove P m
 in_move P rules modules t clause m h e = subst (MayMove P) e (in_term P rules modules t clause (call_of t) h (in_call P t h))
 
-in_look : (P : ℕ → Type 0) (l : Look) → MayMove P (substitute_move l)
-in_look P right = tt
-in_look P (waits_on v) = tt
+in_look : (P : ℕ → Type 0) (l : Found ⊤) → MayMove P (substitute_move l)
+in_look P (found right) = tt
+in_look P (awaits v) = tt
 in_look P wrong = tt
 
 -- what a substitute does has no terms but the one that it waited for
-pub in_substitute : (P : ℕ → Type 0) (l : Look) (m : Move) → substitute_move l ≡ Some m → InMove P m
+pub in_substitute : (P : ℕ → Type 0) (l : Found ⊤) (m : Move) → substitute_move l ≡ Some m → InMove P m
 in_substitute P l m e = subst (MayMove P) e (in_look P l)
 
 -- ---- reports

@@ -9,7 +9,7 @@ use Rattle.kl1_model.specs.declared.message.Message.{Message}
 use Rattle.kl1_model.specs.declared.message.Message.TheVariants.{Stop, Start, Abort, Allow}
 use Rattle.kl1_model.specs.Term.{Term, variable, integer, atom, structure, none, more, occurs, replace, Replacement}
 use Rattle.kl1_model.specs.Meaning.{nil, cell}
-use Rattle.kl1_model.specs.Control.{message_term, Control, awaits_message, tells, tells_other, ends, breaks_off, control_of, control_by, Word, says, says_other, unsaid, word_of}
+use Rattle.kl1_model.specs.Control.{message_term, Control, awaits_message, tells, tells_other, ends, breaks_off, control_of, control_by, word_of}
 use Rattle.kl1_model.specs.State.{Task, monitor, reduces, substitutes, Goal, Origin, Shoen, State, is_monitor, shoen_at, replace_in_task, replace_in_goal, replace_in_origin, replace_in_shoen, replace_in_state, replace_all, change_shoen, is_living}
 use Rattle.kl1_model.specs.Tree.{path, is_on_path}
 use Rattle.kl1_model.specs.Report.{broken_at, reported_at, report_of, report, report_each, closed_at, close_of, close, exception, illegal_input, exhausted_report, stopped_report, resumed_report}
@@ -19,6 +19,7 @@ use Rattle.kl1_model.specs.laws.TreeLaws.{IsTree}
 use Rattle.kl1_model_laws.specs.ControlLaws.{messages_then}
 use Rattle.kl1_model_laws.proofs.Holds.{Holds, holds_replace, holds_weaker, EachReplaced}
 use Rattle.kl1_model_laws.proofs.Each.{all_map, all_weaker, all_fewer, found_shoen, Only, only}
+use Rattle.kl1_model.specs.Found.{Found, found, awaits, wrong}
 
 -- ---- what is said of a state
 
@@ -303,10 +304,10 @@ front_if : (b : Bool) (c : ℕ → ℕ) (last : ℕ) (x y : Control) → FrontFr
 front_if true c last x y p q = p
 front_if false c last x y p q = q
 
-front_by : (c : ℕ → ℕ) (last : ℕ) (m rest : Term) (w : Word) → IsFree c last m → IsFree c last rest → FrontFree c last (control_by m rest w)
-front_by c last m rest (says k) f g = g
-front_by c last m rest says_other f g = (f, g)
-front_by c last m rest (unsaid v) f g = tt
+front_by : (c : ℕ → ℕ) (last : ℕ) (m rest : Term) (w : Found Message) → IsFree c last m → IsFree c last rest → FrontFree c last (control_by m rest w)
+front_by c last m rest (found k) f g = g
+front_by c last m rest wrong f g = (f, g)
+front_by c last m rest (awaits v) f g = tt
 
 front_free : (c : ℕ → ℕ) (last : ℕ) (t : Term) → IsFree c last t → FrontFree c last (control_of t)
 front_free c last (variable v) f = tt

@@ -7,10 +7,11 @@ use Rattle.kl1_model.specs.Term.{Term, variable, integer, atom, structure, Terms
 use Rattle.kl1_model.specs.Meaning.{pair}
 use Rattle.kl1_model.specs.Print.{print}
 use Rattle.kl1_model.specs.Token.{tokens_of_text}
-use Rattle.kl1_model.specs.Arithmetic.{operated, comes_to, awaits, is_no_expression, evaluated}
+use Rattle.kl1_model.specs.Arithmetic.{operated, evaluated}
 use Rattle.kl1_model.specs.Guard.{test_of}
 use Rattle.kl1_model.specs.Module.{Module, Clause, Reading, good, bad, bare_tokens, term_of_tokens, read_module}
 use Rattle.kl1_model.specs.code.Outcome.{Outcome, agrees, clashes, waits, comparison, outcome_by, Verdict, accepts, rejects, suspends, named_verdict}
+use Rattle.kl1_model.specs.Found.{found, awaits, wrong}
 
 -- lines, each ended by a line feed
 abbrev pub lines : List (List ℕ) → List ℕ
@@ -113,29 +114,29 @@ pub record GuardRowsHold : Type 0 where
   -- nothing is divided by zero
   pub remainder_by_zero : operated Modulo (pos 1) (pos 0) ≡ ZeroDivisor
   -- the left operand is computed before the right one
-  pub left_fault_first : option_map evaluated (term_in (codes "(9223372036854775807 + 1) + (1 / 0)")) ≡ Some (comes_to Overflow)
+  pub left_fault_first : option_map evaluated (term_in (codes "(9223372036854775807 + 1) + (1 / 0)")) ≡ Some (found Overflow)
   -- and both before the operator itself
-  pub right_fault_before_its_own : option_map evaluated (term_in (codes "9223372036854775807 + (1 / 0)")) ≡ Some (comes_to ZeroDivisor)
+  pub right_fault_before_its_own : option_map evaluated (term_in (codes "9223372036854775807 + (1 / 0)")) ≡ Some (found ZeroDivisor)
   -- the first leaf that is no integer decides: one that is unbound
   pub first_leaf_waits : option_map evaluated (term_in (codes "(1 + X) * a")) ≡ Some (awaits 1)
   -- or one of a wrong type
-  pub first_leaf_is_wrong : option_map evaluated (term_in (codes "(1 + a) * X")) ≡ Some (is_no_expression)
+  pub first_leaf_is_wrong : option_map evaluated (term_in (codes "(1 + a) * X")) ≡ Some (wrong)
   -- a leaf of a wrong type goes before a fault of computing
-  pub scan_goes_before_computing : option_map evaluated (term_in (codes "(1 / 0) + a")) ≡ Some (is_no_expression)
+  pub scan_goes_before_computing : option_map evaluated (term_in (codes "(1 / 0) + a")) ≡ Some (wrong)
   -- an operator of one operand is of a wrong type
-  pub operators_have_two_operands : option_map evaluated (term_in (codes "'-'(1)")) ≡ Some (is_no_expression)
+  pub operators_have_two_operands : option_map evaluated (term_in (codes "'-'(1)")) ≡ Some (wrong)
   -- sums group to the left
-  pub sums_group_to_the_left : option_map evaluated (term_in (codes "1 - 2 - 3")) ≡ Some (comes_to (Value (negsuc 3)))
+  pub sums_group_to_the_left : option_map evaluated (term_in (codes "1 - 2 - 3")) ≡ Some (found (Value (negsuc 3)))
   -- products go before sums, and group to the left
-  pub products_go_before_sums : option_map evaluated (term_in (codes "2 + 9 / 2 * 3 mod 5")) ≡ Some (comes_to (Value (pos 4)))
+  pub products_go_before_sums : option_map evaluated (term_in (codes "2 + 9 / 2 * 3 mod 5")) ≡ Some (found (Value (pos 4)))
   -- parentheses group
-  pub parentheses_group : option_map evaluated (term_in (codes "1 - (2 - 3)")) ≡ Some (comes_to (Value (pos 2)))
+  pub parentheses_group : option_map evaluated (term_in (codes "1 - (2 - 3)")) ≡ Some (found (Value (pos 2)))
   -- a `-` before digits is a part of them where no operator may stand
-  pub minus_before_digits : option_map evaluated (term_in (codes "1 - -1")) ≡ Some (comes_to (Value (pos 2)))
+  pub minus_before_digits : option_map evaluated (term_in (codes "1 - -1")) ≡ Some (found (Value (pos 2)))
   -- and an operator where one may stand
-  pub minus_between_digits : option_map evaluated (term_in (codes "3 -1")) ≡ Some (comes_to (Value (pos 2)))
+  pub minus_between_digits : option_map evaluated (term_in (codes "3 -1")) ≡ Some (found (Value (pos 2)))
   -- `mod` is an operator where one may stand
-  pub mod_before_an_operand : option_map evaluated (term_in (codes "7 mod(4)")) ≡ Some (comes_to (Value (pos 3)))
+  pub mod_before_an_operand : option_map evaluated (term_in (codes "7 mod(4)")) ≡ Some (found (Value (pos 3)))
   -- `mod` is a name where no operator may stand
   pub mod_before_arguments : term_in (codes "mod(7,4)") ≡ Some (pair (codes "mod") (integer (pos 7)) (integer (pos 4)))
   -- and in quotes always
@@ -143,13 +144,13 @@ pub record GuardRowsHold : Type 0 where
   -- `mod` alone is an atom
   pub mod_alone : term_in (codes "mod") ≡ Some (atom (codes "mod"))
   -- an expression has at most 64 operators
-  pub expression_of_64_operators : evaluated (ones_to_the_left 64) ≡ comes_to (Value (pos 65))
+  pub expression_of_64_operators : evaluated (ones_to_the_left 64) ≡ found (Value (pos 65))
   -- and a 65th is of a wrong type
-  pub expression_of_65_operators : evaluated (ones_to_the_left 65) ≡ is_no_expression
+  pub expression_of_65_operators : evaluated (ones_to_the_left 65) ≡ wrong
   -- wherever they stand
-  pub expression_of_64_to_the_right : evaluated (ones_to_the_right 64) ≡ comes_to (Value (pos 65))
+  pub expression_of_64_to_the_right : evaluated (ones_to_the_right 64) ≡ found (Value (pos 65))
   -- wherever it stands
-  pub expression_of_65_to_the_right : evaluated (ones_to_the_right 65) ≡ is_no_expression
+  pub expression_of_65_to_the_right : evaluated (ones_to_the_right 65) ≡ wrong
   -- each side of a comparison has its own 64
   pub each_side_has_64_operators : comparison SameNumber (ones_to_the_left 64) (ones_to_the_right 64) ≡ agrees
   -- `true` holds
@@ -339,7 +340,7 @@ pub record GuardRowsHold : Type 0 where
   -- an unbound leaf below 64 operators is waited for
   pub unbound_below_64_operators : evaluated (ones_behind 64 (variable 1)) ≡ awaits 1
   -- below 65 the last operator is met first
-  pub unbound_below_65_operators : evaluated (ones_behind 65 (variable 1)) ≡ is_no_expression
+  pub unbound_below_65_operators : evaluated (ones_behind 65 (variable 1)) ≡ wrong
   -- before the 65th it is met first itself
   pub unbound_before_65_operators : evaluated (pair (codes "+") (variable 1) (ones_to_the_right 64)) ≡ awaits 1
   -- an unbound variable is the same as itself

@@ -8,12 +8,14 @@ use Rattle.kl1_stream.specs.declared.control.Word.{Word}
 use Rattle.kl1_stream.specs.declared.control.Word.TheVariants.{Says, SaysOther, Unsaid}
 use Rattle.kl1_stream.specs.declared.control.Control.{Control}
 use Rattle.kl1_stream.specs.declared.control.Control.TheVariants.{Awaits, Tells, TellsOther, Ends, BreaksOff}
+use Rattle.kl1_model.specs.Found.{Found, found, awaits, wrong}
+use Rattle.kl1_model.specs.declared.message.Message.{Message}
 
 -- what an element says, by the definitions
-abbrev pub word_as : Word → model.Word
-word_as (Says message) = model.says message
-word_as SaysOther = model.says_other
-word_as (Unsaid v) = model.unsaid v
+abbrev pub word_as : Word → Found Message
+word_as (Says message) = found message
+word_as SaysOther = wrong
+word_as (Unsaid v) = awaits v
 
 -- a variable for which an element waits is unbound
 abbrev pub WordIn : {N : Type 0} → Held N → Word → Type 0

@@ -1,6 +1,6 @@
 -- The first goal that can step, found one goal after another.
 use Rattle.std.proofs.Common.{◌≡◌, ℕ, ◌<◌, ◌≤◌, ◌==◌, nat_lt, ◌&&◌, ◌||◌, Bool, true, false, not, if◌then◌else◌, List, [], ◌∷◌, map, refl, sym, ap, ◌∙◌, arith, subst, ◌⊎◌, inl, inr}
-use Rattle.std.specs.Prelude.{Option, Some, None, option_map, option_and_then, is_some, filter, find}
+use Rattle.std.specs.Prelude.{Option, Some, None, option_map, option_and_then, is_some, filter, find, ⊤}
 use Rattle.std.specs.List.{list_any}
 use Rattle.std.proofs.lemmas.Bool.{cases_Bool, ltb-true, lt-ltb, eqb-true, eq-eqb, or_cases, and_parts, cases_lt, cases_eq, false≢true}
 use Rattle.kl1_model.specs.State as model
@@ -9,7 +9,7 @@ use Rattle.kl1_model.specs.Term.{Term}
 use Rattle.kl1_model.specs.Match.{call_of}
 use Rattle.kl1_model.specs.Control.{Control, awaits_message, tells, tells_other, ends, breaks_off, control_of}
 use Rattle.kl1_model.specs.Tree.{is_enabled, is_enabled_in}
-use Rattle.kl1_model.specs.Look.{Look, right, waits_on, wrong, goal_look}
+use Rattle.kl1_model.specs.Look.{goal_look}
 use Rattle.kl1_model.specs.Reduction.{Move, moves, substitute_move, term_move, read_action, monitor_action, task_action, action_of}
 use Rattle.kl1_model.specs.code.Waits.{move_by, look_clause}
 use Rattle.kl1_model.specs.Choice.{call_clauses, task_clauses, clause_for, can_step, quiet, goes_before, first_of_goals, Chosen, chosen, first}
@@ -29,6 +29,7 @@ use Rattle.kl1_codes_modules.specs.Shelves.{Program}
 use Rattle.kl1_user_effects.specs.Fitting.{Reading, Fits}
 use Rattle.kl1_user_effects.specs.Account.{Account, program_of, Means, meaning, aim_with, goal_with, task_with, shoen_with, state_of}
 use Rattle.kl1_user_effects.specs.Settled.{front_with, control_with, control_clause, monitor_clause, task_clause, IsSettled, AreSettled, IsEnabled, AreEnabled}
+use Rattle.kl1_model.specs.Found.{Found, found, awaits, wrong}
 
 -- ---- one goal before another
 
@@ -353,9 +354,9 @@ shoen_found t n [] = refl
 shoen_found t n (s ∷ ss) = found_first t n s ss (s.number == n) (shoen_found t n ss)
 
 -- what a substitute can do by its one clause is allowed unless it waits
-substitute_found : (u : Term) (l : Look) → find (λ c. is_some (if c == 0 then option_map (moves u) (substitute_move l) else None)) (0 ∷ []) ≡ look_clause l
-substitute_found u right = refl
-substitute_found u (waits_on v) = refl
+substitute_found : (u : Term) (l : Found ⊤) → find (λ c. is_some (if c == 0 then option_map (moves u) (substitute_move l) else None)) (0 ∷ []) ≡ look_clause l
+substitute_found u (found right) = refl
+substitute_found u (awaits v) = refl
 substitute_found u wrong = refl
 
 -- the clause by which a task could step is the first that is allowed

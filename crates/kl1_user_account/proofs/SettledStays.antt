@@ -5,7 +5,7 @@ use Rattle.std.proofs.lemmas.Bool.{ne_eqb}
 use Rattle.kl1_model.specs.Term.{Term, substituted, Replacement}
 use Rattle.kl1_model.specs.Control.{Control, awaits_message, tells, tells_other, ends, breaks_off, control_of}
 use Rattle.kl1_model.specs.code.Awaited.{awaited_by_control}
-use Rattle.kl1_model.specs.code.Waits.{LeavesEach, term_clause, awaited_by_term, awaited_by_look, awaited_by_substitute, look_clause, substitute_clause}
+use Rattle.kl1_model.specs.code.Waits.{LeavesEach, term_clause, awaited_by_term, awaited_by_substitute, look_clause, substitute_clause}
 use Rattle.kl1_model.specs.laws.WaitsLaws.{control_substituted}
 use Rattle.kl1_model.proofs.Substitutions.{values_of, replaced_is}
 use Rattle.kl1_model.proofs.LookStays.{substitutes_stay}
@@ -32,6 +32,7 @@ use Rattle.kl1_user_effects.specs.Account.{meaning, task_with, aim}
 use Rattle.kl1_user_effects.specs.Kept.{IsTaskIn, AreShoensIn}
 use Rattle.kl1_user_effects.specs.Settled.{control_at, front_with, control_with, control_clause, monitor_clause, awaited_by_monitor, task_clause, awaited_by_task, IsSettled}
 use Rattle.kl1_user_effects.proofs.Aims.{aim_later}
+use Rattle.kl1_model.specs.Found.{awaited_by_found}
 
 -- a number hangs on no variable of these
 abbrev pub HangsOnNone : List Hook → ℕ → List ℕ → Type 0
@@ -126,7 +127,7 @@ by_task f hooks old new program before after g (Substitutes x) e formed grown i 
     let t = term_of f old x in
     let is : term_of f new x ≡ substituted (values_of l.replacements) t = l.means x i ∙ replaced_is l.replacements t in
     let stays = substitutes_stay (values_of l.replacements) t (leaves_hung l.replacements hooks g.number (awaited_by_substitute t) hung (subst N (sym l.numbers) free)) in
-    (ap substitute_clause is ∙ ap look_clause stays, ap awaited_by_substitute is ∙ ap awaited_by_look stays)
+    (ap substitute_clause is ∙ ap look_clause stays, ap awaited_by_substitute is ∙ ap awaited_by_found stays)
 
 -- a goal that hangs on no variable that was bound is settled as it was, a monitor if its control stream is what it was
 pub stays_settled : (f : Reading) (hooks : List Hook) (old new : Held CellName) (program : Program) (before after : List (Shoen CellName)) (g : Goal CellName) → IsFormed old → Grown old new → IsTaskIn old g.task → AreShoensIn old before →

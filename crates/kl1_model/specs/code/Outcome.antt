@@ -10,9 +10,10 @@ use Rattle.kl1_model.specs.Term.{Term, variable, integer, atom, structure, Terms
 use Rattle.kl1_model.specs.Meaning.{highest_in}
 use Rattle.kl1_model.specs.Same.{Passive, same, differs, unknown, passive}
 use Rattle.kl1_model.specs.code.Awaited.{awaited}
-use Rattle.kl1_model.specs.Arithmetic.{Evaluated, comes_to, awaits, is_no_expression, evaluated}
+use Rattle.kl1_model.specs.Arithmetic.{evaluated}
 use Rattle.kl1_model.specs.Guard.{Test, holds, looks, is_same, is_other, compares, test_of, test_substituted, is_found, compared, Answer, yes, no, wait}
 use Rattle.kl1_model.specs.Module.{Clause}
+use Rattle.kl1_model.specs.Found.{Found, found, awaits, wrong}
 
 -- what comes of a part of a clause, be it a pattern, the places of a variable or a test: it agrees, it clashes, or it waits for
 -- variables
@@ -60,12 +61,12 @@ compared_numbers c (Value x) (Value y) = decided (compared c x y)
 compared_numbers c a b = clashes
 
 -- a comparison by its sides, the left one first: one that waits waits, and one that is no expression clashes
-abbrev pub compared_sides : Comparison → Evaluated → Evaluated → Outcome
+abbrev pub compared_sides : Comparison → Found Number → Found Number → Outcome
 compared_sides c (awaits v) b = waits (v ∷ [])
-compared_sides c is_no_expression b = clashes
-compared_sides c (comes_to x) (awaits v) = waits (v ∷ [])
-compared_sides c (comes_to x) is_no_expression = clashes
-compared_sides c (comes_to x) (comes_to y) = compared_numbers c x y
+compared_sides c wrong b = clashes
+compared_sides c (found x) (awaits v) = waits (v ∷ [])
+compared_sides c (found x) wrong = clashes
+compared_sides c (found x) (found y) = compared_numbers c x y
 
 -- a comparison of two terms; each side has its own 64 operators
 abbrev pub comparison : Comparison → Term → Term → Outcome

@@ -1,5 +1,5 @@
 -- What a goal waits for: the variables whose binding may change what it can do.
-use Rattle.std.specs.Prelude.{◌≡◌, ℕ, suc, ◌==◌, nat_le, if◌then◌else◌, List, [], ◌∷◌, ◌++◌, codes, bytes_eq, filter, find, Option, Some, None, is_some}
+use Rattle.std.specs.Prelude.{◌≡◌, ℕ, suc, ◌==◌, nat_le, if◌then◌else◌, List, [], ◌∷◌, ◌++◌, codes, bytes_eq, filter, find, Option, Some, None, is_some, ⊤}
 use Rattle.std.specs.List.{AllByRecursion}
 use Rattle.kl1_model.specs.Term.{Term, variable, atom, structure, Terms, none, more, Replacement}
 use Rattle.kl1_model.specs.Meaning.{highest_in}
@@ -7,13 +7,15 @@ use Rattle.kl1_model.specs.code.Awaited.{awaited}
 use Rattle.kl1_model.specs.Guard.{Test, holds, looks, is_same, is_other, compares, test_of, test_substituted, test_answer}
 use Rattle.kl1_model.specs.Module.{Clause, Module}
 use Rattle.kl1_model.specs.Match.{Answer, yes, no, wait, match_patterns, guard_term, places_of, verdict, Call, call_of, clauses_of}
-use Rattle.kl1_model.specs.Arithmetic.{Evaluated, comes_to, awaits, is_no_expression, evaluated}
+use Rattle.kl1_model.specs.Arithmetic.{evaluated}
 use Rattle.kl1_model.specs.Goal.{is_execute}
-use Rattle.kl1_model.specs.Look.{Spelling, spelled, awaits_code, misspelled, spelling, Look, right, waits_on, wrong, goal_look, ExecuteArguments, arguments_look}
+use Rattle.kl1_model.specs.Look.{spelling, goal_look, ExecuteArguments, arguments_look}
 use Rattle.kl1_model.specs.declared.rules.Rules.{Rules}
 use Rattle.kl1_model.specs.State.{most_spelled}
 use Rattle.kl1_model.specs.Reduction.{Move, execute_arguments, term_move}
 use Rattle.kl1_model.specs.Choice.{call_clauses}
+use Rattle.kl1_model.specs.Found.{Found, found, awaits, wrong, then_found, awaited_by_found}
+use Rattle.kl1_model.specs.declared.number.Number.{Number}
 
 -- what a term can do by the clause numbered `clause`
 abbrev pub move_by : Rules → List Module → Term → ℕ → Option Move
@@ -79,17 +81,9 @@ abbrev pub awaited_by_each : List Replacement → List ℕ
 awaited_by_each [] = []
 awaited_by_each (p ∷ ps) = awaited_by_one p ps ++ awaited_by_each ps
 
--- the variable that an expression waits for
-abbrev pub awaited_by_evaluated : Evaluated → List ℕ
-awaited_by_evaluated (comes_to n) = []
-awaited_by_evaluated (awaits v) = v ∷ []
-awaited_by_evaluated is_no_expression = []
-
 -- the variable that a comparison waits for, whose left side decides first
-abbrev pub awaited_by_sides : Evaluated → Evaluated → List ℕ
-awaited_by_sides (awaits v) b = v ∷ []
-awaited_by_sides is_no_expression b = []
-awaited_by_sides (comes_to n) b = awaited_by_evaluated b
+abbrev pub awaited_by_sides : Found Number → Found Number → List ℕ
+awaited_by_sides x y = awaited_by_found (then_found x (λ a. y))
 
 -- the variables that the answer of a test depends on
 abbrev pub awaited_in_test : Test → List ℕ
@@ -173,22 +167,10 @@ awaited_at_head (variable v) = v ∷ []
 awaited_at_head (structure f (more a (more b none))) = if bytes_eq f (codes ":") then awaited_in_call a b else []
 awaited_at_head t = []
 
--- the variable that a list of codes waits for
-abbrev pub awaited_by_spelling : Spelling → List ℕ
-awaited_by_spelling (spelled text) = []
-awaited_by_spelling (awaits_code v) = v ∷ []
-awaited_by_spelling misspelled = []
-
--- the variable that a look at arguments waits for
-abbrev pub awaited_by_look : Look → List ℕ
-awaited_by_look right = []
-awaited_by_look (waits_on v) = v ∷ []
-awaited_by_look wrong = []
-
 -- the variable that an order that may be there waits for
 abbrev pub awaited_by_order : Option ExecuteArguments → List ℕ
 awaited_by_order None = []
-awaited_by_order (Some o) = awaited_by_look (arguments_look o)
+awaited_by_order (Some o) = awaited_by_found (arguments_look o)
 
 -- the variable that a goal `a:b` waits for, if it is `shoen:execute` with six arguments
 abbrev pub awaited_by_execute : Term → Term → List ℕ
@@ -198,8 +180,8 @@ awaited_by_execute a b = []
 -- the variables that a built-in goal of two terms waits for
 abbrev pub awaited_by_pair : Rules → List ℕ → Term → Term → List ℕ
 awaited_by_pair rules f a b =
-    if bytes_eq f (codes ":=") then awaited_by_evaluated (evaluated b)
-    else if bytes_eq f (codes "atom_from") then awaited_by_spelling (spelling (most_spelled rules) a)
+    if bytes_eq f (codes ":=") then awaited_by_found (evaluated b)
+    else if bytes_eq f (codes "atom_from") then awaited_by_found (spelling (most_spelled rules) a)
     else if bytes_eq f (codes ":") then awaited_by_execute a b
     else []
 
@@ -210,12 +192,12 @@ awaited_by_built_in rules t = []
 
 -- the variable that a substitute waits for while its term is this
 abbrev pub awaited_by_substitute : Term → List ℕ
-awaited_by_substitute t = awaited_by_look (goal_look t)
+awaited_by_substitute t = awaited_by_found (goal_look t)
 
 -- the clause by which a substitute can step by what is found of its term: 0, unless it waits
-abbrev pub look_clause : Look → Option ℕ
-look_clause right = Some 0
-look_clause (waits_on v) = None
+abbrev pub look_clause : Found ⊤ → Option ℕ
+look_clause (found right) = Some 0
+look_clause (awaits v) = None
 look_clause wrong = Some 0
 
 -- the clause by which a substitute can step while its term is this
