@@ -1,13 +1,13 @@
 -- An account with its journal after an event.
-use Rattle.std.proofs.Common.{◌≡◌, ℕ, Bool, true, false, if◌then◌else◌, List, [], refl, sym, ap, ◌∙◌, subst}
+use Rattle.std.proofs.Common.{◌≡◌, ℕ, if◌then◌else◌, List, [], refl, sym, ap, ◌∙◌, subst}
 use Rattle.std.specs.Prelude.{Option, Some, None, is_some}
 use Rattle.kl1_model.specs.declared.rules.Rules.{Rules}
-use Rattle.kl1_model.specs.State.{State, fresh}
+use Rattle.kl1_model.specs.State.{State}
 use Rattle.kl1_model.specs.Event as model
 use Rattle.kl1_model.specs.Event.{Transition}
 use Rattle.kl1_model.specs.Step.{step}
 use Rattle.kl1_model.specs.laws.TreeLaws.{is_refused}
-use Rattle.kl1_model_history.specs.Journal.{Journal, steps, noted, Kept, Done, fresh_kept, kept_after, done}
+use Rattle.kl1_model_history.specs.Journal.{Journal, steps, noted, Done, fresh_kept, done}
 use Rattle.kl1_model_history.specs.laws.HistoryLaws.{IsReplay}
 use Rattle.kl1_model_history.specs.laws.TextLaws as texts
 use Rattle.kl1_model_history.proofs.Replays.{fresh_is_replay, replays_stay}

@@ -1,5 +1,5 @@
 -- An account with its journal, of which it is the replay.
-use Rattle.std.specs.Prelude.{◌≡◌, List, []}
+use Rattle.std.specs.Prelude.{[]}
 use Rattle.kl1_model.specs.declared.rules.Rules.TheVariants.{One}
 use Rattle.kl1_model_history.specs.Journal.{Journal, new_journal, Kept}
 use Rattle.kl1_model_history.specs.laws.HistoryLaws.{IsReplay}

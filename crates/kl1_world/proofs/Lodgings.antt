@@ -1,6 +1,6 @@
 -- Accounts in one table of names, when one of them changes.
-use Rattle.std.proofs.Common.{◌≡◌, ◌≢◌, ℕ, zero, suc, ◌<◌, ◌==◌, List, [], ◌∷◌, refl, sym, ap, ◌∙◌, subst, length, get_or, inl, inr, arith, map}
-use Rattle.std.specs.Prelude.{slice_get, slice_set, Some, None, ◌↔◌, ◌⊎◌}
+use Rattle.std.proofs.Common.{◌≡◌, ◌≢◌, ℕ, zero, suc, ◌<◌, List, [], ◌∷◌, refl, sym, ap, ◌∙◌, subst, length, get_or, inl, inr, arith, map}
+use Rattle.std.specs.Prelude.{slice_get, slice_set, Some, ◌↔◌}
 use Rattle.std.proofs.lemmas.List.{length-map, map-set}
 use Rattle.std.proofs.lemmas.Option.{slice_get_within, slice_get_read, same_Some, none-some}
 use Rattle.std.proofs.lemmas.Bool.{cases_eq}

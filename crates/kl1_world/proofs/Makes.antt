@@ -1,16 +1,16 @@
 -- Accounts made one after another, each with the next seat.
-use Rattle.std.proofs.Common.{◌≡◌, ℕ, zero, suc, ◌<◌, ◌≤◌, ◌+◌, List, [], ◌∷◌, ◌++◌, refl, sym, ap, ◌∙◌, subst, length, get_or, inl, inr, arith, map}
-use Rattle.std.specs.Prelude.{slice_get, Some, None}
+use Rattle.std.proofs.Common.{◌≡◌, ℕ, zero, suc, ◌<◌, ◌≤◌, ◌+◌, List, [], ◌∷◌, ◌++◌, refl, sym, ap, ◌∙◌, subst, length, get_or, inl, inr, arith}
+use Rattle.std.specs.Prelude.{slice_get, Some}
 use Rattle.std.proofs.lemmas.Option.{same_Some, none-some}
 use Rattle.std.proofs.lemmas.List.{length-append, length-map, map-append}
 use Rattle.std.proofs.lemmas.Bool.{cases_lt}
 use Rattle.kl1_model.specs.declared.rules.Rules.{Rules}
 use Rattle.kl1_atoms.specs.declared.known.Known.{Known}
-use Rattle.kl1_codes_modules.specs.Numbered.{Numbered, ArePlaced}
+use Rattle.kl1_codes_modules.specs.Numbered.{ArePlaced}
 use Rattle.kl1_model_history.specs.Journal.{fresh_kept}
-use Rattle.kl1_journal.specs.Keeping.{Reading, Held, nobody, kept_of}
+use Rattle.kl1_journal.specs.Keeping.{Reading, Held, kept_of}
 use Rattle.kl1_world.specs.Lodging.{AreLodged, AreNewSeats}
-use Rattle.kl1_world.specs.Worlds.{account_in, AreFresh}
+use Rattle.kl1_world.specs.Worlds.{account_in}
 use Rattle.kl1_world.proofs.Lodgings.{accounts_of}
 
 -- seats that are left, of which the first stands at this place

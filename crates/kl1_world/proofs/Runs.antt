@@ -1,6 +1,5 @@
 -- Runs of many accounts' events, one event more.
-use Rattle.std.proofs.Common.{◌≡◌, ◌≢◌, ℕ, suc, ◌<◌, ◌+◌, ◌==◌, Bool, true, false, if◌then◌else◌, List, [], ◌∷◌, ◌++◌, refl, sym, ap, ap₂, ◌∙◌, subst, length, get_or, inl, inr, arith, map, take}
-use Rattle.std.specs.Prelude.{slice_get, slice_set, Some, None}
+use Rattle.std.proofs.Common.{◌≡◌, ℕ, ◌<◌, ◌+◌, ◌==◌, Bool, true, false, if◌then◌else◌, List, [], ◌∷◌, ◌++◌, refl, sym, ap, ◌∙◌, subst, length, get_or, inl, inr, arith, map, take}
 use Rattle.std.proofs.lemmas.List.{length-map, map-append, length-append, length-set, get_or-set_other, take_more, length-take}
 use Rattle.std.proofs.lemmas.Bool.{cases_eq, eq-eqb, ne_eqb}
 use Rattle.kl1_model_history.specs.Journal.{Kept, Done, done}
@@ -8,7 +7,7 @@ use Rattle.kl1_model.specs.Event as model
 use Rattle.kl1_user_events.specs.declared.event.Event.{Event}
 use Rattle.kl1_user_events.specs.declared.reply.Reply.{Reply}
 use Rattle.kl1_user_events.specs.Views.{event_of, reply_of}
-use Rattle.kl1_journal.specs.Keeping.{Reading, Fits}
+use Rattle.kl1_journal.specs.Keeping.{Fits}
 use Rattle.kl1_model_history.specs.Alone.{Deed, Told, only, replies_at, with_reply, alone}
 use Rattle.kl1_journal.specs.Keeping.{Held, nobody, kept_of}
 use Rattle.kl1_world.specs.Worlds.{account_in, deed_of, deeds_of, IsRun, Answers}

@@ -4,7 +4,7 @@ use Rattle.std.specs.List.{AllByRecursion}
 use Rattle.kl1_model.specs.declared.rules.Rules.{Rules}
 use Rattle.kl1_model.specs.Event as model
 use Rattle.kl1_model_history.specs.Journal.{done, fresh_kept}
-use Rattle.kl1_model_history.specs.Alone.{Deed, Told, only, replies_at, alone}
+use Rattle.kl1_model_history.specs.Alone.{Deed, only, replies_at, alone}
 use Rattle.kl1_user_events.specs.declared.event.Event.{Event}
 use Rattle.kl1_user_events.specs.declared.reply.Reply.{Reply}
 use Rattle.kl1_user_events.specs.Views.{event_of, reply_of}

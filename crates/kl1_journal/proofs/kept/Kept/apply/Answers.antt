@@ -3,7 +3,7 @@ use Rattle.kl1_model.specs.laws.TreeLaws.{is_refused}
 use Rattle.kl1_model_history.specs.Journal.{Journal, done}
 use Rattle.kl1_atoms.specs.Names.{AreNames}
 use Rattle.kl1_user.specs.Accounts.{Reading, Fits}
-use Rattle.kl1_user.specs.Accounts.{Account, texts_of}
+use Rattle.kl1_user.specs.Accounts.{Account}
 use Rattle.kl1_user_events.specs.Views.{event_of, reply_of}
 use Rattle.kl1_journal.specs.Changes.{IsChange, SessionsFit, changed}
 use Rattle.kl1_journal.specs.Keeping.{kept_of}

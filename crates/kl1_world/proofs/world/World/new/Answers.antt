@@ -1,10 +1,8 @@
-use Rattle.std.proofs.Common.{◌≡◌, ℕ, ◌<◌, ◌+◌, List, [], ◌∷◌, ◌++◌, ap, sym, ◌∙◌, subst, length, get_or, arith}
-use Rattle.std.specs.Prelude.{slice_get, Some}
+use Rattle.std.proofs.Common.{◌≡◌, ◌<◌, ◌+◌, [], ◌∷◌, ap, sym, ◌∙◌, subst, length, get_or, arith}
+use Rattle.std.specs.Prelude.{slice_get}
 use Rattle.std.proofs.lemmas.List.{length-append, length-map}
 use Rattle.kl1_codes_modules.specs.Numbered.{ArePlaced}
-use Rattle.kl1_journal.specs.Keeping.{Held}
 use Rattle.kl1_world.specs.Lodging.{AreLodged}
-use Rattle.kl1_world.proofs.Lodgings.{accounts_of}
 use Rattle.kl1_world.proofs.Makes.{AreSeatsFrom, seats_left, seats_all, lodged_none, lodged_more, fresh_none, fresh_next, same_within}
 use Rattle.kl1_world.proofs.world.World.new.Goals as goal
 

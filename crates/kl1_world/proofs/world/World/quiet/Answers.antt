@@ -1,11 +1,9 @@
-use Rattle.std.proofs.Common.{◌≡◌, ℕ, List, ap, sym, ◌∙◌, subst, refl}
-use Rattle.std.specs.Prelude.{IfOk, OnErr, option_map, slice_set}
+use Rattle.std.proofs.Common.{◌≡◌, ap, sym, ◌∙◌, subst}
 use Rattle.kl1_model.specs.Choice.{quiet}
 use Rattle.kl1_journal.specs.Keeping.{Reading, Fits}
 use Rattle.kl1_journal.specs.Keeping.{Held, kept_of}
 use Rattle.kl1_world.specs.Worlds.{account_in}
-use Rattle.kl1_world.proofs.Lodgings.{accounts_of, as_many, stands, account_at, lodged_set, changed_at, changed_all, changed_none}
-use Rattle.kl1_world.proofs.Steps.{moved, on_err, still_within}
+use Rattle.kl1_world.proofs.Lodgings.{accounts_of, as_many, stands, account_at}
 use Rattle.kl1_world.proofs.world.World.quiet.Goals as goal
 
 pub returns : goal.returns

@@ -1,5 +1,5 @@
-use Rattle.std.proofs.Common.{◌≡◌, ℕ, List, ap, sym, ◌∙◌, subst, refl}
-use Rattle.std.specs.Prelude.{IfOk, OnErr, option_map, slice_set}
+use Rattle.std.proofs.Common.{◌≡◌, List, ap, sym, ◌∙◌, subst, refl}
+use Rattle.std.specs.Prelude.{IfOk, slice_set}
 use Rattle.kl1_model.specs.Event as model
 use Rattle.kl1_model_history.specs.Journal.{done}
 use Rattle.kl1_user_events.specs.Views.{reduced_or}

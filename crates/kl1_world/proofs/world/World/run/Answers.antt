@@ -1,4 +1,4 @@
-use Rattle.std.proofs.Common.{◌∙◌, ap, ◌+◌, length}
+use Rattle.std.proofs.Common.{◌∙◌, ap, ◌+◌}
 use Rattle.kl1_user_events.specs.Views.{event_of}
 use Rattle.kl1_world.proofs.Runs.{run_next, as_many_after, one_reply_more}
 use Rattle.kl1_world.proofs.world.World.run.Goals as goal

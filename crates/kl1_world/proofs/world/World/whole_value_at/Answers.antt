@@ -1,12 +1,11 @@
-use Rattle.std.proofs.Common.{◌≡◌, ℕ, List, ap, sym, ◌∙◌, subst, refl}
-use Rattle.std.specs.Prelude.{IfOk, OnErr, option_map, slice_set}
+use Rattle.std.proofs.Common.{◌≡◌, List, ap, sym, ◌∙◌, subst, refl}
+use Rattle.std.specs.Prelude.{IfOk, option_map}
 use Rattle.kl1_user_events.specs.Whole.{whole_value}
 use Rattle.kl1_codes_modules.specs.Numbered.{ArePlaced}
 use Rattle.kl1_journal.specs.Keeping.{Reading, Fits}
 use Rattle.kl1_journal.specs.Keeping.{Held, kept_of}
-use Rattle.kl1_world.specs.Worlds.{account_in}
-use Rattle.kl1_world.proofs.Lodgings.{accounts_of, as_many, stands, account_at, lodged_set, changed_at, changed_all, changed_none}
-use Rattle.kl1_world.proofs.Steps.{moved, on_err, still_within}
+use Rattle.kl1_world.proofs.Lodgings.{accounts_of, as_many, stands, lodged_set, changed_at, changed_none}
+use Rattle.kl1_world.proofs.Steps.{still_within}
 use Rattle.kl1_world.proofs.world.World.whole_value_at.Goals as goal
 
 pub invariant_of-self : goal.invariant_of-self
