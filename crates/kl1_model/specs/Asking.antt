@@ -1,7 +1,6 @@
 -- What is asked of an account, and the answers.
 use Rattle.std.specs.Prelude.{ℕ, ◌-◌, nat_le, ◌&&◌, if◌then◌else◌, List, [], ◌∷◌, ◌++◌, length, map, take, drop, codes, bytes_eq, decimal, Option, Some, None, option_and_then}
 use Rattle.kl1_model.specs.declared.limits.TheConstants.{MOST_LISTED}
-use Rattle.kl1_model.specs.declared.life.Life.{Life}
 use Rattle.kl1_model.specs.declared.life.Life.TheVariants.{Living, Terminated, Aborted}
 use Rattle.kl1_model.specs.declared.condition.Condition.{Condition}
 use Rattle.kl1_model.specs.declared.condition.Condition.TheVariants.{Terminated as HasTerminated, Aborted as IsAborted, Stopped, Exhausted, Running}
@@ -11,32 +10,21 @@ use Rattle.kl1_model.specs.Print.{cut_print}
 use Rattle.kl1_model.specs.Module.{Module}
 use Rattle.kl1_model.specs.State.{Origin, Shoen, State, shoen_at}
 use Rattle.kl1_model.specs.Tree.{charged_of, is_exhausted, goals_below}
-use Rattle.kl1_model.specs.Event.{syntax, no_shoen, Query, value, status, reports, modules, is_quiet, shown, status_is, listed, quiet_is, Transition, refuse, is_number}
+use Rattle.kl1_model.specs.Event.{syntax, no_shoen, Query, value, status, reports, modules, is_quiet, shown, status_is, listed, quiet_is, Reply, Transition, refuse, is_number}
 use Rattle.kl1_model.specs.Choice.{quiet}
-
--- the goal that the console started, printed and cut
-abbrev pub value_of : State → Option Origin → Transition
-value_of s None = refuse s no_shoen
-value_of s (Some o) = record { state = s; reply = shown (cut_print o.goal) }
 
 -- what the console keeps of shoen `n`, if it started that shoen
 abbrev pub origin_at : ℕ → List Shoen → Option Origin
 origin_at n shoens = option_and_then (λ h. h.origin) (shoen_at n shoens)
 
--- the state of a shoen as it is shown, by whether it lives
-abbrev pub condition_by : State → Shoen → Life → Condition
-condition_by s h Terminated = HasTerminated
-condition_by s h Aborted = IsAborted
-condition_by s h Living = if h.is_stopped then Stopped else if is_exhausted s h then Exhausted else Running
-
 -- the state of a shoen as it is shown
 abbrev pub condition_of : State → Shoen → Condition
-condition_of s h = condition_by s h h.life
-
--- the state of a shoen that may be there, with what it was charged, its allowance, and how many goals there are in it and below it
-abbrev pub status_of : State → Option Shoen → Transition
-status_of s None = refuse s no_shoen
-status_of s (Some h) = record { state = s; reply = status_is (condition_of s h) (charged_of s h.number) h.allowance (goals_below s h.number) }
+condition_of s h =
+    elim h.life [
+      | Terminated ↦ HasTerminated
+      | Aborted ↦ IsAborted
+      | Living ↦ if h.is_stopped then Stopped else if is_exhausted s h then Exhausted else Running
+    ]
 
 -- the elements of a list, as far as there are cells
 abbrev mutual
@@ -48,19 +36,25 @@ abbrev mutual
   elements_in f (more h (more t none)) = if bytes_eq f (codes ".") then h ∷ elements_of t else []
   elements_in f _ = []
 
--- for a shoen that the console started: its reports from number `from` on, counted from 1, each printed and cut; at most 64
-abbrev pub reports_of : State → ℕ → Option Origin → Transition
-reports_of s from None = refuse s no_shoen
-reports_of s from (Some o) = record { state = s; reply = listed (map cut_print (take MOST_LISTED (drop (from - 1) (elements_of o.reports)))) }
+-- the reply about what is there of a shoen, or the refusal of a shoen that isn't there
+abbrev pub reply_about : {A : Type 0} → State → (A → Reply) → Option A → Transition
+reply_about s about None = refuse s no_shoen
+reply_about s about (Some a) = record { state = s; reply = about a }
 
 -- a module with how many bytes its source has, and how many clauses
 abbrev pub module_line : Module → List ℕ
 module_line m = atom_text m.name ++ codes " " ++ decimal (length m.source) ++ codes " " ++ decimal (length m.clauses)
 
--- the reply to a query, which changes nothing
+-- the reply to a query, which changes nothing; goals and reports are printed and cut, and reports counted from 1, at most 64
 abbrev pub reply_to : State → Query → Transition
-reply_to s (value n) = if is_number n then value_of s (origin_at n s.shoens) else refuse s syntax
-reply_to s (status n) = if is_number n then status_of s (shoen_at n s.shoens) else refuse s syntax
-reply_to s (reports n from) = if is_number n && is_number from && nat_le 1 from then reports_of s from (origin_at n s.shoens) else refuse s syntax
+reply_to s (value n) = if is_number n then reply_about s (λ o. shown (cut_print o.goal)) (origin_at n s.shoens) else refuse s syntax
+reply_to s (status n) =
+    if is_number n
+    then reply_about s (λ h. status_is (condition_of s h) (charged_of s h.number) h.allowance (goals_below s h.number)) (shoen_at n s.shoens)
+    else refuse s syntax
+reply_to s (reports n from) =
+    if is_number n && is_number from && nat_le 1 from
+    then reply_about s (λ o. listed (map cut_print (take MOST_LISTED (drop (from - 1) (elements_of o.reports))))) (origin_at n s.shoens)
+    else refuse s syntax
 reply_to s modules = record { state = s; reply = listed (map module_line s.modules) }
 reply_to s is_quiet = record { state = s; reply = quiet_is (quiet s) }

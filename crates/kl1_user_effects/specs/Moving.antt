@@ -1,7 +1,7 @@
 -- What the move of a goal makes of a draft.
 use Rattle.std.specs.Prelude.{◌≡◌, ℕ, List, map, Option, Some, None, option_map, unwrap_or}
 use Rattle.kl1_model.specs.Match.{Candidate}
-use Rattle.kl1_model.specs.Opening.{clipped}
+use Rattle.kl1_model.specs.code.Steps.{clipped}
 use Rattle.kl1_model.specs.Reduction as model
 use Rattle.kl1_model.specs.Reduction.{commits, opens, moved, priority_of}
 use Rattle.kl1_text.specs.declared.cell_name.CellName.{CellName}
