@@ -4,7 +4,7 @@ use Rattle.kl1_model.specs.declared.limits.TheConstants.{MOST_LISTED}
 use Rattle.kl1_model.specs.declared.life.Life.TheVariants.{Living, Terminated, Aborted}
 use Rattle.kl1_model.specs.declared.condition.Condition.{Condition}
 use Rattle.kl1_model.specs.declared.condition.Condition.TheVariants.{Terminated as HasTerminated, Aborted as IsAborted, Stopped, Exhausted, Running}
-use Rattle.kl1_model.specs.Term.{Term, structure, Terms, none, more}
+use Rattle.kl1_model.specs.Term.{Term, structure, none, more}
 use Rattle.kl1_model.specs.Name.{atom_text}
 use Rattle.kl1_model.specs.Print.{cut_print}
 use Rattle.kl1_model.specs.Module.{Module}
@@ -27,14 +27,9 @@ condition_of s h =
     ]
 
 -- the elements of a list, as far as there are cells
-abbrev mutual
-  pub elements_of : Term → List Term
-  elements_of (structure f ts) = elements_in f ts
-  elements_of _ = []
-
-  pub elements_in : List ℕ → Terms → List Term
-  elements_in f (more h (more t none)) = if bytes_eq f (codes ".") then h ∷ elements_of t else []
-  elements_in f _ = []
+abbrev pub elements_of : Term → List Term
+elements_of (structure f (more h (more t none))) = if bytes_eq f (codes ".") then h ∷ elements_of t else []
+elements_of _ = []
 
 -- the reply about what is there of a shoen, or the refusal of a shoen that isn't there
 abbrev pub reply_about : {A : Type 0} → State → (A → Reply) → Option A → Transition

@@ -57,7 +57,7 @@ has_reached s n = unwrap_or (option_map (λ h. h.allowance == charged_of s n) (s
 abbrev pub newly_exhausted : State → List ℕ → List ℕ → List ℕ
 newly_exhausted s ending ns = filter (λ n. has_reached s n && not (is_among n ending)) ns
 
--- after a reduction in shoen `n`, innermost first: reports that allowances are reached, but by none that ends now; and then terminations
+-- after a reduction in shoen `n`: those of its path that are newly exhausted report that, and then come terminations, innermost first
 abbrev pub after_reduction : ℕ → State → State
 after_reduction n s =
     let ns = path s.shoens n in

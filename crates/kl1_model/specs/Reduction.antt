@@ -1,5 +1,5 @@
 -- Reductions: what a goal can do, and what comes of it.
-use Rattle.std.specs.Prelude.{ℕ, suc, ◌+◌, ◌==◌, nat_le, min, ◌&&◌, Bool, true, false, if◌then◌else◌, List, [], ◌∷◌, ◌++◌, length, map, find, codes, bytes_eq, Option, Some, None, option_map, option_and_then}
+use Rattle.std.specs.Prelude.{ℕ, suc, ◌+◌, ◌==◌, nat_le, min, ◌&&◌, Bool, true, false, if◌then◌else◌, List, [], ◌∷◌, ◌++◌, length, map, find, codes, bytes_eq, Option, Some, None, option_map, option_and_then, unwrap_or}
 use Rattle.kl1_model.specs.declared.limits.TheConstants.{MOST_GOALS, MOST_VARIABLES, MOST_NODES, MOST_NAMES, MOST_ALLOWANCE}
 use Rattle.kl1_model.specs.Term.{Term, variable, integer, atom, structure, none, more, Replacement}
 use Rattle.kl1_model.specs.declared.rules.Rules.{Rules}
@@ -16,7 +16,7 @@ use Rattle.kl1_model.specs.Match.{Call, call_of, Candidate, candidates_of, fails
 use Rattle.kl1_model.specs.Instance.{body_instance, body_priorities, fresh_variables}
 use Rattle.kl1_model.specs.Look.{spelling, goal_look, ExecuteArguments, arguments_look}
 use Rattle.kl1_model.specs.Control.{Control, awaits_message, tells, tells_other, ends, breaks_off, control_of}
-use Rattle.kl1_model.specs.State.{Task, monitor, reduces, substitutes, Goal, Shoen, State, has_substitutes, most_spelled, shoen_at, replace_all, change_shoen, without_goal, with_name}
+use Rattle.kl1_model.specs.State.{Task, monitor, reduces, substitutes, Goal, State, has_substitutes, most_spelled, shoen_at, replace_all, change_shoen, without_goal, with_name}
 use Rattle.kl1_model.specs.Tree.{goals_alive, charge, is_enabled}
 use Rattle.kl1_model.specs.Event.{step_refused, reduced, Transition, refuse, with_entry, recorded}
 pub use Rattle.kl1_model.specs.Report.{failure, overflow, illegal_input, exhaustion}
@@ -27,7 +27,7 @@ use Rattle.kl1_model.specs.Found.{Found, found, awaits, wrong}
 
 -- ---- what goals can do
 
--- what a term can do as a goal; `names` unifies a term with a text that it uses as a name, `goes` is for `true`, `gives_way` for a substitute
+-- what a term can do as a goal; `names` unifies a term with a text that it uses as a name, `goes` is of `true`, `gives_way` of a substitute
 pub data Move : Type 0 where
   commits : Candidate → Move
   raises : List ℕ → Move
@@ -111,11 +111,6 @@ action_of s g clause = if is_enabled s g then task_action s g.shoen g.task claus
 
 -- ---- what comes of a commit
 
--- the priority of a body's goal: that of the goal that commits, or the one that is named, clipped to the range of the shoen
-abbrev pub priority_of : Option Shoen → ℕ → Option ℕ → ℕ
-priority_of h own None = own
-priority_of h own (Some n) = clipped_to h n
-
 -- goals with the next numbers, in a shoen, each with its priority
 abbrev pub goals_from : ℕ → ℕ → List ℕ → List Term → List Goal
 goals_from last shoen priorities [] = []
@@ -128,12 +123,13 @@ has_room_for s c =
     nat_le (goals_alive s + length c.body) MOST_GOALS && nat_le (s.variables + fresh_variables c) MOST_VARIABLES
     && nat_le (s.nodes + goals_nodes (goals_of c.body)) MOST_NODES
 
--- a goal's place taken by the body of a clause
+-- a goal's place taken by the body of a clause, whose goals have its priority, or the one that is named, clipped to the range of the shoen
 abbrev pub committed : Goal → Candidate → State → State
 committed g k s =
     let body = body_instance k.clause k.places s.last_variable in
+    let priorities = map (λ p. unwrap_or (option_map (clipped_to (shoen_at g.shoen s.shoens)) p) g.priority) (body_priorities k.clause) in
     record s {
-      goals = s.goals ++ goals_from s.last_goal g.shoen (map (priority_of (shoen_at g.shoen s.shoens) g.priority) (body_priorities k.clause)) body;
+      goals = s.goals ++ goals_from s.last_goal g.shoen priorities body;
       last_variable = s.last_variable + fresh_variables k.clause;
       last_goal = s.last_goal + length body;
       variables = s.variables + fresh_variables k.clause;
@@ -174,16 +170,14 @@ abbrev pub or_exhaustion : Bool → Goal → Term → State → State → State
 or_exhaustion true g t after s = after
 or_exhaustion false g t after s = raised g exhaustion t s
 
--- a text used as a name, which stays used even if the unification with a term fails
-abbrev pub named_by : Goal → Term → List ℕ → Term → State → State
-named_by g t text a s = unified g t (mgu (equation a (atom text))) (record s { names = with_name s.names text })
-
--- the effect of a move of a goal that has been removed
+-- the effect of a move of a goal that has been removed; a text that it uses as a name stays used even if the unification fails
 abbrev pub moved : Goal → Term → Move → State → State
 moved g t (commits k) s = or_exhaustion (has_room_for s k.clause) g t (committed g k s) s
 moved g t (raises kind) s = raised g kind t s
 moved g t (unifies a b) s = unified g t (mgu (equation a b)) s
-moved g t (names text a) s = or_exhaustion (nat_le (length (with_name s.names text)) MOST_NAMES) g t (named_by g t text a s) s
+moved g t (names text a) s =
+    let used = with_name s.names text in
+    or_exhaustion (nat_le (length used) MOST_NAMES) g t (unified g t (mgu (equation a (atom text))) (record s { names = used })) s
 moved g t (opens o) s = or_exhaustion (has_room_for_child s g.shoen) g t (open_child s g.shoen o) s
 moved g t goes s = s
 moved g t gives_way s = replaced_by g (reduces t) s

@@ -1,22 +1,24 @@
 -- Parts of steps under names of their own: what contracts and proofs of code speak of.
-use Rattle.std.specs.Prelude.{ℕ, suc, ◌+◌, ◌-◌, ◌==◌, nat_lt, min, max, not, ◌&&◌, Bool, true, false, if◌then◌else◌, List, [], ◌∷◌, ◌++◌, map, take, drop, Option, Some, None, option_map, option_and_then, ⊤}
+use Rattle.std.specs.Prelude.{ℕ, suc, ◌+◌, ◌-◌, ◌==◌, nat_lt, min, max, not, ◌&&◌, Bool, true, false, if◌then◌else◌, List, [], ◌∷◌, ◌++◌, map, take, drop, Option, Some, None, option_map, option_and_then, unwrap_or, ⊤}
 use Rattle.kl1_model.specs.declared.limits.TheConstants.{MONITOR_PRIORITY, MOST_ALLOWANCE, MOST_LISTED, MOST_SESSIONS}
 use Rattle.kl1_model.specs.declared.life.Life.{Life}
 use Rattle.kl1_model.specs.declared.life.Life.TheVariants.{Living, Terminated, Aborted}
 use Rattle.kl1_model.specs.declared.condition.Condition.{Condition}
 use Rattle.kl1_model.specs.declared.condition.Condition.TheVariants.{Terminated as HasTerminated, Aborted as IsAborted, Stopped, Exhausted, Running}
 use Rattle.kl1_model.specs.declared.message.Message.{Message}
-use Rattle.kl1_model.specs.Term.{Term}
+use Rattle.kl1_model.specs.Term.{Term, atom, structure, Terms}
 use Rattle.kl1_model.specs.Found.{Found}
+use Rattle.kl1_model.specs.Unify.{mgu}
 use Rattle.kl1_model.specs.Print.{cut_print}
 use Rattle.kl1_model.specs.Module.{Module}
-use Rattle.kl1_model.specs.State.{monitor, reduces, Goal, Origin, Shoen, State, is_living, names_of, names_of_module, with_names}
+use Rattle.kl1_model.specs.State.{monitor, reduces, Goal, Origin, Shoen, State, is_living, names_of, names_of_module, with_name, with_names}
 use Rattle.kl1_model.specs.Tree.{is_on_path, charged_of, is_exhausted, goals_below}
 use Rattle.kl1_model.specs.Look.{ExecuteArguments, arguments_look}
 use Rattle.kl1_model.specs.Control.{control_of}
 use Rattle.kl1_model.specs.Event.{step_refused, no_shoen, shoen_ended, sessions_refused, reduced, sent, shown, status_is, listed, welcome, bye, Transition, refuse, with_entry, recorded, named, limited}
 use Rattle.kl1_model.specs.Report.{reported_at, report, is_reported_at, closed_at, stopped_report, resumed_report}
-use Rattle.kl1_model.specs.Reduction.{Move, opens, gives_way, move_found, Action, read_action, with_stopped, acted}
+use Rattle.kl1_model.specs.Opening.{clipped_to}
+use Rattle.kl1_model.specs.Reduction.{Move, opens, gives_way, move_found, Action, read_action, unified, equation, with_stopped, acted}
 use Rattle.kl1_model.specs.Choice.{Chosen, clause_for}
 use Rattle.kl1_model.specs.Sending.{has_room_to_send, sent_on}
 use Rattle.kl1_model.specs.Asking.{condition_of, elements_of, reply_about}
@@ -60,6 +62,14 @@ substitute_move x = move_found (λ right. gives_way) x
 abbrev pub monitor_action : Option Shoen → ℕ → Option Action
 monitor_action h clause = option_and_then (λ h. if clause == 0 then read_action (control_of h.control) else None) h
 
+-- the priority of a body's goal: that of the goal that commits, or the one that is named, clipped to the range of the shoen
+abbrev pub priority_of : Option Shoen → ℕ → Option ℕ → ℕ
+priority_of h own p = unwrap_or (option_map (clipped_to h) p) own
+
+-- a text used as a name, which stays used even if the unification with a term fails
+abbrev pub named_by : Goal → Term → List ℕ → Term → State → State
+named_by g t text a s = unified g t (mgu (equation a (atom text))) (record s { names = with_name s.names text })
+
 -- a shoen stopped, and a report of it if it wasn't
 abbrev pub stopped_of : Option Shoen → ℕ → State → State
 stopped_of h n s = elim h [ None ↦ s | Some h ↦ if h.is_stopped then s else report n stopped_report (with_stopped n true s) ]
@@ -94,6 +104,10 @@ send_by s n m h origin =
         then limited s (has_room_to_send s m) (recorded s (record { state = with_entry (sent_on n m o.control s); reply = sent }))
         else refuse s shoen_ended
     ]
+
+-- the elements of a list whose first cell has this name and these arguments
+abbrev pub elements_in : List ℕ → Terms → List Term
+elements_in f ts = elements_of (structure f ts)
 
 -- the goal that the console started, printed and cut
 abbrev pub value_of : State → Option Origin → Transition
