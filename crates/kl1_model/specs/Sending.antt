@@ -37,14 +37,12 @@ sent_on n m (variable v) s =
     })
 sent_on n m t s = s
 
--- a message to a shoen that may be there, if the console started it
+-- what is done to a living shoen by what the console keeps of it, or a refusal if the console started no such shoen, or it has ended
+abbrev pub if_living : State → (Origin → Transition) → Option Shoen → Transition
+if_living s act None = refuse s no_shoen
+if_living s act (Some h) = elim h.origin [ None ↦ refuse s no_shoen | Some o ↦ if is_living h.life then act o else refuse s shoen_ended ]
+
+-- a message to a shoen that may be there
 abbrev pub send_to : State → ℕ → Message → Option Shoen → Transition
-send_to s n m None = refuse s no_shoen
-send_to s n m (Some h) =
-    elim h.origin [
-      | None ↦ refuse s no_shoen
-      | Some o ↦
-        if is_living h.life
-        then limited s (has_room_to_send s m) (recorded s (record { state = with_entry (sent_on n m o.control s); reply = sent }))
-        else refuse s shoen_ended
-    ]
+send_to s n m h =
+    if_living s (λ o. limited s (has_room_to_send s m) (recorded s (record { state = with_entry (sent_on n m o.control s); reply = sent }))) h
