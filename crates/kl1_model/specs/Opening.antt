@@ -27,8 +27,8 @@ may_start allowance low high t =
 abbrev pub with_shoen : Shoen → Term → State → State
 with_shoen h goal s = record s {
   goals =
-    s.goals ++ record { number = suc s.last_goal; task = monitor; shoen = h.number; priority = MONITOR_PRIORITY }
-    ∷ record { number = suc (suc s.last_goal); task = reduces goal; shoen = h.number; priority = h.high } ∷ [];
+      s.goals ++ record { number = suc s.last_goal; task = monitor; shoen = h.number; priority = MONITOR_PRIORITY }
+      ∷ record { number = suc (suc s.last_goal); task = reduces goal; shoen = h.number; priority = h.high } ∷ [];
   shoens = s.shoens ++ h ∷ [];
   last_goal = suc (suc s.last_goal);
   last_shoen = h.number;

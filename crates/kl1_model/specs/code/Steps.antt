@@ -100,9 +100,9 @@ send_by s n m h origin =
     elim origin [
       | None ↦ refuse s no_shoen
       | Some o ↦
-        if is_living h.life
-        then limited s (has_room_to_send s m) (recorded s (record { state = with_entry (sent_on n m o.control s); reply = sent }))
-        else refuse s shoen_ended
+          if is_living h.life
+          then limited s (has_room_to_send s m) (recorded s (record { state = with_entry (sent_on n m o.control s); reply = sent }))
+          else refuse s shoen_ended
     ]
 
 -- the elements of a list whose first cell has this name and these arguments
@@ -136,9 +136,9 @@ answer_in s report t h origin =
     elim origin [
       | None ↦ refuse s no_shoen
       | Some o ↦
-        if is_living h.life
-        then named s (with_names s.names (names_of t)) (limited s (has_room_to_answer s t) (recorded s (answer_by s t (unanswered_at o.reports report))))
-        else refuse s shoen_ended
+          if is_living h.life
+          then named s (with_names s.names (names_of t)) (limited s (has_room_to_answer s t) (recorded s (answer_by s t (unanswered_at o.reports report))))
+          else refuse s shoen_ended
     ]
 
 -- an account with one more module, whose names are used
