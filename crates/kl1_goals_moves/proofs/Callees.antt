@@ -12,7 +12,8 @@ use Rattle.kl1_model.specs.Look as model_look
 use Rattle.kl1_model.specs.Look.{spelling, arguments_look}
 use Rattle.kl1_model.specs.declared.rules.Rules.{Rules}
 use Rattle.kl1_model.specs.State.{most_spelled}
-use Rattle.kl1_model.specs.Reduction.{Move, unifies, goes, execute_arguments, order_move, execute_move, built_in_move, becomes, move_found, names, opens}
+use Rattle.kl1_model.specs.Reduction.{Move, unifies, goes, execute_arguments, execute_move, built_in_move, becomes, move_found, names, opens}
+use Rattle.kl1_model.specs.code.Steps.{order_move}
 use Rattle.kl1_model.specs.code.Waits.{awaited_in_call, awaited_at_head, awaited_by_order, awaited_by_execute, awaited_by_built_in}
 use Rattle.kl1_store.specs.declared.cell.Cell.{Cell}
 use Rattle.kl1_store.specs.declared.qualified.Qualified.{Qualified}

@@ -3,7 +3,7 @@ use Rattle.std.proofs.Common.{◌≡◌, ℕ, List, sym, ap, ◌∙◌, subst}
 use Rattle.std.specs.Prelude.{Option}
 use Rattle.kl1_model.specs.Term.{Term}
 use Rattle.kl1_model.specs.Look.{goal_look}
-use Rattle.kl1_model.specs.Reduction as model
+use Rattle.kl1_model.specs.code.Steps as model
 use Rattle.kl1_model.specs.code.Waits.{look_clause, awaited_by_substitute}
 use Rattle.kl1_match.specs.Waiting.{AreSame}
 use Rattle.kl1_match.proofs.Naming.{same_as_itself}

@@ -5,7 +5,8 @@ use Rattle.kl1_model.specs.Text.{text_of}
 use Rattle.kl1_model.specs.Term.{Term}
 use Rattle.kl1_model.specs.Look.{goal_look}
 use Rattle.kl1_model.specs.Reduction as model
-use Rattle.kl1_model.specs.Reduction.{raises, gives_way, substitute_move}
+use Rattle.kl1_model.specs.Reduction.{raises, gives_way}
+use Rattle.kl1_model.specs.code.Steps.{substitute_move}
 use Rattle.kl1_model.specs.code.Waits.{awaited_by_substitute, substitute_clause}
 use Rattle.kl1_match.specs.Waiting.{AreSame}
 use Rattle.kl1_goals_moves.specs.declared.look.Look.{Look}

@@ -7,6 +7,7 @@ use Rattle.kl1_model.specs.State.{State}
 use Rattle.kl1_model.specs.Event as model
 use Rattle.kl1_model.specs.Event.{Transition, refuse, sessions_refused}
 use Rattle.kl1_model.specs.Step.{step}
+use Rattle.kl1_model.specs.code.Steps.{log_in, log_out}
 use Rattle.kl1_model.specs.laws.TreeLaws.{is_refused}
 use Rattle.kl1_model_history.specs.Journal.{Journal, new_journal, with_event, noted}
 use Rattle.kl1_journal_entries.specs.Lined.{entry_of, with_prepared}

@@ -8,8 +8,7 @@ use Rattle.kl1_model.specs.Term.{Term, Terms, Replacement}
 use Rattle.kl1_model.specs.Module.{Clause, Module}
 use Rattle.kl1_model.specs.Match.{Answer, yes, no, wait, Call, call_of, clauses_of, Candidate, candidate_by, candidates_within, candidates_from, candidates_of, fails, is_no, places_of, verdict}
 use Rattle.kl1_model.specs.Reduction.{Move, commits, raises, failure, term_move, built_in_move}
-use Rattle.kl1_model.specs.Choice.{call_clauses}
-use Rattle.kl1_model.specs.code.Waits.{term_clause, least_by, least_within, least_from, least_clause}
+use Rattle.kl1_model.specs.code.Waits.{term_clause, least_by, least_within, least_from, least_clause, call_clauses}
 
 -- the number of the first candidate
 abbrev pub first_number : List Candidate → Option ℕ

@@ -10,9 +10,9 @@ use Rattle.kl1_model.specs.Term.{Term, variable, integer, atom, structure, Terms
 use Rattle.kl1_model.specs.Module.{Module, is_of}
 use Rattle.kl1_model.specs.Match.{Call, call_of, module_of, clauses_in, clauses_of}
 use Rattle.kl1_model.specs.Arithmetic.{evaluated}
-use Rattle.kl1_model.specs.Reduction.{Move, unifies, names, opens, move_found, becomes, order_move, execute_move, built_in_move, term_move}
-use Rattle.kl1_model.specs.Choice.{call_clauses}
-use Rattle.kl1_model.specs.code.Waits.{LeavesEach, least_clause, term_clause, awaited_by_clauses, awaited_by_order, awaited_by_execute, awaited_by_built_in, awaited_by_call, awaited_in_call, awaited_at_head}
+use Rattle.kl1_model.specs.Reduction.{Move, unifies, names, opens, move_found, becomes, execute_move, built_in_move, term_move}
+use Rattle.kl1_model.specs.code.Steps.{order_move}
+use Rattle.kl1_model.specs.code.Waits.{LeavesEach, least_clause, term_clause, awaited_by_clauses, awaited_by_order, awaited_by_execute, awaited_by_built_in, awaited_by_call, awaited_in_call, awaited_at_head, call_clauses}
 use Rattle.kl1_model.specs.laws.WaitsLaws.{call_substituted, HeadStays, TermStays}
 use Rattle.kl1_model.proofs.Substitutions.{count-each_substituted}
 use Rattle.kl1_model.proofs.LeastClause.{term_clause-call}

@@ -11,8 +11,9 @@ use Rattle.kl1_model.specs.Meaning.{nil, cell}
 use Rattle.kl1_model.specs.Module.{is_among}
 use Rattle.kl1_model.specs.State.{Task, monitor, reduces, substitutes, Goal, Shoen, State, shoen_at, replace_in_task, replace_in_goal, replace_in_shoen, replace_in_state, change_shoen, is_monitor, is_living}
 use Rattle.kl1_model.specs.Tree.{path, is_on_path}
-use Rattle.kl1_model.specs.Report.{broken_at, reported_at, report_of, report, report_each, closed_at, close_of, close, exhausted_report, terminated_report, aborted_report}
-use Rattle.kl1_model.specs.Ending.{has_goal, has_living_child, lives, ends_now, without_monitor, ended_at, terminate, terminate_each, ending_of, settle, has_reached, newly_exhausted, after_reduction, aborted_below, ended_below, abort}
+use Rattle.kl1_model.specs.Report.{broken_at, reported_at, report, report_each, closed_at, close, exhausted_report, terminated_report, aborted_report}
+use Rattle.kl1_model.specs.Ending.{has_goal, has_living_child, lives, ends_now, without_monitor, ended_at, terminate, terminate_each, ending_of, settle, has_reached, newly_exhausted, after_reduction, ended_below, abort}
+use Rattle.kl1_model.specs.code.Steps.{report_of, close_of, aborted_below}
 use Rattle.kl1_model.specs.laws.TreeLaws.{lives_of, numbers_of, AbortEndsAllBelow, AbortRemovesAllBelow, TerminationsEnd, TerminationsEndAlone, EndingHaveNoGoals, ReachedGoOn}
 
 -- a shoen's number and its life

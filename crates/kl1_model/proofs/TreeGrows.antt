@@ -18,7 +18,8 @@ use Rattle.kl1_model.specs.Control.{Control}
 use Rattle.kl1_model.specs.Event.{with_entry}
 use Rattle.kl1_model.specs.Report.{report, is_reported, exception, exception_with, failure, exhaustion, started_report, exhausted_report}
 use Rattle.kl1_model.specs.Ending.{settle, after_reduction}
-use Rattle.kl1_model.specs.Opening.{opening_goals, with_shoen, open_shoen, has_room_for_child, child_shoen, open_child}
+use Rattle.kl1_model.specs.Opening.{with_shoen, open_shoen, has_room_for_child, child_shoen, open_child}
+use Rattle.kl1_model.specs.code.Steps.{opening_goals}
 use Rattle.kl1_model.specs.Reduction.{Move, commits, raises, unifies, names, opens, goes, gives_way, moves, reads, goals_from, has_room_for, committed, replaced_by, substituted_by, raised, unified, equation, or_exhaustion, moved, heard, acted}
 use Rattle.kl1_model.specs.laws.TreeLaws.{AreNumbered, PathsFollowParents, ParentsAreLower, PathsGoOn, AreWithin, IsTree, ChargesPath, HeldBackBelow}
 use Rattle.kl1_model.proofs.TreeKeeps.{Keeps, keeps_same, keeps_both, kept_tree, keeps_if, keeps_all, keeps_report, keeps_fewer, keeps_settle, keeps_settle_charged, keeps_heard}

@@ -11,9 +11,10 @@ use Rattle.kl1_model.specs.Meaning.{nil, cell}
 use Rattle.kl1_model.specs.State.{Goal, Shoen, State, shoen_at, replace_in_goal, replace_in_shoen, replace_in_state, replace_all, change_shoen, is_living}
 use Rattle.kl1_model.specs.Tree.{parents_of, path, is_on_path}
 use Rattle.kl1_model.specs.Control.{Control, awaits_message, tells, tells_other, ends, breaks_off}
-use Rattle.kl1_model.specs.Report.{broken_at, reported_at, report_of, report, report_each, closed_at, close_of, close, exception, illegal_input, exhausted_report, terminated_report, aborted_report, stopped_report, resumed_report}
-use Rattle.kl1_model.specs.Ending.{without_monitor, ended_at, terminate, terminate_each, ending_of, settle, newly_exhausted, after_reduction, aborted_below, ended_below, abort}
-use Rattle.kl1_model.specs.Reduction.{stopped_of, resumed_of, allowed_more, obeyed, with_control, heard}
+use Rattle.kl1_model.specs.Report.{broken_at, reported_at, report, report_each, closed_at, close, exception, illegal_input, exhausted_report, terminated_report, aborted_report, stopped_report, resumed_report}
+use Rattle.kl1_model.specs.Ending.{without_monitor, ended_at, terminate, terminate_each, ending_of, settle, newly_exhausted, after_reduction, ended_below, abort}
+use Rattle.kl1_model.specs.Reduction.{obeyed, with_control, heard}
+use Rattle.kl1_model.specs.code.Steps.{report_of, close_of, aborted_below, stopped_of, resumed_of, allowed_more}
 use Rattle.kl1_model.specs.laws.TreeLaws.{AreNumbered, AreWithin, IsTree}
 
 -- an effect leaves parents, charged reductions and the last number as they are, each goal's shoen, and each shoen's number

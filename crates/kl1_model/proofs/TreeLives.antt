@@ -7,7 +7,8 @@ use Rattle.kl1_model.specs.declared.life.Life.TheVariants.{Terminated, Aborted}
 use Rattle.kl1_model.specs.State.{Goal, Shoen, State, shoen_at, is_monitor, is_living}
 use Rattle.kl1_model.specs.Tree.{path, is_on_path}
 use Rattle.kl1_model.specs.Report.{report, report_each, close, exhausted_report, terminated_report}
-use Rattle.kl1_model.specs.Ending.{has_goal, lives, without_monitor, ended_at, terminate, terminate_each, ending_of, settle, newly_exhausted, after_reduction, aborted_below, ended_below, abort}
+use Rattle.kl1_model.specs.Ending.{has_goal, lives, without_monitor, ended_at, terminate, terminate_each, ending_of, settle, newly_exhausted, after_reduction, ended_below, abort}
+use Rattle.kl1_model.specs.code.Steps.{aborted_below}
 use Rattle.kl1_model.specs.laws.TreeLaws.{AreOfLiving, owners_of}
 use Rattle.kl1_model.proofs.TreeEndings.{Mark, mark_of, marks_of, Post, post_of, posts_of, Leaves, leaves_both, leaves_report, leaves_report_each, leaves_close, abort_leaves, ended_mark, ended_marks, ending_have_no_goals}
 

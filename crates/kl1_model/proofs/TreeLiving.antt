@@ -19,12 +19,13 @@ use Rattle.kl1_model.specs.Control.{Control, awaits_message, tells, tells_other,
 use Rattle.kl1_model.specs.Event.{exists, shoen_ended, syntax, too_many_names, limit_passed, journal_full, sessions_refused, Query, value, status, reports, modules, is_quiet, Event, load, start, control, reduce, read, login, logout, reset, answer, loaded, opened, sent, reduced, welcome, bye, Transition, refuse, is_number, with_entry, recorded, named, limited}
 use Rattle.kl1_model.specs.Report.{report, is_reported, exception, exception_with, failure, illegal_input, exhaustion, started_report, exhausted_report, stopped_report, resumed_report}
 use Rattle.kl1_model.specs.Ending.{without_monitor}
-use Rattle.kl1_model.specs.Opening.{may_start, has_room_to_start, opening_goals, with_shoen, open_shoen, with_next_variables, started_shoen, start_goal, has_room_for_child, child_shoen, open_child}
-use Rattle.kl1_model.specs.Reduction.{Move, commits, raises, unifies, names, opens, goes, gives_way, Action, moves, reads, action_of, goals_from, has_room_for, committed, replaced_by, substituted_by, raised, unified, equation, or_exhaustion, moved, stopped_of, resumed_of, allowed_more, obeyed, with_control, heard, acted, reduced_by, reduce_goal}
-use Rattle.kl1_model.specs.Sending.{may_send, has_room_to_send, with_control_tail, sent_on, send_by, send_to}
-use Rattle.kl1_model.specs.Asking.{origin_at, value_of, status_of, reports_of, reply_to}
-use Rattle.kl1_model.specs.Answering.{may_answer, has_room_to_answer, unanswered_at, answered, answer_by, answer_in, answer_to}
-use Rattle.kl1_model.specs.Step.{with_module, load_module, step}
+use Rattle.kl1_model.specs.Opening.{may_start, has_room_to_start, with_shoen, open_shoen, with_next_variables, started_shoen, start_goal, has_room_for_child, child_shoen, open_child}
+use Rattle.kl1_model.specs.Reduction.{Move, commits, raises, unifies, names, opens, goes, gives_way, Action, moves, reads, action_of, goals_from, has_room_for, committed, replaced_by, substituted_by, raised, unified, equation, or_exhaustion, moved, obeyed, with_control, heard, acted, reduce_goal}
+use Rattle.kl1_model.specs.Sending.{may_send, has_room_to_send, with_control_tail, sent_on, send_to}
+use Rattle.kl1_model.specs.Asking.{origin_at, reply_to}
+use Rattle.kl1_model.specs.Answering.{may_answer, has_room_to_answer, unanswered_at, answered, answer_by, answer_to}
+use Rattle.kl1_model.specs.Step.{load_module, step}
+use Rattle.kl1_model.specs.code.Steps.{opening_goals, stopped_of, resumed_of, allowed_more, reduced_by, send_by, value_of, status_of, reports_of, answer_in, with_module}
 use Rattle.kl1_model.specs.laws.TreeLaws.{AreNumbered, IsTree, FreshIsOfLiving, EndedHaveNoGoals}
 use Rattle.kl1_model.proofs.TreeKeeps.{Keeps, kept_tree, keeps_fewer}
 use Rattle.kl1_model.proofs.TreeGrows.{found_within}

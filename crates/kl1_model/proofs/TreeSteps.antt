@@ -15,12 +15,13 @@ use Rattle.kl1_model.specs.State.{Task, monitor, reduces, substitutes, Goal, Ori
 use Rattle.kl1_model.specs.Tree.{is_on_path, charged_of, is_enabled}
 use Rattle.kl1_model.specs.Control.{Control, awaits_message, tells, tells_other, ends, breaks_off, control_of, message_term, message_nodes}
 use Rattle.kl1_model.specs.Event.{Refusal, syntax, source, exists, no_shoen, shoen_ended, step_refused, too_many_names, limit_passed, journal_full, sessions_refused, answer_refused, Query, value, status, reports, modules, is_quiet, load, start, control, reduce, read, login, logout, reset, answer, Reply, loaded, opened, sent, reduced, welcome, bye, Transition, refuse, is_number, with_entry, recorded, named, limited}
-use Rattle.kl1_model.specs.Reduction.{Move, Action, moves, reads, term_move, substitute_move, read_action, monitor_action, task_action, action_of, acted, reduced_by, reduce_goal}
+use Rattle.kl1_model.specs.Reduction.{Move, Action, moves, reads, term_move, read_action, task_action, action_of, acted, reduce_goal}
 use Rattle.kl1_model.specs.Opening.{may_start, has_room_to_start, with_next_variables, started_shoen, start_goal}
-use Rattle.kl1_model.specs.Sending.{may_send, has_room_to_send, with_control_tail, sent_on, send_by, send_to}
-use Rattle.kl1_model.specs.Asking.{origin_at, value_of, status_of, reports_of, reply_to}
-use Rattle.kl1_model.specs.Answering.{may_answer, has_room_to_answer, unanswered_at, answered, answer_by, answer_in, answer_to}
-use Rattle.kl1_model.specs.Step.{with_module, load_module, log_in, log_out, step}
+use Rattle.kl1_model.specs.Sending.{may_send, has_room_to_send, with_control_tail, sent_on, send_to}
+use Rattle.kl1_model.specs.Asking.{origin_at, reply_to}
+use Rattle.kl1_model.specs.Answering.{may_answer, has_room_to_answer, unanswered_at, answered, answer_by, answer_to}
+use Rattle.kl1_model.specs.Step.{load_module, step}
+use Rattle.kl1_model.specs.code.Steps.{substitute_move, monitor_action, reduced_by, send_by, value_of, status_of, reports_of, answer_in, with_module, log_in, log_out}
 use Rattle.kl1_model.specs.laws.TreeLaws.{IsTree, FreshIsTree, TreesStay, ReductionsCharge, MonitorsChargeNobody, OthersChargeNobody, is_refused, RefusalsChangeNothing}
 use Rattle.kl1_model.proofs.TreeKeeps.{Keeps, keeps_same, keeps_both, kept_tree, keeps_change, keeps_replace}
 use Rattle.kl1_model.proofs.TreeGrows.{Follows, follows_kept, follows_then, opening_follows, acted_move, acted_reading, charged_among, charged_kept, with_entry_keeps, found_within}

@@ -6,10 +6,11 @@ use Rattle.kl1_model.specs.Print.{print}
 use Rattle.kl1_model.specs.Goal.{is_goal}
 use Rattle.kl1_model.specs.Meaning.{highest, is_writable, is_numbered}
 use Rattle.kl1_model.specs.Nodes.{structures_of}
-use Rattle.kl1_model.specs.State.{Origin, Shoen, State, replace_in_state, is_living, names_of, with_names}
-use Rattle.kl1_model.specs.Event.{no_shoen, shoen_ended, answer_refused, sent, Transition, refuse, is_number, with_entry, recorded, named, limited}
+use Rattle.kl1_model.specs.State.{Shoen, State, replace_in_state, names_of, with_names}
+use Rattle.kl1_model.specs.Event.{answer_refused, sent, Transition, refuse, is_number, with_entry, recorded, named, limited}
 use Rattle.kl1_model.specs.Opening.{with_next_variables}
 use Rattle.kl1_model.specs.Asking.{elements_of}
+use Rattle.kl1_model.specs.Sending.{if_living}
 
 -- the line of a journal for an answer
 abbrev pub answer_line : ℕ → ℕ → Term → List ℕ
@@ -48,15 +49,8 @@ abbrev pub answer_by : State → Term → Option ℕ → Transition
 answer_by s t None = refuse s answer_refused
 answer_by s t (Some v) = record { state = with_entry (answered v t s); reply = sent }
 
--- an answer to a report of a shoen with what the console keeps of it, if it started it
-abbrev pub answer_in : State → ℕ → Term → Shoen → Option Origin → Transition
-answer_in s report t h None = refuse s no_shoen
-answer_in s report t h (Some o) =
-    if is_living h.life
-    then named s (with_names s.names (names_of t)) (limited s (has_room_to_answer s t) (recorded s (answer_by s t (unanswered_at o.reports report))))
-    else refuse s shoen_ended
-
 -- an answer to a report of a shoen that may be there
 abbrev pub answer_to : State → ℕ → Term → Option Shoen → Transition
-answer_to s report t None = refuse s no_shoen
-answer_to s report t (Some h) = answer_in s report t h h.origin
+answer_to s report t h =
+    let names = with_names s.names (names_of t) in
+    if_living s (λ o. named s names (limited s (has_room_to_answer s t) (recorded s (answer_by s t (unanswered_at o.reports report))))) h

@@ -1,21 +1,15 @@
 -- Which goals can step, and which comes first.
 use Rattle.std.specs.Prelude.{ℕ, ◌==◌, nat_lt, not, ◌&&◌, ◌||◌, Bool, List, [], ◌∷◌, map, filter, find, Option, Some, None, is_some, option_and_then, option_map}
 use Rattle.std.specs.List.{list_any}
-use Rattle.kl1_model.specs.Match.{call_of, Call, candidates_of}
+use Rattle.kl1_model.specs.Match.{call_of, candidates_of}
 use Rattle.kl1_model.specs.Module.{Module}
-use Rattle.kl1_model.specs.State.{Task, monitor, reduces, substitutes, Goal, State}
+use Rattle.kl1_model.specs.State.{Task, reduces, Goal, State}
 use Rattle.kl1_model.specs.Reduction.{action_of}
-
--- the numbers of a call's candidates
-abbrev pub call_clauses : List Module → Option Call → List ℕ
-call_clauses modules None = []
-call_clauses modules (Some call) = map (λ k. k.number) (candidates_of modules call)
 
 -- the numbers of the clauses that a task may be tried by: 0, and those of a call's candidates
 abbrev pub task_clauses : List Module → Task → List ℕ
-task_clauses modules monitor = 0 ∷ []
-task_clauses modules (reduces t) = 0 ∷ call_clauses modules (call_of t)
-task_clauses modules (substitutes t) = 0 ∷ []
+task_clauses modules (reduces t) = 0 ∷ elim (call_of t) [ None ↦ [] | Some call ↦ map (λ k. k.number) (candidates_of modules call) ]
+task_clauses modules _ = 0 ∷ []
 
 -- the clause by which a goal can step: the least that is allowed
 abbrev pub clause_for : State → Goal → Option ℕ
@@ -42,10 +36,6 @@ pub record Chosen : Type 0 where
   pub goal : ℕ
   pub clause : ℕ
 
--- a goal with the clause by which it can step
-abbrev pub chosen : State → Goal → Option Chosen
-chosen s g = option_map (λ c. record { goal = g.number; clause = c }) (clause_for s g)
-
 -- the first goal that can step, with its clause
 abbrev pub first : State → Option Chosen
-first s = option_and_then (chosen s) (first_of_goals (filter (can_step s) s.goals))
+first s = option_and_then (λ g. option_map (λ c. record { goal = g.number; clause = c }) (clause_for s g)) (first_of_goals (filter (can_step s) s.goals))

@@ -57,23 +57,18 @@ has_reached s n = unwrap_or (option_map (λ h. h.allowance == charged_of s n) (s
 abbrev pub newly_exhausted : State → List ℕ → List ℕ → List ℕ
 newly_exhausted s ending ns = filter (λ n. has_reached s n && not (is_among n ending)) ns
 
--- what follows the effects of a reduction in shoen `n`: those of its path that have just reached their allowance and don't end now
--- report that they are exhausted, innermost first; then come terminations, innermost first
+-- after a reduction in shoen `n`: those of its path that are newly exhausted report that, and then come terminations, innermost first
 abbrev pub after_reduction : ℕ → State → State
 after_reduction n s =
     let ns = path s.shoens n in
     let ending = ending_of ns s in
     terminate_each ending (report_each (newly_exhausted s ending ns) exhausted_report s)
 
--- a shoen after an abort of shoen `n`: ended as aborted if it lives and `n` is on its path
-abbrev pub aborted_below : List Shoen → ℕ → Shoen → Shoen
-aborted_below shoens n h = if is_living h.life && is_on_path shoens n h.number then record h { life = Aborted } else h
-
 -- a shoen and all its living descendants ended as aborted, and their goals and monitors gone
 abbrev pub ended_below : ℕ → State → State
 ended_below n s = record s {
   goals = filter (λ g. not (is_on_path s.shoens n g.shoen)) s.goals;
-  shoens = map (aborted_below s.shoens n) s.shoens;
+  shoens = map (λ (h : Shoen). if is_living h.life && is_on_path s.shoens n h.number then record h { life = Aborted } else h) s.shoens;
 }
 
 -- an abort of a shoen: it and all below it end, and it alone reports that and closes its stream

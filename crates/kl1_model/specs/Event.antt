@@ -1,6 +1,6 @@
 -- Events, replies and refusals.
 use Rattle.std.specs.Prelude.{ℕ, suc, nat_le, nat_lt, ◌&&◌, Bool, if◌then◌else◌, List, length}
-use Rattle.kl1_model.specs.declared.limits.TheConstants.{MOST_SOURCE_BYTES, MOST_ENTRIES, MOST_LINE_BYTES, MOST_PRIORITY, MOST_NAMES, NUMBER_LIMIT}
+use Rattle.kl1_model.specs.declared.limits.TheConstants.{MOST_ENTRIES, MOST_PRIORITY, MOST_NAMES, NUMBER_LIMIT}
 use Rattle.kl1_model.specs.declared.message.Message.{Message}
 use Rattle.kl1_model.specs.declared.condition.Condition.{Condition}
 use Rattle.kl1_model.specs.Term.{Term}
@@ -20,8 +20,7 @@ pub data Refusal : Type 0 where
   sessions_refused : Refusal
   answer_refused : Refusal
 
--- what is asked of an account without a change: the goal of a shoen as started, with what is bound now; the state of a shoen; the
--- reports of a shoen from one on, the first being 1; the modules; and whether no goal can step
+-- a question that changes nothing; `value` and `status` name a shoen, and `reports` a shoen and the first report to list, counted from 1
 pub data Query : Type 0 where
   value : ℕ → Query
   status : ℕ → Query
@@ -29,9 +28,7 @@ pub data Query : Type 0 where
   modules : Query
   is_quiet : Query
 
--- what may be done to an account: a module loaded from its source; a goal started with an allowance and priorities from low to high;
--- a message sent to a shoen; a goal reduced by a clause's number, or by 0; a query; a session opened, and one closed; the account made
--- fresh again, with its names and sessions; and a goal given as the answer to a report of a shoen, the first being 1
+-- what may be done; `start` has an allowance and a range of priorities, `reduce` a goal and a clause or 0, `answer` a shoen and a report
 pub data Event : Type 0 where
   load : List ℕ → Event
   start : ℕ → ℕ → ℕ → Term → Event
@@ -43,9 +40,7 @@ pub data Event : Type 0 where
   reset : Event
   answer : ℕ → ℕ → Term → Event
 
--- a reply: the name of the module loaded, the number of the shoen opened, a message or an answer sent, a reduction done, the steps
--- done by a run, the printed goal, a shoen's state with what it was charged, its allowance and its goals alive, a list of texts, whether
--- no goal can step, a session opened in the account of a name, a session closed, the account made fresh again, or a refusal
+-- a reply; `ran` has how many steps were done, `status_is` the charge, the allowance and the goals alive, `welcome` the account's name
 pub data Reply : Type 0 where
   loaded : List ℕ → Reply
   opened : ℕ → Reply

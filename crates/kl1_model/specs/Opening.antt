@@ -7,7 +7,7 @@ use Rattle.kl1_model.specs.Print.{print}
 use Rattle.kl1_model.specs.Goal.{is_goal}
 use Rattle.kl1_model.specs.Meaning.{highest, is_writable, is_numbered}
 use Rattle.kl1_model.specs.Nodes.{goal_nodes}
-use Rattle.kl1_model.specs.State.{monitor, reduces, Goal, Shoen, State, shoen_at, names_of, with_names}
+use Rattle.kl1_model.specs.State.{monitor, reduces, Shoen, State, shoen_at, names_of, with_names}
 use Rattle.kl1_model.specs.Tree.{depth_of, goals_alive}
 use Rattle.kl1_model.specs.Look.{ExecuteArguments, number_of_term}
 use Rattle.kl1_model.specs.Event.{is_number, is_range}
@@ -23,23 +23,18 @@ may_start allowance low high t =
     is_number allowance && is_range low high
     && is_goal t && is_writable t && is_numbered t && nat_le (length (start_line allowance low high t)) MOST_LINE_BYTES
 
--- the goals of a shoen that opens: its monitor with the next goal number, and its goal with the one after
-abbrev pub opening_goals : ℕ → Shoen → Term → List Goal
-opening_goals last h goal =
-    record { number = suc last; task = monitor; shoen = h.number; priority = MONITOR_PRIORITY }
-    ∷ record { number = suc (suc last); task = reduces goal; shoen = h.number; priority = h.high } ∷ []
-
--- an account with one more shoen, with its monitor and its goal
+-- an account with one more shoen: its monitor has the next goal number, and its goal the one after
 abbrev pub with_shoen : Shoen → Term → State → State
 with_shoen h goal s = record s {
-  goals = s.goals ++ opening_goals s.last_goal h goal;
+  goals =
+      s.goals ++ record { number = suc s.last_goal; task = monitor; shoen = h.number; priority = MONITOR_PRIORITY }
+      ∷ record { number = suc (suc s.last_goal); task = reduces goal; shoen = h.number; priority = h.high } ∷ [];
   shoens = s.shoens ++ h ∷ [];
   last_goal = suc (suc s.last_goal);
   last_shoen = h.number;
 }
 
--- a shoen that opens for a goal: it and the goal join the account, and it reports that it has started, and after that, if its
--- allowance is 0, that it is exhausted
+-- a shoen that opens for a goal: it reports that it has started, and after that, if its allowance is 0, that it is exhausted
 abbrev pub open_shoen : Shoen → Term → State → State
 open_shoen h goal s =
     let opened = report h.number started_report (with_shoen h goal s) in
@@ -66,15 +61,13 @@ started_shoen s allowance low high goal control tail =
       origin = Some (record { goal = goal; reports = tail; control = control });
     }
 
--- whether a start stays within the limits on goals, variables, structures and shoens; its variables are those of its goal, and two
--- tails
+-- whether a start stays within the limits; its variables are those of its goal, and two tails
 abbrev pub has_room_to_start : State → Term → Bool
 has_room_to_start s t =
     nat_lt (goals_alive s) MOST_GOALS && nat_le (s.variables + suc (suc (highest t))) MOST_VARIABLES
     && nat_le (s.nodes + goal_nodes t) MOST_NODES && nat_lt s.last_shoen MOST_SHOENS
 
--- a start: the goal's names are used and its variables take the next numbers, then the control tail, then the report tail;
--- then the shoen opens
+-- a start: the goal's variables take the next numbers, then the control tail, then the report tail; then the shoen opens
 abbrev pub start_goal : State → ℕ → ℕ → ℕ → Term → State
 start_goal s allowance low high t =
     let goal = with_next_variables s.last_variable t in
@@ -87,14 +80,10 @@ start_goal s allowance low high t =
       nodes = s.nodes + goal_nodes t;
     })
 
--- a number clipped to a range
-abbrev pub clipped : ℕ → ℕ → ℕ → ℕ
-clipped low high n = max low (min n high)
-
 -- a priority clipped to the range of a shoen that may be there
 abbrev pub clipped_to : Option Shoen → ℕ → ℕ
 clipped_to None n = n
-clipped_to (Some h) n = clipped h.low h.high n
+clipped_to (Some h) n = max h.low (min n h.high)
 
 -- the child that an order opens in a shoen, with the next number: its range is clipped to that of its parent
 abbrev pub child_shoen : State → ℕ → ExecuteArguments → Shoen

@@ -1,5 +1,5 @@
 -- Reductions: what a goal can do, and what comes of it.
-use Rattle.std.specs.Prelude.{ℕ, suc, ◌+◌, ◌==◌, nat_le, min, ◌&&◌, Bool, true, false, if◌then◌else◌, List, [], ◌∷◌, ◌++◌, length, map, find, codes, bytes_eq, Option, Some, None, option_map, ⊤}
+use Rattle.std.specs.Prelude.{ℕ, suc, ◌+◌, ◌==◌, nat_le, min, ◌&&◌, Bool, true, false, if◌then◌else◌, List, [], ◌∷◌, ◌++◌, length, map, find, codes, bytes_eq, Option, Some, None, option_map, option_and_then, unwrap_or}
 use Rattle.kl1_model.specs.declared.limits.TheConstants.{MOST_GOALS, MOST_VARIABLES, MOST_NODES, MOST_NAMES, MOST_ALLOWANCE}
 use Rattle.kl1_model.specs.Term.{Term, variable, integer, atom, structure, none, more, Replacement}
 use Rattle.kl1_model.specs.declared.rules.Rules.{Rules}
@@ -16,7 +16,7 @@ use Rattle.kl1_model.specs.Match.{Call, call_of, Candidate, candidates_of, fails
 use Rattle.kl1_model.specs.Instance.{body_instance, body_priorities, fresh_variables}
 use Rattle.kl1_model.specs.Look.{spelling, goal_look, ExecuteArguments, arguments_look}
 use Rattle.kl1_model.specs.Control.{Control, awaits_message, tells, tells_other, ends, breaks_off, control_of}
-use Rattle.kl1_model.specs.State.{Task, monitor, reduces, substitutes, Goal, Shoen, State, has_substitutes, most_spelled, shoen_at, replace_all, change_shoen, without_goal, with_name}
+use Rattle.kl1_model.specs.State.{Task, monitor, reduces, substitutes, Goal, State, has_substitutes, most_spelled, shoen_at, replace_all, change_shoen, without_goal, with_name}
 use Rattle.kl1_model.specs.Tree.{goals_alive, charge, is_enabled}
 use Rattle.kl1_model.specs.Event.{step_refused, reduced, Transition, refuse, with_entry, recorded}
 pub use Rattle.kl1_model.specs.Report.{failure, overflow, illegal_input, exhaustion}
@@ -27,8 +27,7 @@ use Rattle.kl1_model.specs.Found.{Found, found, awaits, wrong}
 
 -- ---- what goals can do
 
--- what a term can do as a goal: commit to a clause, raise an exception of a kind, unify two terms, use a text as a name and unify a
--- term with it, open a shoen, succeed without effect, as `true` does, or, as a substitute, give way to a goal of the term that it waited for
+-- what a term can do as a goal; `names` unifies a term with a text that it uses as a name, `goes` is of `true`, `gives_way` of a substitute
 pub data Move : Type 0 where
   commits : Candidate → Move
   raises : List ℕ → Move
@@ -44,7 +43,7 @@ move_found act (found a) = Some (act a)
 move_found act (awaits v) = None
 move_found act wrong = Some (raises illegal_input)
 
--- ---- a goal of a user's predicate
+-- ---- goals of users' predicates, and built-in goals
 
 -- what a call can do by the clause numbered `clause`: commit to a candidate, or by 0 fail if each clause rejects it
 abbrev pub call_move : List Module → Call → ℕ → Option Move
@@ -52,35 +51,23 @@ call_move modules call clause =
     if clause == 0 then (if fails modules call then Some (raises failure) else None)
     else option_map (λ k. commits k) (find (λ k. k.number == clause) (candidates_of modules call))
 
--- ---- the goal `:=`
-
 -- what comes of a term that becomes a number
 abbrev pub becomes : Term → Number → Move
 becomes a (Value z) = unifies a (integer z)
 becomes a Overflow = raises overflow
 becomes a ZeroDivisor = raises illegal_input
 
--- ---- the goal `shoen:execute`
-
 -- the arguments of `shoen:execute`, if a term has six
 abbrev pub execute_arguments : Term → Option ExecuteArguments
 execute_arguments (structure p (more g (more l (more h (more n (more c (more r none))))))) = Some (record { goal = g; low = l; high = h; allowance = n; control = c; reports = r })
 execute_arguments t = None
 
--- what comes of arguments that may be there
-abbrev pub order_move : Option ExecuteArguments → Option Move
-order_move None = None
-order_move (Some o) = move_found (λ right. opens o) (arguments_look o)
-
 -- what a goal `a:b` does, if it is `shoen:execute` with six arguments
 abbrev pub execute_move : Term → Term → Option Move
-execute_move (atom m) b = if is_execute m b then order_move (execute_arguments b) else None
+execute_move (atom m) b = if is_execute m b then option_and_then (λ o. move_found (λ right. opens o) (arguments_look o)) (execute_arguments b) else None
 execute_move a b = None
 
--- ---- built-in goals together: `true`, `=`, and those above
-
--- what a built-in goal of two terms does; `:=` waits while the expression does, `atom_from` while the codes do, and `shoen:execute`
--- while an argument does
+-- what a built-in goal of two terms does; `:=` waits while the expression does, `atom_from` while the codes do
 abbrev pub pair_move : Rules → List ℕ → Term → Term → Option Move
 pair_move rules f a b =
     if bytes_eq f (codes "=") then Some (unifies a b)
@@ -100,12 +87,6 @@ abbrev pub term_move : Rules → List Module → Term → ℕ → Option Call �
 term_move rules modules t clause None = if clause == 0 then built_in_move rules t else None
 term_move rules modules t clause (Some call) = call_move modules call clause
 
--- ---- substitutes
-
--- what a substitute does by the look at the term that it waits for, as at the goal of a new shoen
-abbrev pub substitute_move : Found ⊤ → Option Move
-substitute_move x = move_found (λ right. gives_way) x
-
 -- ---- goals and monitors of an account
 
 -- what a goal does in one step: the move of a term, or what a monitor reads
@@ -116,32 +97,19 @@ pub data Action : Type 0 where
 -- what a monitor reads, if it doesn't wait
 abbrev pub read_action : Control → Option Action
 read_action (awaits_message v) = None
-read_action (tells m rest) = Some (reads (tells m rest))
-read_action (tells_other m rest) = Some (reads (tells_other m rest))
-read_action ends = Some (reads ends)
-read_action (breaks_off t) = Some (reads (breaks_off t))
+read_action c = Some (reads c)
 
--- what the monitor of a shoen that may be there can do, which takes 0 alone
-abbrev pub monitor_action : Option Shoen → ℕ → Option Action
-monitor_action None clause = None
-monitor_action (Some h) clause = if clause == 0 then read_action (control_of h.control) else None
-
--- what a goal of shoen `shoen` can do by its task and the clause numbered `clause`
+-- what a goal of shoen `shoen` can do by its task and the clause numbered `clause`; a monitor and a substitute take 0 alone
 abbrev pub task_action : State → ℕ → Task → ℕ → Option Action
-task_action s shoen monitor clause = monitor_action (shoen_at shoen s.shoens) clause
+task_action s shoen monitor clause = option_and_then (λ h. if clause == 0 then read_action (control_of h.control) else None) (shoen_at shoen s.shoens)
 task_action s shoen (reduces t) clause = option_map (moves t) (term_move s.rules s.modules t clause (call_of t))
-task_action s shoen (substitutes t) clause = if clause == 0 then option_map (moves t) (substitute_move (goal_look t)) else None
+task_action s shoen (substitutes t) clause = if clause == 0 then option_map (moves t) (move_found (λ right. gives_way) (goal_look t)) else None
 
 -- what a goal can do by the clause numbered `clause`, or nothing if that isn't allowed
 abbrev pub action_of : State → Goal → ℕ → Option Action
 action_of s g clause = if is_enabled s g then task_action s g.shoen g.task clause else None
 
 -- ---- what comes of a commit
-
--- the priority of a body's goal: that of the goal that commits, or the one that is named, clipped to the range of the shoen
-abbrev pub priority_of : Option Shoen → ℕ → Option ℕ → ℕ
-priority_of h own None = own
-priority_of h own (Some n) = clipped_to h n
 
 -- goals with the next numbers, in a shoen, each with its priority
 abbrev pub goals_from : ℕ → ℕ → List ℕ → List Term → List Goal
@@ -155,12 +123,13 @@ has_room_for s c =
     nat_le (goals_alive s + length c.body) MOST_GOALS && nat_le (s.variables + fresh_variables c) MOST_VARIABLES
     && nat_le (s.nodes + goals_nodes (goals_of c.body)) MOST_NODES
 
--- a goal's place taken by the body of a clause
+-- a goal's place taken by the body of a clause, whose goals have its priority, or the one that is named, clipped to the range of the shoen
 abbrev pub committed : Goal → Candidate → State → State
 committed g k s =
     let body = body_instance k.clause k.places s.last_variable in
+    let priorities = map (λ p. unwrap_or (option_map (clipped_to (shoen_at g.shoen s.shoens)) p) g.priority) (body_priorities k.clause) in
     record s {
-      goals = s.goals ++ goals_from s.last_goal g.shoen (map (priority_of (shoen_at g.shoen s.shoens) g.priority) (body_priorities k.clause)) body;
+      goals = s.goals ++ goals_from s.last_goal g.shoen priorities body;
       last_variable = s.last_variable + fresh_variables k.clause;
       last_goal = s.last_goal + length body;
       variables = s.variables + fresh_variables k.clause;
@@ -182,8 +151,7 @@ substituted_by g kind t s =
     let new = suc s.last_variable in
     replaced_by g (substitutes (variable new)) (report g.shoen (exception_with kind t (variable new)) (record s { last_variable = new }))
 
--- an exception of a kind of a goal of this term, which has been removed: its shoen reports it; if there are substitutes, one takes the
--- place of the goal, unless the report is dropped
+-- an exception of a goal of this term, which has been removed: its shoen reports it, and a substitute takes its place if that isn't dropped
 abbrev pub raised : Goal → List ℕ → Term → State → State
 raised g kind t s =
     if has_substitutes s.rules && is_reported g.shoen (exception kind t) s then substituted_by g kind t s else report g.shoen (exception kind t) s
@@ -202,42 +170,30 @@ abbrev pub or_exhaustion : Bool → Goal → Term → State → State → State
 or_exhaustion true g t after s = after
 or_exhaustion false g t after s = raised g exhaustion t s
 
--- a text used as a name, which stays used even if the unification with a term fails
-abbrev pub named_by : Goal → Term → List ℕ → Term → State → State
-named_by g t text a s = unified g t (mgu (equation a (atom text))) (record s { names = with_name s.names text })
-
--- the effect of a move of a goal that has been removed
+-- the effect of a move of a goal that has been removed; a text that it uses as a name stays used even if the unification fails
 abbrev pub moved : Goal → Term → Move → State → State
 moved g t (commits k) s = or_exhaustion (has_room_for s k.clause) g t (committed g k s) s
 moved g t (raises kind) s = raised g kind t s
 moved g t (unifies a b) s = unified g t (mgu (equation a b)) s
-moved g t (names text a) s = or_exhaustion (nat_le (length (with_name s.names text)) MOST_NAMES) g t (named_by g t text a s) s
+moved g t (names text a) s =
+    let used = with_name s.names text in
+    or_exhaustion (nat_le (length used) MOST_NAMES) g t (unified g t (mgu (equation a (atom text))) (record s { names = used })) s
 moved g t (opens o) s = or_exhaustion (has_room_for_child s g.shoen) g t (open_child s g.shoen o) s
 moved g t goes s = s
 moved g t gives_way s = replaced_by g (reduces t) s
 
 -- ---- what comes of a message
 
--- a shoen stopped, and a report of it if it wasn't
-abbrev pub stopped_of : Option Shoen → ℕ → State → State
-stopped_of None n s = s
-stopped_of (Some h) n s = if h.is_stopped then s else report n stopped_report (change_shoen n (λ h. record h { is_stopped = true }) s)
+-- a shoen that is stopped from now on, or no longer
+abbrev pub with_stopped : ℕ → Bool → State → State
+with_stopped n stopped s = change_shoen n (λ h. record h { is_stopped = stopped }) s
 
--- a shoen stopped no longer, and a report of it if it was
-abbrev pub resumed_of : Option Shoen → ℕ → State → State
-resumed_of None n s = s
-resumed_of (Some h) n s = if h.is_stopped then report n resumed_report (change_shoen n (λ h. record h { is_stopped = false }) s) else s
-
--- a shoen whose allowance grows by `extra`, up to the greatest there is
-abbrev pub allowed_more : ℕ → Shoen → Shoen
-allowed_more extra h = record h { allowance = min (h.allowance + extra) MOST_ALLOWANCE }
-
--- the effect of a message to a shoen
+-- the effect of a message to a shoen: it reports that it is stopped if it wasn't, and that it is stopped no longer if it was
 abbrev pub obeyed : ℕ → Message → State → State
-obeyed n Stop s = stopped_of (shoen_at n s.shoens) n s
-obeyed n Start s = resumed_of (shoen_at n s.shoens) n s
+obeyed n Stop s = elim (shoen_at n s.shoens) [ None ↦ s | Some h ↦ if h.is_stopped then s else report n stopped_report (with_stopped n true s) ]
+obeyed n Start s = elim (shoen_at n s.shoens) [ None ↦ s | Some h ↦ if h.is_stopped then report n resumed_report (with_stopped n false s) else s ]
 obeyed n Abort s = abort n s
-obeyed n (Allow extra) s = change_shoen n (allowed_more extra) s
+obeyed n (Allow extra) s = change_shoen n (λ h. record h { allowance = min (h.allowance + extra) MOST_ALLOWANCE }) s
 
 -- a shoen whose monitor goes on with this control stream
 abbrev pub with_control : ℕ → Term → State → State
@@ -253,18 +209,13 @@ heard n (breaks_off t) s = report n (exception illegal_input t) (without_monitor
 
 -- ---- a reduction
 
--- an account after what a goal does in one step: a goal that makes a move is removed, and its shoen charged; what a monitor reads
--- charges nobody, and only terminations come after it
+-- an account after what a goal does in one step: a move removes the goal and charges its shoen; what a monitor reads charges nobody
 abbrev pub acted : Goal → Action → State → State
 acted g (moves t m) s = after_reduction g.shoen (moved g t m (charge g.shoen (without_goal g.number s)))
 acted g (reads c) s = settle g.shoen (heard g.shoen c s)
 
--- a reduction, if it is allowed
-abbrev pub reduced_by : State → Goal → Option Action → Transition
-reduced_by s g None = refuse s step_refused
-reduced_by s g (Some a) = recorded s (record { state = acted g a (with_entry s); reply = reduced })
-
--- a reduction of a goal that may be there
+-- a reduction of a goal that may be there, if it is allowed
 abbrev pub reduce_goal : State → ℕ → Option Goal → Transition
 reduce_goal s clause None = refuse s step_refused
-reduce_goal s clause (Some g) = reduced_by s g (action_of s g clause)
+reduce_goal s clause (Some g) =
+    elim (action_of s g clause) [ None ↦ refuse s step_refused | Some a ↦ recorded s (record { state = acted g a (with_entry s); reply = reduced }) ]

@@ -1,17 +1,15 @@
 -- Reports of a shoen, and the end of its report stream.
-use Rattle.std.specs.Prelude.{ℕ, suc, nat_lt, not, ◌&&◌, ◌||◌, Bool, true, false, if◌then◌else◌, List, [], ◌∷◌, codes, Option, Some, None}
+use Rattle.std.specs.Prelude.{ℕ, suc, nat_lt, not, ◌&&◌, ◌||◌, Bool, true, false, if◌then◌else◌, List, [], ◌∷◌, codes, Some, None}
 use Rattle.kl1_model.specs.declared.limits.TheConstants.{MOST_REPORTS}
 use Rattle.kl1_model.specs.Term.{Term, variable, atom, structure, none, more, occurs}
 use Rattle.kl1_model.specs.Meaning.{pair, nil, cell}
-use Rattle.kl1_model.specs.State.{Shoen, State, shoen_at, replace_in_state, change_shoen}
+use Rattle.kl1_model.specs.State.{State, shoen_at, replace_in_state, change_shoen}
 
 -- the report stream of a shoen broken
 abbrev pub broken_at : ℕ → State → State
 broken_at n s = change_shoen n (λ h. record h { is_broken = true }) s
 
--- a report on an unbroken stream with this tail: the tail becomes a cell of the message and the next variable, and the account has
--- made one report more; if the tail is no variable, or stands in the message, or the account has made its last report, the
--- stream is broken from now on
+-- a report on a stream with this tail, which becomes a cell of the message and the next variable; or else the stream is broken from now on
 abbrev pub reported_at : ℕ → Term → Term → State → State
 reported_at n message (variable v) s =
     let next = suc s.last_variable in
@@ -19,28 +17,18 @@ reported_at n message (variable v) s =
     else change_shoen n (λ h. record h { tail = variable next }) (record (replace_in_state v (cell message (variable next)) s) { last_variable = next; reports = suc s.reports })
 reported_at n message t s = broken_at n s
 
--- a report of a shoen; on a broken stream it is dropped
-abbrev pub report_of : Option Shoen → ℕ → Term → State → State
-report_of None n message s = s
-report_of (Some h) n message s = if h.is_broken then s else reported_at n message h.tail s
-
--- a report of shoen `n`
+-- a report of shoen `n`; on a broken stream it is dropped
 abbrev pub report : ℕ → Term → State → State
-report n message s = report_of (shoen_at n s.shoens) n message s
+report n message s = elim (shoen_at n s.shoens) [ None ↦ s | Some h ↦ if h.is_broken then s else reported_at n message h.tail s ]
 
 -- whether a report is made on an unbroken stream with this tail by an account that has made this number of reports
 abbrev pub is_reported_at : Term → Term → ℕ → Bool
 is_reported_at message (variable v) made = not (occurs v message) && nat_lt made MOST_REPORTS
 is_reported_at message t made = false
 
--- whether a report of a shoen is made
-abbrev pub is_reported_of : Option Shoen → Term → ℕ → Bool
-is_reported_of None message made = false
-is_reported_of (Some h) message made = not h.is_broken && is_reported_at message h.tail made
-
 -- whether a report of shoen `n` is made, and not dropped
 abbrev pub is_reported : ℕ → Term → State → Bool
-is_reported n message s = is_reported_of (shoen_at n s.shoens) message s.reports
+is_reported n message s = elim (shoen_at n s.shoens) [ None ↦ false | Some h ↦ not h.is_broken && is_reported_at message h.tail s.reports ]
 
 -- a report with this message of each of these shoens, in order
 abbrev pub report_each : List ℕ → Term → State → State
@@ -52,14 +40,9 @@ abbrev pub closed_at : Term → State → State
 closed_at (variable v) s = replace_in_state v nil s
 closed_at t s = s
 
--- the end of a shoen's report stream
-abbrev pub close_of : Option Shoen → State → State
-close_of None s = s
-close_of (Some h) s = if h.is_broken then s else closed_at h.tail s
-
 -- the end of the report stream of shoen `n`
 abbrev pub close : ℕ → State → State
-close n s = close_of (shoen_at n s.shoens) s
+close n s = elim (shoen_at n s.shoens) [ None ↦ s | Some h ↦ if h.is_broken then s else closed_at h.tail s ]
 
 -- an exception of a kind, with the goal
 abbrev pub exception : List ℕ → Term → Term

@@ -2,7 +2,7 @@
 use Rattle.std.specs.Prelude.{ℕ, suc, ◌+◌, nat_le, ◌&&◌, Bool, true, if◌then◌else◌, Option, Some, None, option_map}
 use Rattle.kl1_model.specs.declared.limits.TheConstants.{MOST_VARIABLES, MOST_NODES}
 use Rattle.kl1_model.specs.declared.message.Message.{Message}
-use Rattle.kl1_model.specs.declared.message.Message.TheVariants.{Stop, Start, Abort, Allow}
+use Rattle.kl1_model.specs.declared.message.Message.TheVariants.{Allow}
 use Rattle.kl1_model.specs.Term.{Term, variable}
 use Rattle.kl1_model.specs.Meaning.{cell}
 use Rattle.kl1_model.specs.Control.{message_term, message_nodes}
@@ -11,10 +11,8 @@ use Rattle.kl1_model.specs.Event.{no_shoen, shoen_ended, sent, Transition, refus
 
 -- whether a message has numbers in range
 abbrev pub is_message : Message → Bool
-is_message Stop = true
-is_message Start = true
-is_message Abort = true
 is_message (Allow n) = is_number n
+is_message _ = true
 
 -- whether a message to shoen `n` has numbers in range
 abbrev pub may_send : ℕ → Message → Bool
@@ -24,16 +22,11 @@ may_send n m = is_number n && is_message m
 abbrev pub has_room_to_send : State → Message → Bool
 has_room_to_send s m = nat_le (suc s.variables) MOST_VARIABLES && nat_le (s.nodes + message_nodes m) MOST_NODES
 
--- what the console keeps, with this tail of the control stream
-abbrev pub origin_with : Term → Origin → Origin
-origin_with t o = record o { control = t }
-
 -- a shoen whose control stream goes on at the console with this tail
 abbrev pub with_control_tail : Term → Shoen → Shoen
-with_control_tail t h = record h { origin = option_map (origin_with t) h.origin }
+with_control_tail t h = record h { origin = option_map (λ (o : Origin). record o { control = t }) h.origin }
 
--- a message put on the control stream of a shoen, whose tail at the console is this: the tail, which is a variable as long as the
--- shoen lives, becomes a cell of the message and the next variable
+-- a message on a shoen's control stream: its tail at the console, a variable while the shoen lives, becomes a cell of it and the next one
 abbrev pub sent_on : ℕ → Message → Term → State → State
 sent_on n m (variable v) s =
     let next = suc s.last_variable in
@@ -44,15 +37,12 @@ sent_on n m (variable v) s =
     })
 sent_on n m t s = s
 
--- a message to a shoen with what the console keeps of it, if it started it
-abbrev pub send_by : State → ℕ → Message → Shoen → Option Origin → Transition
-send_by s n m h None = refuse s no_shoen
-send_by s n m h (Some o) =
-    if is_living h.life
-    then limited s (has_room_to_send s m) (recorded s (record { state = with_entry (sent_on n m o.control s); reply = sent }))
-    else refuse s shoen_ended
+-- what is done to a living shoen by what the console keeps of it, or a refusal if the console started no such shoen, or it has ended
+abbrev pub if_living : State → (Origin → Transition) → Option Shoen → Transition
+if_living s act None = refuse s no_shoen
+if_living s act (Some h) = elim h.origin [ None ↦ refuse s no_shoen | Some o ↦ if is_living h.life then act o else refuse s shoen_ended ]
 
 -- a message to a shoen that may be there
 abbrev pub send_to : State → ℕ → Message → Option Shoen → Transition
-send_to s n m None = refuse s no_shoen
-send_to s n m (Some h) = send_by s n m h h.origin
+send_to s n m h =
+    if_living s (λ o. limited s (has_room_to_send s m) (recorded s (record { state = with_entry (sent_on n m o.control s); reply = sent }))) h

@@ -12,25 +12,14 @@ pub use Rattle.kl1_model.specs.Asking.{origin_at}
 use Rattle.kl1_model.specs.Asking.{reply_to}
 use Rattle.kl1_model.specs.Answering.{may_answer, answer_to}
 
--- an account with one more module, whose names are used
-abbrev pub with_module : State → Module → State
-with_module s m = record s { modules = s.modules ++ m ∷ []; names = with_names s.names (names_of_module m) }
-
--- a load of what a source was read as; refused if a module of its name is there
+-- a load of what a source was read as, whose names are used; refused if a module of its name is there
 abbrev pub load_module : State → Reading Module → Transition
 load_module s (bad line) = refuse s (source line)
 load_module s (good m) =
+    let names = with_names s.names (names_of_module m) in
     if is_some (module_of s.modules m.name) then refuse s exists
-    else named s (with_names s.names (names_of_module m)) (limited s (nat_lt (length s.modules) MOST_MODULES) (recorded s
-    (record { state = with_entry (with_module s m); reply = loaded m.name })))
-
--- a session more, if not too many are open
-abbrev pub log_in : State → Transition
-log_in s = if nat_lt s.sessions MOST_SESSIONS then record { state = record s { sessions = suc s.sessions }; reply = welcome s.own_name } else refuse s sessions_refused
-
--- a session less, if one is open
-abbrev pub log_out : State → Transition
-log_out s = if nat_lt 0 s.sessions then record { state = record s { sessions = s.sessions - 1 }; reply = bye } else refuse s sessions_refused
+    else named s names (limited s (nat_lt (length s.modules) MOST_MODULES) (recorded s
+    (record { state = with_entry (record s { modules = s.modules ++ m ∷ []; names = names }); reply = loaded m.name })))
 
 -- what an event does, and the reply; of several refusals the one of least number
 abbrev pub step : State → Event → Transition
@@ -43,7 +32,10 @@ step s (start allowance low high t) =
 step s (control n m) = if may_send n m then send_to s n m (shoen_at n s.shoens) else refuse s syntax
 step s (reduce goal clause) = if is_number goal && is_number clause then reduce_goal s clause (goal_at goal s.goals) else refuse s syntax
 step s (read q) = reply_to s q
-step s login = log_in s
-step s logout = log_out s
+step s login =
+    if nat_lt s.sessions MOST_SESSIONS
+    then record { state = record s { sessions = suc s.sessions }; reply = welcome s.own_name }
+    else refuse s sessions_refused
+step s logout = if nat_lt 0 s.sessions then record { state = record s { sessions = s.sessions - 1 }; reply = bye } else refuse s sessions_refused
 step s reset = record { state = fresh_with s.rules s.own_name s.names s.sessions; reply = was_reset }
 step s (answer n report t) = if has_substitutes s.rules && may_answer n report t then answer_to s report t (shoen_at n s.shoens) else refuse s syntax

@@ -12,10 +12,11 @@ use Rattle.kl1_model.specs.Unify.{mgu}
 use Rattle.kl1_model.specs.State.{State, Goal, has_substitutes, Shoen, shoen_at, with_name, replace_in_state, replace_all, change_shoen, without_goal}
 use Rattle.kl1_model.specs.Tree.{path, charge}
 use Rattle.kl1_model.specs.Control.{Control, awaits_message, tells, tells_other, ends, breaks_off}
-use Rattle.kl1_model.specs.Report.{broken_at, reported_at, report_of, report, is_reported, report_each, closed_at, close_of, close, exception, exception_with, failure, illegal_input, exhaustion, started_report, stopped_report, resumed_report, exhausted_report, terminated_report, aborted_report}
+use Rattle.kl1_model.specs.Report.{broken_at, reported_at, report, is_reported, report_each, closed_at, close, exception, exception_with, failure, illegal_input, exhaustion, started_report, stopped_report, resumed_report, exhausted_report, terminated_report, aborted_report}
 use Rattle.kl1_model.specs.Ending.{ended_at, ending_of, without_monitor, terminate, terminate_each, settle, newly_exhausted, after_reduction, ended_below, abort}
 use Rattle.kl1_model.specs.Opening.{with_shoen, open_shoen, child_shoen, has_room_for_child, open_child}
-use Rattle.kl1_model.specs.Reduction.{Move, commits, raises, unifies, names, opens, goes, gives_way, Action, moves, reads, has_room_for, committed, substituted_by, raised, unified, equation, or_exhaustion, named_by, moved, stopped_of, resumed_of, obeyed, with_control, heard, acted}
+use Rattle.kl1_model.specs.Reduction.{Move, commits, raises, unifies, names, opens, goes, gives_way, Action, moves, reads, has_room_for, committed, substituted_by, raised, unified, equation, or_exhaustion, moved, obeyed, with_control, heard, acted}
+use Rattle.kl1_model.specs.code.Steps.{report_of, close_of, stopped_of, resumed_of, named_by}
 use Rattle.kl1_model.specs.Sending.{sent_on}
 use Rattle.kl1_model_history.specs.laws.TextLaws.{AreNames}
 use Rattle.kl1_model_history.proofs.NewNames.{with_name_new}

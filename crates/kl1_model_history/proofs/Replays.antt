@@ -4,7 +4,8 @@ use Rattle.std.specs.Prelude.{Option, Some, None}
 use Rattle.kl1_model.specs.declared.limits.TheConstants.{MOST_SESSIONS}
 use Rattle.kl1_model.specs.State.{State, Shoen, Origin, fresh_with, shoen_at}
 use Rattle.kl1_model.specs.Event.{Event, load, start, control, reduce, read, login, logout, reset, answer, welcome, bye, sessions_refused, Query, value, status, reports, modules, is_quiet, Refusal, syntax, Transition, refuse, is_number}
-use Rattle.kl1_model.specs.Asking.{origin_at, value_of, status_of, reports_of}
+use Rattle.kl1_model.specs.Asking.{origin_at}
+use Rattle.kl1_model.specs.code.Steps.{value_of, status_of, reports_of}
 use Rattle.kl1_model.specs.Step.{step}
 use Rattle.kl1_model.specs.laws.TreeLaws.{is_refused}
 use Rattle.kl1_model.proofs.TreeSteps.{refusals_change_nothing}

@@ -19,7 +19,8 @@ use Rattle.kl1_model.specs.Control.{Control, awaits_message, tells, tells_other,
 use Rattle.kl1_model.specs.State.{Task, monitor, reduces, substitutes, Goal, Shoen, State, shoen_at, most_spelled}
 use Rattle.kl1_model.specs.Tree.{is_enabled}
 use Rattle.kl1_model.specs.Report.{failure}
-use Rattle.kl1_model.specs.Reduction.{Move, commits, raises, unifies, names, opens, goes, gives_way, call_move, move_found, becomes, execute_arguments, order_move, execute_move, pair_move, built_in_move, term_move, substitute_move, Action, moves, reads, read_action, monitor_action, task_action, action_of}
+use Rattle.kl1_model.specs.Reduction.{Move, commits, raises, unifies, names, opens, goes, gives_way, call_move, move_found, becomes, execute_arguments, execute_move, pair_move, built_in_move, term_move, Action, moves, reads, read_action, task_action, action_of}
+use Rattle.kl1_model.specs.code.Steps.{order_move, substitute_move, monitor_action}
 use Rattle.kl1_model.specs.Found.{Found, found, awaits, wrong}
 
 -- a text that is spelled is bytes of names, and no more of them than cells

@@ -15,10 +15,11 @@ use Rattle.kl1_model.specs.Match.{module_of}
 use Rattle.kl1_model.specs.State.{State, has_substitutes, Goal, Shoen, Origin, goal_at, shoen_at, names_of, names_of_module, with_names, is_living}
 use Rattle.kl1_model.specs.Event.{Refusal, syntax, exists, shoen_ended, too_many_names, limit_passed, journal_full, sessions_refused, Event, load, start, control, reduce, read, login, logout, reset, answer, loaded, opened, sent, reduced, welcome, bye, Transition, refuse, is_number, is_range, with_entry, recorded, named, limited}
 use Rattle.kl1_model.specs.Opening.{start_line, may_start, has_room_to_start, with_next_variables, started_shoen, start_goal}
-use Rattle.kl1_model.specs.Sending.{may_send, has_room_to_send, sent_on, send_by, send_to}
-use Rattle.kl1_model.specs.Answering.{answer_line, may_answer, has_room_to_answer, unanswered_at, answer_by, answer_in, answer_to}
-use Rattle.kl1_model.specs.Reduction.{Action, action_of, acted, reduced_by, reduce_goal}
-use Rattle.kl1_model.specs.Step.{with_module, load_module, step}
+use Rattle.kl1_model.specs.Sending.{may_send, has_room_to_send, sent_on, send_to}
+use Rattle.kl1_model.specs.Answering.{answer_line, may_answer, has_room_to_answer, unanswered_at, answer_by, answer_to}
+use Rattle.kl1_model.specs.Reduction.{Action, action_of, acted, reduce_goal}
+use Rattle.kl1_model.specs.Step.{load_module, step}
+use Rattle.kl1_model.specs.code.Steps.{send_by, answer_in, reduced_by, with_module}
 use Rattle.kl1_model.specs.laws.TreeLaws.{is_refused}
 use Rattle.kl1_model_history.specs.Journal.{Entry, loads, starts, sends, steps, answers, event_in, Journal, with_entry as with_entry_more, with_event}
 use Rattle.kl1_model_history.specs.laws.TextLaws.{HasLine, AreNames, IsWritten, HasBytes, FreshIsWritten, WrittenStays}

@@ -9,7 +9,8 @@ use Rattle.kl1_model.specs.Module.{is_among}
 use Rattle.kl1_model.specs.State.{Shoen, State, is_living}
 use Rattle.kl1_model.specs.Tree.{parents_of, path, is_on_path}
 use Rattle.kl1_model.specs.Report.{aborted_report}
-use Rattle.kl1_model.specs.Ending.{has_goal, has_living_child, lives, ends_now, aborted_below, ended_below, abort}
+use Rattle.kl1_model.specs.Ending.{has_goal, has_living_child, lives, ends_now, ended_below, abort}
+use Rattle.kl1_model.specs.code.Steps.{aborted_below}
 use Rattle.kl1_model.specs.laws.TreeLaws.{AreNumbered, IsTree}
 use Rattle.kl1_model.proofs.TreeKeeps.{keeps_abort}
 use Rattle.kl1_model.proofs.TreeGrows.{paths_go_on}

@@ -7,14 +7,15 @@ use Rattle.kl1_model.specs.declared.life.Life.{Life}
 use Rattle.kl1_model.specs.Term.{Term, variable, integer, atom, structure, Replacement, occurs}
 use Rattle.kl1_model.specs.Meaning.{nil, cell, highest}
 use Rattle.kl1_model.specs.State.{Task, monitor, reduces, substitutes, Goal, Shoen, State, has_substitutes, shoen_at, replace_in_task, replace_in_goal, replace_in_shoen, replace_in_state, replace_all, change_shoen, is_monitor, is_living, names_of, with_names}
-use Rattle.kl1_model.specs.Report.{broken_at, reported_at, report_of, report, is_reported, report_each, closed_at, close_of, close, exception, exception_with, failure, exhaustion, started_report, exhausted_report, stopped_report, resumed_report}
+use Rattle.kl1_model.specs.Report.{broken_at, reported_at, report, is_reported, report_each, closed_at, close, exception, exception_with, failure, exhaustion, started_report, exhausted_report, stopped_report, resumed_report}
 use Rattle.kl1_model.specs.Ending.{has_goal, has_living_child, lives, ends_now}
 use Rattle.kl1_model.specs.Nodes.{goal_nodes}
 use Rattle.kl1_model.specs.Control.{message_term, message_nodes}
 use Rattle.kl1_model.specs.Opening.{with_shoen, open_shoen, with_next_variables, started_shoen, start_goal}
 use Rattle.kl1_model.specs.Sending.{with_control_tail, sent_on}
 use Rattle.kl1_model.specs.declared.message.Message.{Message}
-use Rattle.kl1_model.specs.Reduction.{replaced_by, substituted_by, raised, unified, or_exhaustion, stopped_of, resumed_of}
+use Rattle.kl1_model.specs.Reduction.{replaced_by, substituted_by, raised, unified, or_exhaustion}
+use Rattle.kl1_model.specs.code.Steps.{report_of, close_of, stopped_of, resumed_of}
 use Rattle.kl1_model.specs.Answering.{answered}
 
 -- a shoen's number, its parent's, and its life

@@ -6,7 +6,8 @@ use Rattle.std.proofs.lemmas.Option.{none-some, same_Some}
 use Rattle.kl1_model.specs.State.{Goal, Shoen, State, goal_at, shoen_at, is_monitor, is_living}
 use Rattle.kl1_model.specs.Tree.{is_on_path, charged_of, is_enabled, is_enabled_in, is_blocking, is_blocking_at, is_exhausted}
 use Rattle.kl1_model.specs.Event.{reduce, reduced, Transition, refuse, syntax, is_number}
-use Rattle.kl1_model.specs.Reduction.{task_action, reduced_by, reduce_goal}
+use Rattle.kl1_model.specs.Reduction.{task_action, reduce_goal}
+use Rattle.kl1_model.specs.code.Steps.{reduced_by}
 use Rattle.kl1_model.specs.Step.{step}
 use Rattle.kl1_model.specs.laws.TreeLaws.{is_refused}
 use Rattle.kl1_model.proofs.TreeGrows.{held_back_below}

@@ -16,10 +16,11 @@ use Rattle.kl1_model.specs.Control.{Control, awaits_message, tells, tells_other,
 use Rattle.kl1_model.specs.State.{Goal, Shoen, State, has_substitutes, shoen_at, replace_in_shoen, replace_in_state, replace_all, change_shoen, without_goal, with_name, is_monitor, is_living}
 use Rattle.kl1_model.specs.Tree.{parents_of, path_within, path, is_on_path, charged_of, charge, is_enabled}
 use Rattle.kl1_model.specs.Event.{with_entry}
-use Rattle.kl1_model.specs.Report.{broken_at, reported_at, report_of, report, is_reported, report_each, closed_at, close_of, close, exception, exception_with, failure, illegal_input, exhaustion, started_report, exhausted_report, stopped_report, resumed_report, terminated_report, aborted_report}
-use Rattle.kl1_model.specs.Ending.{ended_at, ending_of, without_monitor, terminate, terminate_each, settle, newly_exhausted, after_reduction, aborted_below, ended_below, abort}
+use Rattle.kl1_model.specs.Report.{broken_at, reported_at, report, is_reported, report_each, closed_at, close, exception, exception_with, failure, illegal_input, exhaustion, started_report, exhausted_report, stopped_report, resumed_report, terminated_report, aborted_report}
+use Rattle.kl1_model.specs.Ending.{ended_at, ending_of, without_monitor, terminate, terminate_each, settle, newly_exhausted, after_reduction, ended_below, abort}
 use Rattle.kl1_model.specs.Opening.{with_shoen, open_shoen, with_next_variables, start_goal, has_room_for_child, child_shoen, open_child}
-use Rattle.kl1_model.specs.Reduction.{Move, commits, raises, unifies, names, opens, goes, gives_way, moves, reads, has_room_for, committed, substituted_by, raised, unified, equation, or_exhaustion, named_by, moved, stopped_of, resumed_of, allowed_more, obeyed, with_control, heard, acted}
+use Rattle.kl1_model.specs.Reduction.{Move, commits, raises, unifies, names, opens, goes, gives_way, moves, reads, has_room_for, committed, substituted_by, raised, unified, equation, or_exhaustion, moved, obeyed, with_control, heard, acted}
+use Rattle.kl1_model.specs.code.Steps.{report_of, close_of, aborted_below, stopped_of, resumed_of, allowed_more, named_by}
 use Rattle.kl1_model.specs.Answering.{answered}
 use Rattle.kl1_model.specs.Sending.{with_control_tail, sent_on}
 use Rattle.kl1_model.specs.laws.TreeLaws.{AreNumbered, ParentsAreLower, IsTree}

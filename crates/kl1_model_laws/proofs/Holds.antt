@@ -16,8 +16,9 @@ use Rattle.kl1_model.specs.Match.{Answer, yes, no, wait, Match, with_answer, mat
 use Rattle.kl1_model.specs.Look.{spelling, ExecuteArguments, arguments_look}
 use Rattle.kl1_model.specs.declared.rules.Rules.{Rules}
 use Rattle.kl1_model.specs.State.{most_spelled}
-use Rattle.kl1_model.specs.Reduction.{Move, commits, raises, unifies, names, opens, goes, gives_way, failure, call_move, becomes, execute_arguments, order_move, execute_move, pair_move, built_in_move, term_move, substitute_move, equation, move_found}
-use Rattle.kl1_model.specs.Asking.{elements_of, elements_in}
+use Rattle.kl1_model.specs.Reduction.{Move, commits, raises, unifies, names, opens, goes, gives_way, failure, call_move, becomes, execute_arguments, execute_move, pair_move, built_in_move, term_move, equation, move_found}
+use Rattle.kl1_model.specs.code.Steps.{order_move, substitute_move, elements_in}
+use Rattle.kl1_model.specs.Asking.{elements_of}
 use Rattle.kl1_model.specs.Answering.{unanswered, unanswered_at}
 use Rattle.kl1_model_laws.proofs.UnifySound.{HoldsInEachCase, holds_of_solution}
 use Rattle.kl1_model.specs.Found.{Found, found, awaits, wrong}

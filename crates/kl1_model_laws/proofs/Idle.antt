@@ -17,8 +17,9 @@ use Rattle.kl1_model.specs.Tree.{parents_of, path_within, is_on_path, charge}
 use Rattle.kl1_model.specs.Event.{with_entry}
 use Rattle.kl1_model.specs.Report.{report, is_reported, exception, exception_with, failure, illegal_input, exhaustion}
 use Rattle.kl1_model.specs.Ending.{has_goal, has_living_child, lives, ends_now, without_monitor, settle}
-use Rattle.kl1_model.specs.Opening.{opening_goals, with_shoen, with_next_variables, start_goal, has_room_to_start, has_room_for_child, child_shoen, open_child}
-use Rattle.kl1_model.specs.Reduction.{Move, commits, raises, unifies, names, opens, goes, gives_way, moves, goals_from, has_room_for, committed, replaced_by, substituted_by, raised, unified, equation, or_exhaustion, named_by, moved, allowed_more, with_control, heard, acted}
+use Rattle.kl1_model.specs.Opening.{with_shoen, with_next_variables, start_goal, has_room_to_start, has_room_for_child, child_shoen, open_child}
+use Rattle.kl1_model.specs.Reduction.{Move, commits, raises, unifies, names, opens, goes, gives_way, moves, goals_from, has_room_for, committed, replaced_by, substituted_by, raised, unified, equation, or_exhaustion, moved, with_control, heard, acted}
+use Rattle.kl1_model.specs.code.Steps.{opening_goals, allowed_more, named_by}
 use Rattle.kl1_model.specs.Answering.{answered}
 use Rattle.kl1_model.specs.Sending.{sent_on}
 use Rattle.kl1_model.specs.laws.TreeLaws.{AreWithin, IsTree}

@@ -12,9 +12,10 @@ use Rattle.kl1_model.specs.Meaning.{nil, cell}
 use Rattle.kl1_model.specs.Control.{message_term, Control, awaits_message, tells, tells_other, ends, breaks_off, control_of, control_by, word_of}
 use Rattle.kl1_model.specs.State.{Task, monitor, reduces, substitutes, Goal, Origin, Shoen, State, is_monitor, shoen_at, replace_in_task, replace_in_goal, replace_in_origin, replace_in_shoen, replace_in_state, replace_all, change_shoen, is_living}
 use Rattle.kl1_model.specs.Tree.{path, is_on_path}
-use Rattle.kl1_model.specs.Report.{broken_at, reported_at, report_of, report, report_each, closed_at, close_of, close, exception, illegal_input, exhausted_report, stopped_report, resumed_report}
-use Rattle.kl1_model.specs.Ending.{ended_at, ending_of, without_monitor, terminate, terminate_each, settle, newly_exhausted, after_reduction, aborted_below, ended_below, abort}
-use Rattle.kl1_model.specs.Reduction.{stopped_of, resumed_of, allowed_more, obeyed, with_control, heard}
+use Rattle.kl1_model.specs.Report.{broken_at, reported_at, report, report_each, closed_at, close, exception, illegal_input, exhausted_report, stopped_report, resumed_report}
+use Rattle.kl1_model.specs.Ending.{ended_at, ending_of, without_monitor, terminate, terminate_each, settle, newly_exhausted, after_reduction, ended_below, abort}
+use Rattle.kl1_model.specs.Reduction.{obeyed, with_control, heard}
+use Rattle.kl1_model.specs.code.Steps.{report_of, close_of, aborted_below, stopped_of, resumed_of, allowed_more}
 use Rattle.kl1_model.specs.laws.TreeLaws.{IsTree}
 use Rattle.kl1_model_laws.specs.ControlLaws.{messages_then}
 use Rattle.kl1_model_laws.proofs.Holds.{Holds, holds_replace, holds_weaker, EachReplaced}

@@ -15,11 +15,12 @@ use Rattle.kl1_model.specs.Look.{goal_look}
 use Rattle.kl1_model.specs.Tree.{is_enabled}
 use Rattle.kl1_model.specs.Control.{Control, awaits_message, tells, tells_other, ends, breaks_off, control_of}
 use Rattle.kl1_model.specs.Opening.{may_start, has_room_to_start, start_goal}
-use Rattle.kl1_model.specs.Reduction.{Move, Action, moves, reads, term_move, substitute_move, read_action, monitor_action, task_action, action_of, acted, reduced_by, reduce_goal}
-use Rattle.kl1_model.specs.Sending.{may_send, has_room_to_send, sent_on, send_by, send_to}
-use Rattle.kl1_model.specs.Asking.{origin_at, value_of, status_of, reports_of, reply_to}
-use Rattle.kl1_model.specs.Answering.{may_answer, has_room_to_answer, unanswered_at, answered, answer_by, answer_in, answer_to}
-use Rattle.kl1_model.specs.Step.{with_module, load_module, step}
+use Rattle.kl1_model.specs.Reduction.{Move, Action, moves, reads, term_move, read_action, task_action, action_of, acted, reduce_goal}
+use Rattle.kl1_model.specs.Sending.{may_send, has_room_to_send, sent_on, send_to}
+use Rattle.kl1_model.specs.Asking.{origin_at, reply_to}
+use Rattle.kl1_model.specs.Answering.{may_answer, has_room_to_answer, unanswered_at, answered, answer_by, answer_to}
+use Rattle.kl1_model.specs.Step.{load_module, step}
+use Rattle.kl1_model.specs.code.Steps.{substitute_move, monitor_action, reduced_by, send_by, value_of, status_of, reports_of, answer_in, with_module}
 use Rattle.kl1_model.specs.laws.TreeLaws.{IsTree}
 use Rattle.kl1_model.proofs.TreeSteps.{fresh_is_tree, trees_stay}
 use Rattle.kl1_model_laws.specs.Reached.{after, reached}

@@ -19,10 +19,11 @@ use Rattle.kl1_model.specs.State.{Task, monitor, reduces, substitutes, Goal, Ori
 use Rattle.kl1_model.specs.Tree.{charge}
 use Rattle.kl1_model.specs.Event.{is_number, is_range, with_entry}
 use Rattle.kl1_model.specs.Report.{report, is_reported, exception, exception_with, failure, exhaustion, started_report, exhausted_report}
-use Rattle.kl1_model.specs.Opening.{start_line, may_start, opening_goals, with_shoen, open_shoen, with_next_variables, start_goal, has_room_for_child, child_shoen, open_child}
-use Rattle.kl1_model.specs.Reduction.{Move, commits, raises, unifies, names, opens, goes, gives_way, moves, reads, priority_of, goals_from, has_room_for, committed, replaced_by, substituted_by, raised, unified, equation, or_exhaustion, named_by, moved, heard, acted, term_move, substitute_move}
+use Rattle.kl1_model.specs.Opening.{start_line, may_start, with_shoen, open_shoen, with_next_variables, start_goal, has_room_for_child, child_shoen, open_child}
+use Rattle.kl1_model.specs.Reduction.{Move, commits, raises, unifies, names, opens, goes, gives_way, moves, reads, goals_from, has_room_for, committed, replaced_by, substituted_by, raised, unified, equation, or_exhaustion, moved, heard, acted, term_move}
 use Rattle.kl1_model.specs.Answering.{answer_line, may_answer, unanswered_at, answered}
-use Rattle.kl1_model.specs.Sending.{origin_with, with_control_tail, sent_on}
+use Rattle.kl1_model.specs.Sending.{with_control_tail, sent_on}
+use Rattle.kl1_model.specs.code.Steps.{opening_goals, substitute_move, origin_with, priority_of, named_by}
 use Rattle.kl1_model.specs.laws.TreeLaws.{IsTree}
 use Rattle.kl1_model.proofs.TreeKeeps.{kept_tree}
 use Rattle.kl1_model.proofs.TreeGrows.{with_entry_keeps}

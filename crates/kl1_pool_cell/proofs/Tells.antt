@@ -11,13 +11,14 @@ use Rattle.kl1_model.specs.Match.{module_of}
 use Rattle.kl1_model.specs.State.{Goal, Origin, Shoen, State, goal_at, shoen_at, has_substitutes, names_of, names_of_module, with_names}
 use Rattle.kl1_model.specs.Event as model
 use Rattle.kl1_model.specs.Event.{Refusal, Transition, refuse, is_number, with_entry, recorded, named, limited}
-use Rattle.kl1_model.specs.Reduction.{Action, reduce_goal, reduced_by, acted, action_of}
+use Rattle.kl1_model.specs.Reduction.{Action, reduce_goal, acted, action_of}
 use Rattle.kl1_model.specs.Opening.{may_start, has_room_to_start, start_goal}
-use Rattle.kl1_model.specs.Sending.{may_send, has_room_to_send, send_to, send_by, sent_on}
-use Rattle.kl1_model.specs.Answering.{may_answer, has_room_to_answer, unanswered_at, answer_by, answer_in, answer_to}
+use Rattle.kl1_model.specs.Sending.{may_send, has_room_to_send, send_to, sent_on}
+use Rattle.kl1_model.specs.Answering.{may_answer, has_room_to_answer, unanswered_at, answer_by, answer_to}
 use Rattle.kl1_model.specs.State.{is_living}
-use Rattle.kl1_model.specs.Asking.{reply_to, value_of, status_of, reports_of, origin_at}
-use Rattle.kl1_model.specs.Step.{with_module, load_module, step}
+use Rattle.kl1_model.specs.Asking.{reply_to, origin_at}
+use Rattle.kl1_model.specs.Step.{load_module, step}
+use Rattle.kl1_model.specs.code.Steps.{reduced_by, send_by, answer_in, value_of, status_of, reports_of, with_module}
 use Rattle.kl1_model_history.specs.Journal.{Entry, loads, starts, sends, steps, answers, Journal, noted, new_journal}
 use Rattle.kl1_model_history.specs.Journal.{Kept, Done, done}
 use Rattle.kl1_model_history.specs.Journal as history

@@ -2,7 +2,8 @@
 use Rattle.std.proofs.Common.{◌≡◌, ℕ, Bool, true, false, if◌then◌else◌, nat_le, ◌&&◌, List, [], ◌∷◌, ◌++◌, Option, Some, None, option_map, is_none, is_some, not, ap, sym, ◌∙◌, refl}
 use Rattle.kl1_model.specs.State.{Origin, Shoen, State, shoen_at}
 use Rattle.kl1_model.specs.Event.{syntax, Query, value, status, reports, modules, is_quiet, read, Reply, refuse, is_number}
-use Rattle.kl1_model.specs.Asking.{reply_to, value_of, status_of, reports_of, origin_at}
+use Rattle.kl1_model.specs.Asking.{reply_to, origin_at}
+use Rattle.kl1_model.specs.code.Steps.{value_of, status_of, reports_of}
 use Rattle.kl1_model.specs.Choice.{Chosen, first}
 use Rattle.kl1_model.specs.laws.TreeLaws.{is_refused}
 use Rattle.kl1_model_history.specs.Journal.{Journal, Kept, Done, done}

@@ -9,7 +9,8 @@ use Rattle.kl1_model.specs.declared.limits.TheConstants.{MOST_LISTED, MOST_REPOR
 use Rattle.kl1_model.specs.Print.{cut_print}
 use Rattle.kl1_model.specs.State.{Origin, State}
 use Rattle.kl1_model.specs.Event.{syntax, reports, refuse, is_number}
-use Rattle.kl1_model.specs.Asking.{reply_to, reports_of, origin_at, elements_of}
+use Rattle.kl1_model.specs.Asking.{reply_to, origin_at, elements_of}
+use Rattle.kl1_model.specs.code.Steps.{reports_of}
 use Rattle.kl1_model_history.specs.Command.{written_line, written_lines}
 use Rattle.kl1_run_work.specs.Answers.{listed_in, is_exception, reports_by, reports_in, all_reports, report_lines, exception_lines}
 

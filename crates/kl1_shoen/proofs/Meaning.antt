@@ -9,7 +9,8 @@ use Rattle.kl1_model.specs.State as model
 use Rattle.kl1_model.specs.State.{State, shoen_at, is_living}
 use Rattle.kl1_model.specs.Tree.{parents_of, path_within, path, is_on_path, depth_of, charged_of, is_exhausted, is_blocking, is_enabled_in, is_living_child}
 use Rattle.kl1_model.specs.Tree as tree
-use Rattle.kl1_model.specs.Ending.{has_living_child, lives, has_reached, aborted_below}
+use Rattle.kl1_model.specs.Ending.{has_living_child, lives, has_reached}
+use Rattle.kl1_model.specs.code.Steps.{aborted_below}
 use Rattle.kl1_store.specs.Held.{Held}
 use Rattle.kl1_shoen_paths.specs.declared.shoen.Shoen.{Shoen}
 use Rattle.kl1_shoen.specs.Shoens.{has_number, shoen_in, parents_in, path_in, is_on_path_in, charged_in, is_exhausted_in, is_blocking_in, is_blocking_at, is_enabled_at, has_reached_in, lives_in, is_living_child_of, changed, aborted_below_in}

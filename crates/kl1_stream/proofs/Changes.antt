@@ -6,7 +6,8 @@ use Rattle.kl1_model.specs.declared.built_in.BuiltIn.{BuiltIn}
 use Rattle.kl1_model.specs.Term.{Term, variable, integer, atom, structure, occurs}
 use Rattle.kl1_model.specs.Meaning.{cell}
 use Rattle.kl1_model.specs.State.{Shoen, State, shoen_at, change_shoen, replace_in_state}
-use Rattle.kl1_model.specs.Report.{report, report_of, reported_at, broken_at, close, close_of, closed_at}
+use Rattle.kl1_model.specs.Report.{report, reported_at, broken_at, close, closed_at}
+use Rattle.kl1_model.specs.code.Steps.{report_of, close_of}
 use Rattle.kl1_model.specs.declared.message.Message.{Message}
 use Rattle.kl1_model.specs.Control.{message_term, message_nodes}
 use Rattle.kl1_model.specs.Sending.{with_control_tail, sent_on}

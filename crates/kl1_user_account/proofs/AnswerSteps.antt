@@ -12,7 +12,8 @@ use Rattle.kl1_model.specs.Meaning.{highest, is_writable, is_numbered}
 use Rattle.kl1_model.specs.Nodes.{structures_of}
 use Rattle.kl1_model.specs.State.{State, has_substitutes, shoen_at, is_living, names_of, with_names}
 use Rattle.kl1_model.specs.Event.{Transition, answer, sent, refuse, recorded, named, limited, syntax, no_shoen, shoen_ended, too_many_names, journal_full, with_entry, is_number}
-use Rattle.kl1_model.specs.Answering.{answer_line, may_answer, has_room_to_answer, unanswered_at, answered, answer_by, answer_in, answer_to}
+use Rattle.kl1_model.specs.Answering.{answer_line, may_answer, has_room_to_answer, unanswered_at, answered, answer_by, answer_to}
+use Rattle.kl1_model.specs.code.Steps.{answer_in}
 use Rattle.kl1_model.specs.Step.{step}
 use Rattle.kl1_text.specs.Reading.{Reads}
 use Rattle.kl1_text.specs.declared.cell_name.CellName.{CellName}

@@ -10,9 +10,10 @@ use Rattle.kl1_model.specs.Match.{call_of}
 use Rattle.kl1_model.specs.Control.{Control, awaits_message, tells, tells_other, ends, breaks_off, control_of}
 use Rattle.kl1_model.specs.Tree.{is_enabled, is_enabled_in}
 use Rattle.kl1_model.specs.Look.{goal_look}
-use Rattle.kl1_model.specs.Reduction.{Move, moves, substitute_move, term_move, read_action, monitor_action, task_action, action_of}
-use Rattle.kl1_model.specs.code.Waits.{move_by, look_clause}
-use Rattle.kl1_model.specs.Choice.{call_clauses, task_clauses, clause_for, can_step, quiet, goes_before, first_of_goals, Chosen, chosen, first}
+use Rattle.kl1_model.specs.Reduction.{Move, moves, term_move, read_action, task_action, action_of}
+use Rattle.kl1_model.specs.code.Waits.{move_by, look_clause, call_clauses}
+use Rattle.kl1_model.specs.Choice.{task_clauses, clause_for, can_step, quiet, goes_before, first_of_goals, Chosen, first}
+use Rattle.kl1_model.specs.code.Steps.{substitute_move, monitor_action, chosen}
 use Rattle.kl1_store.specs.Held.{Held}
 use Rattle.kl1_store.specs.Hooks.{Hook}
 use Rattle.kl1_text.specs.declared.cell_name.CellName.{CellName}

@@ -8,7 +8,8 @@ use Rattle.kl1_model.specs.Print.{cut_print}
 use Rattle.kl1_model.specs.State as model
 use Rattle.kl1_model.specs.State.{State}
 use Rattle.kl1_model.specs.Event.{Transition, no_shoen, syntax, listed, refuse, read, reports, is_number}
-use Rattle.kl1_model.specs.Asking.{elements_of, origin_at, reports_of}
+use Rattle.kl1_model.specs.Asking.{elements_of, origin_at}
+use Rattle.kl1_model.specs.code.Steps.{reports_of}
 use Rattle.kl1_model.specs.Step.{step}
 use Rattle.kl1_text.specs.declared.cell_name.CellName.{CellName}
 use Rattle.kl1_atoms.specs.declared.known.Known.{Known}

@@ -11,7 +11,8 @@ use Rattle.kl1_model.specs.Match.{module_of}
 use Rattle.kl1_model.specs.State as model
 use Rattle.kl1_model.specs.State.{State, names_of_module, with_names}
 use Rattle.kl1_model.specs.Event.{load, loaded, refuse, with_entry, Transition}
-use Rattle.kl1_model.specs.Step.{step, with_module, load_module}
+use Rattle.kl1_model.specs.Step.{step, load_module}
+use Rattle.kl1_model.specs.code.Steps.{with_module}
 use Rattle.kl1_text.specs.Reading.{Reads}
 use Rattle.kl1_text.specs.declared.atom_no.AtomNo.{AtomNo}
 use Rattle.kl1_text.specs.declared.cell_name.CellName.{CellName}

@@ -10,8 +10,9 @@ use Rattle.kl1_model.specs.Nodes.{goal_nodes}
 use Rattle.kl1_model.specs.declared.life.Life.TheVariants.{Living}
 use Rattle.kl1_model.specs.State as model
 use Rattle.kl1_model.specs.State.{State, shoen_at, replace_in_goal, replace_in_shoen, replace_in_state, change_shoen, names_of, with_names}
-use Rattle.kl1_model.specs.Report.{report, report_of, reported_at, broken_at, started_report, exhausted_report}
-use Rattle.kl1_model.specs.Opening.{started_shoen, opening_goals, with_next_variables, start_goal}
+use Rattle.kl1_model.specs.Report.{report, reported_at, broken_at, started_report, exhausted_report}
+use Rattle.kl1_model.specs.Opening.{started_shoen, with_next_variables, start_goal}
+use Rattle.kl1_model.specs.code.Steps.{report_of, opening_goals}
 use Rattle.kl1_text.specs.declared.cell_name.CellName.{CellName}
 use Rattle.kl1_store.specs.declared.cell.Cell.{Cell}
 use Rattle.kl1_store.specs.declared.cell.Cell.TheVariants.{Variable}

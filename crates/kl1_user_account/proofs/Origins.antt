@@ -5,7 +5,7 @@ use Rattle.kl1_model.specs.Print.{print, cut_text}
 use Rattle.kl1_model.specs.State as model
 use Rattle.kl1_model.specs.State.{shoen_at}
 use Rattle.kl1_model.specs.Event.{no_shoen, syntax, shown, refuse, read, value, Transition, is_number}
-use Rattle.kl1_model.specs.Asking.{value_of}
+use Rattle.kl1_model.specs.code.Steps.{value_of}
 use Rattle.kl1_model.specs.Step.{step, origin_at}
 use Rattle.kl1_user_events.specs.Whole.{whole_of, whole_value}
 use Rattle.kl1_text.specs.declared.cell_name.CellName.{CellName}

@@ -11,7 +11,7 @@ use Rattle.kl1_model.specs.State as model
 use Rattle.kl1_model.specs.State.{State, shoen_at}
 use Rattle.kl1_model.specs.Tree.{parents_of, path_within, charged_of, goals_below}
 use Rattle.kl1_model.specs.Event.{Transition, no_shoen, syntax, status_is, refuse, read, status, is_number}
-use Rattle.kl1_model.specs.Asking as asking
+use Rattle.kl1_model.specs.code.Steps as asking
 use Rattle.kl1_model.specs.Asking.{module_line}
 use Rattle.kl1_model.specs.Step.{step}
 use Rattle.kl1_text.specs.declared.cell_name.CellName.{CellName}

@@ -12,7 +12,8 @@ use Rattle.kl1_model.specs.State.{State, goal_at, shoen_at, without_goal}
 use Rattle.kl1_model.specs.Event.{reduce, refuse, syntax, step_refused, journal_full, reduced, is_number, with_entry}
 use Rattle.kl1_model.specs.Step.{step}
 use Rattle.kl1_model.specs.Reduction as reduction
-use Rattle.kl1_model.specs.Reduction.{reads, moves, moved, heard, acted, read_action, monitor_action, task_action, reduce_goal, reduced_by}
+use Rattle.kl1_model.specs.Reduction.{reads, moves, moved, heard, acted, read_action, task_action, reduce_goal}
+use Rattle.kl1_model.specs.code.Steps.{substitute_move, monitor_action, reduced_by}
 use Rattle.kl1_model.specs.code.Waits.{move_by}
 use Rattle.kl1_text.specs.declared.cell_name.CellName.{CellName}
 use Rattle.kl1_store.specs.declared.qualified.Qualified.{Qualified}
@@ -162,10 +163,10 @@ goal_does f a c g x o task found =
 
 -- ---- what a task can do
 
-substitute_acts : (t : Term) (c : ℕ) → (if c == 0 then option_map (moves t) (reduction.substitute_move (goal_look t)) else None) ≡ option_map (moves t) (move_by_clause t c)
+substitute_acts : (t : Term) (c : ℕ) → (if c == 0 then option_map (moves t) (substitute_move (goal_look t)) else None) ≡ option_map (moves t) (move_by_clause t c)
 substitute_acts t c = by_case (c == 0)
   where
-    by_case : (b : Bool) → (if b then option_map (moves t) (reduction.substitute_move (goal_look t)) else None) ≡ option_map (moves t) (if b then reduction.substitute_move (goal_look t) else None)
+    by_case : (b : Bool) → (if b then option_map (moves t) (substitute_move (goal_look t)) else None) ≡ option_map (moves t) (if b then substitute_move (goal_look t) else None)
     by_case true = refl
     by_case false = refl
 

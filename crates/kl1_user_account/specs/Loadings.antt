@@ -5,7 +5,8 @@ use Rattle.kl1_model.specs.Match.{module_of}
 use Rattle.kl1_model.specs.State.{State}
 use Rattle.kl1_model.specs.Module.{good}
 use Rattle.kl1_model.specs.Event.{load, loaded, refuse, with_entry}
-use Rattle.kl1_model.specs.Step.{step, with_module, load_module}
+use Rattle.kl1_model.specs.Step.{step, load_module}
+use Rattle.kl1_model.specs.code.Steps.{with_module}
 use Rattle.kl1_text.specs.declared.cell_name.CellName.{CellName}
 use Rattle.kl1_atoms.specs.declared.known.Known.{Known}
 use Rattle.kl1_store.specs.Hooks.{Hook}

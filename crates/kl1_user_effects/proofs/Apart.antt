@@ -7,7 +7,8 @@ use Rattle.kl1_model.specs.Term.{Term, variable, integer, atom, structure, occur
 use Rattle.kl1_model.specs.Meaning.{nil, cell}
 use Rattle.kl1_model.specs.State.{Shoen, State, shoen_at, replace_in_shoen, replace_in_state, change_shoen}
 use Rattle.kl1_model.specs.Tree.{path}
-use Rattle.kl1_model.specs.Report.{broken_at, reported_at, report_of, report, report_each, closed_at, close_of, close, exhausted_report, terminated_report}
+use Rattle.kl1_model.specs.Report.{broken_at, reported_at, report, report_each, closed_at, close, exhausted_report, terminated_report}
+use Rattle.kl1_model.specs.code.Steps.{report_of, close_of}
 use Rattle.kl1_model.specs.Ending.{without_monitor, ended_at, terminate, terminate_each, ending_of, newly_exhausted, after_reduction}
 use Rattle.kl1_user_effects.specs.Endings.{ended_each, finished, finished_each}
 

@@ -6,7 +6,7 @@ use Rattle.std.proofs.lemmas.Bool.{ne_eqb, eq-eqb}
 use Rattle.std.proofs.Math.Nat.{max-le, min-le_right}
 use Rattle.std.proofs.Common.{le_trans}
 use Rattle.kl1_model.specs.declared.limits.TheConstants.{MONITOR_PRIORITY}
-use Rattle.kl1_model.specs.Opening.{clipped}
+use Rattle.kl1_model.specs.code.Steps.{clipped}
 use Rattle.kl1_text.specs.declared.cell_name.CellName.{CellName}
 use Rattle.kl1_store.specs.declared.cell.Cell.{Cell}
 use Rattle.kl1_store.specs.declared.qualified.Qualified.{Qualified}

@@ -7,7 +7,8 @@ use Rattle.kl1_model.specs.Term.{Term, atom, Replacement}
 use Rattle.kl1_model.specs.Unify.{mgu}
 use Rattle.kl1_model.specs.State.{State, with_name}
 use Rattle.kl1_model.specs.Report.{exhaustion, failure}
-use Rattle.kl1_model.specs.Reduction.{or_exhaustion, named_by, raised, unified, equation}
+use Rattle.kl1_model.specs.Reduction.{or_exhaustion, raised, unified, equation}
+use Rattle.kl1_model.specs.code.Steps.{named_by}
 use Rattle.kl1_text.specs.declared.cell_name.CellName.{CellName}
 use Rattle.kl1_atoms.specs.declared.known.Known.{Known}
 use Rattle.kl1_atoms.specs.Names.{number_by}

@@ -12,8 +12,8 @@ use Rattle.kl1_model.specs.Instance.{body_instance, body_priorities, fresh_varia
 use Rattle.kl1_model.specs.Nodes.{goals_nodes}
 use Rattle.kl1_model.specs.State as model
 use Rattle.kl1_model.specs.State.{State, shoen_at, without_goal}
-use Rattle.kl1_model.specs.Opening.{clipped}
-use Rattle.kl1_model.specs.Reduction.{priority_of, goals_from, has_room_for, commits, or_exhaustion, committed, raised, moved}
+use Rattle.kl1_model.specs.code.Steps.{clipped, priority_of}
+use Rattle.kl1_model.specs.Reduction.{goals_from, has_room_for, commits, or_exhaustion, committed, raised, moved}
 use Rattle.kl1_model.specs.Report.{exhaustion}
 use Rattle.kl1_text.specs.declared.cell_name.CellName.{CellName}
 use Rattle.kl1_store.specs.declared.qualified.Qualified.{Qualified}

@@ -8,13 +8,14 @@ use Rattle.kl1_model.specs.State as model
 use Rattle.kl1_model.specs.State.{State, change_shoen, is_living}
 use Rattle.kl1_model.specs.Tree.{path_within, charge}
 use Rattle.kl1_model.specs.Report.{report, close, exception, illegal_input, stopped_report, resumed_report, aborted_report}
-use Rattle.kl1_model.specs.Ending as ending
+use Rattle.kl1_model.specs.code.Steps as steps
 use Rattle.kl1_model.specs.Ending.{without_monitor, ended_below}
 use Rattle.kl1_model.specs.declared.message.Message.TheVariants.{Stop, Start, Abort, Allow}
 use Rattle.kl1_model.specs.declared.limits.TheConstants.{MOST_ALLOWANCE}
 use Rattle.kl1_model.specs.declared.message.Message.{Message}
 use Rattle.kl1_model.specs.Control.{awaits_message, tells, tells_other, breaks_off}
-use Rattle.kl1_model.specs.Reduction.{stopped_of, resumed_of, obeyed, heard, allowed_more, with_control}
+use Rattle.kl1_model.specs.Reduction.{obeyed, heard, with_control}
+use Rattle.kl1_model.specs.code.Steps.{stopped_of, resumed_of, allowed_more}
 use Rattle.kl1_text.specs.declared.cell_name.CellName.{CellName}
 use Rattle.kl1_store.specs.declared.cell.Cell.{Cell}
 use Rattle.kl1_store.specs.Held.{Held, IsIn}
@@ -84,7 +85,7 @@ if_aborted : (c : Bool) (t : Means) (h : Shoen CellName) → (if c then record (
 if_aborted true t h = refl
 if_aborted false t h = refl
 
-aborted_read : (t : Means) (all : List (Shoen CellName)) (n : ℕ) (ss : List (Shoen CellName)) → map (ending.aborted_below (map (shoen_with t) all) n) (map (shoen_with t) ss) ≡ map (shoen_with t) (map (aborted_below_in all n) ss)
+aborted_read : (t : Means) (all : List (Shoen CellName)) (n : ℕ) (ss : List (Shoen CellName)) → map (steps.aborted_below (map (shoen_with t) all) n) (map (shoen_with t) ss) ≡ map (shoen_with t) (map (aborted_below_in all n) ss)
 aborted_read t all n [] = refl
 aborted_read t all n (h ∷ ss) =
     ap₂ (λ (k : model.Shoen) (ks : List model.Shoen). k ∷ ks)
@@ -120,8 +121,8 @@ aborts_turn ms h w n flags a e i =
       states = λ f knows s.
           let t = meaning f h in
           let S = worked f s h w in
-          ap (λ (ps : List ℕ). let z : State = record S { goals = filter (λ g. not (is_among n (path_within g.shoen ps g.shoen))) S.goals; shoens = map (ending.aborted_below S.shoens n) S.shoens } in z) (parents_read t w.shoens)
-          ∙ ap (λ (gs : List model.Goal). let z : State = record S { goals = gs; shoens = map (ending.aborted_below S.shoens n) S.shoens } in z) (below_read t (is_on_path_in w.shoens n) flags w.goals (flags_tell (is_on_path_in w.shoens n) w.shoens flags w.goals a e i.owned))
+          ap (λ (ps : List ℕ). let z : State = record S { goals = filter (λ g. not (is_among n (path_within g.shoen ps g.shoen))) S.goals; shoens = map (steps.aborted_below S.shoens n) S.shoens } in z) (parents_read t w.shoens)
+          ∙ ap (λ (gs : List model.Goal). let z : State = record S { goals = gs; shoens = map (steps.aborted_below S.shoens n) S.shoens } in z) (below_read t (is_on_path_in w.shoens n) flags w.goals (flags_tell (is_on_path_in w.shoens n) w.shoens flags w.goals a e i.owned))
           ∙ ap (λ (xs : List model.Shoen). let z : State = record S { goals = map (goal_with t) (with_aborted n flags w).goals; shoens = xs } in z) (aborted_read t w.shoens n w.shoens)
           ∙ ap (λ c. let z : State = record S { goals = map (goal_with t) (with_aborted n flags w).goals; shoens = map (shoen_with t) (with_aborted n flags w).shoens; last_shoen = c } in z) (sym (aborted_count w.shoens n w.shoens));
     }

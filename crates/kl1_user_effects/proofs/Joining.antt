@@ -11,7 +11,8 @@ use Rattle.kl1_model.specs.Look.{number_of_term}
 use Rattle.kl1_model.specs.State as model
 use Rattle.kl1_model.specs.State.{State}
 use Rattle.kl1_model.specs.Report.{report, exhaustion, started_report, exhausted_report}
-use Rattle.kl1_model.specs.Opening.{clipped, clipped_to, with_shoen, open_shoen, open_child}
+use Rattle.kl1_model.specs.Opening.{clipped_to, with_shoen, open_shoen, open_child}
+use Rattle.kl1_model.specs.code.Steps.{clipped}
 use Rattle.kl1_model.specs.Reduction.{opens, or_exhaustion, raised, moved}
 use Rattle.kl1_text.specs.declared.cell_name.CellName.{CellName}
 use Rattle.kl1_store.specs.declared.cell.Cell.{Cell}

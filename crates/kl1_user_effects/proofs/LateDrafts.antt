@@ -6,7 +6,8 @@ use Rattle.kl1_model.specs.Term.{Term}
 use Rattle.kl1_model.specs.State as model
 use Rattle.kl1_model.specs.State.{State}
 use Rattle.kl1_model.specs.Tree.{path}
-use Rattle.kl1_model.specs.Report.{broken_at, report, closed_at, close_of, close, exhausted_report, terminated_report}
+use Rattle.kl1_model.specs.Report.{broken_at, report, closed_at, close, exhausted_report, terminated_report}
+use Rattle.kl1_model.specs.code.Steps.{close_of}
 use Rattle.kl1_model.specs.Ending.{without_monitor, newly_exhausted}
 use Rattle.kl1_text.specs.declared.cell_name.CellName.{CellName}
 use Rattle.kl1_store.specs.declared.cell.Cell.{Cell}

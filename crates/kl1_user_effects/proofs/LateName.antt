@@ -10,7 +10,8 @@ use Rattle.kl1_model.specs.Term.{Term, variable, integer, atom, structure, Terms
 use Rattle.kl1_model.specs.Meaning.{nil, cell}
 use Rattle.kl1_model.specs.State.{Task, monitor, reduces, substitutes, Goal, Origin, Shoen, State, shoen_at, replace_in_task, replace_in_goal, replace_in_origin, replace_in_shoen, replace_in_state, change_shoen, is_monitor, is_living}
 use Rattle.kl1_model.specs.Tree.{parents_of, path_within, path, charge, is_living_child}
-use Rattle.kl1_model.specs.Report.{broken_at, reported_at, report_of, report, report_each, closed_at, close_of, close, exhausted_report, terminated_report}
+use Rattle.kl1_model.specs.Report.{broken_at, reported_at, report, report_each, closed_at, close, exhausted_report, terminated_report}
+use Rattle.kl1_model.specs.code.Steps.{report_of, close_of}
 use Rattle.kl1_model.specs.Ending.{has_goal, has_living_child, lives, ends_now, without_monitor, ended_at, ending_of, has_reached, newly_exhausted, after_reduction}
 use Rattle.kl1_user_effects.specs.Endings.{ended_each, finished, finished_each}
 use Rattle.kl1_user_effects.specs.Late.{is_variable, break_of, break_at, report_late, report_each_late, close_late_of, close_late, finished_late, finished_each_late, settle_charged_late}

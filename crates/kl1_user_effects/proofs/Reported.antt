@@ -5,7 +5,8 @@ use Rattle.kl1_model.specs.declared.limits.TheConstants.{MOST_REPORTS}
 use Rattle.kl1_model.specs.Term.{Term, variable, integer, atom, structure, occurs}
 use Rattle.kl1_model.specs.State as model
 use Rattle.kl1_model.specs.State.{State}
-use Rattle.kl1_model.specs.Report.{report, report_of, reported_at, broken_at, is_reported, is_reported_of, is_reported_at}
+use Rattle.kl1_model.specs.Report.{report, reported_at, broken_at, is_reported, is_reported_at}
+use Rattle.kl1_model.specs.code.Steps.{report_of, is_reported_of}
 use Rattle.kl1_text.specs.Reading.{Reads}
 use Rattle.kl1_text.specs.declared.cell_name.CellName.{CellName}
 use Rattle.kl1_store.specs.declared.cell.Cell.{Cell}

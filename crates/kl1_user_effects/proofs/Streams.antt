@@ -8,7 +8,8 @@ use Rattle.kl1_model.specs.Term.{Term, variable, integer, atom, structure, repla
 use Rattle.kl1_model.specs.Meaning.{nil}
 use Rattle.kl1_model.specs.Unify.{mgu}
 use Rattle.kl1_model.specs.State.{State}
-use Rattle.kl1_model.specs.Report.{report, close, close_of, closed_at, exception, failure}
+use Rattle.kl1_model.specs.Report.{report, close, closed_at, exception, failure}
+use Rattle.kl1_model.specs.code.Steps.{close_of}
 use Rattle.kl1_model.specs.Reduction.{raised, unified, equation}
 use Rattle.kl1_text.specs.Reading.{Reads}
 use Rattle.kl1_text.specs.declared.cell_name.CellName.{CellName}

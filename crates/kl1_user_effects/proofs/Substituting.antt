@@ -10,7 +10,8 @@ use Rattle.kl1_model.specs.Text.{text_of}
 use Rattle.kl1_model.specs.Term.{Term, variable, integer, atom, structure, occurs}
 use Rattle.kl1_model.specs.State as model
 use Rattle.kl1_model.specs.State.{State, has_substitutes}
-use Rattle.kl1_model.specs.Report.{report, is_reported, is_reported_of, is_reported_at, exception, exception_with}
+use Rattle.kl1_model.specs.Report.{report, is_reported, is_reported_at, exception, exception_with}
+use Rattle.kl1_model.specs.code.Steps.{is_reported_of}
 use Rattle.kl1_model.specs.Reduction.{replaced_by, substituted_by, raised}
 use Rattle.kl1_text.specs.Reading.{Reads}
 use Rattle.kl1_text.specs.declared.cell_name.CellName.{CellName}

@@ -6,7 +6,8 @@ use Rattle.kl1_model.specs.Term.{Term, variable, integer, atom, structure, repla
 use Rattle.kl1_model.specs.Meaning.{cell}
 use Rattle.kl1_model.specs.State as model
 use Rattle.kl1_model.specs.State.{State, shoen_at, change_shoen, replace_in_state}
-use Rattle.kl1_model.specs.Report.{report, report_of, reported_at, broken_at}
+use Rattle.kl1_model.specs.Report.{report, reported_at, broken_at}
+use Rattle.kl1_model.specs.code.Steps.{report_of}
 use Rattle.kl1_text.specs.Reading.{Reads}
 use Rattle.kl1_text.specs.declared.cell_name.CellName.{CellName}
 use Rattle.kl1_store.specs.declared.cell.Cell.{Cell}

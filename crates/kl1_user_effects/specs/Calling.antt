@@ -5,7 +5,8 @@ use Rattle.kl1_model.specs.Text.{is_text}
 use Rattle.kl1_model.specs.Term.{atom}
 use Rattle.kl1_model.specs.Unify.{mgu}
 use Rattle.kl1_model.specs.State.{with_name}
-use Rattle.kl1_model.specs.Reduction.{or_exhaustion, named_by, equation}
+use Rattle.kl1_model.specs.Reduction.{or_exhaustion, equation}
+use Rattle.kl1_model.specs.code.Steps.{named_by}
 use Rattle.kl1_text.specs.declared.cell_name.CellName.{CellName}
 use Rattle.kl1_atoms.specs.declared.known.Known.{Known}
 use Rattle.kl1_atoms.specs.Names.{number_by}

@@ -1,9 +1,9 @@
 -- What the move of a goal makes of a draft.
 use Rattle.std.specs.Prelude.{◌≡◌, ℕ, List, map, Option, Some, None, option_map, unwrap_or}
 use Rattle.kl1_model.specs.Match.{Candidate}
-use Rattle.kl1_model.specs.Opening.{clipped}
+use Rattle.kl1_model.specs.code.Steps.{clipped, priority_of}
 use Rattle.kl1_model.specs.Reduction as model
-use Rattle.kl1_model.specs.Reduction.{commits, opens, moved, priority_of}
+use Rattle.kl1_model.specs.Reduction.{commits, opens, moved}
 use Rattle.kl1_text.specs.declared.cell_name.CellName.{CellName}
 use Rattle.kl1_store.specs.declared.qualified.Qualified.{Qualified}
 use Rattle.kl1_store.specs.Held.{Held}

@@ -2,7 +2,8 @@
 
 ghost use Rattle.std.specs.Prelude.{◌≡◌, ◌<◌, ◌≤◌, ◌+◌, ◌++◌, [], suc, length, ◌&&◌, nat_lt, OnOk};
 ghost use Rattle.kl1_model.specs.declared.limits.TheConstants.{MONITOR_PRIORITY, MOST_SHOENS, MOST_SHOEN_DEPTH};
-ghost use Rattle.kl1_model.specs.Opening.{open_shoen, clipped};
+ghost use Rattle.kl1_model.specs.Opening.{open_shoen};
+ghost use Rattle.kl1_model.specs.code.Steps.{clipped};
 ghost use Rattle.kl1_store.specs.Held.{IsIn, arguments_of};
 ghost use Rattle.kl1_store.specs.Sound.{Grown};
 ghost use Rattle.kl1_shoen.specs.Shoens.{path_in};

@@ -8,7 +8,7 @@ ghost use Rattle.kl1_clause.specs.Predicates.{AreSome};
 ghost use Rattle.kl1_match.specs.Instances.{AreThere};
 ghost use Rattle.kl1_goals_moves.specs.Moves.{taken_places};
 ghost use Rattle.kl1_goals.specs.Lists.{is_monitor};
-ghost use Rattle.kl1_model.specs.Opening.{clipped};
+ghost use Rattle.kl1_model.specs.code.Steps.{clipped};
 ghost use Rattle.kl1_user_effects.specs.Kept.{AreShoensIn, IsOwned};
 ghost use Rattle.kl1_user_effects.specs.Drafts.{goals_left, goals_for, HasBegun, CanGoBack};
 ghost use Rattle.kl1_user_effects.specs.Moving.{Commits, priorities_by};

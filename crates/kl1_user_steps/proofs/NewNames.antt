@@ -10,7 +10,8 @@ use Rattle.kl1_model.specs.State.{State, replace_in_state, with_name}
 use Rattle.kl1_model.specs.Tree.{charge}
 use Rattle.kl1_model.specs.Ending.{after_reduction}
 use Rattle.kl1_model.specs.Reduction as model
-use Rattle.kl1_model.specs.Reduction.{moved, equation, names, or_exhaustion, named_by, unified}
+use Rattle.kl1_model.specs.Reduction.{moved, equation, names, or_exhaustion, unified}
+use Rattle.kl1_model.specs.code.Steps.{named_by}
 use Rattle.kl1_text.specs.Reading.{Reads}
 use Rattle.kl1_text.specs.declared.cell_name.CellName.{CellName}
 use Rattle.kl1_atoms.specs.declared.known.Known.{Known}

@@ -1,25 +1,28 @@
 -- What a goal waits for: the variables whose binding may change what it can do.
-use Rattle.std.specs.Prelude.{◌≡◌, ℕ, suc, ◌==◌, nat_le, if◌then◌else◌, List, [], ◌∷◌, ◌++◌, codes, bytes_eq, filter, find, Option, Some, None, is_some, ⊤}
+use Rattle.std.specs.Prelude.{◌≡◌, ℕ, suc, ◌==◌, nat_le, if◌then◌else◌, List, [], ◌∷◌, ◌++◌, codes, bytes_eq, filter, find, map, Option, Some, None, is_some, ⊤}
 use Rattle.std.specs.List.{AllByRecursion}
 use Rattle.kl1_model.specs.Term.{Term, variable, atom, structure, Terms, none, more, Replacement}
 use Rattle.kl1_model.specs.Meaning.{highest_in}
 use Rattle.kl1_model.specs.code.Awaited.{awaited}
 use Rattle.kl1_model.specs.Guard.{Test, holds, looks, is_same, is_other, compares, test_of, test_substituted, test_answer}
 use Rattle.kl1_model.specs.Module.{Clause, Module}
-use Rattle.kl1_model.specs.Match.{Answer, yes, no, wait, match_patterns, guard_term, places_of, verdict, Call, call_of, clauses_of}
+use Rattle.kl1_model.specs.Match.{Answer, yes, no, wait, match_patterns, guard_term, places_of, verdict, Call, call_of, candidates_of, clauses_of}
 use Rattle.kl1_model.specs.Arithmetic.{evaluated}
 use Rattle.kl1_model.specs.Goal.{is_execute}
 use Rattle.kl1_model.specs.Look.{spelling, goal_look, ExecuteArguments, arguments_look}
 use Rattle.kl1_model.specs.declared.rules.Rules.{Rules}
 use Rattle.kl1_model.specs.State.{most_spelled}
 use Rattle.kl1_model.specs.Reduction.{Move, execute_arguments, term_move}
-use Rattle.kl1_model.specs.Choice.{call_clauses}
 use Rattle.kl1_model.specs.Found.{Found, found, awaits, wrong, then_found, awaited_by_found}
 use Rattle.kl1_model.specs.declared.number.Number.{Number}
 
 -- what a term can do by the clause numbered `clause`
 abbrev pub move_by : Rules → List Module → Term → ℕ → Option Move
 move_by rules modules t clause = term_move rules modules t clause (call_of t)
+
+-- the numbers of a call's candidates
+abbrev pub call_clauses : List Module → Option Call → List ℕ
+call_clauses modules call = elim call [ None ↦ [] | Some call ↦ map (λ k. k.number) (candidates_of modules call) ]
 
 -- the clause by which a term can step: the least that is allowed
 abbrev pub term_clause : Rules → List Module → Term → Option ℕ

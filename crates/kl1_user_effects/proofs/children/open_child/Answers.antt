@@ -1,6 +1,7 @@
 use Rattle.std.proofs.Common.{◌≡◌, ℕ, suc, length, sym, ap, ◌∙◌, arith, subst}
 use Rattle.std.proofs.lemmas.Result.{on_ok_weaker}
-use Rattle.kl1_model.specs.Opening.{clipped, open_shoen}
+use Rattle.kl1_model.specs.Opening.{open_shoen}
+use Rattle.kl1_model.specs.code.Steps.{clipped}
 use Rattle.kl1_user_effects.specs.Account.{meaning, shoen_with}
 use Rattle.kl1_user_effects.specs.Drafts.{DraftsAll}
 use Rattle.kl1_user_effects.proofs.TreesIn.{never_absent}
