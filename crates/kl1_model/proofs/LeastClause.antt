@@ -6,10 +6,12 @@ use Rattle.std.proofs.lemmas.Bool.{cond-true, cond-false, eq-eqb, ne_eqb}
 use Rattle.kl1_model.specs.declared.rules.Rules.{Rules}
 use Rattle.kl1_model.specs.Term.{Term, Terms, Replacement}
 use Rattle.kl1_model.specs.Module.{Clause, Module}
-use Rattle.kl1_model.specs.Match.{Answer, yes, no, wait, Call, call_of, clauses_of, Candidate, candidate_by, candidates_within, candidates_from, candidates_of, fails, is_no, places_of, verdict}
+use Rattle.kl1_model.specs.Match.{Answer, yes, no, wait, Call, call_of, clauses_of, Candidate, candidate_by, candidates_of, fails, is_no, places_of, verdict}
+use Rattle.kl1_model.specs.code.Sections.{candidates_within, candidates_from}
 use Rattle.kl1_model.specs.Reduction.{Move, commits, raises, failure, term_move, built_in_move}
 use Rattle.kl1_model.specs.Choice.{call_clauses}
 use Rattle.kl1_model.specs.code.Waits.{term_clause, least_by, least_within, least_from, least_clause}
+use Rattle.kl1_model.proofs.SectionRuns.{candidates_walked}
 
 -- the number of the first candidate
 abbrev pub first_number : List Candidate → Option ℕ
@@ -117,7 +119,8 @@ clause_found false ks a = found_first false ks a
 pub term_clause-call : (rules : Rules) (modules : List Module) (t : Term) (k : Call) → call_of t ≡ Some k → term_clause rules modules t ≡ least_clause (clauses_of modules k) k.arguments
 term_clause-call rules modules t k e =
     ap (λ o. find (λ clause. is_some (term_move rules modules t clause o)) (0 ∷ call_clauses modules o)) e
-    ∙ clause_found (fails modules k) (candidates_of modules k) (are_from 1 (clauses_of modules k) k.arguments)
+    ∙ ap (λ ks. find (λ clause. is_some (moves_by (fails modules k) ks clause)) (0 ∷ map (λ q. q.number) ks)) (candidates_walked modules k)
+    ∙ clause_found (fails modules k) (candidates_from 1 (clauses_of modules k) k.arguments) (are_from 1 (clauses_of modules k) k.arguments)
     ∙ sym (least-chosen 1 (clauses_of modules k) k.arguments)
 
 pub term_clause-built_in : (rules : Rules) (modules : List Module) (t : Term) (m : Move) → call_of t ≡ None → built_in_move rules t ≡ Some m → term_clause rules modules t ≡ Some 0

@@ -10,7 +10,7 @@ use Rattle.kl1_model.specs.Meaning.{highest, highest_in}
 use Rattle.kl1_model.specs.Same.{Passive, same, differs, unknown, passive}
 use Rattle.kl1_model.specs.code.Awaited.{awaited}
 use Rattle.kl1_model.specs.Arithmetic.{evaluated}
-use Rattle.kl1_model.specs.Guard.{Test, holds, looks, is_same, is_other, compares, test_of, type_test_named, comparison_named, test_substituted, is_found, compared, together, known, same_answer, other_answer, numbers_answer, sides_answer, test_answer, answer_by}
+use Rattle.kl1_model.specs.Guard.{Test, holds, looks, is_same, is_other, compares, test_of, type_test_named, comparison_named, test_substituted, is_found, compared, together, known, same_answer, other_answer, numbers_answer, sides_answer, test_answer, Answer, no}
 use Rattle.kl1_model.specs.code.Outcome.{Outcome, agrees, clashes, waits, both, decided, alike, same_outcome, other_outcome, compared_numbers, compared_sides, outcome_by, answer_of}
 use Rattle.kl1_model.specs.laws.OutcomeLaws.{OutcomesAnswer}
 use Rattle.kl1_model.proofs.Renamed.{renamed, each_renamed, IsOneToOne, passive_renamed, evaluated_renamed, comes_renamed, found_renamed}
@@ -66,6 +66,10 @@ outcomes_answer (looks i (structure f ts)) = answer_decided (is_found i (structu
 outcomes_answer (is_same t u) = answer_alike t u
 outcomes_answer (is_other t u) = answer_other (passive t u) (awaited t u)
 outcomes_answer (compares c t u) = answer_sides c (evaluated t) (evaluated u)
+
+-- the answer of what may be a test, with terms in place of its variables
+abbrev pub answer_by : (ℕ → Term) → Option Test → Answer
+answer_by s x = elim x [ None ↦ no | Some test ↦ test_answer (test_substituted s test) ]
 
 pub answer_outcome : (s : ℕ → Term) (x : Option Test) → answer_of (outcome_by s x) ≡ answer_by s x
 answer_outcome s None = refl

@@ -110,15 +110,11 @@ match_both a b = record { outcome = both a.outcome b.outcome; places = a.places 
 abbrev mutual
   pub match_term : Term → Term → Matched
   match_term (variable v) t = record { outcome = agrees; places = record { number = v; by = t } ∷ [] }
+  match_term p (variable w) = with_outcome (waits (w ∷ []))
   match_term (integer i) (integer j) = with_outcome (decided (int_eq i j))
-  match_term (integer i) (variable w) = with_outcome (waits (w ∷ []))
-  match_term (integer i) t = with_outcome clashes
   match_term (atom a) (atom b) = with_outcome (decided (bytes_eq a b))
-  match_term (atom a) (variable w) = with_outcome (waits (w ∷ []))
-  match_term (atom a) t = with_outcome clashes
   match_term (structure f ps) (structure g ts) = if bytes_eq f g && count_of ps == count_of ts then match_terms ps ts else with_outcome clashes
-  match_term (structure f ps) (variable w) = with_outcome (waits (w ∷ []))
-  match_term (structure f ps) t = with_outcome clashes
+  match_term p t = with_outcome clashes
 
   pub match_terms : Terms → Terms → Matched
   match_terms none none = with_outcome agrees

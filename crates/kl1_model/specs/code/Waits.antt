@@ -3,7 +3,7 @@ use Rattle.std.specs.Prelude.{◌≡◌, ℕ, suc, ◌==◌, nat_le, if◌then�
 use Rattle.std.specs.List.{AllByRecursion}
 use Rattle.kl1_model.specs.Term.{Term, variable, atom, structure, Terms, none, more, Replacement}
 use Rattle.kl1_model.specs.Meaning.{highest_in}
-use Rattle.kl1_model.specs.code.Awaited.{awaited}
+use Rattle.kl1_model.specs.code.Awaited.{awaited, awaited_by_found}
 use Rattle.kl1_model.specs.Guard.{Test, holds, looks, is_same, is_other, compares, test_of, test_substituted, test_answer}
 use Rattle.kl1_model.specs.Module.{Clause, Module}
 use Rattle.kl1_model.specs.Match.{Answer, yes, no, wait, match_patterns, guard_term, places_of, verdict, Call, call_of, clauses_of}
@@ -14,7 +14,7 @@ use Rattle.kl1_model.specs.declared.rules.Rules.{Rules}
 use Rattle.kl1_model.specs.State.{most_spelled}
 use Rattle.kl1_model.specs.Reduction.{Move, execute_arguments, term_move}
 use Rattle.kl1_model.specs.Choice.{call_clauses}
-use Rattle.kl1_model.specs.Found.{Found, found, awaits, wrong, then_found, awaited_by_found}
+use Rattle.kl1_model.specs.Found.{Found, found, awaits, wrong, then_found}
 use Rattle.kl1_model.specs.declared.number.Number.{Number}
 
 -- what a term can do by the clause numbered `clause`
