@@ -110,32 +110,22 @@ compared AtLeast x y = int_le y x
 compared SameNumber x y = int_eq x y
 compared OtherNumber x y = not (int_eq x y)
 
--- `=` asks for the same term
+-- the answer of `=`, which asks for the same term
 abbrev pub same_answer : Passive → Answer
 same_answer same = yes
 same_answer differs = no
 same_answer unknown = wait
-
--- `\=` asks for a clash
-abbrev pub other_answer : Passive → Answer
-other_answer same = no
-other_answer differs = yes
-other_answer unknown = wait
 
 -- a comparison of what two expressions come to: no if one has a fault of computing
 abbrev pub numbers_answer : Comparison → Number → Number → Answer
 numbers_answer c (Value x) (Value y) = known (compared c x y)
 numbers_answer c a b = no
 
--- a comparison by its sides, the left one first: one that waits is wait, and one that is no expression is no
-abbrev pub sides_answer : Comparison → Found Number → Found Number → Answer
-sides_answer c a b = elim (then_found a (λ x. found_map (numbers_answer c x) b)) [ found answer ↦ answer | awaits v ↦ wait | wrong ↦ no ]
-
--- the answer of a test; a look at a term waits while the term is an unbound variable
+-- the answer of a test: a look waits while its term is an unbound variable, and of a comparison the left side decides first
 abbrev pub test_answer : Test → Answer
 test_answer holds = yes
 test_answer (looks i (variable v)) = wait
 test_answer (looks i t) = known (is_found i t)
 test_answer (is_same t u) = same_answer (passive t u)
-test_answer (is_other t u) = other_answer (passive t u)
-test_answer (compares c t u) = sides_answer c (evaluated t) (evaluated u)
+test_answer (is_other t u) = elim (passive t u) [ same ↦ no | differs ↦ yes | unknown ↦ wait ]
+test_answer (compares c t u) = elim (then_found (evaluated t) (λ x. found_map (numbers_answer c x) (evaluated u))) [ found a ↦ a | awaits v ↦ wait | wrong ↦ no ]

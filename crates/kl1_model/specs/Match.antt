@@ -52,7 +52,7 @@ abbrev pub term_at : List Replacement → ℕ → Term → Term
 term_at [] v t = t
 term_at (p ∷ places) v t = if p.number == v then p.by else term_at places v t
 
--- what stands in a test for a variable of the clause: the term at its first place; if none was reached, a variable that is none of the goal's
+-- what stands in a test for a variable of the clause: the term at its first place, or if none was reached a variable above the goal's
 abbrev pub guard_term : ℕ → List Replacement → ℕ → Term
 guard_term top places v = term_at places v (variable (suc (top + v)))
 
@@ -87,21 +87,16 @@ call_of t = None
 abbrev pub module_of : List Module → List ℕ → Option Module
 module_of modules name = find (λ m. bytes_eq m.name name) modules
 
--- the clauses of a predicate in a module that may be there
-abbrev pub clauses_in : Option Module → Call → List Clause
-clauses_in None call = []
-clauses_in (Some m) call = filter (is_of call.name (count_of call.arguments)) m.clauses
-
 -- the clauses of a call's predicate, in order; none if there is no such module or predicate
 abbrev pub clauses_of : List Module → Call → List Clause
-clauses_of modules call = clauses_in (module_of modules call.module_name) call
+clauses_of modules call = elim (module_of modules call.module_name) [ None ↦ [] | Some m ↦ filter (is_of call.name (count_of call.arguments)) m.clauses ]
 
 -- whether an answer is no
 abbrev pub is_no : Answer → Bool
 is_no no = true
 is_no a = false
 
--- a clause that a goal may commit to: its number in its predicate, from 1, the clause itself, and the terms at the places of its head's variables
+-- a clause that a goal may commit to: its number in its predicate, from 1, the clause, and the terms at the places of its head's variables
 pub record Candidate : Type 0 where
   pub number : ℕ
   pub clause : Clause

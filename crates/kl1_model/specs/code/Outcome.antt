@@ -1,5 +1,4 @@
--- Verdicts that carry the variables for which they wait: match, tests and verdict once more, as clauses of code and proofs speak of
--- them. `OutcomeLaws.antt` says that they have the answers of `Match.antt` and the variables of `Waits.antt`.
+-- Match, tests and verdict with the variables for which they wait; by `OutcomeLaws` they have the answers of `Match` and the variables of `Waits`.
 use Rattle.std.specs.Prelude.{ℕ, suc, ◌+◌, ◌-◌, ◌==◌, nat_le, ◌&&◌, Bool, if◌then◌else◌, List, [], ◌∷◌, ◌++◌, bytes_eq, Option, Some, None}
 use Rattle.std.specs.Ordering.{int_eq}
 use Rattle.kl1_model.specs.declared.comparison.Comparison.{Comparison}
@@ -15,8 +14,7 @@ use Rattle.kl1_model.specs.Guard.{Test, holds, looks, is_same, is_other, compare
 use Rattle.kl1_model.specs.Module.{Clause}
 use Rattle.kl1_model.specs.Found.{Found, found, awaits, wrong}
 
--- what comes of a part of a clause, be it a pattern, the places of a variable or a test: it agrees, it clashes, or it waits for
--- variables
+-- what comes of a pattern, of the places of a variable or of a test: it agrees, it clashes, or it waits for variables
 pub data Outcome : Type 0 where
   agrees : Outcome
   clashes : Outcome
@@ -80,8 +78,7 @@ outcome_of (is_same t u) = alike t u
 outcome_of (is_other t u) = other_outcome (passive t u) (awaited t u)
 outcome_of (compares c t u) = comparison c t u
 
--- the outcome of what may be a test, with terms in place of its variables; a term that is none, which no clause that was read has
--- there, clashes
+-- the outcome of what may be a test, with terms in place of its variables; a term that is none, which no module has there, clashes
 abbrev pub outcome_by : (ℕ → Term) → Option Test → Outcome
 outcome_by s None = clashes
 outcome_by s (Some test) = outcome_of (test_substituted s test)
@@ -105,8 +102,7 @@ with_outcome o = record { outcome = o; places = [] }
 abbrev pub match_both : Matched → Matched → Matched
 match_both a b = record { outcome = both a.outcome b.outcome; places = a.places ++ b.places }
 
--- a pattern beside a term: a variable takes the term; a constant or a structure beside an unbound variable waits,
--- and agrees with the same constant alone, or a structure of the same name and number of arguments whose arguments agree
+-- a pattern beside a term: a variable takes the term; a constant or a structure beside an unbound variable waits
 abbrev mutual
   pub match_term : Term → Term → Matched
   match_term (variable v) t = record { outcome = agrees; places = record { number = v; by = t } ∷ [] }
@@ -139,8 +135,7 @@ each_alike (p ∷ ps) = both (alike_with p ps) (each_alike ps)
 abbrev pub beside : ℕ → Term → Term
 beside last t = substituted (λ v. variable (suc (last + v))) t
 
--- what stands in a test for a variable of the clause: the term at the first of its places that were reached; if none was, it
--- stands for itself, an unbound variable that differs from all others
+-- what stands in a test for a variable of the clause: the term at its first place, or if none was reached the variable itself
 abbrev pub test_variable : ℕ → List Replacement → ℕ → Term
 test_variable last [] v = variable v
 test_variable last (p ∷ places) v = if p.number == v then beside last p.by else test_variable last places v
@@ -169,8 +164,7 @@ tests_outcome last places (t ∷ ts) = both (test_outcome last places t) (tests_
 abbrev pub guard_outcome : List Replacement → List Term → Outcome
 guard_outcome places tests = tests_outcome (highest_in (terms_of tests)) places tests
 
--- the verdict on a clause: it accepts the goal, with the terms of its head's variables, or rejects it, or suspends; a verdict that
--- may change, as more places are reached or a variable is bound, names the variables of which that depends
+-- the verdict on a clause: it accepts with the terms at places, or rejects or suspends with the variables that may change the verdict
 pub data Verdict : Type 0 where
   accepts : List Replacement → Verdict
   rejects : List ℕ → Verdict
@@ -182,8 +176,7 @@ awaited_in agrees = []
 awaited_in clashes = []
 awaited_in (waits vs) = vs
 
--- the verdict that an outcome leads to, beside that of the match alone: while the match waits, an earlier place of a variable may
--- yet be reached, and then the tests speak of the term there
+-- the verdict by an outcome; while the match waits, a test that clashes may yet come to speak of an earlier place's term
 abbrev pub verdict_with : Matched → Outcome → Verdict
 verdict_with m agrees = accepts m.places
 verdict_with m clashes = rejects (awaited_in m.outcome)

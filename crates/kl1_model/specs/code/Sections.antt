@@ -1,8 +1,12 @@
--- Candidates by a walk along the clauses: those of the section of the first clause that doesn't reject.
-use Rattle.std.specs.Prelude.{ℕ, suc, ◌==◌, if◌then◌else◌, List, [], ◌∷◌, ◌++◌}
-use Rattle.kl1_model.specs.Term.{Terms}
-use Rattle.kl1_model.specs.Module.{Clause}
-use Rattle.kl1_model.specs.Match.{Candidate, candidate_by, is_no, places_of, verdict}
+-- The clauses of a predicate, and its candidates by a walk along them: those of the section of the first clause that doesn't reject.
+use Rattle.std.specs.Prelude.{ℕ, suc, ◌==◌, if◌then◌else◌, List, [], ◌∷◌, ◌++◌, Option, Some, None, filter}
+use Rattle.kl1_model.specs.Term.{Terms, count_of}
+use Rattle.kl1_model.specs.Module.{Clause, Module, is_of}
+use Rattle.kl1_model.specs.Match.{Call, Candidate, candidate_by, is_no, places_of, verdict}
+
+-- the clauses of a call's predicate in a module, if it is there
+abbrev pub clauses_in : Option Module → Call → List Clause
+clauses_in m call = elim m [ None ↦ [] | Some m ↦ filter (is_of call.name (count_of call.arguments)) m.clauses ]
 
 -- the candidates among clauses as far as they are of this section, the first clause having this number
 abbrev pub candidates_within : ℕ → ℕ → List Clause → Terms → List Candidate

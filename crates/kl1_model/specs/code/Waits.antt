@@ -25,25 +25,23 @@ move_by rules modules t clause = term_move rules modules t clause (call_of t)
 abbrev pub term_clause : Rules → List Module → Term → Option ℕ
 term_clause rules modules t = find (λ clause. is_some (move_by rules modules t clause)) (0 ∷ call_clauses modules (call_of t))
 
--- one of three results, chosen by a verdict: for yes, for no and for wait
-abbrev pub least_by : Option ℕ → Option ℕ → Option ℕ → Answer → Option ℕ
-least_by accepted rejected suspended yes = accepted
-least_by accepted rejected suspended no = rejected
-least_by accepted rejected suspended wait = suspended
+-- one of three results, chosen by an answer: for yes, for no and for wait
+abbrev pub by_answer : {A : Type 0} → A → A → A → Answer → A
+by_answer accepted rejected suspended yes = accepted
+by_answer accepted rejected suspended no = rejected
+by_answer accepted rejected suspended wait = suspended
 
--- the least number of a clause whose verdict is yes, among clauses as far as they are of this section, in which one before waits;
--- the first has this number
+-- the least number of a clause that accepts, from number `n` on, among clauses as far as they are of this section
 abbrev pub least_within : ℕ → ℕ → List Clause → Terms → Option ℕ
 least_within section n [] ts = None
 least_within section n (c ∷ cs) ts =
     let later = least_within section (suc n) cs ts in
-    if c.section == section then least_by (Some n) later later (verdict c ts) else None
+    if c.section == section then by_answer (Some n) later later (verdict c ts) else None
 
--- the least number of a clause that accepts, the first having this number, or 0 if each rejects; a clause that waits ends
--- the search with its section
+-- the least number of a clause that accepts, from number `n` on, or 0 if each rejects; one that waits ends the search with its section
 abbrev pub least_from : ℕ → List Clause → Terms → Option ℕ
 least_from n [] ts = Some 0
-least_from n (c ∷ cs) ts = least_by (Some n) (least_from (suc n) cs ts) (least_within c.section (suc n) cs ts) (verdict c ts)
+least_from n (c ∷ cs) ts = by_answer (Some n) (least_from (suc n) cs ts) (least_within c.section (suc n) cs ts) (verdict c ts)
 
 -- the least number of a clause that accepts, from 1, or 0 if each rejects or there is none, or nothing
 abbrev pub least_clause : List Clause → Terms → Option ℕ
@@ -51,9 +49,8 @@ least_clause cs ts = least_from 1 cs ts
 
 -- variables, while an answer is wait
 abbrev pub while_waiting : Answer → List ℕ → List ℕ
-while_waiting yes vs = []
-while_waiting no vs = []
 while_waiting wait vs = vs
+while_waiting a vs = []
 
 -- the variables that a pattern beside a term waits for
 abbrev mutual
@@ -120,8 +117,7 @@ awaited_by_match c ts = while_waiting (match_patterns c.patterns ts).answer (awa
 abbrev pub awaited_by_rest : Clause → Terms → List ℕ
 awaited_by_rest c ts = awaited_by_each (places_of c ts) ++ awaited_by_tests (highest_in ts) (guard_term (highest_in ts) (places_of c ts)) c.tests
 
--- the variables that a verdict waits for, of those of the match and the others: a clause that rejects by a test while its match
--- waits may come to wait, since an earlier place of a variable may yet be reached, and then the test speaks of the term there
+-- the variables that a verdict waits for; while the match waits, a test that is no may yet come to speak of an earlier place's term
 abbrev pub awaited_by_verdict : Answer → List ℕ → List ℕ → List ℕ
 awaited_by_verdict yes match_awaited rest_awaited = []
 awaited_by_verdict no match_awaited rest_awaited = match_awaited
@@ -131,12 +127,9 @@ awaited_by_verdict wait match_awaited rest_awaited = match_awaited ++ rest_await
 abbrev pub awaited_by_clause : Clause → Terms → List ℕ
 awaited_by_clause c ts = awaited_by_verdict (verdict c ts) (awaited_by_match c ts) (awaited_by_rest c ts)
 
--- the variables that clauses wait for from this one on, by its verdict, with its own and those of later ones if it is no and wait:
--- a clause that accepts ends the search for the least, and one that waits may yet come to accept
+-- the variables that clauses wait for from this one on, by its verdict, its own variables, and those of later clauses if it is no or wait
 abbrev pub awaited_after : Answer → List ℕ → List ℕ → List ℕ → List ℕ
-awaited_after yes own rejected suspended = []
-awaited_after no own rejected suspended = own ++ rejected
-awaited_after wait own rejected suspended = own ++ suspended
+awaited_after v own rejected suspended = by_answer [] (own ++ rejected) (own ++ suspended) v
 
 -- the variables that clauses wait for, up to the first that accepts, as far as they are of this section
 abbrev pub awaited_within : ℕ → List Clause → Terms → List ℕ
