@@ -1,5 +1,5 @@
 -- What stands at the front of a control stream when variables are replaced.
-use Rattle.std.proofs.Common.{◌≡◌, ℕ, Bool, true, false, if◌then◌else◌, List, [], ◌∷◌, refl, ap, ◌∙◌}
+use Rattle.std.proofs.Common.{◌≡◌, ℕ, Bool, true, false, if◌then◌else◌, List, refl, ap, ◌∙◌}
 use Rattle.std.specs.Prelude.{codes, bytes_eq, pos, negsuc}
 use Rattle.kl1_model.specs.Term.{Term, variable, integer, atom, structure, none, more, substituted}
 use Rattle.kl1_model.specs.Control.{allow_word, word_of, ends, breaks_off, control_by, control_of}

@@ -6,7 +6,7 @@ use Rattle.std.proofs.lemmas.Bool.{cond-true, cond-false, eq-eqb, ne_eqb}
 use Rattle.kl1_model.specs.declared.rules.Rules.{Rules}
 use Rattle.kl1_model.specs.Term.{Term, Terms, Replacement}
 use Rattle.kl1_model.specs.Module.{Clause, Module}
-use Rattle.kl1_model.specs.Match.{Answer, yes, no, wait, Call, call_of, clauses_of, Candidate, candidate_by, candidates_of, fails, is_no, places_of, verdict}
+use Rattle.kl1_model.specs.Match.{Answer, yes, no, wait, Call, call_of, clauses_of, Candidate, candidate_by, fails, is_no, places_of, verdict}
 use Rattle.kl1_model.specs.code.Sections.{candidates_within, candidates_from}
 use Rattle.kl1_model.specs.Reduction.{Move, commits, raises, failure, term_move, built_in_move}
 use Rattle.kl1_model.specs.Choice.{call_clauses}

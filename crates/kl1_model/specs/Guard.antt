@@ -10,7 +10,7 @@ use Rattle.kl1_model.specs.declared.number.Number.TheVariants.{Value}
 use Rattle.kl1_model.specs.Term.{Term, variable, integer, atom, structure, none, more, substituted}
 use Rattle.kl1_model.specs.Same.{Passive, same, differs, unknown, passive}
 use Rattle.kl1_model.specs.Arithmetic.{evaluated}
-use Rattle.kl1_model.specs.Found.{Found, found, awaits, wrong, then_found, found_map}
+use Rattle.kl1_model.specs.Found.{found, awaits, wrong, then_found, found_map}
 
 -- yes, no, or not yet
 pub data Answer : Type 0 where

@@ -1,7 +1,7 @@
 -- Passive equality: whether terms are the same, can't become the same, or may become the same.
 use Rattle.std.specs.Prelude.{◌==◌, ◌&&◌, ◌||◌, not, Bool, true, false, if◌then◌else◌, bytes_eq}
 use Rattle.std.specs.Ordering.{int_eq}
-use Rattle.kl1_model.specs.Term.{Term, variable, integer, atom, structure, Terms, none, more, count_of, same_term}
+use Rattle.kl1_model.specs.Term.{Term, variable, integer, atom, structure, Terms, more, count_of, same_term}
 
 -- whether somewhere in both terms there is a constant or structure, and the two differ in kind, name, number of arguments or value
 abbrev mutual
