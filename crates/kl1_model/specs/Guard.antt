@@ -95,11 +95,9 @@ test_substituted s (compares c t u) = compares c (substituted s t) (substituted 
 abbrev pub is_found : TypeTest → Term → Bool
 is_found Bound t = true
 is_found Integer (integer i) = true
-is_found Integer _ = false
 is_found Atom (atom a) = true
-is_found Atom _ = false
 is_found Cell (structure f (more a (more b none))) = bytes_eq f (codes ".")
-is_found Cell _ = false
+is_found _ _ = false
 
 -- whether a comparison holds of two integers
 abbrev pub compared : Comparison → ℤ → ℤ → Bool
@@ -128,4 +126,5 @@ test_answer (looks i (variable v)) = wait
 test_answer (looks i t) = known (is_found i t)
 test_answer (is_same t u) = same_answer (passive t u)
 test_answer (is_other t u) = elim (passive t u) [ same ↦ no | differs ↦ yes | unknown ↦ wait ]
-test_answer (compares c t u) = elim (then_found (evaluated t) (λ x. found_map (numbers_answer c x) (evaluated u))) [ found a ↦ a | awaits v ↦ wait | wrong ↦ no ]
+test_answer (compares c t u) =
+    elim (then_found (evaluated t) (λ x. found_map (numbers_answer c x) (evaluated u))) [ found a ↦ a | awaits v ↦ wait | wrong ↦ no ]

@@ -52,7 +52,7 @@ abbrev pub term_at : List Replacement → ℕ → Term → Term
 term_at [] v t = t
 term_at (p ∷ places) v t = if p.number == v then p.by else term_at places v t
 
--- what stands in a test for a variable of the clause: the term at its first place, or if none was reached a variable above the goal's
+-- what stands in a test for a variable: the term at its first place, or if none was reached a variable with a number above all of the goal's
 abbrev pub guard_term : ℕ → List Replacement → ℕ → Term
 guard_term top places v = term_at places v (variable (suc (top + v)))
 

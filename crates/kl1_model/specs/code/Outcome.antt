@@ -1,4 +1,4 @@
--- Match, tests and verdict with the variables for which they wait; by `OutcomeLaws` they have the answers of `Match` and the variables of `Waits`.
+-- Match, tests and verdict with the variables that they wait for: by `OutcomeLaws` the answers are those of `Match`, the variables of `Waits`.
 use Rattle.std.specs.Prelude.{ℕ, suc, ◌+◌, ◌-◌, ◌==◌, nat_le, ◌&&◌, Bool, if◌then◌else◌, List, [], ◌∷◌, ◌++◌, bytes_eq, Option, Some, None}
 use Rattle.std.specs.Ordering.{int_eq}
 use Rattle.kl1_model.specs.declared.comparison.Comparison.{Comparison}
