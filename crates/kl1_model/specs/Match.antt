@@ -52,7 +52,7 @@ abbrev pub term_at : List Replacement → ℕ → Term → Term
 term_at [] v t = t
 term_at (p ∷ places) v t = if p.number == v then p.by else term_at places v t
 
--- what stands in a test for a variable: the term at its first place, or if none was reached a variable with a number above all of the goal's
+-- what stands in a test for a variable: the term at its first place, or if none was reached a variable with a number above the goal's
 abbrev pub guard_term : ℕ → List Replacement → ℕ → Term
 guard_term top places v = term_at places v (variable (suc (top + v)))
 
@@ -79,8 +79,10 @@ pub record Call : Type 0 where
 
 -- the call that a goal is, if it is one; `shoen:execute` with six arguments is none
 abbrev pub call_of : Term → Option Call
-call_of (structure f (more (atom m) (more (atom p) none))) = if bytes_eq f (codes ":") then Some (record { module_name = m; name = p; arguments = none }) else None
-call_of (structure f (more (atom m) (more (structure p ts) none))) = if bytes_eq f (codes ":") && not (is_execute m (structure p ts)) then Some (record { module_name = m; name = p; arguments = ts }) else None
+call_of (structure f (more (atom m) (more (atom p) none))) =
+    if bytes_eq f (codes ":") then Some (record { module_name = m; name = p; arguments = none }) else None
+call_of (structure f (more (atom m) (more (structure p ts) none))) =
+    if bytes_eq f (codes ":") && not (is_execute m (structure p ts)) then Some (record { module_name = m; name = p; arguments = ts }) else None
 call_of t = None
 
 -- the module of a name
