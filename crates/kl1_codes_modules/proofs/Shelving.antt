@@ -8,7 +8,8 @@ use Rattle.indexmap.proofs.CallerLemmas.{insert_entry-new}
 use Rattle.std.proofs.lemmas.Bool.{cond-true, cond-false, eq-eqb, ne_eqb, false≢true}
 use Rattle.kl1_model.specs.Term.{count_of}
 use Rattle.kl1_model.specs.Module.{Module, is_of}
-use Rattle.kl1_model.specs.Match.{Call, module_of, clauses_in, clauses_of}
+use Rattle.kl1_model.specs.Match.{Call, module_of, clauses_of}
+use Rattle.kl1_model.specs.code.Sections.{clauses_in}
 use Rattle.kl1_text.specs.Reading.{Reads}
 use Rattle.kl1_text.specs.declared.cell_name.CellName.{CellName}
 use Rattle.kl1_clause.specs.declared.predicate.Predicate.{Predicate}

@@ -36,7 +36,7 @@ use Rattle.kl1_goals_moves.specs.declared.order.ExecuteArguments.{ExecuteArgumen
 use Rattle.kl1_goals_moves.specs.Orders.{order_at, IsOrder}
 use Rattle.kl1_goals_moves.specs.Calls.{atom_in, name_in, cell_in, cell_of, IsOf, IsNameless, CallsNothing, Calls, CalledIn, CalledBetween, CalledAs, CalledInside, IsCounted, is_order}
 use Rattle.kl1_goals_moves.specs.Kinds.{IsCall, IsUnification, IsAssignment, IsSpelling, IsExecution, IsTrueGoal, IsKind, KindIn, order_kind, callee_kind}
-use Rattle.kl1_model.specs.Found.{awaited_by_found}
+use Rattle.kl1_model.specs.code.Awaited.{awaited_by_found}
 
 -- ---- under another name than `:`
 

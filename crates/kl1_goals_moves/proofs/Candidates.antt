@@ -6,10 +6,12 @@ use Rattle.kl1_model.specs.declared.rules.Rules.{Rules}
 use Rattle.kl1_model.specs.Term.{Term, Terms, Replacement}
 use Rattle.kl1_model.specs.Module.{Clause, Module}
 use Rattle.kl1_model.specs.Match as model
-use Rattle.kl1_model.specs.Match.{Answer, yes, no, wait, call_of, clauses_of, Candidate, candidate_by, candidates_within, candidates_from, candidates_of, fails, is_no, places_of, verdict}
+use Rattle.kl1_model.specs.Match.{Answer, yes, no, wait, call_of, clauses_of, Candidate, candidate_by, candidates_of, fails, is_no, places_of, verdict}
+use Rattle.kl1_model.specs.code.Sections.{candidates_within, candidates_from}
 use Rattle.kl1_model.specs.Reduction as model_moves
 use Rattle.kl1_model.specs.Reduction.{commits, raises, failure, term_move, call_move, built_in_move}
 use Rattle.kl1_model.specs.code.Waits.{move_by, least_clause}
+use Rattle.kl1_model.proofs.SectionRuns.{candidates_walked}
 use Rattle.kl1_model.proofs.LeastClause.{AreFrom, are_from, first_number, least-chosen}
 use Rattle.kl1_match_verdict.specs.Candidates.{numbered}
 use Rattle.kl1_goals_moves.specs.Shapes.{IsNoGoal}
@@ -40,6 +42,7 @@ none_behind j n (c ∷ cs) ts le = by (is_no (verdict c ts)) (none_behind j (suc
 by_number : (modules : List Module) (k : model.Call) (number : ℕ) → 0 < number → call_move modules k number ≡ option_map (λ q. commits q) (numbered number (candidates_from 1 (clauses_of modules k) k.arguments))
 by_number modules k number some =
     cond-false (number == 0) (if fails modules k then Some (raises failure) else None) (option_map (λ q. commits q) (numbered number (candidates_of modules k))) (ne_eqb number 0 (λ e. absurd (omega (arith, some, e))))
+    ∙ ap (λ ks. option_map (λ q. commits q) (numbered number ks)) (candidates_walked modules k)
 
 fails_then : (b : Bool) (ks : List Candidate) → AreFrom 1 ks → (if b then Some 0 else first_number ks) ≡ Some 0 → b ≡ true
 fails_then true ks a e = refl
@@ -53,12 +56,12 @@ fails_not false ks ne = refl
 call_fails : (modules : List Module) (k : model.Call) → least_clause (clauses_of modules k) k.arguments ≡ Some 0 → call_move modules k 0 ≡ Some (raises failure)
 call_fails modules k e =
     cond-true (fails modules k) (Some (raises failure)) None
-    (fails_then (fails modules k) (candidates_of modules k) (are_from 1 (clauses_of modules k) k.arguments) (sym (least-chosen 1 (clauses_of modules k) k.arguments) ∙ e))
+    (fails_then (fails modules k) (candidates_from 1 (clauses_of modules k) k.arguments) (are_from 1 (clauses_of modules k) k.arguments) (sym (least-chosen 1 (clauses_of modules k) k.arguments) ∙ e))
 
 call_goes_on : (modules : List Module) (k : model.Call) → (least_clause (clauses_of modules k) k.arguments ≡ Some 0 → ⊥) → call_move modules k 0 ≡ None
 call_goes_on modules k ne =
     cond-false (fails modules k) (Some (raises failure)) None
-    (fails_not (fails modules k) (candidates_of modules k) (λ q. ne (least-chosen 1 (clauses_of modules k) k.arguments ∙ q)))
+    (fails_not (fails modules k) (candidates_from 1 (clauses_of modules k) k.arguments) (λ q. ne (least-chosen 1 (clauses_of modules k) k.arguments ∙ q)))
 
 move_by-call : (rules : Rules) (modules : List Module) (t : Term) (k : model.Call) (n : ℕ) → call_of t ≡ Some k → move_by rules modules t n ≡ call_move modules k n
 move_by-call rules modules t k n e = ap (term_move rules modules t n) e

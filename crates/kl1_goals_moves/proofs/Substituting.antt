@@ -12,7 +12,7 @@ use Rattle.kl1_goals_moves.specs.declared.look.Look.TheVariants as look
 use Rattle.kl1_goals_moves.specs.declared.moves.Move.{Move}
 use Rattle.kl1_goals_moves.specs.Looks.{look_of}
 use Rattle.kl1_goals_moves.specs.Substitutes.{giving_way, substitute_move_of, SubstituteMoves, SubstituteStands}
-use Rattle.kl1_model.specs.Found.{awaited_by_found}
+use Rattle.kl1_model.specs.code.Awaited.{awaited_by_found}
 
 -- by 0 it does what the look says
 gives_as : (N : Type 0) (t : Term) (x : Look) → look_of x ≡ goal_look t → let m : Option (Move N) = giving_way x in substitute_move_of m (model.substitute_move (goal_look t))

@@ -62,7 +62,7 @@ use Rattle.kl1_goals_moves.specs.Moves.{HasPredicate, FailsAs, candidate_at, IsC
 use Rattle.kl1_goals_moves.specs.Standing.{StandsAs}
 use Rattle.kl1_goals_moves.specs.Bodies.{IsBody, AreNeeds}
 use Rattle.kl1_goals_moves.proofs.Candidates.{none_behind, fails_by, goes_on_by, commits_by, by_zero}
-use Rattle.kl1_model.specs.Found.{awaited_by_found}
+use Rattle.kl1_model.specs.code.Awaited.{awaited_by_found}
 
 -- ---- compiled clauses of a predicate
 

@@ -21,7 +21,7 @@ use Rattle.kl1_goals_moves.specs.Shapes.{IsNoGoal}
 use Rattle.kl1_match.specs.Waiting.{IsUnbound}
 use Rattle.kl1_goals_moves.specs.Orders.{order_at, IsOrder}
 use Rattle.kl1_goals_moves.specs.Calls.{cell_of, arguments_at, call_at, is_order}
-use Rattle.kl1_model.specs.Found.{awaited_by_found}
+use Rattle.kl1_model.specs.code.Awaited.{awaited_by_found}
 
 -- a term is this call
 pub record IsCall {N : Type 0} (f : N → List ℕ) (h : Held N) (t : Term) (c : Call N) : Type 0 where

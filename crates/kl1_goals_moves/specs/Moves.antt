@@ -5,7 +5,8 @@ use Rattle.kl1_model.specs.declared.rules.Rules.{Rules}
 use Rattle.kl1_model.specs.Text.{is_text, text_of}
 use Rattle.kl1_model.specs.Term.{Term}
 use Rattle.kl1_model.specs.Module.{Clause, Module}
-use Rattle.kl1_model.specs.Match.{clauses_of, Candidate, candidates_from}
+use Rattle.kl1_model.specs.Match.{clauses_of, Candidate}
+use Rattle.kl1_model.specs.code.Sections.{candidates_from}
 use Rattle.kl1_model.specs.Reduction as model
 use Rattle.kl1_model.specs.Reduction.{commits, raises, unifies, names, opens, goes, gives_way}
 use Rattle.kl1_model.specs.code.Waits.{move_by, least_clause}

@@ -5,7 +5,8 @@ use Rattle.std.proofs.lemmas.Bool.{cond-true, cond-false, eq-eqb, ne_eqb, eqb-tr
 use Rattle.kl1_model.specs.declared.built_in.BuiltIn.{BuiltIn}
 use Rattle.kl1_model.specs.Term.{Terms, Replacement}
 use Rattle.kl1_model.specs.Module.{Clause}
-use Rattle.kl1_model.specs.Match.{Answer, yes, no, wait, Candidate, candidate_by, candidates_within, candidates_from, is_no, places_of, verdict}
+use Rattle.kl1_model.specs.Match.{Answer, yes, no, wait, Candidate, candidate_by, is_no, places_of, verdict}
+use Rattle.kl1_model.specs.code.Sections.{candidates_within, candidates_from}
 use Rattle.kl1_model.specs.code.Outcome.{answer_in}
 use Rattle.kl1_model.proofs.LeastClause.{AreFrom, are_from, are_from_within}
 use Rattle.kl1_model.proofs.VerdictAnswers.{verdicts_answer, places_in, candidate_in}

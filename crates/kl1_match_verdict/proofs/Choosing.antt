@@ -11,7 +11,7 @@ use Rattle.kl1_model.specs.code.Outcome as model
 use Rattle.kl1_model.specs.Match.{verdict}
 use Rattle.kl1_model.specs.code.Outcome.{named_verdict, answer_in}
 use Rattle.kl1_model.specs.laws.OutcomeLaws.{named_in}
-use Rattle.kl1_model.specs.code.Waits.{least_by, least_within, least_from, least_clause, awaited_after, awaited_within, awaited_by_clause, awaited_by_clauses}
+use Rattle.kl1_model.specs.code.Waits.{by_answer, least_within, least_from, least_clause, awaited_after, awaited_within, awaited_by_clause, awaited_by_clauses}
 use Rattle.kl1_model.proofs.VerdictAnswers.{verdicts_answer}
 use Rattle.kl1_model.proofs.VerdictNames.{verdicts_name}
 use Rattle.kl1_text.specs.Reading.{Reads}
@@ -94,10 +94,10 @@ none_tried built names clauses h goal before = record {
 -- ---- a clause of the section
 
 here_within : (s n : ℕ) (d : Clause) (rest : List Clause) (ts : Terms) → d.section ≡ s → (d.section == s) ≡ true →
-    least_within s n (d ∷ rest) ts ≡ least_by (Some n) (least_within s (suc n) rest ts) (least_within d.section (suc n) rest ts) (verdict d ts)
+    least_within s n (d ∷ rest) ts ≡ by_answer (Some n) (least_within s (suc n) rest ts) (least_within d.section (suc n) rest ts) (verdict d ts)
 here_within s n d rest ts e is =
-    ap (λ b. if b then least_by (Some n) (least_within s (suc n) rest ts) (least_within s (suc n) rest ts) (verdict d ts) else None) is
-    ∙ ap (λ k. least_by (Some n) (least_within s (suc n) rest ts) (least_within k (suc n) rest ts) (verdict d ts)) (sym e)
+    ap (λ b. if b then by_answer (Some n) (least_within s (suc n) rest ts) (least_within s (suc n) rest ts) (verdict d ts) else None) is
+    ∙ ap (λ k. by_answer (Some n) (least_within s (suc n) rest ts) (least_within k (suc n) rest ts) (verdict d ts)) (sym e)
 
 awaited_here : (s : ℕ) (d : Clause) (rest : List Clause) (ts : Terms) → d.section ≡ s → (d.section == s) ≡ true →
     awaited_within s (d ∷ rest) ts ≡ awaited_after (verdict d ts) (awaited_by_clause d ts) (awaited_within s rest ts) (awaited_within d.section rest ts)
@@ -114,7 +114,7 @@ other true e = absurd (cc)
 other false e = refl
 
 least_here : (waiting : Option ℕ) (n : ℕ) (d : Clause) (rest : List Clause) (ts : Terms) → is_past waiting d.section ≡ false →
-    least_left waiting n (d ∷ rest) ts ≡ least_by (Some n) (least_left waiting (suc n) rest ts) (least_within d.section (suc n) rest ts) (verdict d ts)
+    least_left waiting n (d ∷ rest) ts ≡ by_answer (Some n) (least_left waiting (suc n) rest ts) (least_within d.section (suc n) rest ts) (verdict d ts)
 least_here None n d rest ts e = refl
 least_here (Some s) n d rest ts e = let is = not_other (d.section == s) e in here_within s n d rest ts (eqb-true d.section s is) is
 
@@ -127,7 +127,7 @@ waits_here (Some s) d rest ts e = let is = not_other (d.section == s) e in await
 
 none_past : (waiting : Option ℕ) (n : ℕ) (d : Clause) (rest : List Clause) (ts : Terms) → is_past waiting d.section ≡ true → least_left waiting n (d ∷ rest) ts ≡ None
 none_past None n d rest ts e = absurd (cc)
-none_past (Some s) n d rest ts e = ap (λ b. if b then least_by (Some n) (least_within s (suc n) rest ts) (least_within s (suc n) rest ts) (verdict d ts) else None) (other (d.section == s) e)
+none_past (Some s) n d rest ts e = ap (λ b. if b then by_answer (Some n) (least_within s (suc n) rest ts) (least_within s (suc n) rest ts) (verdict d ts) else None) (other (d.section == s) e)
 
 nothing_past : (waiting : Option ℕ) (d : Clause) (rest : List Clause) (ts : Terms) → is_past waiting d.section ≡ true → awaited_left waiting (d ∷ rest) ts ≡ []
 nothing_past None d rest ts e = absurd (cc)
@@ -137,7 +137,7 @@ nothing_past (Some s) d rest ts e = ap (λ b. if b then awaited_after (verdict d
 
 -- what a clause's verdict leads to
 record LeadsTo (cs : List Clause) (ts : Terms) (defined : List ℕ) (tried section : ℕ) (waiting : Option ℕ) (v : model.Verdict) : Type 0 where
-  pub answer : least_by (Some (suc tried)) (least_left waiting (suc (suc tried)) (drop (suc tried) cs) ts) (least_within section (suc (suc tried)) (drop (suc tried) cs) ts) (answer_in v) ≡ least_clause cs ts
+  pub answer : by_answer (Some (suc tried)) (least_left waiting (suc (suc tried)) (drop (suc tried) cs) ts) (least_within section (suc (suc tried)) (drop (suc tried) cs) ts) (answer_in v) ≡ least_clause cs ts
   pub awaited : awaited_by_clauses cs ts ≡ defined ++ awaited_after (answer_in v) (named_in v) (awaited_left waiting (drop (suc tried) cs) ts) (awaited_within section (drop (suc tried) cs) ts)
 
 leads_to : (cs : List Clause) (ts : Terms) (named : List ℕ) (tried : ℕ) (waiting : Option ℕ) (d : Clause) (v : model.Verdict) → drop tried cs ≡ d ∷ drop (suc tried) cs → is_past waiting d.section ≡ false → named_verdict d ts ≡ v →
@@ -149,7 +149,7 @@ leads_to cs ts named tried waiting d v e near is l =
     record {
       answer =
           sym (ap (λ ds. least_left waiting (suc tried) ds ts) e ∙ (least_here waiting (suc tried) d rest ts near
-          ∙ ap (least_by (Some (suc tried)) (least_left waiting (suc (suc tried)) rest ts) (least_within d.section (suc (suc tried)) rest ts)) said)) ∙ l.answer;
+          ∙ ap (by_answer (Some (suc tried)) (least_left waiting (suc (suc tried)) rest ts) (least_within d.section (suc (suc tried)) rest ts)) said)) ∙ l.answer;
       awaited =
           l.awaited ∙ (ap (λ ds. l.defined ++ awaited_left waiting ds ts) e ∙ (ap (λ ws. l.defined ++ ws) (waits_here waiting d rest ts near)
           ∙ ap₂ (λ a (ws : List ℕ). l.defined ++ awaited_after a ws (awaited_left waiting rest ts) (awaited_within d.section rest ts)) said named_is));

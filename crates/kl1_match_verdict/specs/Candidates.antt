@@ -3,7 +3,8 @@ use Rattle.std.specs.Prelude.{◌≡◌, ℕ, suc, ◌<◌, ◌≤◌, ◌==◌,
 use Rattle.kl1_model.specs.declared.built_in.BuiltIn.{BuiltIn}
 use Rattle.kl1_model.specs.Term.{Terms}
 use Rattle.kl1_model.specs.Module.{Clause}
-use Rattle.kl1_model.specs.Match.{Candidate, candidates_from, candidates_within}
+use Rattle.kl1_model.specs.Match.{Candidate}
+use Rattle.kl1_model.specs.code.Sections.{candidates_from, candidates_within}
 use Rattle.kl1_text.specs.Reading.{Reads}
 use Rattle.kl1_store.specs.declared.cell.Cell.{Cell}
 use Rattle.kl1_store.specs.Held.{Held}

@@ -9,7 +9,7 @@ use Rattle.kl1_model.specs.declared.type_test.TypeTest.TheVariants as look_for
 use Rattle.kl1_model.specs.Term.{Term, variable, integer, atom, structure, Terms, none, more, terms_of, substituted, each_substituted, Replacement}
 use Rattle.kl1_model.specs.Meaning.{highest, highest_in}
 use Rattle.kl1_model.specs.Same.{Passive, same, differs, unknown, passive}
-use Rattle.kl1_model.specs.code.Awaited.{awaited, all_awaited}
+use Rattle.kl1_model.specs.code.Awaited.{awaited, all_awaited, awaited_by_found}
 use Rattle.kl1_model.specs.Arithmetic.{evaluated}
 use Rattle.kl1_model.specs.Guard.{Test, holds, looks, is_same, is_other, compares, test_of, type_test_named, comparison_named, test_substituted, is_found}
 use Rattle.kl1_model.specs.code.Outcome.{Outcome, agrees, clashes, waits, both, decided, look, same_outcome, other_outcome, alike, compared_sides, outcome_of, outcome_by, awaited_in, places_alike, alike_with, each_alike, beside, test_variable, own_variables, own_outcome, test_outcome, tests_outcome, guard_outcome}
@@ -18,7 +18,7 @@ use Rattle.kl1_model.specs.laws.WaitsLaws.{place_substituted, places_substituted
 use Rattle.kl1_model.proofs.SameEach.{awaited_self}
 use Rattle.kl1_model.proofs.SameStays.{left_front, left_back, same_stays, differs_stays, unknown_stays}
 use Rattle.kl1_model.proofs.ScanStays.{evaluated_stays}
-use Rattle.kl1_model.specs.Found.{Found, found, awaits, wrong, awaited_by_found}
+use Rattle.kl1_model.specs.Found.{Found, found, awaits, wrong}
 use Rattle.kl1_model.specs.declared.number.Number.{Number}
 
 -- ---- an outcome and what becomes of it

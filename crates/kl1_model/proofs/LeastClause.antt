@@ -6,9 +6,11 @@ use Rattle.std.proofs.lemmas.Bool.{cond-true, cond-false, eq-eqb, ne_eqb}
 use Rattle.kl1_model.specs.declared.rules.Rules.{Rules}
 use Rattle.kl1_model.specs.Term.{Term, Terms, Replacement}
 use Rattle.kl1_model.specs.Module.{Clause, Module}
-use Rattle.kl1_model.specs.Match.{Answer, yes, no, wait, Call, call_of, clauses_of, Candidate, candidate_by, candidates_within, candidates_from, candidates_of, fails, is_no, places_of, verdict}
+use Rattle.kl1_model.specs.Match.{Answer, yes, no, wait, Call, call_of, clauses_of, Candidate, candidate_by, fails, is_no, places_of, verdict}
+use Rattle.kl1_model.specs.code.Sections.{candidates_within, candidates_from}
 use Rattle.kl1_model.specs.Reduction.{Move, commits, raises, failure, term_move, built_in_move}
-use Rattle.kl1_model.specs.code.Waits.{term_clause, least_by, least_within, least_from, least_clause, call_clauses}
+use Rattle.kl1_model.specs.code.Waits.{term_clause, by_answer, least_within, least_from, least_clause, call_clauses}
+use Rattle.kl1_model.proofs.SectionRuns.{candidates_walked}
 
 -- the number of the first candidate
 abbrev pub first_number : List Candidate → Option ℕ
@@ -22,7 +24,7 @@ all_no cs ts = list_all (λ c. is_no (verdict c ts)) cs
 abbrev chosen_from : Bool → List Candidate → Option ℕ
 chosen_from rejected ks = if rejected then Some 0 else first_number ks
 
-by_verdict_within : (n : ℕ) (c : Clause) (ps : List Replacement) (ks : List Candidate) (r : Option ℕ) (v : Answer) → r ≡ first_number ks → least_by (Some n) r r v ≡ first_number (candidate_by n c ps v ++ ks)
+by_verdict_within : (n : ℕ) (c : Clause) (ps : List Replacement) (ks : List Candidate) (r : Option ℕ) (v : Answer) → r ≡ first_number ks → by_answer (Some n) r r v ≡ first_number (candidate_by n c ps v ++ ks)
 by_verdict_within n c ps ks r yes e = refl
 by_verdict_within n c ps ks r no e = e
 by_verdict_within n c ps ks r wait e = e
@@ -36,14 +38,14 @@ least-within section n [] ts = refl
 least-within section n (c ∷ cs) ts =
     let later = least_within section (suc n) cs ts in
     let ks = candidates_within section (suc n) cs ts in
-    within_if (c.section == section) (least_by (Some n) later later (verdict c ts)) (candidate_by n c (places_of c ts) (verdict c ts) ++ ks) (by_verdict_within n c (places_of c ts) ks later (verdict c ts) (least-within section (suc n) cs ts))
+    within_if (c.section == section) (by_answer (Some n) later later (verdict c ts)) (candidate_by n c (places_of c ts) (verdict c ts) ++ ks) (by_verdict_within n c (places_of c ts) ks later (verdict c ts) (least-within section (suc n) cs ts))
 
 -- the first clause whose verdict isn't no is of its own section
 within_first : (n : ℕ) (c : Clause) (cs : List Clause) (ts : Terms) → candidates_within c.section n (c ∷ cs) ts ≡ candidate_by n c (places_of c ts) (verdict c ts) ++ candidates_within c.section (suc n) cs ts
 within_first n c cs ts = cond-true (c.section == c.section) (candidate_by n c (places_of c ts) (verdict c ts) ++ candidates_within c.section (suc n) cs ts) [] (eq-eqb c.section c.section refl)
 
 by_verdict : (rest : Bool) (n : ℕ) (c : Clause) (ps : List Replacement) (ks js : List Candidate) (r w : Option ℕ) (v : Answer) → r ≡ chosen_from rest ks → w ≡ first_number js →
-    least_by (Some n) r w v ≡ chosen_from (is_no v && rest) (if is_no v then ks else candidate_by n c ps v ++ js)
+    by_answer (Some n) r w v ≡ chosen_from (is_no v && rest) (if is_no v then ks else candidate_by n c ps v ++ js)
 by_verdict rest n c ps ks js r w yes e f = refl
 by_verdict rest n c ps ks js r w no e f = e
 by_verdict rest n c ps ks js r w wait e f = f
@@ -116,7 +118,8 @@ clause_found false ks a = found_first false ks a
 pub term_clause-call : (rules : Rules) (modules : List Module) (t : Term) (k : Call) → call_of t ≡ Some k → term_clause rules modules t ≡ least_clause (clauses_of modules k) k.arguments
 term_clause-call rules modules t k e =
     ap (λ o. find (λ clause. is_some (term_move rules modules t clause o)) (0 ∷ call_clauses modules o)) e
-    ∙ clause_found (fails modules k) (candidates_of modules k) (are_from 1 (clauses_of modules k) k.arguments)
+    ∙ ap (λ ks. find (λ clause. is_some (moves_by (fails modules k) ks clause)) (0 ∷ map (λ q. q.number) ks)) (candidates_walked modules k)
+    ∙ clause_found (fails modules k) (candidates_from 1 (clauses_of modules k) k.arguments) (are_from 1 (clauses_of modules k) k.arguments)
     ∙ sym (least-chosen 1 (clauses_of modules k) k.arguments)
 
 pub term_clause-built_in : (rules : Rules) (modules : List Module) (t : Term) (m : Move) → call_of t ≡ None → built_in_move rules t ≡ Some m → term_clause rules modules t ≡ Some 0

@@ -13,6 +13,7 @@ pub mod ReadMeans
 pub mod ReadOrder
 pub mod Clashes
 pub mod SameEach
+pub mod SectionRuns
 pub mod LeastClause
 pub mod SameStays
 pub mod ScanFinds

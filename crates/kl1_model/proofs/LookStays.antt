@@ -6,7 +6,8 @@ use Rattle.kl1_model.specs.Term.{Term, variable, integer, atom, structure, none,
 use Rattle.kl1_model.specs.Look.{spelled_before, spelled_by, spelling, callee_look, goal_look, priority_look, allowance_look, number_of_term, ExecuteArguments, arguments_look}
 use Rattle.kl1_model.specs.code.Waits.{LeavesEach}
 use Rattle.kl1_model.specs.laws.WaitsLaws.{SubstitutesStay}
-use Rattle.kl1_model.specs.Found.{Found, found, awaits, wrong, then_found, right_if, awaited_by_found}
+use Rattle.kl1_model.specs.Found.{Found, found, awaits, wrong, then_found, right_if}
+use Rattle.kl1_model.specs.code.Awaited.{awaited_by_found}
 
 -- ---- lists of codes
 

@@ -6,12 +6,12 @@ use Rattle.kl1_model.specs.Module.{Clause}
 use Rattle.kl1_model.specs.Match.{verdict}
 use Rattle.kl1_model.specs.code.Outcome.{Verdict, named_verdict, answer_in}
 use Rattle.kl1_model.specs.laws.OutcomeLaws.{named_in}
-use Rattle.kl1_model.specs.code.Waits.{least_by, least_within, least_from, awaited_after, awaited_within, awaited_by_clause, awaited_by_clauses}
+use Rattle.kl1_model.specs.code.Waits.{by_answer, least_within, least_from, awaited_after, awaited_within, awaited_by_clause, awaited_by_clauses}
 use Rattle.kl1_model.proofs.VerdictAnswers.{verdicts_answer}
 use Rattle.kl1_model.proofs.VerdictNames.{verdicts_name}
 
 abbrev pub named_least_by : Option ℕ → Option ℕ → Option ℕ → Verdict → Option ℕ
-named_least_by accepted rejected suspended v = least_by accepted rejected suspended (answer_in v)
+named_least_by accepted rejected suspended v = by_answer accepted rejected suspended (answer_in v)
 
 abbrev pub named_least_within : ℕ → ℕ → List Clause → Terms → Option ℕ
 named_least_within section n [] ts = None
@@ -38,8 +38,8 @@ named_by_clauses (c ∷ cs) ts = named_after (named_verdict c ts) (named_by_clau
 
 -- ---- they are those of the definitions
 
-least_by_named : (n : ℕ) (c : Clause) (ts : Terms) (r x q y : Option ℕ) → r ≡ q → x ≡ y → least_by (Some n) r x (verdict c ts) ≡ named_least_by (Some n) q y (named_verdict c ts)
-least_by_named n c ts r x q y e f = ap₂ (λ a b. least_by (Some n) a b (verdict c ts)) e f ∙ ap (least_by (Some n) q y) (sym (verdicts_answer c ts))
+least_by_named : (n : ℕ) (c : Clause) (ts : Terms) (r x q y : Option ℕ) → r ≡ q → x ≡ y → by_answer (Some n) r x (verdict c ts) ≡ named_least_by (Some n) q y (named_verdict c ts)
+least_by_named n c ts r x q y e f = ap₂ (λ a b. by_answer (Some n) a b (verdict c ts)) e f ∙ ap (by_answer (Some n) q y) (sym (verdicts_answer c ts))
 
 pub least_within_named : (section n : ℕ) (cs : List Clause) (ts : Terms) → least_within section n cs ts ≡ named_least_within section n cs ts
 least_within_named section n [] ts = refl

@@ -5,7 +5,8 @@ use Rattle.std.proofs.lemmas.Bool.{and_parts, and_from, or_left, leb-true, le-le
 use Rattle.std.proofs.lemmas.Bool.Decides.{leb_tells}
 use Rattle.kl1_model.specs.Term.{Terms, Replacement}
 use Rattle.kl1_model.specs.Module.{Clause}
-use Rattle.kl1_model.specs.Match.{Answer, yes, no, wait, Candidate, candidate_by, candidates_within, candidates_from, is_no, places_of, verdict}
+use Rattle.kl1_model.specs.Match.{Answer, yes, no, wait, Candidate, candidate_by, is_no, places_of, verdict}
+use Rattle.kl1_model.specs.code.Sections.{candidates_within, candidates_from}
 use Rattle.kl1_model.specs.laws.WaitsLaws.{are_in_order, accepting_from, is_open, CandidatesAreOpen}
 
 -- each clause stands in this section or a later one

@@ -10,11 +10,11 @@ use Rattle.kl1_model.specs.Meaning.{highest, highest_in}
 use Rattle.kl1_model.specs.Same.{Passive, same, differs, unknown, passive}
 use Rattle.kl1_model.specs.code.Awaited.{awaited}
 use Rattle.kl1_model.specs.Arithmetic.{evaluated}
-use Rattle.kl1_model.specs.Guard.{Test, holds, looks, is_same, is_other, compares, test_of, type_test_named, comparison_named, test_substituted, is_found, compared, together, known, same_answer, other_answer, numbers_answer, sides_answer, test_answer, answer_by}
+use Rattle.kl1_model.specs.Guard.{Test, holds, looks, is_same, is_other, compares, test_of, type_test_named, comparison_named, test_substituted, is_found, compared, together, known, same_answer, numbers_answer, test_answer, Answer, yes, no, wait}
 use Rattle.kl1_model.specs.code.Outcome.{Outcome, agrees, clashes, waits, both, decided, alike, same_outcome, other_outcome, compared_numbers, compared_sides, outcome_by, answer_of}
 use Rattle.kl1_model.specs.laws.OutcomeLaws.{OutcomesAnswer}
 use Rattle.kl1_model.proofs.Renamed.{renamed, each_renamed, IsOneToOne, passive_renamed, evaluated_renamed, comes_renamed, found_renamed}
-use Rattle.kl1_model.specs.Found.{Found, found, awaits, wrong}
+use Rattle.kl1_model.specs.Found.{Found, found, awaits, wrong, then_found, found_map}
 
 -- ---- an outcome without what it waits for
 
@@ -37,6 +37,10 @@ answer_same unknown vs = refl
 pub answer_alike : (t u : Term) → answer_of (alike t u) ≡ same_answer (passive t u)
 answer_alike t u = answer_same (passive t u) (awaited t u)
 
+-- the answer of `\=`, by passive equality
+abbrev pub other_answer : Passive → Answer
+other_answer p = elim p [ same ↦ no | differs ↦ yes | unknown ↦ wait ]
+
 answer_other : (p : Passive) (vs : List ℕ) → answer_of (other_outcome p vs) ≡ other_answer p
 answer_other same vs = refl
 answer_other differs vs = refl
@@ -48,6 +52,10 @@ answer_numbers c (Value x) Overflow = refl
 answer_numbers c (Value x) ZeroDivisor = refl
 answer_numbers c Overflow y = refl
 answer_numbers c ZeroDivisor y = refl
+
+-- the answer of a comparison, by its sides
+abbrev pub sides_answer : Comparison → Found Number → Found Number → Answer
+sides_answer c x y = elim (then_found x (λ a. found_map (numbers_answer c a) y)) [ found a ↦ a | awaits v ↦ wait | wrong ↦ no ]
 
 answer_sides : (c : Comparison) (x y : Found Number) → answer_of (compared_sides c x y) ≡ sides_answer c x y
 answer_sides c (awaits v) y = refl
@@ -66,6 +74,10 @@ outcomes_answer (looks i (structure f ts)) = answer_decided (is_found i (structu
 outcomes_answer (is_same t u) = answer_alike t u
 outcomes_answer (is_other t u) = answer_other (passive t u) (awaited t u)
 outcomes_answer (compares c t u) = answer_sides c (evaluated t) (evaluated u)
+
+-- the answer of what may be a test, with terms in place of its variables
+abbrev pub answer_by : (ℕ → Term) → Option Test → Answer
+answer_by s x = elim x [ None ↦ no | Some test ↦ test_answer (test_substituted s test) ]
 
 pub answer_outcome : (s : ℕ → Term) (x : Option Test) → answer_of (outcome_by s x) ≡ answer_by s x
 answer_outcome s None = refl

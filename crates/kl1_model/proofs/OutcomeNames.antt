@@ -9,10 +9,11 @@ use Rattle.kl1_model.specs.Term.{Term, variable, integer, atom, structure, Terms
 use Rattle.kl1_model.specs.Same.{Passive, same, differs, unknown, passive, clash}
 use Rattle.kl1_model.specs.code.Awaited.{awaited}
 use Rattle.kl1_model.specs.Arithmetic.{evaluated}
-use Rattle.kl1_model.specs.Guard.{known, same_answer, other_answer, numbers_answer, sides_answer, Test, holds, looks, is_same, is_other, compares, test_substituted, is_found, compared}
+use Rattle.kl1_model.specs.Guard.{known, same_answer, numbers_answer, Test, holds, looks, is_same, is_other, compares, test_substituted, is_found, compared}
 use Rattle.kl1_model.specs.code.Outcome.{Outcome, agrees, clashes, waits, both, decided, alike, same_outcome, other_outcome, compared_numbers, compared_sides, outcome_of, outcome_by, with_outcome, Matched, match_term, match_terms, places_alike, alike_with, each_alike}
 use Rattle.kl1_model.specs.code.Waits.{while_waiting, awaited_by_pattern, awaited_by_patterns, awaited_by_two, awaited_by_one, awaited_by_each, awaited_by_sides, awaited_by_test, awaited_by_option}
 use Rattle.kl1_model.proofs.TermFacts.{same_term-true}
+use Rattle.kl1_model.proofs.OutcomeAnswers.{other_answer, sides_answer}
 use Rattle.kl1_model.proofs.SameEach.{awaited_self}
 use Rattle.kl1_model.specs.Found.{Found, found, awaits, wrong}
 

@@ -9,9 +9,10 @@ use Rattle.kl1_model.specs.declared.limits.TheConstants.{MOST_OPERATORS}
 use Rattle.kl1_model.specs.Term.{Term, variable, integer, atom, structure, Terms, none, more, count_of, same_term, same_terms, substituted, each_substituted}
 use Rattle.kl1_model.specs.Meaning.{highest, highest_in}
 use Rattle.kl1_model.specs.Same.{clash, any_clash, same, differs, unknown, passive}
-use Rattle.kl1_model.specs.Arithmetic.{ArithmeticExpression, with_left, with_right, operator_named, scan, scan_operation, computed, evaluated, Scanned}
+use Rattle.kl1_model.specs.Arithmetic.{ArithmeticExpression, with_left, with_right, operator_named, scan, scan_operation, evaluated, Scanned}
 use Rattle.kl1_model.specs.Guard.{is_found}
 use Rattle.kl1_model.proofs.Substitutions.{count-each_substituted}
+use Rattle.kl1_model.proofs.ScanStays.{computed}
 use Rattle.kl1_model.specs.Found.{Found, found, awaits, wrong}
 use Rattle.kl1_model.specs.declared.number.Number.{Number}
 

@@ -2,11 +2,13 @@
 use Rattle.std.proofs.Common.{◌≡◌, ℕ, zero, suc, refl, sym, ap, ◌∙◌, subst}
 use Rattle.std.specs.Prelude.{Option, Some, None}
 use Rattle.kl1_model.specs.declared.operator.Operator.{Operator}
+use Rattle.kl1_model.specs.declared.number.Number.{Number}
 use Rattle.kl1_model.specs.declared.limits.TheConstants.{MOST_OPERATORS}
 use Rattle.kl1_model.specs.Term.{Term, variable, integer, atom, structure, Terms, none, more, substituted, each_substituted}
-use Rattle.kl1_model.specs.Arithmetic.{ArithmeticExpression, operator_named, with_left, with_right, scan, scan_operation, computed, evaluated, Scanned}
+use Rattle.kl1_model.specs.Arithmetic.{ArithmeticExpression, operator_named, with_left, with_right, scan, scan_operation, compute, evaluated, Scanned}
 use Rattle.kl1_model.specs.code.Waits.{LeavesEach}
-use Rattle.kl1_model.specs.Found.{Found, found, awaits, wrong, awaited_by_found}
+use Rattle.kl1_model.specs.Found.{Found, found, awaits, wrong, found_map}
+use Rattle.kl1_model.specs.code.Awaited.{awaited_by_found}
 
 -- the variable for which a scan waits is left
 abbrev LeftScan : (ℕ → Term) → Found Scanned → Type 0
@@ -40,6 +42,10 @@ mutual
   operation_stays s (Some o) (suc n) (more a (more b none)) l =
       sides_stay s o (scan n a) (scan n (substituted s a)) (scan n a) (λ m. scan m b) (λ m. scan m (substituted s b)) refl (scan_stays s n a) (λ m. scan_stays s m b) l
   operation_stays s (Some o) (suc n) (more a (more b (more c ts))) l = refl
+
+-- what a scan leads to
+abbrev pub computed : Found Scanned → Found Number
+computed x = found_map (λ a. compute a.expression) x
 
 computed_left : (s : ℕ → Term) (x : Found Scanned) → LeavesEach s (awaited_by_found (computed x)) → LeftScan s x
 computed_left s (found e) l = tt

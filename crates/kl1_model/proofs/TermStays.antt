@@ -8,7 +8,8 @@ use Rattle.kl1_model.specs.declared.rules.Rules.{Rules}
 use Rattle.kl1_model.specs.State.{most_spelled}
 use Rattle.kl1_model.specs.Term.{Term, variable, integer, atom, structure, Terms, none, more, count_of, substituted, each_substituted, Replacement, replaced}
 use Rattle.kl1_model.specs.Module.{Module, is_of}
-use Rattle.kl1_model.specs.Match.{Call, call_of, module_of, clauses_in, clauses_of}
+use Rattle.kl1_model.specs.Match.{Call, call_of, module_of, clauses_of}
+use Rattle.kl1_model.specs.code.Sections.{clauses_in}
 use Rattle.kl1_model.specs.Arithmetic.{evaluated}
 use Rattle.kl1_model.specs.Reduction.{Move, unifies, names, opens, move_found, becomes, execute_move, built_in_move, term_move}
 use Rattle.kl1_model.specs.code.Steps.{order_move}
@@ -20,7 +21,8 @@ use Rattle.kl1_model.proofs.SameStays.{left_front, left_back}
 use Rattle.kl1_model.proofs.ScanStays.{evaluated_stays}
 use Rattle.kl1_model.proofs.LookStays.{spelling_stays, order_substituted, order_stays}
 use Rattle.kl1_model.proofs.VerdictStays.{clauses_stay}
-use Rattle.kl1_model.specs.Found.{Found, found, awaits, wrong, awaited_by_found}
+use Rattle.kl1_model.specs.Found.{Found, found, awaits, wrong}
+use Rattle.kl1_model.specs.code.Awaited.{awaited_by_found}
 
 -- ---- calls
 

@@ -9,7 +9,7 @@ use Rattle.kl1_model.specs.Meaning.{highest, highest_in}
 use Rattle.kl1_model.specs.Same.{passive}
 use Rattle.kl1_model.specs.Guard.{test_of, Answer, yes, no, together, same_answer}
 use Rattle.kl1_model.specs.Module.{Clause}
-use Rattle.kl1_model.specs.Match.{Match, with_answer, match_parts, match_pattern, match_patterns, one_answer, each_answer, guard_term, tests_answer, places_of, verdict, candidate_by}
+use Rattle.kl1_model.specs.Match.{Match, with_answer, match_pattern, match_patterns, one_answer, each_answer, guard_term, tests_answer, places_of, verdict, candidate_by}
 use Rattle.kl1_model.specs.code.Outcome.{Outcome, agrees, clashes, waits, both, alike, outcome_by, answer_of, Matched, with_outcome, match_both, match_term, match_terms, places_alike, alike_with, each_alike, beside, test_variable, own_outcome, test_outcome, tests_outcome, guard_outcome, Verdict, accepts, rejects, suspends, verdict_with, named_verdict, answer_in}
 use Rattle.kl1_model.specs.laws.OutcomeLaws.{VerdictsAnswer, AcceptsPlaces}
 use Rattle.kl1_model.proofs.GuardStays.{then_substituted}
@@ -21,6 +21,10 @@ use Rattle.kl1_model.proofs.OutcomeAnswers.{answer_both, answer_decided, answer_
 -- a match without what it waits for
 abbrev pub answered : Matched → Match
 answered m = record { answer = answer_of m.outcome; places = m.places }
+
+-- two parts of a match together
+abbrev match_parts : Match → Match → Match
+match_parts a b = record { answer = together a.answer b.answer; places = a.places ++ b.places }
 
 answered_both : (a b : Matched) → answered (match_both a b) ≡ match_parts (answered a) (answered b)
 answered_both a b = ap (λ (x : Answer). let m : Match = record { answer = x; places = a.places ++ b.places } in m) (answer_both a.outcome b.outcome)

@@ -8,8 +8,8 @@ use Rattle.kl1_model.specs.declared.operator.Operator.{Operator}
 use Rattle.kl1_model.specs.declared.limits.TheConstants.{MOST_OPERATORS}
 use Rattle.kl1_model.specs.Term.{Term, variable, integer, atom, structure, Terms, none, more, terms_of, Replacement}
 use Rattle.kl1_model.specs.Meaning.{highest, highest_in}
-use Rattle.kl1_model.specs.code.Awaited.{awaited, all_awaited}
-use Rattle.kl1_model.specs.Arithmetic.{ArithmeticExpression, with_left, with_right, operator_named, scan, scan_operation, computed, evaluated, Scanned}
+use Rattle.kl1_model.specs.code.Awaited.{awaited, all_awaited, awaited_by_found}
+use Rattle.kl1_model.specs.Arithmetic.{ArithmeticExpression, with_left, with_right, operator_named, scan, scan_operation, evaluated, Scanned}
 use Rattle.kl1_model.specs.Guard.{Answer, yes, no, wait, Test, holds, looks, is_same, is_other, compares, test_of, test_substituted, test_answer}
 use Rattle.kl1_model.specs.Match.{Match, match_patterns, guard_term, places_of}
 use Rattle.kl1_model.specs.code.Outcome.{Outcome, agrees, clashes, waits, both, outcome_by, answer_of, Matched, match_terms, each_alike, test_variable, own_variables, own_outcome, test_outcome, tests_outcome, guard_outcome, awaited_in, verdict_with}
@@ -19,7 +19,8 @@ use Rattle.kl1_model.proofs.Renamed.{renamed, each_renamed, IsOneToOne, number_r
 use Rattle.kl1_model.proofs.OutcomeAnswers.{IsUpTo, MayBeUpTo, Renames, answer_renamed, test_made, test_up_to, read_up_to}
 use Rattle.kl1_model.proofs.OutcomeNames.{Carries, carries_both, carries_patterns, carries_each, carries_option}
 use Rattle.kl1_model.proofs.VerdictAnswers.{AreUpTo, guard_number, own_number, goal_number, renames, answered, patterns_answer, same_places, places_up_to, whole, verdict_is_whole}
-use Rattle.kl1_model.specs.Found.{Found, found, awaits, wrong, awaited_by_found}
+use Rattle.kl1_model.proofs.ScanStays.{computed}
+use Rattle.kl1_model.specs.Found.{Found, found, awaits, wrong}
 use Rattle.kl1_model.specs.declared.number.Number.{Number}
 
 -- ---- the variables with other numbers

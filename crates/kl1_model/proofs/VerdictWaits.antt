@@ -16,11 +16,12 @@ use Rattle.kl1_model.specs.Meaning.{variables_of, variables_in, highest_in}
 use Rattle.kl1_model.specs.Module.{is_among, has_only}
 use Rattle.kl1_model.specs.Same.{Passive, same, differs, unknown, passive}
 use Rattle.kl1_model.specs.code.Awaited.{awaited, all_awaited}
-use Rattle.kl1_model.specs.Arithmetic.{ArithmeticExpression, with_left, with_right, operator_named, scan, scan_operation, computed, evaluated, Scanned}
+use Rattle.kl1_model.specs.Arithmetic.{ArithmeticExpression, with_left, with_right, operator_named, scan, scan_operation, evaluated, Scanned}
 use Rattle.kl1_model.specs.Guard.{type_test_named, comparison_named, Test, holds, looks, is_same, is_other, compares, test_of, test_substituted, is_found, compared}
 use Rattle.kl1_model.specs.code.Outcome.{Outcome, agrees, clashes, waits, both, decided, look, same_outcome, other_outcome, alike, compared_numbers, compared_sides, outcome_of, outcome_by, Matched, with_outcome, match_term, match_terms, places_alike, alike_with, each_alike, beside, test_variable, own_variables, own_outcome, test_outcome, tests_outcome, guard_outcome, suspends, verdict_with}
 use Rattle.kl1_model.specs.laws.OutcomeLaws.{NamedSuspendsWaits}
 use Rattle.kl1_model.proofs.SameStays.{unknown_waits}
+use Rattle.kl1_model.proofs.ScanStays.{computed}
 use Rattle.kl1_model.specs.Found.{Found, found, awaits, wrong}
 
 -- ---- who waits names a variable

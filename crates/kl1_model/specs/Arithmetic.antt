@@ -43,8 +43,7 @@ with_right o a right = found_map (λ b. record { expression = operation o a b.ex
 abbrev pub with_left : Operator → Found Scanned → (ℕ → Found Scanned) → Found Scanned
 with_left o left right = then_found left (λ a. with_right o a.expression (right a.left))
 
--- a term scanned for at most `most` operators, each operator before its operands and the left before the right: the first leaf that
--- is no integer decides
+-- a term scanned for at most `most` operators, each before its operands, from the left: the first leaf that is no integer decides
 abbrev mutual
   pub scan : ℕ → Term → Found Scanned
   scan most (variable v) = awaits v
@@ -65,36 +64,25 @@ fits (negsuc n) = nat_lt n NUMBER_LIMIT
 abbrev pub fitted : ℤ → Number
 fitted z = if fits z then Value z else Overflow
 
--- a quotient or a remainder by this divisor
-abbrev pub divided_by : ℤ → Number → Number
-divided_by d n = if int_eq d (pos 0) then ZeroDivisor else n
-
--- what an operator makes of two integers; a quotient is rounded towards zero, and the remainder is the dividend less the
--- quotient times the divisor, so it has the dividend's sign
+-- what an operator makes of two integers: a quotient is rounded towards zero, so a remainder has the dividend's sign
 abbrev pub operated : Operator → ℤ → ℤ → Number
 operated Plus x y = fitted (x +ℤ y)
 operated Minus x y = fitted (x -ℤ y)
 operated Times x y = fitted (x *ℤ y)
-operated Divide x y = divided_by y (fitted (int_div x y))
-operated Modulo x y = divided_by y (Value (int_rem x y))
+operated Divide x y = if int_eq y (pos 0) then ZeroDivisor else fitted (int_div x y)
+operated Modulo x y = if int_eq y (pos 0) then ZeroDivisor else Value (int_rem x y)
 
--- what an operator makes of what its operands come to: a fault of the left one goes before one of the right, and both before its own
+-- what an operator makes of what its operands come to: the left one's fault, or else the right one's, or else its result
 abbrev pub applied : Operator → Number → Number → Number
 applied o (Value x) (Value y) = operated o x y
-applied o (Value x) Overflow = Overflow
-applied o (Value x) ZeroDivisor = ZeroDivisor
-applied o Overflow right = Overflow
-applied o ZeroDivisor right = ZeroDivisor
+applied o (Value x) fault = fault
+applied o fault right = fault
 
 -- what an expression comes to
 abbrev pub compute : ArithmeticExpression → Number
 compute (number i) = Value i
 compute (operation o a b) = applied o (compute a) (compute b)
 
--- what a scan leads to
-abbrev pub computed : Found Scanned → Found Number
-computed x = found_map (λ a. compute a.expression) x
-
 -- what a term comes to as an expression, which has at most 64 operators
 abbrev pub evaluated : Term → Found Number
-evaluated t = computed (scan MOST_OPERATORS t)
+evaluated t = found_map (λ a. compute a.expression) (scan MOST_OPERATORS t)

@@ -1,5 +1,5 @@
 -- What a look at terms finds.
-use Rattle.std.specs.Prelude.{ℕ, Bool, if◌then◌else◌, List, [], ◌∷◌, ⊤}
+use Rattle.std.specs.Prelude.{ℕ, Bool, if◌then◌else◌, ⊤}
 
 -- what a look at terms finds: a value, or an unbound variable for which it waits, or that something in them is wrong
 pub data Found (A : Type 0) : Type 0 where
@@ -20,9 +20,3 @@ found_map f x = then_found x (λ a. found (f a))
 -- that it is right, if this holds
 abbrev pub right_if : Bool → Found ⊤
 right_if b = if b then found tt else wrong
-
--- the variable that a look waits for
-abbrev pub awaited_by_found : {A : Type 0} → Found A → List ℕ
-awaited_by_found (found a) = []
-awaited_by_found (awaits v) = v ∷ []
-awaited_by_found wrong = []

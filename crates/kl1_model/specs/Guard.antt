@@ -10,7 +10,7 @@ use Rattle.kl1_model.specs.declared.number.Number.TheVariants.{Value}
 use Rattle.kl1_model.specs.Term.{Term, variable, integer, atom, structure, none, more, substituted}
 use Rattle.kl1_model.specs.Same.{Passive, same, differs, unknown, passive}
 use Rattle.kl1_model.specs.Arithmetic.{evaluated}
-use Rattle.kl1_model.specs.Found.{Found, found, awaits, wrong}
+use Rattle.kl1_model.specs.Found.{found, awaits, wrong, then_found, found_map}
 
 -- yes, no, or not yet
 pub data Answer : Type 0 where
@@ -22,9 +22,8 @@ pub data Answer : Type 0 where
 abbrev pub together : Answer → Answer → Answer
 together yes a = a
 together no a = no
-together wait yes = wait
 together wait no = no
-together wait wait = wait
+together wait a = wait
 
 -- an answer that is known
 abbrev pub known : Bool → Answer
@@ -92,19 +91,13 @@ test_substituted s (is_same t u) = is_same (substituted s t) (substituted s u)
 test_substituted s (is_other t u) = is_other (substituted s t) (substituted s u)
 test_substituted s (compares c t u) = compares c (substituted s t) (substituted s u)
 
--- whether a term is a list cell
-abbrev pub is_cell : Term → Bool
-is_cell (structure f (more a (more b none))) = bytes_eq f (codes ".")
-is_cell _ = false
-
 -- whether a bound term is what a test looks for
 abbrev pub is_found : TypeTest → Term → Bool
 is_found Bound t = true
 is_found Integer (integer i) = true
-is_found Integer _ = false
 is_found Atom (atom a) = true
-is_found Atom _ = false
-is_found Cell t = is_cell t
+is_found Cell (structure f (more a (more b none))) = bytes_eq f (codes ".")
+is_found _ _ = false
 
 -- whether a comparison holds of two integers
 abbrev pub compared : Comparison → ℤ → ℤ → Bool
@@ -115,43 +108,23 @@ compared AtLeast x y = int_le y x
 compared SameNumber x y = int_eq x y
 compared OtherNumber x y = not (int_eq x y)
 
--- `=` asks for the same term
+-- the answer of `=`, which asks for the same term
 abbrev pub same_answer : Passive → Answer
 same_answer same = yes
 same_answer differs = no
 same_answer unknown = wait
 
--- `\=` asks for a clash
-abbrev pub other_answer : Passive → Answer
-other_answer same = no
-other_answer differs = yes
-other_answer unknown = wait
-
--- a comparison of what two expressions come to, which is no if one of them has a fault of computing
+-- a comparison of what two expressions come to: no if one has a fault of computing
 abbrev pub numbers_answer : Comparison → Number → Number → Answer
 numbers_answer c (Value x) (Value y) = known (compared c x y)
 numbers_answer c a b = no
 
--- a comparison by its sides, the left one first: one that waits is wait, and one that is no expression is no
-abbrev pub sides_answer : Comparison → Found Number → Found Number → Answer
-sides_answer c (awaits v) b = wait
-sides_answer c wrong b = no
-sides_answer c (found x) (awaits v) = wait
-sides_answer c (found x) wrong = no
-sides_answer c (found x) (found y) = numbers_answer c x y
-
--- the answer of a test: a look at a term waits while the term is an unbound variable, and each side of a comparison has its own 64
--- operators
+-- the answer of a test: a look waits while its term is an unbound variable, and of a comparison the left side decides first
 abbrev pub test_answer : Test → Answer
 test_answer holds = yes
 test_answer (looks i (variable v)) = wait
 test_answer (looks i t) = known (is_found i t)
 test_answer (is_same t u) = same_answer (passive t u)
-test_answer (is_other t u) = other_answer (passive t u)
-test_answer (compares c t u) = sides_answer c (evaluated t) (evaluated u)
-
--- the answer of what may be a test, with terms in place of its variables; a term that is none, which no clause that was read has
--- there, is no
-abbrev pub answer_by : (ℕ → Term) → Option Test → Answer
-answer_by s None = no
-answer_by s (Some test) = test_answer (test_substituted s test)
+test_answer (is_other t u) = elim (passive t u) [ same ↦ no | differs ↦ yes | unknown ↦ wait ]
+test_answer (compares c t u) =
+    elim (then_found (evaluated t) (λ x. found_map (numbers_answer c x) (evaluated u))) [ found a ↦ a | awaits v ↦ wait | wrong ↦ no ]

@@ -13,8 +13,8 @@ head_variables c = highest_in c.patterns
 abbrev pub fresh_variables : Clause → ℕ
 fresh_variables c = highest_in (terms_of (goals_of c.body)) - head_variables c
 
--- what stands in the body's goals for a variable of a clause: for one of the head the term at its place, which it has if
--- the clause accepts; the others are the next variables after the last, in order of first occurrence
+-- what stands in the body's goals for a variable of a clause: for one of the head the term at its place, which it has if the clause
+-- accepts; for the n-th of the others the variable `last + n`
 abbrev pub body_variable : Clause → List Replacement → ℕ → ℕ → Term
 body_variable c places last v = if nat_le v (head_variables c) then term_at places v nil else variable (last + (v - head_variables c))
 

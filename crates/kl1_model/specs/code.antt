@@ -4,3 +4,4 @@ pub mod Waits
 pub mod TermCode
 pub mod Awaited
 pub mod Steps
+pub mod Sections

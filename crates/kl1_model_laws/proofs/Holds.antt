@@ -1,5 +1,5 @@
 -- What holds of each variable of a goal holds of each variable of what its step makes of it.
-use Rattle.std.proofs.Common.{◌≡◌, ◌≤◌, ◌<◌, ℕ, zero, suc, ◌-◌, ◌==◌, ◌&&◌, Bool, true, false, if◌then◌else◌, List, [], ◌∷◌, ◌++◌, max, refl, ap, ap₂, subst, arith}
+use Rattle.std.proofs.Common.{◌≡◌, ◌≤◌, ◌<◌, ℕ, zero, suc, ◌-◌, ◌==◌, ◌&&◌, Bool, true, false, if◌then◌else◌, List, [], ◌∷◌, ◌++◌, max, refl, sym, ap, ap₂, subst, arith}
 use Rattle.std.specs.Prelude.{nat_le, find, slice_get, codes, bytes_eq, Option, Some, None, option_map, option_and_then, ⊤}
 use Rattle.std.specs.List.{AllByRecursion}
 use Rattle.std.proofs.lemmas.Bool.{and_parts, leb-true, cond_both, ne_eqb}
@@ -12,7 +12,9 @@ use Rattle.kl1_model.specs.Arithmetic.{evaluated}
 use Rattle.kl1_model.specs.Unify.{Equation, argument_equations, replace_in_all, mgu}
 use Rattle.kl1_model.specs.Goal.{is_execute}
 use Rattle.kl1_model.specs.Module.{Clause, Module}
-use Rattle.kl1_model.specs.Match.{Answer, yes, no, wait, Match, with_answer, match_pattern, match_patterns, term_at, places_of, verdict, Call, call_of, clauses_of, is_no, Candidate, candidate_by, candidates_within, candidates_from, candidates_of, fails}
+use Rattle.kl1_model.specs.Match.{Answer, yes, no, wait, Match, with_answer, match_pattern, match_patterns, term_at, places_of, verdict, Call, call_of, clauses_of, is_no, Candidate, candidate_by, candidates_of, fails}
+use Rattle.kl1_model.specs.code.Sections.{candidates_within, candidates_from}
+use Rattle.kl1_model.proofs.SectionRuns.{candidates_walked}
 use Rattle.kl1_model.specs.Look.{spelling, ExecuteArguments, arguments_look}
 use Rattle.kl1_model.specs.declared.rules.Rules.{Rules}
 use Rattle.kl1_model.specs.State.{most_spelled}
@@ -342,7 +344,7 @@ in_called P modules call clause h =
     let failing = if fails modules call then Some (raises failure) else None in
     let found = find (λ k. k.number == clause) (candidates_of modules call) in
     if_moves (clause == 0) P failing (option_map (λ k. commits k) found) (if_moves (fails modules call) P (Some (raises failure)) None tt tt)
-    (found_place P (λ k. k.number == clause) (candidates_of modules call) (from P 1 (clauses_of modules call) call.arguments h))
+    (found_place P (λ k. k.number == clause) (candidates_of modules call) (subst (λ (ks : List Candidate). Candidates P ks) (sym (candidates_walked modules call)) (from P 1 (clauses_of modules call) call.arguments h)))
 
 in_term : (P : ℕ → Type 0) (rules : Rules) (modules : List Module) (t : Term) (clause : ℕ) (o : Option Call) → Holds P t → MayCall P o → MayMove P (term_move rules modules t clause o)
 in_term P rules modules t clause None h c = if_moves (clause == 0) P (built_in_move rules t) None (in_built_in P rules t h) tt

@@ -7,7 +7,8 @@ use Rattle.kl1_model.specs.declared.message.Message.{Message}
 use Rattle.kl1_model.specs.declared.message.Message.TheVariants.{Stop, Start, Abort, Allow}
 use Rattle.kl1_model.specs.Term.{Term, atom, count_of}
 use Rattle.kl1_model.specs.Module.{Module, is_of}
-use Rattle.kl1_model.specs.Match.{Call, module_of, clauses_in, clauses_of}
+use Rattle.kl1_model.specs.Match.{Call, module_of, clauses_of}
+use Rattle.kl1_model.specs.code.Sections.{clauses_in}
 use Rattle.kl1_model.specs.Unify.{mgu}
 use Rattle.kl1_model.specs.Control.{Control, awaits_message, tells, tells_other, ends, breaks_off}
 use Rattle.kl1_model.specs.State.{Goal, State, shoen_at, with_name, without_goal}
@@ -20,6 +21,7 @@ use Rattle.kl1_model.specs.Reduction.{Move, commits, raises, unifies, names, ope
 use Rattle.kl1_model.specs.code.Steps.{named_by}
 use Rattle.kl1_model.specs.Sending.{sent_on}
 use Rattle.kl1_model.specs.laws.WaitsLaws.{are_in_order}
+use Rattle.kl1_model.proofs.SectionRuns.{candidates_walked}
 use Rattle.kl1_model.proofs.OpenSections.{candidates_are_open}
 use Rattle.kl1_model_laws.specs.Reached.{reached}
 use Rattle.kl1_model_laws.specs.SectionLaws.{CandidatesOfCallsAreOpen}
@@ -143,4 +145,4 @@ found_ordered (m ∷ ms) call a = found_case (bytes_eq m.name call.module_name) 
 pub candidates_of_calls_are_open : CandidatesOfCallsAreOpen
 candidates_of_calls_are_open rules name es call =
     let ms = (reached rules name es).modules in
-    candidates_are_open 1 (clauses_of ms call) call.arguments (found_ordered ms call (holds_reached AreOrdered keeping rules name es))
+    candidates_walked ms call ∙ candidates_are_open 1 (clauses_of ms call) call.arguments (found_ordered ms call (holds_reached AreOrdered keeping rules name es))

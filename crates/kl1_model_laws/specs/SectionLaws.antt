@@ -3,7 +3,8 @@ use Rattle.std.specs.Prelude.{◌≡◌, ℕ, IsTrue, List, filter}
 use Rattle.kl1_model.specs.declared.rules.Rules.{Rules}
 use Rattle.kl1_model.specs.Term.{Terms}
 use Rattle.kl1_model.specs.Module.{Module, is_of, good, read_module}
-use Rattle.kl1_model.specs.Match.{Call, clauses_of, candidates_from, candidates_of}
+use Rattle.kl1_model.specs.Match.{Call, clauses_of, candidates_of}
+use Rattle.kl1_model.specs.code.Sections.{candidates_from}
 use Rattle.kl1_model.specs.laws.WaitsLaws.{are_in_order, accepting_from, is_open}
 use Rattle.kl1_model.specs.Event.{Event}
 use Rattle.kl1_model_laws.specs.Reached.{reached}

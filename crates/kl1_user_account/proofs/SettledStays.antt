@@ -4,7 +4,7 @@ use Rattle.std.specs.Prelude.{Contains, Option, Some, None, option_map}
 use Rattle.std.proofs.lemmas.Bool.{ne_eqb}
 use Rattle.kl1_model.specs.Term.{Term, substituted, Replacement}
 use Rattle.kl1_model.specs.Control.{Control, awaits_message, tells, tells_other, ends, breaks_off, control_of}
-use Rattle.kl1_model.specs.code.Awaited.{awaited_by_control}
+use Rattle.kl1_model.specs.code.Awaited.{awaited_by_control, awaited_by_found}
 use Rattle.kl1_model.specs.code.Waits.{LeavesEach, term_clause, awaited_by_term, awaited_by_substitute, look_clause, substitute_clause}
 use Rattle.kl1_model.specs.laws.WaitsLaws.{control_substituted}
 use Rattle.kl1_model.proofs.Substitutions.{values_of, replaced_is}
@@ -32,7 +32,6 @@ use Rattle.kl1_user_effects.specs.Account.{meaning, task_with, aim}
 use Rattle.kl1_user_effects.specs.Kept.{IsTaskIn, AreShoensIn}
 use Rattle.kl1_user_effects.specs.Settled.{control_at, front_with, control_with, control_clause, monitor_clause, awaited_by_monitor, task_clause, awaited_by_task, IsSettled}
 use Rattle.kl1_user_effects.proofs.Aims.{aim_later}
-use Rattle.kl1_model.specs.Found.{awaited_by_found}
 
 -- a number hangs on no variable of these
 abbrev pub HangsOnNone : List Hook → ℕ → List ℕ → Type 0
