@@ -1,6 +1,6 @@
 -- The clauses of one predicate stand together in a module that a text means.
 use Rattle.std.proofs.Common.{◌≡◌, ℕ, ◌==◌, ◌⊎◌, inl, inr, Bool, true, false, ◌&&◌, ◌||◌, not, if◌then◌else◌, List, [], ◌∷◌, ◌++◌, length, filter, Option, Some, None, bytes_eq, nat_lt, refl, sym, ap, subst, ◌∙◌, append_assoc, append-nil}
-use Rattle.std.specs.Prelude.{is_some, option_map, option_and_then, unwrap_or}
+use Rattle.std.specs.Prelude.{option_map, unwrap_or}
 use Rattle.std.specs.List.{list_any, list_all}
 use Rattle.std.proofs.lemmas.List.Elements.{filter-append}
 use Rattle.std.proofs.lemmas.List.Folds.{list_any-append, list_all-append}
@@ -8,8 +8,9 @@ use Rattle.std.proofs.lemmas.Bool.{and_parts, eqb-true}
 use Rattle.std.proofs.lemmas.Slice.Eq.{bytes_eq-Decides}
 use Rattle.kl1_model.specs.Term.{count_of}
 use Rattle.kl1_model.specs.Token.{tokens_of_text}
-use Rattle.kl1_model.specs.Module.{Clause, Module, Reading, good, bad, Item, items_of, is_of, last_of, may_follow, section_after, with_clause, is_otherwise, otherwise_on, if_good, clauses_ended, clauses_from, clause_of, module_with, module_named, module_of_items, named_module}
+use Rattle.kl1_model.specs.Module.{Clause, Module, items_of, is_of, last_of, may_follow, section_after}
 use Rattle.kl1_model.specs.declared.limits.TheConstants.{MOST_CLAUSES}
+use Rattle.kl1_model.proofs.ReadItems.{clauses_keep, items_read}
 use Rattle.kl1_clause.specs.Predicates.{from_first, front_run}
 use Rattle.kl1_clause.specs.Modules.{IsMeant}
 
@@ -145,62 +146,9 @@ add_by name count cs behind c d true is same t h =
       | inr none ↦ add_first (is_of name count) cs d none same
     ]
 
--- what holds of no clauses, and of each that may follow, holds of the clauses of items
-module _ (m : List ℕ) (P : List Clause → Type 0) (step : (before : List Clause) (behind : Bool) (c : Clause) → P before → may_follow before behind c ≡ true → P (before ++ record c { section = section_after before behind c } ∷ [])) where
-  good_some : {A : Type 0} {Q : Type 0} (line : ℕ) (x : Option A) (go : A → Reading (List Clause)) (cs : List Clause) → if_good line x go ≡ good cs → ((now : A) → x ≡ Some now → go now ≡ good cs → Q) → Q
-  good_some line None go cs h k = cc
-  good_some line (Some now) go cs h k = k now refl h
-
-  -- one more clause
-  added : (before : List Clause) (behind : Bool) (x : Option Clause) (now : List Clause) → with_clause before behind x ≡ Some now → P before → P now
-  added before behind None now h p = cc
-  added before behind (Some c) now h p = added_by (may_follow before behind c) refl h
-    where
-      added_by : (b : Bool) → may_follow before behind c ≡ b → (if b then Some (before ++ record c { section = section_after before behind c } ∷ []) else None) ≡ Some now → P now
-      added_by true e g = let same : before ++ record c { section = section_after before behind c } ∷ [] ≡ now = cc in subst P same (step before behind c p e)
-      added_by false e g = cc
-
-  ended : (before cs : List Clause) (pending : Option ℕ) → clauses_ended before pending ≡ good cs → P before → P cs
-  ended before cs None h p = let same : before ≡ cs = cc in subst P same p
-  ended before cs (Some line) h p = cc
-
-  -- an item, and what follows it
-  by_item : (item : Item) (items : List Item) (before cs : List Clause) (pending : Option ℕ) (x : Bool) → ((now : List Clause) (next : Option ℕ) → clauses_from m now next items ≡ good cs → P now → P cs) →
-      elim x [
-        | true ↦ if_good item.line (otherwise_on item.line before pending) (λ line. clauses_from m before (Some line) items)
-        | false ↦ if_good item.line (with_clause before (is_some pending) (option_and_then (clause_of m) item.tokens)) (λ now. clauses_from m now None items)
-      ] ≡ good cs → P before → P cs
-  by_item item items before cs pending true go h p = good_some item.line (otherwise_on item.line before pending) _ cs h (λ line is rest. go before (Some line) rest p)
-  by_item item items before cs pending false go h p =
-      good_some item.line (with_clause before (is_some pending) (option_and_then (clause_of m) item.tokens)) _ cs h (λ now is rest. go now None rest (added before (is_some pending) (option_and_then (clause_of m) item.tokens) now is p))
-
-  kept : (items : List Item) (before cs : List Clause) (pending : Option ℕ) → P before → clauses_from m before pending items ≡ good cs → P cs
-  kept [] before cs pending p h = ended before cs pending h p
-  kept (item ∷ items) before cs pending p h = by_item item items before cs pending (is_otherwise item.tokens) (λ now next rest q. kept items now cs next q rest) h p
-
--- the items of a module's clauses
-record Items (m : Module) : Type 0 where
-  items : List Item
-  read : clauses_from m.name [] None items ≡ good m.clauses
-
-of_clauses : (name source : List ℕ) (m : Module) (items : List Item) (r : Reading (List Clause)) → clauses_from name [] None items ≡ r → module_with name source r ≡ good m → Items m
-of_clauses name source m items (bad line) e h = cc
-of_clauses name source m items (good cs) e h =
-    let whole : Module = record { name = name; source = source; clauses = cs } in
-    let same : whole ≡ m = cc in
-    record { items = items; read = ap (λ (n : List ℕ). clauses_from n [] None items) (sym (ap (λ (x : Module). x.name) same)) ∙ (e ∙ ap (λ (x : Module). good x.clauses) same) }
-
-of_name : (source : List ℕ) (m : Module) (item : Item) (items : List Item) (name : Option (List ℕ)) → module_named source item items name ≡ good m → Items m
-of_name source m item items None h = cc
-of_name source m item items (Some name) h = of_clauses name source m items (clauses_from name [] None items) refl h
-
-of_items : (source : List ℕ) (m : Module) (items : List Item) → module_of_items source items ≡ good m → Items m
-of_items source m [] h = cc
-of_items source m (item ∷ items) h = of_name source m item items (option_and_then named_module item.tokens) h
-
 -- so the clauses of a predicate of a module that a text means stand together
 pub together : (source : List ℕ) (m : Module) (name : List ℕ) (count : ℕ) → IsMeant source m → IsTogether (is_of name count) m.clauses
 together source m name count meant =
-    let read = of_items source m (items_of (tokens_of_text source)) meant.reads in
-    kept m.name (IsTogether (is_of name count)) (λ before behind c t h. add_by name count before behind c (record c { section = section_after before behind c }) (is_of name count c) refl refl t h) read.items [] m.clauses None
-    (record { before = []; run = []; behind = []; are = refl; none_before = refl; all = refl; none_behind = refl }) read.read
+    let read = items_read source (items_of (tokens_of_text source)) m meant.reads in
+    clauses_keep m.name (IsTogether (is_of name count)) (λ before behind ts c t is h. add_by name count before behind c (record c { section = section_after before behind c }) (is_of name count c) refl refl t h) read.others [] m.clauses None read.clauses
+    (record { before = []; run = []; behind = []; are = refl; none_before = refl; all = refl; none_behind = refl })

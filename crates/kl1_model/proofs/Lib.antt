@@ -9,6 +9,7 @@ pub mod ReadSound
 pub mod ReadComplete
 pub mod LexSteps
 pub mod ReadSteps
+pub mod ReadItems
 pub mod ReadMeans
 pub mod ReadOrder
 pub mod Clashes

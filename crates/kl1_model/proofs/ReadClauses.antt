@@ -1,5 +1,5 @@
 -- The clauses of a module that was read have their variables numbered by first occurrence, and guards of their heads' variables.
-use Rattle.std.specs.Prelude.{◌≡◌, ℕ, ◌&&◌, Bool, true, false, cond, List, [], ◌∷◌, ◌++◌, Option, Some, None, is_some, option_map, option_and_then, codes}
+use Rattle.std.specs.Prelude.{◌≡◌, ℕ, ◌&&◌, Bool, true, false, cond, List, [], ◌∷◌, ◌++◌, Option, Some, None, option_map, codes}
 use Rattle.std.specs.List.{list_all}
 use Rattle.std.proofs.Common.{refl, ap, sym, ◌∙◌}
 use Rattle.std.proofs.lemmas.Bool.{and_from, and_parts}
@@ -13,13 +13,14 @@ use Rattle.kl1_model.specs.Grammar.{Head, GoalTree, plain_goal, urgent_goal, Bod
 use Rattle.kl1_model.specs.Reader.{clause_tree}
 use Rattle.kl1_model.specs.Numbering.{numbered_tokens}
 use Rattle.kl1_model.specs.Meaning.{pair, expression_term, series_terms, is_writable, variables_of, variables_in, numbered_after}
-use Rattle.kl1_model.specs.Goal.{is_test, is_goal, is_unqualified_goal, body_goal}
-use Rattle.kl1_model.specs.Module.{BodyGoal, Clause, goals_of, Module, Reading, good, bad, Item, items_of, named_module, each_of, head_patterns, is_fit_head, has_only, fit_test, without_priority, with_priority, may_name, fit_goal, fit_body, clause_with, true_goal, clause_of_tree, clause_of, section_after, may_follow, with_clause, is_otherwise, if_good, clauses_ended, otherwise_on, clauses_from, module_with, module_named, module_of_items, read_module}
+use Rattle.kl1_model.specs.Goal.{is_test, is_goal, is_head, body_goal}
+use Rattle.kl1_model.specs.Module.{BodyGoal, Clause, goals_of, Module, good, Item, items_of, each_of, head_patterns, is_fit_head, has_only, fit_test, without_priority, with_priority, may_name, fit_goal, fit_body, clause_with, true_goal, clause_of_tree, clause_of, section_after, may_follow, module_of_items, read_module}
 use Rattle.kl1_model.specs.laws.ReadLaws.{variables_of_each, clause_variables, is_numbered_clause}
 use Rattle.kl1_model.specs.laws.WaitsLaws.{is_guarded}
 use Rattle.kl1_model.proofs.ReadSound.{clause_trees_sound}
 use Rattle.kl1_model.proofs.ReadMeans.{numbers_of, series_variables, tree_term, body_terms, body_variables, head_variables}
 use Rattle.kl1_model.proofs.ReadOrder.{numbered_in_order}
+use Rattle.kl1_model.proofs.ReadItems.{clauses_keep, items_read}
 
 option_map_some : {A B P : Type 0} (f : A → B) (x : Option A) (b : B) → option_map f x ≡ Some b → ((a : A) → x ≡ Some a → f a ≡ b → P) → P
 option_map_some f None b h k = absurd (none-some b h)
@@ -51,11 +52,11 @@ goal_kept : (m : List ℕ) (g : GoalTree) (u : BodyGoal) → fit_goal m g ≡ So
 goal_kept m (plain_goal e) u h =
     let t = expression_term e in
     option_map_some without_priority (body_goal m t) u (else_none (is_writable t) (option_map without_priority (body_goal m t)) u h) (λ v found here.
-    ap (λ (w : BodyGoal). variables_of w.goal) (sym here) ∙ goal_case (is_goal t) (is_unqualified_goal t) m t v found)
+    ap (λ (w : BodyGoal). variables_of w.goal) (sym here) ∙ goal_case (is_goal t) (is_head t) m t v found)
 goal_kept m (urgent_goal e quotes n) u h =
     let t = expression_term e in
     option_map_some (with_priority n) (body_goal m t) u (else_none (is_writable t && may_name n t) (option_map (with_priority n) (body_goal m t)) u h) (λ v found here.
-    ap (λ (w : BodyGoal). variables_of w.goal) (sym here) ∙ goal_case (is_goal t) (is_unqualified_goal t) m t v found)
+    ap (λ (w : BodyGoal). variables_of w.goal) (sym here) ∙ goal_case (is_goal t) (is_head t) m t v found)
 
 -- the goals of a body keep the variables of its trees
 body_kept : (m : List ℕ) (b : Body) (gs : List BodyGoal) → fit_body m b ≡ Some gs → variables_of_each (goals_of gs) ≡ variables_in (body_terms b)
@@ -139,62 +140,24 @@ guarded_tree m (guarded h tests body) c is = guarded_with h (list_of (series_ter
 clause_guarded : (m : List ℕ) (ts : List (Token (List ℕ))) (c : Clause) → clause_of m ts ≡ Some c → is_guarded c ≡ true
 clause_guarded m ts c h = option_and_then_some (clause_of_tree m) (clause_tree (numbered_tokens ts)) c h (λ t read is. guarded_tree m t c is)
 
-goods : {A : Type 0} (a b : A) → good a ≡ good b → a ≡ b
-goods a b h = cc
-
-good_some : {A P : Type 0} (line : ℕ) (x : Option A) (go : A → Reading (List Clause)) (cs : List Clause) → if_good line x go ≡ good cs → ((now : A) → x ≡ Some now → go now ≡ good cs → P) → P
-good_some line None go cs h k = cc
-good_some line (Some now) go cs h k = k now refl h
-
 -- what holds of each clause that an item means, whatever its section, holds of each clause of a module
 module _ (ok : Clause → Bool) (free : (c : Clause) (n : ℕ) → ok (record c { section = n }) ≡ ok c) (one : (m : List ℕ) (ts : List (Token (List ℕ))) (c : Clause) → clause_of m ts ≡ Some c → ok c ≡ true) where
-  item_holds : (m : List ℕ) (tokens : Option (List (Token (List ℕ)))) (c : Clause) → option_and_then (clause_of m) tokens ≡ Some c → ok c ≡ true
-  item_holds m tokens c h = option_and_then_some (clause_of m) tokens c h (λ ts there is. one m ts c is)
+  -- one more clause
+  added : (m : List ℕ) (before : List Clause) (opens : Bool) (ts : List (Token (List ℕ))) (c : Clause) → list_all ok before ≡ true → clause_of m ts ≡ Some c → may_follow before opens c ≡ true → list_all ok (before ++ record c { section = section_after before opens c } ∷ []) ≡ true
+  added m before opens ts c all is may =
+      let placed : Clause = record c { section = section_after before opens c } in
+      list_all-append ok before (placed ∷ [])
+      ∙ and_from (list_all ok before) (ok placed && true) all (and_from (ok placed) true (free c (section_after before opens c) ∙ one m ts c is) refl)
 
-  -- clauses that were good go on if another is
-  added : (before : List Clause) (behind : Bool) (x : Option Clause) (now : List Clause) → with_clause before behind x ≡ Some now → list_all ok before ≡ true → ((c : Clause) → x ≡ Some c → ok c ≡ true) → list_all ok now ≡ true
-  added before behind None now h all each = absurd (none-some now h)
-  added before behind (Some c) now h all each =
-      let placed : Clause = record c { section = section_after before behind c } in
-      ap (list_all ok) (sym (cond_some (may_follow before behind c) (before ++ placed ∷ []) now h).1)
-      ∙ list_all-append ok before (placed ∷ [])
-      ∙ and_from (list_all ok before) (ok placed && true) all (and_from (ok placed) true (free c (section_after before behind c) ∙ each c refl) refl)
-
-  ended_holds : (before : List Clause) (behind : Option ℕ) (cs : List Clause) → clauses_ended before behind ≡ good cs → list_all ok before ≡ true → list_all ok cs ≡ true
-  ended_holds before None cs h all = ap (list_all ok) (sym (goods before cs h)) ∙ all
-  ended_holds before (Some line) cs h all = cc
-
-  -- an item, and what follows it
-  by_item : (m : List ℕ) (item : Item) (items : List Item) (before cs : List Clause) (behind : Option ℕ) (x : Bool) → ((now : List Clause) (pending : Option ℕ) → clauses_from m now pending items ≡ good cs → list_all ok now ≡ true → list_all ok cs ≡ true) →
-      elim x [
-        | true ↦ if_good item.line (otherwise_on item.line before behind) (λ line. clauses_from m before (Some line) items)
-        | false ↦ if_good item.line (with_clause before (is_some behind) (option_and_then (clause_of m) item.tokens)) (λ now. clauses_from m now None items)
-      ] ≡ good cs → list_all ok before ≡ true → list_all ok cs ≡ true
-  by_item m item items before cs behind true go h all = good_some item.line (otherwise_on item.line before behind) _ cs h (λ line is rest. go before (Some line) rest all)
-  by_item m item items before cs behind false go h all =
-      good_some item.line (with_clause before (is_some behind) (option_and_then (clause_of m) item.tokens)) _ cs h (λ now is rest.
-      go now None rest (added before (is_some behind) (option_and_then (clause_of m) item.tokens) now is all (item_holds m item.tokens)))
-
-  all_holds : (m : List ℕ) (items : List Item) (before cs : List Clause) (behind : Option ℕ) → clauses_from m before behind items ≡ good cs → list_all ok before ≡ true → list_all ok cs ≡ true
-  all_holds m [] before cs behind h all = ended_holds before behind cs h all
-  all_holds m (item ∷ items) before cs behind h all = by_item m item items before cs behind (is_otherwise item.tokens) (λ now pending rest every. all_holds m items now cs pending rest every) h all
-
-  module_case : (name source : List ℕ) (x : Reading (List Clause)) (m : Module) → ((cs : List Clause) → x ≡ good cs → list_all ok cs ≡ true) → module_with name source x ≡ good m → list_all ok m.clauses ≡ true
-  module_case name source (bad line) m all h = cc
-  module_case name source (good cs) m all h = ap (λ (n : Module). list_all ok n.clauses) (sym (goods _ m h)) ∙ all cs refl
-
-  named_case : (source : List ℕ) (item : Item) (items : List Item) (x : Option (List ℕ)) (m : Module) → module_named source item items x ≡ good m → list_all ok m.clauses ≡ true
-  named_case source item items None m h = cc
-  named_case source item items (Some name) m h = module_case name source (clauses_from name [] None items) m (λ cs is. all_holds name items [] cs None is refl) h
-
-  items_holds : (source : List ℕ) (items : List Item) (m : Module) → module_of_items source items ≡ good m → list_all ok m.clauses ≡ true
-  items_holds source [] m h = cc
-  items_holds source (item ∷ items) m h = named_case source item items (option_and_then named_module item.tokens) m h
+  items_hold : (source : List ℕ) (items : List Item) (m : Module) → module_of_items source items ≡ good m → list_all ok m.clauses ≡ true
+  items_hold source items m h =
+      let read = items_read source items m h in
+      clauses_keep m.name (λ cs. list_all ok cs ≡ true) (added m.name) read.others [] m.clauses None read.clauses refl
 
 -- each clause of a module that was read has its variables numbered by first occurrence
 pub clauses_are_numbered : (source : List ℕ) (m : Module) → read_module source ≡ good m → list_all is_numbered_clause m.clauses ≡ true
-clauses_are_numbered source m h = items_holds is_numbered_clause (λ c n. refl) clause_numbered source (items_of (tokens_of_text source)) m h
+clauses_are_numbered source m h = items_hold is_numbered_clause (λ c n. refl) clause_numbered source (items_of (tokens_of_text source)) m h
 
 -- and its guard has variables of its head alone
 pub clauses_are_guarded : (source : List ℕ) (m : Module) → read_module source ≡ good m → list_all is_guarded m.clauses ≡ true
-clauses_are_guarded source m h = items_holds is_guarded (λ c n. refl) clause_guarded source (items_of (tokens_of_text source)) m h
+clauses_are_guarded source m h = items_hold is_guarded (λ c n. refl) clause_guarded source (items_of (tokens_of_text source)) m h

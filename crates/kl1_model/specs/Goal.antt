@@ -1,20 +1,16 @@
 -- Which terms are goals, heads and tests.
 use Rattle.std.specs.Prelude.{ℕ, ◌==◌, not, ◌&&◌, ◌||◌, Bool, true, false, if◌then◌else◌, List, [], ◌∷◌, codes, bytes_eq, Option, Some, None, is_some}
 use Rattle.std.specs.List.{list_any}
-use Rattle.kl1_model.specs.declared.built_in.BuiltIn.{BuiltIn}
 use Rattle.kl1_model.specs.declared.built_in.BuiltIn.TheVariants.{EmptyList, ListCell, Colon, Equal, NotEqual, Assign, Less, Greater, AtMost, AtLeast, SameNumber, OtherNumber, Plus, Minus, Times, Divide, Modulo}
 use Rattle.kl1_model.specs.Text.{text_of}
 use Rattle.kl1_model.specs.Term.{Term, atom, structure, none, more, count_of}
 use Rattle.kl1_model.specs.Meaning.{pair}
 use Rattle.kl1_model.specs.Guard.{test_of}
 
--- the names that no user's predicate may have: the operators, `:`, `.` and `[]`
-abbrev pub reserved_names : List BuiltIn
-reserved_names = Equal ∷ NotEqual ∷ Assign ∷ Less ∷ Greater ∷ AtMost ∷ AtLeast ∷ SameNumber ∷ OtherNumber ∷ Plus ∷ Minus ∷ Times ∷ Divide ∷ Modulo ∷ Colon ∷ ListCell ∷ EmptyList ∷ []
-
--- whether a name is one of those
+-- whether no user's predicate may have a name: those of the operators, `:`, `.` and `[]`
 abbrev pub is_reserved : List ℕ → Bool
-is_reserved p = list_any (λ b. bytes_eq p (text_of b)) reserved_names
+is_reserved p =
+    list_any (λ b. bytes_eq p (text_of b)) (Equal ∷ NotEqual ∷ Assign ∷ Less ∷ Greater ∷ AtMost ∷ AtLeast ∷ SameNumber ∷ OtherNumber ∷ Plus ∷ Minus ∷ Times ∷ Divide ∷ Modulo ∷ Colon ∷ ListCell ∷ EmptyList ∷ [])
 
 -- whether `p` with `n` arguments is `name` with `count`
 abbrev pub is_called : List ℕ → ℕ → List ℕ → ℕ → Bool
@@ -61,10 +57,6 @@ abbrev pub is_qualified_goal : Term → Bool
 is_qualified_goal (structure f (more (atom m) (more b none))) = bytes_eq f (codes ":") && is_callee b && not (is_execute m b)
 is_qualified_goal _ = false
 
--- a goal of the module in which it stands
-abbrev pub is_unqualified_goal : Term → Bool
-is_unqualified_goal t = is_head t
-
 -- a goal that stands for itself wherever it is: a built-in goal, or one that names its module
 abbrev pub is_goal : Term → Bool
 is_goal t = is_built_in_goal t || is_qualified_goal t
@@ -75,4 +67,4 @@ is_test t = is_some (test_of t)
 
 -- a goal as it stands in the body of a clause of this module, with the module's name if it names none
 abbrev pub body_goal : List ℕ → Term → Option Term
-body_goal m t = if is_goal t then Some t else if is_unqualified_goal t then Some (pair (codes ":") (atom m) t) else None
+body_goal m t = if is_goal t then Some t else if is_head t then Some (pair (codes ":") (atom m) t) else None

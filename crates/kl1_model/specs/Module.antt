@@ -166,66 +166,54 @@ last_of (c ∷ d ∷ cs) = last_of (d ∷ cs)
 abbrev pub continues : List Clause → Clause → Bool
 continues before c = unwrap_or (option_map (is_of c.name (count_of c.patterns)) (last_of before)) false
 
--- whether a clause may follow these, directly after an `otherwise` or not: there is room, clauses of one name and number of
--- arguments stand together, and the one after an `otherwise` is of the same predicate as the one before it
+-- whether a clause is of the same predicate as none of these
+abbrev pub begins : List Clause → Clause → Bool
+begins before c = not (list_any (is_of c.name (count_of c.patterns)) before)
+
+-- whether there is room for a clause, and it continues its predicate or, unless an `otherwise` is before it, begins one
 abbrev pub may_follow : List Clause → Bool → Clause → Bool
-may_follow before behind c =
-    nat_lt (length before) MOST_CLAUSES && (continues before c || not behind && not (list_any (is_of c.name (count_of c.patterns)) before))
+may_follow before opens c = nat_lt (length before) MOST_CLAUSES && (continues before c || not opens && begins before c)
 
 -- the section of a clause that follows these: the last one's or, after an `otherwise`, the next; a predicate's first is 0
 abbrev pub section_after : List Clause → Bool → Clause → ℕ
-section_after before behind c =
+section_after before opens c =
     let last = unwrap_or (option_map (λ d. d.section) (last_of before)) 0 in
-    if continues before c then (if behind then suc last else last) else 0
+    if continues before c then (if opens then suc last else last) else 0
 
--- the clauses before and this one, if it may follow
-abbrev pub with_clause : List Clause → Bool → Option Clause → Option (List Clause)
-with_clause before behind None = None
-with_clause before behind (Some c) = if may_follow before behind c then Some (before ++ record c { section = section_after before behind c } ∷ []) else None
+-- the clauses before and this one in its section, if it may follow them
+abbrev pub with_clause : List Clause → Bool → Clause → Option (List Clause)
+with_clause before opens c = if may_follow before opens c then Some (before ++ record c { section = section_after before opens c } ∷ []) else None
 
 -- whether an item is `otherwise`
 abbrev pub is_otherwise : Option (List (Token (List ℕ))) → Bool
 is_otherwise (Some (name_token word quotes applied ∷ [])) = bytes_eq word (codes "otherwise")
 is_otherwise _ = false
 
--- goes on if an item is good
-abbrev pub if_good : {A : Type 0} → ℕ → Option A → (A → Reading (List Clause)) → Reading (List Clause)
-if_good line None go = bad line
-if_good line (Some a) go = go a
-
--- the clauses before; an `otherwise` on this line with no clause after it is bad
-abbrev pub clauses_ended : List Clause → Option ℕ → Reading (List Clause)
-clauses_ended before None = good before
-clauses_ended before (Some line) = bad line
-
--- the line of an `otherwise` that stands directly after a clause, and not after another `otherwise`
-abbrev pub otherwise_on : ℕ → List Clause → Option ℕ → Option ℕ
-otherwise_on line before behind = if is_some (last_of before) && is_none behind then Some line else None
-
--- the clauses before and then those of the items, or the line of the first bad item; `behind` is the line of an `otherwise`
--- that stands directly before the items, if there is one
+-- the clauses before and those of the items, or the line of the first bad item; `opened` is the line of an `otherwise` just before
 abbrev pub clauses_from : List ℕ → List Clause → Option ℕ → List Item → Reading (List Clause)
-clauses_from m before behind [] = clauses_ended before behind
-clauses_from m before behind (item ∷ items) =
+clauses_from m before opened [] = elim opened [ None ↦ good before | Some line ↦ bad line ]
+clauses_from m before opened (item ∷ items) =
     elim (is_otherwise item.tokens) [
-      | true ↦ if_good item.line (otherwise_on item.line before behind) (λ line. clauses_from m before (Some line) items)
-      | false ↦ if_good item.line (with_clause before (is_some behind) (option_and_then (clause_of m) item.tokens)) (λ now. clauses_from m now None items)
+      | true ↦ if is_some (last_of before) && is_none opened then clauses_from m before (Some item.line) items else bad item.line
+      | false ↦
+          elim (option_and_then (with_clause before (is_some opened)) (option_and_then (clause_of m) item.tokens)) [
+            | None ↦ bad item.line
+            | Some now ↦ clauses_from m now None items
+          ]
     ]
-
--- a module with its clauses, or the line of the bad item among them
-abbrev pub module_with : List ℕ → List ℕ → Reading (List Clause) → Reading Module
-module_with name source (bad line) = bad line
-module_with name source (good clauses) = good (record { name = name; source = source; clauses = clauses })
-
--- a module whose first item gives it this name, with the items after
-abbrev pub module_named : List ℕ → Item → List Item → Option (List ℕ) → Reading Module
-module_named source item items None = bad item.line
-module_named source item items (Some name) = module_with name source (clauses_from name [] None items)
 
 -- the module of a text's items; a text without items is bad on its first line
 abbrev pub module_of_items : List ℕ → List Item → Reading Module
 module_of_items source [] = bad 1
-module_of_items source (item ∷ items) = module_named source item items (option_and_then named_module item.tokens)
+module_of_items source (item ∷ items) =
+    elim (option_and_then named_module item.tokens) [
+      | None ↦ bad item.line
+      | Some name ↦
+          elim (clauses_from name [] None items) [
+            | bad line ↦ bad line
+            | good clauses ↦ good (record { name = name; source = source; clauses = clauses })
+          ]
+    ]
 
 -- what a text is as a module
 abbrev pub read_module : List ℕ → Reading Module
@@ -250,10 +238,8 @@ first_line (p ∷ ps) broken_at = p.line
 abbrev pub term_of_tokens : List (Token (List ℕ)) → Option Term
 term_of_tokens ts = option_map expression_term (expression_tree (numbered_tokens ts))
 
--- the goal that tokens are, all of them
-abbrev pub goal_of_tokens : Tokens → Reading Term
-goal_of_tokens ts = startable (first_line ts.placed ts.broken_at) (elim ts.broken_at [ None ↦ term_of_tokens (bare_tokens ts.placed) | Some line ↦ None ])
-
 -- what a text is as a goal: one expression that is a goal for itself, without an end
 abbrev pub read_goal : List ℕ → Reading Term
-read_goal text = goal_of_tokens (tokens_of_text text)
+read_goal text =
+    let ts = tokens_of_text text in
+    startable (first_line ts.placed ts.broken_at) (elim ts.broken_at [ None ↦ term_of_tokens (bare_tokens ts.placed) | Some line ↦ None ])

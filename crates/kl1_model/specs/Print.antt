@@ -7,11 +7,6 @@ use Rattle.kl1_model.specs.declared.pair_form.PairForm.TheVariants.{Cell, Qualif
 use Rattle.kl1_model.specs.Name.{name_text, atom_text}
 use Rattle.kl1_model.specs.Term.{Term, variable, integer, atom, structure, Terms, none, more}
 
--- a structure `:` of two arguments
-abbrev pub is_colon_pair : Term → Bool
-is_colon_pair (structure f (more a (more b none))) = bytes_eq f (codes ":")
-is_colon_pair _ = false
-
 -- what may stand before the colon
 abbrev pub is_before_colon : Term → Bool
 is_before_colon (atom a) = true
@@ -20,7 +15,8 @@ is_before_colon _ = false
 -- what may stand after the colon: an atom, or a structure that isn't itself a `:` of two arguments
 abbrev pub is_behind_colon : Term → Bool
 is_behind_colon (atom a) = true
-is_behind_colon (structure f ts) = not (is_colon_pair (structure f ts))
+is_behind_colon (structure f (more a (more b none))) = not (bytes_eq f (codes ":"))
+is_behind_colon (structure f ts) = true
 is_behind_colon _ = false
 
 -- the form in which a structure of two arguments is printed

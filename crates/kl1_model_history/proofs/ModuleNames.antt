@@ -1,7 +1,7 @@
 -- The names of a module that was read are the texts of names.
 use Rattle.std.specs.Prelude.{◌≡◌, ℕ, nat_le, ◌&&◌, Bool, true, false, cond, List, [], ◌∷◌, ◌++◌, Option, Some, None, is_some, option_map, option_and_then, codes}
 use Rattle.std.specs.List.{list_all}
-use Rattle.std.proofs.Common.{refl, ap, sym, ◌∙◌}
+use Rattle.std.proofs.Common.{refl, ap, sym, ◌∙◌, subst}
 use Rattle.std.proofs.lemmas.Bool.{and_from, and_parts}
 use Rattle.std.proofs.lemmas.List.Folds.{list_all-append}
 use Rattle.std.proofs.lemmas.Option.{none-some, same_Some, cond_some, option_and_then_some}
@@ -13,9 +13,10 @@ use Rattle.kl1_model.specs.Grammar.{Head, bare_head, head_with, GoalTree, plain_
 use Rattle.kl1_model.specs.Reader.{clause_tree}
 use Rattle.kl1_model.specs.Numbering.{numbered_tokens}
 use Rattle.kl1_model.specs.Meaning.{pair, expression_term, series_terms, head_term, depth, is_narrow, are_narrow, is_writable, variables_in}
-use Rattle.kl1_model.specs.Goal.{is_head, is_test, is_goal, is_unqualified_goal, body_goal}
-use Rattle.kl1_model.specs.Module.{BodyGoal, Clause, goals_of, Module, Reading, good, bad, Item, items_of, named_module, each_of, head_name, head_patterns, is_fit_head, has_only, fit_test, without_priority, with_priority, may_name, fit_goal, trees_of, fit_body, clause_with, true_goal, clause_of_tree, clause_of, section_after, may_follow, with_clause, is_otherwise, if_good, clauses_ended, otherwise_on, clauses_from, module_with, module_named, module_of_items, read_module}
+use Rattle.kl1_model.specs.Goal.{is_head, is_test, is_goal, body_goal}
+use Rattle.kl1_model.specs.Module.{BodyGoal, Clause, goals_of, Module, Reading, good, bad, Item, items_of, named_module, each_of, head_name, head_patterns, is_fit_head, has_only, fit_test, without_priority, with_priority, may_name, fit_goal, trees_of, fit_body, clause_with, true_goal, clause_of_tree, clause_of, section_after, may_follow, module_of_items, read_module}
 use Rattle.kl1_model.specs.State.{names_in, names_of_clause, names_of_clauses, names_of_module}
+use Rattle.kl1_model.proofs.ReadItems.{clauses_keep, items_read}
 use Rattle.kl1_model_history.proofs.NewNames.{names_in_are_texts}
 use Rattle.kl1_model_history.proofs.ReadNames.{ItemsHave, items_have_texts, GivesText, item_gives_text}
 
@@ -58,12 +59,12 @@ goal_narrow m text (plain_goal e) u h =
     let t = expression_term e in
     let k = passed (is_writable t) (option_map without_priority (body_goal m t)) u h in
     option_map_some without_priority (body_goal m t) u k.1 (λ v found here.
-    ap is_narrow_goal (sym here) ∙ goal_case (is_goal t) (is_unqualified_goal t) m t v text (writable_narrow t k.0) found)
+    ap is_narrow_goal (sym here) ∙ goal_case (is_goal t) (is_head t) m t v text (writable_narrow t k.0) found)
 goal_narrow m text (urgent_goal e quotes n) u h =
     let t = expression_term e in
     let k = passed (is_writable t && may_name n t) (option_map (with_priority n) (body_goal m t)) u h in
     option_map_some (with_priority n) (body_goal m t) u k.1 (λ v found here.
-    ap is_narrow_goal (sym here) ∙ goal_case (is_goal t) (is_unqualified_goal t) m t v text (writable_narrow t (and_parts (is_writable t) (may_name n t) k.0).0) found)
+    ap is_narrow_goal (sym here) ∙ goal_case (is_goal t) (is_head t) m t v text (writable_narrow t (and_parts (is_writable t) (may_name n t) k.0).0) found)
 
 terms_narrow : (ts : List Term) → list_all is_narrow ts ≡ true → are_narrow (terms_of ts) ≡ true
 terms_narrow [] h = refl
@@ -118,43 +119,12 @@ tree_texts m text (guarded h tests body) c is = clause_with_texts h (list_of (se
 clause_texts : (m : List ℕ) → is_text m ≡ true → (ts : List (Token (List ℕ))) (c : Clause) → clause_of m ts ≡ Some c → has_texts c ≡ true
 clause_texts m text ts c h = option_and_then_some (clause_of_tree m) (clause_tree (numbered_tokens ts)) c h (λ t read is. tree_texts m text t c is)
 
-item_texts : (m : List ℕ) → is_text m ≡ true → (tokens : Option (List (Token (List ℕ)))) (c : Clause) → option_and_then (clause_of m) tokens ≡ Some c → has_texts c ≡ true
-item_texts m text tokens c h = option_and_then_some (clause_of m) tokens c h (λ ts there is. clause_texts m text ts c is)
-
-goods : {A : Type 0} (a b : A) → good a ≡ good b → a ≡ b
-goods a b h = cc
-
-good_some : {A P : Type 0} (line : ℕ) (x : Option A) (go : A → Reading (List Clause)) (cs : List Clause) → if_good line x go ≡ good cs → ((now : A) → x ≡ Some now → go now ≡ good cs → P) → P
-good_some line None go cs h k = cc
-good_some line (Some now) go cs h k = k now refl h
-
--- clauses that were good go on if another is
-added : (before : List Clause) (behind : Bool) (x : Option Clause) (now : List Clause) → with_clause before behind x ≡ Some now → list_all has_texts before ≡ true → ((c : Clause) → x ≡ Some c → has_texts c ≡ true) → list_all has_texts now ≡ true
-added before behind None now h all each = absurd (none-some now h)
-added before behind (Some c) now h all each =
-    let placed : Clause = record c { section = section_after before behind c } in
-    ap (list_all has_texts) (sym (cond_some (may_follow before behind c) (before ++ placed ∷ []) now h).1)
-    ∙ list_all-append has_texts before (placed ∷ [])
-    ∙ and_from (list_all has_texts before) (has_texts placed && true) all (and_from (has_texts placed) true (each c refl) refl)
-
-ended_texts : (before : List Clause) (behind : Option ℕ) (cs : List Clause) → clauses_ended before behind ≡ good cs → list_all has_texts before ≡ true → list_all has_texts cs ≡ true
-ended_texts before None cs h all = ap (list_all has_texts) (sym (goods before cs h)) ∙ all
-ended_texts before (Some line) cs h all = cc
-
--- an item, and what follows it
-by_item : (m : List ℕ) → is_text m ≡ true → (item : Item) (items : List Item) (before cs : List Clause) (behind : Option ℕ) (x : Bool) → ((now : List Clause) (pending : Option ℕ) → clauses_from m now pending items ≡ good cs → list_all has_texts now ≡ true → list_all has_texts cs ≡ true) →
-    elim x [
-      | true ↦ if_good item.line (otherwise_on item.line before behind) (λ line. clauses_from m before (Some line) items)
-      | false ↦ if_good item.line (with_clause before (is_some behind) (option_and_then (clause_of m) item.tokens)) (λ now. clauses_from m now None items)
-    ] ≡ good cs → list_all has_texts before ≡ true → list_all has_texts cs ≡ true
-by_item m text item items before cs behind true go h all = good_some item.line (otherwise_on item.line before behind) _ cs h (λ line is rest. go before (Some line) rest all)
-by_item m text item items before cs behind false go h all =
-    good_some item.line (with_clause before (is_some behind) (option_and_then (clause_of m) item.tokens)) _ cs h (λ now is rest.
-    go now None rest (added before (is_some behind) (option_and_then (clause_of m) item.tokens) now is all (item_texts m text item.tokens)))
-
-all_texts : (m : List ℕ) → is_text m ≡ true → (items : List Item) (before cs : List Clause) (behind : Option ℕ) → clauses_from m before behind items ≡ good cs → list_all has_texts before ≡ true → list_all has_texts cs ≡ true
-all_texts m text [] before cs behind h all = ended_texts before behind cs h all
-all_texts m text (item ∷ items) before cs behind h all = by_item m text item items before cs behind (is_otherwise item.tokens) (λ now pending rest every. all_texts m text items now cs pending rest every) h all
+-- clauses whose names are texts, with one more
+added : (m : List ℕ) → is_text m ≡ true → (before : List Clause) (opens : Bool) (ts : List (Token (List ℕ))) (c : Clause) → list_all has_texts before ≡ true → clause_of m ts ≡ Some c → may_follow before opens c ≡ true → list_all has_texts (before ++ record c { section = section_after before opens c } ∷ []) ≡ true
+added m text before opens ts c all is may =
+    let placed : Clause = record c { section = section_after before opens c } in
+    list_all-append has_texts before (placed ∷ [])
+    ∙ and_from (list_all has_texts before) (has_texts placed && true) all (and_from (has_texts placed) true (clause_texts m text ts c is) refl)
 
 clauses_texts : (cs : List Clause) → list_all has_texts cs ≡ true → list_all is_text (names_of_clauses cs) ≡ true
 clauses_texts [] h = refl
@@ -166,18 +136,17 @@ clauses_texts (c ∷ cs) h =
 abbrev module_has_texts : Module → Bool
 module_has_texts m = list_all is_text (names_of_module m)
 
-module_case : (name source : List ℕ) (x : Reading (List Clause)) (m : Module) → is_text name ≡ true → ((cs : List Clause) → x ≡ good cs → list_all has_texts cs ≡ true) → module_with name source x ≡ good m → module_has_texts m ≡ true
-module_case name source (bad line) m text all h = cc
-module_case name source (good cs) m text all h =
-    ap module_has_texts (sym (goods _ m h)) ∙ and_from (is_text name) (list_all is_text (names_of_clauses cs)) text (clauses_texts cs (all cs refl))
-
-named_case : (source : List ℕ) (item : Item) (items : List Item) (x : Option (List ℕ)) (m : Module) → GivesText x → module_named source item items x ≡ good m → module_has_texts m ≡ true
-named_case source item items None m text h = cc
-named_case source item items (Some name) m text h = module_case name source (clauses_from name [] None items) m text (λ cs is. all_texts name text items [] cs None is refl) h
+named_text : (x : Option (List ℕ)) (name : List ℕ) → GivesText x → x ≡ Some name → is_text name ≡ true
+named_text None name text is = absurd (none-some name is)
+named_text (Some n) name text is = ap is_text (sym (same_Some n name is)) ∙ text
 
 items_texts : (source : List ℕ) (items : List Item) (m : Module) → ItemsHave items → module_of_items source items ≡ good m → module_has_texts m ≡ true
-items_texts source [] m have h = cc
-items_texts source (item ∷ items) m have h = named_case source item items (option_and_then named_module item.tokens) m (item_gives_text item.tokens have.0) h
+items_texts source items m have h =
+    let read = items_read source items m h in
+    let all : ItemsHave (read.item ∷ read.others) = subst ItemsHave read.all have in
+    let text = named_text (option_and_then named_module read.item.tokens) m.name (item_gives_text read.item.tokens all.0) read.named in
+    and_from (is_text m.name) (list_all is_text (names_of_clauses m.clauses)) text
+    (clauses_texts m.clauses (clauses_keep m.name (λ cs. list_all has_texts cs ≡ true) (added m.name text) read.others [] m.clauses None read.clauses refl))
 
 -- the names of a module that was read are texts
 pub module_names_are_texts : (source : List ℕ) (m : Module) → read_module source ≡ good m → list_all is_text (names_of_module m) ≡ true

@@ -12,7 +12,7 @@ use Rattle.kl1_model.specs.Reader.{expression_tree}
 use Rattle.kl1_model.specs.Meaning.{expression_term, part_term, depth, is_narrow, is_writable, variables_of, is_numbered, highest, numbered_after}
 use Rattle.kl1_model.specs.Goal.{is_goal}
 use Rattle.kl1_model.specs.Print.{print}
-use Rattle.kl1_model.specs.Module.{Reading, good, bad, startable, bare_tokens, first_line, term_of_tokens, goal_of_tokens, read_goal}
+use Rattle.kl1_model.specs.Module.{Reading, good, bad, startable, bare_tokens, first_line, term_of_tokens, read_goal}
 use Rattle.kl1_model.specs.laws.ReadLaws.{tokens_at, is_printable}
 use Rattle.kl1_model.proofs.ReadComplete.{expression_trees_complete}
 use Rattle.kl1_model_history.proofs.LexFronts.{spelled, on_first_line, lexes_nothing}
@@ -80,7 +80,7 @@ prints_are_terms t h = ap (λ (ts : Tokens). term_of_tokens (bare_tokens ts.plac
 pub printed_goals_read_back : (t : Term) → is_printable t ≡ true → is_goal t ≡ true → read_goal (print t) ≡ good t
 printed_goals_read_back t h goal =
     let line = first_line (printed_tokens t) None in
-    ap goal_of_tokens (tokens_are t h)
+    ap (λ (ts : Tokens). startable (first_line ts.placed ts.broken_at) (elim ts.broken_at [ None ↦ term_of_tokens (bare_tokens ts.placed) | Some line ↦ None ])) (tokens_are t h)
     ∙ ap (startable line) (term_is t h)
     ∙ ap (λ x. if◌then◌else◌ {A = Reading Term} x (good t) (bad line)) (and_from (is_writable t) (is_goal t) (printable t h).writable goal)
 

@@ -14,7 +14,7 @@ use Rattle.kl1_model.specs.Numbering.{numbered_tokens}
 use Rattle.kl1_model.specs.Meaning.{expression_term, is_writable, variables_of, is_numbered, highest, numbered_after}
 use Rattle.kl1_model.specs.Goal.{is_goal}
 use Rattle.kl1_model.specs.Print.{print}
-use Rattle.kl1_model.specs.Module.{Reading, good, bad, startable, bare_tokens, first_line, term_of_tokens, goal_of_tokens, read_goal}
+use Rattle.kl1_model.specs.Module.{Reading, good, bad, startable, bare_tokens, first_line, term_of_tokens, read_goal}
 use Rattle.kl1_model.specs.laws.ReadLaws.{is_printable, strict_by, strict_goal}
 use Rattle.kl1_model.proofs.ReadSound.{expression_trees_sound}
 use Rattle.kl1_model.proofs.ReadMeans.{numbers_of, expression_variables}
@@ -62,7 +62,7 @@ started line None t h = cc
 started line (Some u) t h = started_by (is_writable u && is_goal u) line u t refl h
 
 -- what is known of a goal that was read from tokens
-goal_read : (ts : List Placed) (broken_at : Option ℕ) (t : Term) → goal_of_tokens (record { placed = ts; broken_at = broken_at }) ≡ good t → Started (term_of_tokens (bare_tokens ts)) t
+goal_read : (ts : List Placed) (broken_at : Option ℕ) (t : Term) → startable (first_line ts broken_at) (elim broken_at [ None ↦ term_of_tokens (bare_tokens ts) | Some line ↦ None ]) ≡ good t → Started (term_of_tokens (bare_tokens ts)) t
 goal_read ts None t h = started (first_line ts None) (term_of_tokens (bare_tokens ts)) t h
 goal_read ts (Some line) t h = absurd (none-some t (started (first_line ts (Some line)) None t h).found)
 

@@ -1,6 +1,6 @@
 -- Sections of clauses that were read stand in order.
 use Rattle.std.proofs.Common.{◌≡◌, ℕ, suc, ◌≤◌, ◌==◌, ◌⊎◌, inl, inr, Bool, true, false, ◌&&◌, ◌||◌, not, if◌then◌else◌, List, [], ◌∷◌, ◌++◌, length, filter, Option, Some, None, bytes_eq, nat_lt, refl, sym, ap, ap₂, subst, ◌∙◌, append-nil, arith}
-use Rattle.std.specs.Prelude.{is_some, nat_le, option_map, option_and_then, unwrap_or}
+use Rattle.std.specs.Prelude.{nat_le, option_map, unwrap_or}
 use Rattle.std.specs.List.{list_any}
 use Rattle.std.proofs.lemmas.List.Elements.{filter-append}
 use Rattle.std.proofs.lemmas.Bool.{and_parts, and_from, le-leb, eqb-true}
@@ -9,9 +9,10 @@ use Rattle.std.proofs.lemmas.Option.{same_Some, none-some}
 use Rattle.kl1_model.specs.Term.{count_of}
 use Rattle.kl1_model.specs.Token.{tokens_of_text}
 use Rattle.kl1_model.specs.laws.WaitsLaws.{are_in_order}
-use Rattle.kl1_model.specs.Module.{Clause, Module, Reading, good, bad, Item, items_of, is_of, last_of, may_follow, continues, section_after, with_clause, is_otherwise, otherwise_on, if_good, clauses_ended, clauses_from, clause_of, module_with, module_named, module_of_items, named_module}
+use Rattle.kl1_model.specs.Module.{Clause, items_of, is_of, last_of, may_follow, continues, section_after}
 use Rattle.kl1_model.specs.declared.limits.TheConstants.{MOST_CLAUSES}
 use Rattle.kl1_model.proofs.OpenSections.{candidates_are_open}
+use Rattle.kl1_model.proofs.ReadItems.{clauses_keep, items_read}
 use Rattle.kl1_model_laws.specs.SectionLaws.{SectionsAreInOrder, CandidatesOfModulesAreOpen}
 
 -- a clause after others whose last section isn't above its own
@@ -110,55 +111,10 @@ module _ (name : List ℕ) (count : ℕ) where
       ap are_in_order (filter-append (is_of name count) before (record c { section = section_after before opens c } ∷ []))
       ∙ add before opens c (is_of name count c) refl p h
 
--- what holds of no clauses, and of each that may follow, holds of the clauses of items
-module _ (m : List ℕ) (P : List Clause → Type 0) (step : (before : List Clause) (opens : Bool) (c : Clause) → P before → may_follow before opens c ≡ true → P (before ++ record c { section = section_after before opens c } ∷ [])) where
-  good_some : {A : Type 0} {Q : Type 0} (line : ℕ) (x : Option A) (go : A → Reading (List Clause)) (cs : List Clause) → if_good line x go ≡ good cs → ((now : A) → x ≡ Some now → go now ≡ good cs → Q) → Q
-  good_some line None go cs h k = cc
-  good_some line (Some now) go cs h k = k now refl h
-
-  added : (before : List Clause) (opens : Bool) (x : Option Clause) (now : List Clause) → with_clause before opens x ≡ Some now → P before → P now
-  added before opens None now h p = cc
-  added before opens (Some c) now h p = added_by (may_follow before opens c) refl h
-    where
-      added_by : (b : Bool) → may_follow before opens c ≡ b → (if b then Some (before ++ record c { section = section_after before opens c } ∷ []) else None) ≡ Some now → P now
-      added_by true e g = let same : before ++ record c { section = section_after before opens c } ∷ [] ≡ now = cc in subst P same (step before opens c p e)
-      added_by false e g = cc
-
-  ended : (before cs : List Clause) (pending : Option ℕ) → clauses_ended before pending ≡ good cs → P before → P cs
-  ended before cs None h p = let same : before ≡ cs = cc in subst P same p
-  ended before cs (Some line) h p = cc
-
-  by_item : (item : Item) (items : List Item) (before cs : List Clause) (pending : Option ℕ) (x : Bool) → ((now : List Clause) (next : Option ℕ) → clauses_from m now next items ≡ good cs → P now → P cs) →
-      elim x [
-        | true ↦ if_good item.line (otherwise_on item.line before pending) (λ line. clauses_from m before (Some line) items)
-        | false ↦ if_good item.line (with_clause before (is_some pending) (option_and_then (clause_of m) item.tokens)) (λ now. clauses_from m now None items)
-      ] ≡ good cs → P before → P cs
-  by_item item items before cs pending true go h p = good_some item.line (otherwise_on item.line before pending) _ cs h (λ line is rest. go before (Some line) rest p)
-  by_item item items before cs pending false go h p =
-      good_some item.line (with_clause before (is_some pending) (option_and_then (clause_of m) item.tokens)) _ cs h (λ now is rest. go now None rest (added before (is_some pending) (option_and_then (clause_of m) item.tokens) now is p))
-
-  kept : (items : List Item) (before cs : List Clause) (pending : Option ℕ) → P before → clauses_from m before pending items ≡ good cs → P cs
-  kept [] before cs pending p h = ended before cs pending h p
-  kept (item ∷ items) before cs pending p h = by_item item items before cs pending (is_otherwise item.tokens) (λ now next rest q. kept items now cs next q rest) h p
-
-module _ (P : List Clause → Type 0) (nothing : P []) (step : (before : List Clause) (opens : Bool) (c : Clause) → P before → may_follow before opens c ≡ true → P (before ++ record c { section = section_after before opens c } ∷ [])) where
-  of_clauses : (name source : List ℕ) (m : Module) (items : List Item) (r : Reading (List Clause)) → clauses_from name [] None items ≡ r → module_with name source r ≡ good m → P m.clauses
-  of_clauses name source m items (bad line) e h = cc
-  of_clauses name source m items (good cs) e h =
-      let whole : Module = record { name = name; source = source; clauses = cs } in
-      let same : whole ≡ m = cc in
-      subst (λ (x : Module). P x.clauses) same (kept name P step items [] cs None nothing e)
-
-  of_name : (source : List ℕ) (m : Module) (item : Item) (items : List Item) (name : Option (List ℕ)) → module_named source item items name ≡ good m → P m.clauses
-  of_name source m item items None h = cc
-  of_name source m item items (Some name) h = of_clauses name source m items (clauses_from name [] None items) refl h
-
-  of_items : (source : List ℕ) (m : Module) (items : List Item) → module_of_items source items ≡ good m → P m.clauses
-  of_items source m [] h = cc
-  of_items source m (item ∷ items) h = of_name source m item items (option_and_then named_module item.tokens) h
-
 pub sections_are_in_order : SectionsAreInOrder
-sections_are_in_order source name count m h = of_items (InOrder name count) refl (added_in_order name count) source m (items_of (tokens_of_text source)) h
+sections_are_in_order source name count m h =
+    let read = items_read source (items_of (tokens_of_text source)) m h in
+    clauses_keep m.name (InOrder name count) (λ before opens ts c p is may. added_in_order name count before opens c p may) read.others [] m.clauses None read.clauses refl
 
 pub candidates_of_modules_are_open : CandidatesOfModulesAreOpen
 candidates_of_modules_are_open source name count m n ts h = candidates_are_open n (filter (is_of name count) m.clauses) ts (sections_are_in_order source name count m h)

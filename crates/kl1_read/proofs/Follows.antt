@@ -1,5 +1,6 @@
 -- Clauses that follow others, and their sections.
 use Rattle.std.proofs.Common.{◌≡◌, ℕ, zero, suc, ◌+◌, ◌≤◌, ◌==◌, nat_lt, ◌&&◌, ◌||◌, not, if◌then◌else◌, Bool, true, false, List, [], ◌∷◌, ◌++◌, length, map, get_or, bytes_eq, Option, Some, None, is_some, unwrap_or, option_map, option_and_then, refl, ap, sym, ◌∙◌, subst, arith}
+use Rattle.std.specs.Prelude.{is_none}
 use Rattle.std.specs.List.{list_any}
 use Rattle.std.proofs.lemmas.Bool.{false≢true, true≢false, ltb-true}
 use Rattle.std.proofs.lemmas.List.{map-append, length-append}
@@ -7,10 +8,10 @@ use Rattle.std.proofs.lemmas.Option.{none-some, same_Some}
 use Rattle.kl1_model.specs.declared.limits.TheConstants.{MOST_CLAUSES}
 use Rattle.kl1_model.specs.Term.{Term, terms_of, count_of}
 use Rattle.kl1_model.specs.Token.{Token}
-use Rattle.kl1_model.specs.Module.{Clause, Reading, bad, Item, is_of, last_of, continues, may_follow, section_after, with_clause, is_otherwise, if_good, otherwise_on, clause_of, clauses_from}
+use Rattle.kl1_model.specs.Module.{Clause, Reading, bad, Item, is_of, last_of, continues, may_follow, section_after, with_clause, is_otherwise, clause_of, clauses_from}
 use Rattle.kl1_read.specs.declared.clause_parts.ClauseParts.{ClauseParts}
 use Rattle.kl1_read.specs.Sources.{clause_of_parts}
-use Rattle.kl1_read.specs.Followings.{is_one_of, section_within, holds, last_section, section_for, Standing, standing_behind}
+use Rattle.kl1_read.specs.Followings.{is_one_of, section_within, holds, last_section, section_for, Standing, otherwise_on, standing_behind}
 use Rattle.kl1_read.specs.Statements.{given}
 
 count_is : (ts : List Term) → count_of (terms_of ts) ≡ length ts
@@ -131,13 +132,13 @@ module _ (before now : List ClauseParts) (behind : Bool) (c : ClauseParts) (s : 
   abbrev there : (may_follow (map clause_of_parts before) behind (clause_of_parts c) ≡ true) × (s ≡ section_after (map clause_of_parts before) behind (clause_of_parts c))
   there = chosen (may_follow (map clause_of_parts before) behind (clause_of_parts c)) s (section_after (map clause_of_parts before) behind (clause_of_parts c)) e
 
-  pub clause_put : (x : Option Clause) → Some (clause_of_parts c) ≡ x → Some (map clause_of_parts now) ≡ with_clause (map clause_of_parts before) behind x
+  pub clause_put : (x : Option Clause) → Some (clause_of_parts c) ≡ x → Some (map clause_of_parts now) ≡ option_and_then (with_clause (map clause_of_parts before) behind) x
   clause_put x is =
       ap (λ (ps : List ClauseParts). Some (map clause_of_parts ps)) n
       ∙ ap (λ (cs : List Clause). Some cs) (map-append clause_of_parts before (record c { section = s } ∷ []))
       ∙ ap (λ k. Some (map clause_of_parts before ++ record (clause_of_parts c) { section = k } ∷ [])) there.1
       ∙ sym (ap (λ b. if◌then◌else◌ {A = Option (List Clause)} b (Some (map clause_of_parts before ++ put ∷ [])) None) there.0)
-      ∙ ap (with_clause (map clause_of_parts before) behind) is
+      ∙ ap (option_and_then (with_clause (map clause_of_parts before) behind)) is
 
   pub put_few : last_section before ≤ length before → last_section now ≤ length now
   put_few few =
@@ -152,8 +153,8 @@ refused_by true now s e = absurd (none-some s e)
 refused_by false now s e = refl
 
 -- a clause that may not follow others
-pub clause_refused : (before : List Clause) (behind : Bool) (c : Clause) (x : Option Clause) → None ≡ section_for before behind c → Some c ≡ x → None ≡ with_clause before behind x
-clause_refused before behind c x e is = refused_by (may_follow before behind c) _ (section_after before behind c) e ∙ ap (with_clause before behind) is
+pub clause_refused : (before : List Clause) (behind : Bool) (c : Clause) (x : Option Clause) → None ≡ section_for before behind c → Some c ≡ x → None ≡ option_and_then (with_clause before behind) x
+clause_refused before behind c x e is = refused_by (may_follow before behind c) _ (section_after before behind c) e ∙ ap (option_and_then (with_clause before behind)) is
 
 last_some : (p : ClauseParts) (ps : List ClauseParts) → is_some (last_of (map clause_of_parts (p ∷ ps))) ≡ true
 last_some p [] = refl
@@ -167,7 +168,7 @@ otherwise_stands line (p ∷ ps) pending some e =
     ∙ sym (ap (otherwise_on line (map clause_of_parts (p ∷ ps))) e)
 
 standing_by : (m : List ℕ) (before : List Clause) (pending : Option ℕ) (line : ℕ) (ts : List (Token (List ℕ))) → true ≡ is_otherwise (Some ts) → option_map (λ here. (before, Some here)) (otherwise_on line before pending) ≡ standing_behind m (before, pending) line ts
-standing_by m before pending line ts o = ap (λ b. if◌then◌else◌ {A = Option Standing} b (option_map (λ here. (before, Some here)) (otherwise_on line before pending)) (option_map (λ now. (now, None)) (with_clause before (is_some pending) (clause_of m ts)))) o
+standing_by m before pending line ts o = ap (λ b. if◌then◌else◌ {A = Option Standing} b (option_map (λ here. (before, Some here)) (otherwise_on line before pending)) (option_map (λ now. (now, None)) (option_and_then (with_clause before (is_some pending)) (clause_of m ts)))) o
 
 -- what stands after an `otherwise`
 pub standing_otherwise : (m : List ℕ) (before : List Clause) (pending now : Option ℕ) (line : ℕ) (ts : List (Token (List ℕ))) → true ≡ is_otherwise (Some ts) → now ≡ otherwise_on line before pending → given (is_some now) (before, now) ≡ standing_behind m (before, pending) line ts
@@ -183,21 +184,21 @@ module _ (m : List ℕ) (old : Standing) (line : ℕ) (ts : List (Token (List �
   then_items None = bad line
   then_items (Some s) = clauses_from m s.0 s.1 items
 
-  otherwise_goes : (x : Option ℕ) → then_items (option_map (λ here. (old.0, Some here)) x) ≡ if_good line x (λ here. clauses_from m old.0 (Some here) items)
-  otherwise_goes None = refl
-  otherwise_goes (Some here) = refl
+  otherwise_goes : (b : Bool) → then_items (option_map (λ here. (old.0, Some here)) (if◌then◌else◌ {A = Option ℕ} b (Some line) None)) ≡ (if b then clauses_from m old.0 (Some line) items else bad line)
+  otherwise_goes true = refl
+  otherwise_goes false = refl
 
-  clause_goes : (x : Option (List Clause)) → then_items (option_map (λ now. (now, None)) x) ≡ if_good line x (λ now. clauses_from m now None items)
+  clause_goes : (x : Option (List Clause)) → then_items (option_map (λ now. (now, None)) x) ≡ (let r : Reading (List Clause) = elim x [ None ↦ bad line | Some now ↦ clauses_from m now None items ] in r)
   clause_goes None = refl
   clause_goes (Some now) = refl
 
-  item_by : (b : Bool) → then_items (if◌then◌else◌ {A = Option Standing} b (option_map (λ here. (old.0, Some here)) (otherwise_on line old.0 old.1)) (option_map (λ now. (now, None)) (with_clause old.0 (is_some old.1) (clause_of m ts)))) ≡
-      elim b [
-        | true ↦ if_good line (otherwise_on line old.0 old.1) (λ line. clauses_from m old.0 (Some line) items)
-        | false ↦ if_good line (with_clause old.0 (is_some old.1) (option_and_then (clause_of m) (Some ts))) (λ now. clauses_from m now None items)
-      ]
-  item_by true = otherwise_goes (otherwise_on line old.0 old.1)
-  item_by false = clause_goes (with_clause old.0 (is_some old.1) (clause_of m ts))
+  item_by : (b : Bool) → then_items (if◌then◌else◌ {A = Option Standing} b (option_map (λ here. (old.0, Some here)) (otherwise_on line old.0 old.1)) (option_map (λ now. (now, None)) (option_and_then (with_clause old.0 (is_some old.1)) (clause_of m ts)))) ≡
+      (let r : Reading (List Clause) = elim b [
+        | true ↦ if is_some (last_of old.0) && is_none old.1 then clauses_from m old.0 (Some line) items else bad line
+        | false ↦ elim (option_and_then (with_clause old.0 (is_some old.1)) (clause_of m ts)) [ None ↦ bad line | Some now ↦ clauses_from m now None items ]
+      ] in r)
+  item_by true = otherwise_goes (is_some (last_of old.0) && is_none old.1)
+  item_by false = clause_goes (option_and_then (with_clause old.0 (is_some old.1)) (clause_of m ts))
 
   item_goes : (now : Standing) → Some now ≡ standing_behind m old line ts → clauses_from m now.0 now.1 items ≡ clauses_from m old.0 old.1 (item ∷ items)
   item_goes now e = ap then_items e ∙ item_by (is_otherwise (Some ts))

@@ -1,8 +1,8 @@
 -- Clauses of one predicate among those that were read, and their sections.
-use Rattle.std.specs.Prelude.{ℕ, ◌==◌, ◌&&◌, Bool, if◌then◌else◌, List, [], ◌∷◌, length, bytes_eq, Option, Some, None, option_map, is_some}
+use Rattle.std.specs.Prelude.{ℕ, ◌==◌, ◌&&◌, Bool, if◌then◌else◌, List, [], ◌∷◌, length, bytes_eq, Option, Some, None, option_map, option_and_then, is_some, is_none}
 use Rattle.std.specs.List.{list_any}
 use Rattle.kl1_model.specs.Token.{Token}
-use Rattle.kl1_model.specs.Module.{Clause, may_follow, section_after, is_otherwise, otherwise_on, with_clause, clause_of}
+use Rattle.kl1_model.specs.Module.{Clause, last_of, may_follow, section_after, is_otherwise, with_clause, clause_of}
 use Rattle.kl1_read.specs.declared.clause_parts.ClauseParts.{ClauseParts}
 
 -- whether a clause is one of a predicate
@@ -33,9 +33,13 @@ section_for before behind c = if may_follow before behind c then Some (section_a
 abbrev pub Standing : Type 0
 Standing = List Clause × Option ℕ
 
+-- the line of an `otherwise` that stands directly after a clause, and not after another `otherwise`
+abbrev pub otherwise_on : ℕ → List Clause → Option ℕ → Option ℕ
+otherwise_on line before opened = if is_some (last_of before) && is_none opened then Some line else None
+
 -- what stands after an item with these tokens, if it is good
 abbrev pub standing_behind : List ℕ → Standing → ℕ → List (Token (List ℕ)) → Option Standing
 standing_behind m s line ts =
     if is_otherwise (Some ts)
     then option_map (λ here. (s.0, Some here)) (otherwise_on line s.0 s.1)
-    else option_map (λ now. (now, None)) (with_clause s.0 (is_some s.1) (clause_of m ts))
+    else option_map (λ now. (now, None)) (option_and_then (with_clause s.0 (is_some s.1)) (clause_of m ts))
