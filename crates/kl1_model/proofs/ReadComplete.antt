@@ -7,7 +7,7 @@ use Rattle.kl1_model.specs.declared.relation.Relation.{Relation}
 use Rattle.kl1_model.specs.declared.relation.Relation.TheVariants.{Equal, NotEqual, Assign, Less, Greater, AtMost, AtLeast, SameNumber, OtherNumber}
 use Rattle.kl1_model.specs.Token.{name_token, digits_token, sign_token}
 use Rattle.kl1_model.specs.Grammar.{Numbered, relation_token, Adding, by_plus, by_minus, adding_token, Multiplying, by_star, by_slash, by_mod, multiplying_token, Expression, alone, related, Sum, summand, added, Product, factor, multiplied, Part, single, qualified, Primary, numbered, positive, negative, constant, call, empty_list, list, group, Series, last, another, Rest, closed, tail, Head, bare_head, head_with, GoalTree, plain_goal, urgent_goal, Body, last_goal, another_goal, ClauseTree, fact, rule, guarded, expression_tokens, sum_tokens, product_tokens, part_tokens, primary_tokens, series_tokens, rest_tokens, head_tokens, goal_tokens, body_tokens, clause_tokens}
-use Rattle.kl1_model.specs.Reader.{Answer, then_read, if_there, behind_comma, behind_close_list, behind_colon, behind_at, relation_in_front, adding_in_front, multiplying_in_front, series_by, series_at, rest_at, arguments_at, primary_at, part_at, grouped_on, grouped_by, product_at, sum_at, related_at, expression_at, all_read, expression_tree, head_at, goal_at, body_by, body_at, tests_of, behind_neck_at, clause_at, clause_tree}
+use Rattle.kl1_model.specs.reader.Reader.{Answer, then_read, if_there, behind_comma, behind_close_list, behind_colon, behind_at, relation_in_front, adding_in_front, multiplying_in_front, series_by, series_at, rest_at, arguments_at, primary_at, part_at, grouped_on, grouped_by, product_at, sum_at, related_at, expression_at, all_read, expression_tree, head_at, goal_at, body_by, body_at, tests_of, behind_neck_at, clause_at, clause_tree}
 use Rattle.kl1_model.specs.laws.ReadLaws.{is_sound_expression, is_sound_sum, is_sound_product, is_sound_part, is_sound_primary, is_sound_series, is_sound_rest, is_sound_head, is_sound_goal, is_sound_body, is_sound_clause}
 
 -- how many steps of the reader a tree takes at most, each deeper than the one before

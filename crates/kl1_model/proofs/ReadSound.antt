@@ -10,7 +10,7 @@ use Rattle.kl1_model.specs.declared.relation.Relation.{Relation}
 use Rattle.kl1_model.specs.declared.relation.Relation.TheVariants.{Equal, NotEqual, Assign, Less, Greater, AtMost, AtLeast, SameNumber, OtherNumber}
 use Rattle.kl1_model.specs.Token.{name_token, variable_token, digits_token, minus_token, sign_token}
 use Rattle.kl1_model.specs.Grammar.{Numbered, relation_token, Adding, by_plus, by_minus, adding_token, Multiplying, by_star, by_slash, by_mod, multiplying_token, Expression, alone, related, Sum, summand, added, Product, factor, multiplied, Part, single, qualified, Primary, numbered, positive, negative, constant, call, empty_list, list, group, Series, last, another, Rest, closed, tail, Head, bare_head, head_with, GoalTree, plain_goal, urgent_goal, Body, last_goal, another_goal, ClauseTree, fact, rule, guarded, expression_tokens, sum_tokens, product_tokens, part_tokens, primary_tokens, series_tokens, rest_tokens, head_tokens, goal_tokens, body_tokens, clause_tokens}
-use Rattle.kl1_model.specs.Reader.{Answer, Inner, then_read, then_skip, if_there, behind_comma, behind_close, behind_open, behind_close_list, behind_bar, behind_colon, behind_neck, behind_at, digits_in_front, priority_in_front, relation_in_front, adding_in_front, multiplying_in_front, series_by, series_at, rest_at, list_at, arguments_at, negative_at, primary_at, part_at, grouped_on, grouped_by, product_at, sum_at, related_at, expression_at, inner_of, all_read, expression_tree, head_at, priority_at, goal_at, body_by, body_at, tests_of, behind_neck_at, clause_at, clause_tree}
+use Rattle.kl1_model.specs.reader.Reader.{Answer, Inner, then_read, then_skip, if_there, behind_comma, behind_close, behind_open, behind_close_list, behind_bar, behind_colon, behind_neck, behind_at, digits_in_front, priority_in_front, relation_in_front, adding_in_front, multiplying_in_front, series_by, series_at, rest_at, list_at, arguments_at, negative_at, primary_at, part_at, grouped_on, grouped_by, product_at, sum_at, related_at, expression_at, inner_of, all_read, expression_tree, head_at, priority_at, goal_at, body_by, body_at, tests_of, behind_neck_at, clause_at, clause_tree}
 
 -- an answer that came from going on after another
 pub then_read_some : {A B P : Type 0} (x : Answer A) (go : A → List Numbered → Option B) (b : B) → then_read x go ≡ Some b → ((a : A) (us : List Numbered) → x ≡ Some (a, us) → go a us ≡ Some b → P) → P

@@ -5,7 +5,7 @@ use Rattle.kl1_model.specs.declared.sign.Sign.TheVariants.{Open, OpenList}
 use Rattle.kl1_model.specs.declared.relation.Relation.{Relation}
 use Rattle.kl1_model.specs.Token.{name_token, minus_token, sign_token}
 use Rattle.kl1_model.specs.Grammar.{Numbered, Adding, Multiplying, Expression, Sum, summand, added, Product, factor, multiplied, Part, Primary, Series, last, another, Head, GoalTree, Body, ClauseTree, guarded}
-use Rattle.kl1_model.specs.Reader.{Answer, Inner, then_read, then_skip, if_there, behind_comma, behind_open, behind_close_list, behind_bar, behind_colon, behind_neck, relation_in_front, adding_in_front, multiplying_in_front, series_by, series_at, rest_at, list_at, arguments_at, primary_at, part_at, grouped_on, grouped_by, grouped_at, product_at, sum_at, related_at, expression_at, inner_of, all_read, head_at, goal_at, body_by, body_at, tests_of, behind_neck_at, clause_at, clause_tree}
+use Rattle.kl1_model.specs.reader.Reader.{Answer, Inner, then_read, then_skip, if_there, behind_comma, behind_open, behind_close_list, behind_bar, behind_colon, behind_neck, relation_in_front, adding_in_front, multiplying_in_front, series_by, series_at, rest_at, list_at, arguments_at, primary_at, part_at, grouped_on, grouped_by, grouped_at, product_at, sum_at, related_at, expression_at, inner_of, all_read, head_at, goal_at, body_by, body_at, tests_of, behind_neck_at, clause_at, clause_tree}
 use Rattle.kl1_model.specs.laws.ReadLaws.{whole_expression, SumsGoOn, ProductsGoOn, BodiesGoOn}
 use Rattle.kl1_model.proofs.ReadSound.{IsSound, comma_is, bar_is, open_is, colon_is, neck_is, relation_is, adding_is, multiplying_is, series_sound, primary_sound, part_sound, product_sound, sum_sound, goal_sound, body_sound, head_sound, expressions_sound}
 use Rattle.kl1_model.proofs.ReadComplete.{steps_of_few, sum_steps_few, product_steps_few, part_steps_few, primary_steps_few, series_steps_few, some_steps, head_steps_few, goal_steps_few, body_steps_few, some_goal_steps}

@@ -13,7 +13,7 @@ use Rattle.std.specs.Fmt.{digits}
 use Rattle.kl1_model.specs.Unify.{mgu_within, walk}
 use Rattle.kl1_model.specs.Tree.{path_within}
 use Rattle.kl1_model.specs.Token.{tokens_within}
-use Rattle.kl1_model.specs.Reader.{expression_at, series_by, grouped_by, body_by}
+use Rattle.kl1_model.specs.reader.Reader.{expression_at, series_by, grouped_by, body_by}
 use Rattle.kl1_model_laws.specs.AccountRows.{lines, line_done, command_done, after_events, after_lines, app_text, equals, having, numbers, one_fact, stream, three_goals, true_term, two_ways, with_entries, AccountRowsHold}
 
 numbers_after_a_start_row : numbers (after_lines (having one_fact) (codes "start 10 0 10 t:q(X,c)" ∷ [])) ≡ 4 ∷ 2 ∷ 1 ∷ 2 ∷ []

@@ -4,7 +4,7 @@ use Rattle.std.specs.Fmt.{digits}
 use Rattle.kl1_model.specs.Unify.{mgu_within, walk}
 use Rattle.kl1_model.specs.Tree.{path_within}
 use Rattle.kl1_model.specs.Token.{tokens_within}
-use Rattle.kl1_model.specs.Reader.{expression_at, series_by, grouped_by, body_by}
+use Rattle.kl1_model.specs.reader.Reader.{expression_at, series_by, grouped_by, body_by}
 use Rattle.kl1_model.specs.Line.{words_within}
 use Rattle.kl1_model.specs.Record.{records_within}
 use Rattle.kl1_model_history.specs.Script.{output}

@@ -11,7 +11,7 @@ use Rattle.kl1_model.specs.code.Outcome.{agrees, clashes, waits, comparison, acc
 use Rattle.kl1_model.specs.Print.{print}
 use Rattle.std.specs.Fmt.{digits}
 use Rattle.kl1_model.specs.Token.{tokens_within}
-use Rattle.kl1_model.specs.Reader.{expression_at, series_by, grouped_by, body_by}
+use Rattle.kl1_model.specs.reader.Reader.{expression_at, series_by, grouped_by, body_by}
 use Rattle.kl1_model_laws.specs.GuardRows.{lines, term_in, outcome_in, ones_to_the_left, ones_to_the_right, ones_behind, is_read, sections_in, verdict_in, GuardRowsHold}
 use Rattle.kl1_model.specs.Found.{found, awaits, wrong}
 

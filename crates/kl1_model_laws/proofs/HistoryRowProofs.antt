@@ -14,7 +14,7 @@ use Rattle.std.specs.Fmt.{digits}
 use Rattle.kl1_model.specs.Unify.{mgu_within, walk}
 use Rattle.kl1_model.specs.Tree.{path_within}
 use Rattle.kl1_model.specs.Token.{tokens_within}
-use Rattle.kl1_model.specs.Reader.{expression_at, series_by, grouped_by, body_by}
+use Rattle.kl1_model.specs.reader.Reader.{expression_at, series_by, grouped_by, body_by}
 use Rattle.kl1_model_laws.specs.AccountRows.{equals, numbers, stream, true_term, with_entries}
 use Rattle.kl1_model_laws.specs.ShoenRows.{with_counts, with_reports, with_last_shoen, with_many_names, with_modules}
 use Rattle.kl1_model_laws.specs.HistoryRows.{alice, no_clauses, kept_after_lines, replies_to, with_each_entry, after_reset, start_of, deeds, HistoryRowsHold}

@@ -11,7 +11,7 @@ use Rattle.kl1_model.specs.Step.{step}
 use Rattle.std.specs.Fmt.{digits}
 use Rattle.kl1_model.specs.Unify.{mgu_within, walk}
 use Rattle.kl1_model.specs.Token.{tokens_within}
-use Rattle.kl1_model.specs.Reader.{expression_at, series_by, grouped_by, body_by}
+use Rattle.kl1_model.specs.reader.Reader.{expression_at, series_by, grouped_by, body_by}
 use Rattle.kl1_model_laws.specs.AccountRows.{after_events, after_lines, equals, having, lines, numbers, stream, true_term, with_entries}
 use Rattle.kl1_model_laws.specs.ShoenRows.{nothing_done, with_counts, with_reports, with_last_shoen, with_many_names, with_modules, crowded, letters, from_codes, with_fresh_variable, with_order, with_codes, ended_and_waiting, twice_text, with_many_reports, with_head_variable, with_known_codes, with_built_in_codes, counts, repeated, with_one_long_report, lines_listed, ShoenRowsHold}
 

@@ -14,7 +14,7 @@ use Rattle.std.specs.Fmt.{digits}
 use Rattle.kl1_model.specs.Unify.{mgu_within, walk}
 use Rattle.kl1_model.specs.Tree.{path_within}
 use Rattle.kl1_model.specs.Token.{tokens_within}
-use Rattle.kl1_model.specs.Reader.{expression_at, series_by, grouped_by, body_by}
+use Rattle.kl1_model.specs.reader.Reader.{expression_at, series_by, grouped_by, body_by}
 use Rattle.kl1_model_laws.specs.AccountRows.{after_events, after_lines, equals, having, numbers, one_fact, stream, true_term, with_entries}
 use Rattle.kl1_model_laws.specs.ShoenRows.{counts, crowded, with_counts, with_many_names, with_reports}
 use Rattle.kl1_model_laws.specs.SubstituteRows.{by_the_second, with_failing_goal, with_substitute, SubstituteRowsHold}

@@ -6,7 +6,7 @@ use Rattle.kl1_model.specs.Text.{is_name_byte}
 use Rattle.kl1_model.specs.Term.{Term}
 use Rattle.kl1_model.specs.Token.{Front, finished, broken, line_end, blank, token, front_of, Tokens, tokens_by, tokens_within, tokens_of_text}
 use Rattle.kl1_model.specs.Grammar.{Numbered, Expression, alone, related, Sum, summand, added, Product, factor, multiplied, Part, single, qualified, Primary, numbered, positive, negative, constant, call, empty_list, list, group, Series, last, another, Rest, closed, tail, Head, bare_head, head_with, GoalTree, plain_goal, urgent_goal, Body, last_goal, another_goal, ClauseTree, fact, rule, guarded, expression_tokens, clause_tokens}
-use Rattle.kl1_model.specs.Reader.{Inner, then_read, if_there, behind_comma, relation_in_front, adding_in_front, multiplying_in_front, series_at, part_at, grouped_on, grouped_at, product_at, sum_at, related_at, goal_at, body_at, expression_at, all_read, expression_tree, clause_at, clause_tree}
+use Rattle.kl1_model.specs.reader.Reader.{Inner, then_read, if_there, behind_comma, relation_in_front, adding_in_front, multiplying_in_front, series_at, part_at, grouped_on, grouped_at, product_at, sum_at, related_at, goal_at, body_at, expression_at, all_read, expression_tree, clause_at, clause_tree}
 use Rattle.kl1_model.specs.Meaning.{is_narrow, is_writable, variables_of, variables_in, numbered_after, is_numbered, highest}
 use Rattle.kl1_model.specs.Goal.{is_goal}
 use Rattle.kl1_model.specs.Print.{print}

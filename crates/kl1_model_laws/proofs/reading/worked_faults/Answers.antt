@@ -1,7 +1,7 @@
 -- Each text is computed from the definitions.
 use Rattle.std.proofs.Common.{refl}
 use Rattle.kl1_model.specs.Token.{tokens_within}
-use Rattle.kl1_model.specs.Reader.{expression_at, series_by, grouped_by, body_by}
+use Rattle.kl1_model.specs.reader.Reader.{expression_at, series_by, grouped_by, body_by}
 use Rattle.kl1_model_laws.proofs.reading.worked_faults.Goals as goal
 
 pub returns-clause-line : goal.returns-clause-line
