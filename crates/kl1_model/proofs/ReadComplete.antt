@@ -7,8 +7,8 @@ use Rattle.kl1_model.specs.declared.relation.Relation.{Relation}
 use Rattle.kl1_model.specs.declared.relation.Relation.TheVariants.{Equal, NotEqual, Assign, Less, Greater, AtMost, AtLeast, SameNumber, OtherNumber}
 use Rattle.kl1_model.specs.Token.{name_token, digits_token, sign_token}
 use Rattle.kl1_model.specs.Grammar.{Numbered, relation_token, Adding, by_plus, by_minus, adding_token, Multiplying, by_star, by_slash, by_mod, multiplying_token, Expression, alone, related, Sum, summand, added, Product, factor, multiplied, Part, single, qualified, Primary, numbered, positive, negative, constant, call, empty_list, list, group, Series, last, another, Rest, closed, tail, Head, bare_head, head_with, GoalTree, plain_goal, urgent_goal, Body, last_goal, another_goal, ClauseTree, fact, rule, guarded, expression_tokens, sum_tokens, product_tokens, part_tokens, primary_tokens, series_tokens, rest_tokens, head_tokens, goal_tokens, body_tokens, clause_tokens}
-use Rattle.kl1_model.specs.reader.Reader.{Answer, then_read, if_there, behind_comma, behind_close_list, behind_colon, behind_at, relation_in_front, adding_in_front, multiplying_in_front, series_by, series_at, rest_at, arguments_at, primary_at, part_at, grouped_on, grouped_by, product_at, sum_at, related_at, expression_at, all_read, expression_tree, head_at, goal_at, body_by, body_at, tests_of, behind_neck_at, clause_at, clause_tree}
-use Rattle.kl1_model.specs.laws.ReadLaws.{is_sound_expression, is_sound_sum, is_sound_product, is_sound_part, is_sound_primary, is_sound_series, is_sound_rest, is_sound_head, is_sound_goal, is_sound_body, is_sound_clause}
+use Rattle.kl1_model.specs.reader.Reader.{Answer, then_read, if_there, behind_comma, behind_close_list, behind_colon, behind_at, relation_in_front, adding_in_front, multiplying_in_front, parted_by, series_at, rest_at, arguments_at, primary_at, part_at, grouped_by, product_at, sum_at, expression_at, all_read, expression_tree, head_at, goal_at, body_at, tests_of, behind_neck_at, clause_at, clause_tree}
+use Rattle.kl1_model.specs.laws.ReadLaws.{grouped_on, related_at, is_sound_expression, is_sound_sum, is_sound_product, is_sound_part, is_sound_primary, is_sound_series, is_sound_rest, is_sound_head, is_sound_goal, is_sound_body, is_sound_clause}
 
 -- how many steps of the reader a tree takes at most, each deeper than the one before
 abbrev mutual
@@ -295,7 +295,7 @@ product_more n m p o q ts grouped read =
     ∙ grouped_step multiplying_in_front (part_at (expression_at n)) multiplied m p next o (part_tokens q ts) q ts (multiplying_front o (part_tokens q ts)) read
 
 mutual
-  unfolding expression_at series_by
+  unfolding expression_at parted_by
 
   pub expression_complete : (e : Expression) (n : ℕ) (ts : List Numbered) → steps_of e ≤ n → is_sound_expression e ≡ true → Ends ts → expression_at n (expression_tokens e ts) ≡ Some (e, ts)
   expression_complete (alone s) zero ts few sound ends = absurd (omega arith)
@@ -381,7 +381,7 @@ mutual
   primary_complete (group e) n ts few sound =
       then_read_is _ e (sign_token Close ∷ ts) _ (expression_complete e n (sign_token Close ∷ ts) few sound (record { no_colon = refl; no_multiplying = refl; no_adding = refl; no_relation = refl }))
 
-  pub series_complete : (s : Series) (n m : ℕ) (ts : List Numbered) → series_steps s ≤ n → series_steps s ≤ m → is_sound_series s ≡ true → Ends ts → behind_comma ts ≡ None → series_by (expression_at n) m (series_tokens s ts) ≡ Some (s, ts)
+  pub series_complete : (s : Series) (n m : ℕ) (ts : List Numbered) → series_steps s ≤ n → series_steps s ≤ m → is_sound_series s ≡ true → Ends ts → behind_comma ts ≡ None → parted_by (expression_at n) last another m (series_tokens s ts) ≡ Some (s, ts)
   series_complete (last e) n zero ts few enough sound ends no_comma = absurd (omega (arith, some_steps e))
   series_complete (another e s) n zero ts few enough sound ends no_comma = absurd (omega (arith, some_steps e))
   series_complete (last e) n (suc m) ts few enough sound ends no_comma =
@@ -454,8 +454,8 @@ goal_complete (urgent_goal e quotes k) n ts few sound ends no_at =
     let next = name_token (codes "priority") quotes true ∷ sign_token Open ∷ digits_token k ∷ sign_token Close ∷ ts in
     then_read_is _ e (sign_token At ∷ next) _ (expression_complete e n (sign_token At ∷ next) few sound (record { no_colon = refl; no_multiplying = refl; no_adding = refl; no_relation = refl }))
 
-pub body_complete : (b : Body) (n m : ℕ) (ts : List Numbered) → body_steps b ≤ n → body_steps b ≤ m → is_sound_body b ≡ true → Ends ts → behind_at ts ≡ None → behind_comma ts ≡ None → body_by (expression_at n) m (body_tokens b ts) ≡ Some (b, ts)
-unfolding body_by
+pub body_complete : (b : Body) (n m : ℕ) (ts : List Numbered) → body_steps b ≤ n → body_steps b ≤ m → is_sound_body b ≡ true → Ends ts → behind_at ts ≡ None → behind_comma ts ≡ None → parted_by (goal_at (expression_at n)) last_goal another_goal m (body_tokens b ts) ≡ Some (b, ts)
+unfolding parted_by
 body_complete (last_goal g) n zero ts few enough sound ends no_at no_comma = absurd (omega (arith, some_goal_steps g))
 body_complete (another_goal g b) n zero ts few enough sound ends no_at no_comma = absurd (omega (arith, some_goal_steps g))
 body_complete (last_goal g) n (suc m) ts few enough sound ends no_at no_comma =

@@ -10,7 +10,8 @@ use Rattle.kl1_model.specs.declared.relation.Relation.{Relation}
 use Rattle.kl1_model.specs.declared.relation.Relation.TheVariants.{Equal, NotEqual, Assign, Less, Greater, AtMost, AtLeast, SameNumber, OtherNumber}
 use Rattle.kl1_model.specs.Token.{name_token, variable_token, digits_token, minus_token, sign_token}
 use Rattle.kl1_model.specs.Grammar.{Numbered, relation_token, Adding, by_plus, by_minus, adding_token, Multiplying, by_star, by_slash, by_mod, multiplying_token, Expression, alone, related, Sum, summand, added, Product, factor, multiplied, Part, single, qualified, Primary, numbered, positive, negative, constant, call, empty_list, list, group, Series, last, another, Rest, closed, tail, Head, bare_head, head_with, GoalTree, plain_goal, urgent_goal, Body, last_goal, another_goal, ClauseTree, fact, rule, guarded, expression_tokens, sum_tokens, product_tokens, part_tokens, primary_tokens, series_tokens, rest_tokens, head_tokens, goal_tokens, body_tokens, clause_tokens}
-use Rattle.kl1_model.specs.reader.Reader.{Answer, Inner, then_read, then_skip, if_there, behind_comma, behind_close, behind_open, behind_close_list, behind_bar, behind_colon, behind_neck, behind_at, digits_in_front, priority_in_front, relation_in_front, adding_in_front, multiplying_in_front, series_by, series_at, rest_at, list_at, arguments_at, negative_at, primary_at, part_at, grouped_on, grouped_by, product_at, sum_at, related_at, expression_at, inner_of, all_read, expression_tree, head_at, priority_at, goal_at, body_by, body_at, tests_of, behind_neck_at, clause_at, clause_tree}
+use Rattle.kl1_model.specs.reader.Reader.{Answer, Inner, then_read, then_skip, if_there, behind_comma, behind_close, behind_open, behind_close_list, behind_bar, behind_colon, behind_neck, behind_at, digits_in_front, priority_in_front, relation_in_front, adding_in_front, multiplying_in_front, parted_by, series_at, rest_at, list_at, arguments_at, primary_at, part_at, grouped_by, product_at, sum_at, expression_at, inner_of, all_read, expression_tree, head_at, priority_at, goal_at, body_at, tests_of, behind_neck_at, clause_at, clause_tree}
+use Rattle.kl1_model.specs.laws.ReadLaws.{grouped_on, related_at}
 
 -- an answer that came from going on after another
 pub then_read_some : {A B P : Type 0} (x : Answer A) (go : A → List Numbered → Option B) (b : B) → then_read x go ≡ Some b → ((a : A) (us : List Numbered) → x ≡ Some (a, us) → go a us ≡ Some b → P) → P
@@ -132,15 +133,15 @@ IsSound inner = (ts : List Numbered) (e : Expression) (us : List Numbered) → i
 
 module _ (inner : Inner) (sound : IsSound inner) where
   -- a series that is read from tokens has them
-  pub series_sound : (m : ℕ) (ts : List Numbered) (s : Series) (us : List Numbered) → series_by inner m ts ≡ Some (s, us) → series_tokens s us ≡ ts
-  unfolding series_by
+  pub series_sound : (m : ℕ) (ts : List Numbered) (s : Series) (us : List Numbered) → parted_by inner last another m ts ≡ Some (s, us) → series_tokens s us ≡ ts
+  unfolding parted_by
   series_sound zero ts s us h = absurd (none-some (s, us) h)
   series_sound (suc m) ts s us h =
       then_read_some (inner ts) _ (s, us) h (λ e vs read after.
       if_there_some (behind_comma vs) _ _ (s, us) after
       (λ alone_is. answered series_tokens (last e) s vs us alone_is ∙ sound ts e vs read)
       (λ ws comma rest.
-      then_read_some (series_by inner m ws) _ (s, us) rest (λ t xs more_read is.
+      then_read_some (parted_by inner last another m ws) _ (s, us) rest (λ t xs more_read is.
       answered series_tokens (another e t) s xs us is
       ∙ ap (λ w. expression_tokens e (sign_token Comma ∷ w)) (series_sound m ws t xs more_read)
       ∙ ap (expression_tokens e) (comma_is vs ws comma)
@@ -182,10 +183,6 @@ module _ (inner : Inner) (sound : IsSound inner) where
   positive_sound n ts true p us h = answered primary_tokens (positive n) p ts us h
   positive_sound n ts false p us h = absurd (none-some (p, us) h)
 
-  negative_sound : (ts : List Numbered) (p : Primary) (us : List Numbered) → negative_at ts ≡ Some (p, us) → primary_tokens p us ≡ minus_token true ∷ ts
-  negative_sound (digits_token n ∷ ts) p us h = answered primary_tokens (negative n) p ts us h
-  negative_sound _ p us h = absurd (none-some (p, us) h)
-
   call_sound : (f : List ℕ) (quotes : Bool) (ts : List Numbered) (p : Primary) (us : List Numbered) → primary_at inner (name_token f quotes true ∷ ts) ≡ Some (p, us) → primary_tokens p us ≡ name_token f quotes true ∷ ts
   call_sound f quotes ts p us h =
       then_read_some (arguments_at inner ts) _ (p, us) h (λ s vs read is.
@@ -202,7 +199,7 @@ module _ (inner : Inner) (sound : IsSound inner) where
   pub primary_sound : (ts : List Numbered) (p : Primary) (us : List Numbered) → primary_at inner ts ≡ Some (p, us) → primary_tokens p us ≡ ts
   primary_sound (variable_token v ∷ ts) p us h = answered primary_tokens (numbered v) p ts us h
   primary_sound (digits_token n ∷ ts) p us h = positive_sound n ts (nat_lt n NUMBER_LIMIT) p us h
-  primary_sound (minus_token true ∷ ts) p us h = negative_sound ts p us h
+  primary_sound (minus_token true ∷ digits_token n ∷ ts) p us h = answered primary_tokens (negative n) p ts us h
   primary_sound (name_token a quotes false ∷ ts) p us h = answered primary_tokens (constant a quotes) p ts us h
   primary_sound (name_token f quotes true ∷ ts) p us h = call_sound f quotes ts p us h
   primary_sound (sign_token OpenList ∷ ts) p us h = list_sound ts p us h
@@ -260,15 +257,15 @@ module _ (inner : Inner) (sound : IsSound inner) where
       (λ ws at rest. priority_sound e ws g us rest ∙ ap (expression_tokens e) (at_is vs ws at) ∙ sound ts e vs read))
 
   -- goals that are read from tokens have them
-  pub body_sound : (m : ℕ) (ts : List Numbered) (b : Body) (us : List Numbered) → body_by inner m ts ≡ Some (b, us) → body_tokens b us ≡ ts
-  unfolding body_by
+  pub body_sound : (m : ℕ) (ts : List Numbered) (b : Body) (us : List Numbered) → parted_by (goal_at inner) last_goal another_goal m ts ≡ Some (b, us) → body_tokens b us ≡ ts
+  unfolding parted_by
   body_sound zero ts b us h = absurd (none-some (b, us) h)
   body_sound (suc m) ts b us h =
       then_read_some (goal_at inner ts) _ (b, us) h (λ g vs read after.
       if_there_some (behind_comma vs) _ _ (b, us) after
       (λ alone_is. answered body_tokens (last_goal g) b vs us alone_is ∙ goal_sound ts g vs read)
       (λ ws comma rest.
-      then_read_some (body_by inner m ws) _ (b, us) rest (λ c xs more_read is.
+      then_read_some (parted_by (goal_at inner) last_goal another_goal m ws) _ (b, us) rest (λ c xs more_read is.
       answered body_tokens (another_goal g c) b xs us is
       ∙ ap (λ w. goal_tokens g (sign_token Comma ∷ w)) (body_sound m ws c xs more_read)
       ∙ ap (goal_tokens g) (comma_is vs ws comma)

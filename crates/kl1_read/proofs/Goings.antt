@@ -7,7 +7,8 @@ use Rattle.kl1_model.specs.Text.{text_of}
 use Rattle.kl1_model.specs.Term.{Term, Terms, none, more, terms_of, list_of}
 use Rattle.kl1_model.specs.Grammar.{Numbered, Adding, by_plus, by_minus, Multiplying, by_star, by_slash, by_mod, Expression, related, Sum, summand, added, Product, factor, multiplied, Part, single, qualified, Primary, last, another}
 use Rattle.kl1_model.specs.Meaning.{pair, relation_name, expression_term, sum_term, product_term, part_term, primary_term, series_terms}
-use Rattle.kl1_model.specs.reader.Reader.{Answer, then_read, if_there, behind_comma, behind_colon, relation_in_front, adding_in_front, multiplying_in_front, series_at, primary_at, part_at, grouped_on, grouped_by, product_at, sum_at, related_at}
+use Rattle.kl1_model.specs.reader.Reader.{Answer, then_read, if_there, behind_comma, behind_colon, relation_in_front, adding_in_front, multiplying_in_front, series_at, primary_at, part_at, grouped_by, product_at, sum_at}
+use Rattle.kl1_model.specs.laws.ReadLaws.{grouped_on, related_at}
 use Rattle.kl1_model.proofs.ReadSteps.{expressions_go_on, series_go_on}
 use Rattle.kl1_read.specs.declared.infix.Level.TheVariants.{Sums, Products}
 use Rattle.kl1_read.specs.Infixes.{answer_map, relation_named, adding_named, multiplying_named}

@@ -2,11 +2,12 @@
 use Rattle.std.specs.Prelude.{◌≡◌, ℕ, suc, ◌<◌, ◌↔◌, nat_lt, ◌&&◌, Bool, true, IsTrue, if◌then◌else◌, List, [], ◌∷◌, ◌++◌, length, Option, Some, None, bytes_eq}
 use Rattle.std.specs.List.{list_all}
 use Rattle.kl1_model.specs.declared.limits.TheConstants.{NUMBER_LIMIT}
+use Rattle.kl1_model.specs.declared.relation.Relation.{Relation}
 use Rattle.kl1_model.specs.Text.{is_name_byte}
 use Rattle.kl1_model.specs.Term.{Term}
 use Rattle.kl1_model.specs.Token.{Front, finished, broken, line_end, blank, token, front_of, Tokens, tokens_by, tokens_within, tokens_of_text}
 use Rattle.kl1_model.specs.Grammar.{Numbered, Expression, alone, related, Sum, summand, added, Product, factor, multiplied, Part, single, qualified, Primary, numbered, positive, negative, constant, call, empty_list, list, group, Series, last, another, Rest, closed, tail, Head, bare_head, head_with, GoalTree, plain_goal, urgent_goal, Body, last_goal, another_goal, ClauseTree, fact, rule, guarded, expression_tokens, clause_tokens}
-use Rattle.kl1_model.specs.reader.Reader.{Inner, then_read, if_there, behind_comma, relation_in_front, adding_in_front, multiplying_in_front, series_at, part_at, grouped_on, grouped_at, product_at, sum_at, related_at, goal_at, body_at, expression_at, all_read, expression_tree, clause_at, clause_tree}
+use Rattle.kl1_model.specs.reader.Reader.{Answer, Inner, then_read, if_read, if_there, behind_comma, relation_in_front, adding_in_front, multiplying_in_front, series_at, part_at, grouped_at, product_at, sum_at, goal_at, body_at, expression_at, all_read, expression_tree, clause_at, clause_tree}
 use Rattle.kl1_model.specs.Meaning.{is_narrow, is_writable, variables_of, variables_in, numbered_after, is_numbered, highest}
 use Rattle.kl1_model.specs.Goal.{is_goal}
 use Rattle.kl1_model.specs.Print.{print}
@@ -130,9 +131,17 @@ ReaderStepsAreEnough = (m n : ℕ) (ts : List Numbered) → length ts < m → le
 abbrev pub ExpressionsLeaveLess : Type 0
 ExpressionsLeaveLess = (ts : List Numbered) (e : Expression) (us : List Numbered) → whole_expression ts ≡ Some (e, us) → length us < length ts
 
+-- the sum that was read and, after the relation that was found, the other sum
+abbrev pub related_at : Inner → Sum → List Numbered → Answer Relation → Answer Expression
+related_at inner s ts found = if_read found (Some (alone s, ts)) (λ r us. then_read (sum_at inner us) (λ q vs. Some (related s r q, vs)))
+
 -- an expression is its first sum, and what is after it
 abbrev pub ExpressionsGoOn : Type 0
 ExpressionsGoOn = (ts : List Numbered) → whole_expression ts ≡ then_read (sum_at whole_expression ts) (λ s us. related_at whole_expression s us (relation_in_front us))
+
+-- what was read and, after the operator that was found, its operand
+abbrev pub grouped_on : {S O A : Type 0} → (List Numbered → Answer A) → (S → O → A → S) → (S → List Numbered → Answer S) → S → List Numbered → Answer O → Answer S
+grouped_on operand join next s ts found = if_read found (Some (s, ts)) (λ o us. then_read (operand us) (λ a vs. next (join s o a) vs))
 
 -- a sum is what was read of it and, after an operator, the next product
 abbrev pub SumsGoOn : Type 0

@@ -21,6 +21,11 @@ abbrev pub then_skip : {B : Type 0} → Option (List Numbered) → (List Numbere
 then_skip None go = None
 then_skip (Some ts) go = go ts
 
+-- goes on in one of two ways, by whether something was read
+abbrev pub if_read : {A B : Type 0} → Answer A → Option B → (A → List Numbered → Option B) → Option B
+if_read None otherwise go = otherwise
+if_read (Some r) otherwise go = go r.0 r.1
+
 -- goes on in one of two ways, by whether a token was there
 abbrev pub if_there : {B : Type 0} → Option (List Numbered) → Option B → (List Numbered → Option B) → Option B
 if_there None otherwise go = otherwise
@@ -95,29 +100,26 @@ adding_in_front (sign_token Plus ∷ ts) = Some (by_plus, ts)
 adding_in_front (minus_token digit ∷ ts) = Some (by_minus digit, ts)
 adding_in_front _ = None
 
--- the operator of products that a name is, if it is `mod` and not in quotes
-abbrev pub modulo_of : List ℕ → Bool → Bool → List Numbered → Answer Multiplying
-modulo_of f quotes applied ts = if not quotes && bytes_eq f (codes "mod") then Some (by_mod applied, ts) else None
-
--- an operator of products in front, with what is after it
+-- an operator of products in front, with what is after it; `mod` in quotes is none
 abbrev pub multiplying_in_front : List Numbered → Answer Multiplying
 multiplying_in_front (sign_token Star ∷ ts) = Some (by_star, ts)
 multiplying_in_front (sign_token Slash ∷ ts) = Some (by_slash, ts)
-multiplying_in_front (name_token f quotes applied ∷ ts) = modulo_of f quotes applied ts
+multiplying_in_front (name_token f quotes applied ∷ ts) = if not quotes && bytes_eq f (codes "mod") then Some (by_mod applied, ts) else None
 multiplying_in_front _ = None
 
 -- how an expression that stands deeper is read
 abbrev pub Inner : Type 0
 Inner = List Numbered → Answer Expression
 
--- expressions parted by commas, at most `m` of them
-unfoldable pub series_by : Inner → ℕ → List Numbered → Answer Series
-series_by inner zero ts = None
-series_by inner (suc m) ts = then_read (inner ts) (λ e us. if_there (behind_comma us) (Some (last e, us)) (λ vs. then_read (series_by inner m vs) (λ s ws. Some (another e s, ws))))
+-- one item or more, parted by commas, at most `m` of them
+unfoldable pub parted_by : {A S : Type 0} → (List Numbered → Answer A) → (A → S) → (A → S → S) → ℕ → List Numbered → Answer S
+parted_by item only first zero ts = None
+parted_by item only first (suc m) ts =
+    then_read (item ts) (λ a us. if_there (behind_comma us) (Some (only a, us)) (λ vs. then_read (parted_by item only first m vs) (λ s ws. Some (first a s, ws))))
 
 -- expressions parted by commas; no tokens hold more of them than there are tokens
 abbrev pub series_at : Inner → List Numbered → Answer Series
-series_at inner ts = series_by inner (suc (length ts)) ts
+series_at inner ts = parted_by inner last another (suc (length ts)) ts
 
 -- the end of a list, or a bar, an expression and the end
 abbrev pub rest_at : Inner → List Numbered → Answer Rest
@@ -131,16 +133,11 @@ list_at inner ts = if_there (behind_close_list ts) (then_read (series_at inner t
 abbrev pub arguments_at : Inner → List Numbered → Answer Series
 arguments_at inner ts = then_skip (behind_open ts) (λ us. then_read (series_at inner us) (λ s vs. then_skip (behind_close vs) (λ ws. Some (s, ws))))
 
--- an integer after its `-`
-abbrev pub negative_at : List Numbered → Answer Primary
-negative_at (digits_token n ∷ ts) = Some (negative n, ts)
-negative_at _ = None
-
 -- a primary, if one is in front
 abbrev pub primary_at : Inner → List Numbered → Answer Primary
 primary_at inner (variable_token v ∷ ts) = Some (numbered v, ts)
 primary_at inner (digits_token n ∷ ts) = if nat_lt n NUMBER_LIMIT then Some (positive n, ts) else None
-primary_at inner (minus_token true ∷ ts) = negative_at ts
+primary_at inner (minus_token true ∷ digits_token n ∷ ts) = Some (negative n, ts)
 primary_at inner (name_token a quotes false ∷ ts) = Some (constant a quotes, ts)
 primary_at inner (name_token f quotes true ∷ ts) = then_read (arguments_at inner ts) (λ s us. Some (call f quotes s, us))
 primary_at inner (sign_token OpenList ∷ ts) = list_at inner ts
@@ -151,15 +148,11 @@ primary_at inner _ = None
 abbrev pub part_at : Inner → List Numbered → Answer Part
 part_at inner ts = then_read (primary_at inner ts) (λ p us. if_there (behind_colon us) (Some (single p, us)) (λ vs. then_read (primary_at inner vs) (λ q ws. Some (qualified p q, ws))))
 
--- goes on with an operator, if one is in front
-abbrev pub grouped_on : {S O A : Type 0} → (List Numbered → Answer A) → (S → O → A → S) → (S → List Numbered → Answer S) → S → List Numbered → Answer O → Answer S
-grouped_on operand join next s ts None = Some (s, ts)
-grouped_on operand join next s ts (Some o) = then_read (operand o.1) (λ a us. next (join s o.0 a) us)
-
 -- what was read and the operands after it, each after an operator, grouped to the left; fewer operators than `m`
 unfoldable pub grouped_by : {S O A : Type 0} → (List Numbered → Answer O) → (List Numbered → Answer A) → (S → O → A → S) → ℕ → S → List Numbered → Answer S
 grouped_by operator operand join zero s ts = None
-grouped_by operator operand join (suc m) s ts = grouped_on operand join (grouped_by operator operand join m) s ts (operator ts)
+grouped_by operator operand join (suc m) s ts =
+    if_read (operator ts) (Some (s, ts)) (λ o us. then_read (operand us) (λ a vs. grouped_by operator operand join m (join s o a) vs))
 
 -- what was read and the operands after it; no tokens hold more operators than there are tokens
 abbrev pub grouped_at : {S O A : Type 0} → (List Numbered → Answer O) → (List Numbered → Answer A) → (S → O → A → S) → S → List Numbered → Answer S
@@ -173,15 +166,11 @@ product_at inner ts = then_read (part_at inner ts) (λ p us. grouped_at multiply
 abbrev pub sum_at : Inner → List Numbered → Answer Sum
 sum_at inner ts = then_read (product_at inner ts) (λ p us. grouped_at adding_in_front (product_at inner) added (summand p) us)
 
--- goes on with a relation, if one is in front
-abbrev pub related_at : Inner → Sum → List Numbered → Answer Relation → Answer Expression
-related_at inner s ts None = Some (alone s, ts)
-related_at inner s ts (Some r) = then_read (sum_at inner r.1) (λ q us. Some (related s r.0 q, us))
-
 -- an expression, if those inside it nest less than `n` deep
 unfoldable pub expression_at : ℕ → List Numbered → Answer Expression
 expression_at zero ts = None
-expression_at (suc n) ts = then_read (sum_at (expression_at n) ts) (λ s us. related_at (expression_at n) s us (relation_in_front us))
+expression_at (suc n) ts =
+    then_read (sum_at (expression_at n) ts) (λ s us. if_read (relation_in_front us) (Some (alone s, us)) (λ r vs. then_read (sum_at (expression_at n) vs) (λ q ws. Some (related s r q, ws))))
 
 -- expressions inside others; none nests deeper than there are tokens
 abbrev pub inner_of : List Numbered → Inner
@@ -212,14 +201,9 @@ priority_at e ts =
 abbrev pub goal_at : Inner → List Numbered → Answer GoalTree
 goal_at inner ts = then_read (inner ts) (λ e us. if_there (behind_at us) (Some (plain_goal e, us)) (λ vs. priority_at e vs))
 
--- goals parted by commas, at most `m` of them
-unfoldable pub body_by : Inner → ℕ → List Numbered → Answer Body
-body_by inner zero ts = None
-body_by inner (suc m) ts = then_read (goal_at inner ts) (λ g us. if_there (behind_comma us) (Some (last_goal g, us)) (λ vs. then_read (body_by inner m vs) (λ b ws. Some (another_goal g b, ws))))
-
 -- goals parted by commas; no tokens hold more of them than there are tokens
 abbrev pub body_at : Inner → List Numbered → Answer Body
-body_at inner ts = body_by inner (suc (length ts)) ts
+body_at inner ts = parted_by (goal_at inner) last_goal another_goal (suc (length ts)) ts
 
 -- goals as expressions, if none has a priority: what stands before a bar are tests
 abbrev pub tests_of : Body → Option Series
