@@ -7,6 +7,7 @@ pub mod UnifySteps
 pub mod EqualSides
 pub mod ReadSound
 pub mod ReadComplete
+pub mod LexStarts
 pub mod LexSteps
 pub mod ReadSteps
 pub mod ReadMeans

@@ -6,7 +6,7 @@ use Rattle.kl1_model.specs.declared.sign.Sign.TheVariants.{Neck, Colon, At, Bar,
 use Rattle.kl1_model.specs.declared.relation.Relation.{Relation}
 use Rattle.kl1_model.specs.declared.relation.Relation.TheVariants.{Equal, NotEqual, Assign, Less, Greater, AtMost, AtLeast, SameNumber, OtherNumber}
 use Rattle.kl1_model.specs.Token.{name_token, digits_token, sign_token}
-use Rattle.kl1_model.specs.Grammar.{Numbered, relation_token, Adding, by_plus, by_minus, adding_token, Multiplying, by_star, by_slash, by_mod, multiplying_token, Expression, alone, related, Sum, summand, added, Product, factor, multiplied, Part, single, qualified, Primary, numbered, positive, negative, constant, call, empty_list, list, group, Series, last, another, Rest, closed, tail, Head, bare_head, head_with, GoalTree, plain_goal, urgent_goal, Body, last_goal, another_goal, ClauseTree, fact, rule, guarded, expression_tokens, sum_tokens, product_tokens, part_tokens, primary_tokens, series_tokens, rest_tokens, head_tokens, goal_tokens, body_tokens, clause_tokens}
+use Rattle.kl1_model.specs.Grammar.{Numbered, relation_sign, Adding, by_plus, by_minus, adding_token, Multiplying, by_star, by_slash, by_mod, multiplying_token, Expression, alone, related, Sum, summand, added, Product, factor, multiplied, Part, single, qualified, Primary, numbered, positive, negative, constant, call, empty_list, list, group, Series, last, another, Rest, closed, tail, Head, bare_head, head_with, GoalTree, plain_goal, urgent_goal, Body, last_goal, another_goal, ClauseTree, fact, rule, guarded, expression_tokens, sum_tokens, product_tokens, part_tokens, primary_tokens, series_tokens, rest_tokens, head_tokens, goal_tokens, body_tokens, clause_tokens}
 use Rattle.kl1_model.specs.reader.Reader.{Answer, then_read, if_there, behind_comma, behind_close_list, behind_colon, behind_at, relation_in_front, adding_in_front, multiplying_in_front, parted_by, series_at, rest_at, arguments_at, primary_at, part_at, grouped_by, product_at, sum_at, expression_at, all_read, expression_tree, head_at, goal_at, body_at, tests_of, behind_neck_at, clause_at, clause_tree}
 use Rattle.kl1_model.specs.laws.ReadLaws.{grouped_on, related_at, is_sound_expression, is_sound_sum, is_sound_product, is_sound_part, is_sound_primary, is_sound_series, is_sound_rest, is_sound_head, is_sound_goal, is_sound_body, is_sound_clause}
 
@@ -50,7 +50,7 @@ abbrev mutual
 mutual
   pub steps_of_few : (e : Expression) (ts : List Numbered) → steps_of e + length ts ≤ length (expression_tokens e ts)
   steps_of_few (alone s) ts = omega (arith, sum_steps_few s ts)
-  steps_of_few (related s r q) ts = omega (arith, sum_steps_few s (relation_token r ∷ sum_tokens q ts), sum_steps_few q ts)
+  steps_of_few (related s r q) ts = omega (arith, sum_steps_few s (sign_token (relation_sign r) ∷ sum_tokens q ts), sum_steps_few q ts)
 
   pub sum_steps_few : (s : Sum) (ts : List Numbered) → suc (sum_steps s + length ts) ≤ length (sum_tokens s ts)
   sum_steps_few (summand p) ts = product_steps_few p ts
@@ -100,7 +100,7 @@ record EndsProduct (ts : List Numbered) : Type 0 where
   no_colon : behind_colon ts ≡ None
   no_multiplying : multiplying_in_front ts ≡ None
 
-relation_ends : (r : Relation) (ts : List Numbered) → EndsSum (relation_token r ∷ ts)
+relation_ends : (r : Relation) (ts : List Numbered) → EndsSum (sign_token (relation_sign r) ∷ ts)
 relation_ends Equal ts = record { no_colon = refl; no_multiplying = refl; no_adding = refl }
 relation_ends NotEqual ts = record { no_colon = refl; no_multiplying = refl; no_adding = refl }
 relation_ends Assign ts = record { no_colon = refl; no_multiplying = refl; no_adding = refl }
@@ -111,7 +111,7 @@ relation_ends AtLeast ts = record { no_colon = refl; no_multiplying = refl; no_a
 relation_ends SameNumber ts = record { no_colon = refl; no_multiplying = refl; no_adding = refl }
 relation_ends OtherNumber ts = record { no_colon = refl; no_multiplying = refl; no_adding = refl }
 
-relation_front : (r : Relation) (ts : List Numbered) → relation_in_front (relation_token r ∷ ts) ≡ Some (r, ts)
+relation_front : (r : Relation) (ts : List Numbered) → relation_in_front (sign_token (relation_sign r) ∷ ts) ≡ Some (r, ts)
 relation_front Equal ts = refl
 relation_front NotEqual ts = refl
 relation_front Assign ts = refl
@@ -178,7 +178,7 @@ sum_begins (added s o p) ts = sum_begins s (adding_token o ∷ product_tokens p 
 
 expression_begins : (e : Expression) (ts : List Numbered) → behind_close_list (expression_tokens e ts) ≡ None
 expression_begins (alone s) ts = sum_begins s ts
-expression_begins (related s r q) ts = sum_begins s (relation_token r ∷ sum_tokens q ts)
+expression_begins (related s r q) ts = sum_begins s (sign_token (relation_sign r) ∷ sum_tokens q ts)
 
 series_begins : (s : Series) (ts : List Numbered) → behind_close_list (series_tokens s ts) ≡ None
 series_begins (last e) ts = expression_begins e ts
@@ -304,8 +304,8 @@ mutual
       then_read_is _ s ts _ (sum_complete s n ts (omega arith) sound (record { no_colon = ends.no_colon; no_multiplying = ends.no_multiplying; no_adding = ends.no_adding })) ∙ ap (related_at (expression_at n) s ts) ends.no_relation
   expression_complete (related s r q) (suc n) ts few sound ends =
       let both = and_parts (is_sound_sum s) (is_sound_sum q) sound in
-      then_read_is _ s (relation_token r ∷ sum_tokens q ts) _ (sum_complete s n (relation_token r ∷ sum_tokens q ts) (omega arith) both.0 (relation_ends r (sum_tokens q ts)))
-      ∙ ap (related_at (expression_at n) s (relation_token r ∷ sum_tokens q ts)) (relation_front r (sum_tokens q ts))
+      then_read_is _ s (sign_token (relation_sign r) ∷ sum_tokens q ts) _ (sum_complete s n (sign_token (relation_sign r) ∷ sum_tokens q ts) (omega arith) both.0 (relation_ends r (sum_tokens q ts)))
+      ∙ ap (related_at (expression_at n) s (sign_token (relation_sign r) ∷ sum_tokens q ts)) (relation_front r (sum_tokens q ts))
       ∙ then_read_is _ q ts _ (sum_complete q n ts (omega arith) both.1 (record { no_colon = ends.no_colon; no_multiplying = ends.no_multiplying; no_adding = ends.no_adding }))
 
   sum_complete : (s : Sum) (n : ℕ) (ts : List Numbered) → sum_steps s ≤ n → is_sound_sum s ≡ true → EndsSum ts → sum_at (expression_at n) (sum_tokens s ts) ≡ Some (s, ts)

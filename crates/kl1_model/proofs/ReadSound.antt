@@ -9,7 +9,7 @@ use Rattle.kl1_model.specs.declared.sign.Sign.TheVariants.{Neck, Becomes, SameVa
 use Rattle.kl1_model.specs.declared.relation.Relation.{Relation}
 use Rattle.kl1_model.specs.declared.relation.Relation.TheVariants.{Equal, NotEqual, Assign, Less, Greater, AtMost, AtLeast, SameNumber, OtherNumber}
 use Rattle.kl1_model.specs.Token.{name_token, variable_token, digits_token, minus_token, sign_token}
-use Rattle.kl1_model.specs.Grammar.{Numbered, relation_token, Adding, by_plus, by_minus, adding_token, Multiplying, by_star, by_slash, by_mod, multiplying_token, Expression, alone, related, Sum, summand, added, Product, factor, multiplied, Part, single, qualified, Primary, numbered, positive, negative, constant, call, empty_list, list, group, Series, last, another, Rest, closed, tail, Head, bare_head, head_with, GoalTree, plain_goal, urgent_goal, Body, last_goal, another_goal, ClauseTree, fact, rule, guarded, expression_tokens, sum_tokens, product_tokens, part_tokens, primary_tokens, series_tokens, rest_tokens, head_tokens, goal_tokens, body_tokens, clause_tokens}
+use Rattle.kl1_model.specs.Grammar.{Numbered, relation_sign, Adding, by_plus, by_minus, adding_token, Multiplying, by_star, by_slash, by_mod, multiplying_token, Expression, alone, related, Sum, summand, added, Product, factor, multiplied, Part, single, qualified, Primary, numbered, positive, negative, constant, call, empty_list, list, group, Series, last, another, Rest, closed, tail, Head, bare_head, head_with, GoalTree, plain_goal, urgent_goal, Body, last_goal, another_goal, ClauseTree, fact, rule, guarded, expression_tokens, sum_tokens, product_tokens, part_tokens, primary_tokens, series_tokens, rest_tokens, head_tokens, goal_tokens, body_tokens, clause_tokens}
 use Rattle.kl1_model.specs.reader.Reader.{Answer, Inner, then_read, then_skip, if_there, behind_comma, behind_close, behind_open, behind_close_list, behind_bar, behind_colon, behind_neck, behind_at, digits_in_front, priority_in_front, relation_in_front, adding_in_front, multiplying_in_front, parted_by, series_at, rest_at, list_at, arguments_at, primary_at, part_at, grouped_by, product_at, sum_at, expression_at, inner_of, all_read, expression_tree, head_at, priority_at, goal_at, body_at, tests_of, behind_neck_at, clause_at, clause_tree}
 use Rattle.kl1_model.specs.laws.ReadLaws.{grouped_on, related_at}
 
@@ -78,16 +78,16 @@ pub priority_is : (ts us : List Numbered) (quotes : Bool) → priority_in_front 
 priority_is (name_token word q true ∷ ts) us quotes h = priority_by word q ts (bytes_eq word (codes "priority")) refl us quotes h
 priority_is _ us quotes h = absurd (none-some (quotes, us) h)
 
-pub relation_is : (ts us : List Numbered) (r : Relation) → relation_in_front ts ≡ Some (r, us) → relation_token r ∷ us ≡ ts
-relation_is (sign_token Equals ∷ ts) us r h = answered (λ r us. relation_token r ∷ us) Equal r ts us h
-relation_is (sign_token Differs ∷ ts) us r h = answered (λ r us. relation_token r ∷ us) NotEqual r ts us h
-relation_is (sign_token Becomes ∷ ts) us r h = answered (λ r us. relation_token r ∷ us) Assign r ts us h
-relation_is (sign_token Under ∷ ts) us r h = answered (λ r us. relation_token r ∷ us) Less r ts us h
-relation_is (sign_token Over ∷ ts) us r h = answered (λ r us. relation_token r ∷ us) Greater r ts us h
-relation_is (sign_token NotOver ∷ ts) us r h = answered (λ r us. relation_token r ∷ us) AtMost r ts us h
-relation_is (sign_token NotUnder ∷ ts) us r h = answered (λ r us. relation_token r ∷ us) AtLeast r ts us h
-relation_is (sign_token SameValue ∷ ts) us r h = answered (λ r us. relation_token r ∷ us) SameNumber r ts us h
-relation_is (sign_token OtherValue ∷ ts) us r h = answered (λ r us. relation_token r ∷ us) OtherNumber r ts us h
+pub relation_is : (ts us : List Numbered) (r : Relation) → relation_in_front ts ≡ Some (r, us) → sign_token (relation_sign r) ∷ us ≡ ts
+relation_is (sign_token Equals ∷ ts) us r h = answered (λ r us. sign_token (relation_sign r) ∷ us) Equal r ts us h
+relation_is (sign_token Differs ∷ ts) us r h = answered (λ r us. sign_token (relation_sign r) ∷ us) NotEqual r ts us h
+relation_is (sign_token Becomes ∷ ts) us r h = answered (λ r us. sign_token (relation_sign r) ∷ us) Assign r ts us h
+relation_is (sign_token Under ∷ ts) us r h = answered (λ r us. sign_token (relation_sign r) ∷ us) Less r ts us h
+relation_is (sign_token Over ∷ ts) us r h = answered (λ r us. sign_token (relation_sign r) ∷ us) Greater r ts us h
+relation_is (sign_token NotOver ∷ ts) us r h = answered (λ r us. sign_token (relation_sign r) ∷ us) AtMost r ts us h
+relation_is (sign_token NotUnder ∷ ts) us r h = answered (λ r us. sign_token (relation_sign r) ∷ us) AtLeast r ts us h
+relation_is (sign_token SameValue ∷ ts) us r h = answered (λ r us. sign_token (relation_sign r) ∷ us) SameNumber r ts us h
+relation_is (sign_token OtherValue ∷ ts) us r h = answered (λ r us. sign_token (relation_sign r) ∷ us) OtherNumber r ts us h
 relation_is _ us r h = absurd (none-some (r, us) h)
 
 pub adding_is : (ts us : List Numbered) (o : Adding) → adding_in_front ts ≡ Some (o, us) → adding_token o ∷ us ≡ ts
@@ -234,7 +234,7 @@ module _ (inner : Inner) (sound : IsSound inner) where
   related_sound s ts (Some r) found e us h =
       then_read_some (sum_at inner r.1) _ (e, us) h (λ q vs read is.
       answered expression_tokens (related s r.0 q) e vs us is
-      ∙ ap (λ w. sum_tokens s (relation_token r.0 ∷ w)) (sum_sound r.1 q vs read)
+      ∙ ap (λ w. sum_tokens s (sign_token (relation_sign r.0) ∷ w)) (sum_sound r.1 q vs read)
       ∙ ap (sum_tokens s) (relation_is ts r.1 r.0 (sym found)))
 
   priority_sound : (e : Expression) (ts : List Numbered) (g : GoalTree) (us : List Numbered) → priority_at e ts ≡ Some (g, us) → goal_tokens g us ≡ expression_tokens e (sign_token At ∷ ts)

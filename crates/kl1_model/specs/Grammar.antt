@@ -21,28 +21,28 @@ pub data Multiplying : Type 0 where
   by_slash : Multiplying
   by_mod : Bool → Multiplying
 
--- an expression is a sum, or two with a relation between them; a sum is a product, or a sum and a product with an operator
--- between them; a product is a part, or a product and a part with an operator between them; a part is a primary, or two with a
--- colon between them; a primary is a variable, an integer, a name, a name with arguments, the empty list, a list, or an
--- expression in parentheses
 mutual
+  -- an expression: a sum, or two with a relation between them
   pub data Expression : Type 0 where
     alone : Sum → Expression
     related : Sum → Relation → Sum → Expression
 
+  -- a sum: a product, or a sum and a product with an operator between them
   pub data Sum : Type 0 where
     summand : Product → Sum
     added : Sum → Adding → Product → Sum
 
+  -- a product: a part, or a product and a part with an operator between them
   pub data Product : Type 0 where
     factor : Part → Product
     multiplied : Product → Multiplying → Part → Product
 
+  -- a part: a primary, or two with a colon between them
   pub data Part : Type 0 where
     single : Primary → Part
     qualified : Primary → Primary → Part
 
-  -- an integer with its digits' value; a name with its text and whether it stands in quotes
+  -- a variable, an integer with its digits' value, a name with whether it is in quotes, a call, a list, or an expression in parentheses
   pub data Primary : Type 0 where
     numbered : ℕ → Primary
     positive : ℕ → Primary
@@ -75,10 +75,6 @@ relation_sign AtLeast = NotUnder
 relation_sign SameNumber = SameValue
 relation_sign OtherNumber = OtherValue
 
--- the token of a relation
-abbrev pub relation_token : Relation → Numbered
-relation_token r = sign_token (relation_sign r)
-
 -- the token of an operator of sums
 abbrev pub adding_token : Adding → Numbered
 adding_token by_plus = sign_token Plus
@@ -94,7 +90,7 @@ multiplying_token (by_mod applied) = name_token (codes "mod") false applied
 abbrev mutual
   pub expression_tokens : Expression → List Numbered → List Numbered
   expression_tokens (alone s) ts = sum_tokens s ts
-  expression_tokens (related s r q) ts = sum_tokens s (relation_token r ∷ sum_tokens q ts)
+  expression_tokens (related s r q) ts = sum_tokens s (sign_token (relation_sign r) ∷ sum_tokens q ts)
 
   pub sum_tokens : Sum → List Numbered → List Numbered
   sum_tokens (summand p) ts = product_tokens p ts
