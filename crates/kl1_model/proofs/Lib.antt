@@ -5,6 +5,7 @@ pub mod UnifyFront
 pub mod UnifyRule
 pub mod UnifySteps
 pub mod EqualSides
+pub mod ReadRows
 pub mod ReadSound
 pub mod ReadComplete
 pub mod LexStarts

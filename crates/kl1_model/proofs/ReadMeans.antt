@@ -6,9 +6,10 @@ use Rattle.kl1_model.specs.declared.sign.Sign.TheVariants.{Colon, Comma, Bar, Op
 use Rattle.kl1_model.specs.declared.relation.Relation.{Relation}
 use Rattle.kl1_model.specs.Term.{Term, Terms, none, more}
 use Rattle.kl1_model.specs.Token.{sign_token, variable_token, name_token, digits_token, spelling_of}
-use Rattle.kl1_model.specs.Grammar.{Numbered, relation_sign, Adding, by_plus, by_minus, adding_token, Multiplying, by_star, by_slash, by_mod, multiplying_token, Expression, alone, related, Sum, summand, added, Product, factor, multiplied, Part, single, qualified, Primary, numbered, positive, negative, constant, call, empty_list, list, group, Series, last, another, closed, tail, GoalTree, plain_goal, urgent_goal, Body, last_goal, another_goal, Head, bare_head, head_with, expression_tokens, sum_tokens, product_tokens, part_tokens, primary_tokens, series_tokens, goal_tokens, body_tokens, head_tokens}
+use Rattle.kl1_model.specs.Grammar.{Numbered, relation_sign, Adding, by_plus, by_minus, Multiplying, by_star, by_slash, by_mod, Expression, alone, related, Sum, summand, added, Product, factor, multiplied, Part, single, qualified, Primary, numbered, positive, negative, constant, call, empty_list, list, group, Series, last, another, closed, tail, GoalTree, plain_goal, urgent_goal, Body, last_goal, another_goal, Head, bare_head, head_with, expression_tokens, sum_tokens, product_tokens, part_tokens, primary_tokens, series_tokens, goal_tokens, body_tokens, head_tokens}
 use Rattle.kl1_model.specs.Module.{head_patterns}
 use Rattle.kl1_model.specs.Meaning.{nil, pair, cells, expression_term, sum_term, product_term, part_term, primary_term, series_terms, variables_of, variables_in}
+use Rattle.kl1_model.proofs.ReadRows.{adding_token, multiplying_token, added_row, multiplied_row}
 
 -- the numbers of the variables among tokens
 abbrev pub numbers_of : List Numbered → List ℕ
@@ -72,7 +73,8 @@ mutual
   sum_variables : (s : Sum) (ts : List Numbered) → numbers_of (sum_tokens s ts) ≡ variables_of (sum_term s) ++ numbers_of ts
   sum_variables (summand p) ts = product_variables p ts
   sum_variables (added s o p) ts =
-      sum_variables s (adding_token o ∷ product_tokens p ts)
+      ap numbers_of (added_row s o p ts)
+      ∙ sum_variables s (adding_token o ∷ product_tokens p ts)
       ∙ ap (λ x. variables_of (sum_term s) ++ x) (adding_no_variable o (product_tokens p ts) ∙ product_variables p ts)
       ∙ sym (two_variables (adding_name o) (sum_term s) (product_term p) (numbers_of ts))
       ∙ ap (λ t. variables_of t ++ numbers_of ts) (sym (adding_term s o p))
@@ -80,7 +82,8 @@ mutual
   product_variables : (p : Product) (ts : List Numbered) → numbers_of (product_tokens p ts) ≡ variables_of (product_term p) ++ numbers_of ts
   product_variables (factor p) ts = part_variables p ts
   product_variables (multiplied p o q) ts =
-      product_variables p (multiplying_token o ∷ part_tokens q ts)
+      ap numbers_of (multiplied_row p o q ts)
+      ∙ product_variables p (multiplying_token o ∷ part_tokens q ts)
       ∙ ap (λ x. variables_of (product_term p) ++ x) (multiplying_no_variable o (part_tokens q ts) ∙ part_variables q ts)
       ∙ sym (two_variables (multiplying_name o) (product_term p) (part_term q) (numbers_of ts))
       ∙ ap (λ t. variables_of t ++ numbers_of ts) (sym (multiplying_term p o q))

@@ -9,9 +9,10 @@ use Rattle.kl1_model.specs.declared.sign.Sign.TheVariants.{Neck, Becomes, SameVa
 use Rattle.kl1_model.specs.declared.relation.Relation.{Relation}
 use Rattle.kl1_model.specs.declared.relation.Relation.TheVariants.{Equal, NotEqual, Assign, Less, Greater, AtMost, AtLeast, SameNumber, OtherNumber}
 use Rattle.kl1_model.specs.Token.{name_token, variable_token, digits_token, minus_token, sign_token}
-use Rattle.kl1_model.specs.Grammar.{Numbered, relation_sign, Adding, by_plus, by_minus, adding_token, Multiplying, by_star, by_slash, by_mod, multiplying_token, Expression, alone, related, Sum, summand, added, Product, factor, multiplied, Part, single, qualified, Primary, numbered, positive, negative, constant, call, empty_list, list, group, Series, last, another, Rest, closed, tail, Head, bare_head, head_with, GoalTree, plain_goal, urgent_goal, Body, last_goal, another_goal, ClauseTree, fact, rule, guarded, expression_tokens, sum_tokens, product_tokens, part_tokens, primary_tokens, series_tokens, rest_tokens, head_tokens, goal_tokens, body_tokens, clause_tokens}
+use Rattle.kl1_model.specs.Grammar.{Numbered, relation_sign, Adding, by_plus, by_minus, Multiplying, by_star, by_slash, by_mod, Expression, alone, related, Sum, summand, added, Product, factor, multiplied, Part, single, qualified, Primary, numbered, positive, negative, constant, call, empty_list, list, group, Series, last, another, Rest, closed, tail, Head, bare_head, head_with, GoalTree, plain_goal, urgent_goal, Body, last_goal, another_goal, ClauseTree, fact, rule, guarded, expression_tokens, sum_tokens, product_tokens, part_tokens, primary_tokens, series_tokens, head_tokens, goal_tokens, body_tokens, clause_tokens}
 use Rattle.kl1_model.specs.reader.Reader.{Answer, Inner, then_read, then_skip, if_there, behind_comma, behind_close, behind_open, behind_close_list, behind_bar, behind_colon, behind_neck, behind_at, digits_in_front, priority_in_front, relation_in_front, adding_in_front, multiplying_in_front, parted_by, series_at, rest_at, list_at, arguments_at, primary_at, part_at, grouped_by, product_at, sum_at, expression_at, inner_of, all_read, expression_tree, head_at, priority_at, goal_at, body_at, tests_of, behind_neck_at, clause_at, clause_tree}
 use Rattle.kl1_model.specs.laws.ReadLaws.{grouped_on, related_at}
+use Rattle.kl1_model.proofs.ReadRows.{adding_token, multiplying_token, rest_tokens, added_row, multiplied_row, list_row}
 
 -- an answer that came from going on after another
 pub then_read_some : {A B P : Type 0} (x : Answer A) (go : A → List Numbered → Option B) (b : B) → then_read x go ≡ Some b → ((a : A) (us : List Numbered) → x ≡ Some (a, us) → go a us ≡ Some b → P) → P
@@ -165,6 +166,7 @@ module _ (inner : Inner) (sound : IsSound inner) where
       (λ not_empty. then_read_some (series_at inner ts) _ (p, us) not_empty (λ s vs read after.
       then_read_some (rest_at inner vs) _ (p, us) after (λ r ws rest is.
       answered primary_tokens (list s r) p ws us is
+      ∙ list_row s r ws
       ∙ ap (λ w. sign_token OpenList ∷ series_tokens s w) (rest_sound vs r ws rest)
       ∙ ap (λ w. sign_token OpenList ∷ w) (series_sound _ ts s vs read))))
       (λ vs end is. answered primary_tokens empty_list p vs us is ∙ ap (λ w. sign_token OpenList ∷ w) (close_list_is ts vs end))
@@ -220,13 +222,13 @@ module _ (inner : Inner) (sound : IsSound inner) where
   pub product_sound : (ts : List Numbered) (p : Product) (us : List Numbered) → product_at inner ts ≡ Some (p, us) → product_tokens p us ≡ ts
   product_sound ts p us h =
       then_read_some (part_at inner ts) _ (p, us) h (λ a vs read after.
-      grouped_sound multiplying_in_front (part_at inner) multiplied product_tokens multiplying_token part_tokens (λ p o q ts. refl) multiplying_is part_sound (suc (length vs)) (factor a) vs p us after
+      grouped_sound multiplying_in_front (part_at inner) multiplied product_tokens multiplying_token part_tokens multiplied_row multiplying_is part_sound (suc (length vs)) (factor a) vs p us after
       ∙ part_sound ts a vs read)
 
   pub sum_sound : (ts : List Numbered) (s : Sum) (us : List Numbered) → sum_at inner ts ≡ Some (s, us) → sum_tokens s us ≡ ts
   sum_sound ts s us h =
       then_read_some (product_at inner ts) _ (s, us) h (λ p vs read after.
-      grouped_sound adding_in_front (product_at inner) added sum_tokens adding_token product_tokens (λ s o p ts. refl) adding_is product_sound (suc (length vs)) (summand p) vs s us after
+      grouped_sound adding_in_front (product_at inner) added sum_tokens adding_token product_tokens added_row adding_is product_sound (suc (length vs)) (summand p) vs s us after
       ∙ product_sound ts p vs read)
 
   related_sound : (s : Sum) (ts : List Numbered) (x : Answer Relation) → x ≡ relation_in_front ts → (e : Expression) (us : List Numbered) → related_at inner s ts x ≡ Some (e, us) → expression_tokens e us ≡ sum_tokens s ts

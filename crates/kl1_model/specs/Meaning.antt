@@ -81,7 +81,7 @@ cell_depth h t = record { whole = suc (max h.whole t.rest); rest = max h.whole t
 abbrev pub pair_depth : List ℕ → Depth → Depth → Depth
 pair_depth f a b = if bytes_eq f (codes ".") then cell_depth a b else flat (suc (max a.whole b.whole))
 
--- depths: 1 of a constant or variable, 1 more than the deepest argument of a structure, 1 more than its elements and last tail of a list
+-- 1 for a constant or variable, 1 more than the deepest argument for a structure; a list is 1 deeper than its elements and last tail
 abbrev mutual
   pub depths : Term → Depth
   depths (variable n) = flat 1

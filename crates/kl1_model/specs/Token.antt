@@ -61,7 +61,8 @@ abbrev pub quoted_from : Bool → List ℕ → List ℕ → Option (List ℕ × 
 quoted_from true text [] = Some (text, [])
 quoted_from false text [] = None
 quoted_from true text (b ∷ bs) = elim (b == 39) [ true ↦ quoted_from false (text ++ b ∷ []) bs | false ↦ Some (text, b ∷ bs) ]
-quoted_from false text (b ∷ bs) = elim (b == 39) [ true ↦ quoted_from true text bs | false ↦ elim (is_name_byte b) [ true ↦ quoted_from false (text ++ b ∷ []) bs | false ↦ None ] ]
+quoted_from false text (b ∷ bs) =
+    elim (b == 39) [ true ↦ quoted_from true text bs | false ↦ elim (is_name_byte b) [ true ↦ quoted_from false (text ++ b ∷ []) bs | false ↦ None ] ]
 
 -- what is after a comment, from the end of its line; none if it holds a byte that no text may hold
 abbrev pub behind_comment : List ℕ → Option (List ℕ)
@@ -94,7 +95,9 @@ spelling_of CloseList = codes "]"
 
 -- all signs, longer ones before those that they begin with
 abbrev pub signs : List Sign
-signs = Neck ∷ Becomes ∷ SameValue ∷ OtherValue ∷ NotOver ∷ Differs ∷ NotUnder ∷ Colon ∷ Equals ∷ Under ∷ Over ∷ Plus ∷ Star ∷ Slash ∷ At ∷ Bar ∷ Comma ∷ Open ∷ Close ∷ OpenList ∷ CloseList ∷ []
+signs =
+    Neck ∷ Becomes ∷ SameValue ∷ OtherValue ∷ NotOver ∷ Differs ∷ NotUnder ∷ Colon ∷ Equals ∷ Under ∷ Over ∷ Plus ∷ Star ∷ Slash
+    ∷ At ∷ Bar ∷ Comma ∷ Open ∷ Close ∷ OpenList ∷ CloseList ∷ []
 
 -- the longest sign at the front of a text
 abbrev pub sign_at : List ℕ → Option Sign

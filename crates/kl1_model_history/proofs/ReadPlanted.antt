@@ -8,10 +8,11 @@ use Rattle.kl1_model.specs.declared.sign.Sign.TheVariants.{Comma, CloseList}
 use Rattle.kl1_model.specs.Name.{is_bare}
 use Rattle.kl1_model.specs.Term.{Term, variable, integer, atom, structure, Terms, none, more}
 use Rattle.kl1_model.specs.Token.{sign_token}
-use Rattle.kl1_model.specs.Grammar.{Numbered, Expression, alone, summand, factor, Part, single, qualified, Primary, numbered, positive, negative, constant, call, empty_list, list, group, Series, last, another, Rest, closed, tail, expression_tokens, series_tokens, rest_tokens}
+use Rattle.kl1_model.specs.Grammar.{Numbered, Expression, alone, summand, factor, Part, single, qualified, Primary, numbered, positive, negative, constant, call, empty_list, list, group, Series, last, another, Rest, closed, tail, expression_tokens, series_tokens}
 use Rattle.kl1_model.specs.Meaning.{pair, cell, expression_term, part_term, primary_term, series_terms}
 use Rattle.kl1_model.specs.Print.{form_of}
 use Rattle.kl1_model.specs.laws.ReadLaws.{is_sound_expression, is_sound_part, is_sound_series, is_sound_rest}
+use Rattle.kl1_model.proofs.ReadRows.{rest_tokens}
 
 -- the tree of a term alone, and the elements and the end that it is after an element of a list
 pub record Planted : Type 0 where
