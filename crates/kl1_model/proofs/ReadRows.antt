@@ -1,5 +1,5 @@
 -- The tokens of sums, products and lists, each in one line.
-use Rattle.std.specs.Prelude.{◌≡◌, Bool, true, false, List, [], ◌∷◌, codes}
+use Rattle.std.specs.Prelude.{◌≡◌, false, List, ◌∷◌, codes}
 use Rattle.std.proofs.Common.{refl}
 use Rattle.kl1_model.specs.declared.sign.Sign.TheVariants.{Plus, Star, Slash, Bar, OpenList, CloseList}
 use Rattle.kl1_model.specs.Token.{name_token, minus_token, sign_token}
