@@ -1,13 +1,15 @@
 -- The tokens of a text without a count of steps.
 use Rattle.std.specs.Prelude.{◌≡◌, ℕ, zero, suc, ◌≤◌, ◌<◌, ◌==◌, Bool, true, false, if◌then◌else◌, List, [], ◌∷◌, ◌++◌, length, Option, Some, None}
-use Rattle.std.proofs.Common.{refl, ap, ◌∙◌, arith}
+use Rattle.std.proofs.Common.{refl, ap, ◌∙◌, subst, arith}
 use Rattle.std.proofs.lemmas.List.{length-drop}
 use Rattle.kl1_model.specs.declared.sign.Sign.{Sign}
 use Rattle.kl1_model.specs.declared.sign.Sign.TheVariants.{Neck}
 use Rattle.kl1_model.specs.Text.{is_name_byte}
 use Rattle.kl1_model.specs.Name.{is_word_byte}
-use Rattle.kl1_model.specs.Token.{Token, Front, finished, broken, line_end, blank, token, Start, ends_line, blanks, comments, names, variables, numbers, quotes, dots, subtracts, signs_or_nothing, is_digit, is_source_byte, behind_word, behind_digits, quoted_from, quoted_front, behind_comment, comment_front, dot_front, sign_at, sign_front, spelling_of, start_of, front_by, front_of, Tokens, token_first, tokens_by, tokens_within}
+use Rattle.kl1_model.specs.Token.{Token, Front, finished, broken, line_end, blank, token, is_digit, is_source_byte, behind_word, behind_digits, quoted_from, behind_comment, dot_front, sign_at, spelling_of, front_of, Tokens, tokens_by, tokens_within}
+use Rattle.kl1_model.specs.code.Fronts.{quoted_front, comment_front, sign_front}
 use Rattle.kl1_model.specs.laws.ReadLaws.{tokens_at, LeavesLess}
+use Rattle.kl1_model.proofs.LexStarts.{Start, ends_line, blanks, comments, names, variables, numbers, quotes, dots, subtracts, signs_or_nothing, start_of, front_by, front_starts}
 
 -- a token under a condition leaves less if what is after it is less
 if_leaves : (x : Bool) (most : ℕ) (t : Token (List ℕ)) (rest : List ℕ) → length rest < most → LeavesLess most (if x then token t rest else broken)
@@ -84,7 +86,7 @@ start_leaves signs_or_nothing b bs = sign_leaves (sign_at (b ∷ bs)) b bs
 -- each front leaves less of the text
 pub fronts_leave_less : (bs : List ℕ) → LeavesLess (length bs) (front_of bs)
 fronts_leave_less [] = tt
-fronts_leave_less (b ∷ bs) = start_leaves (start_of b) b bs
+fronts_leave_less (b ∷ bs) = subst (LeavesLess (suc (length bs))) (front_starts b bs) (start_leaves (start_of b) b bs)
 
 -- two ways to go on that agree on fewer than `most` bytes give the same tokens
 tokens_by_same : (f g : ℕ → List ℕ → Tokens) (line most : ℕ) (x : Front) → LeavesLess most x → ((l : ℕ) (rest : List ℕ) → length rest < most → f l rest ≡ g l rest) → tokens_by f line x ≡ tokens_by g line x
@@ -92,7 +94,7 @@ tokens_by_same f g line most finished less same = refl
 tokens_by_same f g line most broken less same = refl
 tokens_by_same f g line most (line_end rest) less same = same (suc line) rest less
 tokens_by_same f g line most (blank rest) less same = same line rest less
-tokens_by_same f g line most (token t rest) less same = ap (token_first (record { line = line; token = t })) (same line rest less)
+tokens_by_same f g line most (token t rest) less same = ap (λ (after : Tokens). record { placed = record { line = line; token = t } ∷ after.placed; broken_at = after.broken_at }) (same line rest less)
 
 -- more steps than bytes give the same tokens
 pub steps_are_enough : (m n line : ℕ) (bs : List ℕ) → length bs < m → length bs < n → tokens_within m line bs ≡ tokens_within n line bs

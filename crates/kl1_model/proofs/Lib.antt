@@ -5,8 +5,10 @@ pub mod UnifyFront
 pub mod UnifyRule
 pub mod UnifySteps
 pub mod EqualSides
+pub mod ReadRows
 pub mod ReadSound
 pub mod ReadComplete
+pub mod LexStarts
 pub mod LexSteps
 pub mod ReadSteps
 pub mod ReadItems

@@ -10,7 +10,7 @@ use Rattle.kl1_model.specs.declared.sign.Sign.TheVariants.{Neck, Bar}
 use Rattle.kl1_model.specs.Term.{Term, atom, Terms, none, more, list_of}
 use Rattle.kl1_model.specs.Token.{Token, sign_token, tokens_of_text}
 use Rattle.kl1_model.specs.Grammar.{Head, GoalTree, plain_goal, urgent_goal, Body, last_goal, another_goal, ClauseTree, fact, rule, guarded, series_tokens, body_tokens, clause_tokens}
-use Rattle.kl1_model.specs.Reader.{clause_tree}
+use Rattle.kl1_model.specs.reader.Reader.{clause_tree}
 use Rattle.kl1_model.specs.Numbering.{numbered_tokens}
 use Rattle.kl1_model.specs.Meaning.{pair, expression_term, series_terms, is_writable, variables_of, variables_in, numbered_after}
 use Rattle.kl1_model.specs.Goal.{is_test, is_goal, is_head, body_goal}

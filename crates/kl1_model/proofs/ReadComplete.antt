@@ -6,9 +6,10 @@ use Rattle.kl1_model.specs.declared.sign.Sign.TheVariants.{Neck, Colon, At, Bar,
 use Rattle.kl1_model.specs.declared.relation.Relation.{Relation}
 use Rattle.kl1_model.specs.declared.relation.Relation.TheVariants.{Equal, NotEqual, Assign, Less, Greater, AtMost, AtLeast, SameNumber, OtherNumber}
 use Rattle.kl1_model.specs.Token.{name_token, digits_token, sign_token}
-use Rattle.kl1_model.specs.Grammar.{Numbered, relation_token, Adding, by_plus, by_minus, adding_token, Multiplying, by_star, by_slash, by_mod, multiplying_token, Expression, alone, related, Sum, summand, added, Product, factor, multiplied, Part, single, qualified, Primary, numbered, positive, negative, constant, call, empty_list, list, group, Series, last, another, Rest, closed, tail, Head, bare_head, head_with, GoalTree, plain_goal, urgent_goal, Body, last_goal, another_goal, ClauseTree, fact, rule, guarded, expression_tokens, sum_tokens, product_tokens, part_tokens, primary_tokens, series_tokens, rest_tokens, head_tokens, goal_tokens, body_tokens, clause_tokens}
-use Rattle.kl1_model.specs.Reader.{Answer, then_read, if_there, behind_comma, behind_close_list, behind_colon, behind_at, relation_in_front, adding_in_front, multiplying_in_front, series_by, series_at, rest_at, arguments_at, primary_at, part_at, grouped_on, grouped_by, product_at, sum_at, related_at, expression_at, all_read, expression_tree, head_at, goal_at, body_by, body_at, tests_of, behind_neck_at, clause_at, clause_tree}
-use Rattle.kl1_model.specs.laws.ReadLaws.{is_sound_expression, is_sound_sum, is_sound_product, is_sound_part, is_sound_primary, is_sound_series, is_sound_rest, is_sound_head, is_sound_goal, is_sound_body, is_sound_clause}
+use Rattle.kl1_model.specs.Grammar.{Numbered, relation_sign, Adding, by_plus, by_minus, Multiplying, by_star, by_slash, by_mod, Expression, alone, related, Sum, summand, added, Product, factor, multiplied, Part, single, qualified, Primary, numbered, positive, negative, constant, call, empty_list, list, group, Series, last, another, Rest, closed, tail, Head, bare_head, head_with, GoalTree, plain_goal, urgent_goal, Body, last_goal, another_goal, ClauseTree, fact, rule, guarded, expression_tokens, sum_tokens, product_tokens, part_tokens, primary_tokens, series_tokens, head_tokens, goal_tokens, body_tokens, clause_tokens}
+use Rattle.kl1_model.specs.reader.Reader.{Answer, then_read, if_there, behind_comma, behind_close_list, behind_colon, behind_at, relation_in_front, adding_in_front, multiplying_in_front, parted_by, series_at, rest_at, arguments_at, primary_at, part_at, grouped_by, product_at, sum_at, expression_at, all_read, expression_tree, head_at, goal_at, body_at, tests_of, behind_neck_at, clause_at, clause_tree}
+use Rattle.kl1_model.specs.laws.ReadLaws.{grouped_on, related_at, is_sound_expression, is_sound_sum, is_sound_product, is_sound_part, is_sound_primary, is_sound_series, is_sound_rest, is_sound_head, is_sound_goal, is_sound_body, is_sound_clause}
+use Rattle.kl1_model.proofs.ReadRows.{adding_token, multiplying_token, rest_tokens, added_row, multiplied_row, list_row}
 
 -- how many steps of the reader a tree takes at most, each deeper than the one before
 abbrev mutual
@@ -50,15 +51,15 @@ abbrev mutual
 mutual
   pub steps_of_few : (e : Expression) (ts : List Numbered) → steps_of e + length ts ≤ length (expression_tokens e ts)
   steps_of_few (alone s) ts = omega (arith, sum_steps_few s ts)
-  steps_of_few (related s r q) ts = omega (arith, sum_steps_few s (relation_token r ∷ sum_tokens q ts), sum_steps_few q ts)
+  steps_of_few (related s r q) ts = omega (arith, sum_steps_few s (sign_token (relation_sign r) ∷ sum_tokens q ts), sum_steps_few q ts)
 
   pub sum_steps_few : (s : Sum) (ts : List Numbered) → suc (sum_steps s + length ts) ≤ length (sum_tokens s ts)
   sum_steps_few (summand p) ts = product_steps_few p ts
-  sum_steps_few (added s o p) ts = omega (arith, sum_steps_few s (adding_token o ∷ product_tokens p ts), product_steps_few p ts)
+  sum_steps_few (added s o p) ts = omega (arith, ap (length {A = Numbered}) (added_row s o p ts), sum_steps_few s (adding_token o ∷ product_tokens p ts), product_steps_few p ts)
 
   pub product_steps_few : (p : Product) (ts : List Numbered) → suc (product_steps p + length ts) ≤ length (product_tokens p ts)
   product_steps_few (factor p) ts = part_steps_few p ts
-  product_steps_few (multiplied p o q) ts = omega (arith, product_steps_few p (multiplying_token o ∷ part_tokens q ts), part_steps_few q ts)
+  product_steps_few (multiplied p o q) ts = omega (arith, ap (length {A = Numbered}) (multiplied_row p o q ts), product_steps_few p (multiplying_token o ∷ part_tokens q ts), part_steps_few q ts)
 
   pub part_steps_few : (p : Part) (ts : List Numbered) → suc (part_steps p + length ts) ≤ length (part_tokens p ts)
   part_steps_few (single p) ts = primary_steps_few p ts
@@ -71,7 +72,7 @@ mutual
   primary_steps_few (constant a quotes) ts = omega arith
   primary_steps_few (call f quotes s) ts = omega (arith, series_steps_few s (sign_token Close ∷ ts))
   primary_steps_few empty_list ts = omega arith
-  primary_steps_few (list s r) ts = omega (arith, series_steps_few s (rest_tokens r (sign_token CloseList ∷ ts)), rest_steps_few r (sign_token CloseList ∷ ts))
+  primary_steps_few (list s r) ts = omega (arith, ap (length {A = Numbered}) (list_row s r ts), series_steps_few s (rest_tokens r (sign_token CloseList ∷ ts)), rest_steps_few r (sign_token CloseList ∷ ts))
   primary_steps_few (group e) ts = omega (arith, steps_of_few e (sign_token Close ∷ ts))
 
   pub series_steps_few : (s : Series) (ts : List Numbered) → series_steps s + length ts ≤ length (series_tokens s ts)
@@ -100,7 +101,7 @@ record EndsProduct (ts : List Numbered) : Type 0 where
   no_colon : behind_colon ts ≡ None
   no_multiplying : multiplying_in_front ts ≡ None
 
-relation_ends : (r : Relation) (ts : List Numbered) → EndsSum (relation_token r ∷ ts)
+relation_ends : (r : Relation) (ts : List Numbered) → EndsSum (sign_token (relation_sign r) ∷ ts)
 relation_ends Equal ts = record { no_colon = refl; no_multiplying = refl; no_adding = refl }
 relation_ends NotEqual ts = record { no_colon = refl; no_multiplying = refl; no_adding = refl }
 relation_ends Assign ts = record { no_colon = refl; no_multiplying = refl; no_adding = refl }
@@ -111,7 +112,7 @@ relation_ends AtLeast ts = record { no_colon = refl; no_multiplying = refl; no_a
 relation_ends SameNumber ts = record { no_colon = refl; no_multiplying = refl; no_adding = refl }
 relation_ends OtherNumber ts = record { no_colon = refl; no_multiplying = refl; no_adding = refl }
 
-relation_front : (r : Relation) (ts : List Numbered) → relation_in_front (relation_token r ∷ ts) ≡ Some (r, ts)
+relation_front : (r : Relation) (ts : List Numbered) → relation_in_front (sign_token (relation_sign r) ∷ ts) ≡ Some (r, ts)
 relation_front Equal ts = refl
 relation_front NotEqual ts = refl
 relation_front Assign ts = refl
@@ -161,7 +162,7 @@ primary_begins (negative n) ts = refl
 primary_begins (constant a quotes) ts = refl
 primary_begins (call f quotes s) ts = refl
 primary_begins empty_list ts = refl
-primary_begins (list s r) ts = refl
+primary_begins (list s r) ts = ap behind_close_list (list_row s r ts)
 primary_begins (group e) ts = refl
 
 part_begins : (p : Part) (ts : List Numbered) → behind_close_list (part_tokens p ts) ≡ None
@@ -170,15 +171,15 @@ part_begins (qualified p q) ts = primary_begins p (sign_token Colon ∷ primary_
 
 product_begins : (p : Product) (ts : List Numbered) → behind_close_list (product_tokens p ts) ≡ None
 product_begins (factor p) ts = part_begins p ts
-product_begins (multiplied p o q) ts = product_begins p (multiplying_token o ∷ part_tokens q ts)
+product_begins (multiplied p o q) ts = ap behind_close_list (multiplied_row p o q ts) ∙ product_begins p (multiplying_token o ∷ part_tokens q ts)
 
 sum_begins : (s : Sum) (ts : List Numbered) → behind_close_list (sum_tokens s ts) ≡ None
 sum_begins (summand p) ts = product_begins p ts
-sum_begins (added s o p) ts = sum_begins s (adding_token o ∷ product_tokens p ts)
+sum_begins (added s o p) ts = ap behind_close_list (added_row s o p ts) ∙ sum_begins s (adding_token o ∷ product_tokens p ts)
 
 expression_begins : (e : Expression) (ts : List Numbered) → behind_close_list (expression_tokens e ts) ≡ None
 expression_begins (alone s) ts = sum_begins s ts
-expression_begins (related s r q) ts = sum_begins s (relation_token r ∷ sum_tokens q ts)
+expression_begins (related s r q) ts = sum_begins s (sign_token (relation_sign r) ∷ sum_tokens q ts)
 
 series_begins : (s : Series) (ts : List Numbered) → behind_close_list (series_tokens s ts) ≡ None
 series_begins (last e) ts = expression_begins e ts
@@ -295,7 +296,7 @@ product_more n m p o q ts grouped read =
     ∙ grouped_step multiplying_in_front (part_at (expression_at n)) multiplied m p next o (part_tokens q ts) q ts (multiplying_front o (part_tokens q ts)) read
 
 mutual
-  unfolding expression_at series_by
+  unfolding expression_at parted_by
 
   pub expression_complete : (e : Expression) (n : ℕ) (ts : List Numbered) → steps_of e ≤ n → is_sound_expression e ≡ true → Ends ts → expression_at n (expression_tokens e ts) ≡ Some (e, ts)
   expression_complete (alone s) zero ts few sound ends = absurd (omega arith)
@@ -304,8 +305,8 @@ mutual
       then_read_is _ s ts _ (sum_complete s n ts (omega arith) sound (record { no_colon = ends.no_colon; no_multiplying = ends.no_multiplying; no_adding = ends.no_adding })) ∙ ap (related_at (expression_at n) s ts) ends.no_relation
   expression_complete (related s r q) (suc n) ts few sound ends =
       let both = and_parts (is_sound_sum s) (is_sound_sum q) sound in
-      then_read_is _ s (relation_token r ∷ sum_tokens q ts) _ (sum_complete s n (relation_token r ∷ sum_tokens q ts) (omega arith) both.0 (relation_ends r (sum_tokens q ts)))
-      ∙ ap (related_at (expression_at n) s (relation_token r ∷ sum_tokens q ts)) (relation_front r (sum_tokens q ts))
+      then_read_is _ s (sign_token (relation_sign r) ∷ sum_tokens q ts) _ (sum_complete s n (sign_token (relation_sign r) ∷ sum_tokens q ts) (omega arith) both.0 (relation_ends r (sum_tokens q ts)))
+      ∙ ap (related_at (expression_at n) s (sign_token (relation_sign r) ∷ sum_tokens q ts)) (relation_front r (sum_tokens q ts))
       ∙ then_read_is _ q ts _ (sum_complete q n ts (omega arith) both.1 (record { no_colon = ends.no_colon; no_multiplying = ends.no_multiplying; no_adding = ends.no_adding }))
 
   sum_complete : (s : Sum) (n : ℕ) (ts : List Numbered) → sum_steps s ≤ n → is_sound_sum s ≡ true → EndsSum ts → sum_at (expression_at n) (sum_tokens s ts) ≡ Some (s, ts)
@@ -316,7 +317,7 @@ mutual
       let both = and_parts (is_sound_sum s) (is_sound_product p) sound in
       let next = adding_token o ∷ product_tokens p ts in
       let ends_here : EndsProduct ts = record { no_colon = ends.no_colon; no_multiplying = ends.no_multiplying } in
-      sum_done n (added s o p) ts (sum_first s n next (omega arith) both.0 (adding_ends o (product_tokens p ts)))
+      sum_done n (added s o p) ts (ap (product_at (expression_at n)) (added_row s o p ts) ∙ sum_first s n next (omega arith) both.0 (adding_ends o (product_tokens p ts)))
       (λ m. sum_more n m s o p ts (λ k. sum_grouped s n k next (omega arith) both.0 (adding_ends o (product_tokens p ts))) (product_complete p n ts (omega arith) both.1 ends_here))
       ends.no_adding
 
@@ -324,7 +325,7 @@ mutual
   sum_first (summand p) n ts few sound ends = product_complete p n ts few sound ends
   sum_first (added s o p) n ts few sound ends =
       let both = and_parts (is_sound_sum s) (is_sound_product p) sound in
-      sum_first s n (adding_token o ∷ product_tokens p ts) (omega arith) both.0 (adding_ends o (product_tokens p ts))
+      ap (product_at (expression_at n)) (added_row s o p ts) ∙ sum_first s n (adding_token o ∷ product_tokens p ts) (omega arith) both.0 (adding_ends o (product_tokens p ts))
 
   sum_grouped : (s : Sum) (n m : ℕ) (ts : List Numbered) → sum_steps s ≤ n → is_sound_sum s ≡ true → EndsProduct ts →
       grouped_by adding_in_front (product_at (expression_at n)) added (sum_operators s + m) (summand (first_product s)) (behind_product s ts) ≡ grouped_by adding_in_front (product_at (expression_at n)) added m s ts
@@ -339,7 +340,7 @@ mutual
   product_complete (multiplied p o q) n ts few sound ends =
       let both = and_parts (is_sound_product p) (is_sound_part q) sound in
       let next = multiplying_token o ∷ part_tokens q ts in
-      product_done n (multiplied p o q) ts (product_first p n next (omega arith) both.0 (multiplying_ends o (part_tokens q ts)))
+      product_done n (multiplied p o q) ts (ap (part_at (expression_at n)) (multiplied_row p o q ts) ∙ product_first p n next (omega arith) both.0 (multiplying_ends o (part_tokens q ts)))
       (λ m. product_more n m p o q ts (λ k. product_grouped p n k next (omega arith) both.0 (multiplying_ends o (part_tokens q ts))) (part_complete q n ts (omega arith) both.1 ends.no_colon))
       ends.no_multiplying
 
@@ -347,7 +348,7 @@ mutual
   product_first (factor p) n ts few sound no_colon = part_complete p n ts few sound no_colon
   product_first (multiplied p o q) n ts few sound no_colon =
       let both = and_parts (is_sound_product p) (is_sound_part q) sound in
-      product_first p n (multiplying_token o ∷ part_tokens q ts) (omega arith) both.0 (multiplying_ends o (part_tokens q ts))
+      ap (part_at (expression_at n)) (multiplied_row p o q ts) ∙ product_first p n (multiplying_token o ∷ part_tokens q ts) (omega arith) both.0 (multiplying_ends o (part_tokens q ts))
 
   product_grouped : (p : Product) (n m : ℕ) (ts : List Numbered) → product_steps p ≤ n → is_sound_product p ≡ true → behind_colon ts ≡ None →
       grouped_by multiplying_in_front (part_at (expression_at n)) multiplied (product_operators p + m) (factor (first_part p)) (behind_part p ts) ≡ grouped_by multiplying_in_front (part_at (expression_at n)) multiplied m p ts
@@ -375,13 +376,14 @@ mutual
   primary_complete empty_list n ts few sound = refl
   primary_complete (list s r) n ts few sound =
       let both = and_parts (is_sound_series s) (is_sound_rest r) sound in
-      not_there _ _ _ (series_begins s (rest_tokens r (sign_token CloseList ∷ ts)))
+      ap (primary_at (expression_at n)) (list_row s r ts)
+      ∙ not_there _ _ _ (series_begins s (rest_tokens r (sign_token CloseList ∷ ts)))
       ∙ then_read_is _ s (rest_tokens r (sign_token CloseList ∷ ts)) _ (series_complete s n (suc (length (series_tokens s (rest_tokens r (sign_token CloseList ∷ ts))))) (rest_tokens r (sign_token CloseList ∷ ts)) (omega arith) (omega (arith, series_steps_few s (rest_tokens r (sign_token CloseList ∷ ts)))) both.0 (rest_ends r ts) (rest_no_comma r ts))
       ∙ then_read_is _ r ts _ (rest_complete r n ts (omega arith) both.1)
   primary_complete (group e) n ts few sound =
       then_read_is _ e (sign_token Close ∷ ts) _ (expression_complete e n (sign_token Close ∷ ts) few sound (record { no_colon = refl; no_multiplying = refl; no_adding = refl; no_relation = refl }))
 
-  pub series_complete : (s : Series) (n m : ℕ) (ts : List Numbered) → series_steps s ≤ n → series_steps s ≤ m → is_sound_series s ≡ true → Ends ts → behind_comma ts ≡ None → series_by (expression_at n) m (series_tokens s ts) ≡ Some (s, ts)
+  pub series_complete : (s : Series) (n m : ℕ) (ts : List Numbered) → series_steps s ≤ n → series_steps s ≤ m → is_sound_series s ≡ true → Ends ts → behind_comma ts ≡ None → parted_by (expression_at n) last another m (series_tokens s ts) ≡ Some (s, ts)
   series_complete (last e) n zero ts few enough sound ends no_comma = absurd (omega (arith, some_steps e))
   series_complete (another e s) n zero ts few enough sound ends no_comma = absurd (omega (arith, some_steps e))
   series_complete (last e) n (suc m) ts few enough sound ends no_comma =
@@ -454,8 +456,8 @@ goal_complete (urgent_goal e quotes k) n ts few sound ends no_at =
     let next = name_token (codes "priority") quotes true ∷ sign_token Open ∷ digits_token k ∷ sign_token Close ∷ ts in
     then_read_is _ e (sign_token At ∷ next) _ (expression_complete e n (sign_token At ∷ next) few sound (record { no_colon = refl; no_multiplying = refl; no_adding = refl; no_relation = refl }))
 
-pub body_complete : (b : Body) (n m : ℕ) (ts : List Numbered) → body_steps b ≤ n → body_steps b ≤ m → is_sound_body b ≡ true → Ends ts → behind_at ts ≡ None → behind_comma ts ≡ None → body_by (expression_at n) m (body_tokens b ts) ≡ Some (b, ts)
-unfolding body_by
+pub body_complete : (b : Body) (n m : ℕ) (ts : List Numbered) → body_steps b ≤ n → body_steps b ≤ m → is_sound_body b ≡ true → Ends ts → behind_at ts ≡ None → behind_comma ts ≡ None → parted_by (goal_at (expression_at n)) last_goal another_goal m (body_tokens b ts) ≡ Some (b, ts)
+unfolding parted_by
 body_complete (last_goal g) n zero ts few enough sound ends no_at no_comma = absurd (omega (arith, some_goal_steps g))
 body_complete (another_goal g b) n zero ts few enough sound ends no_at no_comma = absurd (omega (arith, some_goal_steps g))
 body_complete (last_goal g) n (suc m) ts few enough sound ends no_at no_comma =

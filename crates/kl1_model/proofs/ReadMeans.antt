@@ -2,13 +2,14 @@
 use Rattle.std.specs.Prelude.{◌≡◌, ℕ, true, List, [], ◌∷◌, ◌++◌, codes}
 use Rattle.std.proofs.Common.{refl, ap, sym, ◌∙◌}
 use Rattle.std.proofs.lemmas.List.{append_assoc, append-nil}
-use Rattle.kl1_model.specs.declared.sign.Sign.TheVariants.{Colon, Comma, Open, Close, CloseList, At}
+use Rattle.kl1_model.specs.declared.sign.Sign.TheVariants.{Colon, Comma, Bar, Open, Close, CloseList, At}
 use Rattle.kl1_model.specs.declared.relation.Relation.{Relation}
 use Rattle.kl1_model.specs.Term.{Term, Terms, none, more}
-use Rattle.kl1_model.specs.Token.{sign_token, variable_token, name_token, digits_token}
-use Rattle.kl1_model.specs.Grammar.{Numbered, relation_token, Adding, by_plus, by_minus, adding_token, Multiplying, by_star, by_slash, by_mod, multiplying_token, Expression, alone, related, Sum, summand, added, Product, factor, multiplied, Part, single, qualified, Primary, numbered, positive, negative, constant, call, empty_list, list, group, Series, last, another, Rest, closed, tail, GoalTree, plain_goal, urgent_goal, Body, last_goal, another_goal, Head, bare_head, head_with, expression_tokens, sum_tokens, product_tokens, part_tokens, primary_tokens, series_tokens, rest_tokens, goal_tokens, body_tokens, head_tokens}
+use Rattle.kl1_model.specs.Token.{sign_token, variable_token, name_token, digits_token, spelling_of}
+use Rattle.kl1_model.specs.Grammar.{Numbered, relation_sign, Adding, by_plus, by_minus, Multiplying, by_star, by_slash, by_mod, Expression, alone, related, Sum, summand, added, Product, factor, multiplied, Part, single, qualified, Primary, numbered, positive, negative, constant, call, empty_list, list, group, Series, last, another, closed, tail, GoalTree, plain_goal, urgent_goal, Body, last_goal, another_goal, Head, bare_head, head_with, expression_tokens, sum_tokens, product_tokens, part_tokens, primary_tokens, series_tokens, goal_tokens, body_tokens, head_tokens}
 use Rattle.kl1_model.specs.Module.{head_patterns}
-use Rattle.kl1_model.specs.Meaning.{pair, cells, relation_name, adding_name, multiplying_name, expression_term, sum_term, product_term, part_term, primary_term, series_terms, rest_term, variables_of, variables_in}
+use Rattle.kl1_model.specs.Meaning.{nil, pair, cells, expression_term, sum_term, product_term, part_term, primary_term, series_terms, variables_of, variables_in}
+use Rattle.kl1_model.proofs.ReadRows.{adding_token, multiplying_token, added_row, multiplied_row}
 
 -- the numbers of the variables among tokens
 abbrev pub numbers_of : List Numbered → List ℕ
@@ -29,7 +30,7 @@ cells_variables (more e es) t ns =
     ∙ sym (append_assoc (variables_of e) (variables_in es) (variables_of t ++ ns))
 
 -- a relation's token, and an operator's, names no variable
-relation_no_variable : (r : Relation) (ts : List Numbered) → numbers_of (relation_token r ∷ ts) ≡ numbers_of ts
+relation_no_variable : (r : Relation) (ts : List Numbered) → numbers_of (sign_token (relation_sign r) ∷ ts) ≡ numbers_of ts
 relation_no_variable r ts = refl
 
 adding_no_variable : (o : Adding) (ts : List Numbered) → numbers_of (adding_token o ∷ ts) ≡ numbers_of ts
@@ -41,27 +42,51 @@ multiplying_no_variable by_star ts = refl
 multiplying_no_variable by_slash ts = refl
 multiplying_no_variable (by_mod applied) ts = refl
 
+-- the name of an operator of sums
+abbrev adding_name : Adding → List ℕ
+adding_name by_plus = codes "+"
+adding_name (by_minus digit) = codes "-"
+
+adding_term : (s : Sum) (o : Adding) (p : Product) → sum_term (added s o p) ≡ pair (adding_name o) (sum_term s) (product_term p)
+adding_term s by_plus p = refl
+adding_term s (by_minus digit) p = refl
+
+-- the name of an operator of products
+abbrev multiplying_name : Multiplying → List ℕ
+multiplying_name by_star = codes "*"
+multiplying_name by_slash = codes "/"
+multiplying_name (by_mod applied) = codes "mod"
+
+multiplying_term : (p : Product) (o : Multiplying) (q : Part) → product_term (multiplied p o q) ≡ pair (multiplying_name o) (product_term p) (part_term q)
+multiplying_term p by_star q = refl
+multiplying_term p by_slash q = refl
+multiplying_term p (by_mod applied) q = refl
+
 mutual
   pub expression_variables : (e : Expression) (ts : List Numbered) → numbers_of (expression_tokens e ts) ≡ variables_of (expression_term e) ++ numbers_of ts
   expression_variables (alone s) ts = sum_variables s ts
   expression_variables (related s r q) ts =
-      sum_variables s (relation_token r ∷ sum_tokens q ts)
+      sum_variables s (sign_token (relation_sign r) ∷ sum_tokens q ts)
       ∙ ap (λ x. variables_of (sum_term s) ++ x) (relation_no_variable r (sum_tokens q ts) ∙ sum_variables q ts)
-      ∙ sym (two_variables (relation_name r) (sum_term s) (sum_term q) (numbers_of ts))
+      ∙ sym (two_variables (spelling_of (relation_sign r)) (sum_term s) (sum_term q) (numbers_of ts))
 
   sum_variables : (s : Sum) (ts : List Numbered) → numbers_of (sum_tokens s ts) ≡ variables_of (sum_term s) ++ numbers_of ts
   sum_variables (summand p) ts = product_variables p ts
   sum_variables (added s o p) ts =
-      sum_variables s (adding_token o ∷ product_tokens p ts)
+      ap numbers_of (added_row s o p ts)
+      ∙ sum_variables s (adding_token o ∷ product_tokens p ts)
       ∙ ap (λ x. variables_of (sum_term s) ++ x) (adding_no_variable o (product_tokens p ts) ∙ product_variables p ts)
       ∙ sym (two_variables (adding_name o) (sum_term s) (product_term p) (numbers_of ts))
+      ∙ ap (λ t. variables_of t ++ numbers_of ts) (sym (adding_term s o p))
 
   product_variables : (p : Product) (ts : List Numbered) → numbers_of (product_tokens p ts) ≡ variables_of (product_term p) ++ numbers_of ts
   product_variables (factor p) ts = part_variables p ts
   product_variables (multiplied p o q) ts =
-      product_variables p (multiplying_token o ∷ part_tokens q ts)
+      ap numbers_of (multiplied_row p o q ts)
+      ∙ product_variables p (multiplying_token o ∷ part_tokens q ts)
       ∙ ap (λ x. variables_of (product_term p) ++ x) (multiplying_no_variable o (part_tokens q ts) ∙ part_variables q ts)
       ∙ sym (two_variables (multiplying_name o) (product_term p) (part_term q) (numbers_of ts))
+      ∙ ap (λ t. variables_of t ++ numbers_of ts) (sym (multiplying_term p o q))
 
   pub part_variables : (p : Part) (ts : List Numbered) → numbers_of (part_tokens p ts) ≡ variables_of (part_term p) ++ numbers_of ts
   part_variables (single p) ts = primary_variables p ts
@@ -77,10 +102,11 @@ mutual
   primary_variables (constant a quotes) ts = refl
   primary_variables (call f quotes s) ts = series_variables s (sign_token Close ∷ ts)
   primary_variables empty_list ts = refl
-  primary_variables (list s r) ts =
-      series_variables s (rest_tokens r (sign_token CloseList ∷ ts))
-      ∙ ap (λ x. variables_in (series_terms s) ++ x) (rest_variables r (sign_token CloseList ∷ ts))
-      ∙ sym (cells_variables (series_terms s) (rest_term r) (numbers_of ts))
+  primary_variables (list s closed) ts = series_variables s (sign_token CloseList ∷ ts) ∙ sym (cells_variables (series_terms s) nil (numbers_of ts))
+  primary_variables (list s (tail e)) ts =
+      series_variables s (sign_token Bar ∷ expression_tokens e (sign_token CloseList ∷ ts))
+      ∙ ap (λ x. variables_in (series_terms s) ++ x) (expression_variables e (sign_token CloseList ∷ ts))
+      ∙ sym (cells_variables (series_terms s) (expression_term e) (numbers_of ts))
   primary_variables (group e) ts = expression_variables e (sign_token Close ∷ ts)
 
   pub series_variables : (s : Series) (ts : List Numbered) → numbers_of (series_tokens s ts) ≡ variables_in (series_terms s) ++ numbers_of ts
@@ -89,10 +115,6 @@ mutual
       expression_variables e (sign_token Comma ∷ series_tokens s ts)
       ∙ ap (λ x. variables_of (expression_term e) ++ x) (series_variables s ts)
       ∙ sym (append_assoc (variables_of (expression_term e)) (variables_in (series_terms s)) (numbers_of ts))
-
-  rest_variables : (r : Rest) (ts : List Numbered) → numbers_of (rest_tokens r ts) ≡ variables_of (rest_term r) ++ numbers_of ts
-  rest_variables closed ts = refl
-  rest_variables (tail e) ts = expression_variables e ts
 
 -- the term of a goal, apart from its priority
 abbrev pub tree_term : GoalTree → Term

@@ -9,8 +9,10 @@ use Rattle.kl1_model.specs.declared.sign.Sign.TheVariants.{Neck, Becomes, SameVa
 use Rattle.kl1_model.specs.declared.relation.Relation.{Relation}
 use Rattle.kl1_model.specs.declared.relation.Relation.TheVariants.{Equal, NotEqual, Assign, Less, Greater, AtMost, AtLeast, SameNumber, OtherNumber}
 use Rattle.kl1_model.specs.Token.{name_token, variable_token, digits_token, minus_token, sign_token}
-use Rattle.kl1_model.specs.Grammar.{Numbered, relation_token, Adding, by_plus, by_minus, adding_token, Multiplying, by_star, by_slash, by_mod, multiplying_token, Expression, alone, related, Sum, summand, added, Product, factor, multiplied, Part, single, qualified, Primary, numbered, positive, negative, constant, call, empty_list, list, group, Series, last, another, Rest, closed, tail, Head, bare_head, head_with, GoalTree, plain_goal, urgent_goal, Body, last_goal, another_goal, ClauseTree, fact, rule, guarded, expression_tokens, sum_tokens, product_tokens, part_tokens, primary_tokens, series_tokens, rest_tokens, head_tokens, goal_tokens, body_tokens, clause_tokens}
-use Rattle.kl1_model.specs.Reader.{Answer, Inner, then_read, then_skip, if_there, behind_comma, behind_close, behind_open, behind_close_list, behind_bar, behind_colon, behind_neck, behind_at, digits_in_front, priority_in_front, relation_in_front, adding_in_front, multiplying_in_front, series_by, series_at, rest_at, list_at, arguments_at, negative_at, primary_at, part_at, grouped_on, grouped_by, product_at, sum_at, related_at, expression_at, inner_of, all_read, expression_tree, head_at, priority_at, goal_at, body_by, body_at, tests_of, behind_neck_at, clause_at, clause_tree}
+use Rattle.kl1_model.specs.Grammar.{Numbered, relation_sign, Adding, by_plus, by_minus, Multiplying, by_star, by_slash, by_mod, Expression, alone, related, Sum, summand, added, Product, factor, multiplied, Part, single, qualified, Primary, numbered, positive, negative, constant, call, empty_list, list, group, Series, last, another, Rest, closed, tail, Head, bare_head, head_with, GoalTree, plain_goal, urgent_goal, Body, last_goal, another_goal, ClauseTree, fact, rule, guarded, expression_tokens, sum_tokens, product_tokens, part_tokens, primary_tokens, series_tokens, head_tokens, goal_tokens, body_tokens, clause_tokens}
+use Rattle.kl1_model.specs.reader.Reader.{Answer, Inner, then_read, then_skip, if_there, behind_comma, behind_close, behind_open, behind_close_list, behind_bar, behind_colon, behind_neck, behind_at, digits_in_front, priority_in_front, relation_in_front, adding_in_front, multiplying_in_front, parted_by, series_at, rest_at, list_at, arguments_at, primary_at, part_at, grouped_by, product_at, sum_at, expression_at, inner_of, all_read, expression_tree, head_at, priority_at, goal_at, body_at, tests_of, behind_neck_at, clause_at, clause_tree}
+use Rattle.kl1_model.specs.laws.ReadLaws.{grouped_on, related_at}
+use Rattle.kl1_model.proofs.ReadRows.{adding_token, multiplying_token, rest_tokens, added_row, multiplied_row, list_row}
 
 -- an answer that came from going on after another
 pub then_read_some : {A B P : Type 0} (x : Answer A) (go : A → List Numbered → Option B) (b : B) → then_read x go ≡ Some b → ((a : A) (us : List Numbered) → x ≡ Some (a, us) → go a us ≡ Some b → P) → P
@@ -77,16 +79,16 @@ pub priority_is : (ts us : List Numbered) (quotes : Bool) → priority_in_front 
 priority_is (name_token word q true ∷ ts) us quotes h = priority_by word q ts (bytes_eq word (codes "priority")) refl us quotes h
 priority_is _ us quotes h = absurd (none-some (quotes, us) h)
 
-pub relation_is : (ts us : List Numbered) (r : Relation) → relation_in_front ts ≡ Some (r, us) → relation_token r ∷ us ≡ ts
-relation_is (sign_token Equals ∷ ts) us r h = answered (λ r us. relation_token r ∷ us) Equal r ts us h
-relation_is (sign_token Differs ∷ ts) us r h = answered (λ r us. relation_token r ∷ us) NotEqual r ts us h
-relation_is (sign_token Becomes ∷ ts) us r h = answered (λ r us. relation_token r ∷ us) Assign r ts us h
-relation_is (sign_token Under ∷ ts) us r h = answered (λ r us. relation_token r ∷ us) Less r ts us h
-relation_is (sign_token Over ∷ ts) us r h = answered (λ r us. relation_token r ∷ us) Greater r ts us h
-relation_is (sign_token NotOver ∷ ts) us r h = answered (λ r us. relation_token r ∷ us) AtMost r ts us h
-relation_is (sign_token NotUnder ∷ ts) us r h = answered (λ r us. relation_token r ∷ us) AtLeast r ts us h
-relation_is (sign_token SameValue ∷ ts) us r h = answered (λ r us. relation_token r ∷ us) SameNumber r ts us h
-relation_is (sign_token OtherValue ∷ ts) us r h = answered (λ r us. relation_token r ∷ us) OtherNumber r ts us h
+pub relation_is : (ts us : List Numbered) (r : Relation) → relation_in_front ts ≡ Some (r, us) → sign_token (relation_sign r) ∷ us ≡ ts
+relation_is (sign_token Equals ∷ ts) us r h = answered (λ r us. sign_token (relation_sign r) ∷ us) Equal r ts us h
+relation_is (sign_token Differs ∷ ts) us r h = answered (λ r us. sign_token (relation_sign r) ∷ us) NotEqual r ts us h
+relation_is (sign_token Becomes ∷ ts) us r h = answered (λ r us. sign_token (relation_sign r) ∷ us) Assign r ts us h
+relation_is (sign_token Under ∷ ts) us r h = answered (λ r us. sign_token (relation_sign r) ∷ us) Less r ts us h
+relation_is (sign_token Over ∷ ts) us r h = answered (λ r us. sign_token (relation_sign r) ∷ us) Greater r ts us h
+relation_is (sign_token NotOver ∷ ts) us r h = answered (λ r us. sign_token (relation_sign r) ∷ us) AtMost r ts us h
+relation_is (sign_token NotUnder ∷ ts) us r h = answered (λ r us. sign_token (relation_sign r) ∷ us) AtLeast r ts us h
+relation_is (sign_token SameValue ∷ ts) us r h = answered (λ r us. sign_token (relation_sign r) ∷ us) SameNumber r ts us h
+relation_is (sign_token OtherValue ∷ ts) us r h = answered (λ r us. sign_token (relation_sign r) ∷ us) OtherNumber r ts us h
 relation_is _ us r h = absurd (none-some (r, us) h)
 
 pub adding_is : (ts us : List Numbered) (o : Adding) → adding_in_front ts ≡ Some (o, us) → adding_token o ∷ us ≡ ts
@@ -132,15 +134,15 @@ IsSound inner = (ts : List Numbered) (e : Expression) (us : List Numbered) → i
 
 module _ (inner : Inner) (sound : IsSound inner) where
   -- a series that is read from tokens has them
-  pub series_sound : (m : ℕ) (ts : List Numbered) (s : Series) (us : List Numbered) → series_by inner m ts ≡ Some (s, us) → series_tokens s us ≡ ts
-  unfolding series_by
+  pub series_sound : (m : ℕ) (ts : List Numbered) (s : Series) (us : List Numbered) → parted_by inner last another m ts ≡ Some (s, us) → series_tokens s us ≡ ts
+  unfolding parted_by
   series_sound zero ts s us h = absurd (none-some (s, us) h)
   series_sound (suc m) ts s us h =
       then_read_some (inner ts) _ (s, us) h (λ e vs read after.
       if_there_some (behind_comma vs) _ _ (s, us) after
       (λ alone_is. answered series_tokens (last e) s vs us alone_is ∙ sound ts e vs read)
       (λ ws comma rest.
-      then_read_some (series_by inner m ws) _ (s, us) rest (λ t xs more_read is.
+      then_read_some (parted_by inner last another m ws) _ (s, us) rest (λ t xs more_read is.
       answered series_tokens (another e t) s xs us is
       ∙ ap (λ w. expression_tokens e (sign_token Comma ∷ w)) (series_sound m ws t xs more_read)
       ∙ ap (expression_tokens e) (comma_is vs ws comma)
@@ -164,6 +166,7 @@ module _ (inner : Inner) (sound : IsSound inner) where
       (λ not_empty. then_read_some (series_at inner ts) _ (p, us) not_empty (λ s vs read after.
       then_read_some (rest_at inner vs) _ (p, us) after (λ r ws rest is.
       answered primary_tokens (list s r) p ws us is
+      ∙ list_row s r ws
       ∙ ap (λ w. sign_token OpenList ∷ series_tokens s w) (rest_sound vs r ws rest)
       ∙ ap (λ w. sign_token OpenList ∷ w) (series_sound _ ts s vs read))))
       (λ vs end is. answered primary_tokens empty_list p vs us is ∙ ap (λ w. sign_token OpenList ∷ w) (close_list_is ts vs end))
@@ -182,10 +185,6 @@ module _ (inner : Inner) (sound : IsSound inner) where
   positive_sound n ts true p us h = answered primary_tokens (positive n) p ts us h
   positive_sound n ts false p us h = absurd (none-some (p, us) h)
 
-  negative_sound : (ts : List Numbered) (p : Primary) (us : List Numbered) → negative_at ts ≡ Some (p, us) → primary_tokens p us ≡ minus_token true ∷ ts
-  negative_sound (digits_token n ∷ ts) p us h = answered primary_tokens (negative n) p ts us h
-  negative_sound _ p us h = absurd (none-some (p, us) h)
-
   call_sound : (f : List ℕ) (quotes : Bool) (ts : List Numbered) (p : Primary) (us : List Numbered) → primary_at inner (name_token f quotes true ∷ ts) ≡ Some (p, us) → primary_tokens p us ≡ name_token f quotes true ∷ ts
   call_sound f quotes ts p us h =
       then_read_some (arguments_at inner ts) _ (p, us) h (λ s vs read is.
@@ -202,7 +201,7 @@ module _ (inner : Inner) (sound : IsSound inner) where
   pub primary_sound : (ts : List Numbered) (p : Primary) (us : List Numbered) → primary_at inner ts ≡ Some (p, us) → primary_tokens p us ≡ ts
   primary_sound (variable_token v ∷ ts) p us h = answered primary_tokens (numbered v) p ts us h
   primary_sound (digits_token n ∷ ts) p us h = positive_sound n ts (nat_lt n NUMBER_LIMIT) p us h
-  primary_sound (minus_token true ∷ ts) p us h = negative_sound ts p us h
+  primary_sound (minus_token true ∷ digits_token n ∷ ts) p us h = answered primary_tokens (negative n) p ts us h
   primary_sound (name_token a quotes false ∷ ts) p us h = answered primary_tokens (constant a quotes) p ts us h
   primary_sound (name_token f quotes true ∷ ts) p us h = call_sound f quotes ts p us h
   primary_sound (sign_token OpenList ∷ ts) p us h = list_sound ts p us h
@@ -223,13 +222,13 @@ module _ (inner : Inner) (sound : IsSound inner) where
   pub product_sound : (ts : List Numbered) (p : Product) (us : List Numbered) → product_at inner ts ≡ Some (p, us) → product_tokens p us ≡ ts
   product_sound ts p us h =
       then_read_some (part_at inner ts) _ (p, us) h (λ a vs read after.
-      grouped_sound multiplying_in_front (part_at inner) multiplied product_tokens multiplying_token part_tokens (λ p o q ts. refl) multiplying_is part_sound (suc (length vs)) (factor a) vs p us after
+      grouped_sound multiplying_in_front (part_at inner) multiplied product_tokens multiplying_token part_tokens multiplied_row multiplying_is part_sound (suc (length vs)) (factor a) vs p us after
       ∙ part_sound ts a vs read)
 
   pub sum_sound : (ts : List Numbered) (s : Sum) (us : List Numbered) → sum_at inner ts ≡ Some (s, us) → sum_tokens s us ≡ ts
   sum_sound ts s us h =
       then_read_some (product_at inner ts) _ (s, us) h (λ p vs read after.
-      grouped_sound adding_in_front (product_at inner) added sum_tokens adding_token product_tokens (λ s o p ts. refl) adding_is product_sound (suc (length vs)) (summand p) vs s us after
+      grouped_sound adding_in_front (product_at inner) added sum_tokens adding_token product_tokens added_row adding_is product_sound (suc (length vs)) (summand p) vs s us after
       ∙ product_sound ts p vs read)
 
   related_sound : (s : Sum) (ts : List Numbered) (x : Answer Relation) → x ≡ relation_in_front ts → (e : Expression) (us : List Numbered) → related_at inner s ts x ≡ Some (e, us) → expression_tokens e us ≡ sum_tokens s ts
@@ -237,7 +236,7 @@ module _ (inner : Inner) (sound : IsSound inner) where
   related_sound s ts (Some r) found e us h =
       then_read_some (sum_at inner r.1) _ (e, us) h (λ q vs read is.
       answered expression_tokens (related s r.0 q) e vs us is
-      ∙ ap (λ w. sum_tokens s (relation_token r.0 ∷ w)) (sum_sound r.1 q vs read)
+      ∙ ap (λ w. sum_tokens s (sign_token (relation_sign r.0) ∷ w)) (sum_sound r.1 q vs read)
       ∙ ap (sum_tokens s) (relation_is ts r.1 r.0 (sym found)))
 
   priority_sound : (e : Expression) (ts : List Numbered) (g : GoalTree) (us : List Numbered) → priority_at e ts ≡ Some (g, us) → goal_tokens g us ≡ expression_tokens e (sign_token At ∷ ts)
@@ -260,15 +259,15 @@ module _ (inner : Inner) (sound : IsSound inner) where
       (λ ws at rest. priority_sound e ws g us rest ∙ ap (expression_tokens e) (at_is vs ws at) ∙ sound ts e vs read))
 
   -- goals that are read from tokens have them
-  pub body_sound : (m : ℕ) (ts : List Numbered) (b : Body) (us : List Numbered) → body_by inner m ts ≡ Some (b, us) → body_tokens b us ≡ ts
-  unfolding body_by
+  pub body_sound : (m : ℕ) (ts : List Numbered) (b : Body) (us : List Numbered) → parted_by (goal_at inner) last_goal another_goal m ts ≡ Some (b, us) → body_tokens b us ≡ ts
+  unfolding parted_by
   body_sound zero ts b us h = absurd (none-some (b, us) h)
   body_sound (suc m) ts b us h =
       then_read_some (goal_at inner ts) _ (b, us) h (λ g vs read after.
       if_there_some (behind_comma vs) _ _ (b, us) after
       (λ alone_is. answered body_tokens (last_goal g) b vs us alone_is ∙ goal_sound ts g vs read)
       (λ ws comma rest.
-      then_read_some (body_by inner m ws) _ (b, us) rest (λ c xs more_read is.
+      then_read_some (parted_by (goal_at inner) last_goal another_goal m ws) _ (b, us) rest (λ c xs more_read is.
       answered body_tokens (another_goal g c) b xs us is
       ∙ ap (λ w. goal_tokens g (sign_token Comma ∷ w)) (body_sound m ws c xs more_read)
       ∙ ap (goal_tokens g) (comma_is vs ws comma)

@@ -3,10 +3,10 @@ use Rattle.std.specs.Prelude.{◌≡◌, ℕ, zero, suc, ◌≤◌, ◌<◌, tru
 use Rattle.std.proofs.Common.{refl, ap, sym, ◌∙◌, arith}
 use Rattle.kl1_model.specs.declared.sign.Sign.TheVariants.{Open, OpenList}
 use Rattle.kl1_model.specs.declared.relation.Relation.{Relation}
-use Rattle.kl1_model.specs.Token.{name_token, minus_token, sign_token}
-use Rattle.kl1_model.specs.Grammar.{Numbered, Adding, Multiplying, Expression, Sum, summand, added, Product, factor, multiplied, Part, Primary, Series, last, another, Head, GoalTree, Body, ClauseTree, guarded}
-use Rattle.kl1_model.specs.Reader.{Answer, Inner, then_read, then_skip, if_there, behind_comma, behind_open, behind_close_list, behind_bar, behind_colon, behind_neck, relation_in_front, adding_in_front, multiplying_in_front, series_by, series_at, rest_at, list_at, arguments_at, primary_at, part_at, grouped_on, grouped_by, grouped_at, product_at, sum_at, related_at, expression_at, inner_of, all_read, head_at, goal_at, body_by, body_at, tests_of, behind_neck_at, clause_at, clause_tree}
-use Rattle.kl1_model.specs.laws.ReadLaws.{whole_expression, SumsGoOn, ProductsGoOn, BodiesGoOn}
+use Rattle.kl1_model.specs.Token.{name_token, digits_token, minus_token, sign_token}
+use Rattle.kl1_model.specs.Grammar.{Numbered, Adding, Multiplying, Expression, Sum, summand, added, Product, factor, multiplied, Part, Primary, Series, last, another, Head, GoalTree, Body, last_goal, another_goal, ClauseTree, guarded}
+use Rattle.kl1_model.specs.reader.Reader.{Answer, Inner, then_read, then_skip, if_there, behind_comma, behind_open, behind_close_list, behind_bar, behind_colon, behind_neck, relation_in_front, adding_in_front, multiplying_in_front, parted_by, series_at, rest_at, list_at, arguments_at, primary_at, part_at, grouped_by, grouped_at, product_at, sum_at, expression_at, inner_of, all_read, head_at, goal_at, body_at, tests_of, behind_neck_at, clause_at, clause_tree}
+use Rattle.kl1_model.specs.laws.ReadLaws.{whole_expression, grouped_on, related_at, SumsGoOn, ProductsGoOn, BodiesGoOn}
 use Rattle.kl1_model.proofs.ReadSound.{IsSound, comma_is, bar_is, open_is, colon_is, neck_is, relation_is, adding_is, multiplying_is, series_sound, primary_sound, part_sound, product_sound, sum_sound, goal_sound, body_sound, head_sound, expressions_sound}
 use Rattle.kl1_model.proofs.ReadComplete.{steps_of_few, sum_steps_few, product_steps_few, part_steps_few, primary_steps_few, series_steps_few, some_steps, head_steps_few, goal_steps_few, body_steps_few, some_goal_steps}
 
@@ -41,7 +41,7 @@ behind_sum inner sound ts us s read = omega (arith, ap (length {A = Numbered}) (
 behind_goal : (inner : Inner) → IsSound inner → (ts us : List Numbered) (g : GoalTree) → goal_at inner ts ≡ Some (g, us) → length us < length ts
 behind_goal inner sound ts us g read = omega (arith, ap (length {A = Numbered}) (goal_sound inner sound ts g us read), goal_steps_few g us, some_goal_steps g)
 
-behind_body : (inner : Inner) → IsSound inner → (m : ℕ) (ts us : List Numbered) (b : Body) → body_by inner m ts ≡ Some (b, us) → length us ≤ length ts
+behind_body : (inner : Inner) → IsSound inner → (m : ℕ) (ts us : List Numbered) (b : Body) → parted_by (goal_at inner) last_goal another_goal m ts ≡ Some (b, us) → length us ≤ length ts
 behind_body inner sound m ts us b read = omega (arith, ap (length {A = Numbered}) (body_sound inner sound m ts b us read), body_steps_few b us)
 
 adding_less : (ts us : List Numbered) (o : Adding) → adding_in_front ts ≡ Some (o, us) → length us < length ts
@@ -50,7 +50,7 @@ adding_less ts us o h = omega (arith, ap (length {A = Numbered}) (adding_is ts u
 multiplying_less : (ts us : List Numbered) (o : Multiplying) → multiplying_in_front ts ≡ Some (o, us) → length us < length ts
 multiplying_less ts us o h = omega (arith, ap (length {A = Numbered}) (multiplying_is ts us o h))
 
-behind_series : (inner : Inner) → IsSound inner → (m : ℕ) (ts us : List Numbered) (s : Series) → series_by inner m ts ≡ Some (s, us) → length us ≤ length ts
+behind_series : (inner : Inner) → IsSound inner → (m : ℕ) (ts us : List Numbered) (s : Series) → parted_by inner last another m ts ≡ Some (s, us) → length us ≤ length ts
 behind_series inner sound m ts us s read = omega (arith, ap (length {A = Numbered}) (series_sound inner sound m ts s us read), series_steps_few s us)
 
 behind_head : (inner : Inner) → IsSound inner → (ts us : List Numbered) (h : Head) → head_at inner ts ≡ Some (h, us) → length us ≤ length ts
@@ -96,13 +96,13 @@ module _ {S O A : Type 0} (operator : List Numbered → Answer O) (operand : Lis
 
 -- two ways to read inner expressions that agree on fewer than `most` tokens
 module _ (f g : Inner) (sound : IsSound f) (most : ℕ) (same : (ts : List Numbered) → length ts < most → f ts ≡ g ts) where
-  series_same : (m : ℕ) (ts : List Numbered) → length ts < most → series_by f m ts ≡ series_by g m ts
-  unfolding series_by
+  series_same : (m : ℕ) (ts : List Numbered) → length ts < most → parted_by f last another m ts ≡ parted_by g last another m ts
+  unfolding parted_by
   series_same zero ts less = refl
   series_same (suc m) ts less =
       then_read_same (f ts) (g ts) _ _ (same ts less) (λ e us read.
       if_there_same (behind_comma us) _ _ _ _ refl (λ vs comma.
-      then_read_same (series_by f m vs) (series_by g m vs) _ _
+      then_read_same (parted_by f last another m vs) (parted_by g last another m vs) _ _
       (series_same m vs (omega (arith, behind_expression f sound ts us e read, ap (length {A = Numbered}) (comma_is us vs comma))))
       (λ s ws more_read. refl)))
 
@@ -125,7 +125,7 @@ module _ (f g : Inner) (sound : IsSound f) (most : ℕ) (same : (ts : List Numbe
 
   primary_same : (ts : List Numbered) → length ts ≤ most → primary_at f ts ≡ primary_at g ts
   primary_same (name_token p quotes true ∷ ts) within = then_read_same (arguments_at f ts) (arguments_at g ts) _ _ (arguments_same ts (omega arith)) (λ s us read. refl)
-  primary_same (minus_token true ∷ ts) within = refl
+  primary_same (minus_token true ∷ digits_token n ∷ ts) within = refl
   primary_same (sign_token OpenList ∷ ts) within = list_same ts within
   primary_same (sign_token Open ∷ ts) within = then_read_same (f ts) (g ts) _ _ (same ts within) (λ e us read. refl)
   primary_same _ within = refl
@@ -161,13 +161,13 @@ module _ (f g : Inner) (sound : IsSound f) (most : ℕ) (same : (ts : List Numbe
   goal_same : (ts : List Numbered) → length ts < most → goal_at f ts ≡ goal_at g ts
   goal_same ts less = then_read_same (f ts) (g ts) _ _ (same ts less) (λ e us read. refl)
 
-  body_same : (m : ℕ) (ts : List Numbered) → length ts < most → body_by f m ts ≡ body_by g m ts
-  unfolding body_by
+  body_same : (m : ℕ) (ts : List Numbered) → length ts < most → parted_by (goal_at f) last_goal another_goal m ts ≡ parted_by (goal_at g) last_goal another_goal m ts
+  unfolding parted_by
   body_same zero ts less = refl
   body_same (suc m) ts less =
       then_read_same (goal_at f ts) (goal_at g ts) _ _ (goal_same ts less) (λ e us read.
       if_there_same (behind_comma us) _ _ _ _ refl (λ vs comma.
-      then_read_same (body_by f m vs) (body_by g m vs) _ _
+      then_read_same (parted_by (goal_at f) last_goal another_goal m vs) (parted_by (goal_at g) last_goal another_goal m vs) _ _
       (body_same m vs (omega (arith, behind_goal f sound ts us e read, ap (length {A = Numbered}) (comma_is us vs comma))))
       (λ s ws more_read. refl)))
 
@@ -227,8 +227,8 @@ pub products_go_on : ProductsGoOn
 products_go_on p ts = grouped_goes_on multiplying_in_front (part_at whole_expression) multiplied multiplying_less (λ vs ws q read. behind_part whole_expression whole_sound vs ws q read) p ts
 
 -- more steps than tokens read the same series
-series_enough : (m n : ℕ) (ts : List Numbered) → length ts < m → length ts < n → series_by whole_expression m ts ≡ series_by whole_expression n ts
-unfolding series_by
+series_enough : (m n : ℕ) (ts : List Numbered) → length ts < m → length ts < n → parted_by whole_expression last another m ts ≡ parted_by whole_expression last another n ts
+unfolding parted_by
 series_enough zero n ts h j = absurd (omega arith)
 series_enough (suc m) zero ts h j = absurd (omega arith)
 series_enough (suc m) (suc n) ts h j =
@@ -236,21 +236,21 @@ series_enough (suc m) (suc n) ts h j =
     if_there_same (behind_comma us) _ _ _ _ refl (λ vs comma.
     let less = expressions_leave_less ts e us read in
     let one = ap (length {A = Numbered}) (comma_is us vs comma) in
-    then_read_same (series_by whole_expression m vs) (series_by whole_expression n vs) _ _ (series_enough m n vs (omega arith) (omega arith)) (λ s ws more_read. refl)))
+    then_read_same (parted_by whole_expression last another m vs) (parted_by whole_expression last another n vs) _ _ (series_enough m n vs (omega arith) (omega arith)) (λ s ws more_read. refl)))
 
 -- a series is its first expression and, after a comma, another series
 pub series_go_on : (ts : List Numbered) → series_at whole_expression ts ≡ then_read (whole_expression ts) (λ e us. if_there (behind_comma us) (Some (last e, us)) (λ vs. then_read (series_at whole_expression vs) (λ s ws. Some (another e s, ws))))
-unfolding series_by
+unfolding parted_by
 series_go_on ts =
     then_read_same (whole_expression ts) (whole_expression ts) _ _ refl (λ e us read.
     if_there_same (behind_comma us) _ _ _ _ refl (λ vs comma.
     let less = expressions_leave_less ts e us read in
     let one = ap (length {A = Numbered}) (comma_is us vs comma) in
-    then_read_same (series_by whole_expression (length ts) vs) (series_at whole_expression vs) _ _ (series_enough (length ts) (suc (length vs)) vs (omega arith) (omega arith)) (λ s ws more_read. refl)))
+    then_read_same (parted_by whole_expression last another (length ts) vs) (series_at whole_expression vs) _ _ (series_enough (length ts) (suc (length vs)) vs (omega arith) (omega arith)) (λ s ws more_read. refl)))
 
 -- more steps than tokens read the same body
-body_enough : (m n : ℕ) (ts : List Numbered) → length ts < m → length ts < n → body_by whole_expression m ts ≡ body_by whole_expression n ts
-unfolding body_by
+body_enough : (m n : ℕ) (ts : List Numbered) → length ts < m → length ts < n → parted_by (goal_at whole_expression) last_goal another_goal m ts ≡ parted_by (goal_at whole_expression) last_goal another_goal n ts
+unfolding parted_by
 body_enough zero n ts h j = absurd (omega arith)
 body_enough (suc m) zero ts h j = absurd (omega arith)
 body_enough (suc m) (suc n) ts h j =
@@ -258,17 +258,17 @@ body_enough (suc m) (suc n) ts h j =
     if_there_same (behind_comma us) _ _ _ _ refl (λ vs comma.
     let less = behind_goal whole_expression whole_sound ts us g read in
     let one = ap (length {A = Numbered}) (comma_is us vs comma) in
-    then_read_same (body_by whole_expression m vs) (body_by whole_expression n vs) _ _ (body_enough m n vs (omega arith) (omega arith)) (λ b ws more_read. refl)))
+    then_read_same (parted_by (goal_at whole_expression) last_goal another_goal m vs) (parted_by (goal_at whole_expression) last_goal another_goal n vs) _ _ (body_enough m n vs (omega arith) (omega arith)) (λ b ws more_read. refl)))
 
 -- a body is its first goal and, after a comma, another body
 pub bodies_go_on : BodiesGoOn
-unfolding body_by
+unfolding parted_by
 bodies_go_on ts =
     then_read_same (goal_at whole_expression ts) (goal_at whole_expression ts) _ _ refl (λ g us read.
     if_there_same (behind_comma us) _ _ _ _ refl (λ vs comma.
     let less = behind_goal whole_expression whole_sound ts us g read in
     let one = ap (length {A = Numbered}) (comma_is us vs comma) in
-    then_read_same (body_by whole_expression (length ts) vs) (body_at whole_expression vs) _ _ (body_enough (length ts) (suc (length vs)) vs (omega arith) (omega arith)) (λ b ws more_read. refl)))
+    then_read_same (parted_by (goal_at whole_expression) last_goal another_goal (length ts) vs) (body_at whole_expression vs) _ _ (body_enough (length ts) (suc (length vs)) vs (omega arith) (omega arith)) (λ b ws more_read. refl)))
 
 -- a clause is read with whole expressions inside it
 pub clauses_go_on : (ts : List Numbered) → clause_tree ts ≡ all_read (clause_at whole_expression ts)

@@ -9,7 +9,6 @@ pub mod Arithmetic
 pub mod Guard
 pub mod Token
 pub mod Grammar
-pub mod Reader
 pub mod Numbering
 pub mod Meaning
 pub mod Goal
@@ -34,5 +33,6 @@ pub mod Step
 pub mod Line
 pub mod Record
 pub mod AccountName
+pub mod reader
 pub mod code
 pub mod laws

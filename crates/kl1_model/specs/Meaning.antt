@@ -3,9 +3,8 @@ use Rattle.std.specs.Prelude.{ℕ, suc, max, nat_le, nat_lt, ◌&&◌, Bool, tru
 use Rattle.kl1_model.specs.declared.limits.TheConstants.{MOST_DEPTH, MOST_ARGUMENTS, NUMBER_LIMIT}
 use Rattle.kl1_model.specs.Text.{is_text}
 use Rattle.kl1_model.specs.Term.{Term, variable, integer, atom, structure, Terms, none, more, count_of}
-use Rattle.kl1_model.specs.declared.relation.Relation.{Relation}
 use Rattle.kl1_model.specs.Token.{spelling_of}
-use Rattle.kl1_model.specs.Grammar.{relation_sign, Adding, by_plus, by_minus, Multiplying, by_star, by_slash, by_mod, Expression, alone, related, Sum, summand, added, Product, factor, multiplied, Part, single, qualified, Primary, numbered, positive, negative, constant, call, empty_list, list, group, Series, last, another, Rest, closed, tail, Head, bare_head, head_with}
+use Rattle.kl1_model.specs.Grammar.{relation_sign, by_plus, by_minus, by_star, by_slash, by_mod, Expression, alone, related, Sum, summand, added, Product, factor, multiplied, Part, single, qualified, Primary, numbered, positive, negative, constant, call, empty_list, list, group, Series, last, another, closed, tail, Head, bare_head, head_with}
 
 -- a structure of two arguments
 abbrev pub pair : List ℕ → Term → Term → Term
@@ -19,21 +18,6 @@ nil = atom (codes "[]")
 abbrev pub cell : Term → Term → Term
 cell h t = pair (codes ".") h t
 
--- the name of a relation
-abbrev pub relation_name : Relation → List ℕ
-relation_name r = spelling_of (relation_sign r)
-
--- the name of an operator of sums
-abbrev pub adding_name : Adding → List ℕ
-adding_name by_plus = codes "+"
-adding_name (by_minus digit) = codes "-"
-
--- the name of an operator of products
-abbrev pub multiplying_name : Multiplying → List ℕ
-multiplying_name by_star = codes "*"
-multiplying_name by_slash = codes "/"
-multiplying_name (by_mod applied) = codes "mod"
-
 -- cells for the elements, the last with this after it
 abbrev pub cells : Terms → Term → Term
 cells none t = t
@@ -43,15 +27,18 @@ cells (more e es) t = cell e (cells es t)
 abbrev mutual
   pub expression_term : Expression → Term
   expression_term (alone s) = sum_term s
-  expression_term (related s r q) = pair (relation_name r) (sum_term s) (sum_term q)
+  expression_term (related s r q) = pair (spelling_of (relation_sign r)) (sum_term s) (sum_term q)
 
   pub sum_term : Sum → Term
   sum_term (summand p) = product_term p
-  sum_term (added s o p) = pair (adding_name o) (sum_term s) (product_term p)
+  sum_term (added s by_plus p) = pair (codes "+") (sum_term s) (product_term p)
+  sum_term (added s (by_minus digit) p) = pair (codes "-") (sum_term s) (product_term p)
 
   pub product_term : Product → Term
   product_term (factor p) = part_term p
-  product_term (multiplied p o q) = pair (multiplying_name o) (product_term p) (part_term q)
+  product_term (multiplied p by_star q) = pair (codes "*") (product_term p) (part_term q)
+  product_term (multiplied p by_slash q) = pair (codes "/") (product_term p) (part_term q)
+  product_term (multiplied p (by_mod applied) q) = pair (codes "mod") (product_term p) (part_term q)
 
   pub part_term : Part → Term
   part_term (single p) = primary_term p
@@ -64,16 +51,13 @@ abbrev mutual
   primary_term (constant a quotes) = atom a
   primary_term (call f quotes s) = structure f (series_terms s)
   primary_term empty_list = nil
-  primary_term (list s r) = cells (series_terms s) (rest_term r)
+  primary_term (list s closed) = cells (series_terms s) nil
+  primary_term (list s (tail e)) = cells (series_terms s) (expression_term e)
   primary_term (group e) = expression_term e
 
   pub series_terms : Series → Terms
   series_terms (last e) = more (expression_term e) none
   series_terms (another e s) = more (expression_term e) (series_terms s)
-
-  pub rest_term : Rest → Term
-  rest_term closed = nil
-  rest_term (tail e) = expression_term e
 
 -- a head as a term
 abbrev pub head_term : Head → Term
@@ -97,8 +81,7 @@ cell_depth h t = record { whole = suc (max h.whole t.rest); rest = max h.whole t
 abbrev pub pair_depth : List ℕ → Depth → Depth → Depth
 pair_depth f a b = if bytes_eq f (codes ".") then cell_depth a b else flat (suc (max a.whole b.whole))
 
--- the depth: 1 for a constant or variable, 1 more than the deepest argument for a structure;
--- a list is 1 deeper than the deepest of its elements and its last tail
+-- 1 for a constant or variable, 1 more than the deepest argument for a structure; a list is 1 deeper than its elements and last tail
 abbrev mutual
   pub depths : Term → Depth
   depths (variable n) = flat 1

@@ -7,7 +7,7 @@ use Rattle.kl1_model.specs.Term.{Term, atom, Terms, none, list_of, count_of}
 use Rattle.kl1_model.specs.Token.{Token, name_token, sign_token, end_token, Placed, Tokens, tokens_of_text}
 use Rattle.kl1_model.specs.Grammar.{Head, bare_head, head_with, GoalTree, plain_goal, urgent_goal, Body, last_goal, another_goal, ClauseTree, fact, rule, guarded}
 use Rattle.kl1_model.specs.Numbering.{numbered_tokens}
-use Rattle.kl1_model.specs.Reader.{expression_tree, clause_tree}
+use Rattle.kl1_model.specs.reader.Reader.{expression_tree, clause_tree}
 use Rattle.kl1_model.specs.Meaning.{expression_term, series_terms, head_term, is_writable, variables_of, variables_in}
 use Rattle.kl1_model.specs.Goal.{is_head, is_test, is_built_in_goal, is_goal, body_goal}
 

@@ -7,9 +7,7 @@ use Rattle.kl1_model.specs.declared.sign.Sign.TheVariants.{Neck, Becomes, SameVa
 use Rattle.kl1_model.specs.Text.{is_name_byte}
 use Rattle.kl1_model.specs.Name.{is_small_letter, is_word_byte}
 
--- a token; a variable is known by V, its spelling at first and then its number
--- a name with its text, whether it stood in quotes, and whether a `(` stands directly after it
--- digits with their value, `-` with whether a digit stands directly after it, a sign, or the end of an item
+-- a token: names tell if they are in quotes and if `(` is next, `-` if a digit is next; V is a variable's spelling, or its number
 pub data Token (V : Type 0) : Type 0 where
   name_token : List ℕ → Bool → Bool → Token V
   variable_token : V → Token V
@@ -58,13 +56,13 @@ behind_digits (b ∷ bs) = elim (is_digit b) [ true ↦ behind_digits bs | false
 abbrev pub number_of : List ℕ → ℕ
 number_of digits = fold (λ n b. 10 * n + (b - 48)) 0 digits
 
--- the text between quotes of which these bytes have been seen, and what is after it, or none if no quote ends it;
--- the flag tells whether the last byte was a quote, which ends the text unless another one follows
+-- the text in quotes that begins with `text`, and what is after it; `true` if the last byte was a quote, the end unless one more follows
 abbrev pub quoted_from : Bool → List ℕ → List ℕ → Option (List ℕ × List ℕ)
 quoted_from true text [] = Some (text, [])
 quoted_from false text [] = None
 quoted_from true text (b ∷ bs) = elim (b == 39) [ true ↦ quoted_from false (text ++ b ∷ []) bs | false ↦ Some (text, b ∷ bs) ]
-quoted_from false text (b ∷ bs) = elim (b == 39) [ true ↦ quoted_from true text bs | false ↦ elim (is_name_byte b) [ true ↦ quoted_from false (text ++ b ∷ []) bs | false ↦ None ] ]
+quoted_from false text (b ∷ bs) =
+    elim (b == 39) [ true ↦ quoted_from true text bs | false ↦ elim (is_name_byte b) [ true ↦ quoted_from false (text ++ b ∷ []) bs | false ↦ None ] ]
 
 -- what is after a comment, from the end of its line; none if it holds a byte that no text may hold
 abbrev pub behind_comment : List ℕ → Option (List ℕ)
@@ -97,14 +95,15 @@ spelling_of CloseList = codes "]"
 
 -- all signs, longer ones before those that they begin with
 abbrev pub signs : List Sign
-signs = Neck ∷ Becomes ∷ SameValue ∷ OtherValue ∷ NotOver ∷ Differs ∷ NotUnder ∷ Colon ∷ Equals ∷ Under ∷ Over ∷ Plus ∷ Star ∷ Slash ∷ At ∷ Bar ∷ Comma ∷ Open ∷ Close ∷ OpenList ∷ CloseList ∷ []
+signs =
+    Neck ∷ Becomes ∷ SameValue ∷ OtherValue ∷ NotOver ∷ Differs ∷ NotUnder ∷ Colon ∷ Equals ∷ Under ∷ Over ∷ Plus ∷ Star ∷ Slash
+    ∷ At ∷ Bar ∷ Comma ∷ Open ∷ Close ∷ OpenList ∷ CloseList ∷ []
 
 -- the longest sign at the front of a text
 abbrev pub sign_at : List ℕ → Option Sign
 sign_at bs = find (λ s. starts_with nat_eq bs (spelling_of s)) signs
 
--- what stands at the front of a text: nothing, something that is no token, the end of a line, another blank or a comment,
--- or a token; with what is after
+-- what is at the front of a text: nothing, no token, a line's end, another blank or a comment, or a token; with what is after it
 pub data Front : Type 0 where
   finished : Front
   broken : Front
@@ -125,74 +124,29 @@ bounded most text t rest = if nat_le (length text) most then token t rest else b
 abbrev pub name_front : Bool → List ℕ → List ℕ → Front
 name_front quotes text rest = bounded MOST_NAME_BYTES text (name_token text quotes (first_is (λ b. b == 40) rest)) rest
 
--- a name in quotes, if a quote ends it
-abbrev pub quoted_front : Option (List ℕ × List ℕ) → Front
-quoted_front None = broken
-quoted_front (Some q) = name_front true q.0 q.1
-
 -- digits are at most 2 ^ 63, which only a negative integer reaches
 abbrev pub digits_front : ℕ → List ℕ → Front
 digits_front n rest = if nat_le n NUMBER_LIMIT then token (digits_token n) rest else broken
-
--- a comment, if it holds no byte that no text may hold
-abbrev pub comment_front : Option (List ℕ) → Front
-comment_front None = broken
-comment_front (Some rest) = blank rest
 
 -- a dot ends an item before a blank, a comment or the end of the text, and is nothing elsewhere
 abbrev pub dot_front : List ℕ → Front
 dot_front [] = token end_token []
 dot_front (b ∷ bs) = if is_blank b || b == 37 then token end_token (b ∷ bs) else broken
 
--- a sign, if one is in front
-abbrev pub sign_front : Option Sign → List ℕ → Front
-sign_front None bs = broken
-sign_front (Some s) bs = token (sign_token s) (drop (length (spelling_of s)) bs)
-
--- what a byte begins
-pub data Start : Type 0 where
-  ends_line : Start
-  blanks : Start
-  comments : Start
-  names : Start
-  variables : Start
-  numbers : Start
-  quotes : Start
-  dots : Start
-  subtracts : Start
-  signs_or_nothing : Start
-
--- what a byte begins, if a token may begin
-abbrev pub start_of : ℕ → Start
-start_of b =
-    if b == 10 then ends_line
-    else if is_blank b then blanks
-    else if b == 37 then comments
-    else if is_small_letter b then names
-    else if is_variable_start b then variables
-    else if is_digit b then numbers
-    else if b == 39 then quotes
-    else if b == 46 then dots
-    else if b == 45 then subtracts
-    else signs_or_nothing
-
--- what stands at the front of a text that begins with this byte
-abbrev pub front_by : Start → ℕ → List ℕ → Front
-front_by ends_line b bs = line_end bs
-front_by blanks b bs = blank bs
-front_by comments b bs = comment_front (behind_comment bs)
-front_by names b bs = name_front false (b ∷ word_of bs) (behind_word bs)
-front_by variables b bs = bounded MOST_VARIABLE_BYTES (b ∷ word_of bs) (variable_token (b ∷ word_of bs)) (behind_word bs)
-front_by numbers b bs = digits_front (number_of (b ∷ digits_of bs)) (behind_digits bs)
-front_by quotes b bs = quoted_front (quoted_from false [] bs)
-front_by dots b bs = dot_front bs
-front_by subtracts b bs = token (minus_token (first_is is_digit bs)) bs
-front_by signs_or_nothing b bs = sign_front (sign_at (b ∷ bs)) (b ∷ bs)
-
 -- what stands at the front of a text
 abbrev pub front_of : List ℕ → Front
 front_of [] = finished
-front_of (b ∷ bs) = front_by (start_of b) b bs
+front_of (b ∷ bs) =
+    if b == 10 then line_end bs
+    else if is_blank b then blank bs
+    else if b == 37 then elim (behind_comment bs) [ None ↦ broken | Some rest ↦ blank rest ]
+    else if is_small_letter b then name_front false (b ∷ word_of bs) (behind_word bs)
+    else if is_variable_start b then bounded MOST_VARIABLE_BYTES (b ∷ word_of bs) (variable_token (b ∷ word_of bs)) (behind_word bs)
+    else if is_digit b then digits_front (number_of (b ∷ digits_of bs)) (behind_digits bs)
+    else if b == 39 then elim (quoted_from false [] bs) [ None ↦ broken | Some q ↦ name_front true q.0 q.1 ]
+    else if b == 46 then dot_front bs
+    else if b == 45 then token (minus_token (first_is is_digit bs)) bs
+    else elim (sign_at (b ∷ bs)) [ None ↦ broken | Some s ↦ token (sign_token s) (drop (length (spelling_of s)) (b ∷ bs)) ]
 
 -- a token with the line on which it begins, from 1
 pub record Placed : Type 0 where
@@ -204,17 +158,15 @@ pub record Tokens : Type 0 where
   pub placed : List Placed
   pub broken_at : Option ℕ
 
--- one more token in front
-abbrev pub token_first : Placed → Tokens → Tokens
-token_first p ts = record { placed = p ∷ ts.placed; broken_at = ts.broken_at }
-
 -- the tokens of a text, by what stands in front of it
 abbrev pub tokens_by : (ℕ → List ℕ → Tokens) → ℕ → Front → Tokens
 tokens_by next line finished = record { placed = []; broken_at = None }
 tokens_by next line broken = record { placed = []; broken_at = Some line }
 tokens_by next line (line_end rest) = next (suc line) rest
 tokens_by next line (blank rest) = next line rest
-tokens_by next line (token t rest) = token_first (record { line = line; token = t }) (next line rest)
+tokens_by next line (token t rest) =
+    let after = next line rest in
+    record { placed = record { line = line; token = t } ∷ after.placed; broken_at = after.broken_at }
 
 -- the tokens of a text whose first byte is on this line, in at most `n` fronts; a text has no more fronts than bytes and one
 unfoldable pub tokens_within : ℕ → ℕ → List ℕ → Tokens

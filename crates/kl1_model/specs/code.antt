@@ -5,3 +5,4 @@ pub mod TermCode
 pub mod Awaited
 pub mod Steps
 pub mod Sections
+pub mod Fronts

@@ -9,9 +9,11 @@ use Rattle.kl1_model.specs.declared.limits.TheConstants.{MOST_NAME_BYTES, MOST_V
 use Rattle.kl1_model.specs.declared.sign.Sign.TheVariants.{Colon}
 use Rattle.kl1_model.specs.Text.{is_name_byte, is_text}
 use Rattle.kl1_model.specs.Name.{is_small_letter, is_word_byte, is_bare, doubled, quoted, name_text}
-use Rattle.kl1_model.specs.Token.{Token, name_token, variable_token, digits_token, minus_token, sign_token, end_token, broken, token, is_digit, first_is, behind_word, behind_digits, number_of, quoted_from, quoted_front, bounded, name_front, digits_front, front_by, front_of, Placed, token_first, tokens_by}
+use Rattle.kl1_model.specs.Token.{Token, name_token, variable_token, digits_token, minus_token, sign_token, end_token, broken, token, is_digit, first_is, behind_word, behind_digits, number_of, quoted_from, bounded, name_front, digits_front, front_of, Placed, Tokens, tokens_by}
 use Rattle.kl1_model.specs.Grammar.{Numbered}
+use Rattle.kl1_model.specs.code.Fronts.{quoted_front}
 use Rattle.kl1_model.specs.laws.ReadLaws.{tokens_at}
+use Rattle.kl1_model.proofs.LexStarts.{front_by, front_starts}
 use Rattle.kl1_model.proofs.LexSteps.{tokens_go_on}
 use Rattle.kl1_model_history.proofs.LexWords.{word_stops, behind_word_is, digits_stop, behind_digits_is, digits_are_words, letter_begins, digit_begins, Writes, decimal_writes}
 
@@ -47,7 +49,7 @@ lexes_nothing = record { are = tokens_go_on 1 [] }
 -- one more token in front
 pub lexes_token : {bs rest : List ℕ} (t : Token ℕ) {ts : List Numbered} → front_of bs ≡ token (spelled_token t) rest → Lexes rest ts → Lexes bs (t ∷ ts)
 lexes_token {bs = bs} t front behind =
-    record { are = tokens_go_on 1 bs ∙ ap (tokens_by tokens_at 1) front ∙ ap (token_first (on_first_line (spelled_token t))) behind.are }
+    record { are = tokens_go_on 1 bs ∙ ap (tokens_by tokens_at 1) front ∙ ap (λ (after : Tokens). record { placed = on_first_line (spelled_token t) ∷ after.placed; broken_at = after.broken_at }) behind.are }
 
 -- what may follow a printed term: no byte of a word, no quote and no parenthesis that opens
 pub record Calm (bs : List ℕ) : Type 0 where
@@ -63,7 +65,8 @@ bare_front : (f rest : List ℕ) → is_bare f ≡ true → nat_le (length f) MO
 bare_front [] rest bare short none = cc
 bare_front (b ∷ bs) rest bare short none =
     let both = and_parts (is_small_letter b) (list_all is_word_byte bs) bare in
-    ap (λ s. front_by s b (bs ++ rest)) (letter_begins b both.0)
+    sym (front_starts b (bs ++ rest))
+    ∙ ap (λ s. front_by s b (bs ++ rest)) (letter_begins b both.0)
     ∙ ap (λ w. name_front false (b ∷ w) (behind_word (bs ++ rest))) (word_stops bs rest both.1 none)
     ∙ ap (name_front false (b ∷ bs)) (behind_word_is bs rest both.1 none)
     ∙ short_front false (b ∷ bs) rest short
@@ -119,7 +122,8 @@ digits_in_front : (n : ℕ) (ds rest : List ℕ) → Writes n ds → nat_le n NU
 digits_in_front n [] rest writes few none = absurd (omega (arith, writes.some))
 digits_in_front n (d ∷ ds) rest writes few none =
     let both = and_parts (is_digit d) (list_all is_digit ds) writes.digits in
-    ap (λ s. front_by s d (ds ++ rest)) (digit_begins d both.0)
+    sym (front_starts d (ds ++ rest))
+    ∙ ap (λ s. front_by s d (ds ++ rest)) (digit_begins d both.0)
     ∙ ap (λ w. digits_front (number_of (d ∷ w)) (behind_digits (ds ++ rest))) (digits_stop ds rest both.1 none)
     ∙ ap (λ w. digits_front (number_of (d ∷ ds)) w) (behind_digits_is ds rest both.1 none)
     ∙ ap (λ m. digits_front m rest) writes.value

@@ -7,7 +7,8 @@ use Rattle.std.proofs.lemmas.List.{length-append}
 use Rattle.std.proofs.lemmas.List.Folds.{list_all-append}
 use Rattle.std.proofs.lemmas.Fmt.{decimal_by_steps}
 use Rattle.kl1_model.specs.Name.{is_small_letter, is_word_byte}
-use Rattle.kl1_model.specs.Token.{Start, names, numbers, is_digit, first_is, word_of, behind_word, digits_of, behind_digits, number_of, start_of}
+use Rattle.kl1_model.specs.Token.{is_digit, first_is, word_of, behind_word, digits_of, behind_digits, number_of}
+use Rattle.kl1_model.proofs.LexStarts.{Start, names, numbers, start_of}
 
 -- a word goes to the first byte that is none of a word
 pub word_stops : (ws rest : List ℕ) → list_all is_word_byte ws ≡ true → first_is is_word_byte rest ≡ false → word_of (ws ++ rest) ≡ ws

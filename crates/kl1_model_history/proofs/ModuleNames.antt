@@ -10,7 +10,7 @@ use Rattle.kl1_model.specs.Text.{is_text}
 use Rattle.kl1_model.specs.Term.{Term, atom, count_of, list_of, terms_of}
 use Rattle.kl1_model.specs.Token.{Token, tokens_of_text}
 use Rattle.kl1_model.specs.Grammar.{Head, bare_head, head_with, GoalTree, plain_goal, urgent_goal, ClauseTree, fact, rule, guarded}
-use Rattle.kl1_model.specs.Reader.{clause_tree}
+use Rattle.kl1_model.specs.reader.Reader.{clause_tree}
 use Rattle.kl1_model.specs.Numbering.{numbered_tokens}
 use Rattle.kl1_model.specs.Meaning.{pair, expression_term, series_terms, head_term, depth, is_narrow, are_narrow, is_writable, variables_in}
 use Rattle.kl1_model.specs.Goal.{is_head, is_test, is_goal, body_goal}

@@ -11,9 +11,10 @@ use Rattle.kl1_model.specs.Text.{is_text}
 use Rattle.kl1_model.specs.Name.{is_bare, name_text, atom_text}
 use Rattle.kl1_model.specs.Term.{Term, variable, integer, atom, structure, Terms, none, more}
 use Rattle.kl1_model.specs.Token.{sign_token}
-use Rattle.kl1_model.specs.Grammar.{Numbered, Part, single, numbered, positive, negative, constant, call, Series, part_tokens, primary_tokens, series_tokens, rest_tokens}
+use Rattle.kl1_model.specs.Grammar.{Numbered, Part, single, numbered, positive, negative, constant, call, Series, part_tokens, primary_tokens, series_tokens}
 use Rattle.kl1_model.specs.Meaning.{cell, is_word}
 use Rattle.kl1_model.specs.Print.{Printed, plain, printed_atom, commas, call_text, printed_cell, printed, printed_each}
+use Rattle.kl1_model.proofs.ReadRows.{rest_tokens, list_row}
 use Rattle.kl1_model_history.proofs.LexWords.{no_word_no_digit}
 use Rattle.kl1_model_history.proofs.LexFronts.{Lexes, lexes_token, Calm, lexes_called, lexes_name, lexes_digits, lexes_negative, lexes_variable}
 use Rattle.kl1_model_history.proofs.ReadPlanted.{Planted, plainly, series_of, planted_plain, planted_atom, planted_integer, planted_cell, planted_series, planted_call, planted, planted_each, rest_row, series_row, Bears, BearsBehind, BearsEach, plain_behind, last_bears, another_bears, call_bears, cell_bears, cell_behind}
@@ -100,7 +101,7 @@ cell_agrees a b pa pb qa qb h j =
     record {
       bears = cell_bears a b qa qb h.bears j.behind;
       behind = cell_behind a b qa qb h.bears j.behind;
-      whole = λ bs ts calm behind. lexes_token (sign_token OpenList) refl (row bs ts behind);
+      whole = λ bs ts calm behind. subst (Lexes ((printed_cell pa pb).whole ++ bs)) (sym (list_row s qb.ending ts)) (lexes_token (sign_token OpenList) refl (row bs ts behind));
       rest = λ bs ts behind. lexes_token (sign_token Comma) refl (row bs ts behind);
       calm = λ bs. record { no_word = refl; no_quote = refl; no_open = refl };
     }

@@ -8,7 +8,7 @@ use Rattle.kl1_model.specs.declared.limits.TheConstants.{NUMBER_LIMIT}
 use Rattle.kl1_model.specs.Term.{Term}
 use Rattle.kl1_model.specs.Token.{Token, Placed, Tokens, tokens_of_text}
 use Rattle.kl1_model.specs.Grammar.{Numbered, part_tokens}
-use Rattle.kl1_model.specs.Reader.{expression_tree}
+use Rattle.kl1_model.specs.reader.Reader.{expression_tree}
 use Rattle.kl1_model.specs.Meaning.{expression_term, part_term, depth, is_narrow, is_writable, variables_of, is_numbered, highest, numbered_after}
 use Rattle.kl1_model.specs.Goal.{is_goal}
 use Rattle.kl1_model.specs.Print.{print}

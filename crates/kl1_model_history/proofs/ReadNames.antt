@@ -1,7 +1,7 @@
 -- The names of a module that was read are the texts of names.
 use Rattle.std.specs.Prelude.{◌≡◌, ℕ, zero, suc, ◌≤◌, ◌==◌, nat_le, not, ◌&&◌, ◌||◌, Bool, true, false, if◌then◌else◌, List, [], ◌∷◌, ◌++◌, length, codes, bytes_eq, Option, Some, None, option_and_then, unwrap_or}
 use Rattle.std.specs.List.{list_all, AllByRecursion}
-use Rattle.std.proofs.Common.{refl, sym, ap, ◌∙◌, arith, inl, inr}
+use Rattle.std.proofs.Common.{refl, sym, ap, ◌∙◌, subst, arith, inl, inr}
 use Rattle.std.proofs.lemmas.Bool.{and_parts, and_from, le-leb, leb-true, eqb-true, or_cases}
 use Rattle.std.proofs.lemmas.List.Folds.{list_all-append}
 use Rattle.kl1_model.specs.declared.limits.TheConstants.{MOST_NAME_BYTES, MOST_VARIABLE_BYTES, NUMBER_LIMIT}
@@ -9,7 +9,9 @@ use Rattle.kl1_model.specs.declared.sign.Sign.{Sign}
 use Rattle.kl1_model.specs.declared.sign.Sign.TheVariants.{Neck}
 use Rattle.kl1_model.specs.Text.{is_name_byte, is_text}
 use Rattle.kl1_model.specs.Name.{is_small_letter, is_word_byte}
-use Rattle.kl1_model.specs.Token.{Token, name_token, variable_token, digits_token, minus_token, sign_token, end_token, is_variable_start, is_digit, is_blank, word_of, behind_word, digits_of, behind_digits, number_of, quoted_from, behind_comment, sign_at, Front, finished, broken, line_end, blank, token, first_is, name_front, quoted_front, comment_front, dot_front, sign_front, Start, ends_line, blanks, comments, names, variables, numbers, quotes, dots, subtracts, signs_or_nothing, start_of, front_by, front_of, Placed, Tokens, tokens_by, tokens_within, tokens_of_text}
+use Rattle.kl1_model.specs.Token.{Token, name_token, variable_token, digits_token, minus_token, sign_token, end_token, is_variable_start, is_digit, is_blank, word_of, behind_word, digits_of, behind_digits, number_of, quoted_from, behind_comment, sign_at, Front, finished, broken, line_end, blank, token, first_is, name_front, dot_front, front_of, Placed, Tokens, tokens_by, tokens_within, tokens_of_text}
+use Rattle.kl1_model.specs.code.Fronts.{quoted_front, comment_front, sign_front}
+use Rattle.kl1_model.proofs.LexStarts.{Start, ends_line, blanks, comments, names, variables, numbers, quotes, dots, subtracts, signs_or_nothing, start_of, front_by, front_starts}
 use Rattle.kl1_model.specs.Module.{Item, is_end, last_item, items_from, items_of, named_module}
 
 between : (l h b : ℕ) → nat_le l b && nat_le b h ≡ true → 32 ≤ l → h ≤ 126 → is_name_byte b ≡ true
@@ -175,7 +177,7 @@ by_has signs_or_nothing b bs h = sign_has (sign_at (b ∷ bs)) (b ∷ bs)
 
 front_has : (bs : List ℕ) → FrontHas (front_of bs)
 front_has [] = tt
-front_has (b ∷ bs) = by_has (start_of b) b bs (begins_name b)
+front_has (b ∷ bs) = subst FrontHas (front_starts b bs) (by_has (start_of b) b bs (begins_name b))
 
 -- tokens whose names are texts
 abbrev HaveTexts : List Placed → Type 0

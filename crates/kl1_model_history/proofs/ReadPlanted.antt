@@ -8,10 +8,11 @@ use Rattle.kl1_model.specs.declared.sign.Sign.TheVariants.{Comma, CloseList}
 use Rattle.kl1_model.specs.Name.{is_bare}
 use Rattle.kl1_model.specs.Term.{Term, variable, integer, atom, structure, Terms, none, more}
 use Rattle.kl1_model.specs.Token.{sign_token}
-use Rattle.kl1_model.specs.Grammar.{Numbered, Expression, alone, summand, factor, Part, single, qualified, Primary, numbered, positive, negative, constant, call, empty_list, list, group, Series, last, another, Rest, closed, tail, expression_tokens, series_tokens, rest_tokens}
-use Rattle.kl1_model.specs.Meaning.{pair, cell, cells, expression_term, part_term, primary_term, series_terms, rest_term}
+use Rattle.kl1_model.specs.Grammar.{Numbered, Expression, alone, summand, factor, Part, single, qualified, Primary, numbered, positive, negative, constant, call, empty_list, list, group, Series, last, another, Rest, closed, tail, expression_tokens, series_tokens}
+use Rattle.kl1_model.specs.Meaning.{pair, cell, expression_term, part_term, primary_term, series_terms}
 use Rattle.kl1_model.specs.Print.{form_of}
 use Rattle.kl1_model.specs.laws.ReadLaws.{is_sound_expression, is_sound_part, is_sound_series, is_sound_rest}
+use Rattle.kl1_model.proofs.ReadRows.{rest_tokens}
 
 -- the tree of a term alone, and the elements and the end that it is after an element of a list
 pub record Planted : Type 0 where
@@ -111,7 +112,7 @@ pub record Bears (t : Term) (p : Part) : Type 0 where
 
 -- what holds of the elements and the end that a term is after an element of a list, apart from any text
 pub record BearsBehind (t : Term) (q : Planted) : Type 0 where
-  pub means : (e : Expression) → cells (series_terms (series_of e q.following)) (rest_term q.ending) ≡ cell (expression_term e) t
+  pub means : (e : Expression) → primary_term (list (series_of e q.following) q.ending) ≡ cell (expression_term e) t
   pub sound : (is_sound_following q.following && is_sound_rest q.ending) ≡ true
 
 -- what the trees of arguments mean, apart from any text
@@ -155,8 +156,13 @@ qualified_bears a b p q h j =
       sound = and_from (is_sound_part (single p)) (is_sound_part (single q)) h.sound j.sound;
     }
 
+-- a list with one more element in front
+longer_means : (e : Expression) (s : Series) (r : Rest) → primary_term (list (another e s) r) ≡ cell (expression_term e) (primary_term (list s r))
+longer_means e s closed = refl
+longer_means e s (tail d) = refl
+
 module _ (a b : Term) (p q : Planted) (h : Bears a p.whole) (j : BearsBehind b q) where
-  cell_means : cells (series_terms (series_of (plainly p.whole) q.following)) (rest_term q.ending) ≡ cell a b
+  cell_means : primary_term (list (series_of (plainly p.whole) q.following) q.ending) ≡ cell a b
   cell_means = j.means (plainly p.whole) ∙ ap (λ x. cell x b) h.means
 
   cell_sound : (is_sound_series (series_of (plainly p.whole) q.following) && is_sound_rest q.ending) ≡ true
@@ -168,4 +174,4 @@ module _ (a b : Term) (p q : Planted) (h : Bears a p.whole) (j : BearsBehind b q
 
   -- a list cell after an element
   pub cell_behind : BearsBehind (cell a b) (planted_cell p q)
-  cell_behind = record { means = λ e. ap (cell (expression_term e)) cell_means; sound = cell_sound }
+  cell_behind = record { means = λ e. longer_means e (series_of (plainly p.whole) q.following) q.ending ∙ ap (cell (expression_term e)) cell_means; sound = cell_sound }

@@ -9,7 +9,7 @@ use Rattle.kl1_model.specs.declared.limits.TheConstants.{NUMBER_LIMIT}
 use Rattle.kl1_model.specs.Term.{Term}
 use Rattle.kl1_model.specs.Token.{Token, Placed, tokens_of_text}
 use Rattle.kl1_model.specs.Grammar.{Expression}
-use Rattle.kl1_model.specs.Reader.{expression_tree}
+use Rattle.kl1_model.specs.reader.Reader.{expression_tree}
 use Rattle.kl1_model.specs.Numbering.{numbered_tokens}
 use Rattle.kl1_model.specs.Meaning.{expression_term, is_writable, variables_of, is_numbered, highest, numbered_after}
 use Rattle.kl1_model.specs.Goal.{is_goal}

@@ -5,7 +5,7 @@ use Rattle.std.proofs.lemmas.List.Folds.{list_all-append}
 use Rattle.std.proofs.lemmas.Option.{none-some}
 use Rattle.kl1_model.specs.Term.{Term, list_of}
 use Rattle.kl1_model.specs.Grammar.{Numbered, Expression, Series, last, another, GoalTree, plain_goal, urgent_goal, Body, last_goal, another_goal}
-use Rattle.kl1_model.specs.Reader.{Answer, then_read, then_skip, if_there, behind_open, behind_close, behind_comma, behind_at, digits_in_front, priority_in_front, series_at, priority_at, body_at}
+use Rattle.kl1_model.specs.reader.Reader.{Answer, then_read, then_skip, if_there, behind_open, behind_close, behind_comma, behind_at, digits_in_front, priority_in_front, series_at, priority_at, body_at}
 use Rattle.kl1_model.specs.Meaning.{expression_term, series_terms, is_writable}
 use Rattle.kl1_model.specs.Module.{BodyGoal, without_priority, trees_of}
 use Rattle.kl1_model.proofs.ReadSound.{at_is, comma_is, series_sound}

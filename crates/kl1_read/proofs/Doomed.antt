@@ -6,7 +6,8 @@ use Rattle.kl1_model.specs.Text.{text_of}
 use Rattle.kl1_model.specs.Term.{Term, structure, terms_of}
 use Rattle.kl1_model.specs.Grammar.{Numbered}
 use Rattle.kl1_model.specs.Meaning.{pair, nil, cells, is_writable}
-use Rattle.kl1_model.specs.Reader.{Answer, then_read, then_skip, if_there, behind_comma, behind_close, behind_close_list, behind_bar, behind_colon, grouped_on, grouped_by}
+use Rattle.kl1_model.specs.reader.Reader.{Answer, then_read, then_skip, if_there, behind_comma, behind_close, behind_close_list, behind_bar, behind_colon, grouped_by}
+use Rattle.kl1_model.specs.laws.ReadLaws.{grouped_on}
 use Rattle.kl1_read.specs.declared.infix.Level.{Level}
 use Rattle.kl1_read.specs.declared.infix.Level.TheVariants.{Relations, Sums, Products}
 use Rattle.kl1_read.specs.declared.opened.Opened.{Opened}

@@ -5,9 +5,11 @@ use Rattle.kl1_model.specs.declared.relation.Relation.{Relation}
 use Rattle.kl1_model.specs.declared.relation.Relation.TheVariants.{Equal, NotEqual, Assign, Less, Greater, AtMost, AtLeast, SameNumber, OtherNumber}
 use Rattle.kl1_model.specs.Text.{text_of}
 use Rattle.kl1_model.specs.Term.{Term, Terms, none, more, terms_of, list_of}
-use Rattle.kl1_model.specs.Grammar.{Numbered, Adding, by_plus, by_minus, Multiplying, by_star, by_slash, by_mod, Expression, related, Sum, summand, added, Product, factor, multiplied, Part, single, qualified, Primary, last, another}
-use Rattle.kl1_model.specs.Meaning.{pair, relation_name, expression_term, sum_term, product_term, part_term, primary_term, series_terms}
-use Rattle.kl1_model.specs.Reader.{Answer, then_read, if_there, behind_comma, behind_colon, relation_in_front, adding_in_front, multiplying_in_front, series_at, primary_at, part_at, grouped_on, grouped_by, product_at, sum_at, related_at}
+use Rattle.kl1_model.specs.Token.{spelling_of}
+use Rattle.kl1_model.specs.Grammar.{Numbered, relation_sign, Adding, by_plus, by_minus, Multiplying, by_star, by_slash, by_mod, Expression, related, Sum, summand, added, Product, factor, multiplied, Part, single, qualified, Primary, last, another}
+use Rattle.kl1_model.specs.Meaning.{pair, expression_term, sum_term, product_term, part_term, primary_term, series_terms}
+use Rattle.kl1_model.specs.reader.Reader.{Answer, then_read, if_there, behind_comma, behind_colon, relation_in_front, adding_in_front, multiplying_in_front, series_at, primary_at, part_at, grouped_by, product_at, sum_at}
+use Rattle.kl1_model.specs.laws.ReadLaws.{grouped_on, related_at}
 use Rattle.kl1_model.proofs.ReadSteps.{expressions_go_on, series_go_on}
 use Rattle.kl1_read.specs.declared.infix.Level.TheVariants.{Sums, Products}
 use Rattle.kl1_read.specs.Infixes.{answer_map, relation_named, adding_named, multiplying_named}
@@ -65,7 +67,7 @@ adding_means : (s : Sum) (o : Adding) (p : Product) → sum_term (added s o p) �
 adding_means s by_plus p = refl
 adding_means s (by_minus digit) p = refl
 
-relation_means : (r : Relation) → relation_name r ≡ text_of (relation_named r)
+relation_means : (r : Relation) → spelling_of (relation_sign r) ≡ text_of (relation_named r)
 relation_means Equal = refl
 relation_means NotEqual = refl
 relation_means Assign = refl

@@ -5,7 +5,8 @@ use Rattle.kl1_model.specs.declared.built_in.BuiltIn.{BuiltIn}
 use Rattle.kl1_model.specs.Term.{Term}
 use Rattle.kl1_model.specs.Grammar.{Numbered}
 use Rattle.kl1_model.specs.Meaning.{sum_term, product_term, part_term}
-use Rattle.kl1_model.specs.Reader.{Answer, then_read, relation_in_front, adding_in_front, multiplying_in_front, part_at, grouped_on, product_at, sum_at}
+use Rattle.kl1_model.specs.reader.Reader.{Answer, then_read, relation_in_front, adding_in_front, multiplying_in_front, part_at, product_at, sum_at}
+use Rattle.kl1_model.specs.laws.ReadLaws.{grouped_on}
 use Rattle.kl1_model.proofs.ReadSound.{answered, relation_is, adding_is, multiplying_is, part_sound, product_sound, sum_sound}
 use Rattle.kl1_model.proofs.ReadComplete.{part_steps_few, product_steps_few, sum_steps_few}
 use Rattle.kl1_model.proofs.ReadSteps.{whole_sound, grouped_goes_on}

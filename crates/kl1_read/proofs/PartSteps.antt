@@ -6,7 +6,7 @@ use Rattle.kl1_model.specs.declared.built_in.BuiltIn.{BuiltIn}
 use Rattle.kl1_model.specs.Term.{Term, structure, terms_of}
 use Rattle.kl1_model.specs.Grammar.{Numbered}
 use Rattle.kl1_model.specs.Meaning.{pair, cells}
-use Rattle.kl1_model.specs.Reader.{Answer, then_read, then_skip, if_there, behind_comma, behind_close, behind_close_list}
+use Rattle.kl1_model.specs.reader.Reader.{Answer, then_read, then_skip, if_there, behind_comma, behind_close, behind_close_list}
 use Rattle.kl1_read.specs.declared.infix.Level.TheVariants.{Relations, Sums, Products}
 use Rattle.kl1_read.specs.declared.opened.Opened.TheVariants.{Arguments, Elements}
 use Rattle.kl1_read.specs.declared.left.Left.{Left}

@@ -8,7 +8,7 @@ use Rattle.kl1_model.specs.Token.{name_token, variable_token, digits_token, minu
 use Rattle.kl1_model.specs.Term.{Term, variable, integer, atom, structure, Terms, terms_of, list_of}
 use Rattle.kl1_model.specs.Grammar.{Numbered, Expression, Primary, positive, call, list, group, empty_list, Series, closed, tail}
 use Rattle.kl1_model.specs.Meaning.{nil, cells, expression_term, primary_term, series_terms}
-use Rattle.kl1_model.specs.Reader.{Answer, then_read, then_skip, if_there, behind_comma, behind_close, behind_open, behind_close_list, behind_bar, series_at, rest_at}
+use Rattle.kl1_model.specs.reader.Reader.{Answer, then_read, then_skip, if_there, behind_comma, behind_close, behind_open, behind_close_list, behind_bar, series_at, rest_at}
 use Rattle.kl1_read.specs.declared.opened.Opened.TheVariants.{Group, Arguments, Elements, Tail}
 use Rattle.kl1_read.specs.Meanings.{reading, answer_map, expression_read, primary_read, series_read, Going, after_elements, after_arguments, open_then}
 use Rattle.kl1_read.proofs.Goings.{list_back, series_behind, one_more}

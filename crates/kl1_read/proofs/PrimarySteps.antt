@@ -11,7 +11,7 @@ use Rattle.kl1_model.specs.Term.{Term, integer}
 use Rattle.kl1_model.specs.Grammar as grammar
 use Rattle.kl1_model.specs.Grammar.{call, list, empty_list}
 use Rattle.kl1_model.specs.Meaning.{nil, primary_term, is_writable}
-use Rattle.kl1_model.specs.Reader.{Answer, then_read, then_skip, if_there, behind_open, behind_close, behind_close_list, series_at, rest_at}
+use Rattle.kl1_model.specs.reader.Reader.{Answer, then_read, then_skip, if_there, behind_open, behind_close, behind_close_list, series_at, rest_at}
 use Rattle.kl1_read.specs.declared.numbered.Numbered.{Numbered}
 use Rattle.kl1_read.specs.declared.opened.Opened.TheVariants.{Group, Arguments, Elements}
 use Rattle.kl1_read.specs.Views.{numbered_token}

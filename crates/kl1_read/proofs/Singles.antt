@@ -3,7 +3,7 @@ use Rattle.std.proofs.Common.{◌≡◌, ◌&&◌, Bool, true, false, List, [], 
 use Rattle.kl1_model.specs.Term.{Term, list_of}
 use Rattle.kl1_model.specs.Grammar.{Numbered, Expression, Series, last, another}
 use Rattle.kl1_model.specs.Meaning.{expression_term, series_terms, is_writable}
-use Rattle.kl1_model.specs.Reader.{Answer, then_read, if_there, behind_comma, series_at, all_read, expression_tree}
+use Rattle.kl1_model.specs.reader.Reader.{Answer, then_read, if_there, behind_comma, series_at, all_read, expression_tree}
 use Rattle.kl1_model.proofs.ReadSteps.{series_go_on}
 use Rattle.kl1_read.specs.Pieces.{writable}
 use Rattle.kl1_read.specs.Series.{single}

@@ -4,7 +4,7 @@ use Rattle.kl1_model.specs.Term.{Term}
 use Rattle.kl1_model.specs.Token.{Token}
 use Rattle.kl1_model.specs.Grammar.{Numbered}
 use Rattle.kl1_model.specs.Numbering.{numbered_tokens}
-use Rattle.kl1_model.specs.Reader.{expression_tree}
+use Rattle.kl1_model.specs.reader.Reader.{expression_tree}
 use Rattle.kl1_model.specs.Meaning.{expression_term, is_writable}
 use Rattle.kl1_model.specs.Goal.{is_goal}
 use Rattle.kl1_model.specs.Module.{Reading, good, bad, startable, term_of_tokens}

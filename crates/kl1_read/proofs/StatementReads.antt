@@ -9,7 +9,7 @@ use Rattle.kl1_model.specs.Term.{Term, structure, Terms, none, more, terms_of, l
 use Rattle.kl1_model.specs.Token.{Token, name_token, sign_token}
 use Rattle.kl1_model.specs.Grammar.{Numbered, Series, last, another, Head, bare_head, head_with, GoalTree, plain_goal, urgent_goal, Body, last_goal, another_goal, ClauseTree, fact, rule, guarded, series_tokens, body_tokens, clause_tokens}
 use Rattle.kl1_model.specs.Numbering.{numbered_tokens}
-use Rattle.kl1_model.specs.Reader.{Answer, then_read, then_skip, if_there, behind_open, behind_close, behind_neck, behind_bar, behind_comma, behind_at, series_at, body_at, tests_of, behind_neck_at, clause_at, all_read, clause_tree}
+use Rattle.kl1_model.specs.reader.Reader.{Answer, then_read, then_skip, if_there, behind_open, behind_close, behind_neck, behind_bar, behind_comma, behind_at, series_at, body_at, tests_of, behind_neck_at, clause_at, all_read, clause_tree}
 use Rattle.kl1_model.specs.Meaning.{expression_term, series_terms, head_term, is_writable, variables_in, highest, highest_in, numbered_after}
 use Rattle.kl1_model.specs.Goal.{is_head, is_test, body_goal}
 use Rattle.kl1_model.specs.Module.{BodyGoal, Clause, each_of, head_name, head_patterns, is_fit_head, without_priority, fit_goal, fit_body, trees_of, true_goal, clause_of_tree}

@@ -7,7 +7,7 @@ use Rattle.kl1_model.specs.Meaning.{is_writable}
 use Rattle.std.proofs.lemmas.List.{reverse-append}
 use Rattle.kl1_model.specs.Term.{Term}
 use Rattle.kl1_model.specs.Grammar.{Numbered}
-use Rattle.kl1_model.specs.Reader.{Answer, then_read, if_there, behind_comma}
+use Rattle.kl1_model.specs.reader.Reader.{Answer, then_read, if_there, behind_comma}
 use Rattle.kl1_read.specs.declared.opened.Opened.{Opened}
 use Rattle.kl1_read.specs.declared.left.Left.{Left}
 use Rattle.kl1_read.specs.declared.frame.Frame.{Frame}

@@ -3,7 +3,7 @@ use Rattle.std.specs.Prelude.{◌≡◌, ℕ, ◌<◌, List, length, None, map}
 use Rattle.kl1_model.specs.Term.{Term, variable, integer, atom}
 use Rattle.kl1_model.specs.Meaning.{nil}
 use Rattle.kl1_model.specs.Grammar as grammar
-use Rattle.kl1_model.specs.Reader.{Answer, then_read}
+use Rattle.kl1_model.specs.reader.Reader.{Answer, then_read}
 use Rattle.kl1_read.specs.declared.begun.Leaf.{Leaf}
 use Rattle.kl1_read.specs.declared.begun.Leaf.TheVariants.{Variable, Integer, Atom, Nil}
 use Rattle.kl1_read.specs.declared.begun.Begun.{Begun}

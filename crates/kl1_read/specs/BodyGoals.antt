@@ -5,7 +5,7 @@ use Rattle.std.specs.Borrow.{Bor}
 use Rattle.kl1_model.specs.Term.{Term}
 use Rattle.kl1_model.specs.Grammar as grammar
 use Rattle.kl1_model.specs.Grammar.{GoalTree, plain_goal, urgent_goal}
-use Rattle.kl1_model.specs.Reader.{Answer, then_read, then_skip, if_there, behind_at, behind_open, behind_close, behind_comma, digits_in_front, priority_in_front, body_at}
+use Rattle.kl1_model.specs.reader.Reader.{Answer, then_read, then_skip, if_there, behind_at, behind_open, behind_close, behind_comma, digits_in_front, priority_in_front, body_at}
 use Rattle.kl1_model.specs.Meaning.{expression_term, is_writable}
 use Rattle.kl1_model.specs.Module.{BodyGoal, without_priority, with_priority, trees_of}
 use Rattle.kl1_read.specs.declared.numbered.Numbered.{Numbered}

@@ -7,7 +7,7 @@ use Rattle.kl1_model.specs.declared.relation.Relation.{Relation}
 use Rattle.kl1_model.specs.declared.relation.Relation.TheVariants.{Equal, NotEqual, Assign, Less, Greater, AtMost, AtLeast, SameNumber, OtherNumber}
 use Rattle.kl1_model.specs.Grammar as grammar
 use Rattle.kl1_model.specs.Grammar.{Adding, by_plus, by_minus, Multiplying, by_star, by_slash, by_mod}
-use Rattle.kl1_model.specs.Reader.{Answer, relation_in_front, adding_in_front, multiplying_in_front}
+use Rattle.kl1_model.specs.reader.Reader.{Answer, relation_in_front, adding_in_front, multiplying_in_front}
 use Rattle.kl1_read.specs.declared.infix.Level.{Level}
 use Rattle.kl1_read.specs.declared.infix.Level.TheVariants.{Relations, Sums, Products}
 use Rattle.kl1_read.specs.declared.numbered.Numbered.{Numbered}

@@ -2,7 +2,7 @@
 use Rattle.std.specs.Prelude.{◌≡◌, ℕ, ◌<◌, ◌≤◌, List, length, None, map}
 use Rattle.kl1_model.specs.Term.{Term}
 use Rattle.kl1_model.specs.Grammar as grammar
-use Rattle.kl1_model.specs.Reader.{Answer}
+use Rattle.kl1_model.specs.reader.Reader.{Answer}
 use Rattle.kl1_read.specs.declared.joined.Joined.{Joined}
 use Rattle.kl1_read.specs.declared.joined.Joined.TheVariants as joined
 use Rattle.kl1_read.specs.declared.closed.Closed.{Closed}

@@ -3,7 +3,7 @@ use Rattle.std.specs.Prelude.{List, Option}
 use Rattle.kl1_model.specs.declared.sign.Sign.{Sign}
 use Rattle.kl1_model.specs.declared.sign.Sign.TheVariants as sign
 use Rattle.kl1_model.specs.Grammar.{Numbered}
-use Rattle.kl1_model.specs.Reader.{behind_comma, behind_open, behind_close, behind_close_list, behind_bar, behind_colon, behind_neck, behind_at}
+use Rattle.kl1_model.specs.reader.Reader.{behind_comma, behind_open, behind_close, behind_close_list, behind_bar, behind_colon, behind_neck, behind_at}
 use Rattle.kl1_read.specs.declared.mark.Mark.{Mark}
 use Rattle.kl1_read.specs.declared.mark.Mark.TheVariants.{Comma, Open, Close, CloseList, Bar, Colon, Neck, At}
 

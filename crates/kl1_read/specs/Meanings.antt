@@ -6,7 +6,7 @@ use Rattle.kl1_model.specs.Grammar as grammar
 use Rattle.kl1_model.specs.Text.{text_of}
 use Rattle.kl1_model.specs.declared.built_in.BuiltIn.{BuiltIn}
 use Rattle.kl1_model.specs.Meaning.{pair, nil, cells, expression_term, sum_term, product_term, part_term, primary_term, series_terms, is_writable}
-use Rattle.kl1_model.specs.Reader.{Answer, Inner, then_read, then_skip, if_there, behind_comma, behind_close, behind_close_list, behind_bar, behind_colon, series_at, primary_at, part_at, grouped_at, product_at, sum_at, inner_of}
+use Rattle.kl1_model.specs.reader.Reader.{Answer, Inner, then_read, then_skip, if_there, behind_comma, behind_close, behind_close_list, behind_bar, behind_colon, series_at, primary_at, part_at, grouped_at, product_at, sum_at, inner_of}
 use Rattle.kl1_read.specs.declared.infix.Level.{Level}
 use Rattle.kl1_read.specs.declared.infix.Level.TheVariants.{Relations, Sums, Products}
 use Rattle.kl1_read.specs.declared.opened.Opened.{Opened}

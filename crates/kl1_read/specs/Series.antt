@@ -4,7 +4,7 @@ use Rattle.std.specs.Borrow.{Bor}
 use Rattle.std.specs.declared.alloc.Global.{Global}
 use Rattle.kl1_model.specs.Term.{Term}
 use Rattle.kl1_model.specs.Grammar as grammar
-use Rattle.kl1_model.specs.Reader.{Answer}
+use Rattle.kl1_model.specs.reader.Reader.{Answer}
 use Rattle.kl1_read.specs.declared.numbered.Numbered.{Numbered}
 use Rattle.kl1_read.specs.Views.{numbered_token}
 

@@ -2,7 +2,7 @@
 use Rattle.std.specs.Prelude.{ℕ, if◌then◌else◌, List, Option, Some, None, option_map, option_and_then}
 use Rattle.kl1_model.specs.Term.{Term}
 use Rattle.kl1_model.specs.Grammar.{Numbered}
-use Rattle.kl1_model.specs.Reader.{expression_tree}
+use Rattle.kl1_model.specs.reader.Reader.{expression_tree}
 use Rattle.kl1_model.specs.Meaning.{expression_term}
 use Rattle.kl1_model.specs.Goal.{is_goal}
 use Rattle.kl1_read.specs.Pieces.{writable}

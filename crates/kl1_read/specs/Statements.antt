@@ -4,7 +4,7 @@ use Rattle.std.specs.Borrow.{Bor}
 use Rattle.kl1_model.specs.Term.{Term, atom, structure, more, terms_of}
 use Rattle.kl1_model.specs.Token.{name_token}
 use Rattle.kl1_model.specs.Grammar as grammar
-use Rattle.kl1_model.specs.Reader.{Answer, then_read, then_skip, if_there, behind_open, behind_close, behind_neck, behind_bar}
+use Rattle.kl1_model.specs.reader.Reader.{Answer, then_read, then_skip, if_there, behind_open, behind_close, behind_neck, behind_bar}
 use Rattle.kl1_model.specs.Meaning.{is_writable, highest, highest_in}
 use Rattle.kl1_model.specs.Goal.{is_head, is_test, body_goal}
 use Rattle.kl1_model.specs.Module.{BodyGoal, Clause, each_of, without_priority, may_name, true_goal}

@@ -2,7 +2,7 @@
 use Rattle.std.specs.Prelude.{◌≡◌, ℕ, ◌<◌, List, length, reverse, map, Option, Some, None}
 use Rattle.kl1_model.specs.Term.{Term}
 use Rattle.kl1_model.specs.Grammar as grammar
-use Rattle.kl1_model.specs.Reader.{Answer}
+use Rattle.kl1_model.specs.reader.Reader.{Answer}
 use Rattle.kl1_read.specs.declared.left.Left.{Left}
 use Rattle.kl1_read.specs.declared.frame.Frame.{Frame}
 use Rattle.kl1_read.specs.declared.state.State.{State}

@@ -3,7 +3,7 @@
 ghost use Rattle.std.specs.Prelude.{◌≡◌, [], map, option_and_then, IfOk};
 ghost use Rattle.kl1_model.specs.Module.{clause_of};
 ghost use Rattle.kl1_model.specs.Numbering.{numbered_tokens};
-ghost use Rattle.kl1_model.specs.Reader.{all_read};
+ghost use Rattle.kl1_model.specs.reader.Reader.{all_read};
 ghost use Rattle.kl1_read.specs.Views.{kept_token};
 ghost use Rattle.kl1_read.specs.Sources.{clause_of_parts};
 ghost use Rattle.kl1_read.specs.Statements.{given, statement_of, statement_read, clause_of_statement};

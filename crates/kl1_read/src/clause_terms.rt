@@ -1,7 +1,7 @@
 // A clause as terms.
 
 ghost use Rattle.std.specs.Prelude.{◌≡◌, [], map, IfOk};
-ghost use Rattle.kl1_model.specs.Reader.{all_read};
+ghost use Rattle.kl1_model.specs.reader.Reader.{all_read};
 ghost use Rattle.kl1_model.specs.Numbering.{numbered_tokens};
 ghost use Rattle.kl1_read.specs.Views.{kept_token, numbered_token};
 ghost use Rattle.kl1_read.specs.BodyGoals.{goal_of_term};

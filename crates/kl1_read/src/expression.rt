@@ -1,7 +1,7 @@
 // One expression.
 
 ghost use Rattle.std.specs.Prelude.{◌≡◌, map, option_map, option_and_then, IfOk};
-ghost use Rattle.kl1_model.specs.Reader.{expression_tree};
+ghost use Rattle.kl1_model.specs.reader.Reader.{expression_tree};
 ghost use Rattle.kl1_model.specs.Meaning.{expression_term};
 ghost use Rattle.kl1_read.specs.Views.{numbered_token};
 ghost use Rattle.kl1_read.specs.Pieces.{writable};

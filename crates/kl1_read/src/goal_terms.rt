@@ -1,7 +1,7 @@
 // The goals of a body as terms.
 
 ghost use Rattle.std.specs.Prelude.{◌≡◌, ◌<◌, List, [], ◌++◌, Some, None, map, option_map, length, IfSome, IfOk, OnOk};
-ghost use Rattle.kl1_model.specs.Reader.{digits_in_front};
+ghost use Rattle.kl1_model.specs.reader.Reader.{digits_in_front};
 ghost use Rattle.kl1_model.specs.Module.{BodyGoal};
 ghost use Rattle.kl1_read.specs.Views.{numbered_token};
 ghost use Rattle.kl1_read.specs.BodyGoals.{goal_of_term, written_goals, terms_after, with_front, goals_named, behind_word, priority_read, priority_view, goals_view, goals_after, following_view, FollowsLess};

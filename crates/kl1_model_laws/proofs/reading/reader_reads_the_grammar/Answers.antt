@@ -1,7 +1,7 @@
 -- The reader against the grammar, by the lemmas of both directions; each tree is the one that is read from its tokens.
 use Rattle.std.proofs.Common.{ap, sym, ◌∙◌}
 use Rattle.std.proofs.lemmas.Option.{same_Some}
-use Rattle.kl1_model.specs.Reader.{expression_tree, clause_tree}
+use Rattle.kl1_model.specs.reader.Reader.{expression_tree, clause_tree}
 use Rattle.kl1_model.proofs.ReadSound.{expression_trees_sound, clause_trees_sound}
 use Rattle.kl1_model.proofs.ReadComplete.{expression_trees_complete, clause_trees_complete}
 use Rattle.kl1_model_laws.proofs.reading.reader_reads_the_grammar.Goals as goal
