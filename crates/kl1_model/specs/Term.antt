@@ -95,8 +95,3 @@ abbrev mutual
 pub record Replacement : Type 0 where
   pub number : ℕ
   pub by : Term
-
--- a term after replacements, the first of them done first
-abbrev pub replaced : List Replacement → Term → Term
-replaced [] t = t
-replaced (r ∷ rs) t = replaced rs (replace r.number r.by t)

@@ -3,3 +3,4 @@ pub mod Outcome
 pub mod Waits
 pub mod TermCode
 pub mod Awaited
+pub mod Unifying

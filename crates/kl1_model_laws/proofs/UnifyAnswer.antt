@@ -1,7 +1,8 @@
 -- What holds of equations and their answer, a solution or none: by induction on what the front equations led to.
 use Rattle.std.proofs.Common.{◌≡◌, ℕ, zero, suc, ◌<◌, ◌≤◌, false, List, [], ◌∷◌, Option, Some, None, option_map, arith, le_refl, le_trans, lt_of_lt_of_le}
 use Rattle.kl1_model.specs.Term.{Term, variable, structure, Terms, count_of, occurs, Replacement}
-use Rattle.kl1_model.specs.Unify.{Equation, argument_equations, front, replace_in_all, after, equations_size, walk, mgu_within, highest_among, mgu}
+use Rattle.kl1_model.specs.Unify.{Equation, argument_equations, front, replace_in_all, equations_size, walk, mgu_within, highest_among, mgu}
+use Rattle.kl1_model.specs.code.Unifying.{after}
 use Rattle.kl1_model.specs.laws.UnifyLaws.{equate, bind, IsLower, AllNumberedTo}
 use Rattle.kl1_model.proofs.UnifyFront.{Clash, front_cases}
 use Rattle.kl1_model.proofs.Occurrences.{numbered_to_highest}

@@ -2,7 +2,8 @@
 use Rattle.std.proofs.Common.{◌≡◌, ℕ, zero, suc, false, List, [], ◌∷◌, Option, Some, None, option_map, IfSome, subst}
 use Rattle.std.proofs.lemmas.Option.{IfSome_then}
 use Rattle.kl1_model.specs.Term.{Term, variable, structure, Terms, count_of, occurs, Replacement}
-use Rattle.kl1_model.specs.Unify.{Equation, argument_equations, replace_in_all, after, equations_size, walk, mgu_within, highest_among, mgu}
+use Rattle.kl1_model.specs.Unify.{Equation, argument_equations, replace_in_all, equations_size, walk, mgu_within, highest_among, mgu}
+use Rattle.kl1_model.specs.code.Unifying.{after}
 use Rattle.kl1_model.specs.laws.UnifyLaws.{equate, bind, IsLower}
 use Rattle.kl1_model.proofs.UnifyFront.{front_cases}
 

@@ -5,9 +5,10 @@ use Rattle.std.proofs.lemmas.List.{take_all}
 use Rattle.std.proofs.lemmas.Bool.{ne_eqb}
 use Rattle.kl1_model.specs.declared.built_in.BuiltIn.{BuiltIn}
 use Rattle.kl1_model.specs.declared.built_in.BuiltIn.TheVariants.{ListCell, EmptyList}
-use Rattle.kl1_model.specs.Term.{Term, variable, atom, structure, none, more, occurs, replace, Replacement, replaced}
+use Rattle.kl1_model.specs.Term.{Term, variable, atom, structure, none, more, occurs, replace, Replacement}
+use Rattle.kl1_model.specs.code.Unifying.{replaced, after}
 use Rattle.kl1_model.specs.Meaning.{cell, nil}
-use Rattle.kl1_model.specs.Unify.{Equation, fails, binds, after, walk, mgu_within, highest_among, mgu}
+use Rattle.kl1_model.specs.Unify.{Equation, fails, binds, walk, mgu_within, highest_among, mgu}
 use Rattle.kl1_text.specs.Reading.{Reads}
 use Rattle.kl1_store.specs.declared.cell.Cell.{Cell}
 use Rattle.kl1_store.specs.declared.cell.Cell.TheVariants.{Variable, Integer, Atom, Structure}

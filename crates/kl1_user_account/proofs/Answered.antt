@@ -3,10 +3,11 @@ use Rattle.std.proofs.Common.{◌≡◌, ℕ, suc, ◌+◌, ◌-◌, ◌<◌, �
 use Rattle.std.specs.Prelude.{nat_le, Some, None, IsTrue}
 use Rattle.std.specs.List.{AllByRecursion}
 use Rattle.std.proofs.lemmas.Bool.{and_parts, leb-true, ne_eqb, or_from}
-use Rattle.kl1_model.specs.Term.{Term, variable, integer, atom, structure, Terms, none, more, occurs, occurs_in, replace, Replacement, replaced, each_substituted}
+use Rattle.kl1_model.specs.Term.{Term, variable, integer, atom, structure, Terms, none, more, occurs, occurs_in, replace, Replacement, each_substituted}
+use Rattle.kl1_model.specs.code.Unifying.{replaced, after}
 use Rattle.kl1_model.specs.code.TermCode.{nodes_of}
 use Rattle.kl1_model.specs.Meaning.{highest, variables_of, variables_in, numbered_after, is_numbered}
-use Rattle.kl1_model.specs.Unify.{Equation, fails, binds, after, walk, mgu_within, highest_among, mgu}
+use Rattle.kl1_model.specs.Unify.{Equation, fails, binds, walk, mgu_within, highest_among, mgu}
 use Rattle.kl1_model.specs.Goal.{is_goal}
 use Rattle.kl1_model.specs.Opening.{with_next_variables}
 use Rattle.kl1_model.specs.State.{names_of, with_names}

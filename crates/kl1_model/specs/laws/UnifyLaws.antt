@@ -1,8 +1,9 @@
 -- What holds of unification, on its definition alone.
-use Rattle.std.specs.Prelude.{◌≡◌, ℕ, ◌<◌, ◌≤◌, ◌≢◌, IsTrue, IsFalse, Decides, pos, List, [], ◌∷◌, codes, Option, Some, None, option_map, ⊤}
+use Rattle.std.specs.Prelude.{◌≡◌, ℕ, suc, ◌<◌, ◌≤◌, ◌≢◌, IsTrue, IsFalse, Decides, pos, List, [], ◌∷◌, codes, Option, Some, None, option_map, ⊤}
 use Rattle.std.specs.List.{AllByRecursion}
-use Rattle.kl1_model.specs.Term.{Term, variable, integer, atom, structure, Terms, none, more, count_of, same_term, occurs, Replacement, replaced, substituted}
-use Rattle.kl1_model.specs.Unify.{Equation, argument_equations, Front, goes_on, fails, binds, front, after, replace_in_all, mgu_to, highest_among, mgu}
+use Rattle.kl1_model.specs.Term.{Term, variable, integer, atom, structure, Terms, none, more, count_of, same_term, occurs, Replacement, substituted}
+use Rattle.kl1_model.specs.Unify.{Equation, argument_equations, Front, goes_on, fails, binds, front, replace_in_all, equations_size, mgu_within, highest_among, mgu}
+use Rattle.kl1_model.specs.code.Unifying.{replaced, after}
 
 -- all variables of a term are numbered up to the last
 abbrev mutual
@@ -54,6 +55,10 @@ FrontKeepsNumbers = (last : ℕ) (e : Equation) (es : List Equation) → AllNumb
 -- the highest number is a bound on the numbers
 abbrev pub HighestIsABound : Type 0
 HighestIsABound = (es : List Equation) → AllNumberedTo (highest_among es) es
+
+-- the solution of equations whose variables are numbered up to the last
+abbrev pub mgu_to : ℕ → List Equation → Option (List Replacement)
+mgu_to last es = mgu_within (suc (suc last)) (equations_size es) es
 
 -- any bound on the numbers gives the solution
 abbrev pub AnyBoundServes : Type 0
