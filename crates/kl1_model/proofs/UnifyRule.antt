@@ -154,12 +154,9 @@ after_agrees last e es same same' next next' h shrinks loses =
 -- a solution is the same whatever its fuel, if it is more than the variables that occur, and no less than the size
 pub solve_enough : (last n m n' m' : ℕ) (es : List Equation) → AllNumberedTo last es → variables_in last es < n → variables_in last es < n' → equations_size es ≤ m → equations_size es ≤ m' → mgu_within n m es ≡ mgu_within n' m' es
 unfolding mgu_within
-solve_enough last zero m n' m' es h a b c d = absurd (omega arith)
-solve_enough last (suc n) m zero m' es h a b c d = absurd (omega arith)
-solve_enough last (suc n) zero (suc n') zero [] h a b c d = refl
-solve_enough last (suc n) zero (suc n') (suc m') [] h a b c d = refl
-solve_enough last (suc n) (suc m) (suc n') zero [] h a b c d = refl
-solve_enough last (suc n) (suc m) (suc n') (suc m') [] h a b c d = refl
+solve_enough last n m n' m' [] h a b c d = refl
+solve_enough last zero m n' m' (e ∷ es) h a b c d = absurd (omega arith)
+solve_enough last (suc n) m zero m' (e ∷ es) h a b c d = absurd (omega arith)
 solve_enough last (suc n) zero (suc n') m' (e ∷ es) h a b c d = absurd (omega arith)
 solve_enough last (suc n) (suc m) (suc n') zero (e ∷ es) h a b c d = absurd (omega arith)
 solve_enough last (suc n) (suc m) (suc n') (suc m') (e ∷ es) h a b c d =
