@@ -20,8 +20,8 @@ pub data Front : Type 0 where
   fails : Front
   binds : ℕ → Term → List Equation → Front
 
--- the front equation: equal constants are dropped, structures of one name and length give way to their arguments,
--- of two variables the higher takes the lower, and a variable takes a term that it doesn't occur in
+-- the rules for the front equation: equal constants are dropped, structures of one name and length give way to their arguments,
+-- of two variables the higher takes the lower, a variable takes a term that it doesn't occur in, and all else fails
 abbrev pub front : Term → Term → List Equation → Front
 front (variable v) (variable w) es = if v == w then goes_on es else if nat_lt v w then binds w (variable v) es else binds v (variable w) es
 front (variable v) t es = if occurs v t then fails else binds v t es
@@ -40,7 +40,7 @@ abbrev pub equations_size : List Equation → ℕ
 equations_size [] = 0
 equations_size (e ∷ es) = suc (size e.left) + equations_size es
 
--- what solves equations, front equation by front equation: fewer than `n` replacements, and at most `m` equations before the first of them
+-- equations solved by these rules until none is left, with fewer than `n` replacements, at most `m` rules before each
 unfoldable pub mgu_within : ℕ → ℕ → List Equation → Option (List Replacement)
 mgu_within n m [] = Some []
 mgu_within (suc n) (suc m) (e ∷ es) = elim (front e.left e.right es) [

@@ -88,9 +88,8 @@ LeftTakesRight = (v : ℕ) (t : Term) (es : List Equation) → IsFalse (occurs v
 abbrev pub RightTakesLeft : Type 0
 RightTakesLeft = (v : ℕ) (t : Term) (es : List Equation) → IsFalse (occurs v t) → IsLower v t → mgu (equate t (variable v) ∷ es) ≡ bound_first v t es
 
--- how equations are solved, with no fuel: equal sides are dropped, structures give way to their arguments, a variable
--- takes a lower variable, or a term that is none and in which it doesn't occur, and if nothing makes the front
--- sides equal there is no solution
+-- how equations are solved, with no fuel: equal sides are dropped, structures give way to arguments, a variable takes a lower variable,
+-- or a term that is none and in which it doesn't occur, and if nothing makes the front sides equal there is no solution
 pub data Solves : List Equation → Option (List Replacement) → Type 0 where
   all_done : Solves [] (Some [])
   same_sides : (t : Term) {es : List Equation} {o : Option (List Replacement)} → Solves es o → Solves (equate t t ∷ es) o
