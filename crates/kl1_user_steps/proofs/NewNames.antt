@@ -5,7 +5,7 @@ use Rattle.std.proofs.lemmas.Slice.Eq.{bytes_eq-Decides}
 use Rattle.kl1_model.specs.declared.limits.TheConstants.{MOST_NAMES}
 use Rattle.kl1_model.specs.Text.{is_text}
 use Rattle.kl1_model.specs.Term.{Term, Terms, variable, integer, atom, structure, replace}
-use Rattle.kl1_model.specs.Unify.{Equation, mgu_within, mgu, goes_on, fails, equations_size}
+use Rattle.kl1_model.specs.Unify.{mgu_within, mgu, goes_on, fails, equations_size}
 use Rattle.kl1_model.specs.code.Unifying.{after}
 use Rattle.kl1_model.specs.State.{State, replace_in_state, with_name}
 use Rattle.kl1_model.specs.Tree.{charge}
