@@ -2,7 +2,7 @@
 use Rattle.std.specs.Prelude.{ℕ, ◌==◌, not, ◌||◌, Bool, true, false, if◌then◌else◌, List, [], ◌∷◌, ◌++◌, map, filter, find, bytes_eq, Option, option_map}
 use Rattle.std.specs.List.{list_any}
 use Rattle.kl1_model.specs.declared.life.Life.{Life}
-use Rattle.kl1_model.specs.declared.life.Life.TheVariants.{Living, Terminated, Aborted}
+use Rattle.kl1_model.specs.declared.life.Life.TheVariants.{Living}
 use Rattle.kl1_model.specs.declared.rules.Rules.{Rules}
 use Rattle.kl1_model.specs.declared.rules.Rules.TheVariants.{One, Two, Three}
 use Rattle.kl1_model.specs.declared.limits.TheConstants.{MOST_NAME_BYTES, MOST_SPELLED_BEFORE}
@@ -146,10 +146,9 @@ without_goal n s = record s { goals = filter (λ g. not (g.number == n)) s.goals
 -- the names of a term, a structure's before its arguments'; operators are built in, so an account's own names stand as in the text
 abbrev mutual
   pub names_of : Term → List (List ℕ)
-  names_of (variable n) = []
-  names_of (integer i) = []
   names_of (atom a) = a ∷ []
   names_of (structure f ts) = f ∷ names_in ts
+  names_of _ = []
 
   pub names_in : Terms → List (List ℕ)
   names_in none = []
@@ -180,11 +179,9 @@ with_names names (a ∷ others) = with_names (with_name names a) others
 -- whether a task is a monitor's
 abbrev pub is_monitor : Task → Bool
 is_monitor monitor = true
-is_monitor (reduces t) = false
-is_monitor (substitutes t) = false
+is_monitor _ = false
 
 -- whether a shoen lives
 abbrev pub is_living : Life → Bool
 is_living Living = true
-is_living Terminated = false
-is_living Aborted = false
+is_living _ = false
