@@ -44,10 +44,10 @@ equations_size (e ∷ es) = suc (size e.left) + equations_size es
 unfoldable pub mgu_within : ℕ → ℕ → List Equation → Option (List Replacement)
 mgu_within n m [] = Some []
 mgu_within (suc n) (suc m) (e ∷ es) = elim (front e.left e.right es) [
-    goes_on next ↦ mgu_within (suc n) m next
+  | goes_on next ↦ mgu_within (suc n) m next
   | fails ↦ None
   | binds v t rest ↦ option_map (λ rs. record { number = v; by = t } ∷ rs) (mgu_within n (equations_size (replace_in_all v t rest)) (replace_in_all v t rest))
-  ]
+]
 mgu_within n m es = None
 
 -- the greatest number of a variable in equations, 0 if they have none

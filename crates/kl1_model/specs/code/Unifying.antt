@@ -15,7 +15,7 @@ bound_to v t es = if occurs v t then fails else binds v t es
 -- what solves the equations that the front equation leads to: `same` solves those in its place, `next` those after a replacement
 abbrev pub after : (List Equation → Option (List Replacement)) → (List Equation → Option (List Replacement)) → Front → Option (List Replacement)
 after same next f = elim f [
-    goes_on es ↦ same es
+  | goes_on es ↦ same es
   | fails ↦ None
   | binds v t es ↦ option_map (λ rest. record { number = v; by = t } ∷ rest) (next (replace_in_all v t es))
-  ]
+]
