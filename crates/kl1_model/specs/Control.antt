@@ -14,10 +14,8 @@ message_term (Allow n) = structure (codes "allow") (more (integer (pos n)) none)
 
 -- how many structures a message takes on the console's control stream, its list cell among them
 abbrev pub message_nodes : Message → ℕ
-message_nodes Stop = 1
-message_nodes Start = 1
-message_nodes Abort = 1
 message_nodes (Allow n) = 2
+message_nodes _ = 1
 
 -- what `allow` of a term says: the term is an integer from 0
 abbrev pub allow_word : Term → Found Message

@@ -40,7 +40,7 @@ abbrev pub equations_size : List Equation → ℕ
 equations_size [] = 0
 equations_size (e ∷ es) = suc (size e.left) + equations_size es
 
--- equations solved by these rules until none is left, with fewer than `n` replacements, at most `m` rules before each
+-- equations solved by these rules until none is left, with fewer than `n` replacements, and at most `m` rules before the next one
 unfoldable pub mgu_within : ℕ → ℕ → List Equation → Option (List Replacement)
 mgu_within n m [] = Some []
 mgu_within (suc n) (suc m) (e ∷ es) = elim (front e.left e.right es) [
