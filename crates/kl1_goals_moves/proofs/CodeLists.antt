@@ -9,7 +9,7 @@ use Rattle.kl1_model.specs.declared.rules.Rules.TheVariants.{One, Two, Three}
 use Rattle.kl1_model.specs.State.{most_spelled}
 use Rattle.kl1_model.specs.Text.{is_name_byte, is_text}
 use Rattle.kl1_model.specs.Term.{Term, variable, integer, atom, structure, none, more}
-use Rattle.kl1_model.specs.Look.{spelled_before, spelled_by, spelling}
+use Rattle.kl1_model.specs.Look.{spelled_by, spelling}
 use Rattle.kl1_model.specs.declared.built_in.BuiltIn.{BuiltIn}
 use Rattle.kl1_text.specs.Reading.{Reads}
 use Rattle.kl1_store.specs.declared.cell.Cell.{Cell}
@@ -22,15 +22,15 @@ use Rattle.kl1_goals_moves.specs.declared.codes.Code.{Code}
 use Rattle.kl1_goals_moves.specs.declared.codes.Code.TheVariants.{Byte, Waits, Wrong}
 use Rattle.kl1_goals_moves.specs.declared.codes.Front.{Front}
 use Rattle.kl1_goals_moves.specs.Spellings.{code_by, front_by, HasFront, spelled_after}
-use Rattle.kl1_model.specs.Found.{Found, found, awaits, wrong}
+use Rattle.kl1_model.specs.Found.{Found, found, awaits, wrong, found_map}
 
 -- what an element of a list of codes makes of what is spelled after it
 abbrev code_before : Code → Found (List ℕ) → Found (List ℕ)
-code_before (Byte n) rest = spelled_before n rest
+code_before (Byte n) rest = found_map (λ text. n ∷ text) rest
 code_before (Waits v) rest = awaits v
 code_before Wrong rest = wrong
 
-byte_before : (n : ℕ) (b : Bool) (rest : Found (List ℕ)) → (if b then spelled_before n rest else wrong) ≡ code_before (if b then Byte n else Wrong) rest
+byte_before : (n : ℕ) (b : Bool) (rest : Found (List ℕ)) → (if b then found_map (λ text. n ∷ text) rest else wrong) ≡ code_before (if b then Byte n else Wrong) rest
 byte_before n true rest = refl
 byte_before n false rest = refl
 
@@ -66,7 +66,7 @@ cell_front {N = N} f h left t name element rest top k r e some cell has is own =
 
 -- ---- the walk over a list of codes
 
-after_before : (text : List ℕ) (n : ℕ) (x : Found (List ℕ)) → spelled_after text (spelled_before n x) ≡ spelled_after (text ++ n ∷ []) x
+after_before : (text : List ℕ) (n : ℕ) (x : Found (List ℕ)) → spelled_after text (found_map (λ text. n ∷ text) x) ≡ spelled_after (text ++ n ∷ []) x
 after_before text n (found rest) = ap (λ l. found l) (sym (append_assoc text (n ∷ []) rest))
 after_before text n (awaits v) = refl
 after_before text n wrong = refl
@@ -85,7 +85,7 @@ no_codes_yet built h most text left rest whole et el er = λ f r.
     nothing wrong = refl
 
 -- one code more is put after the text
-pub code_taken : (text text' : List ℕ) (n left left' : ℕ) (t rest : Term) (whole : Found (List ℕ)) → text' ≡ text ++ n ∷ [] → left' ≡ left - 1 → spelling left t ≡ spelled_before n (spelling (left - 1) rest) → spelled_after text (spelling left t) ≡ whole → spelled_after text' (spelling left' rest) ≡ whole
+pub code_taken : (text text' : List ℕ) (n left left' : ℕ) (t rest : Term) (whole : Found (List ℕ)) → text' ≡ text ++ n ∷ [] → left' ≡ left - 1 → spelling left t ≡ found_map (λ text. n ∷ text) (spelling (left - 1) rest) → spelled_after text (spelling left t) ≡ whole → spelled_after text' (spelling left' rest) ≡ whole
 code_taken text text' n left left' t rest whole et el front so_far =
     ap (λ l. spelled_after l (spelling left' rest)) et ∙ ap (λ k. spelled_after (text ++ n ∷ []) (spelling k rest)) el
     ∙ sym (after_before text n (spelling (left - 1) rest)) ∙ sym (ap (spelled_after text) front) ∙ so_far

@@ -1,7 +1,7 @@
 -- What lists of codes spell, told of cells.
-use Rattle.std.specs.Prelude.{◌≡◌, ℕ, ◌-◌, ◌<◌, IsTrue, if◌then◌else◌, List, [], ◌++◌, Option, Some, None}
+use Rattle.std.specs.Prelude.{◌≡◌, ℕ, ◌-◌, ◌<◌, IsTrue, if◌then◌else◌, List, [], ◌∷◌, ◌++◌, Option, Some, None}
 use Rattle.kl1_model.specs.Text.{is_name_byte, is_text}
-use Rattle.kl1_model.specs.Look.{spelled_before, spelling}
+use Rattle.kl1_model.specs.Look.{spelling}
 use Rattle.kl1_model.specs.Term.{Term}
 use Rattle.kl1_store.specs.declared.cell.Cell.{Cell}
 use Rattle.kl1_store.specs.declared.cell.Cell.TheVariants.{Variable, Integer, Atom, Structure}
@@ -15,7 +15,7 @@ use Rattle.kl1_goals_moves.specs.declared.codes.Code.{Code}
 use Rattle.kl1_goals_moves.specs.declared.codes.Code.TheVariants as code
 use Rattle.kl1_goals_moves.specs.declared.codes.Front.{Front}
 use Rattle.kl1_goals_moves.specs.declared.codes.Front.TheVariants as front
-use Rattle.kl1_model.specs.Found.{Found, found, awaits, wrong}
+use Rattle.kl1_model.specs.Found.{Found, found, awaits, wrong, found_map}
 
 -- a spelling as in the definitions, if this is the text that is spelled
 abbrev pub spelling_of : Spelling → List ℕ → Found (List ℕ)
@@ -58,7 +58,7 @@ abbrev pub HasFront : {N : Type 0} → (N → List ℕ) → Held N → ℕ → T
 HasFront f h left t front.Ends = spelling left t ≡ found []
 HasFront f h left t (front.Waits v) = spelling left t ≡ awaits v
 HasFront f h left t front.Wrong = spelling left t ≡ wrong
-HasFront f h left t (front.Code n rest) = spelling left t ≡ spelled_before n (spelling (left - 1) (term_of f h rest))
+HasFront f h left t (front.Code n rest) = spelling left t ≡ found_map (λ text. n ∷ text) (spelling (left - 1) (term_of f h rest))
 
 -- a byte is one of a name, before which there was room for one; the rest is of the store, and a variable is unbound
 abbrev pub FrontIn : {N : Type 0} → Held N → ℕ → Front N → Type 0

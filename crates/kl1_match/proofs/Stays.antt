@@ -1,7 +1,8 @@
 -- A goal that waits for no variable that was bound keeps its clause and its variables.
 use Rattle.std.proofs.Common.{◌≡◌, ℕ, List, [], ◌∷◌, refl, sym, ap, ap₂, ◌∙◌}
 use Rattle.kl1_model.specs.declared.rules.Rules.{Rules}
-use Rattle.kl1_model.specs.Term.{Term, variable, integer, atom, structure, Terms, none, more, substituted, each_substituted, Replacement, replaced}
+use Rattle.kl1_model.specs.Term.{Term, variable, integer, atom, structure, Terms, none, more, substituted, each_substituted, Replacement}
+use Rattle.kl1_model.specs.code.Unifying.{replaced}
 use Rattle.kl1_model.specs.Module.{Module}
 use Rattle.kl1_model.specs.code.Waits.{LeavesEach, term_clause, awaited_by_term}
 use Rattle.kl1_model.proofs.Substitutions.{values_of, replaced_is}

@@ -2,12 +2,16 @@
 use Rattle.std.proofs.Common.{◌≡◌, ℕ, Bool, true, false, if◌then◌else◌, List, refl, ap, ◌∙◌}
 use Rattle.std.specs.Prelude.{codes, bytes_eq, pos, negsuc}
 use Rattle.kl1_model.specs.Term.{Term, variable, integer, atom, structure, none, more, substituted}
-use Rattle.kl1_model.specs.Control.{allow_word, word_of, ends, breaks_off, control_by, control_of}
+use Rattle.kl1_model.specs.Control.{allow_word, word_of, Control, awaits_message, tells, tells_other, ends, breaks_off, control_of}
 use Rattle.kl1_model.specs.code.Awaited.{awaited_by_control, awaited_by_found}
 use Rattle.kl1_model.specs.code.Waits.{LeavesEach}
 use Rattle.kl1_model.specs.laws.WaitsLaws.{control_substituted, ControlStays}
 use Rattle.kl1_model.specs.Found.{Found, found, awaits, wrong}
 use Rattle.kl1_model.specs.declared.message.Message.{Message}
+
+-- what an element at the front of a control stream comes to, with the rest after it
+abbrev pub control_by : Term → Term → Found Message → Control
+control_by m rest w = elim w [ found message ↦ tells message rest | awaits v ↦ awaits_message v | wrong ↦ tells_other m rest ]
 
 allow_stays : (s : ℕ → Term) (t : Term) → LeavesEach s (awaited_by_found (allow_word t)) → allow_word (substituted s t) ≡ allow_word t
 allow_stays s (variable v) l = ap allow_word l.0

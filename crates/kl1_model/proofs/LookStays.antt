@@ -1,24 +1,24 @@
 -- What looks at arguments come to, and what lists of codes spell, when variables are replaced.
 use Rattle.std.proofs.Common.{◌≡◌, ℕ, zero, suc, Bool, true, false, if◌then◌else◌, refl, ap, ap₂, ◌∙◌}
-use Rattle.std.specs.Prelude.{codes, bytes_eq, pos, negsuc, nat_le, ◌||◌, ⊤, List}
+use Rattle.std.specs.Prelude.{codes, bytes_eq, pos, negsuc, nat_le, ◌||◌, ⊤, List, ◌∷◌}
 use Rattle.kl1_model.specs.Text.{is_name_byte}
 use Rattle.kl1_model.specs.Term.{Term, variable, integer, atom, structure, none, more, substituted}
-use Rattle.kl1_model.specs.Look.{spelled_before, spelled_by, spelling, callee_look, goal_look, priority_look, allowance_look, number_of_term, ExecuteArguments, arguments_look}
+use Rattle.kl1_model.specs.Look.{spelled_by, spelling, callee_look, goal_look, priority_look, allowance_look, number_of_term, ExecuteArguments, arguments_look}
 use Rattle.kl1_model.specs.code.Waits.{LeavesEach}
 use Rattle.kl1_model.specs.laws.WaitsLaws.{SubstitutesStay}
-use Rattle.kl1_model.specs.Found.{Found, found, awaits, wrong, then_found, right_if}
+use Rattle.kl1_model.specs.Found.{Found, found, awaits, wrong, then_found, found_map, right_if}
 use Rattle.kl1_model.specs.code.Awaited.{awaited_by_found}
 
 -- ---- lists of codes
 
-before_left : (s : ℕ → Term) (n : ℕ) (x : Found (List ℕ)) → LeavesEach s (awaited_by_found (spelled_before n x)) → LeavesEach s (awaited_by_found x)
+before_left : (s : ℕ → Term) (n : ℕ) (x : Found (List ℕ)) → LeavesEach s (awaited_by_found (found_map (λ text. n ∷ text) x)) → LeavesEach s (awaited_by_found x)
 before_left s n (found text) l = tt
 before_left s n (awaits v) l = l
 before_left s n wrong l = tt
 
-code_stays : (s : ℕ → Term) (n : ℕ) (fits : Bool) (x y : Found (List ℕ)) → (LeavesEach s (awaited_by_found x) → y ≡ x) → LeavesEach s (awaited_by_found (if fits then spelled_before n x else wrong)) →
-    (if fits then spelled_before n y else wrong) ≡ (if fits then spelled_before n x else wrong)
-code_stays s n true x y f l = ap (spelled_before n) (f (before_left s n x l))
+code_stays : (s : ℕ → Term) (n : ℕ) (fits : Bool) (x y : Found (List ℕ)) → (LeavesEach s (awaited_by_found x) → y ≡ x) → LeavesEach s (awaited_by_found (if fits then found_map (λ text. n ∷ text) x else wrong)) →
+    (if fits then found_map (λ text. n ∷ text) y else wrong) ≡ (if fits then found_map (λ text. n ∷ text) x else wrong)
+code_stays s n true x y f l = ap (found_map (λ text. n ∷ text)) (f (before_left s n x l))
 code_stays s n false x y f l = refl
 
 element_stays : (s : ℕ → Term) (h : Term) (x y : Found (List ℕ)) → (LeavesEach s (awaited_by_found x) → y ≡ x) → LeavesEach s (awaited_by_found (spelled_by h x)) → spelled_by (substituted s h) y ≡ spelled_by h x

@@ -1,9 +1,10 @@
 -- The rule of unification without fuel.
-use Rattle.std.proofs.Common.{◌≡◌, ℕ, zero, suc, ◌+◌, ◌<◌, ◌≤◌, ◌||◌, Bool, true, false, List, [], ◌∷◌, Option, Some, option_map, refl, sym, ◌∙◌, ap, arith, eq-eqb, le_refl, le_trans, lt_of_lt_of_le, ⊎_elim}
+use Rattle.std.proofs.Common.{◌≡◌, ℕ, zero, suc, ◌+◌, ◌<◌, ◌≤◌, ◌||◌, Bool, true, false, List, [], ◌∷◌, Option, Some, option_map, refl, sym, ◌∙◌, ap, arith, eq-eqb, le_refl, ⊎_elim}
 use Rattle.std.proofs.lemmas.Bool.{or_parts, or_from, or_left, or_right, cases_eq, cases_lt}
-use Rattle.kl1_model.specs.Term.{Term, variable, structure, Terms, more, sizes, occurs, Replacement}
-use Rattle.kl1_model.specs.Unify.{Equation, Front, argument_equations, front, replace_in_all, after, equations_size, walk, mgu_within, mgu_to, highest_among, mgu}
-use Rattle.kl1_model.specs.laws.UnifyLaws.{equate, NumberedTo, AllNumberedTo, FrontNumberedTo, FrontDecides, FrontKeepsNumbers, HighestIsABound, AnyBoundServes, NothingIsSolved}
+use Rattle.kl1_model.specs.Term.{Term, variable, structure, Terms, more, size, sizes, occurs, Replacement}
+use Rattle.kl1_model.specs.Unify.{Equation, Front, argument_equations, front, replace_in_all, equations_size, mgu_within, highest_among, mgu}
+use Rattle.kl1_model.specs.code.Unifying.{after}
+use Rattle.kl1_model.specs.laws.UnifyLaws.{equate, NumberedTo, AllNumberedTo, FrontNumberedTo, FrontDecides, FrontKeepsNumbers, HighestIsABound, mgu_to, AnyBoundServes, NothingIsSolved}
 use Rattle.kl1_model.proofs.UnifyFront.{front_cases}
 use Rattle.kl1_model.proofs.Occurrences.{numbered_to_highest, numbered-replace_in_all, numbered-arguments, Absent, absent-replace_in_all, absent-replaced, absent-arguments}
 
@@ -150,38 +151,22 @@ after_agrees last e es same same' next next' h shrinks loses =
     (λ a b c h s l. refl)
     e.left e.right h shrinks loses
 
--- a walk is the same whatever its fuel, if it is enough
-walk_enough : (last : ℕ) (next : List Equation → Option (List Replacement)) (m n : ℕ) (es : List Equation) → AllNumberedTo last es → equations_size es < m → equations_size es < n → walk next m es ≡ walk next n es
-unfolding walk
-walk_enough last next zero n es h l k = absurd (omega arith)
-walk_enough last next (suc m) zero es h l k = absurd (omega arith)
-walk_enough last next (suc m) (suc n) [] h l k = refl
-walk_enough last next (suc m) (suc n) (e ∷ es) h l k =
-    after_agrees last e es (walk next m) (walk next n) next next h
-    (λ to s. walk_enough last next m n to s.numbered (let q = s.smaller in omega arith) (let q = s.smaller in omega arith))
-    (λ to s. refl)
-
--- a walk is the same with another continuation that agrees on equations with fewer variables
-walk_agrees : (last most : ℕ) (next next' : List Equation → Option (List Replacement)) → ((to : List Equation) → AllNumberedTo last to → variables_in last to < most → next to ≡ next' to) → (n : ℕ) (es : List Equation) → AllNumberedTo last es → variables_in last es ≤ most → walk next n es ≡ walk next' n es
-unfolding walk
-walk_agrees last most next next' agree zero es h l = refl
-walk_agrees last most next next' agree (suc n) [] h l = refl
-walk_agrees last most next next' agree (suc n) (e ∷ es) h l =
-    after_agrees last e es (walk next n) (walk next' n) next next' h
-    (λ to s. walk_agrees last most next next' agree n to s.numbered (le_trans s.variables l))
-    (λ to s. agree to s.numbered (lt_of_lt_of_le s.variables l))
-
--- a solution is the same whatever its fuel, if it is more than the variables that occur
-pub solve_enough : (last m n : ℕ) (es : List Equation) → AllNumberedTo last es → variables_in last es < m → variables_in last es < n → mgu_within m es ≡ mgu_within n es
+-- a solution is the same whatever its fuel, if it is more than the variables that occur, and no less than the size
+pub solve_enough : (last n m n' m' : ℕ) (es : List Equation) → AllNumberedTo last es → variables_in last es < n → variables_in last es < n' → equations_size es ≤ m → equations_size es ≤ m' → mgu_within n m es ≡ mgu_within n' m' es
 unfolding mgu_within
-solve_enough last zero n es h l k = absurd (omega arith)
-solve_enough last (suc m) zero es h l k = absurd (omega arith)
-solve_enough last (suc m) (suc n) es h l k =
-    walk_agrees last (variables_in last es) (mgu_within m) (mgu_within n) (λ to t s. solve_enough last m n to t (omega arith) (omega arith)) (suc (equations_size es)) es h (le_refl (variables_in last es))
+solve_enough last n m n' m' [] h a b c d = refl
+solve_enough last zero m n' m' (e ∷ es) h a b c d = absurd (omega arith)
+solve_enough last (suc n) m zero m' (e ∷ es) h a b c d = absurd (omega arith)
+solve_enough last (suc n) zero (suc n') m' (e ∷ es) h a b c d = absurd (omega arith)
+solve_enough last (suc n) (suc m) (suc n') zero (e ∷ es) h a b c d = absurd (omega arith)
+solve_enough last (suc n) (suc m) (suc n') (suc m') (e ∷ es) h a b c d =
+    after_agrees last e es (mgu_within (suc n) m) (mgu_within (suc n') m') (λ to. mgu_within n (equations_size to) to) (λ to. mgu_within n' (equations_size to) to) h
+    (λ to s. let v = s.variables in let l = s.smaller in solve_enough last (suc n) m (suc n') m' to s.numbered (omega arith) (omega arith) (omega arith) (omega arith))
+    (λ to s. let v = s.variables in solve_enough last n (equations_size to) n' (equations_size to) to s.numbered (omega arith) (omega arith) (le_refl (equations_size to)) (le_refl (equations_size to)))
 
 -- no equations are solved by no replacements
 pub nothing_solved_to : (last : ℕ) → mgu_to last [] ≡ Some []
-unfolding mgu_within walk
+unfolding mgu_within
 nothing_solved_to last = refl
 
 pub nothing_solved : NothingIsSolved
@@ -189,12 +174,15 @@ nothing_solved = nothing_solved_to 0
 
 -- equations are solved by what their front equation leads to, by one bound on the numbers
 pub front_decides_to : (last : ℕ) (e : Equation) (es : List Equation) → AllNumberedTo last (e ∷ es) → mgu_to last (e ∷ es) ≡ after (mgu_to last) (mgu_to last) (front e.left e.right es)
-unfolding mgu_within walk
+unfolding mgu_within
 front_decides_to last e es h =
     let most = variables_most last (e ∷ es) in
-    after_agrees last e es (walk (mgu_within (suc last)) (equations_size (e ∷ es))) (mgu_to last) (mgu_within (suc last)) (mgu_to last) h
-    (λ to s. walk_enough last (mgu_within (suc last)) (equations_size (e ∷ es)) (suc (equations_size to)) to s.numbered s.smaller (omega arith))
-    (λ to s. solve_enough last (suc last) (suc (suc last)) to s.numbered (let q = s.variables in omega arith) (let q = s.variables in omega arith))
+    let spent : ℕ = size e.left + equations_size es in
+    let sum : equations_size (e ∷ es) ≡ suc spent = omega arith in
+    ap (λ m. mgu_within (suc (suc last)) m (e ∷ es)) sum
+    ∙ after_agrees last e es (mgu_within (suc (suc last)) spent) (mgu_to last) (λ to. mgu_within (suc last) (equations_size to) to) (mgu_to last) h
+    (λ to s. let v = s.variables in let l = s.smaller in solve_enough last (suc (suc last)) spent (suc (suc last)) (equations_size to) to s.numbered (omega arith) (omega arith) (omega arith) (le_refl (equations_size to)))
+    (λ to s. let v = s.variables in solve_enough last (suc last) (equations_size to) (suc (suc last)) (equations_size to) to s.numbered (omega arith) (omega arith) (le_refl (equations_size to)) (le_refl (equations_size to)))
 
 -- two bounds on the numbers give the same solution
 bounds_agree : (last other : ℕ) (es : List Equation) → AllNumberedTo last es → AllNumberedTo other es → mgu_to last es ≡ mgu_to other es
@@ -202,8 +190,8 @@ bounds_agree last other es h k =
     let l = variables_most last es in
     let o = variables_most other es in
     ⊎_elim
-    (λ (b : last < other). solve_enough last (suc (suc last)) (suc (suc other)) es h (omega arith) (omega arith))
-    (λ (b : other ≤ last). solve_enough other (suc (suc last)) (suc (suc other)) es k (omega arith) (omega arith))
+    (λ (b : last < other). solve_enough last (suc (suc last)) (equations_size es) (suc (suc other)) (equations_size es) es h (omega arith) (omega arith) (le_refl (equations_size es)) (le_refl (equations_size es)))
+    (λ (b : other ≤ last). solve_enough other (suc (suc last)) (equations_size es) (suc (suc other)) (equations_size es) es k (omega arith) (omega arith) (le_refl (equations_size es)) (le_refl (equations_size es)))
     (cases_lt last other)
 
 -- the highest number is a bound

@@ -14,18 +14,8 @@ message_term (Allow n) = structure (codes "allow") (more (integer (pos n)) none)
 
 -- how many structures a message takes on the console's control stream, its list cell among them
 abbrev pub message_nodes : Message → ℕ
-message_nodes Stop = 1
-message_nodes Start = 1
-message_nodes Abort = 1
 message_nodes (Allow n) = 2
-
--- what an atom says
-abbrev pub atom_word : List ℕ → Found Message
-atom_word a =
-    if bytes_eq a (codes "stop") then found Stop
-    else if bytes_eq a (codes "start") then found Start
-    else if bytes_eq a (codes "abort") then found Abort
-    else wrong
+message_nodes _ = 1
 
 -- what `allow` of a term says: the term is an integer from 0
 abbrev pub allow_word : Term → Found Message
@@ -36,12 +26,15 @@ allow_word _ = wrong
 -- what an element of a control stream says
 abbrev pub word_of : Term → Found Message
 word_of (variable v) = awaits v
-word_of (atom a) = atom_word a
+word_of (atom a) =
+    if bytes_eq a (codes "stop") then found Stop
+    else if bytes_eq a (codes "start") then found Start
+    else if bytes_eq a (codes "abort") then found Abort
+    else wrong
 word_of (structure f (more n none)) = if bytes_eq f (codes "allow") then allow_word n else wrong
 word_of _ = wrong
 
--- what stands at the front of a control stream: nothing yet, for want of a variable's value; a message and the rest; any other
--- element and the rest; the end; or a term that is no stream
+-- what stands at the front of a control stream: an unbound variable, a message or another element with the rest, the end, or no stream
 pub data Control : Type 0 where
   awaits_message : ℕ → Control
   tells : Message → Term → Control
@@ -49,15 +42,11 @@ pub data Control : Type 0 where
   ends : Control
   breaks_off : Term → Control
 
--- what an element at the front of a control stream comes to, with the rest after it
-abbrev pub control_by : Term → Term → Found Message → Control
-control_by m rest (found message) = tells message rest
-control_by m rest wrong = tells_other m rest
-control_by m rest (awaits v) = awaits_message v
-
--- what stands at the front of a control stream
+-- the front of a control stream
 abbrev pub control_of : Term → Control
 control_of (variable v) = awaits_message v
 control_of (atom a) = if bytes_eq a (codes "[]") then ends else breaks_off (atom a)
-control_of (structure f (more m (more rest none))) = if bytes_eq f (codes ".") then control_by m rest (word_of m) else breaks_off (structure f (more m (more rest none)))
+control_of (structure f (more m (more rest none))) =
+    if bytes_eq f (codes ".") then elim (word_of m) [ found message ↦ tells message rest | awaits v ↦ awaits_message v | wrong ↦ tells_other m rest ]
+    else breaks_off (structure f (more m (more rest none)))
 control_of t = breaks_off t

@@ -7,19 +7,13 @@ use Rattle.kl1_model.specs.Found.{Found, found, awaits, wrong, then_found, found
 
 -- ---- the codes of `atom_from`
 
--- a code in front of what is spelled after it
-abbrev pub spelled_before : ℕ → Found (List ℕ) → Found (List ℕ)
-spelled_before n rest = found_map (λ text. n ∷ text) rest
-
--- an element of a list of codes, which is the byte of a name, in front of what is spelled after it; one that is unbound, or is no
--- such byte, decides before what is after it
+-- the byte of a name in front of what is spelled after it; an element that is unbound or no such byte decides before what is after it
 abbrev pub spelled_by : Term → Found (List ℕ) → Found (List ℕ)
 spelled_by (variable v) rest = awaits v
-spelled_by (integer (pos n)) rest = if is_name_byte n then spelled_before n rest else wrong
+spelled_by (integer (pos n)) rest = if is_name_byte n then found_map (λ text. n ∷ text) rest else wrong
 spelled_by _ rest = wrong
 
--- the text that a list of codes spells, which may have `most` cells: each cell goes before its element, and the first thing that
--- isn't right decides
+-- the text that a list of codes spells, in at most `most` cells: a cell goes before its element, and the first that isn't right decides
 abbrev pub spelling : ℕ → Term → Found (List ℕ)
 spelling most (variable v) = awaits v
 spelling most (atom a) = if bytes_eq a (codes "[]") then found [] else wrong
@@ -74,5 +68,8 @@ pub record ExecuteArguments : Type 0 where
 -- the arguments of a new shoen: the goal, the low and the high priority and the allowance, and after these that low isn't over high
 abbrev pub arguments_look : ExecuteArguments → Found ⊤
 arguments_look o =
-    then_found (goal_look o.goal) (λ goal. then_found (priority_look o.low) (λ low. then_found (priority_look o.high) (λ high. then_found (allowance_look o.allowance) (λ allowance.
+    then_found (goal_look o.goal) (λ goal.
+    then_found (priority_look o.low) (λ low.
+    then_found (priority_look o.high) (λ high.
+    then_found (allowance_look o.allowance) (λ allowance.
     right_if (nat_le (number_of_term o.low) (number_of_term o.high))))))

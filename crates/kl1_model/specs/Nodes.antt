@@ -5,10 +5,8 @@ use Rattle.kl1_model.specs.Term.{Term, variable, integer, atom, structure, Terms
 -- how many structures a term has, itself among them
 abbrev mutual
   pub structures_of : Term → ℕ
-  structures_of (variable n) = 0
-  structures_of (integer i) = 0
-  structures_of (atom a) = 0
   structures_of (structure f ts) = suc (structures_in ts)
+  structures_of _ = 0
 
   pub structures_in : Terms → ℕ
   structures_in none = 0

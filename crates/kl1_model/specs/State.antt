@@ -2,7 +2,7 @@
 use Rattle.std.specs.Prelude.{ℕ, ◌==◌, not, ◌||◌, Bool, true, false, if◌then◌else◌, List, [], ◌∷◌, ◌++◌, map, filter, find, bytes_eq, Option, option_map}
 use Rattle.std.specs.List.{list_any}
 use Rattle.kl1_model.specs.declared.life.Life.{Life}
-use Rattle.kl1_model.specs.declared.life.Life.TheVariants.{Living, Terminated, Aborted}
+use Rattle.kl1_model.specs.declared.life.Life.TheVariants.{Living}
 use Rattle.kl1_model.specs.declared.rules.Rules.{Rules}
 use Rattle.kl1_model.specs.declared.rules.Rules.TheVariants.{One, Two, Three}
 use Rattle.kl1_model.specs.declared.limits.TheConstants.{MOST_NAME_BYTES, MOST_SPELLED_BEFORE}
@@ -10,8 +10,7 @@ use Rattle.kl1_model.specs.Text.{is_built_in}
 use Rattle.kl1_model.specs.Term.{Term, variable, integer, atom, structure, Terms, none, more, terms_of, replace, Replacement}
 use Rattle.kl1_model.specs.Module.{Clause, goals_of, Module}
 
--- what a goal does: it reads its shoen's control stream; or it is a term to be reduced; or it is a substitute for a goal that raised an
--- exception, and waits for this term to be a goal
+-- what a goal does: it reads its shoen's control stream, it is this term, or it is a substitute that waits for this term to be a goal
 pub data Task : Type 0 where
   monitor : Task
   reduces : Term → Task
@@ -24,16 +23,14 @@ pub record Goal : Type 0 where
   pub shoen : ℕ
   pub priority : ℕ
 
--- what the console keeps of a shoen that it started: the goal as started, the report stream from its beginning,
--- and the tail of the control stream
+-- what the console keeps of a shoen: its goal as started, its report stream from the beginning, and the tail of its control stream
 pub record Origin : Type 0 where
   pub goal : Term
   pub reports : Term
   pub control : Term
 
--- a shoen: its number; the number of its parent, 0 if the console started it; whether it lives, or how it ended, and whether
--- it is stopped; the reductions that it may be charged; its priorities from low to high; what is left of its control stream, the
--- tail of its report stream, whether that stream is broken, and its origin at the console
+-- a shoen: `parent` is 0 if the console started it, which then keeps `origin`; `allowance` is in reductions; its goals have priorities from
+-- `low` to `high`; `control` is what is left of its control stream, `tail` is the tail of its report stream, which may be broken
 pub record Shoen : Type 0 where
   pub number : ℕ
   pub parent : ℕ
@@ -47,10 +44,9 @@ pub record Shoen : Type 0 where
   pub is_broken : Bool
   pub origin : Option Origin
 
--- an account: its own name, and the rules that it keeps to; its goals and shoens in order of their numbers; its
--- modules in order of loading; for each reduction that was charged, the number of its goal's shoen; the names it has used, in order of first use; the last number of a
--- variable, a goal and a shoen; how many variables and structures its starts, messages and answers from the console and commits had,
--- how many reports it made, how many entries its journal has, and how many sessions are open
+-- an account: its goals and shoens by number, the shoen of each reduction that was charged, its modules in order of loading, the names that
+-- it has used in order of first use; how many variables and structures its starts, messages, answers and commits had, how many reports it
+-- made, how many entries its journal has, and how many sessions are open
 pub record State : Type 0 where
   pub own_name : List ℕ
   pub rules : Rules
@@ -74,7 +70,7 @@ has_substitutes One = false
 has_substitutes Two = true
 has_substitutes Three = true
 
--- the greatest number of codes from which `atom_from` makes a name
+-- the most codes from which `atom_from` makes a name
 abbrev pub most_spelled : Rules → ℕ
 most_spelled One = MOST_SPELLED_BEFORE
 most_spelled Two = MOST_SPELLED_BEFORE
@@ -100,8 +96,7 @@ fresh rules name = record {
   sessions = 0;
 }
 
--- an account of this name, which keeps to these rules, in which nothing has happened but that it has used these names, with this number
--- of open sessions
+-- an account in which nothing has happened but that it has used these names, with this number of open sessions
 abbrev pub fresh_with : Rules → List ℕ → List (List ℕ) → ℕ → State
 fresh_with rules name names sessions = record (fresh rules name) { names = names; sessions = sessions }
 
@@ -148,14 +143,12 @@ change_shoen n change s = record s { shoens = map (λ h. if h.number == n then c
 abbrev pub without_goal : ℕ → State → State
 without_goal n s = record s { goals = filter (λ g. not (g.number == n)) s.goals }
 
--- the names of a term in order, that of an operator before those of its operands; operators are built in, so that the order of an
--- account's own names is that of the text
+-- the names of a term, a structure's before its arguments'; operators are built in, so an account's own names stand as in the text
 abbrev mutual
   pub names_of : Term → List (List ℕ)
-  names_of (variable n) = []
-  names_of (integer i) = []
   names_of (atom a) = a ∷ []
   names_of (structure f ts) = f ∷ names_in ts
+  names_of _ = []
 
   pub names_in : Terms → List (List ℕ)
   names_in none = []
@@ -178,7 +171,7 @@ names_of_module m = m.name ∷ names_of_clauses m.clauses
 abbrev pub with_name : List (List ℕ) → List ℕ → List (List ℕ)
 with_name names a = if is_built_in a || list_any (bytes_eq a) names then names else names ++ a ∷ []
 
--- names used so far, and then those of these that are new and not built in
+-- names used so far, with those of others that are new and not built in
 abbrev pub with_names : List (List ℕ) → List (List ℕ) → List (List ℕ)
 with_names names [] = names
 with_names names (a ∷ others) = with_names (with_name names a) others
@@ -186,11 +179,9 @@ with_names names (a ∷ others) = with_names (with_name names a) others
 -- whether a task is a monitor's
 abbrev pub is_monitor : Task → Bool
 is_monitor monitor = true
-is_monitor (reduces t) = false
-is_monitor (substitutes t) = false
+is_monitor _ = false
 
 -- whether a shoen lives
 abbrev pub is_living : Life → Bool
 is_living Living = true
-is_living Terminated = false
-is_living Aborted = false
+is_living _ = false

@@ -75,10 +75,10 @@ pub const MOST_MODULES: usize = 32;
 /// The most goals of an account at one time; monitors don't count.
 pub const MOST_GOALS: u64 = 8_192;
 
-/// The most variables of an account's starts, messages from the console and commits since its last reset.
+/// The most variables of an account's starts, messages, answers and commits since its last reset.
 pub const MOST_VARIABLES: u64 = 262_144;
 
-/// The most structures of an account's starts, messages from the console and commits since its last reset.
+/// The most structures of an account's starts, messages, answers and commits since its last reset.
 pub const MOST_NODES: u64 = 1_048_576;
 
 /// The most shoens that an account opens since its last reset.

@@ -1,5 +1,5 @@
 -- What a goal names is the text of a name.
-use Rattle.std.specs.Prelude.{◌≡◌, ℕ, zero, suc, ◌≤◌, ◌==◌, nat_le, Bool, true, false, if◌then◌else◌, pos, negsuc, List, [], length, codes, bytes_eq, Option, Some, None, find, option_map, ⊤}
+use Rattle.std.specs.Prelude.{◌≡◌, ℕ, zero, suc, ◌≤◌, ◌==◌, nat_le, Bool, true, false, if◌then◌else◌, pos, negsuc, List, [], ◌∷◌, length, codes, bytes_eq, Option, Some, None, find, option_map, ⊤}
 use Rattle.std.specs.List.{list_all}
 use Rattle.std.proofs.Common.{refl, arith}
 use Rattle.std.proofs.lemmas.Bool.{and_from, le-leb}
@@ -14,14 +14,14 @@ use Rattle.kl1_model.specs.declared.number.Number.TheVariants.{Value, Overflow, 
 use Rattle.kl1_model.specs.Goal.{is_execute}
 use Rattle.kl1_model.specs.Module.{Module}
 use Rattle.kl1_model.specs.Match.{Call, call_of, Candidate, candidates_of, fails}
-use Rattle.kl1_model.specs.Look.{spelled_before, spelled_by, spelling, goal_look, ExecuteArguments, arguments_look}
+use Rattle.kl1_model.specs.Look.{spelled_by, spelling, goal_look, ExecuteArguments, arguments_look}
 use Rattle.kl1_model.specs.Control.{Control, awaits_message, tells, tells_other, ends, breaks_off, control_of}
 use Rattle.kl1_model.specs.State.{Task, monitor, reduces, substitutes, Goal, Shoen, State, shoen_at, most_spelled}
 use Rattle.kl1_model.specs.Tree.{is_enabled}
 use Rattle.kl1_model.specs.Report.{failure}
 use Rattle.kl1_model.specs.Reduction.{Move, commits, raises, unifies, names, opens, goes, gives_way, call_move, move_found, becomes, execute_arguments, execute_move, pair_move, built_in_move, term_move, Action, moves, reads, read_action, task_action, action_of}
 use Rattle.kl1_model.specs.code.Steps.{order_move, substitute_move, monitor_action}
-use Rattle.kl1_model.specs.Found.{Found, found, awaits, wrong}
+use Rattle.kl1_model.specs.Found.{Found, found, awaits, wrong, found_map}
 
 -- a text that is spelled is bytes of names, and no more of them than cells
 abbrev IsSpelled : ℕ → Found (List ℕ) → Type 0
@@ -29,7 +29,7 @@ IsSpelled most (found text) = (list_all is_name_byte text ≡ true) × (length t
 IsSpelled most (awaits v) = Unit {0}
 IsSpelled most wrong = Unit {0}
 
-before_spelled : (x : Bool) (n most : ℕ) (s : Found (List ℕ)) → is_name_byte n ≡ x → IsSpelled most s → IsSpelled (suc most) (if x then spelled_before n s else wrong)
+before_spelled : (x : Bool) (n most : ℕ) (s : Found (List ℕ)) → is_name_byte n ≡ x → IsSpelled most s → IsSpelled (suc most) (if x then found_map (λ text. n ∷ text) s else wrong)
 before_spelled true n most (found text) is h = (and_from (is_name_byte n) (list_all is_name_byte text) is h.0, omega (arith, h.1))
 before_spelled true n most (awaits v) is h = tt
 before_spelled true n most wrong is h = tt

@@ -1,7 +1,7 @@
 -- What is written for each example journal, computed from the definitions. Made by tools/examples_as_definitions.
 use Rattle.std.specs.Prelude.{◌≡◌, refl}
 use Rattle.std.specs.Fmt.{digits}
-use Rattle.kl1_model.specs.Unify.{mgu_within, walk}
+use Rattle.kl1_model.specs.Unify.{mgu_within}
 use Rattle.kl1_model.specs.Tree.{path_within}
 use Rattle.kl1_model.specs.Token.{tokens_within}
 use Rattle.kl1_model.specs.reader.Reader.{expression_at, parted_by, grouped_by}
@@ -9,383 +9,383 @@ use Rattle.kl1_model_history.specs.Replay.{replay_output}
 use Rattle.kl1_model_laws.specs.JournalExamples.{answer_in_another_spelling_journal, answer_in_another_spelling_output, answer_in_version_1_journal, answer_in_version_1_output, answer_to_no_report_journal, answer_to_no_report_output, answer_to_report_0_journal, answer_to_report_0_output, append_two_lists_journal, append_two_lists_output, bad_source_journal, bad_source_output, built_in_name_journal, built_in_name_output, capital_without_quotes_journal, capital_without_quotes_output, capitals_in_a_load_journal, capitals_in_a_load_output, control_of_an_ended_shoen_journal, control_of_an_ended_shoen_output, control_of_no_shoen_journal, control_of_no_shoen_output, each_kind_of_entry_journal, each_kind_of_entry_output, empty_line_journal, empty_line_output, empty_line_at_the_end_journal, empty_line_at_the_end_output, empty_list_as_a_name_journal, empty_list_as_a_name_output, entries_without_a_heading_journal, entries_without_a_heading_output, entry_after_a_blank_journal, entry_after_a_blank_output, entry_in_capitals_journal, entry_in_capitals_output, entry_in_place_of_a_name_journal, entry_in_place_of_a_name_output, entry_of_one_number_journal, entry_of_one_number_output, entry_of_three_numbers_journal, entry_of_three_numbers_output, entry_with_a_blank_at_its_end_journal, entry_with_a_blank_at_its_end_output, entry_with_a_return_journal, entry_with_a_return_output, entry_with_a_sign_journal, entry_with_a_sign_output, entry_with_a_tab_journal, entry_with_a_tab_output, entry_with_two_blanks_journal, entry_with_two_blanks_output, entry_without_a_feed_journal, entry_without_a_feed_output, exception_and_answer_journal, exception_and_answer_output, exception_in_version_1_journal, exception_in_version_1_output, five_sessions_journal, five_sessions_output, four_sessions_journal, four_sessions_output, goal_in_another_spelling_journal, goal_in_another_spelling_output, goal_in_parentheses_journal, goal_in_parentheses_output, goal_that_is_none_journal, goal_that_is_none_output, goal_with_a_blank_journal, goal_with_a_blank_output, goal_with_a_leading_zero_journal, goal_with_a_leading_zero_output, goal_with_a_name_in_quotes_journal, goal_with_a_name_in_quotes_output, goal_with_a_named_variable_journal, goal_with_a_named_variable_output, goal_with_other_variables_journal, goal_with_other_variables_output, goals_as_printed_journal, goals_as_printed_output, greatest_numbers_journal, greatest_numbers_output, heading_after_a_blank_journal, heading_after_a_blank_output, heading_alone_journal, heading_alone_output, heading_of_four_numbers_journal, heading_of_four_numbers_output, heading_of_two_numbers_journal, heading_of_two_numbers_output, heading_with_a_blank_at_its_end_journal, heading_with_a_blank_at_its_end_output, heading_with_a_leading_zero_journal, heading_with_a_leading_zero_output, heading_with_a_return_journal, heading_with_a_return_output, heading_with_a_tab_journal, heading_with_a_tab_output, heading_with_two_blanks_journal, heading_with_two_blanks_output, heading_without_a_feed_journal, heading_without_a_feed_output, later_version_journal, later_version_output, letter_that_is_no_digit_journal, letter_that_is_no_digit_output, load_alone_journal, load_alone_output, load_of_nothing_journal, load_of_nothing_output, load_without_digits_journal, load_without_digits_output, loaded_twice_journal, loaded_twice_output, login_is_no_entry_journal, login_is_no_entry_output, low_over_high_journal, low_over_high_output, many_names_told_journal, many_names_told_output, messages_of_a_program_journal, messages_of_a_program_output, module_is_used_journal, module_is_used_output, name_of_127_bytes_journal, name_of_127_bytes_output, name_of_128_bytes_journal, name_of_128_bytes_output, name_of_64_codes_of_version_2_journal, name_of_64_codes_of_version_2_output, name_of_64_codes_of_version_3_journal, name_of_64_codes_of_version_3_output, name_that_is_missing_journal, name_that_is_missing_output, name_too_many_journal, name_too_many_output, name_twice_journal, name_twice_output, name_with_a_return_journal, name_with_a_return_output, names_alone_journal, names_alone_output, names_from_codes_journal, names_from_codes_output, names_in_quotes_journal, names_in_quotes_output, nothing_journal, nothing_output, number_that_is_too_large_journal, number_that_is_too_large_output, number_with_a_leading_zero_journal, number_with_a_leading_zero_output, odd_digits_in_a_load_journal, odd_digits_in_a_load_output, priority_4096_journal, priority_4096_output, query_is_no_entry_journal, query_is_no_entry_output, quote_that_is_single_journal, quote_that_is_single_output, quotes_without_an_end_journal, quotes_without_an_end_output, quotes_without_need_journal, quotes_without_need_output, reduction_of_no_goal_journal, reduction_of_no_goal_output, reset_is_no_entry_journal, reset_is_no_entry_output, run_is_no_entry_journal, run_is_no_entry_output, second_name_that_is_missing_journal, second_name_that_is_missing_output, shoens_in_shoens_journal, shoens_in_shoens_output, start_and_reduction_journal, start_and_reduction_output, start_and_reduction_of_version_2_journal, start_and_reduction_of_version_2_output, start_and_reduction_of_version_3_journal, start_and_reduction_of_version_3_output, start_without_a_goal_journal, start_without_a_goal_output, step_that_is_refused_journal, step_that_is_refused_output, too_many_names_told_journal, too_many_names_told_output, two_headings_journal, two_headings_output, version_with_a_leading_zero_journal, version_with_a_leading_zero_output, JournalsHold}
 
 answer_in_another_spelling_row : replay_output answer_in_another_spelling_journal ≡ answer_in_another_spelling_output
-unfolding digits tokens_within expression_at parted_by grouped_by mgu_within walk path_within
+unfolding digits tokens_within expression_at parted_by grouped_by mgu_within path_within
 answer_in_another_spelling_row = refl
 
 answer_in_version_1_row : replay_output answer_in_version_1_journal ≡ answer_in_version_1_output
-unfolding digits tokens_within expression_at parted_by grouped_by mgu_within walk path_within
+unfolding digits tokens_within expression_at parted_by grouped_by mgu_within path_within
 answer_in_version_1_row = refl
 
 answer_to_no_report_row : replay_output answer_to_no_report_journal ≡ answer_to_no_report_output
-unfolding digits tokens_within expression_at parted_by grouped_by mgu_within walk path_within
+unfolding digits tokens_within expression_at parted_by grouped_by mgu_within path_within
 answer_to_no_report_row = refl
 
 answer_to_report_0_row : replay_output answer_to_report_0_journal ≡ answer_to_report_0_output
-unfolding digits tokens_within expression_at parted_by grouped_by mgu_within walk path_within
+unfolding digits tokens_within expression_at parted_by grouped_by mgu_within path_within
 answer_to_report_0_row = refl
 
 append_two_lists_row : replay_output append_two_lists_journal ≡ append_two_lists_output
-unfolding digits tokens_within expression_at parted_by grouped_by mgu_within walk path_within
+unfolding digits tokens_within expression_at parted_by grouped_by mgu_within path_within
 append_two_lists_row = refl
 
 bad_source_row : replay_output bad_source_journal ≡ bad_source_output
-unfolding digits tokens_within expression_at parted_by grouped_by mgu_within walk path_within
+unfolding digits tokens_within expression_at parted_by grouped_by mgu_within path_within
 bad_source_row = refl
 
 built_in_name_row : replay_output built_in_name_journal ≡ built_in_name_output
-unfolding digits tokens_within expression_at parted_by grouped_by mgu_within walk path_within
+unfolding digits tokens_within expression_at parted_by grouped_by mgu_within path_within
 built_in_name_row = refl
 
 capital_without_quotes_row : replay_output capital_without_quotes_journal ≡ capital_without_quotes_output
-unfolding digits tokens_within expression_at parted_by grouped_by mgu_within walk path_within
+unfolding digits tokens_within expression_at parted_by grouped_by mgu_within path_within
 capital_without_quotes_row = refl
 
 capitals_in_a_load_row : replay_output capitals_in_a_load_journal ≡ capitals_in_a_load_output
-unfolding digits tokens_within expression_at parted_by grouped_by mgu_within walk path_within
+unfolding digits tokens_within expression_at parted_by grouped_by mgu_within path_within
 capitals_in_a_load_row = refl
 
 control_of_an_ended_shoen_row : replay_output control_of_an_ended_shoen_journal ≡ control_of_an_ended_shoen_output
-unfolding digits tokens_within expression_at parted_by grouped_by mgu_within walk path_within
+unfolding digits tokens_within expression_at parted_by grouped_by mgu_within path_within
 control_of_an_ended_shoen_row = refl
 
 control_of_no_shoen_row : replay_output control_of_no_shoen_journal ≡ control_of_no_shoen_output
-unfolding digits tokens_within expression_at parted_by grouped_by mgu_within walk path_within
+unfolding digits tokens_within expression_at parted_by grouped_by mgu_within path_within
 control_of_no_shoen_row = refl
 
 each_kind_of_entry_row : replay_output each_kind_of_entry_journal ≡ each_kind_of_entry_output
-unfolding digits tokens_within expression_at parted_by grouped_by mgu_within walk path_within
+unfolding digits tokens_within expression_at parted_by grouped_by mgu_within path_within
 each_kind_of_entry_row = refl
 
 empty_line_row : replay_output empty_line_journal ≡ empty_line_output
-unfolding digits tokens_within expression_at parted_by grouped_by mgu_within walk path_within
+unfolding digits tokens_within expression_at parted_by grouped_by mgu_within path_within
 empty_line_row = refl
 
 empty_line_at_the_end_row : replay_output empty_line_at_the_end_journal ≡ empty_line_at_the_end_output
-unfolding digits tokens_within expression_at parted_by grouped_by mgu_within walk path_within
+unfolding digits tokens_within expression_at parted_by grouped_by mgu_within path_within
 empty_line_at_the_end_row = refl
 
 empty_list_as_a_name_row : replay_output empty_list_as_a_name_journal ≡ empty_list_as_a_name_output
-unfolding digits tokens_within expression_at parted_by grouped_by mgu_within walk path_within
+unfolding digits tokens_within expression_at parted_by grouped_by mgu_within path_within
 empty_list_as_a_name_row = refl
 
 entries_without_a_heading_row : replay_output entries_without_a_heading_journal ≡ entries_without_a_heading_output
-unfolding digits tokens_within expression_at parted_by grouped_by mgu_within walk path_within
+unfolding digits tokens_within expression_at parted_by grouped_by mgu_within path_within
 entries_without_a_heading_row = refl
 
 entry_after_a_blank_row : replay_output entry_after_a_blank_journal ≡ entry_after_a_blank_output
-unfolding digits tokens_within expression_at parted_by grouped_by mgu_within walk path_within
+unfolding digits tokens_within expression_at parted_by grouped_by mgu_within path_within
 entry_after_a_blank_row = refl
 
 entry_in_capitals_row : replay_output entry_in_capitals_journal ≡ entry_in_capitals_output
-unfolding digits tokens_within expression_at parted_by grouped_by mgu_within walk path_within
+unfolding digits tokens_within expression_at parted_by grouped_by mgu_within path_within
 entry_in_capitals_row = refl
 
 entry_in_place_of_a_name_row : replay_output entry_in_place_of_a_name_journal ≡ entry_in_place_of_a_name_output
-unfolding digits tokens_within expression_at parted_by grouped_by mgu_within walk path_within
+unfolding digits tokens_within expression_at parted_by grouped_by mgu_within path_within
 entry_in_place_of_a_name_row = refl
 
 entry_of_one_number_row : replay_output entry_of_one_number_journal ≡ entry_of_one_number_output
-unfolding digits tokens_within expression_at parted_by grouped_by mgu_within walk path_within
+unfolding digits tokens_within expression_at parted_by grouped_by mgu_within path_within
 entry_of_one_number_row = refl
 
 entry_of_three_numbers_row : replay_output entry_of_three_numbers_journal ≡ entry_of_three_numbers_output
-unfolding digits tokens_within expression_at parted_by grouped_by mgu_within walk path_within
+unfolding digits tokens_within expression_at parted_by grouped_by mgu_within path_within
 entry_of_three_numbers_row = refl
 
 entry_with_a_blank_at_its_end_row : replay_output entry_with_a_blank_at_its_end_journal ≡ entry_with_a_blank_at_its_end_output
-unfolding digits tokens_within expression_at parted_by grouped_by mgu_within walk path_within
+unfolding digits tokens_within expression_at parted_by grouped_by mgu_within path_within
 entry_with_a_blank_at_its_end_row = refl
 
 entry_with_a_return_row : replay_output entry_with_a_return_journal ≡ entry_with_a_return_output
-unfolding digits tokens_within expression_at parted_by grouped_by mgu_within walk path_within
+unfolding digits tokens_within expression_at parted_by grouped_by mgu_within path_within
 entry_with_a_return_row = refl
 
 entry_with_a_sign_row : replay_output entry_with_a_sign_journal ≡ entry_with_a_sign_output
-unfolding digits tokens_within expression_at parted_by grouped_by mgu_within walk path_within
+unfolding digits tokens_within expression_at parted_by grouped_by mgu_within path_within
 entry_with_a_sign_row = refl
 
 entry_with_a_tab_row : replay_output entry_with_a_tab_journal ≡ entry_with_a_tab_output
-unfolding digits tokens_within expression_at parted_by grouped_by mgu_within walk path_within
+unfolding digits tokens_within expression_at parted_by grouped_by mgu_within path_within
 entry_with_a_tab_row = refl
 
 entry_with_two_blanks_row : replay_output entry_with_two_blanks_journal ≡ entry_with_two_blanks_output
-unfolding digits tokens_within expression_at parted_by grouped_by mgu_within walk path_within
+unfolding digits tokens_within expression_at parted_by grouped_by mgu_within path_within
 entry_with_two_blanks_row = refl
 
 entry_without_a_feed_row : replay_output entry_without_a_feed_journal ≡ entry_without_a_feed_output
-unfolding digits tokens_within expression_at parted_by grouped_by mgu_within walk path_within
+unfolding digits tokens_within expression_at parted_by grouped_by mgu_within path_within
 entry_without_a_feed_row = refl
 
 exception_and_answer_row : replay_output exception_and_answer_journal ≡ exception_and_answer_output
-unfolding digits tokens_within expression_at parted_by grouped_by mgu_within walk path_within
+unfolding digits tokens_within expression_at parted_by grouped_by mgu_within path_within
 exception_and_answer_row = refl
 
 exception_in_version_1_row : replay_output exception_in_version_1_journal ≡ exception_in_version_1_output
-unfolding digits tokens_within expression_at parted_by grouped_by mgu_within walk path_within
+unfolding digits tokens_within expression_at parted_by grouped_by mgu_within path_within
 exception_in_version_1_row = refl
 
 five_sessions_row : replay_output five_sessions_journal ≡ five_sessions_output
-unfolding digits tokens_within expression_at parted_by grouped_by mgu_within walk path_within
+unfolding digits tokens_within expression_at parted_by grouped_by mgu_within path_within
 five_sessions_row = refl
 
 four_sessions_row : replay_output four_sessions_journal ≡ four_sessions_output
-unfolding digits tokens_within expression_at parted_by grouped_by mgu_within walk path_within
+unfolding digits tokens_within expression_at parted_by grouped_by mgu_within path_within
 four_sessions_row = refl
 
 goal_in_another_spelling_row : replay_output goal_in_another_spelling_journal ≡ goal_in_another_spelling_output
-unfolding digits tokens_within expression_at parted_by grouped_by mgu_within walk path_within
+unfolding digits tokens_within expression_at parted_by grouped_by mgu_within path_within
 goal_in_another_spelling_row = refl
 
 goal_in_parentheses_row : replay_output goal_in_parentheses_journal ≡ goal_in_parentheses_output
-unfolding digits tokens_within expression_at parted_by grouped_by mgu_within walk path_within
+unfolding digits tokens_within expression_at parted_by grouped_by mgu_within path_within
 goal_in_parentheses_row = refl
 
 goal_that_is_none_row : replay_output goal_that_is_none_journal ≡ goal_that_is_none_output
-unfolding digits tokens_within expression_at parted_by grouped_by mgu_within walk path_within
+unfolding digits tokens_within expression_at parted_by grouped_by mgu_within path_within
 goal_that_is_none_row = refl
 
 goal_with_a_blank_row : replay_output goal_with_a_blank_journal ≡ goal_with_a_blank_output
-unfolding digits tokens_within expression_at parted_by grouped_by mgu_within walk path_within
+unfolding digits tokens_within expression_at parted_by grouped_by mgu_within path_within
 goal_with_a_blank_row = refl
 
 goal_with_a_leading_zero_row : replay_output goal_with_a_leading_zero_journal ≡ goal_with_a_leading_zero_output
-unfolding digits tokens_within expression_at parted_by grouped_by mgu_within walk path_within
+unfolding digits tokens_within expression_at parted_by grouped_by mgu_within path_within
 goal_with_a_leading_zero_row = refl
 
 goal_with_a_name_in_quotes_row : replay_output goal_with_a_name_in_quotes_journal ≡ goal_with_a_name_in_quotes_output
-unfolding digits tokens_within expression_at parted_by grouped_by mgu_within walk path_within
+unfolding digits tokens_within expression_at parted_by grouped_by mgu_within path_within
 goal_with_a_name_in_quotes_row = refl
 
 goal_with_a_named_variable_row : replay_output goal_with_a_named_variable_journal ≡ goal_with_a_named_variable_output
-unfolding digits tokens_within expression_at parted_by grouped_by mgu_within walk path_within
+unfolding digits tokens_within expression_at parted_by grouped_by mgu_within path_within
 goal_with_a_named_variable_row = refl
 
 goal_with_other_variables_row : replay_output goal_with_other_variables_journal ≡ goal_with_other_variables_output
-unfolding digits tokens_within expression_at parted_by grouped_by mgu_within walk path_within
+unfolding digits tokens_within expression_at parted_by grouped_by mgu_within path_within
 goal_with_other_variables_row = refl
 
 goals_as_printed_row : replay_output goals_as_printed_journal ≡ goals_as_printed_output
-unfolding digits tokens_within expression_at parted_by grouped_by mgu_within walk path_within
+unfolding digits tokens_within expression_at parted_by grouped_by mgu_within path_within
 goals_as_printed_row = refl
 
 greatest_numbers_row : replay_output greatest_numbers_journal ≡ greatest_numbers_output
-unfolding digits tokens_within expression_at parted_by grouped_by mgu_within walk path_within
+unfolding digits tokens_within expression_at parted_by grouped_by mgu_within path_within
 greatest_numbers_row = refl
 
 heading_after_a_blank_row : replay_output heading_after_a_blank_journal ≡ heading_after_a_blank_output
-unfolding digits tokens_within expression_at parted_by grouped_by mgu_within walk path_within
+unfolding digits tokens_within expression_at parted_by grouped_by mgu_within path_within
 heading_after_a_blank_row = refl
 
 heading_alone_row : replay_output heading_alone_journal ≡ heading_alone_output
-unfolding digits tokens_within expression_at parted_by grouped_by mgu_within walk path_within
+unfolding digits tokens_within expression_at parted_by grouped_by mgu_within path_within
 heading_alone_row = refl
 
 heading_of_four_numbers_row : replay_output heading_of_four_numbers_journal ≡ heading_of_four_numbers_output
-unfolding digits tokens_within expression_at parted_by grouped_by mgu_within walk path_within
+unfolding digits tokens_within expression_at parted_by grouped_by mgu_within path_within
 heading_of_four_numbers_row = refl
 
 heading_of_two_numbers_row : replay_output heading_of_two_numbers_journal ≡ heading_of_two_numbers_output
-unfolding digits tokens_within expression_at parted_by grouped_by mgu_within walk path_within
+unfolding digits tokens_within expression_at parted_by grouped_by mgu_within path_within
 heading_of_two_numbers_row = refl
 
 heading_with_a_blank_at_its_end_row : replay_output heading_with_a_blank_at_its_end_journal ≡ heading_with_a_blank_at_its_end_output
-unfolding digits tokens_within expression_at parted_by grouped_by mgu_within walk path_within
+unfolding digits tokens_within expression_at parted_by grouped_by mgu_within path_within
 heading_with_a_blank_at_its_end_row = refl
 
 heading_with_a_leading_zero_row : replay_output heading_with_a_leading_zero_journal ≡ heading_with_a_leading_zero_output
-unfolding digits tokens_within expression_at parted_by grouped_by mgu_within walk path_within
+unfolding digits tokens_within expression_at parted_by grouped_by mgu_within path_within
 heading_with_a_leading_zero_row = refl
 
 heading_with_a_return_row : replay_output heading_with_a_return_journal ≡ heading_with_a_return_output
-unfolding digits tokens_within expression_at parted_by grouped_by mgu_within walk path_within
+unfolding digits tokens_within expression_at parted_by grouped_by mgu_within path_within
 heading_with_a_return_row = refl
 
 heading_with_a_tab_row : replay_output heading_with_a_tab_journal ≡ heading_with_a_tab_output
-unfolding digits tokens_within expression_at parted_by grouped_by mgu_within walk path_within
+unfolding digits tokens_within expression_at parted_by grouped_by mgu_within path_within
 heading_with_a_tab_row = refl
 
 heading_with_two_blanks_row : replay_output heading_with_two_blanks_journal ≡ heading_with_two_blanks_output
-unfolding digits tokens_within expression_at parted_by grouped_by mgu_within walk path_within
+unfolding digits tokens_within expression_at parted_by grouped_by mgu_within path_within
 heading_with_two_blanks_row = refl
 
 heading_without_a_feed_row : replay_output heading_without_a_feed_journal ≡ heading_without_a_feed_output
-unfolding digits tokens_within expression_at parted_by grouped_by mgu_within walk path_within
+unfolding digits tokens_within expression_at parted_by grouped_by mgu_within path_within
 heading_without_a_feed_row = refl
 
 later_version_row : replay_output later_version_journal ≡ later_version_output
-unfolding digits tokens_within expression_at parted_by grouped_by mgu_within walk path_within
+unfolding digits tokens_within expression_at parted_by grouped_by mgu_within path_within
 later_version_row = refl
 
 letter_that_is_no_digit_row : replay_output letter_that_is_no_digit_journal ≡ letter_that_is_no_digit_output
-unfolding digits tokens_within expression_at parted_by grouped_by mgu_within walk path_within
+unfolding digits tokens_within expression_at parted_by grouped_by mgu_within path_within
 letter_that_is_no_digit_row = refl
 
 load_alone_row : replay_output load_alone_journal ≡ load_alone_output
-unfolding digits tokens_within expression_at parted_by grouped_by mgu_within walk path_within
+unfolding digits tokens_within expression_at parted_by grouped_by mgu_within path_within
 load_alone_row = refl
 
 load_of_nothing_row : replay_output load_of_nothing_journal ≡ load_of_nothing_output
-unfolding digits tokens_within expression_at parted_by grouped_by mgu_within walk path_within
+unfolding digits tokens_within expression_at parted_by grouped_by mgu_within path_within
 load_of_nothing_row = refl
 
 load_without_digits_row : replay_output load_without_digits_journal ≡ load_without_digits_output
-unfolding digits tokens_within expression_at parted_by grouped_by mgu_within walk path_within
+unfolding digits tokens_within expression_at parted_by grouped_by mgu_within path_within
 load_without_digits_row = refl
 
 loaded_twice_row : replay_output loaded_twice_journal ≡ loaded_twice_output
-unfolding digits tokens_within expression_at parted_by grouped_by mgu_within walk path_within
+unfolding digits tokens_within expression_at parted_by grouped_by mgu_within path_within
 loaded_twice_row = refl
 
 login_is_no_entry_row : replay_output login_is_no_entry_journal ≡ login_is_no_entry_output
-unfolding digits tokens_within expression_at parted_by grouped_by mgu_within walk path_within
+unfolding digits tokens_within expression_at parted_by grouped_by mgu_within path_within
 login_is_no_entry_row = refl
 
 low_over_high_row : replay_output low_over_high_journal ≡ low_over_high_output
-unfolding digits tokens_within expression_at parted_by grouped_by mgu_within walk path_within
+unfolding digits tokens_within expression_at parted_by grouped_by mgu_within path_within
 low_over_high_row = refl
 
 many_names_told_row : replay_output many_names_told_journal ≡ many_names_told_output
-unfolding digits tokens_within expression_at parted_by grouped_by mgu_within walk path_within
+unfolding digits tokens_within expression_at parted_by grouped_by mgu_within path_within
 many_names_told_row = refl
 
 messages_of_a_program_row : replay_output messages_of_a_program_journal ≡ messages_of_a_program_output
-unfolding digits tokens_within expression_at parted_by grouped_by mgu_within walk path_within
+unfolding digits tokens_within expression_at parted_by grouped_by mgu_within path_within
 messages_of_a_program_row = refl
 
 module_is_used_row : replay_output module_is_used_journal ≡ module_is_used_output
-unfolding digits tokens_within expression_at parted_by grouped_by mgu_within walk path_within
+unfolding digits tokens_within expression_at parted_by grouped_by mgu_within path_within
 module_is_used_row = refl
 
 name_of_127_bytes_row : replay_output name_of_127_bytes_journal ≡ name_of_127_bytes_output
-unfolding digits tokens_within expression_at parted_by grouped_by mgu_within walk path_within
+unfolding digits tokens_within expression_at parted_by grouped_by mgu_within path_within
 name_of_127_bytes_row = refl
 
 name_of_128_bytes_row : replay_output name_of_128_bytes_journal ≡ name_of_128_bytes_output
-unfolding digits tokens_within expression_at parted_by grouped_by mgu_within walk path_within
+unfolding digits tokens_within expression_at parted_by grouped_by mgu_within path_within
 name_of_128_bytes_row = refl
 
 name_of_64_codes_of_version_2_row : replay_output name_of_64_codes_of_version_2_journal ≡ name_of_64_codes_of_version_2_output
-unfolding digits tokens_within expression_at parted_by grouped_by mgu_within walk path_within
+unfolding digits tokens_within expression_at parted_by grouped_by mgu_within path_within
 name_of_64_codes_of_version_2_row = refl
 
 name_of_64_codes_of_version_3_row : replay_output name_of_64_codes_of_version_3_journal ≡ name_of_64_codes_of_version_3_output
-unfolding digits tokens_within expression_at parted_by grouped_by mgu_within walk path_within
+unfolding digits tokens_within expression_at parted_by grouped_by mgu_within path_within
 name_of_64_codes_of_version_3_row = refl
 
 name_that_is_missing_row : replay_output name_that_is_missing_journal ≡ name_that_is_missing_output
-unfolding digits tokens_within expression_at parted_by grouped_by mgu_within walk path_within
+unfolding digits tokens_within expression_at parted_by grouped_by mgu_within path_within
 name_that_is_missing_row = refl
 
 name_too_many_row : replay_output name_too_many_journal ≡ name_too_many_output
-unfolding digits tokens_within expression_at parted_by grouped_by mgu_within walk path_within
+unfolding digits tokens_within expression_at parted_by grouped_by mgu_within path_within
 name_too_many_row = refl
 
 name_twice_row : replay_output name_twice_journal ≡ name_twice_output
-unfolding digits tokens_within expression_at parted_by grouped_by mgu_within walk path_within
+unfolding digits tokens_within expression_at parted_by grouped_by mgu_within path_within
 name_twice_row = refl
 
 name_with_a_return_row : replay_output name_with_a_return_journal ≡ name_with_a_return_output
-unfolding digits tokens_within expression_at parted_by grouped_by mgu_within walk path_within
+unfolding digits tokens_within expression_at parted_by grouped_by mgu_within path_within
 name_with_a_return_row = refl
 
 names_alone_row : replay_output names_alone_journal ≡ names_alone_output
-unfolding digits tokens_within expression_at parted_by grouped_by mgu_within walk path_within
+unfolding digits tokens_within expression_at parted_by grouped_by mgu_within path_within
 names_alone_row = refl
 
 names_from_codes_row : replay_output names_from_codes_journal ≡ names_from_codes_output
-unfolding digits tokens_within expression_at parted_by grouped_by mgu_within walk path_within
+unfolding digits tokens_within expression_at parted_by grouped_by mgu_within path_within
 names_from_codes_row = refl
 
 names_in_quotes_row : replay_output names_in_quotes_journal ≡ names_in_quotes_output
-unfolding digits tokens_within expression_at parted_by grouped_by mgu_within walk path_within
+unfolding digits tokens_within expression_at parted_by grouped_by mgu_within path_within
 names_in_quotes_row = refl
 
 nothing_row : replay_output nothing_journal ≡ nothing_output
-unfolding digits tokens_within expression_at parted_by grouped_by mgu_within walk path_within
+unfolding digits tokens_within expression_at parted_by grouped_by mgu_within path_within
 nothing_row = refl
 
 number_that_is_too_large_row : replay_output number_that_is_too_large_journal ≡ number_that_is_too_large_output
-unfolding digits tokens_within expression_at parted_by grouped_by mgu_within walk path_within
+unfolding digits tokens_within expression_at parted_by grouped_by mgu_within path_within
 number_that_is_too_large_row = refl
 
 number_with_a_leading_zero_row : replay_output number_with_a_leading_zero_journal ≡ number_with_a_leading_zero_output
-unfolding digits tokens_within expression_at parted_by grouped_by mgu_within walk path_within
+unfolding digits tokens_within expression_at parted_by grouped_by mgu_within path_within
 number_with_a_leading_zero_row = refl
 
 odd_digits_in_a_load_row : replay_output odd_digits_in_a_load_journal ≡ odd_digits_in_a_load_output
-unfolding digits tokens_within expression_at parted_by grouped_by mgu_within walk path_within
+unfolding digits tokens_within expression_at parted_by grouped_by mgu_within path_within
 odd_digits_in_a_load_row = refl
 
 priority_4096_row : replay_output priority_4096_journal ≡ priority_4096_output
-unfolding digits tokens_within expression_at parted_by grouped_by mgu_within walk path_within
+unfolding digits tokens_within expression_at parted_by grouped_by mgu_within path_within
 priority_4096_row = refl
 
 query_is_no_entry_row : replay_output query_is_no_entry_journal ≡ query_is_no_entry_output
-unfolding digits tokens_within expression_at parted_by grouped_by mgu_within walk path_within
+unfolding digits tokens_within expression_at parted_by grouped_by mgu_within path_within
 query_is_no_entry_row = refl
 
 quote_that_is_single_row : replay_output quote_that_is_single_journal ≡ quote_that_is_single_output
-unfolding digits tokens_within expression_at parted_by grouped_by mgu_within walk path_within
+unfolding digits tokens_within expression_at parted_by grouped_by mgu_within path_within
 quote_that_is_single_row = refl
 
 quotes_without_an_end_row : replay_output quotes_without_an_end_journal ≡ quotes_without_an_end_output
-unfolding digits tokens_within expression_at parted_by grouped_by mgu_within walk path_within
+unfolding digits tokens_within expression_at parted_by grouped_by mgu_within path_within
 quotes_without_an_end_row = refl
 
 quotes_without_need_row : replay_output quotes_without_need_journal ≡ quotes_without_need_output
-unfolding digits tokens_within expression_at parted_by grouped_by mgu_within walk path_within
+unfolding digits tokens_within expression_at parted_by grouped_by mgu_within path_within
 quotes_without_need_row = refl
 
 reduction_of_no_goal_row : replay_output reduction_of_no_goal_journal ≡ reduction_of_no_goal_output
-unfolding digits tokens_within expression_at parted_by grouped_by mgu_within walk path_within
+unfolding digits tokens_within expression_at parted_by grouped_by mgu_within path_within
 reduction_of_no_goal_row = refl
 
 reset_is_no_entry_row : replay_output reset_is_no_entry_journal ≡ reset_is_no_entry_output
-unfolding digits tokens_within expression_at parted_by grouped_by mgu_within walk path_within
+unfolding digits tokens_within expression_at parted_by grouped_by mgu_within path_within
 reset_is_no_entry_row = refl
 
 run_is_no_entry_row : replay_output run_is_no_entry_journal ≡ run_is_no_entry_output
-unfolding digits tokens_within expression_at parted_by grouped_by mgu_within walk path_within
+unfolding digits tokens_within expression_at parted_by grouped_by mgu_within path_within
 run_is_no_entry_row = refl
 
 second_name_that_is_missing_row : replay_output second_name_that_is_missing_journal ≡ second_name_that_is_missing_output
-unfolding digits tokens_within expression_at parted_by grouped_by mgu_within walk path_within
+unfolding digits tokens_within expression_at parted_by grouped_by mgu_within path_within
 second_name_that_is_missing_row = refl
 
 shoens_in_shoens_row : replay_output shoens_in_shoens_journal ≡ shoens_in_shoens_output
-unfolding digits tokens_within expression_at parted_by grouped_by mgu_within walk path_within
+unfolding digits tokens_within expression_at parted_by grouped_by mgu_within path_within
 shoens_in_shoens_row = refl
 
 start_and_reduction_row : replay_output start_and_reduction_journal ≡ start_and_reduction_output
-unfolding digits tokens_within expression_at parted_by grouped_by mgu_within walk path_within
+unfolding digits tokens_within expression_at parted_by grouped_by mgu_within path_within
 start_and_reduction_row = refl
 
 start_and_reduction_of_version_2_row : replay_output start_and_reduction_of_version_2_journal ≡ start_and_reduction_of_version_2_output
-unfolding digits tokens_within expression_at parted_by grouped_by mgu_within walk path_within
+unfolding digits tokens_within expression_at parted_by grouped_by mgu_within path_within
 start_and_reduction_of_version_2_row = refl
 
 start_and_reduction_of_version_3_row : replay_output start_and_reduction_of_version_3_journal ≡ start_and_reduction_of_version_3_output
-unfolding digits tokens_within expression_at parted_by grouped_by mgu_within walk path_within
+unfolding digits tokens_within expression_at parted_by grouped_by mgu_within path_within
 start_and_reduction_of_version_3_row = refl
 
 start_without_a_goal_row : replay_output start_without_a_goal_journal ≡ start_without_a_goal_output
-unfolding digits tokens_within expression_at parted_by grouped_by mgu_within walk path_within
+unfolding digits tokens_within expression_at parted_by grouped_by mgu_within path_within
 start_without_a_goal_row = refl
 
 step_that_is_refused_row : replay_output step_that_is_refused_journal ≡ step_that_is_refused_output
-unfolding digits tokens_within expression_at parted_by grouped_by mgu_within walk path_within
+unfolding digits tokens_within expression_at parted_by grouped_by mgu_within path_within
 step_that_is_refused_row = refl
 
 too_many_names_told_row : replay_output too_many_names_told_journal ≡ too_many_names_told_output
-unfolding digits tokens_within expression_at parted_by grouped_by mgu_within walk path_within
+unfolding digits tokens_within expression_at parted_by grouped_by mgu_within path_within
 too_many_names_told_row = refl
 
 two_headings_row : replay_output two_headings_journal ≡ two_headings_output
-unfolding digits tokens_within expression_at parted_by grouped_by mgu_within walk path_within
+unfolding digits tokens_within expression_at parted_by grouped_by mgu_within path_within
 two_headings_row = refl
 
 version_with_a_leading_zero_row : replay_output version_with_a_leading_zero_journal ≡ version_with_a_leading_zero_output
-unfolding digits tokens_within expression_at parted_by grouped_by mgu_within walk path_within
+unfolding digits tokens_within expression_at parted_by grouped_by mgu_within path_within
 version_with_a_leading_zero_row = refl
 
 -- all of them

@@ -9,7 +9,8 @@ use Rattle.kl1_model.specs.declared.message.Message.{Message}
 use Rattle.kl1_model.specs.declared.message.Message.TheVariants.{Stop, Start, Abort, Allow}
 use Rattle.kl1_model.specs.Term.{Term, variable, integer, atom, structure, none, more, occurs, replace, Replacement}
 use Rattle.kl1_model.specs.Meaning.{nil, cell}
-use Rattle.kl1_model.specs.Control.{message_term, Control, awaits_message, tells, tells_other, ends, breaks_off, control_of, control_by, word_of}
+use Rattle.kl1_model.specs.Control.{message_term, Control, awaits_message, tells, tells_other, ends, breaks_off, control_of, word_of}
+use Rattle.kl1_model.proofs.ControlStays.{control_by}
 use Rattle.kl1_model.specs.State.{Task, monitor, reduces, substitutes, Goal, Origin, Shoen, State, is_monitor, shoen_at, replace_in_task, replace_in_goal, replace_in_origin, replace_in_shoen, replace_in_state, replace_all, change_shoen, is_living}
 use Rattle.kl1_model.specs.Tree.{path, is_on_path}
 use Rattle.kl1_model.specs.Report.{broken_at, reported_at, report, report_each, closed_at, close, exception, illegal_input, exhausted_report, stopped_report, resumed_report}

@@ -1,7 +1,8 @@
 -- What holds of equations and their answer, a solution or none: by induction on what the front equations led to.
-use Rattle.std.proofs.Common.{◌≡◌, ℕ, zero, suc, ◌<◌, ◌≤◌, false, List, [], ◌∷◌, Option, Some, None, option_map, arith, le_refl, le_trans, lt_of_lt_of_le}
+use Rattle.std.proofs.Common.{◌≡◌, ℕ, zero, suc, ◌<◌, ◌≤◌, false, List, [], ◌∷◌, Option, Some, None, option_map, arith, le_refl}
 use Rattle.kl1_model.specs.Term.{Term, variable, structure, Terms, count_of, occurs, Replacement}
-use Rattle.kl1_model.specs.Unify.{Equation, argument_equations, front, replace_in_all, after, equations_size, walk, mgu_within, highest_among, mgu}
+use Rattle.kl1_model.specs.Unify.{Equation, argument_equations, front, replace_in_all, equations_size, mgu_within, highest_among, mgu}
+use Rattle.kl1_model.specs.code.Unifying.{after}
 use Rattle.kl1_model.specs.laws.UnifyLaws.{equate, bind, IsLower, AllNumberedTo}
 use Rattle.kl1_model.proofs.UnifyFront.{Clash, front_cases}
 use Rattle.kl1_model.proofs.Occurrences.{numbered_to_highest}
@@ -26,20 +27,15 @@ after_answers P c last e es same next h shrinks loses =
     (λ a b x h p l. c.clash a b es x)
     e.left e.right h shrinks loses
 
-walk_answers : (P : List Equation → Option (List Replacement) → Type 0) → HoldsOfEachAnswer P → (last most : ℕ) (next : List Equation → Option (List Replacement)) → ((to : List Equation) → AllNumberedTo last to → variables_in last to < most → P to (next to)) → (n : ℕ) (es : List Equation) → AllNumberedTo last es → equations_size es < n → variables_in last es ≤ most → P es (walk next n es)
-unfolding walk
-walk_answers P c last most next k zero es h l v = absurd (omega arith)
-walk_answers P c last most next k (suc n) [] h l v = c.done
-walk_answers P c last most next k (suc n) (e ∷ es) h l v =
-    after_answers P c last e es (walk next n) next h
-    (λ to p. walk_answers P c last most next k n to p.numbered (let q = p.smaller in omega arith) (le_trans p.variables v))
-    (λ to p. k to p.numbered (lt_of_lt_of_le p.variables v))
-
-solve_answers : (P : List Equation → Option (List Replacement) → Type 0) → HoldsOfEachAnswer P → (last n : ℕ) (es : List Equation) → AllNumberedTo last es → variables_in last es < n → P es (mgu_within n es)
+solve_answers : (P : List Equation → Option (List Replacement) → Type 0) → HoldsOfEachAnswer P → (last n m : ℕ) (es : List Equation) → AllNumberedTo last es → variables_in last es < n → equations_size es ≤ m → P es (mgu_within n m es)
 unfolding mgu_within
-solve_answers P c last zero es h v = absurd (omega arith)
-solve_answers P c last (suc n) es h v =
-    walk_answers P c last (variables_in last es) (mgu_within n) (λ to t l. solve_answers P c last n to t (omega arith)) (suc (equations_size es)) es h (omega arith) (le_refl (variables_in last es))
+solve_answers P c last n m [] h v l = c.done
+solve_answers P c last zero m (e ∷ es) h v l = absurd (omega arith)
+solve_answers P c last (suc n) zero (e ∷ es) h v l = absurd (omega arith)
+solve_answers P c last (suc n) (suc m) (e ∷ es) h v l =
+    after_answers P c last e es (mgu_within (suc n) m) (λ to. mgu_within n (equations_size to) to) h
+    (λ to p. let w = p.variables in let k = p.smaller in solve_answers P c last (suc n) m to p.numbered (omega arith) (omega arith))
+    (λ to p. let w = p.variables in solve_answers P c last n (equations_size to) to p.numbered (omega arith) (le_refl (equations_size to)))
 
 -- what holds in each case holds of the answer
 pub holds_of_answer : (P : List Equation → Option (List Replacement) → Type 0) → HoldsOfEachAnswer P → (es : List Equation) → P es (mgu es)
@@ -47,4 +43,4 @@ holds_of_answer P c es =
     let last = highest_among es in
     let l = variables_most last es in
     let k : variables_in last es < suc (suc last) = omega arith in
-    solve_answers P c last (suc (suc last)) es (numbered_to_highest es) k
+    solve_answers P c last (suc (suc last)) (equations_size es) es (numbered_to_highest es) k (le_refl (equations_size es))

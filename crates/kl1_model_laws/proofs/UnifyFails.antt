@@ -1,6 +1,7 @@
 -- A failure leaves nothing that makes all sides equal.
 use Rattle.std.proofs.Common.{◌≡◌, ℕ, true, false, List, ◌∷◌, Option, Some, None, option_map, IsSome, is_some, refl, sym, ap}
-use Rattle.kl1_model.specs.Term.{Term, replace, Replacement, replaced, substituted, each_substituted}
+use Rattle.kl1_model.specs.Term.{Term, replace, Replacement, substituted, each_substituted}
+use Rattle.kl1_model.specs.code.Unifying.{replaced}
 use Rattle.kl1_model.specs.Unify.{Equation, replace_in_all, mgu}
 use Rattle.kl1_model.specs.laws.UnifyLaws.{bind, MakesEqual, FailureLeavesNone, FailureLeavesNoReplacements}
 use Rattle.kl1_model.proofs.Substitutions.{substituted-replace, values_of, replaced_is, arguments_equal, MakesEqual-same, replaced-MakesEqual}

@@ -2,7 +2,8 @@
 use Rattle.std.proofs.Common.{Option, Some, None, ◌≡◌, ℕ, ◌≤◌, ◌≢◌, ◌==◌, false, List, [], ◌∷◌, refl, sym, ◌∙◌, ap, eq-eqb}
 use Rattle.std.proofs.lemmas.Bool.{cond-true, eqb-false}
 use Rattle.std.specs.List.{AllByRecursion}
-use Rattle.kl1_model.specs.Term.{Term, variable, structure, Terms, count_of, occurs, replace, Replacement, replaced, substituted, each_substituted}
+use Rattle.kl1_model.specs.Term.{Term, variable, structure, Terms, count_of, occurs, replace, Replacement, substituted, each_substituted}
+use Rattle.kl1_model.specs.code.Unifying.{replaced}
 use Rattle.kl1_model.specs.Unify.{mgu, Equation, argument_equations, replace_in_all}
 use Rattle.kl1_model.specs.laws.UnifyLaws.{equate, bind, NumberedTo, AllNumberedTo, MakesEqual, SolutionsMakeEqual, IsLower, ReplacedByLower, NeverComeBack, ReplacedOnce, ReplacedAreGone, SolutionsKeepNumbers, SolutionsAreMostGeneral, NoReplacementsAreMoreGeneral, NoneWhereNoneUnify}
 use Rattle.kl1_model.proofs.TermFacts.{occurs-replace, occurs-replaced, replace-absent}

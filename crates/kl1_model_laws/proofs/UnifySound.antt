@@ -2,7 +2,8 @@
 use Rattle.std.proofs.Common.{◌≡◌, ℕ, zero, suc, false, List, [], ◌∷◌, Option, Some, None, option_map, IfSome, subst}
 use Rattle.std.proofs.lemmas.Option.{IfSome_then}
 use Rattle.kl1_model.specs.Term.{Term, variable, structure, Terms, count_of, occurs, Replacement}
-use Rattle.kl1_model.specs.Unify.{Equation, argument_equations, replace_in_all, after, equations_size, walk, mgu_within, highest_among, mgu}
+use Rattle.kl1_model.specs.Unify.{Equation, argument_equations, replace_in_all, equations_size, mgu_within, highest_among, mgu}
+use Rattle.kl1_model.specs.code.Unifying.{after}
 use Rattle.kl1_model.specs.laws.UnifyLaws.{equate, bind, IsLower}
 use Rattle.kl1_model.proofs.UnifyFront.{front_cases}
 
@@ -18,25 +19,24 @@ IfSome-option_map : {A B : Type 0} (f : A → B) (o : Option A) (P : B → Type 
 IfSome-option_map f None P h = tt
 IfSome-option_map f (Some x) P h = h
 
-walk_holds : (P : List Equation → List Replacement → Type 0) → HoldsInEachCase P → (next : List Equation → Option (List Replacement)) → ((es : List Equation) → IfSome (next es) (P es)) → (n : ℕ) (es : List Equation) → IfSome (walk next n es) (P es)
-unfolding walk
-walk_holds P c next k zero es = tt
-walk_holds P c next k (suc n) [] = c.done
-walk_holds P c next k (suc n) (e ∷ es) =
-    let on : (to : List Equation) → IfSome (walk next n to) (P to) = walk_holds P c next k n in
-    front_cases es (λ a b r. IfSome (after (walk next n) next r) (P (equate a b ∷ es)))
-    (λ t. IfSome_then (walk next n es) (on es) (c.same t es))
-    (λ f ts us m. IfSome_then (walk next n (argument_equations ts us es)) (on (argument_equations ts us es)) (λ rs. c.inner f ts us es rs m))
-    (λ v t o w. IfSome-option_map (λ rest. bind v t ∷ rest) (next (replace_in_all v t es)) (P (equate (variable v) t ∷ es)) (IfSome_then (next (replace_in_all v t es)) (k (replace_in_all v t es)) (λ rs. c.left v t es rs o w)))
-    (λ v t o w. IfSome-option_map (λ rest. bind v t ∷ rest) (next (replace_in_all v t es)) (P (equate t (variable v) ∷ es)) (IfSome_then (next (replace_in_all v t es)) (k (replace_in_all v t es)) (λ rs. c.right v t es rs o w)))
+solve_holds : (P : List Equation → List Replacement → Type 0) → HoldsInEachCase P → (n m : ℕ) (es : List Equation) → IfSome (mgu_within n m es) (P es)
+unfolding mgu_within
+solve_holds P c n m [] = c.done
+solve_holds P c zero m (e ∷ es) = tt
+solve_holds P c (suc n) zero (e ∷ es) = tt
+solve_holds P c (suc n) (suc m) (e ∷ es) =
+    let same : List Equation → Option (List Replacement) = λ to. mgu_within (suc n) m to in
+    let next : List Equation → Option (List Replacement) = λ to. mgu_within n (equations_size to) to in
+    let on : (to : List Equation) → IfSome (same to) (P to) = solve_holds P c (suc n) m in
+    let then : (to : List Equation) → IfSome (next to) (P to) = λ to. solve_holds P c n (equations_size to) to in
+    front_cases es (λ a b r. IfSome (after same next r) (P (equate a b ∷ es)))
+    (λ t. IfSome_then (same es) (on es) (c.same t es))
+    (λ f ts us k. IfSome_then (same (argument_equations ts us es)) (on (argument_equations ts us es)) (λ rs. c.inner f ts us es rs k))
+    (λ v t o w. IfSome-option_map (λ rest. bind v t ∷ rest) (next (replace_in_all v t es)) (P (equate (variable v) t ∷ es)) (IfSome_then (next (replace_in_all v t es)) (then (replace_in_all v t es)) (λ rs. c.left v t es rs o w)))
+    (λ v t o w. IfSome-option_map (λ rest. bind v t ∷ rest) (next (replace_in_all v t es)) (P (equate t (variable v) ∷ es)) (IfSome_then (next (replace_in_all v t es)) (then (replace_in_all v t es)) (λ rs. c.right v t es rs o w)))
     (λ a b x. tt)
     e.left e.right
 
-solve_holds : (P : List Equation → List Replacement → Type 0) → HoldsInEachCase P → (n : ℕ) (es : List Equation) → IfSome (mgu_within n es) (P es)
-unfolding mgu_within
-solve_holds P c zero es = tt
-solve_holds P c (suc n) es = walk_holds P c (mgu_within n) (solve_holds P c n) (suc (equations_size es)) es
-
 -- what holds in each case holds of a solution
 pub holds_of_solution : (P : List Equation → List Replacement → Type 0) → HoldsInEachCase P → (es : List Equation) (rs : List Replacement) → mgu es ≡ Some rs → P es rs
-holds_of_solution P c es rs e = subst (λ o. IfSome o (P es)) e (solve_holds P c (suc (suc (highest_among es))) es)
+holds_of_solution P c es rs e = subst (λ o. IfSome o (P es)) e (solve_holds P c (suc (suc (highest_among es))) (equations_size es) es)

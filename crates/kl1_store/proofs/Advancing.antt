@@ -5,7 +5,8 @@ use Rattle.std.proofs.lemmas.List.{drop_all}
 use Rattle.std.proofs.lemmas.Option.{get_or_from_slice_get, slice_get_within}
 use Rattle.kl1_model.specs.declared.built_in.BuiltIn.{BuiltIn}
 use Rattle.kl1_model.specs.Term.{Term, Terms, none, more, size, sizes}
-use Rattle.kl1_model.specs.Unify.{Equation, front, after, bound_to, mgu, argument_equations, equations_size}
+use Rattle.kl1_model.specs.Unify.{Equation, front, mgu, argument_equations, equations_size}
+use Rattle.kl1_model.specs.code.Unifying.{after, bound_to}
 use Rattle.kl1_model.proofs.UnifyRule.{front_decides}
 use Rattle.kl1_model.proofs.EqualSides.{equal_sides_dropped}
 use Rattle.kl1_model.proofs.TermFacts.{same_term_decides}

@@ -4,7 +4,7 @@ use Rattle.std.specs.Prelude.{Some, Result, Ok, Err, OnOk, OnErr}
 use Rattle.std.proofs.lemmas.List.{take_all, take_at}
 use Rattle.kl1_model.specs.declared.built_in.BuiltIn.{BuiltIn}
 use Rattle.kl1_model.specs.Term.{Term, variable, integer, atom, occurs, Replacement}
-use Rattle.kl1_model.specs.Unify.{Equation, walk, mgu_within, mgu}
+use Rattle.kl1_model.specs.Unify.{Equation, mgu_within, mgu}
 use Rattle.kl1_store.specs.declared.cell.Cell.{Cell}
 use Rattle.kl1_store.specs.declared.cell.Cell.TheVariants.{Variable, Integer, Atom, Structure}
 use Rattle.kl1_store.specs.declared.unified.Unified.TheVariants.{Bound}
@@ -26,11 +26,11 @@ abbrev pub one_by : ℕ → Term → List Replacement
 one_by v t = record { number = v; by = t } ∷ []
 
 solve_integer : (v : ℕ) (i : ℤ) → mgu (record { left = variable v; right = integer i } ∷ []) ≡ Some (one_by v (integer i))
-unfolding mgu_within walk
+unfolding mgu_within
 solve_integer v i = refl
 
 solve_atom : (v : ℕ) (a : List ℕ) → mgu (record { left = variable v; right = atom a } ∷ []) ≡ Some (one_by v (atom a))
-unfolding mgu_within walk
+unfolding mgu_within
 solve_atom v a = refl
 
 -- an equation of a variable and a constant has one solution

@@ -1,7 +1,8 @@
 -- What is to be reduced, while its store changes.
 use Rattle.std.proofs.Common.{◌≡◌, ℕ, List, [], ◌∷◌, refl, sym, ap, ◌∙◌}
 use Rattle.std.specs.Prelude.{Option, Some, None}
-use Rattle.kl1_model.specs.Term.{Term, substituted, Replacement, replace, replaced}
+use Rattle.kl1_model.specs.Term.{Term, substituted, Replacement, replace}
+use Rattle.kl1_model.specs.code.Unifying.{replaced}
 use Rattle.kl1_store.specs.declared.cell.Cell.{Cell}
 use Rattle.kl1_store.specs.declared.qualified.Qualified.{Qualified}
 use Rattle.kl1_store.specs.Held.{Held, IsIn}

@@ -1,7 +1,8 @@
 -- What a store that has grown means.
 use Rattle.std.proofs.Common.{◌≡◌, ℕ, List, [], ◌∷◌, ◌++◌, length, drop, map, refl, sym, ap, ◌∙◌, arith, subst, append_assoc}
 use Rattle.std.proofs.lemmas.List.{append-nil, take-append-drop}
-use Rattle.kl1_model.specs.Term.{Term, Replacement, replaced}
+use Rattle.kl1_model.specs.Term.{Term, Replacement}
+use Rattle.kl1_model.specs.code.Unifying.{replaced}
 use Rattle.kl1_store.specs.declared.cell.Cell.{Cell}
 use Rattle.kl1_store.specs.declared.binding.Binding.{Binding}
 use Rattle.kl1_store.specs.Held.{Shape, Held, IsWithin, IsIn}

@@ -7,7 +7,8 @@ use Rattle.std.proofs.lemmas.Bool.{ne_eqb, eq-eqb, lt-ltb, le-ltb, cond-true, co
 use Rattle.std.proofs.lemmas.Bool.Decides.{Decides-int_eq}
 use Rattle.kl1_model.specs.declared.built_in.BuiltIn.{BuiltIn}
 use Rattle.kl1_model.specs.Term.{Term, variable, integer, atom, structure, count_of}
-use Rattle.kl1_model.specs.Unify.{Equation, goes_on, fails, binds, bound_to, front, argument_equations}
+use Rattle.kl1_model.specs.Unify.{Equation, goes_on, fails, binds, front, argument_equations}
+use Rattle.kl1_model.specs.code.Unifying.{bound_to}
 use Rattle.kl1_text.specs.Reading.{Reads}
 use Rattle.kl1_store.specs.declared.cell.Cell.{Cell}
 use Rattle.kl1_store.specs.declared.cell.Cell.TheVariants.{Variable, Integer, Atom, Structure}

@@ -5,7 +5,8 @@ use Rattle.std.proofs.lemmas.List.{append-nil}
 use Rattle.std.proofs.lemmas.Bool.{cases_eq, eq-eqb, cond-true, cond-false}
 use Rattle.kl1_model.specs.declared.built_in.BuiltIn.{BuiltIn}
 use Rattle.kl1_model.specs.Term.{Term, Terms, none, more, occurs, replace, replace_each, Replacement}
-use Rattle.kl1_model.specs.Unify.{Equation, fails, binds, front, after, bound_to, mgu, argument_equations, replace_in_all}
+use Rattle.kl1_model.specs.Unify.{Equation, fails, binds, front, mgu, argument_equations, replace_in_all}
+use Rattle.kl1_model.specs.code.Unifying.{after, bound_to}
 use Rattle.kl1_model.proofs.UnifyRule.{front_decides, nothing_solved}
 use Rattle.kl1_model.proofs.EqualSides.{equal_sides_dropped}
 use Rattle.kl1_model.proofs.TermFacts.{same_term_decides}

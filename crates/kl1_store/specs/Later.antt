@@ -1,6 +1,7 @@
 -- What cells mean after a store has grown, whatever was done: the bindings since then are replacements of their variables.
 use Rattle.std.specs.Prelude.{◌≡◌, ℕ, List, length, drop, map}
-use Rattle.kl1_model.specs.Term.{Replacement, replaced}
+use Rattle.kl1_model.specs.Term.{Replacement}
+use Rattle.kl1_model.specs.code.Unifying.{replaced}
 use Rattle.kl1_store.specs.declared.cell.Cell.{Cell}
 use Rattle.kl1_store.specs.Held.{Held, IsIn}
 use Rattle.kl1_store.specs.Meaning.{term_of}

@@ -1,7 +1,8 @@
 -- What an equation of two cells leads to, by the definition of unification.
 use Rattle.std.specs.Prelude.{◌≡◌, ℕ, suc, ◌≤◌, ◌⊎◌, false, List}
 use Rattle.kl1_model.specs.declared.built_in.BuiltIn.{BuiltIn}
-use Rattle.kl1_model.specs.Unify.{Equation, goes_on, fails, bound_to, front}
+use Rattle.kl1_model.specs.Unify.{Equation, goes_on, fails, front}
+use Rattle.kl1_model.specs.code.Unifying.{bound_to}
 use Rattle.kl1_text.specs.Reading.{Reads}
 use Rattle.kl1_store.specs.declared.cell.Cell.{Cell}
 use Rattle.kl1_store.specs.declared.cell.Cell.TheVariants.{Variable, Structure}

@@ -1,7 +1,8 @@
 -- Unification on a store, by the definition of unification on terms.
 use Rattle.std.specs.Prelude.{◌≡◌, ℕ, List, Some, None}
 use Rattle.kl1_model.specs.declared.built_in.BuiltIn.{BuiltIn}
-use Rattle.kl1_model.specs.Term.{Replacement, replaced}
+use Rattle.kl1_model.specs.Term.{Replacement}
+use Rattle.kl1_model.specs.code.Unifying.{replaced}
 use Rattle.kl1_model.specs.Unify.{mgu}
 use Rattle.kl1_store.specs.declared.cell.Cell.{Cell}
 use Rattle.kl1_store.specs.declared.unified.Unified.{Unified}

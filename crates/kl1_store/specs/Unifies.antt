@@ -2,7 +2,8 @@
 use Rattle.std.specs.Prelude.{◌≡◌, ℕ, Bool, true, false, List, [], ◌∷◌, ◌++◌, Option, Some, None}
 use Rattle.kl1_model.specs.declared.built_in.BuiltIn.{BuiltIn}
 use Rattle.kl1_model.specs.Term.{Replacement, occurs}
-use Rattle.kl1_model.specs.Unify.{Equation, mgu, bound_to, after}
+use Rattle.kl1_model.specs.Unify.{Equation, mgu}
+use Rattle.kl1_model.specs.code.Unifying.{after, bound_to}
 use Rattle.kl1_text.specs.Reading.{Reads}
 use Rattle.kl1_store.specs.declared.cell.Cell.{Cell}
 use Rattle.kl1_store.specs.declared.frame.Frame.{Frame}

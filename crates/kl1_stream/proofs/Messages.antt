@@ -5,9 +5,10 @@ use Rattle.std.proofs.lemmas.List.{take_all}
 use Rattle.std.proofs.lemmas.Bool.{ne_eqb}
 use Rattle.kl1_model.specs.declared.built_in.BuiltIn.{BuiltIn}
 use Rattle.kl1_model.specs.declared.built_in.BuiltIn.TheVariants.{ListCell, EmptyList}
-use Rattle.kl1_model.specs.Term.{Term, variable, atom, structure, none, more, occurs, replace, Replacement, replaced}
+use Rattle.kl1_model.specs.Term.{Term, variable, atom, structure, none, more, occurs, replace, Replacement}
+use Rattle.kl1_model.specs.code.Unifying.{replaced, after}
 use Rattle.kl1_model.specs.Meaning.{cell, nil}
-use Rattle.kl1_model.specs.Unify.{Equation, fails, binds, after, walk, mgu_within, highest_among, mgu}
+use Rattle.kl1_model.specs.Unify.{Equation, fails, binds, equations_size, mgu_within, highest_among, mgu}
 use Rattle.kl1_text.specs.Reading.{Reads}
 use Rattle.kl1_store.specs.declared.cell.Cell.{Cell}
 use Rattle.kl1_store.specs.declared.cell.Cell.TheVariants.{Variable, Integer, Atom, Structure}
@@ -34,17 +35,17 @@ solved_by v t b = if b then None else Some (record { number = v; by = t } ∷ []
 abbrev pub one_equation : ℕ → Term → List Equation
 one_equation v t = record { left = variable v; right = t } ∷ []
 
-front_solves : (last v : ℕ) (t : Term) (b : Bool) → after (walk (mgu_within (suc last)) 2) (mgu_within (suc last)) (if b then fails else binds v t []) ≡ solved_by v t b
-unfolding mgu_within walk
+front_solves : (last v : ℕ) (t : Term) (b : Bool) → after (mgu_within (suc (suc last)) 1) (λ to. mgu_within (suc last) (equations_size to) to) (if b then fails else binds v t []) ≡ solved_by v t b
+unfolding mgu_within
 front_solves last v t true = refl
 front_solves last v t false = refl
 
 solve_cell : (v : ℕ) (h t : Term) → mgu (one_equation v (cell h t)) ≡ solved_by v (cell h t) (occurs v (cell h t))
-unfolding mgu_within walk
+unfolding mgu_within
 solve_cell v h t = front_solves (highest_among (one_equation v (cell h t))) v (cell h t) (occurs v (cell h t))
 
 solve_nil : (v : ℕ) → mgu (one_equation v nil) ≡ solved_by v nil false
-unfolding mgu_within walk
+unfolding mgu_within
 solve_nil v = refl
 
 -- a variable beyond all others is unbound

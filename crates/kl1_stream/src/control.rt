@@ -1,7 +1,8 @@
 // What stands at the front of a control stream.
 
 ghost use Rattle.std.specs.Prelude.{◌≡◌, ℕ, List};
-ghost use Rattle.kl1_model.specs.Control.{word_of, allow_word, atom_word, control_of};
+ghost use Rattle.kl1_model.specs.Term.{atom};
+ghost use Rattle.kl1_model.specs.Control.{word_of, allow_word, control_of};
 ghost use Rattle.kl1_text.specs.Reading.{Reads};
 ghost use Rattle.kl1_store.specs.Held.{Held, IsIn};
 ghost use Rattle.kl1_store.specs.Meaning.{term_of};
@@ -35,7 +36,7 @@ pub(crate) enum Word {
 /// What an atom says.
 fn atom_said<N: NameValue>(name: N) -> Word
     ensures inside { (h : Held N) → WordIn h result }
-    ensures says { (f : N → List ℕ) → Reads N.built f → word_as result ≡ atom_word (f name) }
+    ensures says { (f : N → List ℕ) → Reads N.built f → word_as result ≡ word_of (atom (f name)) }
 {
     if is_built_in(name, BuiltIn::Stop) {
         return Word::Says(Message::Stop);

@@ -3,10 +3,11 @@ use Rattle.std.proofs.Common.{◌≡◌, ℕ, suc, ◌+◌, ◌-◌, ◌<◌, �
 use Rattle.std.specs.Prelude.{nat_le, Some, None, IsTrue}
 use Rattle.std.specs.List.{AllByRecursion}
 use Rattle.std.proofs.lemmas.Bool.{and_parts, leb-true, ne_eqb, or_from}
-use Rattle.kl1_model.specs.Term.{Term, variable, integer, atom, structure, Terms, none, more, occurs, occurs_in, replace, Replacement, replaced, each_substituted}
+use Rattle.kl1_model.specs.Term.{Term, variable, integer, atom, structure, Terms, none, more, occurs, occurs_in, replace, Replacement, each_substituted}
+use Rattle.kl1_model.specs.code.Unifying.{replaced, after}
 use Rattle.kl1_model.specs.code.TermCode.{nodes_of}
 use Rattle.kl1_model.specs.Meaning.{highest, variables_of, variables_in, numbered_after, is_numbered}
-use Rattle.kl1_model.specs.Unify.{Equation, fails, binds, after, walk, mgu_within, highest_among, mgu}
+use Rattle.kl1_model.specs.Unify.{Equation, fails, binds, equations_size, mgu_within, highest_among, mgu}
 use Rattle.kl1_model.specs.Goal.{is_goal}
 use Rattle.kl1_model.specs.Opening.{with_next_variables}
 use Rattle.kl1_model.specs.State.{names_of, with_names}
@@ -103,13 +104,13 @@ one_by v t = record { number = v; by = t } ∷ []
 abbrev one_equation : ℕ → Term → List Equation
 one_equation v t = record { left = variable v; right = t } ∷ []
 
-front_solves : (last v : ℕ) (t : Term) (b : Bool) → after (walk (mgu_within (suc last)) 2) (mgu_within (suc last)) (if b then fails else binds v t []) ≡ (if b then None else Some (one_by v t))
-unfolding mgu_within walk
+front_solves : (last v : ℕ) (t : Term) (b : Bool) → after (mgu_within (suc (suc last)) 1) (λ to. mgu_within (suc last) (equations_size to) to) (if b then fails else binds v t []) ≡ (if b then None else Some (one_by v t))
+unfolding mgu_within
 front_solves last v t true = refl
 front_solves last v t false = refl
 
 solve_one : (v : ℕ) (t : Term) → IsNoVariable t → mgu (one_equation v t) ≡ (if occurs v t then None else Some (one_by v t))
-unfolding mgu_within walk
+unfolding mgu_within
 solve_one v (variable w) n = absurd n
 solve_one v (integer i) n = front_solves (highest_among (one_equation v (integer i))) v (integer i) false
 solve_one v (atom a) n = front_solves (highest_among (one_equation v (atom a))) v (atom a) false

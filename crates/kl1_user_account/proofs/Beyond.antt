@@ -3,7 +3,8 @@ use Rattle.std.proofs.Common.{◌≡◌, ℕ, zero, suc, ◌+◌, ◌<◌, ◌�
 use Rattle.std.specs.List.{AllByRecursion}
 use Rattle.std.proofs.lemmas.Bool.{ne_eqb, or_from}
 use Rattle.std.proofs.Math.Nat.{le-max_left, le-max_right}
-use Rattle.kl1_model.specs.Term.{Term, variable, integer, atom, structure, Terms, none, more, occurs, occurs_in, Replacement, replaced, each_substituted}
+use Rattle.kl1_model.specs.Term.{Term, variable, integer, atom, structure, Terms, none, more, occurs, occurs_in, Replacement, each_substituted}
+use Rattle.kl1_model.specs.code.Unifying.{replaced}
 use Rattle.kl1_model.specs.Meaning.{highest, highest_in}
 use Rattle.kl1_model.specs.Opening.{with_next_variables}
 use Rattle.kl1_store.specs.declared.cell.Cell.{Cell}

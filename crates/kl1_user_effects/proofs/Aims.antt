@@ -1,7 +1,8 @@
 -- What is to be reduced, as an account and as its store tell it.
 use Rattle.std.proofs.Common.{◌≡◌, refl, sym, ap, ◌∙◌, subst}
 use Rattle.std.specs.Prelude.{codes, Option, Some, None}
-use Rattle.kl1_model.specs.Term.{Term, structure, none, more, replaced}
+use Rattle.kl1_model.specs.Term.{Term, structure, none, more}
+use Rattle.kl1_model.specs.code.Unifying.{replaced}
 use Rattle.kl1_text.specs.declared.cell_name.CellName.{CellName}
 use Rattle.kl1_store.specs.declared.qualified.Qualified.{Qualified}
 use Rattle.kl1_store.specs.Held.{Held, IsIn}

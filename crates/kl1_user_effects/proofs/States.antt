@@ -1,7 +1,8 @@
 -- States made of goals and shoens whose cells are read in one way or another.
 use Rattle.std.proofs.Common.{◌≡◌, ℕ, suc, ◌==◌, Bool, true, false, if◌then◌else◌, List, [], ◌∷◌, length, map, refl, ap, ap₂, ◌∙◌, arith, length-take, subst}
 use Rattle.std.specs.Prelude.{codes, Option, Some, None, option_map, find}
-use Rattle.kl1_model.specs.Term.{Term, structure, none, more, replace, Replacement, replaced}
+use Rattle.kl1_model.specs.Term.{Term, structure, none, more, replace, Replacement}
+use Rattle.kl1_model.specs.code.Unifying.{replaced}
 use Rattle.kl1_model.specs.State as model
 use Rattle.kl1_model.specs.State.{State, replace_in_goal, replace_in_shoen, replace_in_state, replace_all, shoen_at}
 use Rattle.kl1_text.specs.declared.cell_name.CellName.{CellName}

@@ -4,7 +4,8 @@ use Rattle.std.specs.Prelude.{nat_lt, find, Some, None}
 use Rattle.kl1_model.specs.declared.built_in.BuiltIn.{BuiltIn}
 use Rattle.kl1_model.specs.declared.limits.TheConstants.{MOST_REPORTS}
 use Rattle.kl1_model.specs.Text.{text_of}
-use Rattle.kl1_model.specs.Term.{Term, variable, integer, atom, structure, replace, replaced}
+use Rattle.kl1_model.specs.Term.{Term, variable, integer, atom, structure, replace}
+use Rattle.kl1_model.specs.code.Unifying.{replaced}
 use Rattle.kl1_model.specs.Meaning.{nil}
 use Rattle.kl1_model.specs.Unify.{mgu}
 use Rattle.kl1_model.specs.State.{State}

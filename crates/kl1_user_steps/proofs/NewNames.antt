@@ -5,7 +5,8 @@ use Rattle.std.proofs.lemmas.Slice.Eq.{bytes_eq-Decides}
 use Rattle.kl1_model.specs.declared.limits.TheConstants.{MOST_NAMES}
 use Rattle.kl1_model.specs.Text.{is_text}
 use Rattle.kl1_model.specs.Term.{Term, Terms, variable, integer, atom, structure, replace}
-use Rattle.kl1_model.specs.Unify.{Equation, walk, mgu_within, mgu, after, goes_on, fails, equations_size}
+use Rattle.kl1_model.specs.Unify.{mgu_within, mgu, goes_on, fails, equations_size}
+use Rattle.kl1_model.specs.code.Unifying.{after}
 use Rattle.kl1_model.specs.State.{State, replace_in_state, with_name}
 use Rattle.kl1_model.specs.Tree.{charge}
 use Rattle.kl1_model.specs.Ending.{after_reduction}
@@ -53,18 +54,17 @@ not_true true other = absurd (other refl)
 not_true false other = refl
 
 integer_unsolved : (i : ℤ) (b : List ℕ) → mgu (equation (integer i) (atom b)) ≡ None
-unfolding mgu_within walk
+unfolding mgu_within
 integer_unsolved i b = refl
 
 structure_unsolved : (g : List ℕ) (ts : Terms) (b : List ℕ) → mgu (equation (structure g ts) (atom b)) ≡ None
-unfolding mgu_within walk
+unfolding mgu_within
 structure_unsolved g ts b = refl
 
 atom_unsolved : (a b : List ℕ) → (a ≡ b → ⊥) → mgu (equation (atom a) (atom b)) ≡ None
-unfolding mgu_within walk
+unfolding mgu_within
 atom_unsolved a b other =
-    let es : List Equation = equation (atom a) (atom b) in
-    ap (λ (c : Bool). after (walk (mgu_within 1) (equations_size es)) (mgu_within 1) (if c then goes_on [] else fails)) (not_true (bytes_eq a b) (λ e. other ((bytes_eq-Decides a b).0 e)))
+    ap (λ (c : Bool). after (mgu_within 2 1) (λ to. mgu_within 1 (equations_size to) to) (if c then goes_on [] else fails)) (not_true (bytes_eq a b) (λ e. other ((bytes_eq-Decides a b).0 e)))
 
 -- an integer becomes no name
 pub integer_none : (h : Held CellName) (known : List Known) (text : List ℕ) (a x : Cell CellName) (i : ℤ) → x ≡ Integer i → ((f : Reading) → meaning f h x ≡ meaning f h a) → IsNoSpelling h known text a
@@ -130,7 +130,7 @@ found_is : (m n : model.Move) (o : Option model.Move) → o ≡ Some m → o ≡
 found_is m n o a b = cc
 
 variable_solved : (v : ℕ) (text : List ℕ) → mgu (equation (variable v) (atom text)) ≡ Some (record { number = v; by = atom text } ∷ [])
-unfolding mgu_within walk
+unfolding mgu_within
 variable_solved v text = refl
 
 -- a text is used as a name, which a variable becomes

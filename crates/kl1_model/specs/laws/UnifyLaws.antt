@@ -1,8 +1,9 @@
 -- What holds of unification, on its definition alone.
-use Rattle.std.specs.Prelude.{◌≡◌, ℕ, ◌<◌, ◌≤◌, ◌≢◌, IsTrue, IsFalse, Decides, pos, List, [], ◌∷◌, codes, Option, Some, None, option_map, ⊤}
+use Rattle.std.specs.Prelude.{◌≡◌, ℕ, suc, ◌<◌, ◌≤◌, ◌≢◌, IsTrue, IsFalse, Decides, pos, List, [], ◌∷◌, codes, Option, Some, None, option_map, ⊤}
 use Rattle.std.specs.List.{AllByRecursion}
-use Rattle.kl1_model.specs.Term.{Term, variable, integer, atom, structure, Terms, none, more, count_of, same_term, occurs, Replacement, replaced, substituted}
-use Rattle.kl1_model.specs.Unify.{Equation, argument_equations, Front, goes_on, fails, binds, front, after, replace_in_all, mgu_to, highest_among, mgu}
+use Rattle.kl1_model.specs.Term.{Term, variable, integer, atom, structure, Terms, none, more, count_of, same_term, occurs, Replacement, substituted}
+use Rattle.kl1_model.specs.Unify.{Equation, argument_equations, Front, goes_on, fails, binds, front, replace_in_all, equations_size, mgu_within, highest_among, mgu}
+use Rattle.kl1_model.specs.code.Unifying.{replaced, after}
 
 -- all variables of a term are numbered up to the last
 abbrev mutual
@@ -55,6 +56,10 @@ FrontKeepsNumbers = (last : ℕ) (e : Equation) (es : List Equation) → AllNumb
 abbrev pub HighestIsABound : Type 0
 HighestIsABound = (es : List Equation) → AllNumberedTo (highest_among es) es
 
+-- the solution of equations whose variables are numbered up to the last
+abbrev pub mgu_to : ℕ → List Equation → Option (List Replacement)
+mgu_to last es = mgu_within (suc (suc last)) (equations_size es) es
+
 -- any bound on the numbers gives the solution
 abbrev pub AnyBoundServes : Type 0
 AnyBoundServes = (last : ℕ) (es : List Equation) → AllNumberedTo last es → mgu_to last es ≡ mgu es
@@ -83,9 +88,8 @@ LeftTakesRight = (v : ℕ) (t : Term) (es : List Equation) → IsFalse (occurs v
 abbrev pub RightTakesLeft : Type 0
 RightTakesLeft = (v : ℕ) (t : Term) (es : List Equation) → IsFalse (occurs v t) → IsLower v t → mgu (equate t (variable v) ∷ es) ≡ bound_first v t es
 
--- how equations are solved, with no fuel: equal sides are dropped, structures give way to their arguments, a variable
--- takes a lower variable, or a term that is none and in which it doesn't occur, and if nothing makes the front
--- sides equal there is no solution
+-- how equations are solved, with no fuel: equal sides are dropped, structures give way to arguments, a variable takes a lower variable,
+-- or a term that is none and in which it doesn't occur, and if nothing makes the front sides equal there is no solution
 pub data Solves : List Equation → Option (List Replacement) → Type 0 where
   all_done : Solves [] (Some [])
   same_sides : (t : Term) {es : List Equation} {o : Option (List Replacement)} → Solves es o → Solves (equate t t ∷ es) o
