@@ -64,7 +64,10 @@ is_blank_line line = list_all is_space line
 
 -- the number that a word is: digits, at least one and not too many, of a value below the limit of numbers
 abbrev pub number_in : List ℕ → Option ℕ
-number_in w = if nat_le 1 (length w) && nat_le (length w) MOST_DIGITS && list_all is_digit w && nat_lt (number_of w) NUMBER_LIMIT then Some (number_of w) else None
+number_in w =
+    if nat_le 1 (length w) && nat_le (length w) MOST_DIGITS && list_all is_digit w && nat_lt (number_of w) NUMBER_LIMIT
+    then Some (number_of w)
+    else None
 
 -- a number, if it is at most `most`
 abbrev pub up_to : ℕ → Option ℕ → Option ℕ

@@ -16,9 +16,7 @@ pub record BodyGoal : Type 0 where
   pub goal : Term
   pub priority : Option ℕ
 
--- a clause: its predicate's name, a pattern for each argument, its tests, the number of its section, from 0, between the
--- `otherwise`s of its predicate, and the goals of its body; its variables are numbered from 1 by first occurrence, those of
--- the head first
+-- a clause: a pattern for each argument, its variables numbered from 1 as they first occur, and sections, from 0, parted by `otherwise`s
 pub record Clause : Type 0 where
   pub name : List ℕ
   pub patterns : Terms
@@ -41,7 +39,7 @@ pub data Reading (A : Type 0) : Type 0 where
   good : A → Reading A
   bad : ℕ → Reading A
 
--- an item: the line on which it begins, and its tokens without its end, or none if it has no end or something in it is no token
+-- an item: the line on which it begins, and its tokens without its end, unless it has no end or something in it is no token
 pub record Item : Type 0 where
   pub line : ℕ
   pub tokens : Option (List (Token (List ℕ)))
@@ -62,7 +60,10 @@ abbrev pub items_from : Option ℕ → List (Token (List ℕ)) → List Placed �
 items_from began before [] broken_at = last_item began broken_at
 items_from began before (p ∷ ps) broken_at =
     let line = unwrap_or began p.line in
-    elim (is_end p.token) [ true ↦ record { line = line; tokens = Some before } ∷ items_from None [] ps broken_at | false ↦ items_from (Some line) (before ++ p.token ∷ []) ps broken_at ]
+    elim (is_end p.token) [
+      | true ↦ record { line = line; tokens = Some before } ∷ items_from None [] ps broken_at
+      | false ↦ items_from (Some line) (before ++ p.token ∷ []) ps broken_at
+    ]
 
 -- the items of a text
 abbrev pub items_of : Tokens → List Item
@@ -70,7 +71,8 @@ items_of ts = items_from None [] ts.placed ts.broken_at
 
 -- the name in the line of a module, which is the first item: `:- module name`; no module is named `shoen`
 abbrev pub named_module : List (Token (List ℕ)) → Option (List ℕ)
-named_module (sign_token Neck ∷ name_token word q a ∷ name_token name r b ∷ []) = if bytes_eq word (codes "module") && not (bytes_eq name (codes "shoen")) then Some name else None
+named_module (sign_token Neck ∷ name_token word q a ∷ name_token name r b ∷ []) =
+    if bytes_eq word (codes "module") && not (bytes_eq name (codes "shoen")) then Some name else None
 named_module _ = None
 
 -- what a function gives for all elements, if it gives something for each
@@ -134,8 +136,9 @@ fit_body m b = each_of (fit_goal m) (trees_of b)
 -- the clause of a head, tests and a body, as the first of its predicate
 abbrev pub clause_with : Head → List Term → Option (List BodyGoal) → Option Clause
 clause_with h tests body =
+    let fit = each_of (fit_test (variables_in (head_patterns h))) tests in
     if is_fit_head h
-    then option_and_then (λ ts. option_map (λ gs. record { name = head_name h; patterns = head_patterns h; tests = ts; section = 0; body = gs }) body) (each_of (fit_test (variables_in (head_patterns h))) tests)
+    then option_and_then (λ ts. option_map (λ gs. record { name = head_name h; patterns = head_patterns h; tests = ts; section = 0; body = gs }) body) fit
     else None
 
 -- the goal `true`, which is the body of a head alone
@@ -166,11 +169,11 @@ last_of (c ∷ d ∷ cs) = last_of (d ∷ cs)
 abbrev pub continues : List Clause → Clause → Bool
 continues before c = unwrap_or (option_map (is_of c.name (count_of c.patterns)) (last_of before)) false
 
--- whether a clause is of the same predicate as none of these
+-- whether none of these is of the same predicate as a clause
 abbrev pub begins : List Clause → Clause → Bool
 begins before c = not (list_any (is_of c.name (count_of c.patterns)) before)
 
--- whether there is room for a clause, and it continues its predicate or, unless an `otherwise` is before it, begins one
+-- whether a clause may follow these: there is room, and it continues its predicate or, if no `otherwise` opens its section, begins one
 abbrev pub may_follow : List Clause → Bool → Clause → Bool
 may_follow before opens c = nat_lt (length before) MOST_CLAUSES && (continues before c || not opens && begins before c)
 

@@ -2,7 +2,7 @@
 use Rattle.std.specs.Prelude.{ℕ, ◌==◌, ◌&&◌, Bool, if◌then◌else◌, List, [], ◌∷◌, length, bytes_eq, Option, Some, None, option_map, option_and_then, is_some, is_none}
 use Rattle.std.specs.List.{list_any}
 use Rattle.kl1_model.specs.Token.{Token}
-use Rattle.kl1_model.specs.Module.{Clause, last_of, may_follow, section_after, is_otherwise, with_clause, clause_of}
+use Rattle.kl1_model.specs.Module.{Clause, Reading, good, bad, last_of, may_follow, section_after, is_otherwise, with_clause, clause_of}
 use Rattle.kl1_read.specs.declared.clause_parts.ClauseParts.{ClauseParts}
 
 -- whether a clause is one of a predicate
@@ -36,6 +36,10 @@ Standing = List Clause × Option ℕ
 -- the line of an `otherwise` that stands directly after a clause, and not after another `otherwise`
 abbrev pub otherwise_on : ℕ → List Clause → Option ℕ → Option ℕ
 otherwise_on line before opened = if is_some (last_of before) && is_none opened then Some line else None
+
+-- the clauses before the end of the items; an `otherwise` on a line with no clause after it is bad
+abbrev pub clauses_ended : List Clause → Option ℕ → Reading (List Clause)
+clauses_ended before opened = elim opened [ None ↦ good before | Some line ↦ bad line ]
 
 -- what stands after an item with these tokens, if it is good
 abbrev pub standing_behind : List ℕ → Standing → ℕ → List (Token (List ℕ)) → Option Standing

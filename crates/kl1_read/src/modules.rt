@@ -1,8 +1,8 @@
 // Modules.
 
-ghost use Rattle.std.specs.Prelude.{◌≡◌, ◌+◌, ◌^◌, ◌<◌, ◌≤◌, ℕ, List, [], length, map, option_and_then, None, Some, IfOk, IfErr, OnOk};
+ghost use Rattle.std.specs.Prelude.{◌≡◌, ◌+◌, ◌^◌, ◌<◌, ◌≤◌, List, [], length, map, option_and_then, None, Some, IfOk, IfErr, OnOk};
 ghost use Rattle.kl1_model.specs.Module.{Clause, good, read_module, clause_of, clauses_from, is_otherwise, with_clause};
-ghost use Rattle.kl1_read.specs.Followings.{last_section, otherwise_on, standing_behind};
+ghost use Rattle.kl1_read.specs.Followings.{clauses_ended, last_section, otherwise_on, standing_behind};
 ghost use Rattle.kl1_read.specs.Items.{items_left};
 ghost use Rattle.kl1_read.specs.Sources.{IsFaultOf, clause_of_parts, module_of_parts};
 ghost use Rattle.kl1_read.specs.Statements.{given};
@@ -79,8 +79,8 @@ fn put_clauses(
 
 /// The end of a module's items: an `otherwise` on this line with no clause after it is bad.
 fn ended(pending: Option<u64>) -> Result<(), ReadFault>
-    ensures clauses { OnOk result ((m : List ℕ) (before : List Clause) → clauses_from m before pending [] ≡ good before) }
-    ensures fault { IfErr result (λ e. (m : List ℕ) (before : List Clause) → IsFaultOf (clauses_from m before pending []) e) }
+    ensures clauses { OnOk result ((before : List Clause) → clauses_ended before pending ≡ good before) }
+    ensures fault { IfErr result (λ e. (before : List Clause) → IsFaultOf (clauses_ended before pending) e) }
 {
     match pending {
         None => Ok(()),
