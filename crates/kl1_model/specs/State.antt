@@ -7,7 +7,7 @@ use Rattle.kl1_model.specs.declared.rules.Rules.{Rules}
 use Rattle.kl1_model.specs.declared.rules.Rules.TheVariants.{One, Two, Three}
 use Rattle.kl1_model.specs.declared.limits.TheConstants.{MOST_NAME_BYTES, MOST_SPELLED_BEFORE}
 use Rattle.kl1_model.specs.Text.{is_built_in}
-use Rattle.kl1_model.specs.Term.{Term, variable, integer, atom, structure, Terms, none, more, terms_of, replace, Replacement}
+use Rattle.kl1_model.specs.Term.{Term, atom, structure, Terms, none, more, terms_of, replace, Replacement}
 use Rattle.kl1_model.specs.Module.{Clause, goals_of, Module}
 
 -- what a goal does: it reads its shoen's control stream, it is this term, or it is a substitute that waits for this term to be a goal
