@@ -28,7 +28,7 @@ pub data Query : Type 0 where
   modules : Query
   is_quiet : Query
 
--- what may be done; `start` has an allowance and a range of priorities, `reduce` a goal and a clause or 0, `answer` a shoen and a report
+-- what may be done: `start` by allowance and range of priorities, `reduce` by goal and clause or 0, `answer` by shoen and report, from 1
 pub data Event : Type 0 where
   load : List ℕ → Event
   start : ℕ → ℕ → ℕ → Term → Event

@@ -119,7 +119,7 @@ abbrev pub numbers_answer : Comparison → Number → Number → Answer
 numbers_answer c (Value x) (Value y) = known (compared c x y)
 numbers_answer c a b = no
 
--- the answer of a test: a look waits while its term is an unbound variable, and of a comparison the left side decides first
+-- the answer of a test: a look at an unbound variable waits; a comparison scans its left side, then its right, and then computes
 abbrev pub test_answer : Test → Answer
 test_answer holds = yes
 test_answer (looks i (variable v)) = wait

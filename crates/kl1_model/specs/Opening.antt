@@ -85,7 +85,7 @@ abbrev pub clipped_to : Option Shoen → ℕ → ℕ
 clipped_to None n = n
 clipped_to (Some h) n = max h.low (min n h.high)
 
--- the child that an order opens in a shoen, with the next number: its range is clipped to that of its parent
+-- the child that `shoen:execute` opens in a shoen, with the next number: its range is clipped to that of its parent
 abbrev pub child_shoen : State → ℕ → ExecuteArguments → Shoen
 child_shoen s parent o =
     let clip = clipped_to (shoen_at parent s.shoens) in

@@ -59,12 +59,14 @@ becomes a ZeroDivisor = raises illegal_input
 
 -- the arguments of `shoen:execute`, if a term has six
 abbrev pub execute_arguments : Term → Option ExecuteArguments
-execute_arguments (structure p (more g (more l (more h (more n (more c (more r none))))))) = Some (record { goal = g; low = l; high = h; allowance = n; control = c; reports = r })
+execute_arguments (structure p (more g (more l (more h (more n (more c (more r none))))))) =
+    Some (record { goal = g; low = l; high = h; allowance = n; control = c; reports = r })
 execute_arguments t = None
 
 -- what a goal `a:b` does, if it is `shoen:execute` with six arguments
 abbrev pub execute_move : Term → Term → Option Move
-execute_move (atom m) b = if is_execute m b then option_and_then (λ o. move_found (λ right. opens o) (arguments_look o)) (execute_arguments b) else None
+execute_move (atom m) b =
+    if is_execute m b then option_and_then (λ o. move_found (λ right. opens o) (arguments_look o)) (execute_arguments b) else None
 execute_move a b = None
 
 -- what a built-in goal of two terms does; `:=` waits while the expression does, `atom_from` while the codes do
@@ -123,7 +125,7 @@ has_room_for s c =
     nat_le (goals_alive s + length c.body) MOST_GOALS && nat_le (s.variables + fresh_variables c) MOST_VARIABLES
     && nat_le (s.nodes + goals_nodes (goals_of c.body)) MOST_NODES
 
--- a goal's place taken by the body of a clause, whose goals have its priority, or the one that is named, clipped to the range of the shoen
+-- a goal's place taken by a clause's body; its goals have that goal's priority, or the one that they name, clipped to the shoen's range
 abbrev pub committed : Goal → Candidate → State → State
 committed g k s =
     let body = body_instance k.clause k.places s.last_variable in
@@ -151,7 +153,7 @@ substituted_by g kind t s =
     let new = suc s.last_variable in
     replaced_by g (substitutes (variable new)) (report g.shoen (exception_with kind t (variable new)) (record s { last_variable = new }))
 
--- an exception of a goal of this term, which has been removed: its shoen reports it, and a substitute takes its place if that isn't dropped
+-- an exception of a removed goal of this term is reported; if that isn't dropped, by rules with substitutes one takes the goal's place
 abbrev pub raised : Goal → List ℕ → Term → State → State
 raised g kind t s =
     if has_substitutes s.rules && is_reported g.shoen (exception kind t) s then substituted_by g kind t s else report g.shoen (exception kind t) s
@@ -188,7 +190,7 @@ moved g t gives_way s = replaced_by g (reduces t) s
 abbrev pub with_stopped : ℕ → Bool → State → State
 with_stopped n stopped s = change_shoen n (λ h. record h { is_stopped = stopped }) s
 
--- the effect of a message to a shoen: it reports that it is stopped if it wasn't, and that it is stopped no longer if it was
+-- the effect of a message to a shoen; a stop is reported only if it wasn't stopped, and a start only if it was
 abbrev pub obeyed : ℕ → Message → State → State
 obeyed n Stop s = elim (shoen_at n s.shoens) [ None ↦ s | Some h ↦ if h.is_stopped then s else report n stopped_report (with_stopped n true s) ]
 obeyed n Start s = elim (shoen_at n s.shoens) [ None ↦ s | Some h ↦ if h.is_stopped then report n resumed_report (with_stopped n false s) else s ]

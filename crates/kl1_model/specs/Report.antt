@@ -9,12 +9,14 @@ use Rattle.kl1_model.specs.State.{State, shoen_at, replace_in_state, change_shoe
 abbrev pub broken_at : ℕ → State → State
 broken_at n s = change_shoen n (λ h. record h { is_broken = true }) s
 
--- a report on a stream with this tail, which becomes a cell of the message and the next variable; or else the stream is broken from now on
+-- a report on an unbroken stream with this tail, which becomes a cell of the message and the next variable; if it can't, the stream breaks
 abbrev pub reported_at : ℕ → Term → Term → State → State
 reported_at n message (variable v) s =
     let next = suc s.last_variable in
     if occurs v message || not (nat_lt s.reports MOST_REPORTS) then broken_at n s
-    else change_shoen n (λ h. record h { tail = variable next }) (record (replace_in_state v (cell message (variable next)) s) { last_variable = next; reports = suc s.reports })
+    else
+        change_shoen n (λ h. record h { tail = variable next })
+        (record (replace_in_state v (cell message (variable next)) s) { last_variable = next; reports = suc s.reports })
 reported_at n message t s = broken_at n s
 
 -- a report of shoen `n`; on a broken stream it is dropped

@@ -26,7 +26,7 @@ has_room_to_send s m = nat_le (suc s.variables) MOST_VARIABLES && nat_le (s.node
 abbrev pub with_control_tail : Term → Shoen → Shoen
 with_control_tail t h = record h { origin = option_map (λ (o : Origin). record o { control = t }) h.origin }
 
--- a message on a shoen's control stream: its tail at the console, a variable while the shoen lives, becomes a cell of it and the next one
+-- a message on a shoen's control stream: the console's tail, a variable while the shoen lives, becomes a cell of message and next variable
 abbrev pub sent_on : ℕ → Message → Term → State → State
 sent_on n m (variable v) s =
     let next = suc s.last_variable in

@@ -29,8 +29,8 @@ pub record Origin : Type 0 where
   pub reports : Term
   pub control : Term
 
--- a shoen: `parent` is 0 if the console started it, which then keeps `origin`; `allowance` is in reductions; its goals have priorities from
--- `low` to `high`; `control` is what is left of its control stream, `tail` is the tail of its report stream, which may be broken
+-- a shoen: `parent` is 0 if the console started it, which then keeps `origin`; `allowance` is in reductions; its goals but the monitor have
+-- priorities from `low` to `high`; `control` is the rest of its control stream, `tail` the tail of its report stream, which may be broken
 pub record Shoen : Type 0 where
   pub number : ℕ
   pub parent : ℕ
@@ -45,8 +45,8 @@ pub record Shoen : Type 0 where
   pub origin : Option Origin
 
 -- an account: its goals and shoens by number, the shoen of each reduction that was charged, its modules in order of loading, the names that
--- it has used in order of first use; how many variables and structures its starts, messages, answers and commits had, how many reports it
--- made, how many entries its journal has, and how many sessions are open
+-- it has used in order of first use; how many variables and structures its starts, commits, and messages and answers from the console had,
+-- how many reports it made, how many entries its journal has, and how many sessions are open
 pub record State : Type 0 where
   pub own_name : List ℕ
   pub rules : Rules
@@ -143,7 +143,7 @@ change_shoen n change s = record s { shoens = map (λ h. if h.number == n then c
 abbrev pub without_goal : ℕ → State → State
 without_goal n s = record s { goals = filter (λ g. not (g.number == n)) s.goals }
 
--- the names of a term, a structure's before its arguments'; operators are built in, so an account's own names stand as in the text
+-- the names of a term, a structure's before its arguments'; operators are built in, so an account's own names are in the order of the text
 abbrev mutual
   pub names_of : Term → List (List ℕ)
   names_of (atom a) = a ∷ []

@@ -56,7 +56,7 @@ behind_digits (b ∷ bs) = elim (is_digit b) [ true ↦ behind_digits bs | false
 abbrev pub number_of : List ℕ → ℕ
 number_of digits = fold (λ n b. 10 * n + (b - 48)) 0 digits
 
--- the text in quotes that begins with `text`, and what is after it; `true` if the last byte was a quote, the end unless one more follows
+-- the text in quotes that begins with `text`, if a quote ends it, and what is after; `true` after a quote, the end unless one more follows
 abbrev pub quoted_from : Bool → List ℕ → List ℕ → Option (List ℕ × List ℕ)
 quoted_from true text [] = Some (text, [])
 quoted_from false text [] = None
@@ -158,7 +158,7 @@ pub record Tokens : Type 0 where
   pub placed : List Placed
   pub broken_at : Option ℕ
 
--- the tokens of a text, by what stands in front of it
+-- the tokens of a text by what is at its front, on this line; `next` gives those of what is left
 abbrev pub tokens_by : (ℕ → List ℕ → Tokens) → ℕ → Front → Tokens
 tokens_by next line finished = record { placed = []; broken_at = None }
 tokens_by next line broken = record { placed = []; broken_at = Some line }

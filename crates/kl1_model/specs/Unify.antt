@@ -20,7 +20,7 @@ pub data Front : Type 0 where
   fails : Front
   binds : ℕ → Term → List Equation → Front
 
--- the rules for the front equation: equal constants are dropped, structures of one name and length give way to their arguments,
+-- the rules for the front equation: equal constants or variables are dropped, structures of one name and length give way to arguments,
 -- of two variables the higher takes the lower, a variable takes a term that it doesn't occur in, and all else fails
 abbrev pub front : Term → Term → List Equation → Front
 front (variable v) (variable w) es = if v == w then goes_on es else if nat_lt v w then binds w (variable v) es else binds v (variable w) es
@@ -40,13 +40,15 @@ abbrev pub equations_size : List Equation → ℕ
 equations_size [] = 0
 equations_size (e ∷ es) = suc (size e.left) + equations_size es
 
--- equations solved by these rules until none is left, with fewer than `n` replacements, and at most `m` rules before the next one
+-- equations solved by these rules until none is left, with at most `n` replacements, and at most `m` rules up to the next one
 unfoldable pub mgu_within : ℕ → ℕ → List Equation → Option (List Replacement)
 mgu_within n m [] = Some []
 mgu_within (suc n) (suc m) (e ∷ es) = elim (front e.left e.right es) [
   | goes_on next ↦ mgu_within (suc n) m next
   | fails ↦ None
-  | binds v t rest ↦ option_map (λ rs. record { number = v; by = t } ∷ rs) (mgu_within n (equations_size (replace_in_all v t rest)) (replace_in_all v t rest))
+  | binds v t rest ↦
+    let left = replace_in_all v t rest in
+    option_map (λ rs. record { number = v; by = t } ∷ rs) (mgu_within n (equations_size left) left)
 ]
 mgu_within n m es = None
 
@@ -55,6 +57,6 @@ abbrev pub highest_among : List Equation → ℕ
 highest_among [] = 0
 highest_among (e ∷ es) = max (max (highest e.left) (highest e.right)) (highest_among es)
 
--- the replacements that make both sides of all equations equal, or none if nothing unifies them; each is of another variable
+-- the replacements that make all equations' sides equal, or none if nothing does; each is of another variable, so both bounds are enough
 abbrev pub mgu : List Equation → Option (List Replacement)
 mgu es = mgu_within (suc (suc (highest_among es))) (equations_size es) es
