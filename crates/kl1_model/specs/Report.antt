@@ -15,8 +15,8 @@ reported_at n message (variable v) s =
     let next = suc s.last_variable in
     if occurs v message || not (nat_lt s.reports MOST_REPORTS) then broken_at n s
     else
-        change_shoen n (λ h. record h { tail = variable next })
-        (record (replace_in_state v (cell message (variable next)) s) { last_variable = next; reports = suc s.reports })
+    change_shoen n (λ h. record h { tail = variable next })
+    (record (replace_in_state v (cell message (variable next)) s) { last_variable = next; reports = suc s.reports })
 reported_at n message t s = broken_at n s
 
 -- a report of shoen `n`; on a broken stream it is dropped

@@ -47,8 +47,8 @@ mgu_within (suc n) (suc m) (e ∷ es) = elim (front e.left e.right es) [
   | goes_on next ↦ mgu_within (suc n) m next
   | fails ↦ None
   | binds v t rest ↦
-    let left = replace_in_all v t rest in
-    option_map (λ rs. record { number = v; by = t } ∷ rs) (mgu_within n (equations_size left) left)
+      let left = replace_in_all v t rest in
+      option_map (λ rs. record { number = v; by = t } ∷ rs) (mgu_within n (equations_size left) left)
 ]
 mgu_within n m es = None
 
