@@ -64,11 +64,7 @@ written_from accounts before (r ∷ rs) = written_for accounts before r ++ writt
 abbrev pub written_records : List (List ℕ) → Records → List ℕ
 written_records accounts rs = written_from accounts [] rs.list ++ (if rs.is_truncated then written_line (codes "! truncated") else [])
 
--- what is written for a script with these accounts and records
-abbrev pub written_script : Option (List (List ℕ)) → Records → List ℕ
-written_script None rs = written_line (codes "! accounts")
-written_script (Some accounts) rs = written_records accounts rs
-
 -- the output of a script
 abbrev pub output : List ℕ → List ℕ
-output script = written_script (accounts_in (words_of (line_in script))) (records_of (behind_feed script))
+output script =
+    elim (accounts_in (words_of (line_in script))) [ None ↦ written_line (codes "! accounts") | Some accounts ↦ written_records accounts (records_of (behind_feed script)) ]
