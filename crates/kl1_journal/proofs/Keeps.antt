@@ -7,7 +7,7 @@ use Rattle.kl1_model.specs.Event as model
 use Rattle.kl1_model.specs.Event.{Transition}
 use Rattle.kl1_model.specs.Step.{step}
 use Rattle.kl1_model.specs.laws.TreeLaws.{is_refused}
-use Rattle.kl1_model_history.specs.Journal.{Journal, steps, noted, Kept, Done, fresh_kept, kept_after, done}
+use Rattle.kl1_model_history.specs.Journal.{Journal, steps, noted, Kept, Done, fresh_kept, done}
 use Rattle.kl1_model_history.specs.laws.HistoryLaws.{IsReplay}
 use Rattle.kl1_model_history.specs.laws.TextLaws as texts
 use Rattle.kl1_model_history.proofs.Replays.{fresh_is_replay, replays_stay}

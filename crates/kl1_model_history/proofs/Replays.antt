@@ -8,10 +8,14 @@ use Rattle.kl1_model.specs.Asking.{origin_at, value_of, status_of, reports_of}
 use Rattle.kl1_model.specs.Step.{step}
 use Rattle.kl1_model.specs.laws.TreeLaws.{is_refused}
 use Rattle.kl1_model.proofs.TreeSteps.{refusals_change_nothing}
-use Rattle.kl1_model_history.specs.Journal.{Entry, loads, starts, sends, steps, answers, event_in, Journal, with_entry, with_event, noted, replay}
+use Rattle.kl1_model_history.specs.Journal.{Entry, loads, starts, sends, steps, answers, event_in, Journal, with_entry, with_event, noted, replay, Kept, Done}
 use Rattle.kl1_model_history.specs.laws.HistoryLaws.{beside, FreshIsReplay, ReplaysStay, NamesStay, RulesStay}
 use Rattle.kl1_model_history.proofs.Besides.{stays_beside}
 use Rattle.kl1_model_history.proofs.RulesKept.{entry_rules}
+
+-- an account with its journal after what became of an event
+abbrev pub kept_after : Kept → Event → Transition → Done
+kept_after k e x = record { kept = record { state = x.state; journal = noted k.journal e x }; reply = x.reply }
 
 pub fresh_is_replay : FreshIsReplay
 fresh_is_replay rules name = record { is = refl; rules = refl; sessions = refl }

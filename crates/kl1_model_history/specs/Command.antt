@@ -28,7 +28,11 @@ by_two make = by_number (λ n rest. option_and_then (make n) (only_number rest))
 
 -- a start, by its allowance, its lowest and its highest priority, and its goal
 abbrev pub start_command : List ℕ → Option Command
-start_command = by_number (λ allowance. by_number (λ low. by_number (λ high rest. if is_range low high then option_map (λ t. does (start allowance low high t)) (goal_in rest) else None)))
+start_command =
+    by_number
+    (λ allowance. by_number
+    (λ low. by_number
+    (λ high rest. if is_range low high then option_map (λ t. does (start allowance low high t)) (goal_in rest) else None)))
 
 -- an answer, by a shoen's number, a report's, from 1, and the goal
 abbrev pub answer_command : List ℕ → Option Command

@@ -42,8 +42,10 @@ cut_within (suc n) bytes =
     let line = line_in bytes in
     let after = behind_feed bytes in
     elim (has_feed bytes) [
-      | true ↦
-          elim (source_bytes_in line) [ None ↦ request_first (other_line (take (MOST_COMMAND_BYTES + 1) line)) (cut_within n after) | Some m ↦ load_cut (cut_within n) m after ]
+      | true ↦ elim (source_bytes_in line) [
+        | None ↦ request_first (other_line (take (MOST_COMMAND_BYTES + 1) line)) (cut_within n after)
+        | Some m ↦ load_cut (cut_within n) m after
+      ]
       | false ↦ only_rest (unfinished_line bytes)
     ]
 

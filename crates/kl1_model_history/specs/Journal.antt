@@ -8,7 +8,7 @@ use Rattle.kl1_model.specs.Event.{Event, load, start, control, reduce, read, log
 use Rattle.kl1_model.specs.Step.{step}
 use Rattle.kl1_model.specs.laws.TreeLaws.{is_refused}
 
--- an entry: a source; a start, as in `start`; a message to a shoen; a goal and a clause's number or 0; an answer to report n of a shoen
+-- an entry: a loaded source, a start, a message to a shoen, a reduction, or an answer to a report; its numbers are those of the event
 pub data Entry : Type 0 where
   loads : List ℕ → Entry
   starts : ℕ → ℕ → ℕ → Term → Entry
@@ -24,7 +24,7 @@ event_in (sends n m) = control n m
 event_in (steps goal clause) = reduce goal clause
 event_in (answers n report t) = answer n report t
 
--- a journal: its account's rules, how many sessions are open, the names used at the last reset, in order of first use, and the entries since
+-- a journal: the account's rules, how many sessions are open, the names at the last reset, in order of first use, and the entries since
 pub record Journal : Type 0 where
   pub rules : Rules
   pub sessions : ℕ
@@ -55,7 +55,7 @@ with_event j (answer n report t) s = with_entry j (answers n report t)
 abbrev pub noted : Journal → Event → Transition → Journal
 noted j e x = if is_refused x.reply then j else with_event j e x.state
 
--- the replay of a journal: the account of this name after its entries, from one of its rules that has but used its names and its sessions
+-- the replay of a journal: the account of this name, fresh but for the journal's names and open sessions, after the journal's entries
 abbrev pub replay : List ℕ → Journal → State
 replay name j = fold (λ s e. (step s (event_in e)).state) (fresh_with j.rules name j.names j.sessions) j.entries
 
@@ -73,10 +73,6 @@ pub record Done : Type 0 where
 abbrev pub fresh_kept : Rules → List ℕ → Kept
 fresh_kept rules name = record { state = fresh rules name; journal = new_journal rules [] 0 }
 
--- an account with its journal after what became of an event
-abbrev pub kept_after : Kept → Event → Transition → Done
-kept_after k e x = record { kept = record { state = x.state; journal = noted k.journal e x }; reply = x.reply }
-
 -- what an event does to an account with its journal, and the reply
 abbrev pub done : Kept → Event → Done
-done k e = kept_after k e (step k.state e)
+done k e = let x = step k.state e in record { kept = record { state = x.state; journal = noted k.journal e x }; reply = x.reply }

@@ -180,19 +180,15 @@ pub record Lines : Type 0 where
   pub whole : List (List ℕ)
   pub rest : List ℕ
 
--- a byte in front of the first line, or of the rest if there is no line
-abbrev pub byte_first : ℕ → List (List ℕ) → List ℕ → Lines
-byte_first b [] rest = record { whole = []; rest = b ∷ rest }
-byte_first b (line ∷ lines) rest = record { whole = (b ∷ line) ∷ lines; rest = rest }
-
--- an empty line in front of lines
-abbrev pub line_first : Lines → Lines
-line_first ls = record { whole = [] ∷ ls.whole; rest = ls.rest }
-
--- the lines of a text
+-- the lines of a text: a byte that is no line feed stands in front of the first line after it, or of the rest if there is none
 abbrev pub lines_of : List ℕ → Lines
 lines_of [] = record { whole = []; rest = [] }
-lines_of (b ∷ bs) = elim (b == 10) [ true ↦ line_first (lines_of bs) | false ↦ byte_first b (lines_of bs).whole (lines_of bs).rest ]
+lines_of (b ∷ bs) =
+    let ls = lines_of bs in
+    elim (b == 10) [
+      | true ↦ record { whole = [] ∷ ls.whole; rest = ls.rest }
+      | false ↦ elim ls.whole [ [] ↦ record { whole = []; rest = b ∷ ls.rest } | line ∷ lines ↦ record { whole = (b ∷ line) ∷ lines; rest = ls.rest } ]
+    ]
 
 -- ---- the journal that a text is
 
@@ -205,7 +201,8 @@ entries_in (line ∷ lines) = option_and_then (λ e. option_map (λ es. e ∷ es
 abbrev pub journal_after : Rules → ℕ → List (List ℕ) → ℕ → List (List ℕ) → Option Journal
 journal_after rules sessions names zero lines = option_map (λ es. record { rules = rules; sessions = sessions; names = names; entries = es }) (entries_in lines)
 journal_after rules sessions names (suc n) [] = None
-journal_after rules sessions names (suc n) (line ∷ lines) = option_and_then (λ t. if is_new_name names t then journal_after rules sessions (names ++ t ∷ []) n lines else None) (name_in line)
+journal_after rules sessions names (suc n) (line ∷ lines) =
+    option_and_then (λ t. if is_new_name names t then journal_after rules sessions (names ++ t ∷ []) n lines else None) (name_in line)
 
 -- the journal that a text is, if it is one: each line ends with a line feed
 abbrev pub journal_in : List ℕ → Option Journal
