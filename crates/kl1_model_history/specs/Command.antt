@@ -12,7 +12,7 @@ use Rattle.kl1_model.specs.Record.{Request, load_of, spoiled_load, other_line}
 use Rattle.kl1_model_history.specs.Journal.{Kept, Done, done}
 use Rattle.kl1_model_history.specs.JournalText.{page_of, goal_in}
 
--- a command: an event; a run of at most n steps; or at most `count` lines of the journal from line `from` on, the first being 1
+-- a command: an event; a run of at most n steps; or a page of the journal from one of its lines on, counted from 1, with at most n lines
 pub data Command : Type 0 where
   does : Event → Command
   run : ℕ → Command

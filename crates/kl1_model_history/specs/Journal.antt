@@ -31,7 +31,7 @@ pub record Journal : Type 0 where
   pub names : List (List ℕ)
   pub entries : List Entry
 
--- the journal of an account of these rules, used names and number of open sessions in which nothing has happened since
+-- a journal of these rules, these names and this number of open sessions, without entries
 abbrev pub new_journal : Rules → List (List ℕ) → ℕ → Journal
 new_journal rules names sessions = record { rules = rules; sessions = sessions; names = names; entries = [] }
 
@@ -55,7 +55,7 @@ with_event j (answer n report t) s = with_entry j (answers n report t)
 abbrev pub noted : Journal → Event → Transition → Journal
 noted j e x = if is_refused x.reply then j else with_event j e x.state
 
--- the replay of a journal: the account of this name, fresh but for the journal's names and open sessions, after the journal's entries
+-- the replay of a journal: the account of this name, fresh but for the journal's rules, names and sessions, after the journal's entries
 abbrev pub replay : List ℕ → Journal → State
 replay name j = fold (λ s e. (step s (event_in e)).state) (fresh_with j.rules name j.names j.sessions) j.entries
 

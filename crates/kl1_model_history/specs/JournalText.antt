@@ -16,6 +16,10 @@ use Rattle.kl1_model.specs.Opening.{start_line}
 use Rattle.kl1_model.specs.Answering.{answer_line}
 use Rattle.kl1_model_history.specs.Journal.{Entry, loads, starts, sends, steps, answers, Journal}
 
+-- the goal that a text is, if it is one
+abbrev pub goal_in : List ℕ → Option Term
+goal_in text = elim (read_goal text) [ good t ↦ Some t | bad line ↦ None ]
+
 -- ---- the lines of a journal
 
 -- a hexadecimal digit as a byte: 0 to 9, and a to f
@@ -83,10 +87,6 @@ hex_bytes (c ∷ d ∷ cs) = (16 * hex_value c + hex_value d) ∷ hex_bytes cs
 -- a load of the source whose hexadecimal digits these are
 abbrev pub load_in : List ℕ → Option Entry
 load_in rest = if list_all is_hex_digit rest then Some (loads (hex_bytes rest)) else None
-
--- the goal that a text is, if it is one
-abbrev pub goal_in : List ℕ → Option Term
-goal_in text = elim (read_goal text) [ good t ↦ Some t | bad line ↦ None ]
 
 -- what is made of the number before the first space and of what is after it
 abbrev pub of_number : {A : Type 0} → (ℕ → List ℕ → Option A) → List ℕ → Option A
@@ -163,7 +163,9 @@ rules_of w =
 abbrev pub heading_by : List ℕ → Option Heading
 heading_by line =
     option_and_then
-    (λ rules. of_number (λ sessions rest. option_map (λ names. record { rules = rules; sessions = sessions; names = names }) (number_in rest)) (behind_space line))
+    (λ rules. of_number
+    (λ sessions rest. option_map (λ names. record { rules = rules; sessions = sessions; names = names }) (number_in rest))
+    (behind_space line))
     (rules_of (before_space line))
 
 -- the heading whose line this is, if there is one and its numbers are allowed
@@ -180,7 +182,7 @@ pub record Lines : Type 0 where
   pub whole : List (List ℕ)
   pub rest : List ℕ
 
--- the lines of a text: a byte that is no line feed stands in front of the first line after it, or of the rest if there is none
+-- the lines of a text
 abbrev pub lines_of : List ℕ → Lines
 lines_of [] = record { whole = []; rest = [] }
 lines_of (b ∷ bs) =

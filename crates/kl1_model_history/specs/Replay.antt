@@ -21,7 +21,7 @@ abbrev pub written_rest : ℕ → ℕ → List ℕ → List ℕ
 written_rest k n [] = written_end n
 written_rest k n (b ∷ bs) = written_fault k
 
--- what is written for entries' lines, the first of which is line k, and the bytes after them, if n entries of an account are done
+-- what is written for the lines of entries from line k on, and for the bytes after them, after n entries that led to this account
 abbrev pub written_entries : ℕ → ℕ → State → List (List ℕ) → List ℕ → List ℕ
 written_entries k n s [] rest = written_rest k n rest
 written_entries k n s (line ∷ lines) rest =
