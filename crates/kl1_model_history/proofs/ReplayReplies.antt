@@ -1,5 +1,5 @@
 -- What is written for the text of a journal that is replayed.
-use Rattle.std.specs.Prelude.{◌≡◌, ℕ, suc, ◌+◌, not, ◌&&◌, Bool, true, false, if◌then◌else◌, List, [], ◌∷◌, ◌++◌, length, map, Option, Some, None}
+use Rattle.std.specs.Prelude.{◌≡◌, ℕ, suc, ◌+◌, not, ◌&&◌, Bool, true, false, if◌then◌else◌, List, [], ◌∷◌, ◌++◌, length, map, unwrap_or, Option, Some, None, option_map}
 use Rattle.std.specs.List.{AllByRecursion}
 use Rattle.std.proofs.Common.{refl, sym, ap, ◌∙◌, arith}
 use Rattle.std.proofs.lemmas.Bool.{and_parts, and_from, not_from_false}
@@ -12,10 +12,10 @@ use Rattle.kl1_model.specs.Step.{step}
 use Rattle.kl1_model.specs.laws.TreeLaws.{is_refused}
 use Rattle.kl1_model_history.specs.Command.{reply_lines, written_lines}
 use Rattle.kl1_model_history.specs.Journal.{Entry, loads, starts, sends, steps, answers, event_in, Journal, with_entry, with_event, Kept}
-use Rattle.kl1_model_history.specs.JournalText.{entry_line, name_line, is_new_name, Heading, heading_in, Lines}
+use Rattle.kl1_model_history.specs.JournalText.{entry_line, name_line, is_new_name, Heading, Lines}
 use Rattle.kl1_model_history.specs.laws.HistoryLaws.{beside, IsReplay}
 use Rattle.kl1_model_history.specs.laws.TextLaws.{HasLine, are_new_names}
-use Rattle.kl1_model_history.specs.Replay.{written_fault, written_end, written_entries, replay_name, written_names}
+use Rattle.kl1_model_history.specs.Replay.{written_fault, written_end, written_entries, replay_name, written_names, written_replay}
 use Rattle.kl1_model_history.specs.laws.ReplayLaws.{are_accepted, written_replies, replayed_from, RepliesOfReplays, FreshIsReplayable, ReplayableStays}
 use Rattle.kl1_model_history.proofs.Besides.{stays_beside}
 use Rattle.kl1_model_history.proofs.Replays.{after_entries, fresh_is_replay, replays_stay}
@@ -32,16 +32,12 @@ abbrev pub written_entry : (State → List ℕ) → ℕ → State → Option Ent
 written_entry next k s o = elim o [ None ↦ written_fault k | Some e ↦ written_step next k (step s (event_in e)) ]
 
 -- what is written for line k by the name that it has, if it has one that may follow the names before it
-abbrev written_name : (List (List ℕ) → List ℕ) → ℕ → List (List ℕ) → Option (List ℕ) → List ℕ
+abbrev pub written_name : (List (List ℕ) → List ℕ) → ℕ → List (List ℕ) → Option (List ℕ) → List ℕ
 written_name next k names o = elim o [ None ↦ written_fault k | Some t ↦ if is_new_name names t then next (names ++ t ∷ []) else written_fault k ]
 
 -- what is written for lines after the first, by what that says
 abbrev written_after : Option Heading → List (List ℕ) → List ℕ → List ℕ
-written_after o lines rest = elim o [ None ↦ written_fault 1 | Some h ↦ written_names h.names 2 h.rules h.sessions [] lines rest ]
-
--- what is written for lines, and the bytes left after them
-abbrev written_replay : List (List ℕ) → List ℕ → List ℕ
-written_replay lines rest = elim lines [ [] ↦ written_fault 1 | line ∷ lines ↦ written_after (heading_in line) lines rest ]
+written_after o lines rest = unwrap_or (option_map (λ h. written_names h.names 2 h.rules h.sessions [] lines rest) o) (written_fault 1)
 
 not_true : (x : Bool) → not x ≡ true → x ≡ false
 not_true true h = cc

@@ -21,7 +21,7 @@ use Rattle.kl1_model.specs.Event.{is_number}
 use Rattle.kl1_model.specs.Sending.{is_message, may_send}
 use Rattle.kl1_model.specs.laws.ReadLaws.{is_printable}
 use Rattle.kl1_model_history.specs.Journal.{Entry, loads, starts, sends, steps, answers}
-use Rattle.kl1_model_history.specs.JournalText.{hex_digit, is_hex_digit, hex_text, hex_value, hex_bytes, entry_line, of_two, goal_in, start_in, answer_in, entry_by}
+use Rattle.kl1_model_history.specs.JournalText.{hex_digit, is_hex_digit, hex_text, hex_value, hex_bytes, entry_line, of_two, if_read, start_in, answer_in, entry_by}
 use Rattle.kl1_model_history.specs.laws.TextLaws.{AreBytes, HasLine, EntriesReadBack, StrictLinesAreEntries}
 use Rattle.kl1_model_history.proofs.ReadBack.{printed_goals_read_back}
 use Rattle.kl1_model_history.proofs.ReadPlain.{prints_are_plain}
@@ -118,17 +118,10 @@ answers_here n report t h = record {
   plain = (printable_here (answer_front n report) t h.3 h.4 h.5).plain;
 }
 
--- a goal as it is printed
-goal_back : (t : Term) → is_printable t ≡ true → is_goal t ≡ true → goal_in (print t) ≡ Some t
-goal_back t printable goal = ap (λ (r : Reading Term). let o : Option Term = elim r [ good t ↦ Some t | bad line ↦ None ] in o) (printed_goals_read_back t printable goal)
-
--- what is read as a goal
-pub goal_read : (text : List ℕ) (t : Term) → goal_in text ≡ Some t → read_goal text ≡ good t
-goal_read text t h = by_reading (read_goal text) h
-  where
-    by_reading : (r : Reading Term) → elim r [ good t ↦ Some t | bad line ↦ None ] ≡ Some t → r ≡ good t
-    by_reading (good u) h = ap (λ (t : Term). good t) (same_Some u t h)
-    by_reading (bad line) h = absurd (none-some t h)
+-- what was read as good
+pub is_read : {A : Type 0} (r : Reading A) (a : A) → if_read r ≡ Some a → r ≡ good a
+is_read (good b) a h = ap (λ x. good x) (same_Some b a h)
+is_read (bad line) a h = absurd (none-some a h)
 
 by_parts : (x y z : Option ℕ) (o : Option Term) (a l h : ℕ) (t : Term) → x ≡ Some a → y ≡ Some l → z ≡ Some h → o ≡ Some t →
     option_and_then (λ a. option_and_then (λ l. option_and_then (λ h. option_map (starts a l h) o) z) y) x ≡ Some (starts a l h t)
@@ -144,11 +137,11 @@ start_back allowance low high t s =
     let is_b : behind_space rest ≡ b = behind_front (decimal allowance) b (decimal_no_space allowance s.first) in
     let is_c : behind_space (behind_space rest) ≡ c = ap behind_space is_b ∙ behind_front (decimal low) c (decimal_no_space low s.second) in
     let is_last : behind_space (behind_space (behind_space rest)) ≡ last = ap behind_space is_c ∙ behind_front (decimal high) last (decimal_no_space high s.third) in
-    by_parts (number_in (before_space rest)) (number_in (before_space (behind_space rest))) (number_in (before_space (behind_space (behind_space rest)))) (goal_in (behind_space (behind_space (behind_space rest)))) allowance low high t
+    by_parts (number_in (before_space rest)) (number_in (before_space (behind_space rest))) (number_in (before_space (behind_space (behind_space rest)))) (if_read (read_goal (behind_space (behind_space (behind_space rest))))) allowance low high t
     (ap number_in (before_front (decimal allowance) b (decimal_no_space allowance s.first)) ∙ number_back allowance s.first)
     (ap (λ x. number_in (before_space x)) is_b ∙ ap number_in (before_front (decimal low) c (decimal_no_space low s.second)) ∙ number_back low s.second)
     (ap (λ x. number_in (before_space x)) is_c ∙ ap number_in (before_front (decimal high) last (decimal_no_space high s.third)) ∙ number_back high s.third)
-    (ap goal_in is_last ∙ goal_back t s.printable s.goal)
+    (ap if_read (ap read_goal is_last ∙ printed_goals_read_back t s.printable s.goal))
 
 by_two : (x y : Option ℕ) (o : Option Term) (n report : ℕ) (t : Term) → x ≡ Some n → y ≡ Some report → o ≡ Some t → option_and_then (λ n. option_and_then (λ report. option_map (answers n report) o) y) x ≡ Some (answers n report t)
 by_two x y o n report t p q e = rw (p, q, e) refl
@@ -161,10 +154,10 @@ answer_back n report t s =
     let rest = decimal n ++ 32 ∷ b in
     let is_b : behind_space rest ≡ b = behind_front (decimal n) b (decimal_no_space n s.first) in
     let is_last : behind_space (behind_space rest) ≡ last = ap behind_space is_b ∙ behind_front (decimal report) last (decimal_no_space report s.second) in
-    by_two (number_in (before_space rest)) (number_in (before_space (behind_space rest))) (goal_in (behind_space (behind_space rest))) n report t
+    by_two (number_in (before_space rest)) (number_in (before_space (behind_space rest))) (if_read (read_goal (behind_space (behind_space rest)))) n report t
     (ap number_in (before_front (decimal n) b (decimal_no_space n s.first)) ∙ number_back n s.first)
     (ap (λ x. number_in (before_space x)) is_b ∙ ap number_in (before_front (decimal report) last (decimal_no_space report s.second)) ∙ number_back report s.second)
-    (ap goal_in is_last ∙ goal_back t s.printable s.goal)
+    (ap if_read (ap read_goal is_last ∙ printed_goals_read_back t s.printable s.goal))
 
 three_parts : (a b p : List ℕ) → a ++ 32 ∷ [] ++ b ++ 32 ∷ [] ++ p ≡ a ++ 32 ∷ (b ++ 32 ∷ p)
 three_parts a b p = simp append_assoc refl

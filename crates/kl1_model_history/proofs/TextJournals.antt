@@ -10,7 +10,7 @@ use Rattle.kl1_model.specs.declared.rules.Rules.{Rules}
 use Rattle.kl1_model.specs.Text.{is_text}
 use Rattle.kl1_model_history.specs.Command.{written_lines}
 use Rattle.kl1_model_history.specs.Journal.{Entry, Journal}
-use Rattle.kl1_model_history.specs.JournalText.{entry_line, name_line, first_line, journal_lines, entry_in, name_in, is_new_name, Heading, heading_in, Lines, lines_of, entries_in, journal_after}
+use Rattle.kl1_model_history.specs.JournalText.{entry_line, name_line, first_line, journal_lines, entry_in, name_in, is_new_name, Heading, heading_in, Lines, lines_of, entries_in, journal_after, journal_of}
 use Rattle.kl1_model_history.specs.laws.TextLaws.{HasLine, is_unbroken, are_new_names, IsWritten, journal_text, JournalsReadBack, StrictTextsAreJournals}
 use Rattle.kl1_model_history.proofs.TextEntries.{entries_read_back, strict_lines_are_entries}
 use Rattle.kl1_model_history.proofs.TextNames.{names_read_back, strict_lines_are_names, headings_read_back, strict_lines_are_headings}
@@ -42,10 +42,6 @@ after_back rules sessions before (t ∷ ts) es new h =
     name_then (name_in (name_line t)) t (is_new_name before) (λ t. journal_after rules sessions (before ++ t ∷ []) (length ts) (map name_line ts ++ map entry_line es)) (names_read_back t both.0) both.1
     ∙ after_back rules sessions (before ++ t ∷ []) ts es all.1 h
     ∙ ap (λ x. Some (journal_from rules sessions x es)) (append_assoc before (t ∷ []) ts)
-
--- the journal whose lines these are
-abbrev journal_of : List (List ℕ) → Option Journal
-journal_of lines = elim lines [ [] ↦ None | line ∷ lines ↦ option_and_then (λ h. journal_after h.rules h.sessions [] h.names lines) (heading_in line) ]
 
 -- the lines of a journal
 of_back : (j : Journal) → IsWritten j → journal_of (journal_lines j) ≡ Some j

@@ -7,10 +7,11 @@ use Rattle.kl1_model.specs.Name.{atom_text}
 use Rattle.kl1_model.specs.declared.limits.TheConstants.{MOST_COMMAND_BYTES, MOST_LISTED, MOST_STEPS}
 use Rattle.kl1_model.specs.Line.{word_in, behind_word_in, number_in, up_to, only_number, is_blank_line}
 use Rattle.kl1_model.specs.Event.{Refusal, syntax, source, exists, no_shoen, shoen_ended, step_refused, too_many_names, limit_passed, journal_full, sessions_refused, answer_refused, value, status, reports, modules, is_quiet, Event, load, start, control, reduce, read, login, logout, reset, answer, Reply, loaded, opened, sent, reduced, ran, shown, status_is, listed, quiet_is, welcome, bye, was_reset, refused, is_range}
+use Rattle.kl1_model.specs.Module.{read_goal}
 use Rattle.kl1_model.specs.Choice.{Chosen, first}
 use Rattle.kl1_model.specs.Record.{Request, load_of, spoiled_load, other_line}
 use Rattle.kl1_model_history.specs.Journal.{Kept, Done, done}
-use Rattle.kl1_model_history.specs.JournalText.{page_of, goal_in}
+use Rattle.kl1_model_history.specs.JournalText.{if_read, page_of}
 
 -- a command: an event; a run of at most n steps; or a page of the journal from one of its lines on, counted from 1, with at most n lines
 pub data Command : Type 0 where
@@ -32,11 +33,11 @@ start_command =
     by_number
     (λ allowance. by_number
     (λ low. by_number
-    (λ high rest. if is_range low high then option_map (λ t. does (start allowance low high t)) (goal_in rest) else None)))
+    (λ high rest. if is_range low high then option_map (λ t. does (start allowance low high t)) (if_read (read_goal rest)) else None)))
 
 -- an answer, by a shoen's number, a report's, from 1, and the goal
 abbrev pub answer_command : List ℕ → Option Command
-answer_command = by_number (λ n. by_number (λ report rest. if nat_le 1 report then option_map (λ t. does (answer n report t)) (goal_in rest) else None))
+answer_command = by_number (λ n. by_number (λ report rest. if nat_le 1 report then option_map (λ t. does (answer n report t)) (if_read (read_goal rest)) else None))
 
 -- the reports of a shoen, by its number and that of the first report, from 1
 abbrev pub reports_command : List ℕ → Option Command

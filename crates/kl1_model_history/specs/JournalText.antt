@@ -11,14 +11,15 @@ use Rattle.kl1_model.specs.Term.{Term}
 use Rattle.kl1_model.specs.Name.{atom_text}
 use Rattle.kl1_model.specs.Token.{is_digit}
 use Rattle.kl1_model.specs.Line.{before_space, behind_space, number_in}
-use Rattle.kl1_model.specs.Module.{good, bad, read_goal}
+use Rattle.kl1_model.specs.Module.{Reading, good, bad, read_goal}
 use Rattle.kl1_model.specs.Opening.{start_line}
 use Rattle.kl1_model.specs.Answering.{answer_line}
 use Rattle.kl1_model_history.specs.Journal.{Entry, loads, starts, sends, steps, answers, Journal}
 
--- the goal that a text is, if it is one
-abbrev pub goal_in : List ℕ → Option Term
-goal_in text = elim (read_goal text) [ good t ↦ Some t | bad line ↦ None ]
+-- what was read, if it is good
+abbrev pub if_read : {A : Type 0} → Reading A → Option A
+if_read (good a) = Some a
+if_read (bad line) = None
 
 -- ---- the lines of a journal
 
@@ -98,11 +99,11 @@ of_two make = of_number (λ a rest. option_map (make a) (number_in rest))
 
 -- a start of three numbers and a goal
 abbrev pub start_in : List ℕ → Option Entry
-start_in = of_number (λ allowance. of_number (λ low. of_number (λ high rest. option_map (starts allowance low high) (goal_in rest))))
+start_in = of_number (λ allowance. of_number (λ low. of_number (λ high rest. option_map (starts allowance low high) (if_read (read_goal rest)))))
 
 -- an answer of two numbers and a goal
 abbrev pub answer_in : List ℕ → Option Entry
-answer_in = of_number (λ n. of_number (λ report rest. option_map (answers n report) (goal_in rest)))
+answer_in = of_number (λ n. of_number (λ report rest. option_map (answers n report) (if_read (read_goal rest))))
 
 -- the entry that a line may be, by its first word and what is after that
 abbrev pub entry_by : List ℕ → List ℕ → Option Entry
@@ -206,10 +207,11 @@ journal_after rules sessions names (suc n) [] = None
 journal_after rules sessions names (suc n) (line ∷ lines) =
     option_and_then (λ t. if is_new_name names t then journal_after rules sessions (names ++ t ∷ []) n lines else None) (name_in line)
 
+-- the journal whose lines these are, if there is one
+abbrev pub journal_of : List (List ℕ) → Option Journal
+journal_of [] = None
+journal_of (line ∷ lines) = option_and_then (λ h. journal_after h.rules h.sessions [] h.names lines) (heading_in line)
+
 -- the journal that a text is, if it is one: each line ends with a line feed
 abbrev pub journal_in : List ℕ → Option Journal
-journal_in text =
-    let ls = lines_of text in
-    if length ls.rest == 0
-    then elim ls.whole [ [] ↦ None | line ∷ lines ↦ option_and_then (λ h. journal_after h.rules h.sessions [] h.names lines) (heading_in line) ]
-    else None
+journal_in text = if length (lines_of text).rest == 0 then journal_of (lines_of text).whole else None

@@ -1,5 +1,5 @@
 -- What is written for the text of a journal that is replayed.
-use Rattle.std.specs.Prelude.{ℕ, zero, suc, if◌then◌else◌, List, [], ◌∷◌, ◌++◌, codes, decimal, Some, None}
+use Rattle.std.specs.Prelude.{ℕ, zero, suc, if◌then◌else◌, List, [], ◌∷◌, ◌++◌, codes, decimal, unwrap_or, Some, None, option_map}
 use Rattle.kl1_model.specs.declared.rules.Rules.{Rules}
 use Rattle.kl1_model.specs.State.{State, fresh_with}
 use Rattle.kl1_model.specs.Step.{step}
@@ -46,11 +46,11 @@ written_names (suc n) k rules sessions names (line ∷ lines) rest =
       | Some t ↦ if is_new_name names t then written_names n (suc k) rules sessions (names ++ t ∷ []) lines rest else written_fault k
     ]
 
+-- what is written for the lines of a text, and the bytes left after them
+abbrev pub written_replay : List (List ℕ) → List ℕ → List ℕ
+written_replay [] rest = written_fault 1
+written_replay (line ∷ lines) rest = unwrap_or (option_map (λ h. written_names h.names 2 h.rules h.sessions [] lines rest) (heading_in line)) (written_fault 1)
+
 -- what is written for the text of a journal
 abbrev pub replay_output : List ℕ → List ℕ
-replay_output text =
-    let ls = lines_of text in
-    elim ls.whole [
-      | [] ↦ written_fault 1
-      | line ∷ lines ↦ elim (heading_in line) [ None ↦ written_fault 1 | Some h ↦ written_names h.names 2 h.rules h.sessions [] lines ls.rest ]
-    ]
+replay_output text = written_replay (lines_of text).whole (lines_of text).rest

@@ -1,5 +1,5 @@
 -- Scripts: their accounts, and what is written for their records.
-use Rattle.std.specs.Prelude.{ℕ, nat_le, not, ◌&&◌, Bool, true, if◌then◌else◌, List, [], ◌∷◌, ◌++◌, length, codes, bytes_eq, fold, Option, Some, None}
+use Rattle.std.specs.Prelude.{ℕ, nat_le, not, ◌&&◌, Bool, true, if◌then◌else◌, List, [], ◌∷◌, ◌++◌, length, codes, bytes_eq, fold, unwrap_or, Option, Some, None, option_map}
 use Rattle.std.specs.List.{list_any, list_all}
 use Rattle.kl1_model.specs.declared.rules.Rules.TheVariants.{Three}
 use Rattle.kl1_model.specs.declared.limits.TheConstants.{MOST_ACCOUNTS}
@@ -65,7 +65,6 @@ written_records accounts rs = written_from accounts [] rs.list ++ (if rs.is_trun
 -- the output of a script
 abbrev pub output : List ℕ → List ℕ
 output script =
-    elim (accounts_in (words_of (line_in script))) [
-      | None ↦ written_line (codes "! accounts")
-      | Some accounts ↦ written_records accounts (records_of (behind_feed script))
-    ]
+    unwrap_or
+    (option_map (λ accounts. written_records accounts (records_of (behind_feed script))) (accounts_in (words_of (line_in script))))
+    (written_line (codes "! accounts"))
