@@ -7,7 +7,6 @@ use Rattle.kl1_model.specs.declared.rules.Rules.{Rules}
 use Rattle.kl1_model.specs.declared.rules.Rules.TheVariants.{One, Two, Three}
 use Rattle.kl1_model.specs.declared.limits.TheConstants.{MOST_LINE_BYTES, MOST_NAMES, MOST_SESSIONS}
 use Rattle.kl1_model.specs.Text.{is_text, is_built_in}
-use Rattle.kl1_model.specs.Term.{Term}
 use Rattle.kl1_model.specs.Name.{atom_text}
 use Rattle.kl1_model.specs.Token.{is_digit}
 use Rattle.kl1_model.specs.Line.{before_space, behind_space, number_in}
