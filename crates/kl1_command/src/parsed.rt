@@ -1,13 +1,12 @@
 // The commands of lines and records.
 
-ghost use Rattle.std.specs.Prelude.{◌≡◌, if◌then◌else◌, nat_le, IfOk, Some, None, option_map};
+ghost use Rattle.std.specs.Prelude.{◌≡◌, IfOk, Some, option_map};
 ghost use Rattle.kl1_model.specs.declared.limits.TheConstants.{MOST_STEPS};
 ghost use Rattle.kl1_model.specs.declared.message.Message.TheVariants.{Allow};
 ghost use Rattle.kl1_model.specs.Line.{only_number, up_to};
-ghost use Rattle.kl1_model.specs.Event.{value, status, start, control, reduce, read, answer, is_range};
+ghost use Rattle.kl1_model.specs.Event.{value, status, control, reduce, read};
 ghost use Rattle.kl1_model.specs.Module.{read_goal};
-ghost use Rattle.kl1_model_history.specs.JournalText.{if_read};
-ghost use Rattle.kl1_model_history.specs.Command.{parse, command_of, does, run, by_two, start_command, answer_command, reports_command, journal_command, alone_command};
+ghost use Rattle.kl1_model_history.specs.Command.{parse, command_of, does, run, by_two, start_command, start_with, answer_command, answer_with, reports_command, journal_command, alone_command};
 ghost use Rattle.kl1_command_lines.specs.Records.{request_of};
 ghost use Rattle.kl1_user_events.specs.Views.{event_of};
 ghost use Rattle.kl1_command.specs.Commands.{parsed_view};
@@ -252,7 +251,7 @@ fn start_of(
     high: u64,
     goal: &[u8],
 ) -> Result<Parsed, AllocError>
-    ensures { IfOk result (λ parsed. parsed_view parsed ≡ (if is_range low high then option_map (λ t. does (start allowance low high t)) (if_read (read_goal goal.now)) else None)) }
+    ensures { IfOk result (λ parsed. parsed_view parsed ≡ start_with allowance low high (read_goal goal.now)) }
 {
     if low > high {
         return Ok(Parsed::Refused);
@@ -290,7 +289,7 @@ fn parse_answer(alloc: Global, rest: &[u8]) -> Result<Parsed, AllocError>
 /// The answer with the goal that bytes are, if the report's number is at least 1 and there is one.
 #[tactic(auto, using(crate::proofs::Starts::no_report))]
 fn answer_of(alloc: Global, shoen: u64, report: u64, goal: &[u8]) -> Result<Parsed, AllocError>
-    ensures { IfOk result (λ parsed. parsed_view parsed ≡ (if nat_le 1 report then option_map (λ t. does (answer shoen report t)) (if_read (read_goal goal.now)) else None)) }
+    ensures { IfOk result (λ parsed. parsed_view parsed ≡ answer_with shoen report (read_goal goal.now)) }
 {
     if report < 1 {
         return Ok(Parsed::Refused);

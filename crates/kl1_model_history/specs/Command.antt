@@ -3,15 +3,16 @@ use Rattle.std.specs.Prelude.{ℕ, zero, suc, nat_le, ◌&&◌, true, false, if�
 use Rattle.kl1_model.specs.declared.message.Message.TheVariants.{Stop, Start, Abort, Allow}
 use Rattle.kl1_model.specs.declared.condition.Condition.{Condition}
 use Rattle.kl1_model.specs.declared.condition.Condition.TheVariants.{Terminated, Aborted, Stopped, Exhausted, Running}
+use Rattle.kl1_model.specs.Term.{Term}
 use Rattle.kl1_model.specs.Name.{atom_text}
 use Rattle.kl1_model.specs.declared.limits.TheConstants.{MOST_COMMAND_BYTES, MOST_LISTED, MOST_STEPS}
 use Rattle.kl1_model.specs.Line.{word_in, behind_word_in, number_in, up_to, only_number, is_blank_line}
 use Rattle.kl1_model.specs.Event.{Refusal, syntax, source, exists, no_shoen, shoen_ended, step_refused, too_many_names, limit_passed, journal_full, sessions_refused, answer_refused, value, status, reports, modules, is_quiet, Event, load, start, control, reduce, read, login, logout, reset, answer, Reply, loaded, opened, sent, reduced, ran, shown, status_is, listed, quiet_is, welcome, bye, was_reset, refused, is_range}
-use Rattle.kl1_model.specs.Module.{read_goal}
+use Rattle.kl1_model.specs.Module.{Reading, good, bad, read_goal}
 use Rattle.kl1_model.specs.Choice.{Chosen, first}
 use Rattle.kl1_model.specs.Record.{Request, load_of, spoiled_load, other_line}
 use Rattle.kl1_model_history.specs.Journal.{Kept, Done, done}
-use Rattle.kl1_model_history.specs.JournalText.{if_read, page_of}
+use Rattle.kl1_model_history.specs.JournalText.{page_of}
 
 -- a command: an event; a run of at most n steps; or a page of the journal from one of its lines on, counted from 1, with at most n lines
 pub data Command : Type 0 where
@@ -27,17 +28,23 @@ by_number make line = option_and_then (λ n. make n (behind_word_in line)) (numb
 abbrev pub by_two : (ℕ → ℕ → Option Command) → List ℕ → Option Command
 by_two make = by_number (λ n rest. option_and_then (make n) (only_number rest))
 
+-- a start with its goal as it was read
+abbrev pub start_with : ℕ → ℕ → ℕ → Reading Term → Option Command
+start_with allowance low high (bad line) = None
+start_with allowance low high (good t) = if is_range low high then Some (does (start allowance low high t)) else None
+
 -- a start, by its allowance, its lowest and its highest priority, and its goal
 abbrev pub start_command : List ℕ → Option Command
-start_command =
-    by_number
-    (λ allowance. by_number
-    (λ low. by_number
-    (λ high rest. if is_range low high then option_map (λ t. does (start allowance low high t)) (if_read (read_goal rest)) else None)))
+start_command = by_number (λ allowance. by_number (λ low. by_number (λ high rest. start_with allowance low high (read_goal rest))))
+
+-- an answer with its goal as it was read, to a report whose number is at least 1
+abbrev pub answer_with : ℕ → ℕ → Reading Term → Option Command
+answer_with n report (bad line) = None
+answer_with n report (good t) = if nat_le 1 report then Some (does (answer n report t)) else None
 
 -- an answer, by a shoen's number, a report's, from 1, and the goal
 abbrev pub answer_command : List ℕ → Option Command
-answer_command = by_number (λ n. by_number (λ report rest. if nat_le 1 report then option_map (λ t. does (answer n report t)) (if_read (read_goal rest)) else None))
+answer_command = by_number (λ n. by_number (λ report rest. answer_with n report (read_goal rest)))
 
 -- the reports of a shoen, by its number and that of the first report, from 1
 abbrev pub reports_command : List ℕ → Option Command
