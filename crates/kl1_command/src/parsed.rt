@@ -1,8 +1,12 @@
 // The commands of lines and records.
 
-ghost use Rattle.std.specs.Prelude.{◌≡◌, IfOk, Some};
-ghost use Rattle.kl1_model_history.specs.Command.{parse, command_by, command_of, does, runs, asks_value, asks_status, start_command, start_with, answer_command, answer_with, reduce_command, allow_command, send_command, reports_command, journal_command, alone_command};
+ghost use Rattle.std.specs.Prelude.{◌≡◌, IfOk, Some, option_map};
+ghost use Rattle.kl1_model.specs.declared.limits.TheConstants.{MOST_STEPS};
+ghost use Rattle.kl1_model.specs.declared.message.Message.TheVariants.{Allow};
+ghost use Rattle.kl1_model.specs.Line.{only_number, up_to};
+ghost use Rattle.kl1_model.specs.Event.{value, status, control, reduce, read};
 ghost use Rattle.kl1_model.specs.Module.{read_goal};
+ghost use Rattle.kl1_model_history.specs.Command.{parse, command_of, does, run, by_two, start_command, start_with, answer_command, answer_with, reports_command, journal_command, alone_command};
 ghost use Rattle.kl1_command_lines.specs.Records.{request_of};
 ghost use Rattle.kl1_user_events.specs.Views.{event_of};
 ghost use Rattle.kl1_command.specs.Commands.{parsed_view};
@@ -96,7 +100,7 @@ fn does(event: Event) -> Parsed
 
 /// What stands after `run`.
 fn parse_run(rest: &[u8]) -> Parsed
-    ensures { parsed_view result ≡ command_by runs rest.now }
+    ensures { parsed_view result ≡ option_map run (up_to MOST_STEPS (only_number rest.now)) }
 {
     match up_to(MOST_STEPS, only_number(rest)) {
         Some(steps) => Parsed::Command(Command::Run(steps)),
@@ -106,7 +110,7 @@ fn parse_run(rest: &[u8]) -> Parsed
 
 /// What stands after `stop`, `resume` and `abort`, by which this message is sent.
 fn parse_send(message: Message, rest: &[u8]) -> Parsed
-    ensures { parsed_view result ≡ send_command message rest.now }
+    ensures { parsed_view result ≡ option_map (λ n. does (control n message)) (only_number rest.now) }
 {
     match only_number(rest) {
         Some(shoen) => does(Event::Control {
@@ -119,7 +123,7 @@ fn parse_send(message: Message, rest: &[u8]) -> Parsed
 
 /// What stands after `allow`.
 fn parse_allow(rest: &[u8]) -> Parsed
-    ensures { parsed_view result ≡ allow_command rest.now }
+    ensures { parsed_view result ≡ by_two (λ n more. Some (does (control n (Allow more)))) rest.now }
 {
     let (first, rest) = split_word(rest);
     let Some(shoen) = number_in(first) else {
@@ -136,7 +140,7 @@ fn parse_allow(rest: &[u8]) -> Parsed
 
 /// What stands after `value`.
 fn parse_value(rest: &[u8]) -> Parsed
-    ensures { parsed_view result ≡ command_by asks_value rest.now }
+    ensures { parsed_view result ≡ option_map (λ n. does (read (value n))) (only_number rest.now) }
 {
     match only_number(rest) {
         Some(shoen) => does(Event::Read(Query::Value(ShoenNo(shoen)))),
@@ -146,7 +150,7 @@ fn parse_value(rest: &[u8]) -> Parsed
 
 /// What stands after `status`.
 fn parse_status(rest: &[u8]) -> Parsed
-    ensures { parsed_view result ≡ command_by asks_status rest.now }
+    ensures { parsed_view result ≡ option_map (λ n. does (read (status n))) (only_number rest.now) }
 {
     match only_number(rest) {
         Some(shoen) => does(Event::Read(Query::Status(ShoenNo(shoen)))),
@@ -204,7 +208,7 @@ fn parse_journal(rest: &[u8]) -> Parsed
 
 /// What stands after `reduce`.
 fn parse_reduce(rest: &[u8]) -> Parsed
-    ensures { parsed_view result ≡ reduce_command rest.now }
+    ensures { parsed_view result ≡ by_two (λ goal clause. Some (does (reduce goal clause))) rest.now }
 {
     let (first, rest) = split_word(rest);
     let Some(goal) = number_in(first) else {

@@ -14,14 +14,14 @@ use Rattle.kl1_model.specs.Meaning.{highest, is_writable, is_numbered}
 use Rattle.kl1_model.specs.Token.{is_digit, number_of}
 use Rattle.kl1_model.specs.Line.{before_space, behind_space, number_in}
 use Rattle.kl1_model.specs.Event.{Event, is_number}
-use Rattle.kl1_model.specs.Module.{Reading, good, bad, read_goal}
+use Rattle.kl1_model.specs.Module.{read_goal}
 use Rattle.kl1_model.specs.Opening.{start_line}
 use Rattle.kl1_model.specs.Sending.{may_send}
 use Rattle.kl1_model.specs.Answering.{answer_line}
 use Rattle.kl1_model_history.specs.Journal.{Entry, loads, starts, sends, steps, answers, event_in}
-use Rattle.kl1_model_history.specs.JournalText.{is_hex_digit, hex_bytes, load_in, of_two, start_of, start_in, answer_of, answer_in, entry_by, entry_line, if_line, entry_in}
+use Rattle.kl1_model_history.specs.JournalText.{is_hex_digit, hex_bytes, load_in, of_two, if_read, start_in, answer_in, entry_by, entry_line, entry_in}
 use Rattle.kl1_model_history.proofs.ReadStrict.{goals_read_are_printable}
-use Rattle.kl1_model_history.proofs.TextEntries.{length_hex}
+use Rattle.kl1_model_history.proofs.TextEntries.{length_hex, is_read, if_line}
 use Rattle.kl1_journal_entries.specs.Lined.{is_lined, if_lined, lined_entry}
 use Rattle.kl1_journal_entries.specs.Reading.{is_line_of}
 use Rattle.kl1_journal_entries.proofs.Sound.{if_true}
@@ -71,10 +71,6 @@ load_lined rest e h few =
     let short : length (entry_line (loads text)) ≤ MOST_LINE_BYTES = subst (λ (d : Entry). length (entry_line d) ≤ MOST_LINE_BYTES) (sym is) few in
     ap is_lined (sym is) ∙ le-leb (5 + 2 * length text) MOST_LINE_BYTES (omega (arith, short, length_hex text))
 
-start_by : {P : Type 0} (a l h : ℕ) (r : Reading Term) (e : Entry) → start_of a l h r ≡ Some e → ((t : Term) → r ≡ good t → starts a l h t ≡ e → P) → P
-start_by a l h (bad line) e is go = absurd (let e : ⊥ = cc in e)
-start_by a l h (good t) e is go = go t refl (same_Some (starts a l h t) e is)
-
 start_from : (a l h : ℕ) (t : Term) → is_number a ≡ true → is_number l ≡ true → is_number h ≡ true → is_goal t ≡ true → is_writable t && is_numbered t && nat_lt (highest t) NUMBER_LIMIT ≡ true → length (start_line a l h t) ≤ MOST_LINE_BYTES → is_lined (starts a l h t) ≡ true
 start_from a l h t p q r goal printable few =
     let parts = and_parts (is_writable t) (is_numbered t) (and_parts (is_writable t && is_numbered t) (nat_lt (highest t) NUMBER_LIMIT) printable).0 in
@@ -98,17 +94,13 @@ start_lined rest e h small few =
     let c = behind_space b in
     let text = behind_space c in
     let less : length text < NUMBER_LIMIT = omega (arith, small, behind_short rest, behind_short b, behind_short c) in
-    option_and_then_some (λ a. option_and_then (λ low. option_and_then (λ high. start_of a low high (read_goal text)) (number_in (before_space c))) (number_in (before_space b))) (number_in (before_space rest)) e h
-    (λ a first m. option_and_then_some (λ low. option_and_then (λ high. start_of a low high (read_goal text)) (number_in (before_space c))) (number_in (before_space b)) e m
-    (λ low second n. option_and_then_some (λ high. start_of a low high (read_goal text)) (number_in (before_space c)) e n
-    (λ high third o. start_by a low high (read_goal text) e o
+    option_and_then_some (λ a. option_and_then (λ low. option_and_then (λ high. option_map (starts a low high) (if_read (read_goal text))) (number_in (before_space c))) (number_in (before_space b))) (number_in (before_space rest)) e h
+    (λ a first m. option_and_then_some (λ low. option_and_then (λ high. option_map (starts a low high) (if_read (read_goal text))) (number_in (before_space c))) (number_in (before_space b)) e m
+    (λ low second n. option_and_then_some (λ high. option_map (starts a low high) (if_read (read_goal text))) (number_in (before_space c)) e n
+    (λ high third o. map_some (starts a low high) (if_read (read_goal text)) e o
     (λ t read is.
-    let facts = goals_read_are_printable text t less read in
+    let facts = goals_read_are_printable text t less (is_read (read_goal text) t read) in
     ap is_lined (sym is) ∙ start_from a low high t (number_read (before_space rest) a first) (number_read (before_space b) low second) (number_read (before_space c) high third) facts.1 facts.0 (subst (λ (d : Entry). length (entry_line d) ≤ MOST_LINE_BYTES) (sym is) few)))))
-
-answer_by : {P : Type 0} (n report : ℕ) (r : Reading Term) (e : Entry) → answer_of n report r ≡ Some e → ((t : Term) → r ≡ good t → answers n report t ≡ e → P) → P
-answer_by n report (bad line) e is go = absurd (let e : ⊥ = cc in e)
-answer_by n report (good t) e is go = go t refl (same_Some (answers n report t) e is)
 
 answer_from : (n report : ℕ) (t : Term) → is_number n ≡ true → is_number report ≡ true → is_goal t ≡ true → is_writable t && is_numbered t && nat_lt (highest t) NUMBER_LIMIT ≡ true → length (answer_line n report t) ≤ MOST_LINE_BYTES → is_lined (answers n report t) ≡ true
 answer_from n report t p q goal printable few =
@@ -124,11 +116,11 @@ answer_lined rest e h small few =
     let b = behind_space rest in
     let text = behind_space b in
     let less : length text < NUMBER_LIMIT = omega (arith, small, behind_short rest, behind_short b) in
-    option_and_then_some (λ n. option_and_then (λ report. answer_of n report (read_goal text)) (number_in (before_space b))) (number_in (before_space rest)) e h
-    (λ n first m. option_and_then_some (λ report. answer_of n report (read_goal text)) (number_in (before_space b)) e m
-    (λ report second o. answer_by n report (read_goal text) e o
+    option_and_then_some (λ n. option_and_then (λ report. option_map (answers n report) (if_read (read_goal text))) (number_in (before_space b))) (number_in (before_space rest)) e h
+    (λ n first m. option_and_then_some (λ report. option_map (answers n report) (if_read (read_goal text))) (number_in (before_space b)) e m
+    (λ report second o. map_some (answers n report) (if_read (read_goal text)) e o
     (λ t read is.
-    let facts = goals_read_are_printable text t less read in
+    let facts = goals_read_are_printable text t less (is_read (read_goal text) t read) in
     ap is_lined (sym is) ∙ answer_from n report t (number_read (before_space rest) n first) (number_read (before_space b) report second) facts.1 facts.0 (subst (λ (d : Entry). length (entry_line d) ≤ MOST_LINE_BYTES) (sym is) few))))
 
 sent_lined : (m : Message) → (n : ℕ) → may_send n m ≡ true → is_lined (sends n m) ≡ true

@@ -7,7 +7,7 @@ use Rattle.std.proofs.lemmas.Option.{same_Some}
 use Rattle.kl1_model.specs.declared.rules.Rules.{Rules}
 use Rattle.kl1_model.specs.Text.{is_text}
 use Rattle.kl1_model_history.specs.Journal.{Entry, Journal, new_journal, with_entry}
-use Rattle.kl1_model_history.specs.JournalText.{Lines, lines_of, entry_in, name_in, is_new_name, entry_first, journal_with, journal_after}
+use Rattle.kl1_model_history.specs.JournalText.{Lines, lines_of, entry_in, name_in, is_new_name, entries_in, journal_after}
 use Rattle.kl1_model_history.specs.laws.TextLaws.{are_new_names}
 use Rattle.kl1_model_history.proofs.TextNames.{strict_lines_are_names}
 use Rattle.kl1_journal_entries.specs.Lined.{with_prepared}
@@ -101,24 +101,12 @@ names_more names line t h read new = one_more [] names t h (strict_lines_are_nam
 
 -- ---- the journal after its names
 
-entries_read : List (List ℕ) → Option (List Entry)
-entries_read [] = Some []
-entries_read (line ∷ lines) = option_and_then (λ e. option_map (λ es. e ∷ es) (entries_read lines)) (entry_in line)
-
 journal_from : Rules → ℕ → List (List ℕ) → List Entry → Journal
 journal_from rules sessions names es = record { rules = rules; sessions = sessions; names = names; entries = es }
 
-with_by : (rules : Rules) (sessions : ℕ) (names : List (List ℕ)) (o : Option Entry) (w : Option Journal) (x : Option (List Entry)) → w ≡ option_map (journal_from rules sessions names) x →
-    option_and_then (λ e. option_map (entry_first e) w) o ≡ option_map (journal_from rules sessions names) (option_and_then (λ e. option_map (λ es. e ∷ es) x) o)
+after_none : (rules : Rules) (sessions : ℕ) (names lines : List (List ℕ)) → journal_after rules sessions names 0 lines ≡ option_map (journal_from rules sessions names) (entries_in lines)
 unfolding journal_from
-with_by rules sessions names None w x is = refl
-with_by rules sessions names (Some e) w None is = ap (option_map (entry_first e)) is
-with_by rules sessions names (Some e) w (Some es) is = ap (option_map (entry_first e)) is
-
-with_read : (rules : Rules) (sessions : ℕ) (names lines : List (List ℕ)) → journal_with rules sessions names lines ≡ option_map (journal_from rules sessions names) (entries_read lines)
-unfolding entries_read journal_from
-with_read rules sessions names [] = refl
-with_read rules sessions names (line ∷ lines) = with_by rules sessions names (entry_in line) (journal_with rules sessions names lines) (entries_read lines) (with_read rules sessions names lines)
+after_none rules sessions names lines = refl
 
 joined : Journal → List Entry → Journal
 joined j es = record j { entries = j.entries ++ es }
@@ -130,10 +118,10 @@ on_by j None w x is = refl
 on_by j (Some e) w None is = is e
 on_by j (Some e) w (Some es) is = is e ∙ ap (λ (ds : List Entry). let r : Option Journal = Some (record j { entries = ds }) in r) (append_assoc j.entries (e ∷ []) es)
 
-on_read : (j : Journal) (lines : List (List ℕ)) → read_on j lines ≡ option_map (joined j) (entries_read lines)
-unfolding entries_read joined
+on_read : (j : Journal) (lines : List (List ℕ)) → read_on j lines ≡ option_map (joined j) (entries_in lines)
+unfolding joined
 on_read j [] = ap (λ (ds : List Entry). let r : Option Journal = Some (record j { entries = ds }) in r) (sym (append-nil j.entries))
-on_read j (line ∷ lines) = on_by j (entry_in line) (λ e. read_on (with_entry j e) lines) (entries_read lines) (λ e. on_read (with_entry j e) lines)
+on_read j (line ∷ lines) = on_by j (entry_in line) (λ e. read_on (with_entry j e) lines) (entries_in lines) (λ e. on_read (with_entry j e) lines)
 
 same_from : (rules : Rules) (sessions : ℕ) (names : List (List ℕ)) (x : Option (List Entry)) → option_map (joined (new_journal rules names sessions)) x ≡ option_map (journal_from rules sessions names) x
 unfolding journal_from joined
@@ -144,5 +132,5 @@ same_from rules sessions names (Some es) = refl
 pub names_done : (rules : Rules) (sessions : ℕ) (names : List (List ℕ)) (n : ℕ) (text : List ℕ) (j : Journal) → j ≡ new_journal rules names sessions → n ≡ 0 → read_text j text ≡ read_after rules sessions names n text
 names_done rules sessions names n text j is none =
     ap (λ (i : Journal). read_text i text) is
-    ∙ ap (λ (o : Option Journal). if length (lines_of text).rest == 0 then o else None) (on_read (new_journal rules names sessions) (lines_of text).whole ∙ same_from rules sessions names (entries_read (lines_of text).whole) ∙ sym (with_read rules sessions names (lines_of text).whole))
+    ∙ ap (λ (o : Option Journal). if length (lines_of text).rest == 0 then o else None) (on_read (new_journal rules names sessions) (lines_of text).whole ∙ same_from rules sessions names (entries_in (lines_of text).whole) ∙ sym (after_none rules sessions names (lines_of text).whole))
     ∙ ap (λ (k : ℕ). read_after rules sessions names k text) (sym none)

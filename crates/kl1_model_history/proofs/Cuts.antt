@@ -4,11 +4,20 @@ use Rattle.std.proofs.lemmas.List.{append-nil, take_all, take-take, take-append-
 use Rattle.std.proofs.lemmas.Bool.{true≢false, cases_lt, ne_eqb}
 use Rattle.kl1_model.specs.declared.limits.TheConstants.{MOST_COMMAND_BYTES, MOST_SOURCE_BYTES}
 use Rattle.kl1_model.specs.Line.{before_feed, behind_feed, without_return, line_in}
-use Rattle.kl1_model.specs.Record.{spoiled_load, other_line, load_before, source_bytes_in}
-use Rattle.kl1_model_history.specs.Cut.{has_feed, Cut, request_first, only_rest, unfinished_line, unfinished_load, line_request, load_request, load_cut, line_cut, cut_within, cut_of}
+use Rattle.kl1_model.specs.Record.{Request, spoiled_load, other_line, load_before, source_bytes_in}
+use Rattle.kl1_model_history.specs.Cut.{has_feed, Cut, request_first, only_rest, unfinished_line, load_cut, cut_within, cut_of}
+use Rattle.kl1_model_history.specs.code.Streams.{load_request, line_cut}
 use Rattle.kl1_model_history.specs.laws.InputLaws.{cut_after, CutsAnywhere, cut_in_pieces, joined, CutsInPieces}
 use Rattle.kl1_model_history.proofs.Feeds.{behind_shorter, behind_less, feed_append, feed_front, Fed, fed_or, before_at, behind_at, feed_at, return_length, return_front}
 use Rattle.kl1_model_history.proofs.Loads.{source_of_load, load_line, load_behind, load_feed, source_bounded, source_too_long}
+
+-- what is kept of an unfinished load
+abbrev unfinished_load : ℕ → List ℕ → List ℕ
+unfinished_load n bytes = codes "load " ++ decimal n ++ 10 ∷ take (n + 2) bytes
+
+-- what a line asks for that is no good load
+abbrev line_request : List ℕ → Request
+line_request line = other_line (take (MOST_COMMAND_BYTES + 1) line)
 
 -- a text with a line feed has a byte
 some_byte : (bs : List ℕ) → has_feed bs ≡ true → 0 < length bs

@@ -1,5 +1,5 @@
 -- What is written for the text of a journal that is replayed.
-use Rattle.std.specs.Prelude.{◌≡◌, ℕ, suc, ◌+◌, not, ◌&&◌, Bool, true, false, if◌then◌else◌, List, [], ◌∷◌, ◌++◌, length, map}
+use Rattle.std.specs.Prelude.{◌≡◌, ℕ, suc, ◌+◌, not, ◌&&◌, Bool, true, false, if◌then◌else◌, List, [], ◌∷◌, ◌++◌, length, map, unwrap_or, Option, Some, None, option_map}
 use Rattle.std.specs.List.{AllByRecursion}
 use Rattle.std.proofs.Common.{refl, sym, ap, ◌∙◌, arith}
 use Rattle.std.proofs.lemmas.Bool.{and_parts, and_from, not_from_false}
@@ -11,17 +11,33 @@ use Rattle.kl1_model.specs.Event.{Event, load, start, control, reduce, read, log
 use Rattle.kl1_model.specs.Step.{step}
 use Rattle.kl1_model.specs.laws.TreeLaws.{is_refused}
 use Rattle.kl1_model_history.specs.Command.{reply_lines, written_lines}
-use Rattle.kl1_model_history.specs.Journal.{Entry, loads, starts, sends, steps, answers, event_in, Journal, with_entry, with_event, after_entries, Kept}
-use Rattle.kl1_model_history.specs.JournalText.{entry_line, name_line, is_new_name, Lines}
+use Rattle.kl1_model_history.specs.Journal.{Entry, loads, starts, sends, steps, answers, event_in, Journal, with_entry, with_event, Kept}
+use Rattle.kl1_model_history.specs.JournalText.{entry_line, name_line, is_new_name, Heading, Lines}
 use Rattle.kl1_model_history.specs.laws.HistoryLaws.{beside, IsReplay}
 use Rattle.kl1_model_history.specs.laws.TextLaws.{HasLine, are_new_names}
-use Rattle.kl1_model_history.specs.Replay.{written_fault, written_end, written_step, written_entry, written_entries, replay_name, written_name, written_names, written_after, written_replay}
+use Rattle.kl1_model_history.specs.Replay.{written_fault, written_end, written_entries, replay_name, written_names, written_replay}
 use Rattle.kl1_model_history.specs.laws.ReplayLaws.{are_accepted, written_replies, replayed_from, RepliesOfReplays, FreshIsReplayable, ReplayableStays}
 use Rattle.kl1_model_history.proofs.Besides.{stays_beside}
-use Rattle.kl1_model_history.proofs.Replays.{fresh_is_replay, replays_stay}
+use Rattle.kl1_model_history.proofs.Replays.{after_entries, fresh_is_replay, replays_stay}
 use Rattle.kl1_model_history.proofs.TextEntries.{entries_read_back}
 use Rattle.kl1_model_history.proofs.TextNames.{names_read_back, headings_read_back}
 use Rattle.kl1_model_history.proofs.TextJournals.{text_lines}
+
+-- what is written for line k by what became of its entry, and how the replay goes on from the account
+abbrev pub written_step : (State → List ℕ) → ℕ → Transition → List ℕ
+written_step next k x = if is_refused x.reply then written_fault k else written_lines (reply_lines x.reply) ++ next x.state
+
+-- what is written for line k by the entry that it is, if it is one
+abbrev pub written_entry : (State → List ℕ) → ℕ → State → Option Entry → List ℕ
+written_entry next k s o = elim o [ None ↦ written_fault k | Some e ↦ written_step next k (step s (event_in e)) ]
+
+-- what is written for line k by the name that it has, if it has one that may follow the names before it
+abbrev pub written_name : (List (List ℕ) → List ℕ) → ℕ → List (List ℕ) → Option (List ℕ) → List ℕ
+written_name next k names o = elim o [ None ↦ written_fault k | Some t ↦ if is_new_name names t then next (names ++ t ∷ []) else written_fault k ]
+
+-- what is written for lines after the first, by what that says
+abbrev written_after : Option Heading → List (List ℕ) → List ℕ → List ℕ
+written_after o lines rest = unwrap_or (option_map (λ h. written_names h.names 2 h.rules h.sessions [] lines rest) o) (written_fault 1)
 
 not_true : (x : Bool) → not x ≡ true → x ≡ false
 not_true true h = cc

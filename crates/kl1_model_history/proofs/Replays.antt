@@ -1,6 +1,6 @@
 -- An account is the replay of its journal.
 use Rattle.std.proofs.Common.{◌≡◌, ℕ, suc, ◌-◌, nat_lt, nat_le, ◌&&◌, Bool, true, false, if◌then◌else◌, List, [], ◌∷◌, ◌++◌, refl, sym, ap, ◌∙◌, subst}
-use Rattle.std.specs.Prelude.{Option, Some, None}
+use Rattle.std.specs.Prelude.{fold, Option, Some, None}
 use Rattle.kl1_model.specs.declared.limits.TheConstants.{MOST_SESSIONS}
 use Rattle.kl1_model.specs.State.{State, Shoen, Origin, fresh_with, shoen_at}
 use Rattle.kl1_model.specs.Event.{Event, load, start, control, reduce, read, login, logout, reset, answer, welcome, bye, sessions_refused, Query, value, status, reports, modules, is_quiet, Refusal, syntax, Transition, refuse, is_number}
@@ -9,10 +9,14 @@ use Rattle.kl1_model.specs.code.Steps.{value_of, status_of, reports_of}
 use Rattle.kl1_model.specs.Step.{step}
 use Rattle.kl1_model.specs.laws.TreeLaws.{is_refused}
 use Rattle.kl1_model.proofs.TreeSteps.{refusals_change_nothing}
-use Rattle.kl1_model_history.specs.Journal.{Entry, loads, starts, sends, steps, answers, event_in, Journal, with_entry, with_event, noted, after_entries, replay}
+use Rattle.kl1_model_history.specs.Journal.{Entry, loads, starts, sends, steps, answers, event_in, Journal, with_entry, with_event, noted, replay, Kept, Done}
 use Rattle.kl1_model_history.specs.laws.HistoryLaws.{beside, FreshIsReplay, ReplaysStay, NamesStay, RulesStay}
 use Rattle.kl1_model_history.proofs.Besides.{stays_beside}
 use Rattle.kl1_model_history.proofs.RulesKept.{entry_rules}
+
+-- an account with its journal after what became of an event
+abbrev pub kept_after : Kept → Event → Transition → Done
+kept_after k e x = record { kept = record { state = x.state; journal = noted k.journal e x }; reply = x.reply }
 
 pub fresh_is_replay : FreshIsReplay
 fresh_is_replay rules name = record { is = refl; rules = refl; sessions = refl }
@@ -20,6 +24,10 @@ fresh_is_replay rules name = record { is = refl; rules = refl; sessions = refl }
 -- an entry's event leaves the own name and the sessions
 entry_stays : (s : State) (e : Entry) → (step s (event_in e)).state ≡ beside s.own_name s.sessions (step s (event_in e)).state
 entry_stays s e = ap (λ (x : Transition). x.state) (stays_beside s.own_name s.sessions s e)
+
+-- an account after entries, in order
+abbrev pub after_entries : State → List Entry → State
+after_entries s es = fold (λ s e. (step s (event_in e)).state) s es
 
 -- entries after others
 pub after_more : (s : State) (es fs : List Entry) → after_entries s (es ++ fs) ≡ after_entries (after_entries s es) fs

@@ -16,12 +16,12 @@ use Rattle.kl1_model.specs.Goal.{is_goal}
 use Rattle.kl1_model.specs.Print.{print}
 use Rattle.kl1_model.specs.Token.{is_digit}
 use Rattle.kl1_model.specs.Line.{before_space, behind_space, number_in}
-use Rattle.kl1_model.specs.Module.{Reading, good, read_goal}
+use Rattle.kl1_model.specs.Module.{Reading, good, bad, read_goal}
 use Rattle.kl1_model.specs.Event.{is_number}
 use Rattle.kl1_model.specs.Sending.{is_message, may_send}
 use Rattle.kl1_model.specs.laws.ReadLaws.{is_printable}
 use Rattle.kl1_model_history.specs.Journal.{Entry, loads, starts, sends, steps, answers}
-use Rattle.kl1_model_history.specs.JournalText.{hex_digit, is_hex_digit, hex_text, hex_value, hex_bytes, entry_line, of_two, start_of, start_in, answer_of, answer_in, entry_by, if_line}
+use Rattle.kl1_model_history.specs.JournalText.{hex_digit, is_hex_digit, hex_text, hex_value, hex_bytes, entry_line, of_two, if_read, start_in, answer_in, entry_by}
 use Rattle.kl1_model_history.specs.laws.TextLaws.{AreBytes, HasLine, EntriesReadBack, StrictLinesAreEntries}
 use Rattle.kl1_model_history.proofs.ReadBack.{printed_goals_read_back}
 use Rattle.kl1_model_history.proofs.ReadPlain.{prints_are_plain}
@@ -118,9 +118,14 @@ answers_here n report t h = record {
   plain = (printable_here (answer_front n report) t h.3 h.4 h.5).plain;
 }
 
-by_parts : (x y z : Option ℕ) (r : Reading Term) (a l h : ℕ) (t : Term) → x ≡ Some a → y ≡ Some l → z ≡ Some h → r ≡ good t →
-    option_and_then (λ a. option_and_then (λ l. option_and_then (λ h. start_of a l h r) z) y) x ≡ Some (starts a l h t)
-by_parts x y z r a l h t p q u e = rw (p, q, u, e) refl
+-- what was read as good
+pub is_read : {A : Type 0} (r : Reading A) (a : A) → if_read r ≡ Some a → r ≡ good a
+is_read (good b) a h = ap (λ x. good x) (same_Some b a h)
+is_read (bad line) a h = absurd (none-some a h)
+
+by_parts : (x y z : Option ℕ) (o : Option Term) (a l h : ℕ) (t : Term) → x ≡ Some a → y ≡ Some l → z ≡ Some h → o ≡ Some t →
+    option_and_then (λ a. option_and_then (λ l. option_and_then (λ h. option_map (starts a l h) o) z) y) x ≡ Some (starts a l h t)
+by_parts x y z o a l h t p q u e = rw (p, q, u, e) refl
 
 -- a start by its numbers and its goal
 start_back : (allowance low high : ℕ) (t : Term) → Starts allowance low high t → start_in (decimal allowance ++ 32 ∷ (decimal low ++ 32 ∷ (decimal high ++ 32 ∷ print t))) ≡ Some (starts allowance low high t)
@@ -132,14 +137,14 @@ start_back allowance low high t s =
     let is_b : behind_space rest ≡ b = behind_front (decimal allowance) b (decimal_no_space allowance s.first) in
     let is_c : behind_space (behind_space rest) ≡ c = ap behind_space is_b ∙ behind_front (decimal low) c (decimal_no_space low s.second) in
     let is_last : behind_space (behind_space (behind_space rest)) ≡ last = ap behind_space is_c ∙ behind_front (decimal high) last (decimal_no_space high s.third) in
-    by_parts (number_in (before_space rest)) (number_in (before_space (behind_space rest))) (number_in (before_space (behind_space (behind_space rest)))) (read_goal (behind_space (behind_space (behind_space rest)))) allowance low high t
+    by_parts (number_in (before_space rest)) (number_in (before_space (behind_space rest))) (number_in (before_space (behind_space (behind_space rest)))) (if_read (read_goal (behind_space (behind_space (behind_space rest))))) allowance low high t
     (ap number_in (before_front (decimal allowance) b (decimal_no_space allowance s.first)) ∙ number_back allowance s.first)
     (ap (λ x. number_in (before_space x)) is_b ∙ ap number_in (before_front (decimal low) c (decimal_no_space low s.second)) ∙ number_back low s.second)
     (ap (λ x. number_in (before_space x)) is_c ∙ ap number_in (before_front (decimal high) last (decimal_no_space high s.third)) ∙ number_back high s.third)
-    (ap read_goal is_last ∙ printed_goals_read_back t s.printable s.goal)
+    (ap if_read (ap read_goal is_last ∙ printed_goals_read_back t s.printable s.goal))
 
-by_two : (x y : Option ℕ) (r : Reading Term) (n report : ℕ) (t : Term) → x ≡ Some n → y ≡ Some report → r ≡ good t → option_and_then (λ n. option_and_then (λ report. answer_of n report r) y) x ≡ Some (answers n report t)
-by_two x y r n report t p q e = rw (p, q, e) refl
+by_two : (x y : Option ℕ) (o : Option Term) (n report : ℕ) (t : Term) → x ≡ Some n → y ≡ Some report → o ≡ Some t → option_and_then (λ n. option_and_then (λ report. option_map (answers n report) o) y) x ≡ Some (answers n report t)
+by_two x y o n report t p q e = rw (p, q, e) refl
 
 -- an answer by its numbers and its goal
 answer_back : (n report : ℕ) (t : Term) → Answers n report t → answer_in (decimal n ++ 32 ∷ (decimal report ++ 32 ∷ print t)) ≡ Some (answers n report t)
@@ -149,10 +154,10 @@ answer_back n report t s =
     let rest = decimal n ++ 32 ∷ b in
     let is_b : behind_space rest ≡ b = behind_front (decimal n) b (decimal_no_space n s.first) in
     let is_last : behind_space (behind_space rest) ≡ last = ap behind_space is_b ∙ behind_front (decimal report) last (decimal_no_space report s.second) in
-    by_two (number_in (before_space rest)) (number_in (before_space (behind_space rest))) (read_goal (behind_space (behind_space rest))) n report t
+    by_two (number_in (before_space rest)) (number_in (before_space (behind_space rest))) (if_read (read_goal (behind_space (behind_space rest)))) n report t
     (ap number_in (before_front (decimal n) b (decimal_no_space n s.first)) ∙ number_back n s.first)
     (ap (λ x. number_in (before_space x)) is_b ∙ ap number_in (before_front (decimal report) last (decimal_no_space report s.second)) ∙ number_back report s.second)
-    (ap read_goal is_last ∙ printed_goals_read_back t s.printable s.goal)
+    (ap if_read (ap read_goal is_last ∙ printed_goals_read_back t s.printable s.goal))
 
 three_parts : (a b p : List ℕ) → a ++ 32 ∷ [] ++ b ++ 32 ∷ [] ++ p ≡ a ++ 32 ∷ (b ++ 32 ∷ p)
 three_parts a b p = simp append_assoc refl
@@ -200,6 +205,10 @@ fits (sends n Abort) h = omega (arith, few_digits n (sent_number n Abort h))
 fits (sends n (Allow k)) h = omega (arith, length_two n k (sent_number n (Allow k) h) (sent_more n k h))
 fits (answers n report t) h = h.5
 fits (steps goal clause) h = omega (arith, length_two goal clause h.0 h.1)
+
+-- an entry, if this is its line
+abbrev pub if_line : List ℕ → Entry → Option Entry
+if_line line e = if bytes_eq (entry_line e) line then Some e else None
 
 line_same : (e : Entry) → if_line (entry_line e) e ≡ Some e
 line_same e = rw ((bytes_eq-Decides (entry_line e) (entry_line e)).1 refl) refl

@@ -9,8 +9,8 @@ use Rattle.std.proofs.lemmas.Option.{none-some, same_Some}
 use Rattle.kl1_model.specs.declared.rules.Rules.{Rules}
 use Rattle.kl1_model.specs.Text.{is_text}
 use Rattle.kl1_model_history.specs.Command.{written_lines}
-use Rattle.kl1_model_history.specs.Journal.{Entry, Journal, new_journal}
-use Rattle.kl1_model_history.specs.JournalText.{entry_line, name_line, first_line, journal_lines, entry_in, name_in, is_new_name, Heading, heading_in, Lines, lines_of, entry_first, journal_with, journal_after, journal_of}
+use Rattle.kl1_model_history.specs.Journal.{Entry, Journal}
+use Rattle.kl1_model_history.specs.JournalText.{entry_line, name_line, first_line, journal_lines, entry_in, name_in, is_new_name, Heading, heading_in, Lines, lines_of, entries_in, journal_after, journal_of}
 use Rattle.kl1_model_history.specs.laws.TextLaws.{HasLine, is_unbroken, are_new_names, IsWritten, journal_text, JournalsReadBack, StrictTextsAreJournals}
 use Rattle.kl1_model_history.proofs.TextEntries.{entries_read_back, strict_lines_are_entries}
 use Rattle.kl1_model_history.proofs.TextNames.{names_read_back, strict_lines_are_names, headings_read_back, strict_lines_are_headings}
@@ -21,14 +21,13 @@ use Rattle.kl1_model_history.proofs.TextUnbroken.{entry_unbroken, name_unbroken,
 abbrev journal_from : Rules → ℕ → List (List ℕ) → List Entry → Journal
 journal_from rules sessions names entries = record { rules = rules; sessions = sessions; names = names; entries = entries }
 
--- one entry of a journal that is read
-entry_then : (e : Entry) (o : Option Entry) (rest : Option Journal) (j : Journal) → o ≡ Some e → rest ≡ Some j → option_and_then (λ e. option_map (entry_first e) rest) o ≡ Some (entry_first e j)
-entry_then e o rest j p q = rw (p, q) refl
+-- one entry of those that are read
+entry_then : (e : Entry) (o : Option Entry) (rest : Option (List Entry)) (es : List Entry) → o ≡ Some e → rest ≡ Some es → option_and_then (λ e. option_map (λ es. e ∷ es) rest) o ≡ Some (e ∷ es)
+entry_then e o rest es p q = rw (p, q) refl
 
-with_back : (rules : Rules) (sessions : ℕ) (names : List (List ℕ)) (es : List Entry) → AllByRecursion HasLine es → journal_with rules sessions names (map entry_line es) ≡ Some (journal_from rules sessions names es)
-with_back rules sessions names [] h = refl
-with_back rules sessions names (e ∷ es) h =
-    entry_then e (entry_in (entry_line e)) (journal_with rules sessions names (map entry_line es)) (journal_from rules sessions names es) (entries_read_back e h.0) (with_back rules sessions names es h.1)
+entries_back : (es : List Entry) → AllByRecursion HasLine es → entries_in (map entry_line es) ≡ Some es
+entries_back [] h = refl
+entries_back (e ∷ es) h = entry_then e (entry_in (entry_line e)) (entries_in (map entry_line es)) es (entries_read_back e h.0) (entries_back es h.1)
 
 -- one name of a journal that is read
 name_then : (o : Option (List ℕ)) (t : List ℕ) (test : List ℕ → Bool) (go : List ℕ → Option Journal) → o ≡ Some t → test t ≡ true → option_and_then (λ t. if test t then go t else None) o ≡ go t
@@ -36,7 +35,7 @@ name_then o t test go p q = ap (option_and_then (λ t. if test t then go t else 
 
 after_back : (rules : Rules) (sessions : ℕ) (before names : List (List ℕ)) (es : List Entry) → are_new_names before names ≡ true → AllByRecursion HasLine es →
     journal_after rules sessions before (length names) (map name_line names ++ map entry_line es) ≡ Some (journal_from rules sessions (before ++ names) es)
-after_back rules sessions before [] es new h = with_back rules sessions before es h ∙ ap (λ x. Some (journal_from rules sessions x es)) (sym (append-nil before))
+after_back rules sessions before [] es new h = ap (option_map (journal_from rules sessions before)) (entries_back es h) ∙ ap (λ x. Some (journal_from rules sessions x es)) (sym (append-nil before))
 after_back rules sessions before (t ∷ ts) es new h =
     let all = and_parts (is_text t && is_new_name before t) (are_new_names (before ++ t ∷ []) ts) new in
     let both = and_parts (is_text t) (is_new_name before t) all.0 in
@@ -78,33 +77,18 @@ text_lines j w = ap lines_of (sym (append-nil (journal_text j))) ∙ lines_of_li
 pub journals_read_back : JournalsReadBack
 journals_read_back j w = ap (λ (ls : Lines). if◌then◌else◌ {A = Option Journal} (length ls.rest == 0) (journal_of ls.whole) None) (text_lines j w) ∙ of_back j w
 
--- what is known of a journal that was read with these rules, sessions and names
-record ReadWith (rules : Rules) (sessions : ℕ) (names lines : List (List ℕ)) (j : Journal) : Type 0 where
-  same_rules : j.rules ≡ rules
-  same_sessions : j.sessions ≡ sessions
-  same_names : j.names ≡ names
-  same_lines : map entry_line j.entries ≡ lines
+rest_read : (line : List ℕ) (e : Entry) (lines : List (List ℕ)) (o : Option (List Entry)) (ds : List Entry) → entry_line e ≡ line → ((es : List Entry) → o ≡ Some es → map entry_line es ≡ lines) → option_map (λ es. e ∷ es) o ≡ Some ds → map entry_line ds ≡ line ∷ lines
+rest_read line e lines None ds is r h = absurd (none-some ds h)
+rest_read line e lines (Some es) ds is r h = ap (map entry_line) (sym (same_Some (e ∷ es) ds h)) ∙ ap₂ (λ (x : List ℕ) (xs : List (List ℕ)). x ∷ xs) is (r es refl)
 
-entry_read : (line : List ℕ) (e : Entry) (rules : Rules) (sessions : ℕ) (names lines : List (List ℕ)) (i j : Journal) → entry_line e ≡ line → ReadWith rules sessions names lines i → entry_first e i ≡ j → ReadWith rules sessions names (line ∷ lines) j
-entry_read line e rules sessions names lines i j is r same = subst (ReadWith rules sessions names (line ∷ lines)) same (record {
-  same_rules = r.same_rules;
-  same_sessions = r.same_sessions;
-  same_names = r.same_names;
-  same_lines = ap₂ (λ (x : List ℕ) (xs : List (List ℕ)). x ∷ xs) is r.same_lines;
-})
+line_read : (line : List ℕ) (lines : List (List ℕ)) (x : Option Entry) (o : Option (List Entry)) (ds : List Entry) → ((e : Entry) → x ≡ Some e → entry_line e ≡ line) → ((es : List Entry) → o ≡ Some es → map entry_line es ≡ lines) → option_and_then (λ e. option_map (λ es. e ∷ es) o) x ≡ Some ds → map entry_line ds ≡ line ∷ lines
+line_read line lines None o ds is r h = absurd (none-some ds h)
+line_read line lines (Some e) o ds is r h = rest_read line e lines o ds (is e refl) r h
 
-rest_read : (line : List ℕ) (e : Entry) (rules : Rules) (sessions : ℕ) (names lines : List (List ℕ)) (o : Option Journal) (j : Journal) → entry_line e ≡ line → ((i : Journal) → o ≡ Some i → ReadWith rules sessions names lines i) → option_map (entry_first e) o ≡ Some j → ReadWith rules sessions names (line ∷ lines) j
-rest_read line e rules sessions names lines None j is r h = absurd (none-some j h)
-rest_read line e rules sessions names lines (Some i) j is r h = entry_read line e rules sessions names lines i j is (r i refl) (same_Some (entry_first e i) j h)
-
-line_read : (line : List ℕ) (rules : Rules) (sessions : ℕ) (names lines : List (List ℕ)) (x : Option Entry) (o : Option Journal) (j : Journal) → ((e : Entry) → x ≡ Some e → entry_line e ≡ line) → ((i : Journal) → o ≡ Some i → ReadWith rules sessions names lines i) → option_and_then (λ e. option_map (entry_first e) o) x ≡ Some j → ReadWith rules sessions names (line ∷ lines) j
-line_read line rules sessions names lines None o j is r h = absurd (none-some j h)
-line_read line rules sessions names lines (Some e) o j is r h = rest_read line e rules sessions names lines o j (is e refl) r h
-
-with_strict : (rules : Rules) (sessions : ℕ) (names lines : List (List ℕ)) (j : Journal) → journal_with rules sessions names lines ≡ Some j → ReadWith rules sessions names lines j
-with_strict rules sessions names [] j h = subst (ReadWith rules sessions names []) (same_Some (new_journal rules names sessions) j h) (record { same_rules = refl; same_sessions = refl; same_names = refl; same_lines = refl })
-with_strict rules sessions names (line ∷ lines) j h =
-    line_read line rules sessions names lines (entry_in line) (journal_with rules sessions names lines) j (strict_lines_are_entries line) (with_strict rules sessions names lines) h
+-- the lines of entries that were read
+entries_strict : (lines : List (List ℕ)) (es : List Entry) → entries_in lines ≡ Some es → map entry_line es ≡ lines
+entries_strict [] es h = ap (map entry_line) (sym (same_Some [] es h))
+entries_strict (line ∷ lines) es h = line_read line lines (entry_in line) (entries_in lines) es (strict_lines_are_entries line) (entries_strict lines) h
 
 -- what is known of a journal that was read with these rules, sessions and names and this number of names more
 record ReadAfter (rules : Rules) (sessions : ℕ) (before : List (List ℕ)) (n : ℕ) (lines : List (List ℕ)) (j : Journal) : Type 0 where
@@ -133,10 +117,20 @@ name_read : (line : List ℕ) (rules : Rules) (sessions : ℕ) (before : List (L
 name_read line rules sessions before n lines None j is r h = absurd (none-some j h)
 name_read line rules sessions before n lines (Some t) j is r h = name_by (is_new_name before t) line t rules sessions before n lines j (is t refl) (r t) h
 
+-- no name more
+none_after : (rules : Rules) (sessions : ℕ) (before lines : List (List ℕ)) (o : Option (List Entry)) (j : Journal) → ((es : List Entry) → o ≡ Some es → map entry_line es ≡ lines) → option_map (journal_from rules sessions before) o ≡ Some j → ReadAfter rules sessions before zero lines j
+none_after rules sessions before lines None j r h = absurd (none-some j h)
+none_after rules sessions before lines (Some es) j r h = subst (ReadAfter rules sessions before zero lines) (same_Some (journal_from rules sessions before es) j h) (record {
+  more = [];
+  count = refl;
+  same_names = sym (append-nil before);
+  same_rules = refl;
+  same_sessions = refl;
+  same_lines = r es refl;
+})
+
 after_strict : (rules : Rules) (sessions : ℕ) (before : List (List ℕ)) (n : ℕ) (lines : List (List ℕ)) (j : Journal) → journal_after rules sessions before n lines ≡ Some j → ReadAfter rules sessions before n lines j
-after_strict rules sessions before zero lines j h =
-    let r = with_strict rules sessions before lines j h in
-    record { more = []; count = refl; same_names = r.same_names ∙ sym (append-nil before); same_rules = r.same_rules; same_sessions = r.same_sessions; same_lines = r.same_lines }
+after_strict rules sessions before zero lines j h = none_after rules sessions before lines (entries_in lines) j (entries_strict lines) h
 after_strict rules sessions before (suc n) [] j h = absurd (none-some j h)
 after_strict rules sessions before (suc n) (line ∷ lines) j h =
     name_read line rules sessions before n lines (name_in line) j (λ t is. (strict_lines_are_names line t is).1) (λ t. after_strict rules sessions (before ++ t ∷ []) n lines j) h

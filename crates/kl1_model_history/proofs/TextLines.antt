@@ -5,8 +5,16 @@ use Rattle.std.proofs.Common.{refl, ap, ◌∙◌}
 use Rattle.std.proofs.lemmas.Bool.{and_parts, and_from, eqb-true, not_from_false}
 use Rattle.std.proofs.lemmas.List.{append_assoc}
 use Rattle.kl1_model_history.specs.Command.{written_line, written_lines}
-use Rattle.kl1_model_history.specs.JournalText.{Lines, byte_first, line_first, lines_of}
+use Rattle.kl1_model_history.specs.JournalText.{Lines, lines_of}
 use Rattle.kl1_model_history.specs.laws.TextLaws.{is_unbroken, LinesOfLines, TextsAreLines}
+
+-- a byte in front of the first line, or of the rest if there is no line
+abbrev pub byte_first : ℕ → List (List ℕ) → List ℕ → Lines
+byte_first b whole rest = elim whole [ [] ↦ record { whole = []; rest = b ∷ rest } | line ∷ lines ↦ record { whole = (b ∷ line) ∷ lines; rest = rest } ]
+
+-- an empty line in front of lines
+abbrev pub line_first : Lines → Lines
+line_first ls = record { whole = [] ∷ ls.whole; rest = ls.rest }
 
 not_true : (x : Bool) → not x ≡ true → x ≡ false
 not_true true h = cc

@@ -1,5 +1,5 @@
 -- The lines of names and the first lines of journals read back.
-use Rattle.std.specs.Prelude.{◌≡◌, ℕ, ◌≤◌, ◌<◌, ◌==◌, nat_le, ◌&&◌, Bool, true, false, if◌then◌else◌, List, [], ◌∷◌, ◌++◌, codes, bytes_eq, decimal, Option, Some, None, option_and_then}
+use Rattle.std.specs.Prelude.{◌≡◌, ℕ, ◌≤◌, ◌<◌, ◌==◌, nat_le, ◌&&◌, Bool, true, false, if◌then◌else◌, List, [], ◌∷◌, ◌++◌, codes, bytes_eq, decimal, Option, Some, None, option_map, option_and_then}
 use Rattle.std.proofs.Common.{refl, sym, ap, ◌∙◌, subst, arith}
 use Rattle.std.proofs.lemmas.Bool.{and_parts, and_from, leb-true, le-leb, ne_eqb, eqb-true}
 use Rattle.std.proofs.lemmas.List.{append_assoc}
@@ -12,7 +12,7 @@ use Rattle.kl1_model.specs.declared.limits.TheConstants.{NUMBER_LIMIT, MOST_NAME
 use Rattle.kl1_model.specs.Text.{is_text}
 use Rattle.kl1_model.specs.Name.{is_small_letter, is_word_byte, is_bare, doubled, quoted, name_text}
 use Rattle.kl1_model.specs.Line.{before_space, behind_space, number_in}
-use Rattle.kl1_model_history.specs.JournalText.{name_line, unquoted, name_by, if_name_line, version, first_line, Heading, if_first_line, rules_of, heading_with}
+use Rattle.kl1_model_history.specs.JournalText.{name_line, unquoted, name_by, version, first_line, Heading, rules_of, heading_by}
 use Rattle.kl1_model_history.specs.laws.TextLaws.{NamesReadBack, StrictLinesAreNames, HeadingsReadBack, StrictLinesAreHeadings}
 use Rattle.kl1_model_history.proofs.Words.{number_back, before_front, behind_front, decimal_no_space}
 
@@ -48,6 +48,10 @@ atom_back : (x : Bool) (t : List ℕ) → bytes_eq t (codes "[]") ≡ x → name
 atom_back true t is = let same = (bytes_eq-Decides t (codes "[]")).0 is in ap name_by same ∙ sym same
 atom_back false t is = name_back (is_bare t) t refl
 
+-- a name, if this is its line
+abbrev if_name_line : List ℕ → List ℕ → Option (List ℕ)
+if_name_line line t = if is_text t && bytes_eq (name_line t) line then Some t else None
+
 name_same : (t : List ℕ) → is_text t ≡ true → if_name_line (name_line t) t ≡ Some t
 name_same t h = ap (λ x. if◌then◌else◌ {A = Option (List ℕ)} x (Some t) None) (and_from (is_text t) (bytes_eq (name_line t) (name_line t)) h ((bytes_eq-Decides (name_line t) (name_line t)).1 refl))
 
@@ -66,11 +70,19 @@ strict_lines_are_names line t h =
     let u = name_by (behind_space line) in
     name_strict (is_text u && bytes_eq (name_line u) line) line u t refl h
 
-heading_by : (line : List ℕ) (rules : Rules) (x y : Option ℕ) (m n : ℕ) → x ≡ Some m → y ≡ Some n → option_and_then (λ sessions. option_and_then (λ names. if_first_line line rules sessions names) y) x ≡ if_first_line line rules m n
-heading_by line rules x y m n p q = rw (p, q) refl
+-- a heading
+abbrev heading : Rules → ℕ → ℕ → Heading
+heading rules sessions names = record { rules = rules; sessions = sessions; names = names }
+
+-- a heading, if its numbers are allowed and this is its line
+abbrev if_first_line : List ℕ → Heading → Option Heading
+if_first_line line h = if nat_le h.sessions MOST_SESSIONS && nat_le h.names MOST_NAMES && bytes_eq (first_line h.rules h.sessions h.names) line then Some h else None
+
+by_parts : (o : Option Rules) (x y : Option ℕ) (rules : Rules) (m n : ℕ) → o ≡ Some rules → x ≡ Some m → y ≡ Some n → option_and_then (λ rules. option_and_then (λ sessions. option_map (heading rules sessions) y) x) o ≡ Some (heading rules m n)
+by_parts o x y rules m n p q u = rw (p, q, u) refl
 
 -- a heading whose numbers are small
-heading_same : (rules : Rules) (m n : ℕ) → m ≤ MOST_SESSIONS → n ≤ MOST_NAMES → if_first_line (first_line rules m n) rules m n ≡ Some (record { rules = rules; sessions = m; names = n })
+heading_same : (rules : Rules) (m n : ℕ) → m ≤ MOST_SESSIONS → n ≤ MOST_NAMES → if_first_line (first_line rules m n) (heading rules m n) ≡ Some (heading rules m n)
 heading_same rules m n p q =
     let line = first_line rules m n in
     ap (λ x. if◌then◌else◌ {A = Option Heading} x (Some (record { rules = rules; sessions = m; names = n })) None)
@@ -93,33 +105,28 @@ headings_read_back rules m n p q =
     let line = first_line rules m n in
     let both = version_back rules rest line (first_parts (version rules) (decimal m) (decimal n)) in
     let is_rest : behind_space (behind_space line) ≡ rest = both.1 in
-    ap (option_and_then (heading_with line (behind_space (behind_space line)))) both.0
-    ∙ heading_by line rules (number_in (before_space (behind_space (behind_space line)))) (number_in (behind_space (behind_space (behind_space line)))) m n
+    ap (option_and_then (if_first_line line))
+    (by_parts (rules_of (before_space (behind_space line))) (number_in (before_space (behind_space (behind_space line)))) (number_in (behind_space (behind_space (behind_space line)))) rules m n
+    both.0
     (ap (λ x. number_in (before_space x)) is_rest ∙ ap number_in (before_front (decimal m) (decimal n) (decimal_no_space m few)) ∙ number_back m few)
-    (ap (λ x. number_in (behind_space x)) is_rest ∙ ap number_in (behind_front (decimal m) (decimal n) (decimal_no_space m few)) ∙ number_back n less)
+    (ap (λ x. number_in (behind_space x)) is_rest ∙ ap number_in (behind_front (decimal m) (decimal n) (decimal_no_space m few)) ∙ number_back n less))
     ∙ heading_same rules m n p q
 
 -- what is known of a heading that was read
 abbrev IsHeading : List ℕ → Heading → Type 0
 IsHeading line h = (h.sessions ≤ MOST_SESSIONS) × (h.names ≤ MOST_NAMES) × (first_line h.rules h.sessions h.names ≡ line)
 
-heading_strict : (b : Bool) (line : List ℕ) (rules : Rules) (m n : ℕ) (h : Heading) → nat_le m MOST_SESSIONS && nat_le n MOST_NAMES && bytes_eq (first_line rules m n) line ≡ b →
-    if◌then◌else◌ {A = Option Heading} b (Some (record { rules = rules; sessions = m; names = n })) None ≡ Some h → IsHeading line h
-heading_strict true line rules m n h is e =
-    let all = and_parts (nat_le m MOST_SESSIONS && nat_le n MOST_NAMES) (bytes_eq (first_line rules m n) line) is in
-    let both = and_parts (nat_le m MOST_SESSIONS) (nat_le n MOST_NAMES) all.0 in
-    let same = same_Some (record { rules = rules; sessions = m; names = n }) h e in
-    subst (IsHeading line) same (leb-true m MOST_SESSIONS both.0, leb-true n MOST_NAMES both.1, (bytes_eq-Decides (first_line rules m n) line).0 all.1)
-heading_strict false line rules m n h is e = absurd (none-some h e)
+heading_strict : (b : Bool) (line : List ℕ) (g h : Heading) → nat_le g.sessions MOST_SESSIONS && nat_le g.names MOST_NAMES && bytes_eq (first_line g.rules g.sessions g.names) line ≡ b →
+    if◌then◌else◌ {A = Option Heading} b (Some g) None ≡ Some h → IsHeading line h
+heading_strict true line g h is e =
+    let all = and_parts (nat_le g.sessions MOST_SESSIONS && nat_le g.names MOST_NAMES) (bytes_eq (first_line g.rules g.sessions g.names) line) is in
+    let both = and_parts (nat_le g.sessions MOST_SESSIONS) (nat_le g.names MOST_NAMES) all.0 in
+    subst (IsHeading line) (same_Some g h e) (leb-true g.sessions MOST_SESSIONS both.0, leb-true g.names MOST_NAMES both.1, (bytes_eq-Decides (first_line g.rules g.sessions g.names) line).0 all.1)
+heading_strict false line g h is e = absurd (none-some h e)
 
-heading_from : (line : List ℕ) (rules : Rules) (x y : Option ℕ) (h : Heading) → option_and_then (λ sessions. option_and_then (λ names. if_first_line line rules sessions names) y) x ≡ Some h → IsHeading line h
-heading_from line rules None y h e = absurd (none-some h e)
-heading_from line rules (Some m) None h e = absurd (none-some h e)
-heading_from line rules (Some m) (Some n) h e = heading_strict (nat_le m MOST_SESSIONS && nat_le n MOST_NAMES && bytes_eq (first_line rules m n) line) line rules m n h refl e
-
-heading_of : (line rest : List ℕ) (o : Option Rules) (h : Heading) → option_and_then (heading_with line rest) o ≡ Some h → IsHeading line h
-heading_of line rest None h e = absurd (none-some h e)
-heading_of line rest (Some rules) h e = heading_from line rules (number_in (before_space rest)) (number_in (behind_space rest)) h e
+heading_of : (line : List ℕ) (o : Option Heading) (h : Heading) → option_and_then (if_first_line line) o ≡ Some h → IsHeading line h
+heading_of line None h e = absurd (none-some h e)
+heading_of line (Some g) h e = heading_strict (nat_le g.sessions MOST_SESSIONS && nat_le g.names MOST_NAMES && bytes_eq (first_line g.rules g.sessions g.names) line) line g h refl e
 
 pub strict_lines_are_headings : StrictLinesAreHeadings
-strict_lines_are_headings line h e = heading_of line (behind_space (behind_space line)) (rules_of (before_space (behind_space line))) h e
+strict_lines_are_headings line h e = heading_of line (heading_by (behind_space line)) h e

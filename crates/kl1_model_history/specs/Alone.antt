@@ -24,11 +24,10 @@ replies_at u [] rs = []
 replies_at u (d ∷ ds) [] = []
 replies_at u (d ∷ ds) (r ∷ rs) = if d.account == u then r ∷ replies_at u ds rs else replies_at u ds rs
 
--- one reply more in front
-abbrev pub with_reply : Reply → Told → Told
-with_reply r x = record { kept = x.kept; replies = r ∷ x.replies }
-
 -- an account alone: events done to it in order, with its replies
 abbrev pub alone : Kept → List Event → Told
 alone k [] = record { kept = k; replies = [] }
-alone k (e ∷ es) = with_reply (done k e).reply (alone (done k e).kept es)
+alone k (e ∷ es) =
+    let x = done k e in
+    let told = alone x.kept es in
+    record { kept = told.kept; replies = x.reply ∷ told.replies }

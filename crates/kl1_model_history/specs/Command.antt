@@ -1,6 +1,5 @@
 -- Commands and replies as texts, and what a command does.
 use Rattle.std.specs.Prelude.{ℕ, zero, suc, nat_le, ◌&&◌, true, false, if◌then◌else◌, List, [], ◌∷◌, ◌++◌, length, codes, bytes_eq, decimal, Option, Some, None, option_map, option_and_then}
-use Rattle.kl1_model.specs.declared.message.Message.{Message}
 use Rattle.kl1_model.specs.declared.message.Message.TheVariants.{Stop, Start, Abort, Allow}
 use Rattle.kl1_model.specs.declared.condition.Condition.{Condition}
 use Rattle.kl1_model.specs.declared.condition.Condition.TheVariants.{Terminated, Aborted, Stopped, Exhausted, Running}
@@ -8,138 +7,82 @@ use Rattle.kl1_model.specs.Term.{Term}
 use Rattle.kl1_model.specs.Name.{atom_text}
 use Rattle.kl1_model.specs.declared.limits.TheConstants.{MOST_COMMAND_BYTES, MOST_LISTED, MOST_STEPS}
 use Rattle.kl1_model.specs.Line.{word_in, behind_word_in, number_in, up_to, only_number, is_blank_line}
-use Rattle.kl1_model.specs.Module.{Reading, good, bad, read_goal}
 use Rattle.kl1_model.specs.Event.{Refusal, syntax, source, exists, no_shoen, shoen_ended, step_refused, too_many_names, limit_passed, journal_full, sessions_refused, answer_refused, value, status, reports, modules, is_quiet, Event, load, start, control, reduce, read, login, logout, reset, answer, Reply, loaded, opened, sent, reduced, ran, shown, status_is, listed, quiet_is, welcome, bye, was_reset, refused, is_range}
+use Rattle.kl1_model.specs.Module.{Reading, good, bad, read_goal}
 use Rattle.kl1_model.specs.Choice.{Chosen, first}
 use Rattle.kl1_model.specs.Record.{Request, load_of, spoiled_load, other_line}
 use Rattle.kl1_model_history.specs.Journal.{Kept, Done, done}
 use Rattle.kl1_model_history.specs.JournalText.{page_of}
 
--- a command: an event; a run of at most a number of steps; or a page of the journal, from a line on, the first being 1, with at most a
--- number of lines
+-- a command: an event; a run of at most n steps; or a page of the journal from one of its lines on, counted from 1, with at most n lines
 pub data Command : Type 0 where
   does : Event → Command
   run : ℕ → Command
   shows : ℕ → ℕ → Command
+
+-- the command of a line whose first word is a number, by that and what is after it
+abbrev pub by_number : (ℕ → List ℕ → Option Command) → List ℕ → Option Command
+by_number make line = option_and_then (λ n. make n (behind_word_in line)) (number_in (word_in line))
+
+-- the command of a line that has two numbers and nothing else
+abbrev pub by_two : (ℕ → ℕ → Option Command) → List ℕ → Option Command
+by_two make = by_number (λ n rest. option_and_then (make n) (only_number rest))
 
 -- a start with its goal as it was read
 abbrev pub start_with : ℕ → ℕ → ℕ → Reading Term → Option Command
 start_with allowance low high (bad line) = None
 start_with allowance low high (good t) = if is_range low high then Some (does (start allowance low high t)) else None
 
--- three numbers, and then a goal
+-- a start, by its allowance, its lowest and its highest priority, and its goal
 abbrev pub start_command : List ℕ → Option Command
-start_command line =
-    let b = behind_word_in line in
-    let c = behind_word_in b in
-    option_and_then (λ allowance. option_and_then (λ low. option_and_then (λ high. start_with allowance low high (read_goal (behind_word_in c))) (number_in (word_in c))) (number_in (word_in b))) (number_in (word_in line))
+start_command = by_number (λ allowance. by_number (λ low. by_number (λ high rest. start_with allowance low high (read_goal rest))))
 
 -- an answer with its goal as it was read, to a report whose number is at least 1
 abbrev pub answer_with : ℕ → ℕ → Reading Term → Option Command
 answer_with n report (bad line) = None
 answer_with n report (good t) = if nat_le 1 report then Some (does (answer n report t)) else None
 
--- a shoen's number and a report's, from 1, and then a goal
+-- an answer, by a shoen's number, a report's, from 1, and the goal
 abbrev pub answer_command : List ℕ → Option Command
-answer_command line =
-    let b = behind_word_in line in
-    option_and_then (λ n. option_and_then (λ report. answer_with n report (read_goal (behind_word_in b))) (number_in (word_in b))) (number_in (word_in line))
+answer_command = by_number (λ n. by_number (λ report rest. answer_with n report (read_goal rest)))
 
--- a goal's number and a clause's, and nothing else
-abbrev pub reduce_command : List ℕ → Option Command
-reduce_command line = option_and_then (λ goal. option_map (λ clause. does (reduce goal clause)) (only_number (behind_word_in line))) (number_in (word_in line))
-
--- a shoen's number and how much more it may be charged, and nothing else
-abbrev pub allow_command : List ℕ → Option Command
-allow_command line = option_and_then (λ n. option_map (λ more. does (control n (Allow more))) (only_number (behind_word_in line))) (number_in (word_in line))
-
--- a message to a shoen by its number, and nothing else
-abbrev pub send_command : Message → List ℕ → Option Command
-send_command m line = option_map (λ n. does (control n m)) (only_number line)
-
--- the reports of shoen `n` from number `from` on, if that is at least 1
-abbrev pub reports_from : ℕ → ℕ → Option Command
-reports_from n from = if nat_le 1 from then Some (does (read (reports n from))) else None
-
--- a shoen's number and a report's, from 1, and nothing else
+-- the reports of a shoen, by its number and that of the first report, from 1
 abbrev pub reports_command : List ℕ → Option Command
-reports_command line = option_and_then (λ n. option_and_then (reports_from n) (only_number (behind_word_in line))) (number_in (word_in line))
+reports_command = by_two (λ n from. if nat_le 1 from then Some (does (read (reports n from))) else None)
 
--- a page of the journal from one line on, if that is at least 1, and with at least one line and not too many
-abbrev pub journal_from : ℕ → ℕ → Option Command
-journal_from from count = if nat_le 1 from && nat_le 1 count && nat_le count MOST_LISTED then Some (shows from count) else None
-
--- a line's number, from 1, and how many lines at most, and nothing else
+-- a page of the journal, by the number of its first line, from 1, and how many lines at most
 abbrev pub journal_command : List ℕ → Option Command
-journal_command line = option_and_then (λ from. option_and_then (journal_from from) (only_number (behind_word_in line))) (number_in (word_in line))
+journal_command = by_two (λ from count. if nat_le 1 from && nat_le 1 count && nat_le count MOST_LISTED then Some (shows from count) else None)
 
 -- an event of a line that says nothing else
 abbrev pub alone_command : Event → List ℕ → Option Command
 alone_command e line = if is_blank_line line then Some (does e) else None
 
--- the first word of a command, but for a load
-pub data Verb : Type 0 where
-  starts : Verb
-  sends : Message → Verb
-  allows : Verb
-  runs : Verb
-  asks_value : Verb
-  asks_status : Verb
-  asks_reports : Verb
-  asks_modules : Verb
-  asks_quiet : Verb
-  reduces_goal : Verb
-  shows_journal : Verb
-  logs_in : Verb
-  logs_out : Verb
-  resets : Verb
-  answers : Verb
-  unknown : Verb
+-- the command of a line by its first word `w` and what is after it
+abbrev pub command_by : List ℕ → List ℕ → Option Command
+command_by w rest =
+    if bytes_eq w (codes "start") then start_command rest
+    else if bytes_eq w (codes "run") then option_map run (up_to MOST_STEPS (only_number rest))
+    else if bytes_eq w (codes "stop") then option_map (λ n. does (control n Stop)) (only_number rest)
+    else if bytes_eq w (codes "resume") then option_map (λ n. does (control n Start)) (only_number rest)
+    else if bytes_eq w (codes "abort") then option_map (λ n. does (control n Abort)) (only_number rest)
+    else if bytes_eq w (codes "allow") then by_two (λ n more. Some (does (control n (Allow more)))) rest
+    else if bytes_eq w (codes "value") then option_map (λ n. does (read (value n))) (only_number rest)
+    else if bytes_eq w (codes "status") then option_map (λ n. does (read (status n))) (only_number rest)
+    else if bytes_eq w (codes "reports") then reports_command rest
+    else if bytes_eq w (codes "modules") then alone_command (read modules) rest
+    else if bytes_eq w (codes "quiet") then alone_command (read is_quiet) rest
+    else if bytes_eq w (codes "reduce") then by_two (λ goal clause. Some (does (reduce goal clause))) rest
+    else if bytes_eq w (codes "journal") then journal_command rest
+    else if bytes_eq w (codes "login") then alone_command login rest
+    else if bytes_eq w (codes "logout") then alone_command logout rest
+    else if bytes_eq w (codes "reset") then alone_command reset rest
+    else if bytes_eq w (codes "answer") then answer_command rest
+    else None
 
--- the verb that a word is
-abbrev pub verb_of : List ℕ → Verb
-verb_of w =
-    if bytes_eq w (codes "start") then starts
-    else if bytes_eq w (codes "run") then runs
-    else if bytes_eq w (codes "stop") then sends Stop
-    else if bytes_eq w (codes "resume") then sends Start
-    else if bytes_eq w (codes "abort") then sends Abort
-    else if bytes_eq w (codes "allow") then allows
-    else if bytes_eq w (codes "value") then asks_value
-    else if bytes_eq w (codes "status") then asks_status
-    else if bytes_eq w (codes "reports") then asks_reports
-    else if bytes_eq w (codes "modules") then asks_modules
-    else if bytes_eq w (codes "quiet") then asks_quiet
-    else if bytes_eq w (codes "reduce") then reduces_goal
-    else if bytes_eq w (codes "journal") then shows_journal
-    else if bytes_eq w (codes "login") then logs_in
-    else if bytes_eq w (codes "logout") then logs_out
-    else if bytes_eq w (codes "reset") then resets
-    else if bytes_eq w (codes "answer") then answers
-    else unknown
-
--- the command of a line by its first word and what is after it
-abbrev pub command_by : Verb → List ℕ → Option Command
-command_by starts rest = start_command rest
-command_by (sends m) rest = send_command m rest
-command_by allows rest = allow_command rest
-command_by runs rest = option_map run (up_to MOST_STEPS (only_number rest))
-command_by asks_value rest = option_map (λ n. does (read (value n))) (only_number rest)
-command_by asks_status rest = option_map (λ n. does (read (status n))) (only_number rest)
-command_by asks_reports rest = reports_command rest
-command_by asks_modules rest = alone_command (read modules) rest
-command_by asks_quiet rest = alone_command (read is_quiet) rest
-command_by reduces_goal rest = reduce_command rest
-command_by shows_journal rest = journal_command rest
-command_by logs_in rest = alone_command login rest
-command_by logs_out rest = alone_command logout rest
-command_by resets rest = alone_command reset rest
-command_by answers rest = answer_command rest
-command_by unknown rest = None
-
--- the command that a line is, without its end, if it is one; a line that is too long is none, nor is a `load` line without its source
+-- the command that a line is, if it is one and isn't too long; a `load` line without its source is none
 abbrev pub parse : List ℕ → Option Command
-parse line = if nat_le (length line) MOST_COMMAND_BYTES then command_by (verb_of (word_in line)) (behind_word_in line) else None
+parse line = if nat_le (length line) MOST_COMMAND_BYTES then command_by (word_in line) (behind_word_in line) else None
 
 -- the command that is asked for, if there is one
 abbrev pub command_of : Request → Option Command

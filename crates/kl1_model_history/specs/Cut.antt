@@ -1,9 +1,9 @@
 -- What a stream of bytes asks for in its complete lines and loads, and what is left of it after them.
-use Rattle.std.specs.Prelude.{ℕ, zero, suc, ◌+◌, ◌==◌, Bool, true, false, if◌then◌else◌, List, [], ◌∷◌, ◌++◌, length, take, drop, min, codes, decimal, Option, Some, None}
+use Rattle.std.specs.Prelude.{ℕ, zero, suc, ◌+◌, ◌==◌, Bool, true, false, List, [], ◌∷◌, ◌++◌, length, take, drop, codes, decimal, Some, None}
 use Rattle.std.specs.List.{list_any}
 use Rattle.kl1_model.specs.declared.limits.TheConstants.{MOST_COMMAND_BYTES}
-use Rattle.kl1_model.specs.Line.{behind_feed, without_return, line_in}
-use Rattle.kl1_model.specs.Record.{Request, load_of, spoiled_load, other_line, load_before, source_bytes_in}
+use Rattle.kl1_model.specs.Line.{behind_feed, line_in}
+use Rattle.kl1_model.specs.Record.{Request, other_line, load_before, source_bytes_in}
 
 -- whether there is a line feed
 abbrev pub has_feed : List ℕ → Bool
@@ -26,46 +26,29 @@ only_rest bytes = record { requests = []; rest = bytes }
 abbrev pub unfinished_line : List ℕ → List ℕ
 unfinished_line bytes = take (MOST_COMMAND_BYTES + 2) bytes
 
--- what is kept of an unfinished load of n bytes: its line, as `load N`, these n bytes and the two that follow them
-abbrev pub unfinished_load : ℕ → List ℕ → List ℕ
-unfinished_load n bytes = codes "load " ++ decimal n ++ 10 ∷ take (n + 2) bytes
-
--- what a line asks for that is no good load; a line that is too long is cut to one byte more than a line may have
-abbrev pub line_request : List ℕ → Request
-line_request line = other_line (take (MOST_COMMAND_BYTES + 1) line)
-
--- what a load asks for, by its source and the bytes between that and the next line feed
-abbrev pub load_request : List ℕ → List ℕ → Request
-load_request text after = if length (without_return after) == 0 then load_of text else spoiled_load
-
--- the cut after the line of a load of n bytes: the load ends at the first line feed after these bytes
+-- the cut after the line of a load of n bytes; if no line feed follows these, the line is kept, as `load N`, and n + 2 bytes after it
 abbrev pub load_cut : (List ℕ → Cut) → ℕ → List ℕ → Cut
 load_cut next n bytes =
-    elim (has_feed (drop n bytes)) [
-      | true ↦ request_first (load_before (take n bytes) (drop n bytes)) (next (behind_feed (drop n bytes)))
-      | false ↦ only_rest (unfinished_load n bytes)
+    let after = drop n bytes in
+    elim (has_feed after) [
+      | true ↦ request_first (load_before (take n bytes) after) (next (behind_feed after))
+      | false ↦ only_rest (codes "load " ++ decimal n ++ 10 ∷ take (n + 2) bytes)
     ]
 
--- the cut from a line on, by how many bytes the source has that follows it, if the line is a good load
-abbrev pub line_cut : (List ℕ → Cut) → List ℕ → List ℕ → Option ℕ → Cut
-line_cut next line bytes None = request_first (line_request line) (next bytes)
-line_cut next line bytes (Some n) = load_cut next n bytes
-
--- the cut of a stream, in fewer than n requests
+-- the cut of a stream, in fewer than n requests; a line that is too long is cut to one byte more than a line may have
 unfoldable pub cut_within : ℕ → List ℕ → Cut
 cut_within zero bytes = only_rest []
 cut_within (suc n) bytes =
-    elim (has_feed bytes) [ true ↦ line_cut (cut_within n) (line_in bytes) (behind_feed bytes) (source_bytes_in (line_in bytes)) | false ↦ only_rest (unfinished_line bytes) ]
+    let line = line_in bytes in
+    let after = behind_feed bytes in
+    elim (has_feed bytes) [
+      | true ↦ elim (source_bytes_in line) [
+        | None ↦ request_first (other_line (take (MOST_COMMAND_BYTES + 1) line)) (cut_within n after)
+        | Some m ↦ load_cut (cut_within n) m after
+      ]
+      | false ↦ only_rest (unfinished_line bytes)
+    ]
 
 -- the cut of a stream
 abbrev pub cut_of : List ℕ → Cut
 cut_of bytes = cut_within (suc (length bytes)) bytes
-
--- how many bytes are kept of a load's source
-abbrev pub pending_source : Option ℕ → List ℕ → ℕ
-pending_source None bytes = 0
-pending_source (Some n) bytes = min n (length bytes)
-
--- how many bytes a rest has of an unfinished line, or of the source of a load
-abbrev pub pending_in : List ℕ → ℕ
-pending_in rest = elim (has_feed rest) [ true ↦ pending_source (source_bytes_in (line_in rest)) (behind_feed rest) | false ↦ length rest ]

@@ -2,7 +2,7 @@
 use Rattle.std.specs.Prelude.{ℕ, nat_le, nat_lt, ◌&&◌, if◌then◌else◌, List, length, map, codes, bytes_eq, Option, Some, None}
 use Rattle.kl1_model.specs.declared.limits.TheConstants.{MOST_COMMAND_BYTES}
 use Rattle.kl1_model.specs.Line.{word_in, behind_word_in, is_blank_line}
-use Rattle.kl1_model.specs.Record.{Request, load_of, spoiled_load, other_line}
+use Rattle.kl1_model.specs.Record.{Request, other_line}
 use Rattle.kl1_model.specs.Event.{Refusal, syntax}
 use Rattle.kl1_model_history.specs.Command.{Command, parse, command_of}
 use Rattle.kl1_model_history.specs.Cut.{Cut, cut_of}
@@ -13,13 +13,11 @@ pub data Input : Type 0 where
   command : Command → Input
   refused : Refusal → Input
 
--- a login by a name and a key, if there is a key and nothing after it
-abbrev pub login_with : List ℕ → List ℕ → List ℕ → Input
-login_with name key after = if nat_lt 0 (length key) && is_blank_line after then login name key else refused syntax
-
--- a login, from what stands after the word for it
+-- a login, from what is after the word for it: a name and a key, and nothing else
 abbrev pub login_in : List ℕ → Input
-login_in line = let after = behind_word_in line in login_with (word_in line) (word_in after) (behind_word_in after)
+login_in line =
+    let after = behind_word_in line in
+    if nat_lt 0 (length (word_in after)) && is_blank_line (behind_word_in after) then login (word_in line) (word_in after) else refused syntax
 
 -- the input that a command is, if there is one
 abbrev pub input_by : Option Command → Input
@@ -28,9 +26,9 @@ input_by (Some c) = command c
 
 -- the input that a request is: a line whose first word is `login` is a login with a name and a key, or is refused
 abbrev pub input_of : Request → Input
-input_of (load_of text) = input_by (command_of (load_of text))
-input_of spoiled_load = input_by (command_of spoiled_load)
-input_of (other_line line) = if nat_le (length line) MOST_COMMAND_BYTES && bytes_eq (word_in line) (codes "login") then login_in (behind_word_in line) else input_by (parse line)
+input_of (other_line line) =
+    if nat_le (length line) MOST_COMMAND_BYTES && bytes_eq (word_in line) (codes "login") then login_in (behind_word_in line) else input_by (parse line)
+input_of request = input_by (command_of request)
 
 -- the inputs of a cut
 abbrev pub inputs_in : Cut → List Input

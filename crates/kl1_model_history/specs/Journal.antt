@@ -1,5 +1,5 @@
 -- The journal of an account, and what it says of the account.
-use Rattle.std.specs.Prelude.{ℕ, if◌then◌else◌, List, [], ◌∷◌, ◌++◌}
+use Rattle.std.specs.Prelude.{ℕ, if◌then◌else◌, List, [], ◌∷◌, ◌++◌, fold}
 use Rattle.kl1_model.specs.declared.message.Message.{Message}
 use Rattle.kl1_model.specs.declared.rules.Rules.{Rules}
 use Rattle.kl1_model.specs.Term.{Term}
@@ -8,8 +8,7 @@ use Rattle.kl1_model.specs.Event.{Event, load, start, control, reduce, read, log
 use Rattle.kl1_model.specs.Step.{step}
 use Rattle.kl1_model.specs.laws.TreeLaws.{is_refused}
 
--- an entry of a journal: a module loaded from its source; a goal started with an allowance and priorities from low to high; a message
--- sent to a shoen; a goal reduced by a clause's number, or by 0; a goal given as the answer to a report of a shoen, the first being 1
+-- an entry: a loaded source, a start, a message to a shoen, a reduction, or an answer to a report; its numbers are those of the event
 pub data Entry : Type 0 where
   loads : List ℕ → Entry
   starts : ℕ → ℕ → ℕ → Term → Entry
@@ -25,16 +24,14 @@ event_in (sends n m) = control n m
 event_in (steps goal clause) = reduce goal clause
 event_in (answers n report t) = answer n report t
 
--- a journal: the rules that its account keeps to, how many sessions are open, the names that were used at the last reset, in order of
--- first use, and the entries since
+-- a journal: the account's rules, how many sessions are open, the names at the last reset, in order of first use, and the entries since
 pub record Journal : Type 0 where
   pub rules : Rules
   pub sessions : ℕ
   pub names : List (List ℕ)
   pub entries : List Entry
 
--- the journal of an account that keeps to these rules, has used these names and has this number of open sessions, and in which nothing
--- has happened since
+-- a journal of these rules, these names and this number of open sessions, without entries
 abbrev pub new_journal : Rules → List (List ℕ) → ℕ → Journal
 new_journal rules names sessions = record { rules = rules; sessions = sessions; names = names; entries = [] }
 
@@ -42,8 +39,7 @@ new_journal rules names sessions = record { rules = rules; sessions = sessions; 
 abbrev pub with_entry : Journal → Entry → Journal
 with_entry j e = record j { entries = j.entries ++ e ∷ [] }
 
--- a journal after an accepted event that led to this account: a load, a start, a message, a reduction and an answer are entries, a
--- query is none; a session opened or closed changes the number of sessions; a reset begins the journal anew
+-- a journal after an accepted event that led to this account; a query is no entry, and a reset begins the journal anew
 abbrev pub with_event : Journal → Event → State → Journal
 with_event j (load text) s = with_entry j (loads text)
 with_event j (start allowance low high t) s = with_entry j (starts allowance low high t)
@@ -59,15 +55,9 @@ with_event j (answer n report t) s = with_entry j (answers n report t)
 abbrev pub noted : Journal → Event → Transition → Journal
 noted j e x = if is_refused x.reply then j else with_event j e x.state
 
--- an account after entries, in order
-abbrev pub after_entries : State → List Entry → State
-after_entries s [] = s
-after_entries s (e ∷ es) = after_entries (step s (event_in e)).state es
-
--- the replay of a journal: the account of this name, which keeps to the journal's rules, after the entries, from one in which nothing has
--- happened but that it has used the journal's names and has its sessions
+-- the replay of a journal: the account of this name, fresh but for the journal's rules, names and sessions, after the journal's entries
 abbrev pub replay : List ℕ → Journal → State
-replay name j = after_entries (fresh_with j.rules name j.names j.sessions) j.entries
+replay name j = fold (λ s e. (step s (event_in e)).state) (fresh_with j.rules name j.names j.sessions) j.entries
 
 -- an account with its journal
 pub record Kept : Type 0 where
@@ -83,10 +73,6 @@ pub record Done : Type 0 where
 abbrev pub fresh_kept : Rules → List ℕ → Kept
 fresh_kept rules name = record { state = fresh rules name; journal = new_journal rules [] 0 }
 
--- an account with its journal after what became of an event
-abbrev pub kept_after : Kept → Event → Transition → Done
-kept_after k e x = record { kept = record { state = x.state; journal = noted k.journal e x }; reply = x.reply }
-
 -- what an event does to an account with its journal, and the reply
 abbrev pub done : Kept → Event → Done
-done k e = kept_after k e (step k.state e)
+done k e = let x = step k.state e in record { kept = record { state = x.state; journal = noted k.journal e x }; reply = x.reply }

@@ -7,14 +7,18 @@ use Rattle.kl1_model.specs.declared.rules.Rules.{Rules}
 use Rattle.kl1_model.specs.declared.rules.Rules.TheVariants.{One, Two, Three}
 use Rattle.kl1_model.specs.declared.limits.TheConstants.{MOST_LINE_BYTES, MOST_NAMES, MOST_SESSIONS}
 use Rattle.kl1_model.specs.Text.{is_text, is_built_in}
-use Rattle.kl1_model.specs.Term.{Term}
 use Rattle.kl1_model.specs.Name.{atom_text}
 use Rattle.kl1_model.specs.Token.{is_digit}
 use Rattle.kl1_model.specs.Line.{before_space, behind_space, number_in}
 use Rattle.kl1_model.specs.Module.{Reading, good, bad, read_goal}
 use Rattle.kl1_model.specs.Opening.{start_line}
 use Rattle.kl1_model.specs.Answering.{answer_line}
-use Rattle.kl1_model_history.specs.Journal.{Entry, loads, starts, sends, steps, answers, Journal, new_journal}
+use Rattle.kl1_model_history.specs.Journal.{Entry, loads, starts, sends, steps, answers, Journal}
+
+-- what was read, if it is good
+abbrev pub if_read : {A : Type 0} → Reading A → Option A
+if_read (good a) = Some a
+if_read (bad line) = None
 
 -- ---- the lines of a journal
 
@@ -84,32 +88,21 @@ hex_bytes (c ∷ d ∷ cs) = (16 * hex_value c + hex_value d) ∷ hex_bytes cs
 abbrev pub load_in : List ℕ → Option Entry
 load_in rest = if list_all is_hex_digit rest then Some (loads (hex_bytes rest)) else None
 
+-- what is made of the number before the first space and of what is after it
+abbrev pub of_number : {A : Type 0} → (ℕ → List ℕ → Option A) → List ℕ → Option A
+of_number make rest = option_and_then (λ n. make n (behind_space rest)) (number_in (before_space rest))
+
 -- an entry of two numbers
 abbrev pub of_two : (ℕ → ℕ → Entry) → List ℕ → Option Entry
-of_two make rest = option_and_then (λ a. option_map (make a) (number_in (behind_space rest))) (number_in (before_space rest))
-
--- a start with its goal as it was read
-abbrev pub start_of : ℕ → ℕ → ℕ → Reading Term → Option Entry
-start_of allowance low high (bad line) = None
-start_of allowance low high (good t) = Some (starts allowance low high t)
+of_two make = of_number (λ a rest. option_map (make a) (number_in rest))
 
 -- a start of three numbers and a goal
 abbrev pub start_in : List ℕ → Option Entry
-start_in rest =
-    let b = behind_space rest in
-    let c = behind_space b in
-    option_and_then (λ allowance. option_and_then (λ low. option_and_then (λ high. start_of allowance low high (read_goal (behind_space c))) (number_in (before_space c))) (number_in (before_space b))) (number_in (before_space rest))
-
--- an answer with its goal as it was read
-abbrev pub answer_of : ℕ → ℕ → Reading Term → Option Entry
-answer_of n report (bad line) = None
-answer_of n report (good t) = Some (answers n report t)
+start_in = of_number (λ allowance. of_number (λ low. of_number (λ high rest. option_map (starts allowance low high) (if_read (read_goal rest)))))
 
 -- an answer of two numbers and a goal
 abbrev pub answer_in : List ℕ → Option Entry
-answer_in rest =
-    let b = behind_space rest in
-    option_and_then (λ n. option_and_then (λ report. answer_of n report (read_goal (behind_space b))) (number_in (before_space b))) (number_in (before_space rest))
+answer_in = of_number (λ n. of_number (λ report rest. option_map (answers n report) (if_read (read_goal rest))))
 
 -- the entry that a line may be, by its first word and what is after that
 abbrev pub entry_by : List ℕ → List ℕ → Option Entry
@@ -124,13 +117,12 @@ entry_by w rest =
     else if bytes_eq w (codes "allow") then of_two (λ n k. sends n (Allow k)) rest
     else None
 
--- an entry, if this is its line
-abbrev pub if_line : List ℕ → Entry → Option Entry
-if_line line e = if bytes_eq (entry_line e) line then Some e else None
-
--- the entry whose line this is, if there is one; a line of too many bytes is none
+-- the entry whose line this is, if there is one and the line isn't too long
 abbrev pub entry_in : List ℕ → Option Entry
-entry_in line = if nat_le (length line) MOST_LINE_BYTES then option_and_then (if_line line) (entry_by (before_space line) (behind_space line)) else None
+entry_in line =
+    if nat_le (length line) MOST_LINE_BYTES
+    then option_and_then (λ e. if bytes_eq (entry_line e) line then Some e else None) (entry_by (before_space line) (behind_space line))
+    else None
 
 -- ---- the name that a line has, and the first line
 
@@ -145,13 +137,9 @@ abbrev pub name_by : List ℕ → List ℕ
 name_by [] = []
 name_by (b ∷ bs) = if b == 39 then unquoted bs else b ∷ bs
 
--- a name, if this is its line
-abbrev pub if_name_line : List ℕ → List ℕ → Option (List ℕ)
-if_name_line line t = if is_text t && bytes_eq (name_line t) line then Some t else None
-
 -- the name whose line this is, if there is one
 abbrev pub name_in : List ℕ → Option (List ℕ)
-name_in line = if_name_line line (name_by (behind_space line))
+name_in line = let t = name_by (behind_space line) in if is_text t && bytes_eq (name_line t) line then Some t else None
 
 -- whether a name may follow these in a journal: it isn't built in, and isn't among them
 abbrev pub is_new_name : List (List ℕ) → List ℕ → Bool
@@ -163,13 +151,6 @@ pub record Heading : Type 0 where
   pub sessions : ℕ
   pub names : ℕ
 
--- a heading, if its numbers are allowed and this is its line
-abbrev pub if_first_line : List ℕ → Rules → ℕ → ℕ → Option Heading
-if_first_line line rules sessions names =
-    if nat_le sessions MOST_SESSIONS && nat_le names MOST_NAMES && bytes_eq (first_line rules sessions names) line
-    then Some (record { rules = rules; sessions = sessions; names = names })
-    else None
-
 -- the rules of an account whose journal has this version, if it is one
 abbrev pub rules_of : List ℕ → Option Rules
 rules_of w =
@@ -178,15 +159,21 @@ rules_of w =
     else if bytes_eq w (version Three) then Some Three
     else None
 
--- the heading whose line this is, with these rules, if there is one
-abbrev pub heading_with : List ℕ → List ℕ → Rules → Option Heading
-heading_with line rest rules = option_and_then (λ sessions. option_and_then (λ names. if_first_line line rules sessions names) (number_in (behind_space rest))) (number_in (before_space rest))
+-- the heading that a line may be, by what is after its first word: a version and two numbers
+abbrev pub heading_by : List ℕ → Option Heading
+heading_by line =
+    option_and_then
+    (λ rules. of_number
+    (λ sessions rest. option_map (λ names. record { rules = rules; sessions = sessions; names = names }) (number_in rest))
+    (behind_space line))
+    (rules_of (before_space line))
 
--- the heading whose line this is, if there is one
+-- the heading whose line this is, if there is one and its numbers are allowed
 abbrev pub heading_in : List ℕ → Option Heading
 heading_in line =
-    let rest = behind_space line in
-    option_and_then (heading_with line (behind_space rest)) (rules_of (before_space rest))
+    option_and_then
+    (λ h. if nat_le h.sessions MOST_SESSIONS && nat_le h.names MOST_NAMES && bytes_eq (first_line h.rules h.sessions h.names) line then Some h else None)
+    (heading_by (behind_space line))
 
 -- ---- the lines of a text
 
@@ -195,37 +182,29 @@ pub record Lines : Type 0 where
   pub whole : List (List ℕ)
   pub rest : List ℕ
 
--- a byte in front of the first line, or of the rest if there is no line
-abbrev pub byte_first : ℕ → List (List ℕ) → List ℕ → Lines
-byte_first b [] rest = record { whole = []; rest = b ∷ rest }
-byte_first b (line ∷ lines) rest = record { whole = (b ∷ line) ∷ lines; rest = rest }
-
--- an empty line in front of lines
-abbrev pub line_first : Lines → Lines
-line_first ls = record { whole = [] ∷ ls.whole; rest = ls.rest }
-
 -- the lines of a text
 abbrev pub lines_of : List ℕ → Lines
 lines_of [] = record { whole = []; rest = [] }
-lines_of (b ∷ bs) = elim (b == 10) [ true ↦ line_first (lines_of bs) | false ↦ byte_first b (lines_of bs).whole (lines_of bs).rest ]
+lines_of (b ∷ bs) =
+    let ls = lines_of bs in
+    elim (b == 10) [
+      | true ↦ record { whole = [] ∷ ls.whole; rest = ls.rest }
+      | false ↦ elim ls.whole [ [] ↦ record { whole = []; rest = b ∷ ls.rest } | line ∷ lines ↦ record { whole = (b ∷ line) ∷ lines; rest = ls.rest } ]
+    ]
 
 -- ---- the journal that a text is
 
--- one entry in front of a journal's
-abbrev pub entry_first : Entry → Journal → Journal
-entry_first e j = record j { entries = e ∷ j.entries }
+-- the entries whose lines these are, if each line is that of an entry
+abbrev pub entries_in : List (List ℕ) → Option (List Entry)
+entries_in [] = Some []
+entries_in (line ∷ lines) = option_and_then (λ e. option_map (λ es. e ∷ es) (entries_in lines)) (entry_in line)
 
--- the journal of these rules, this number of sessions and these names whose entries' lines these are, if there is one
-abbrev pub journal_with : Rules → ℕ → List (List ℕ) → List (List ℕ) → Option Journal
-journal_with rules sessions names [] = Some (new_journal rules names sessions)
-journal_with rules sessions names (line ∷ lines) = option_and_then (λ e. option_map (entry_first e) (journal_with rules sessions names lines)) (entry_in line)
-
--- the journal of these rules, sessions and names, after which this number of lines of names stands and then those of entries, if there is
--- one
+-- the journal of these rules, sessions and names and of lines: first those of n more names, then those of entries
 abbrev pub journal_after : Rules → ℕ → List (List ℕ) → ℕ → List (List ℕ) → Option Journal
-journal_after rules sessions names zero lines = journal_with rules sessions names lines
+journal_after rules sessions names zero lines = option_map (λ es. record { rules = rules; sessions = sessions; names = names; entries = es }) (entries_in lines)
 journal_after rules sessions names (suc n) [] = None
-journal_after rules sessions names (suc n) (line ∷ lines) = option_and_then (λ t. if is_new_name names t then journal_after rules sessions (names ++ t ∷ []) n lines else None) (name_in line)
+journal_after rules sessions names (suc n) (line ∷ lines) =
+    option_and_then (λ t. if is_new_name names t then journal_after rules sessions (names ++ t ∷ []) n lines else None) (name_in line)
 
 -- the journal whose lines these are, if there is one
 abbrev pub journal_of : List (List ℕ) → Option Journal

@@ -7,3 +7,4 @@ pub mod Replay
 pub mod Cut
 pub mod Inputs
 pub mod laws
+pub mod code

@@ -1,5 +1,5 @@
 -- Scripts: their accounts, and what is written for their records.
-use Rattle.std.specs.Prelude.{ℕ, nat_le, not, ◌&&◌, Bool, true, if◌then◌else◌, List, [], ◌∷◌, ◌++◌, length, codes, bytes_eq, Option, Some, None}
+use Rattle.std.specs.Prelude.{ℕ, nat_le, not, ◌&&◌, Bool, true, if◌then◌else◌, List, [], ◌∷◌, ◌++◌, length, codes, bytes_eq, fold, unwrap_or, Option, Some, None, option_map}
 use Rattle.std.specs.List.{list_any, list_all}
 use Rattle.kl1_model.specs.declared.rules.Rules.TheVariants.{Three}
 use Rattle.kl1_model.specs.declared.limits.TheConstants.{MOST_ACCOUNTS}
@@ -18,7 +18,10 @@ are_distinct (n ∷ ns) = not (list_any (bytes_eq n) ns) && are_distinct ns
 -- the accounts that the first line names: 1 to 32 distinct names of accounts after the word `accounts`
 abbrev pub accounts_in : List (List ℕ) → Option (List (List ℕ))
 accounts_in [] = None
-accounts_in (w ∷ names) = if bytes_eq w (codes "accounts") && nat_le 1 (length names) && nat_le (length names) MOST_ACCOUNTS && list_all is_account_name names && are_distinct names then Some names else None
+accounts_in (w ∷ names) =
+    if bytes_eq w (codes "accounts") && nat_le 1 (length names) && nat_le (length names) MOST_ACCOUNTS && list_all is_account_name names && are_distinct names
+    then Some names
+    else None
 
 -- whether a name is that of an account
 abbrev pub is_account : List (List ℕ) → List ℕ → Bool
@@ -34,14 +37,9 @@ abbrev pub done_by : Kept → Option Command → Done
 done_by k None = said k (refused syntax)
 done_by k (Some c) = act k c
 
--- an account after these commands, done in order
-abbrev pub after_all : Kept → List (Option Command) → Kept
-after_all k [] = k
-after_all k (c ∷ cs) = after_all (done_by k c).kept cs
-
 -- an account alone: the fresh account, which keeps to the third rules, after its own commands among records
 abbrev pub alone_after : List ℕ → List Record → Kept
-alone_after name records = after_all (fresh_kept Three name) (commands_of name records)
+alone_after name records = fold (λ k c. (done_by k c).kept) (fresh_kept Three name) (commands_of name records)
 
 -- the lines of a reply, each with the account's name before it
 abbrev pub written_reply : List ℕ → List (List ℕ) → List ℕ
@@ -64,11 +62,9 @@ written_from accounts before (r ∷ rs) = written_for accounts before r ++ writt
 abbrev pub written_records : List (List ℕ) → Records → List ℕ
 written_records accounts rs = written_from accounts [] rs.list ++ (if rs.is_truncated then written_line (codes "! truncated") else [])
 
--- what is written for a script with these accounts and records
-abbrev pub written_script : Option (List (List ℕ)) → Records → List ℕ
-written_script None rs = written_line (codes "! accounts")
-written_script (Some accounts) rs = written_records accounts rs
-
 -- the output of a script
 abbrev pub output : List ℕ → List ℕ
-output script = written_script (accounts_in (words_of (line_in script))) (records_of (behind_feed script))
+output script =
+    unwrap_or
+    (option_map (λ accounts. written_records accounts (records_of (behind_feed script))) (accounts_in (words_of (line_in script))))
+    (written_line (codes "! accounts"))

@@ -6,7 +6,8 @@ use Rattle.kl1_model.specs.Module.{Module, Reading, good, bad, read_module}
 use Rattle.kl1_model.specs.State.{State}
 use Rattle.kl1_model.specs.Event.{Refusal, syntax, load, refused, refuse}
 use Rattle.kl1_model.specs.Step.{load_module}
-use Rattle.kl1_model_history.specs.Journal.{Kept, kept_after, done}
+use Rattle.kl1_model_history.specs.Journal.{Kept, done}
+use Rattle.kl1_model_history.proofs.Replays.{kept_after}
 use Rattle.kl1_model_history.specs.Command.{said}
 use Rattle.kl1_run_work.specs.Faults.{fault_by, fault_in, told_of}
 

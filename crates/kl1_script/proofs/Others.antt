@@ -1,6 +1,7 @@
 -- The account that a record names, and the other accounts.
 use Rattle.std.proofs.Common.{◌≡◌, ℕ, zero, suc, ◌<◌, Bool, true, false, not, if◌then◌else◌, List, [], ◌∷◌, ◌++◌, length, get_or, bytes_eq, Option, refl, ap, sym, ◌∙◌, arith}
 use Rattle.std.specs.List.{list_any}
+use Rattle.std.specs.Prelude.{fold}
 use Rattle.std.proofs.lemmas.List.{append-nil}
 use Rattle.std.proofs.lemmas.List.Folds.{list_any_at}
 use Rattle.std.proofs.lemmas.Slice.Eq.{bytes_eq-Decides}
@@ -9,7 +10,11 @@ use Rattle.kl1_model.specs.Record.{Record}
 use Rattle.kl1_model.specs.declared.rules.Rules.TheVariants.{Three}
 use Rattle.kl1_model_history.specs.Journal.{Kept, fresh_kept}
 use Rattle.kl1_model_history.specs.Command.{Command, command_of}
-use Rattle.kl1_model_history.specs.Script.{are_distinct, is_account, commands_of, done_by, after_all, alone_after}
+use Rattle.kl1_model_history.specs.Script.{are_distinct, is_account, commands_of, done_by, alone_after}
+
+-- an account after commands, done in order
+abbrev after_all : Kept → List (Option Command) → Kept
+after_all k cs = fold (λ k c. (done_by k c).kept) k cs
 
 after_more : (k : Kept) (cs : List (Option Command)) (c : Option Command) → after_all k (cs ++ c ∷ []) ≡ (done_by (after_all k cs) c).kept
 after_more k [] c = refl

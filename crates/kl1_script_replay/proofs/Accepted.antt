@@ -8,7 +8,8 @@ use Rattle.kl1_model.specs.laws.TreeLaws.{is_refused}
 use Rattle.kl1_model_history.specs.Command.{reply_lines, written_lines}
 use Rattle.kl1_model_history.specs.Journal.{Entry, event_in}
 use Rattle.kl1_model_history.specs.JournalText.{entry_in}
-use Rattle.kl1_model_history.specs.Replay.{written_step, written_entry, written_entries, written_fault}
+use Rattle.kl1_model_history.specs.Replay.{written_entries, written_fault}
+use Rattle.kl1_model_history.proofs.ReplayReplies.{written_step, written_entry}
 use Rattle.kl1_script_replay.specs.Fronts.{if_accepted, accepted_in, first_entries}
 use Rattle.kl1_script_replay.specs.Steps.{told_of}
 

@@ -5,7 +5,8 @@ use Rattle.std.proofs.Math.Seq.{take-add, take-append_seam, drop-append-add}
 use Rattle.std.proofs.lemmas.Bool.{cases_lt}
 use Rattle.kl1_model.specs.declared.limits.TheConstants.{MOST_COMMAND_BYTES}
 use Rattle.kl1_model.specs.Record.{other_line}
-use Rattle.kl1_model_history.specs.Cut.{has_feed, request_first, only_rest, load_request, cut_of}
+use Rattle.kl1_model_history.specs.Cut.{has_feed, request_first, only_rest, cut_of}
+use Rattle.kl1_model_history.specs.code.Streams.{load_request}
 use Rattle.kl1_command_lines.specs.Places.{IsSplit}
 use Rattle.kl1_model_history.specs.Inputs.{inputs_in, inputs, rest}
 use Rattle.kl1_session.specs.Going.{going, rest_of, IsFew, IsKept, passed_by, most_kept, IsWhole, EndsIn, ending}

@@ -7,7 +7,8 @@ use Rattle.kl1_model.specs.declared.limits.TheConstants.{MOST_COMMAND_BYTES, MOS
 use Rattle.kl1_model.specs.Line.{behind_feed, without_return, line_in}
 use Rattle.kl1_model.specs.Record.{source_bytes_in}
 use Rattle.kl1_command_lines.specs.Places.{IsSplit}
-use Rattle.kl1_model_history.specs.Cut.{has_feed, line_cut, cut_of, pending_source, pending_in}
+use Rattle.kl1_model_history.specs.Cut.{has_feed, cut_of}
+use Rattle.kl1_model_history.specs.code.Streams.{line_cut, pending_source, pending_in}
 use Rattle.kl1_model_history.proofs.Feeds.{feed_front}
 use Rattle.kl1_model_history.proofs.Loads.{source_of_load, load_line, load_behind, load_feed}
 use Rattle.kl1_model_history.proofs.Cuts.{cut_at}

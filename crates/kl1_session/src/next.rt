@@ -2,7 +2,8 @@
 
 ghost use Rattle.std.specs.Prelude.{◌≡◌, ◌≤◌, ◌<◌, length, Some};
 ghost use Rattle.kl1_model.specs.declared.limits.TheConstants.{MOST_SOURCE_BYTES};
-ghost use Rattle.kl1_model_history.specs.Cut.{cut_of, load_cut, load_request};
+ghost use Rattle.kl1_model_history.specs.Cut.{cut_of, load_cut};
+ghost use Rattle.kl1_model_history.specs.code.Streams.{load_request};
 ghost use Rattle.kl1_session.specs.Going.{going, cut_from, IsNext, IsFew};
 ghost use Rattle.kl1_command_lines.specs.Records.{request_of};
 

@@ -6,7 +6,8 @@ use Rattle.std.proofs.lemmas.Bool.{true≢false, le-leb, lt-leb}
 use Rattle.std.proofs.lemmas.List.{length-map}
 use Rattle.kl1_model.specs.declared.limits.TheConstants.{MOST_ACCOUNTS}
 use Rattle.kl1_command_lines.specs.Places.{has_byte, IsSplit}
-use Rattle.kl1_model_history.specs.JournalText.{Lines, byte_first, line_first, lines_of}
+use Rattle.kl1_model_history.specs.JournalText.{Lines, lines_of}
+use Rattle.kl1_model_history.proofs.TextLines.{byte_first, line_first}
 use Rattle.kl1_model_history.specs.Script.{are_distinct}
 use Rattle.kl1_session_keys.specs.Limits.{most_file_bytes, most_key_bytes}
 use Rattle.kl1_session_keys.specs.Files.{Entry, last_line, file_lines, are_fit, accounts_of, is_key_byte, is_key, entry_in, entries_in}

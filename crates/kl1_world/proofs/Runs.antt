@@ -8,7 +8,7 @@ use Rattle.kl1_user_events.specs.declared.event.Event.{Event}
 use Rattle.kl1_user_events.specs.declared.reply.Reply.{Reply}
 use Rattle.kl1_user_events.specs.Views.{event_of, reply_of}
 use Rattle.kl1_journal.specs.Keeping.{Fits}
-use Rattle.kl1_model_history.specs.Alone.{Deed, Told, only, replies_at, with_reply, alone}
+use Rattle.kl1_model_history.specs.Alone.{Deed, Told, only, replies_at, alone}
 use Rattle.kl1_journal.specs.Keeping.{Held, nobody, kept_of}
 use Rattle.kl1_world.specs.Worlds.{account_in, deed_of, deeds_of, IsRun, Answers}
 
@@ -44,6 +44,10 @@ replies_else u (c ∷ ds) (x ∷ rs) d r n e = ap (λ es. if c.account == u then
 -- what came of one event more
 abbrev with_last : Told → model.Event → Told
 with_last x e = record { kept = (done x.kept e).kept; replies = x.replies ++ (done x.kept e).reply ∷ [] }
+
+-- one reply more in front
+abbrev with_reply : model.Reply → Told → Told
+with_reply r x = record { kept = x.kept; replies = r ∷ x.replies }
 
 alone_more : (s : Kept) (es : List model.Event) (e : model.Event) → alone s (es ++ e ∷ []) ≡ with_last (alone s es) e
 alone_more s [] e = refl

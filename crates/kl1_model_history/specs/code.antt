@@ -1,0 +1,2 @@
+-- Words of contracts of code; no promise speaks of them.
+pub mod Streams
