@@ -14,7 +14,7 @@ use Rattle.kl1_model.specs.Record.{Request, load_of, spoiled_load, other_line}
 use Rattle.kl1_model_history.specs.Journal.{Kept, Done, done}
 use Rattle.kl1_model_history.specs.JournalText.{page_of}
 
--- a command: an event; a run of at most n steps; or a page of the journal from one of its lines on, counted from 1, with at most n lines
+-- a command: an event; a run of at most n steps; or the journal's lines from number n on, the first being 1, at most m of them
 pub data Command : Type 0 where
   does : Event → Command
   run : ℕ → Command
@@ -42,7 +42,7 @@ abbrev pub answer_with : ℕ → ℕ → Reading Term → Option Command
 answer_with n report (bad line) = None
 answer_with n report (good t) = if nat_le 1 report then Some (does (answer n report t)) else None
 
--- an answer, by a shoen's number, a report's, from 1, and the goal
+-- an answer, by the number of a shoen, the number of its report, from 1, and the goal
 abbrev pub answer_command : List ℕ → Option Command
 answer_command = by_number (λ n. by_number (λ report rest. answer_with n report (read_goal rest)))
 
@@ -50,11 +50,11 @@ answer_command = by_number (λ n. by_number (λ report rest. answer_with n repor
 abbrev pub reports_command : List ℕ → Option Command
 reports_command = by_two (λ n from. if nat_le 1 from then Some (does (read (reports n from))) else None)
 
--- a page of the journal, by the number of its first line, from 1, and how many lines at most
+-- a page of the journal, by the number of the page's first line, from 1, and how many lines at most, also from 1
 abbrev pub journal_command : List ℕ → Option Command
 journal_command = by_two (λ from count. if nat_le 1 from && nat_le 1 count && nat_le count MOST_LISTED then Some (shows from count) else None)
 
--- an event of a line that says nothing else
+-- an event, if blanks alone are after its word
 abbrev pub alone_command : Event → List ℕ → Option Command
 alone_command e line = if is_blank_line line then Some (does e) else None
 
@@ -80,7 +80,7 @@ command_by w rest =
     else if bytes_eq w (codes "answer") then answer_command rest
     else None
 
--- the command that a line is, if it is one and isn't too long; a `load` line without its source is none
+-- the command that a line without its end is, if it is one and isn't too long; a `load` line without its source is none
 abbrev pub parse : List ℕ → Option Command
 parse line = if nat_le (length line) MOST_COMMAND_BYTES then command_by (word_in line) (behind_word_in line) else None
 

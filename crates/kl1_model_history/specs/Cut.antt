@@ -26,7 +26,7 @@ only_rest bytes = record { requests = []; rest = bytes }
 abbrev pub unfinished_line : List ℕ → List ℕ
 unfinished_line bytes = take (MOST_COMMAND_BYTES + 2) bytes
 
--- the cut after the line of a load of n bytes; if no line feed follows these, the line is kept, as `load N`, and n + 2 bytes after it
+-- the cut after a load's line: the load ends at the first line feed after its n bytes; without one, `load N` and at most n + 2 bytes stay
 abbrev pub load_cut : (List ℕ → Cut) → ℕ → List ℕ → Cut
 load_cut next n bytes =
     let after = drop n bytes in
@@ -35,7 +35,7 @@ load_cut next n bytes =
       | false ↦ only_rest (codes "load " ++ decimal n ++ 10 ∷ take (n + 2) bytes)
     ]
 
--- the cut of a stream, in fewer than n requests; a line that is too long is cut to one byte more than a line may have
+-- the cut of a stream of fewer than n requests; a line that is too long is cut to one byte more than a line may have
 unfoldable pub cut_within : ℕ → List ℕ → Cut
 cut_within zero bytes = only_rest []
 cut_within (suc n) bytes =

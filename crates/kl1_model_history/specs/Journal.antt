@@ -8,7 +8,7 @@ use Rattle.kl1_model.specs.Event.{Event, load, start, control, reduce, read, log
 use Rattle.kl1_model.specs.Step.{step}
 use Rattle.kl1_model.specs.laws.TreeLaws.{is_refused}
 
--- an entry: a loaded source, a start, a message to a shoen, a reduction, or an answer to a report; its numbers are those of the event
+-- an entry: a loaded source, a start, a message to a shoen, a reduction, or an answer to a report; its numbers are those of its event
 pub data Entry : Type 0 where
   loads : List ℕ → Entry
   starts : ℕ → ℕ → ℕ → Term → Entry

@@ -64,7 +64,7 @@ first_line rules sessions names = codes "journal " ++ version rules ++ codes " "
 abbrev pub journal_lines : Journal → List (List ℕ)
 journal_lines j = first_line j.rules j.sessions (length j.names) ∷ map name_line j.names ++ map entry_line j.entries
 
--- at most this number of a journal's lines from one on, the first being 1
+-- the lines of a journal from line `from` on, the first being 1, at most `count` of them
 abbrev pub page_of : Journal → ℕ → ℕ → List (List ℕ)
 page_of j from count = take count (drop (from - 1) (journal_lines j))
 
@@ -126,7 +126,7 @@ entry_in line =
 
 -- ---- the name that a line has, and the first line
 
--- what stands between quotes, as it would be without its doubled quotes, and without the quote at the end
+-- a name, by what is after the first quote of its print: each doubled quote is one, and the last byte is dropped
 abbrev pub unquoted : List ℕ → List ℕ
 unquoted [] = []
 unquoted (b ∷ []) = []
@@ -189,7 +189,10 @@ lines_of (b ∷ bs) =
     let ls = lines_of bs in
     elim (b == 10) [
       | true ↦ record { whole = [] ∷ ls.whole; rest = ls.rest }
-      | false ↦ elim ls.whole [ [] ↦ record { whole = []; rest = b ∷ ls.rest } | line ∷ lines ↦ record { whole = (b ∷ line) ∷ lines; rest = ls.rest } ]
+      | false ↦ elim ls.whole [
+        | [] ↦ record { whole = []; rest = b ∷ ls.rest }
+        | line ∷ lines ↦ record { whole = (b ∷ line) ∷ lines; rest = ls.rest }
+      ]
     ]
 
 -- ---- the journal that a text is
@@ -199,9 +202,10 @@ abbrev pub entries_in : List (List ℕ) → Option (List Entry)
 entries_in [] = Some []
 entries_in (line ∷ lines) = option_and_then (λ e. option_map (λ es. e ∷ es) (entries_in lines)) (entry_in line)
 
--- the journal of these rules, sessions and names and of lines: first those of n more names, then those of entries
+-- the journal of these rules, sessions and names, if its other lines are these: first those of n more names, then those of entries
 abbrev pub journal_after : Rules → ℕ → List (List ℕ) → ℕ → List (List ℕ) → Option Journal
-journal_after rules sessions names zero lines = option_map (λ es. record { rules = rules; sessions = sessions; names = names; entries = es }) (entries_in lines)
+journal_after rules sessions names zero lines =
+    option_map (λ es. record { rules = rules; sessions = sessions; names = names; entries = es }) (entries_in lines)
 journal_after rules sessions names (suc n) [] = None
 journal_after rules sessions names (suc n) (line ∷ lines) =
     option_and_then (λ t. if is_new_name names t then journal_after rules sessions (names ++ t ∷ []) n lines else None) (name_in line)

@@ -8,7 +8,7 @@ use Rattle.kl1_model_history.specs.Command.{reply_lines, written_line, written_l
 use Rattle.kl1_model_history.specs.Journal.{event_in}
 use Rattle.kl1_model_history.specs.JournalText.{entry_in, name_in, is_new_name, heading_in, lines_of}
 
--- what is written for the line of this number, from 1, if it isn't of the form or its entry is refused
+-- what is written for line k, the first being 1, if it is missing, isn't of the form, or its entry is refused
 abbrev pub written_fault : ℕ → List ℕ
 written_fault k = written_line (codes "fault " ++ decimal k)
 
@@ -49,7 +49,8 @@ written_names (suc n) k rules sessions names (line ∷ lines) rest =
 -- what is written for the lines of a text, and the bytes left after them
 abbrev pub written_replay : List (List ℕ) → List ℕ → List ℕ
 written_replay [] rest = written_fault 1
-written_replay (line ∷ lines) rest = unwrap_or (option_map (λ h. written_names h.names 2 h.rules h.sessions [] lines rest) (heading_in line)) (written_fault 1)
+written_replay (line ∷ lines) rest =
+    unwrap_or (option_map (λ h. written_names h.names 2 h.rules h.sessions [] lines rest) (heading_in line)) (written_fault 1)
 
 -- what is written for the text of a journal
 abbrev pub replay_output : List ℕ → List ℕ
