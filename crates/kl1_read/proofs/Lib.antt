@@ -25,3 +25,4 @@ pub mod WholeSteps
 pub mod WordLemmas
 pub mod SeenSpellings
 pub mod TestFronts
+pub mod Fronts

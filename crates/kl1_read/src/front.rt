@@ -7,6 +7,7 @@ ghost use Rattle.kl1_model.specs.Token.{front_of, word_of, behind_word, bounded,
 ghost use Rattle.kl1_model.specs.code.Fronts.{sign_front};
 ghost use Rattle.kl1_model.specs.Token as model;
 ghost use Rattle.kl1_model.specs.laws.ReadLaws.{LeavesLess};
+ghost use Rattle.kl1_model.proofs.LexStarts.{start_of, front_by};
 ghost use Rattle.kl1_read.specs.Views.{front_view};
 
 use crate::bytes::{
@@ -47,37 +48,43 @@ fn begun_front(bytes: &[u8]) -> Front<'_>
 {
     match bytes {
         [] => Front::Finished,
-        [first, rest @ ..] => {
-            if *first == b'\n' {
-                Front::LineEnd(rest)
-            } else if is_blank(*first) {
-                Front::Blank(rest)
-            } else if *first == b'%' {
-                match behind_comment(rest) {
-                    None => Front::Broken,
-                    Some(behind) => Front::Blank(behind),
-                }
-            } else if is_small_letter(*first) {
-                name_front(*first, bytes, rest)
-            } else if is_variable_start(*first) {
-                variable_front(*first, bytes, rest)
-            } else if is_digit(*first) {
-                digits_front(*first, bytes, rest)
-            } else if *first == b'\'' {
-                match quoted(rest) {
-                    None => Front::Broken,
-                    Some((text, behind)) => {
-                        Front::Token(Spelled::Name(text, true, is_open_next(behind)), behind)
-                    }
-                }
-            } else if *first == b'.' {
-                dot_front(rest)
-            } else if *first == b'-' {
-                Front::Token(Spelled::Minus(is_digit_next(rest)), rest)
-            } else {
-                sign_front(bytes)
+        [first, rest @ ..] => first_front(*first, bytes, rest),
+    }
+}
+
+/// What stands in front of a text that begins with `first`.
+fn first_front<'a>(first: u8, bytes: &'a [u8], rest: &'a [u8]) -> Front<'a>
+    requires begins { bytes.now ≡ first ∷ rest.now }
+    ensures { front_view result ≡ front_by (start_of first) first rest.now }
+{
+    if first == b'\n' {
+        Front::LineEnd(rest)
+    } else if is_blank(first) {
+        Front::Blank(rest)
+    } else if first == b'%' {
+        match behind_comment(rest) {
+            None => Front::Broken,
+            Some(behind) => Front::Blank(behind),
+        }
+    } else if is_small_letter(first) {
+        name_front(first, bytes, rest)
+    } else if is_variable_start(first) {
+        variable_front(first, bytes, rest)
+    } else if is_digit(first) {
+        digits_front(first, bytes, rest)
+    } else if first == b'\'' {
+        match quoted(rest) {
+            None => Front::Broken,
+            Some((text, behind)) => {
+                Front::Token(Spelled::Name(text, true, is_open_next(behind)), behind)
             }
         }
+    } else if first == b'.' {
+        dot_front(rest)
+    } else if first == b'-' {
+        Front::Token(Spelled::Minus(is_digit_next(rest)), rest)
+    } else {
+        sign_front(bytes)
     }
 }
 

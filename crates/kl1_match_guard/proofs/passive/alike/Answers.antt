@@ -2,8 +2,22 @@ use Rattle.std.proofs.Common.{[]}
 use Rattle.std.specs.Prelude.{Some}
 use Rattle.std.proofs.lemmas.List.Elements.{All-pop, All-push, All-same}
 use Rattle.kl1_match_guard.specs.Alike.{IsFrameOf}
-use Rattle.kl1_match_guard.proofs.Sides.{gone_on, clashed, ended, work_ended, work_less, refused, accepted, frame_onward, pushed_onward}
+use Rattle.kl1_match_guard.proofs.Sides.{begun, gone_on, clashed, ended, work_ended, work_less, refused, accepted, frame_onward, pushed_onward}
 use Rattle.kl1_match_guard.proofs.passive.alike.Goals as goal
+
+pub loop-frame-init : goal.loop-frame-init
+loop-frame-init g c =
+    let view = c.args.view.now in
+    record {
+      frames = c.in_ok-take_up.ensures.frames;
+      waits = c.in_ok-take_up.ensures.waits;
+      rest = c.in_ok-take_up.ensures.rest;
+      value = λ f reads.
+          begun (g.T.View.number view) (g.T.View.arguments f view) (g.T.View.term f view) (record { left = c.args.left; right = c.args.right }) c.clear.new.self.items c.take_up.new.frames.items c.clear-2.new.self.items c.take_up.new.waits.items c.clear-3.new.self.items c.take_up.new.rest.items
+          c.clear.ensures.items c.clear-2.ensures.items c.clear-3.ensures.items
+          (accepted g.N.NameValue.built (g.T.View.number view) (λ f s. g.T.View.arguments f view s) (λ f x. g.T.View.term f view x) (record { left = c.args.left; right = c.args.right }) c.clear.new.self.items c.clear-2.new.self.items c.clear-3.new.self.items c.take_up.new.frames.items c.take_up.new.waits.items c.take_up.new.rest.items
+          c.in_ok-take_up.field-0 c.if-not-branch.false c.in_ok-take_up.ensures.value f reads);
+    }
 
 pub loop-frame-smaller-then-frame : goal.loop-frame-smaller-then-frame
 loop-frame-smaller-then-frame g c = work_ended (g.T.View.arguments (λ n. []) c.args.view.now) c.loop-frame.frames.items c.pop.new.self.items c.in-Some.frame c.in-Some.ensures.items
