@@ -1,11 +1,11 @@
 -- A goal's move, or a name that is new and comes of it.
-use Rattle.std.proofs.Common.{◌≡◌, ℕ, ◌<◌, ◌-◌, Bool, true, false, if◌then◌else◌, List, [], ◌∷◌, length, refl, sym, ap, ◌∙◌, subst, arith, ℤ}
+use Rattle.std.proofs.Common.{◌≡◌, ℕ, suc, ◌<◌, ◌-◌, Bool, true, false, if◌then◌else◌, List, [], ◌∷◌, length, refl, sym, ap, ◌∙◌, subst, arith, ℤ}
 use Rattle.std.specs.Prelude.{Option, None, Some, option_map, is_some, nat_le, IsTrue, bytes_eq}
 use Rattle.std.proofs.lemmas.Slice.Eq.{bytes_eq-Decides}
 use Rattle.kl1_model.specs.declared.limits.TheConstants.{MOST_NAMES}
 use Rattle.kl1_model.specs.Text.{is_text}
-use Rattle.kl1_model.specs.Term.{Term, Terms, variable, integer, atom, structure, replace}
-use Rattle.kl1_model.specs.Unify.{mgu_within, mgu, goes_on, fails, equations_size}
+use Rattle.kl1_model.specs.Term.{Term, Terms, variable, integer, atom, structure, sizes, replace}
+use Rattle.kl1_model.specs.Unify.{Equation, highest_among, mgu_within, mgu, goes_on, fails, equations_size}
 use Rattle.kl1_model.specs.code.Unifying.{after}
 use Rattle.kl1_model.specs.State.{State, replace_in_state, with_name}
 use Rattle.kl1_model.specs.Tree.{charge}
@@ -59,7 +59,10 @@ integer_unsolved i b = refl
 
 structure_unsolved : (g : List ℕ) (ts : Terms) (b : List ℕ) → mgu (equation (structure g ts) (atom b)) ≡ None
 unfolding mgu_within
-structure_unsolved g ts b = refl
+structure_unsolved g ts b =
+    let es : List Equation = equation (structure g ts) (atom b) in
+    let count : equations_size es ≡ suc (suc (sizes ts)) = omega arith in
+    ap (λ m. mgu_within (suc (suc (highest_among es))) m es) count
 
 atom_unsolved : (a b : List ℕ) → (a ≡ b → ⊥) → mgu (equation (atom a) (atom b)) ≡ None
 unfolding mgu_within
