@@ -372,9 +372,9 @@ clause_found s t shoens n (Substitutes x) e = substitute_found (t x) (goal_look 
 
 -- if goals may step, it is by that clause
 clause_enabled : (s : State) (g : model.Goal) (b : Bool) (o : Option ℕ) → is_enabled s g ≡ b → find (λ c. is_some (task_action s g.shoen g.task c)) (task_clauses s.modules g.task) ≡ o → clause_for s g ≡ (if b then o else None)
-clause_enabled s g true o e found =
-    find_alike (λ c. is_some (action_of s g c)) (λ c. is_some (task_action s g.shoen g.task c)) (λ c. ap (λ b. is_some (if b then task_action s g.shoen g.task c else None)) e) (task_clauses s.modules g.task) ∙ found
-clause_enabled s g false o e found =
+clause_enabled s g true o e is =
+    find_alike (λ c. is_some (action_of s g c)) (λ c. is_some (task_action s g.shoen g.task c)) (λ c. ap (λ b. is_some (if b then task_action s g.shoen g.task c else None)) e) (task_clauses s.modules g.task) ∙ is
+clause_enabled s g false o e is =
     find_none (λ c. is_some (action_of s g c)) (λ c. ap (λ b. is_some (if b then task_action s g.shoen g.task c else None)) e) (task_clauses s.modules g.task)
 
 -- a goal may step just if the definitions let it
@@ -393,8 +393,8 @@ pub one_stands : (f : Reading) (hooks : List Hook) (h : Held CellName) (program 
     IsSettled f hooks h program shoens g → IsEnabled shoens work g → IsStanding s (meaning f h) g
 one_stands f hooks h program shoens work s g e w p m settled enabled =
     let t = meaning f h in
-    let found = clause_found s t shoens g.shoen g.task e ∙ ap (λ r. task_clause r s.modules (control_with t shoens g.shoen) (task_with t g.task)) p ∙ ap (λ ms. task_clause program.rules ms (control_with t shoens g.shoen) (task_with t g.task)) m ∙ sym settled.standing in
-    clause_enabled s (goal_with t g) g.is_enabled g.standing (enabled_read f h shoens work s g e w enabled) found
+    let by = clause_found s t shoens g.shoen g.task e ∙ ap (λ r. task_clause r s.modules (control_with t shoens g.shoen) (task_with t g.task)) p ∙ ap (λ ms. task_clause program.rules ms (control_with t shoens g.shoen) (task_with t g.task)) m ∙ sym settled.standing in
+    clause_enabled s (goal_with t g) g.is_enabled g.standing (enabled_read f h shoens work s g e w enabled) by
 
 -- goals that are settled, and may step as the shoens have it, stand
 pub all_stand : (f : Reading) (hooks : List Hook) (h : Held CellName) (program : Program) (shoens : List (Shoen CellName)) (work : List ℕ) (s : State) (gs : List (Goal CellName)) → s.shoens ≡ map (shoen_with (meaning f h)) shoens → s.work ≡ work → s.rules ≡ program.rules → s.modules ≡ contents program.loaded →
