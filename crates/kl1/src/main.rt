@@ -1,8 +1,7 @@
 //! The program: a script, or the text of a journal, from standard input, and what is written for it to standard output.
 #![tactic(auto)]
 
-use kl1_script::{Counted, ScriptFault, run_script};
-use kl1_script_replay::run_replay;
+use kl1_script::{FailureCounter, ScriptFault, run_replay, run_script};
 use std::env;
 use std::env::Args;
 use std::io::{Error, ErrorKind};
@@ -24,8 +23,8 @@ enum Work {
 }
 
 fn main(rt: HostRuntime) -> ExitCode {
-    let mut source = Counted::new(rt.stdin());
-    let mut sink = Counted::new(rt.stdout());
+    let mut source = FailureCounter::new(rt.stdin());
+    let mut sink = FailureCounter::new(rt.stdout());
     let done = match work_of(&rt) {
         Ok(Work::Script) => run_script(&rt, rt.alloc(), &mut source, &mut sink),
         Ok(Work::Replay) => run_replay(&rt, rt.alloc(), &mut source, &mut sink),

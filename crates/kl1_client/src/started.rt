@@ -5,7 +5,7 @@ use crate::terminal::Terminal;
 use crate::trouble::Trouble;
 use crate::words::Asked;
 use kl1_client_talk::{
-    Caller, Connection, Counted, LineReader, Outcome, Sink, Source, status_of, talk,
+    Caller, Connection, FailureCounter, LineReader, Outcome, Sink, Source, status_of, talk,
 };
 use std::alloc::{AllocError, Global};
 use std::io::IsTerminal;
@@ -26,12 +26,16 @@ pub fn status_by<'a>(rt: &HostRuntime, asked: &Asked<'a>) -> Result<u8, Trouble<
     };
     // Each request is one write, so nothing is gained by waiting for more.
     let _ = stream.set_nodelay(true);
-    let mut connection = Connection::new(rt.alloc(), Counted::new(&stream), Counted::new(&stream));
+    let mut connection = Connection::new(
+        rt.alloc(),
+        FailureCounter::new(&stream),
+        FailureCounter::new(&stream),
+    );
     let talked = if asked.commands.is_empty() {
         let is_watched = rt.stdin().is_terminal() && rt.stdout().is_terminal();
         let mut caller = Terminal {
             rt,
-            lines: LineReader::new(rt.alloc(), Counted::new(rt.stdin())),
+            lines: LineReader::new(rt.alloc(), FailureCounter::new(rt.stdin())),
             prompt: if is_watched { Some(asked.name) } else { None },
         };
         talk_by(rt, &mut connection, &mut caller, asked, key.as_slice())?
@@ -39,7 +43,7 @@ pub fn status_by<'a>(rt: &HostRuntime, asked: &Asked<'a>) -> Result<u8, Trouble<
         let text = joined(rt.alloc(), asked.commands.as_slice())?;
         let mut caller = Terminal {
             rt,
-            lines: LineReader::new(rt.alloc(), Counted::new(text.as_slice())),
+            lines: LineReader::new(rt.alloc(), FailureCounter::new(text.as_slice())),
             prompt: None,
         };
         talk_by(rt, &mut connection, &mut caller, asked, key.as_slice())?
@@ -55,7 +59,7 @@ fn talk_by<'a, S: Source, T: Sink, C: Caller>(
     asked: &Asked<'a>,
     key: &[u8],
 ) -> Result<Outcome, Trouble<'a>> {
-    let mut out = Counted::new(rt.stdout());
+    let mut out = FailureCounter::new(rt.stdout());
     match talk(
         rt.alloc(),
         connection,

@@ -2,9 +2,7 @@
 
 ghost use Rattle.std.specs.Prelude.{◌≡◌};
 
-use kl1_command_lines::{
-    is_blank_line, is_same, number_in, only_number, split_word, without_return,
-};
+use kl1_lines::{is_blank_line, is_same, number_in, only_number, split_word, without_return};
 
 /// Reports of a shoen, or lines of the journal, that are asked for one page after another.
 #[derive(Clone, Copy)]

@@ -8,7 +8,7 @@ use crate::fault::Fault;
 use crate::lines::LineReader;
 use crate::replies::is_refusal;
 use itoa::Buffer;
-use kl1_command_lines::{Sink, Source, finish};
+use kl1_lines::{Sink, Source, finish};
 use std::alloc::{AllocError, Global};
 
 /// The connection to a server.

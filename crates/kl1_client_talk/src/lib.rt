@@ -14,7 +14,7 @@ pub use asked::{Asked, Page, asked_in};
 pub use caller::Caller;
 pub use connection::Connection;
 pub use fault::Fault;
-pub use kl1_command_lines::{Counted, DeviceFailed, Sink, Source};
+pub use kl1_lines::{DeviceFailed, FailureCounter, Sink, Source};
 pub use kl1_model::limits::MOST_SOURCE_BYTES;
 pub use lines::{LineReader, MOST_LINE_BYTES};
 pub use outcome::{ALL_WELL, BAD_WORDS, Outcome, REFUSED, TROUBLE, status_of};

@@ -1,7 +1,7 @@
 // The lines of a stream.
 
 use crate::fault::Fault;
-use kl1_command_lines::{Source, split_feed};
+use kl1_lines::{Source, split_feed};
 use std::alloc::Global;
 
 /// The most bytes of a line, without its end.

@@ -3,7 +3,7 @@
 ghost use Rattle.std.specs.Prelude.{◌≡◌};
 ghost use Rattle.kl1_client_talk.specs.Replies.{count_in, has_ended, is_refusal};
 
-use kl1_command_lines::{is_same, only_number, split_word};
+use kl1_lines::{is_same, only_number, split_word};
 
 /// Whether a reply is a refusal, by its first line.
 pub fn is_refusal(line: &[u8]) -> bool

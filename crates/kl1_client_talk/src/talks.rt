@@ -6,7 +6,7 @@ use crate::connection::Connection;
 use crate::fault::Fault;
 use crate::outcome::Outcome;
 use crate::replies::{count_in, has_ended, is_refusal};
-use kl1_command_lines::{Sink, Source, finish, pass_on, without_return};
+use kl1_lines::{Sink, Source, finish, pass_on, without_return};
 use std::alloc::Global;
 
 /// The reports that one command lists at most.

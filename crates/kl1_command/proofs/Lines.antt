@@ -3,8 +3,8 @@ use Rattle.std.proofs.Common.{◌≡◌, ℕ, List, [], ◌∷◌, ◌++◌, cod
 use Rattle.std.proofs.lemmas.List.{append-nil}
 use Rattle.kl1_model.specs.declared.condition.Condition.{Condition}
 use Rattle.kl1_model.specs.Event.{status_is}
-use Rattle.kl1_model_history.specs.Command.{written_line, written_lines, condition_word, reply_lines}
-use Rattle.kl1_model_history.specs.Script.{written_reply}
+use Rattle.kl1_model_server.specs.Command.{written_line, written_lines, condition_word, reply_lines}
+use Rattle.kl1_model_server.specs.Script.{written_reply}
 use Rattle.kl1_command.specs.Replies.{front_of, written_after}
 
 -- one line: what stands before it, the line and its end

@@ -6,9 +6,9 @@ use Rattle.kl1_model.specs.Event.{reduce}
 use Rattle.kl1_model.specs.Step.{step}
 use Rattle.kl1_model.specs.laws.TreeLaws.{is_refused}
 use Rattle.kl1_model.proofs.TreeSteps.{refusals_change_nothing}
-use Rattle.kl1_model_history.specs.Journal.{Journal, with_event, Kept, done}
+use Rattle.kl1_model_server.specs.Journal.{Journal, with_event, Kept, done}
 use Rattle.kl1_model.specs.Choice.{Chosen, first}
-use Rattle.kl1_model_history.specs.Command.{Going, run_choice, run_on, stopped_by}
+use Rattle.kl1_model_server.specs.Command.{Going, run_choice, run_on, stopped_by}
 use Rattle.kl1_user_events.specs.Views.{refusal_of}
 use Rattle.kl1_command.specs.declared.first_step.FirstStep.{FirstStep}
 use Rattle.kl1_command.specs.declared.first_step.FirstStep.TheVariants as first_step

@@ -1,9 +1,9 @@
 -- How runs go on after their first steps.
 use Rattle.std.proofs.Common.{◌≡◌, ℕ, suc, ◌+◌, ◌-◌, ◌<◌, None, ap, sym, ◌∙◌, arith}
-use Rattle.kl1_model_history.specs.Journal.{Kept}
+use Rattle.kl1_model_server.specs.Journal.{Kept}
 use Rattle.kl1_model.specs.Event.{Refusal, ran}
 use Rattle.kl1_model.specs.Choice.{first}
-use Rattle.kl1_model_history.specs.Command.{Going, stopped_by, run_choice, run_from}
+use Rattle.kl1_model_server.specs.Command.{Going, stopped_by, run_choice, run_from}
 
 -- runs from one account go on at another after `n` steps
 abbrev pub GoesOn : Kept → ℕ → Kept → Type 0

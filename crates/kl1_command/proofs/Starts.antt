@@ -4,7 +4,7 @@ use Rattle.std.proofs.lemmas.Bool.{lt-leb, and_left, and_right}
 use Rattle.kl1_model.specs.declared.limits.TheConstants.{MOST_PRIORITY}
 use Rattle.kl1_model.specs.Term.{Term}
 use Rattle.kl1_model.specs.Module.{Reading, good, bad}
-use Rattle.kl1_model_history.specs.Command.{start_with, answer_with}
+use Rattle.kl1_model_server.specs.Command.{start_with, answer_with}
 
 pub out_of_order : (allowance low high : ℕ) (r : Reading Term) → high < low → None ≡ start_with allowance low high r
 out_of_order allowance low high (good t) h = rw (and_left (nat_le low high) (nat_le high MOST_PRIORITY) (lt-leb low high h)) refl

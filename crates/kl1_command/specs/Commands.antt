@@ -1,6 +1,6 @@
 -- What commands and parsed lines are in the definitions.
 use Rattle.std.specs.Prelude.{Option, Some, None}
-use Rattle.kl1_model_history.specs.Command as model
+use Rattle.kl1_model_server.specs.Command as model
 use Rattle.kl1_user_events.specs.Views.{event_of}
 use Rattle.kl1_command.specs.declared.command.Command.{Command}
 use Rattle.kl1_command.specs.declared.command.Command.TheVariants as command

@@ -1,8 +1,8 @@
 -- What a command, and the first step of a run, did to an account.
 use Rattle.std.specs.Prelude.{◌≡◌, ℕ, suc, ◌<◌, Option, Some, None}
 use Rattle.kl1_model.specs.Event as model
-use Rattle.kl1_model_history.specs.Journal.{Kept}
-use Rattle.kl1_model_history.specs.Command.{Command, does, run, shows, Going, run_choice, stopped_by, run_from, act}
+use Rattle.kl1_model_server.specs.Journal.{Kept}
+use Rattle.kl1_model_server.specs.Command.{Command, does, run, shows, Going, run_choice, stopped_by, run_from, act}
 use Rattle.kl1_model.specs.Choice.{first}
 use Rattle.kl1_user_events.specs.Views.{refusal_of, reply_of}
 use Rattle.kl1_command.specs.declared.performed.Performed.{Performed}

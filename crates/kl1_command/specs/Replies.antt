@@ -1,7 +1,7 @@
 -- How the lines of replies are written.
 use Rattle.std.specs.Prelude.{ℕ, List, [], ◌++◌, codes, Option, Some, None}
-use Rattle.kl1_model_history.specs.Command.{written_lines}
-use Rattle.kl1_model_history.specs.Script.{written_reply}
+use Rattle.kl1_model_server.specs.Command.{written_lines}
+use Rattle.kl1_model_server.specs.Script.{written_reply}
 
 -- the lines of a reply as they are written, each after a word if one is given
 abbrev pub written_after : Option (List ℕ) → List (List ℕ) → List ℕ

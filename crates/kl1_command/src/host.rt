@@ -3,8 +3,8 @@
 ghost use Rattle.std.specs.Prelude.{◌≡◌, IfOk, OnErr, option_map};
 ghost use Rattle.kl1_model.specs.Choice.{first};
 ghost use Rattle.kl1_model.specs.Event.{reduce as reduce_event};
-ghost use Rattle.kl1_model_history.specs.Journal.{Kept, done};
-ghost use Rattle.kl1_model_history.specs.JournalText.{page_of};
+ghost use Rattle.kl1_model_server.specs.Journal.{Kept, done};
+ghost use Rattle.kl1_model_server.specs.JournalText.{page_of};
 ghost use Rattle.kl1_user_events.specs.Views.{event_of, reply_of, reduced_or, chosen_of};
 ghost use Rattle.kl1_user_events.specs.Whole.{whole_value};
 

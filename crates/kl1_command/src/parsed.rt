@@ -6,15 +6,13 @@ ghost use Rattle.kl1_model.specs.declared.message.Message.TheVariants.{Allow};
 ghost use Rattle.kl1_model.specs.Line.{only_number, up_to};
 ghost use Rattle.kl1_model.specs.Event.{value, status, control, reduce, read};
 ghost use Rattle.kl1_model.specs.Module.{read_goal};
-ghost use Rattle.kl1_model_history.specs.Command.{parse, command_of, does, run, by_two, start_command, start_with, answer_command, answer_with, reports_command, journal_command, alone_command};
-ghost use Rattle.kl1_command_lines.specs.Records.{request_of};
+ghost use Rattle.kl1_model_server.specs.Command.{parse, command_of, does, run, by_two, start_command, start_with, answer_command, answer_with, reports_command, journal_command, alone_command};
+ghost use Rattle.kl1_lines.specs.Records.{request_of};
 ghost use Rattle.kl1_user_events.specs.Views.{event_of};
 ghost use Rattle.kl1_command.specs.Commands.{parsed_view};
 
 use crate::command::Command;
-use kl1_command_lines::{
-    Request, is_blank_line, is_same, number_in, only_number, split_word, up_to,
-};
+use kl1_lines::{Request, is_blank_line, is_same, number_in, only_number, split_word, up_to};
 use kl1_model::Message;
 use kl1_model::limits::{MOST_COMMAND_BYTES, MOST_LISTED, MOST_PRIORITY, MOST_STEPS};
 use kl1_read::{ReadFault, read_goal};

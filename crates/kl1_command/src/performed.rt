@@ -1,8 +1,8 @@
 // What a command does to an account.
 
 ghost use Rattle.std.specs.Prelude.{◌≡◌};
-ghost use Rattle.kl1_model_history.specs.Command as model;
-ghost use Rattle.kl1_model_history.specs.Journal.{Kept};
+ghost use Rattle.kl1_model_server.specs.Command as model;
+ghost use Rattle.kl1_model_server.specs.Journal.{Kept};
 ghost use Rattle.kl1_user_events.specs.Views.{refusal_of, reply_of};
 ghost use Rattle.kl1_command.specs.Commands.{command_view};
 ghost use Rattle.kl1_command.specs.Performing.{IsUntouched, Performs};

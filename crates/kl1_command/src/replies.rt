@@ -1,9 +1,9 @@
 // The lines of replies.
 
 ghost use Rattle.std.specs.Prelude.{◌≡◌, ◌++◌, ◌∷◌, [], codes, decimal, length, map, take, option_map, OnOk, OnErr};
-ghost use Rattle.kl1_model_history.specs.Command.{reply_lines, written_lines, condition_word};
+ghost use Rattle.kl1_model_server.specs.Command.{reply_lines, written_lines, condition_word};
 ghost use Rattle.kl1_model.specs.Event.{refused, status_is, listed};
-ghost use Rattle.kl1_model_history.specs.Script.{written_reply};
+ghost use Rattle.kl1_model_server.specs.Script.{written_reply};
 ghost use Rattle.kl1_user_events.specs.Views.{refusal_of, reply_of};
 ghost use Rattle.kl1_command.specs.Replies.{front_of, written_after};
 

@@ -9,7 +9,7 @@ use Rattle.kl1_model.specs.Event.{Transition, refuse, sessions_refused}
 use Rattle.kl1_model.specs.Step.{step}
 use Rattle.kl1_model.specs.code.Steps.{log_in, log_out}
 use Rattle.kl1_model.specs.laws.TreeLaws.{is_refused}
-use Rattle.kl1_model_history.specs.Journal.{Journal, new_journal, with_event, noted}
+use Rattle.kl1_model_server.specs.Journal.{Journal, new_journal, with_event, noted}
 use Rattle.kl1_journal_entries.specs.Lined.{entry_of, with_prepared}
 use Rattle.kl1_journal_entries.proofs.Accepted.{accepted_entries}
 use Rattle.kl1_journal.specs.declared.change.Change.{Change}

@@ -7,12 +7,12 @@ use Rattle.kl1_model.specs.Event as model
 use Rattle.kl1_model.specs.Event.{Transition}
 use Rattle.kl1_model.specs.Step.{step}
 use Rattle.kl1_model.specs.laws.TreeLaws.{is_refused}
-use Rattle.kl1_model_history.specs.Journal.{Journal, steps, noted, Done, fresh_kept, done}
-use Rattle.kl1_model_history.specs.laws.HistoryLaws.{IsReplay}
-use Rattle.kl1_model_history.specs.laws.TextLaws as texts
-use Rattle.kl1_model_history.proofs.Replays.{fresh_is_replay, replays_stay}
-use Rattle.kl1_model_history.proofs.NewNames.{no_names}
-use Rattle.kl1_model_history.proofs.WrittenStays.{step_named}
+use Rattle.kl1_model_server.specs.Journal.{Journal, steps, noted, Done, fresh_kept, done}
+use Rattle.kl1_model_server.specs.laws.HistoryLaws.{IsReplay}
+use Rattle.kl1_model_server.specs.laws.TextLaws as texts
+use Rattle.kl1_model_server.proofs.Replays.{fresh_is_replay, replays_stay}
+use Rattle.kl1_model_server.proofs.NewNames.{no_names}
+use Rattle.kl1_model_server.proofs.WrittenStays.{step_named}
 use Rattle.kl1_atoms.specs.declared.known.Known.{Known}
 use Rattle.std.proofs.lemmas.Option.{none-some}
 use Rattle.kl1_atoms.specs.Names.{AreNames}

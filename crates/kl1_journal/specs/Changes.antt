@@ -2,7 +2,7 @@
 use Rattle.std.specs.Prelude.{⊤, ◌≡◌, ℕ, suc, ◌-◌, ◌<◌, ◌⊎◌, List, IfSome}
 use Rattle.kl1_model.specs.declared.limits.TheConstants.{MOST_SESSIONS}
 use Rattle.kl1_model.specs.Event as model
-use Rattle.kl1_model_history.specs.Journal.{Journal, new_journal}
+use Rattle.kl1_model_server.specs.Journal.{Journal, new_journal}
 use Rattle.kl1_journal_entries.specs.Lined.{Rows, lined_entry, with_prepared}
 use Rattle.kl1_journal.specs.declared.change.Change.{Change}
 use Rattle.kl1_journal.specs.declared.change.Change.TheVariants as change

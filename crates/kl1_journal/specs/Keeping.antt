@@ -1,9 +1,9 @@
 -- An account with its journal, of which it is the replay.
 use Rattle.std.specs.Prelude.{[]}
 use Rattle.kl1_model.specs.declared.rules.Rules.TheVariants.{One}
-use Rattle.kl1_model_history.specs.Journal.{Journal, new_journal, Kept}
-use Rattle.kl1_model_history.specs.laws.HistoryLaws.{IsReplay}
-use Rattle.kl1_model_history.specs.laws.TextLaws.{AreNames}
+use Rattle.kl1_model_server.specs.Journal.{Journal, new_journal, Kept}
+use Rattle.kl1_model_server.specs.laws.HistoryLaws.{IsReplay}
+use Rattle.kl1_model_server.specs.laws.TextLaws.{AreNames}
 use Rattle.kl1_store.specs.Held.{nothing_held}
 pub use Rattle.kl1_user.specs.Accounts.{Reading, Fits}
 use Rattle.kl1_user.specs.Accounts.{Account, state_of, texts_of}

@@ -3,12 +3,12 @@
 ghost use Rattle.std.specs.Prelude.{◌≡◌, ◌<◌, ℕ, List, is_some, if◌then◌else◌, IfOk, IsOk, IsTrue};
 ghost use Rattle.kl1_model.specs.laws.TreeLaws.{is_refused};
 ghost use Rattle.kl1_user_events.specs.Views.{event_of, is_logout, reply_of};
-ghost use Rattle.kl1_model_history.specs.laws.TextLaws.{AreNames};
-ghost use Rattle.kl1_model_history.specs.Journal.{new_journal, steps};
+ghost use Rattle.kl1_model_server.specs.laws.TextLaws.{AreNames};
+ghost use Rattle.kl1_model_server.specs.Journal.{new_journal, steps};
 ghost use Rattle.kl1_journal_entries.specs.Lined.{if_lined, with_prepared};
 ghost use Rattle.kl1_journal.specs.Changes.{IsChange, HasRoom, SessionsFit, ReplyFits, IsEntered, changed, sessions_after};
 
-use kl1_journal_entries::{Journal, Prepared, entry_for, step_for};
+use kl1_journal_entries::{Journal, PendingEntry, entry_for, step_for};
 use kl1_text::AtomText;
 use kl1_user_events::{ClauseNo, Event, GoalNo, Refusal, Reply};
 use std::alloc::{AllocError, Global};
@@ -17,7 +17,7 @@ use std::alloc::{AllocError, Global};
 #[derive(Drop)]
 pub(crate) enum Change {
     /// This entry comes after the others, if there is one.
-    Entry(Prepared),
+    Entry(PendingEntry),
     /// The number of open sessions is what the reply tells.
     Sessions,
     /// The journal begins anew as this one.

@@ -2,8 +2,8 @@
 #![tactic(auto)]
 
 mod change;
-mod kept;
+mod journaled_account;
 
-pub use kept::Kept;
+pub use journaled_account::{JournaledAccount, Kept};
 pub use kl1_journal_entries::Journal;
 pub use kl1_user::{AccountName, Rules};

@@ -15,7 +15,7 @@ use Rattle.kl1_model.specs.Sending.{may_send, send_to}
 use Rattle.kl1_model.specs.Answering.{answer_line, may_answer, answer_to}
 use Rattle.kl1_model.specs.Step.{load_module, step}
 use Rattle.kl1_model.specs.laws.TreeLaws.{is_refused}
-use Rattle.kl1_model_history.specs.Journal.{Entry, loads, starts, sends, steps, answers, Journal, with_event}
+use Rattle.kl1_model_server.specs.Journal.{Entry, loads, starts, sends, steps, answers, Journal, with_event}
 use Rattle.kl1_journal_entries.specs.Lined.{is_lined, entry_of, lined_entry, with_prepared}
 use Rattle.kl1_journal_entries.proofs.Sound.{if_true}
 

@@ -1,8 +1,8 @@
 -- The first line of a text.
 use Rattle.std.proofs.Common.{◌≡◌, ℕ, suc, ◌<◌, ◌≤◌, ◌+◌, ◌==◌, Bool, true, false, List, [], ◌∷◌, length, take, drop, refl, sym, ap, ◌∙◌, arith}
-use Rattle.kl1_command_lines.specs.Places.{place_of}
-use Rattle.kl1_model_history.specs.JournalText.{Lines, lines_of}
-use Rattle.kl1_model_history.proofs.TextLines.{byte_first, line_first}
+use Rattle.kl1_lines.specs.Places.{place_of}
+use Rattle.kl1_model_server.specs.JournalText.{Lines, lines_of}
+use Rattle.kl1_model_server.proofs.TextLines.{byte_first, line_first}
 use Rattle.kl1_journal_entries.specs.Reading.{with_line}
 
 -- the lines of a text by its first byte

@@ -18,10 +18,10 @@ use Rattle.kl1_model.specs.Module.{read_goal}
 use Rattle.kl1_model.specs.Opening.{start_line}
 use Rattle.kl1_model.specs.Sending.{may_send}
 use Rattle.kl1_model.specs.Answering.{answer_line}
-use Rattle.kl1_model_history.specs.Journal.{Entry, loads, starts, sends, steps, answers, event_in}
-use Rattle.kl1_model_history.specs.JournalText.{is_hex_digit, hex_bytes, load_in, of_two, if_read, start_in, answer_in, entry_by, entry_line, entry_in}
-use Rattle.kl1_model_history.proofs.ReadStrict.{goals_read_are_printable}
-use Rattle.kl1_model_history.proofs.TextEntries.{length_hex, is_read, if_line}
+use Rattle.kl1_model_server.specs.Journal.{Entry, loads, starts, sends, steps, answers, event_in}
+use Rattle.kl1_model_server.specs.JournalText.{is_hex_digit, hex_bytes, load_in, of_two, if_read, start_in, answer_in, entry_by, entry_line, entry_in}
+use Rattle.kl1_model_server.proofs.ReadStrict.{goals_read_are_printable}
+use Rattle.kl1_model_server.proofs.TextEntries.{length_hex, is_read, if_line}
 use Rattle.kl1_journal_entries.specs.Lined.{is_lined, if_lined, lined_entry}
 use Rattle.kl1_journal_entries.specs.Reading.{is_line_of}
 use Rattle.kl1_journal_entries.proofs.Sound.{if_true}

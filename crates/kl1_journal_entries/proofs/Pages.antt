@@ -3,8 +3,8 @@ use Rattle.std.proofs.Common.{◌≡◌, ℕ, zero, suc, ◌<◌, ◌≤◌, ◌
 use Rattle.std.specs.Prelude.{slice_get, Some, None, option_map}
 use Rattle.std.proofs.lemmas.List.{length-map, length-drop, length-append}
 use Rattle.std.proofs.lemmas.Bool.{cases_lt}
-use Rattle.kl1_model_history.specs.Journal.{Entry, Journal}
-use Rattle.kl1_model_history.specs.JournalText.{name_line, entry_line, journal_lines, page_of}
+use Rattle.kl1_model_server.specs.Journal.{Entry, Journal}
+use Rattle.kl1_model_server.specs.JournalText.{name_line, entry_line, journal_lines, page_of}
 
 get_map : {X Y : Type 0} (f : X → Y) (xs : List X) (k : ℕ) (x : X) → slice_get xs k ≡ Some x → slice_get (map f xs) k ≡ Some (f x)
 get_map f [] k x h = cc

@@ -15,19 +15,19 @@ use Rattle.kl1_model.specs.Event.{is_number}
 use Rattle.kl1_model.specs.Module.{read_goal}
 use Rattle.kl1_model.specs.Opening.{start_line}
 use Rattle.kl1_model.specs.Answering.{answer_line}
-use Rattle.kl1_model_history.specs.Journal.{Entry, loads, starts, answers}
-use Rattle.kl1_model_history.specs.laws.TextLaws.{AreBytes, HasLine}
-use Rattle.kl1_model_history.proofs.ReadBack.{printed_goals_read_back}
-use Rattle.kl1_model_history.proofs.TextEntries.{starts_here, answers_here, length_hex}
+use Rattle.kl1_model_server.specs.Journal.{Entry, loads, starts, answers}
+use Rattle.kl1_model_server.specs.laws.TextLaws.{AreBytes, HasLine}
+use Rattle.kl1_model_server.proofs.ReadBack.{printed_goals_read_back}
+use Rattle.kl1_model_server.proofs.TextEntries.{starts_here, answers_here, length_hex}
 use Rattle.kl1_journal_entries.specs.Lined.{is_lined, if_lined}
 use Rattle.kl1_journal_entries.specs.Slots.{goal_or, goal_in, kept_at, entry_at, IsPlace, IsSound}
-use Rattle.kl1_journal_entries.specs.declared.slot.Slot.{Slot}
-use Rattle.kl1_journal_entries.specs.declared.slot.Slot.TheVariants as slot
-use Rattle.kl1_journal_entries.specs.declared.whole.Whole.{Whole}
-use Rattle.kl1_journal_entries.specs.declared.whole.Whole.TheVariants as whole
+use Rattle.kl1_journal_entries.specs.declared.packed_entry.PackedEntry.{PackedEntry}
+use Rattle.kl1_journal_entries.specs.declared.packed_entry.PackedEntry.TheVariants as slot
+use Rattle.kl1_journal_entries.specs.declared.long_entry.LongEntry.{LongEntry}
+use Rattle.kl1_journal_entries.specs.declared.long_entry.LongEntry.TheVariants as whole
 
 -- what is kept whole at a place has a line
-kept_line : (ws : List Whole) (k : ℕ) → k < length ws → AllByRecursion IsSound ws → HasLine (kept_at (slice_get ws k))
+kept_line : (ws : List LongEntry) (k : ℕ) → k < length ws → AllByRecursion IsSound ws → HasLine (kept_at (slice_get ws k))
 kept_line [] k less sound = absurd (omega (arith, less))
 kept_line (w ∷ ws) zero less sound = sound.0.line
 kept_line (w ∷ ws) (suc k) less sound = kept_line ws k (omega (arith, less)) sound.1
@@ -37,7 +37,7 @@ small_number : (n : ℕ) → n < 2 ^ 32 → is_number n && true ≡ true
 small_number n small = and_from (is_number n) true (lt-ltb n NUMBER_LIMIT (omega (arith, small))) refl
 
 -- what stands at a place has a line
-slot_line : (ws : List Whole) (s : Slot) → IsPlace (length ws) s → AllByRecursion IsSound ws → HasLine (entry_at ws s)
+slot_line : (ws : List LongEntry) (s : PackedEntry) → IsPlace (length ws) s → AllByRecursion IsSound ws → HasLine (entry_at ws s)
 slot_line ws (slot.Step g c) here sound = (omega (arith, here), omega (arith, here))
 slot_line ws (slot.Stop n) here sound = small_number n here
 slot_line ws (slot.Resume n) here sound = small_number n here
@@ -45,7 +45,7 @@ slot_line ws (slot.Abort n) here sound = small_number n here
 slot_line ws (slot.Kept k) here sound = kept_line ws k here sound
 
 -- each entry of a journal has a line
-pub row_lines : (ws : List Whole) (ss : List Slot) → AllByRecursion (IsPlace (length ws)) ss → AllByRecursion IsSound ws → AllByRecursion HasLine (map (entry_at ws) ss)
+pub row_lines : (ws : List LongEntry) (ss : List PackedEntry) → AllByRecursion (IsPlace (length ws)) ss → AllByRecursion IsSound ws → AllByRecursion HasLine (map (entry_at ws) ss)
 row_lines ws [] here sound = tt
 row_lines ws (s ∷ ss) here sound = (slot_line ws s here.0 sound, row_lines ws ss here.1 sound)
 

@@ -6,10 +6,10 @@ use Rattle.std.proofs.lemmas.Bool.{and_from, and_parts}
 use Rattle.std.proofs.lemmas.Option.{same_Some}
 use Rattle.kl1_model.specs.declared.rules.Rules.{Rules}
 use Rattle.kl1_model.specs.Text.{is_text}
-use Rattle.kl1_model_history.specs.Journal.{Entry, Journal, new_journal, with_entry}
-use Rattle.kl1_model_history.specs.JournalText.{Lines, lines_of, entry_in, name_in, is_new_name, entries_in, journal_after}
-use Rattle.kl1_model_history.specs.laws.TextLaws.{are_new_names}
-use Rattle.kl1_model_history.proofs.TextNames.{strict_lines_are_names}
+use Rattle.kl1_model_server.specs.Journal.{Entry, Journal, new_journal, with_entry}
+use Rattle.kl1_model_server.specs.JournalText.{Lines, lines_of, entry_in, name_in, is_new_name, entries_in, journal_after}
+use Rattle.kl1_model_server.specs.laws.TextLaws.{are_new_names}
+use Rattle.kl1_model_server.proofs.TextNames.{strict_lines_are_names}
 use Rattle.kl1_journal_entries.specs.Lined.{with_prepared}
 use Rattle.kl1_journal_entries.specs.Reading.{with_line, read_on, read_text, read_after}
 

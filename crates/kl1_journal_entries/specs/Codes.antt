@@ -8,7 +8,7 @@ use Rattle.kl1_model.specs.declared.rules.Rules.{Rules}
 use Rattle.kl1_model.specs.declared.rules.Rules.TheVariants.{One, Two, Three}
 use Rattle.kl1_model.specs.Term.{Term}
 use Rattle.kl1_model.specs.code.TermCode.{term_code}
-use Rattle.kl1_model_history.specs.Journal.{Entry, loads, starts, sends, steps, answers, Journal}
+use Rattle.kl1_model_server.specs.Journal.{Entry, loads, starts, sends, steps, answers, Journal}
 use Rattle.kl1_journal_entries.specs.Lined.{Rows}
 
 -- a message as the number of `allow`, or a number for each other

@@ -1,7 +1,7 @@
 -- What was read so far of the text of a journal.
 use Rattle.std.specs.Prelude.{Option}
 use Rattle.kl1_model.specs.Event as model
-use Rattle.kl1_model_history.specs.Journal.{Entry, Journal}
+use Rattle.kl1_model_server.specs.Journal.{Entry, Journal}
 use Rattle.kl1_user_events.specs.Views.{event_of}
 use Rattle.kl1_journal_entries.specs.declared.reader.Found.{Found}
 use Rattle.kl1_journal_entries.specs.declared.reader.Begun.{Begun}

@@ -7,7 +7,7 @@ use Rattle.kl1_model.specs.declared.limits.TheConstants.{MOST_LINE_BYTES}
 use Rattle.kl1_model.specs.Opening.{start_line}
 use Rattle.kl1_model.specs.Sending.{may_send}
 use Rattle.kl1_model.specs.Answering.{answer_line}
-use Rattle.kl1_model_history.specs.Journal.{Entry, loads, starts, sends, steps, answers, Journal, with_entry}
+use Rattle.kl1_model_server.specs.Journal.{Entry, loads, starts, sends, steps, answers, Journal, with_entry}
 
 -- whether an entry has numbers below 2 ^ 63, a goal that can be written and read back, and a line that isn't too long
 abbrev pub is_lined : Entry → Bool

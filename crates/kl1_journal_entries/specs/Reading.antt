@@ -3,9 +3,9 @@ use Rattle.std.specs.Prelude.{ℕ, ◌∷◌, [], List, Bool, false, if◌then�
 use Rattle.kl1_model.specs.declared.message.Message.TheVariants.{Stop, Start, Abort, Allow}
 use Rattle.kl1_model.specs.declared.rules.Rules.{Rules}
 use Rattle.kl1_model.specs.Line.{before_space, behind_space, number_in}
-use Rattle.kl1_model_history.specs.Journal.{Entry, sends, Journal, with_entry}
-use Rattle.kl1_model_history.specs.JournalText as model
-use Rattle.kl1_model_history.specs.JournalText.{Lines, of_two, entry_line, entry_in, lines_of, journal_after}
+use Rattle.kl1_model_server.specs.Journal.{Entry, sends, Journal, with_entry}
+use Rattle.kl1_model_server.specs.JournalText as model
+use Rattle.kl1_model_server.specs.JournalText.{Lines, of_two, entry_line, entry_in, lines_of, journal_after}
 use Rattle.kl1_journal_entries.specs.declared.heading.Heading.{Heading}
 
 -- lines with one more in front

@@ -1,7 +1,7 @@
 -- What an entry that is lent means.
 use Rattle.std.specs.Prelude.{◌≡◌}
 use Rattle.kl1_model.specs.Print.{print}
-use Rattle.kl1_model_history.specs.Journal as model
+use Rattle.kl1_model_server.specs.Journal as model
 use Rattle.kl1_journal_entries.specs.declared.entry.Entry.{Entry}
 use Rattle.kl1_journal_entries.specs.declared.entry.Entry.TheVariants as entry
 use Rattle.kl1_journal_entries.specs.Slots.{goal_in}

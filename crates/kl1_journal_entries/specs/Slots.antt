@@ -6,14 +6,14 @@ use Rattle.kl1_model.specs.declared.message.Message.TheVariants.{Stop, Start, Ab
 use Rattle.kl1_model.specs.Term.{Term, atom}
 use Rattle.kl1_model.specs.Print.{print}
 use Rattle.kl1_model.specs.Module.{Reading, good, bad, read_goal}
-use Rattle.kl1_model_history.specs.Journal.{Entry, loads, starts, sends, steps, answers}
-use Rattle.kl1_model_history.specs.laws.TextLaws.{HasLine, AreNames}
-use Rattle.kl1_journal_entries.specs.declared.slot.Slot.{Slot}
-use Rattle.kl1_journal_entries.specs.declared.slot.Slot.TheVariants as slot
-use Rattle.kl1_journal_entries.specs.declared.whole.Whole.{Whole}
-use Rattle.kl1_journal_entries.specs.declared.whole.Whole.TheVariants as whole
-use Rattle.kl1_journal_entries.specs.declared.prepared.Form.{Form}
-use Rattle.kl1_journal_entries.specs.declared.prepared.Form.TheVariants as form
+use Rattle.kl1_model_server.specs.Journal.{Entry, loads, starts, sends, steps, answers}
+use Rattle.kl1_model_server.specs.laws.TextLaws.{HasLine, AreNames}
+use Rattle.kl1_journal_entries.specs.declared.packed_entry.PackedEntry.{PackedEntry}
+use Rattle.kl1_journal_entries.specs.declared.packed_entry.PackedEntry.TheVariants as slot
+use Rattle.kl1_journal_entries.specs.declared.long_entry.LongEntry.{LongEntry}
+use Rattle.kl1_journal_entries.specs.declared.long_entry.LongEntry.TheVariants as whole
+use Rattle.kl1_journal_entries.specs.declared.pending_entry.EntryForm.{EntryForm}
+use Rattle.kl1_journal_entries.specs.declared.pending_entry.EntryForm.TheVariants as form
 
 -- the goal that was read, or some atom
 abbrev pub goal_or : Reading Term → Term
@@ -25,7 +25,7 @@ unfoldable pub goal_in : List ℕ → Term
 goal_in text = goal_or (read_goal text)
 
 -- an entry that is kept whole
-abbrev pub entry_of_whole : Whole → Entry
+abbrev pub entry_of_whole : LongEntry → Entry
 entry_of_whole (whole.Load source) = loads source.items
 entry_of_whole (whole.Start allowance low high goal) = starts allowance low high (goal_in goal.items)
 entry_of_whole (whole.Control n m) = sends n m
@@ -33,12 +33,12 @@ entry_of_whole (whole.Step goal clause) = steps goal clause
 entry_of_whole (whole.Answer n report goal) = answers n report (goal_in goal.items)
 
 -- the entry that is kept at a place
-abbrev pub kept_at : Option Whole → Entry
+abbrev pub kept_at : Option LongEntry → Entry
 kept_at None = steps 0 0
 kept_at (Some w) = entry_of_whole w
 
 -- the entry of a place in the row
-abbrev pub entry_at : List Whole → Slot → Entry
+abbrev pub entry_at : List LongEntry → PackedEntry → Entry
 entry_at wholes (slot.Step goal clause) = steps goal clause
 entry_at wholes (slot.Stop n) = sends n Stop
 entry_at wholes (slot.Resume n) = sends n Start
@@ -46,7 +46,7 @@ entry_at wholes (slot.Abort n) = sends n Abort
 entry_at wholes (slot.Kept n) = kept_at (slice_get wholes n)
 
 -- a place in the row has numbers of 32 bits, or is the number of one of n entries that are kept whole
-abbrev pub IsPlace : ℕ → Slot → Type 0
+abbrev pub IsPlace : ℕ → PackedEntry → Type 0
 IsPlace n (slot.Step goal clause) = (goal < 2 ^ 32) × (clause < 2 ^ 32)
 IsPlace n (slot.Stop k) = k < 2 ^ 32
 IsPlace n (slot.Resume k) = k < 2 ^ 32
@@ -54,7 +54,7 @@ IsPlace n (slot.Abort k) = k < 2 ^ 32
 IsPlace n (slot.Kept k) = k < n
 
 -- the text that is kept of a start and an answer is the print of their goal
-abbrev pub IsPrinted : Whole → Type 0
+abbrev pub IsPrinted : LongEntry → Type 0
 IsPrinted (whole.Load source) = Unit {0}
 IsPrinted (whole.Start allowance low high goal) = print (goal_in goal.items) ≡ goal.items
 IsPrinted (whole.Control n m) = Unit {0}
@@ -62,24 +62,24 @@ IsPrinted (whole.Step goal clause) = Unit {0}
 IsPrinted (whole.Answer n report goal) = print (goal_in goal.items) ≡ goal.items
 
 -- what is kept whole has a line, and of a goal it has the print
-pub record IsSound (w : Whole) : Type 0 where
+pub record IsSound (w : LongEntry) : Type 0 where
   pub line : HasLine (entry_of_whole w)
   pub printed : IsPrinted w
 
 -- what is prepared
-abbrev pub entry_in : Form → Option Entry
+abbrev pub entry_in : EntryForm → Option Entry
 entry_in form.Nothing = None
 entry_in (form.Short s) = Some (entry_at [] s)
 entry_in (form.Long w) = Some (entry_of_whole w)
 
 -- what is prepared has a line
-abbrev pub IsSoundForm : Form → Type 0
+abbrev pub IsSoundForm : EntryForm → Type 0
 IsSoundForm form.Nothing = Unit {0}
 IsSoundForm (form.Short s) = IsPlace 0 s
 IsSoundForm (form.Long w) = IsSound w
 
 -- what holds of the parts of each journal
-pub record IsHeld (sessions : ℕ) (names : List (List ℕ)) (slots : List Slot) (wholes : List Whole) : Type 0 where
+pub record IsHeld (sessions : ℕ) (names : List (List ℕ)) (slots : List PackedEntry) (wholes : List LongEntry) : Type 0 where
   pub few_sessions : sessions ≤ MOST_SESSIONS
   pub are_names : AreNames names
   pub places : AllByRecursion (IsPlace (length wholes)) slots

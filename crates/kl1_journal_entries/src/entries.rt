@@ -5,22 +5,22 @@ ghost use Rattle.kl1_journal_entries.specs.Shown.{entry_shown, HasPrint};
 
 use crate::entry::{Entry, shown_at};
 use crate::journal::Journal;
-use crate::slot::Slot;
-use crate::whole::Whole;
+use crate::long_entry::LongEntry;
+use crate::packed_entry::PackedEntry;
 use std::marker::Model;
 
 /// The entries of a journal that are still to come.
 #[derive(Drop)]
 pub struct Entries<'a> {
-    slots: &'a [Slot],
-    wholes: &'a [Whole],
+    slots: &'a [PackedEntry],
+    wholes: &'a [LongEntry],
 }
 
 impl<'a> Model for Entries<'a> {
     ghost use Rattle.std.specs.Prelude.{List, map, length};
     ghost use Rattle.std.specs.Coded.{coded_list};
     ghost use Rattle.std.specs.List.{AllByRecursion};
-    ghost use Rattle.kl1_model_history.specs.Journal.{Entry};
+    ghost use Rattle.kl1_model_server.specs.Journal.{Entry};
     ghost use Rattle.kl1_journal_entries.specs.Codes.{entry_code};
     ghost use Rattle.kl1_journal_entries.specs.Slots.{entry_at, IsPlace, IsSound};
 

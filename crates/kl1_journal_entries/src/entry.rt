@@ -2,12 +2,12 @@
 
 ghost use Rattle.std.specs.Prelude.{◌≡◌, ◌<◌, length};
 ghost use Rattle.std.specs.List.{AllByRecursion};
-ghost use Rattle.kl1_model_history.specs.Journal.{sends};
+ghost use Rattle.kl1_model_server.specs.Journal.{sends};
 ghost use Rattle.kl1_journal_entries.specs.Slots.{entry_of_whole, entry_at, IsPlace, IsPrinted, IsSound};
 ghost use Rattle.kl1_journal_entries.specs.Shown.{entry_shown, HasPrint};
 
-use crate::slot::Slot;
-use crate::whole::Whole;
+use crate::long_entry::LongEntry;
+use crate::packed_entry::PackedEntry;
 use kl1_model::Message;
 use kl1_user_events::{ClauseNo, GoalNo, ShoenNo};
 
@@ -42,13 +42,13 @@ pub enum Entry<'a> {
 }
 
 /// An entry that is kept whole.
-pub(crate) fn shown_whole(whole: &Whole) -> Entry<'_>
+pub(crate) fn shown_whole(whole: &LongEntry) -> Entry<'_>
     ensures entry { entry_shown result ≡ entry_of_whole whole.now }
     ensures printed { IsPrinted whole.now → HasPrint result }
 {
     match whole {
-        Whole::Load { source } => Entry::Load(source.as_slice()),
-        Whole::Start {
+        LongEntry::Load { source } => Entry::Load(source.as_slice()),
+        LongEntry::Start {
             allowance,
             low,
             high,
@@ -59,15 +59,15 @@ pub(crate) fn shown_whole(whole: &Whole) -> Entry<'_>
             high: *high,
             goal: goal.as_slice(),
         },
-        Whole::Control { shoen, message } => Entry::Control {
+        LongEntry::Control { shoen, message } => Entry::Control {
             shoen: ShoenNo(*shoen),
             message: *message,
         },
-        Whole::Step { goal, clause } => Entry::Reduce {
+        LongEntry::Step { goal, clause } => Entry::Reduce {
             goal: GoalNo(*goal),
             clause: ClauseNo(*clause),
         },
-        Whole::Answer {
+        LongEntry::Answer {
             shoen,
             report,
             goal,
@@ -91,20 +91,20 @@ fn sent(shoen: u32, message: Message) -> Entry<'static>
 }
 
 /// The entry of a place in the row.
-pub(crate) fn shown_at<'a>(wholes: &'a [Whole], slot: Slot) -> Entry<'a>
+pub(crate) fn shown_at<'a>(wholes: &'a [LongEntry], slot: PackedEntry) -> Entry<'a>
     requires place { IsPlace (length wholes.now) slot }
     requires sound { AllByRecursion IsSound wholes.now }
     ensures entry { entry_shown result ≡ entry_at wholes.now slot }
     ensures printed { HasPrint result }
 {
     match slot {
-        Slot::Step { goal, clause } => Entry::Reduce {
+        PackedEntry::Step { goal, clause } => Entry::Reduce {
             goal: GoalNo(u64::from(goal)),
             clause: ClauseNo(u64::from(clause)),
         },
-        Slot::Stop(shoen) => sent(shoen, Message::Stop),
-        Slot::Resume(shoen) => sent(shoen, Message::Start),
-        Slot::Abort(shoen) => sent(shoen, Message::Abort),
-        Slot::Kept(place) => shown_whole(&wholes[place as usize]),
+        PackedEntry::Stop(shoen) => sent(shoen, Message::Stop),
+        PackedEntry::Resume(shoen) => sent(shoen, Message::Start),
+        PackedEntry::Abort(shoen) => sent(shoen, Message::Abort),
+        PackedEntry::Kept(place) => shown_whole(&wholes[place as usize]),
     }
 }

@@ -2,12 +2,12 @@
 
 ghost use Rattle.std.specs.Prelude.{◌≡◌, ◌+◌, ◌≤◌, ◌++◌, length, bytes_eq, option_map, IfSome};
 ghost use Rattle.kl1_model.specs.declared.limits.TheConstants.{MOST_SESSIONS, MOST_NAMES};
-ghost use Rattle.kl1_model_history.specs.JournalText.{version, first_line, rules_of, heading_in};
+ghost use Rattle.kl1_model_server.specs.JournalText.{version, first_line, rules_of, heading_in};
 ghost use Rattle.kl1_text.specs.declared.short_bytes.TheConstants.{MOST_SHORT_BYTES};
 ghost use Rattle.kl1_journal_entries.specs.Reading.{heading_view};
 
 use itoa::Buffer;
-use kl1_command_lines::{is_same, number_in, split_name};
+use kl1_lines::{is_same, number_in, split_name};
 use kl1_model::Rules;
 use kl1_model::limits::{MOST_NAMES, MOST_SESSIONS};
 use kl1_text::ShortBytes;

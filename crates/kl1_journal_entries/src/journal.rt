@@ -2,13 +2,13 @@
 
 ghost use Rattle.std.specs.Prelude.{◌≡◌, ◌<◌, ◌≤◌, [], IfOk, OnOk, IfSome};
 ghost use Rattle.kl1_model.specs.declared.limits.TheConstants.{MOST_SESSIONS};
-ghost use Rattle.kl1_model_history.specs.Journal.{new_journal};
-ghost use Rattle.kl1_model_history.specs.laws.TextLaws.{AreNames, IsWritten};
+ghost use Rattle.kl1_model_server.specs.Journal.{new_journal};
+ghost use Rattle.kl1_model_server.specs.laws.TextLaws.{AreNames, IsWritten};
 ghost use Rattle.kl1_journal_entries.specs.Lined.{with_prepared};
 
-use crate::prepared::{Form, Prepared};
-use crate::slot::Slot;
-use crate::whole::Whole;
+use crate::long_entry::LongEntry;
+use crate::packed_entry::PackedEntry;
+use crate::pending_entry::{EntryForm, PendingEntry};
 use kl1_model::Rules;
 use kl1_text::AtomText;
 use std::alloc::{AllocError, Global};
@@ -21,8 +21,8 @@ pub struct Journal {
     pub(crate) rules: Rules,
     pub(crate) sessions: u64,
     pub(crate) names: Vec<AtomText>,
-    pub(crate) slots: Vec<Slot>,
-    pub(crate) wholes: Vec<Whole>,
+    pub(crate) slots: Vec<PackedEntry>,
+    pub(crate) wholes: Vec<LongEntry>,
 }
 
 impl Model for Journal {
@@ -92,18 +92,18 @@ impl Journal {
     }
 
     /// Puts what is prepared after the entries. It takes no memory.
-    pub fn put(&mut self, prepared: Prepared)
+    pub fn put(&mut self, prepared: PendingEntry)
         requires { IfSome prepared (λ _. 0 < self.old.room) }
         ensures { self.new.journal ≡ with_prepared self.old.journal prepared }
     {
-        let Prepared { form } = prepared;
+        let PendingEntry { form } = prepared;
         match form {
-            Form::Nothing => {}
-            Form::Short(slot) => self.slots.push_reserved(slot),
-            Form::Long(whole) => {
+            EntryForm::Nothing => {}
+            EntryForm::Short(slot) => self.slots.push_reserved(slot),
+            EntryForm::Long(whole) => {
                 let place = self.wholes.len() as u32;
                 self.wholes.push_reserved(whole);
-                self.slots.push_reserved(Slot::Kept(place));
+                self.slots.push_reserved(PackedEntry::Kept(place));
             }
         }
     }

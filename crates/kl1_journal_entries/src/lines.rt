@@ -1,8 +1,8 @@
 // The lines of a journal.
 
 ghost use Rattle.std.specs.Prelude.{◌≡◌, ◌<◌, ◌+◌, ◌*◌, ◌/◌, ◌%◌, ◌++◌, ◌∷◌, [], codes, decimal, OnOk};
-ghost use Rattle.kl1_model_history.specs.Journal.{sends};
-ghost use Rattle.kl1_model_history.specs.JournalText.{hex_digit, hex_text, message_line, name_line, first_line, entry_line};
+ghost use Rattle.kl1_model_server.specs.Journal.{sends};
+ghost use Rattle.kl1_model_server.specs.JournalText.{hex_digit, hex_text, message_line, name_line, first_line, entry_line};
 ghost use Rattle.kl1_journal_entries.specs.Shown.{entry_shown, HasPrint};
 
 use crate::entry::Entry;

@@ -3,12 +3,12 @@
 ghost use Rattle.std.specs.Prelude.{◌≡◌, ◌<◌, Some, option_map, IfOk, IsTrue};
 ghost use Rattle.std.specs.List.{list_all};
 ghost use Rattle.kl1_model.specs.Line.{before_space, behind_space, number_in};
-ghost use Rattle.kl1_model_history.specs.Journal.{event_in, sends, steps};
-ghost use Rattle.kl1_model_history.specs.JournalText.{is_hex_digit, hex_value, hex_bytes, load_in, of_two, start_in, answer_in, entry_by};
+ghost use Rattle.kl1_model_server.specs.Journal.{event_in, sends, steps};
+ghost use Rattle.kl1_model_server.specs.JournalText.{is_hex_digit, hex_value, hex_bytes, load_in, of_two, start_in, answer_in, entry_by};
 ghost use Rattle.kl1_user_events.specs.Views.{event_of};
 ghost use Rattle.kl1_journal_entries.specs.Reading.{two_in, message_by};
 
-use kl1_command_lines::{is_same, number_in, split_name};
+use kl1_lines::{is_same, number_in, split_name};
 use kl1_model::Message;
 use kl1_read::{ReadFault, read_goal};
 use kl1_user_events::{ClauseNo, Event, GoalNo, ShoenNo};
@@ -182,7 +182,7 @@ fn event_by(alloc: Global, word: &[u8], rest: &[u8]) -> Result<Option<Event>, Al
 }
 
 /// The event that a line may be.
-pub(crate) fn loose_event(alloc: Global, line: &[u8]) -> Result<Option<Event>, AllocError>
+pub(crate) fn parse_entry(alloc: Global, line: &[u8]) -> Result<Option<Event>, AllocError>
     ensures { IfOk result (λ e. option_map event_of e ≡ option_map event_in (entry_by (before_space line.now) (behind_space line.now))) }
 {
     let (word, rest) = split_name(line);

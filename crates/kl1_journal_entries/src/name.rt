@@ -2,10 +2,10 @@
 
 ghost use Rattle.std.specs.Prelude.{◌≡◌, ◌<◌, ◌++◌, length, bytes_eq, IsNone, IfSome};
 ghost use Rattle.kl1_model.specs.declared.limits.TheConstants.{MOST_NAME_BYTES};
-ghost use Rattle.kl1_model_history.specs.JournalText.{unquoted, name_by, name_line, name_in};
+ghost use Rattle.kl1_model_server.specs.JournalText.{unquoted, name_by, name_line, name_in};
 
 use crate::text::bytes_from;
-use kl1_command_lines::{is_same, split_name};
+use kl1_lines::{is_same, split_name};
 use kl1_model::limits::MOST_NAME_BYTES;
 use kl1_text::{AtomText, ShortBytes};
 

@@ -1,7 +1,7 @@
 // The lines of a journal, in pages.
 
 ghost use Rattle.std.specs.Prelude.{◌≡◌, ◌<◌, length, slice_get, IfOk, Some};
-ghost use Rattle.kl1_model_history.specs.JournalText.{journal_lines, page_of};
+ghost use Rattle.kl1_model_server.specs.JournalText.{journal_lines, page_of};
 
 use crate::entry::shown_at;
 use crate::journal::Journal;

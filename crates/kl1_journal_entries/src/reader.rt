@@ -4,17 +4,17 @@ ghost use Rattle.std.specs.Prelude.{◌≡◌, ◌≤◌, [], Some, IfOk, bytes_
 ghost use Rattle.std.specs.List.{list_any};
 ghost use Rattle.kl1_model.specs.declared.limits.TheConstants.{MOST_SESSIONS, MOST_NAMES};
 ghost use Rattle.kl1_model.specs.Text.{is_built_in};
-ghost use Rattle.kl1_model_history.specs.Journal.{event_in};
-ghost use Rattle.kl1_model_history.specs.JournalText.{is_new_name, entry_in, journal_in};
+ghost use Rattle.kl1_model_server.specs.Journal.{event_in};
+ghost use Rattle.kl1_model_server.specs.JournalText.{is_new_name, entry_in, journal_in};
 ghost use Rattle.kl1_user_events.specs.Views.{event_of};
 ghost use Rattle.kl1_journal_entries.specs.Reading.{read_text, read_after};
 ghost use Rattle.kl1_journal_entries.specs.Found.{found_event, found_entry, begun_at};
 
 use crate::heading::{Heading, heading_of};
 use crate::journal::Journal;
-use crate::loose::loose_event;
+use crate::loose::parse_entry;
 use crate::name::name_of;
-use crate::prepared::{Prepared, entry_for};
+use crate::pending_entry::{PendingEntry, entry_for};
 use crate::text::next_line;
 use kl1_model::limits::MOST_LINE_BYTES;
 use kl1_text::AtomText;
@@ -25,7 +25,7 @@ use std::alloc::{AllocError, Global};
 #[derive(Drop)]
 pub(crate) struct Found {
     event: Event,
-    prepared: Prepared,
+    prepared: PendingEntry,
 }
 
 /// The entry whose line this is, if there is one.
@@ -36,11 +36,11 @@ fn found_in(alloc: Global, line: &[u8]) -> Result<Option<Found>, AllocError>
     if line.len() > MOST_LINE_BYTES {
         return Ok(None);
     }
-    let Some(event) = loose_event(alloc, line)? else {
+    let Some(event) = parse_entry(alloc, line)? else {
         return Ok(None);
     };
     let prepared = entry_for(alloc, &event)?;
-    if !prepared.has_line(alloc, line)? {
+    if !prepared.is_canonical(alloc, line)? {
         return Ok(None);
     }
     Ok(Some(Found { event, prepared }))

@@ -1,8 +1,8 @@
 // The lines of a text.
 
 ghost use Rattle.std.specs.Prelude.{◌≡◌, ◌<◌, ◌≤◌, [], length, drop, IsNone, IfSome};
-ghost use Rattle.kl1_command_lines.specs.Places.{place_of};
-ghost use Rattle.kl1_model_history.specs.JournalText.{lines_of};
+ghost use Rattle.kl1_lines.specs.Places.{place_of};
+ghost use Rattle.kl1_model_server.specs.JournalText.{lines_of};
 ghost use Rattle.kl1_journal_entries.specs.Reading.{with_line};
 
 /// The place of the first line feed, or how many bytes there are.

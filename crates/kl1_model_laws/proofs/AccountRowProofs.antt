@@ -8,7 +8,7 @@ use Rattle.kl1_model.specs.State.{fresh, shoen_at}
 use Rattle.kl1_model.specs.Event.{load, start, reduce, reduced, ran, quiet_is, refused, syntax, exists, step_refused, journal_full}
 use Rattle.kl1_model.specs.Step.{step, origin_at}
 use Rattle.kl1_model.specs.Choice.{first, quiet}
-use Rattle.kl1_model_history.specs.Command.{run, parse}
+use Rattle.kl1_model_server.specs.Command.{run, parse}
 use Rattle.std.specs.Fmt.{digits}
 use Rattle.kl1_model.specs.Unify.{mgu_within}
 use Rattle.kl1_model.specs.Tree.{path_within}

@@ -6,10 +6,10 @@ use Rattle.kl1_model.specs.Term.{variable, integer}
 use Rattle.kl1_model.specs.State.{fresh, fresh_with}
 use Rattle.kl1_model.specs.Event.{load, start, reduce, login, logout, reset, loaded, opened, welcome, bye, was_reset, refused, step_refused, too_many_names, sessions_refused}
 use Rattle.kl1_model.specs.Step.{step}
-use Rattle.kl1_model_history.specs.Journal.{loads, starts, sends, steps, new_journal, replay, done}
-use Rattle.kl1_model_history.specs.JournalText.{journal_lines, page_of, entry_in, name_in, heading_in, journal_in}
-use Rattle.kl1_model_history.specs.Alone.{only, replies_at, alone}
-use Rattle.kl1_model_history.specs.Command.{written_lines}
+use Rattle.kl1_model_server.specs.Journal.{loads, starts, sends, steps, new_journal, replay, done}
+use Rattle.kl1_model_server.specs.JournalText.{journal_lines, page_of, entry_in, name_in, heading_in, journal_in}
+use Rattle.kl1_model_server.specs.Alone.{only, replies_at, alone}
+use Rattle.kl1_model_server.specs.Command.{written_lines}
 use Rattle.std.specs.Fmt.{digits}
 use Rattle.kl1_model.specs.Unify.{mgu_within}
 use Rattle.kl1_model.specs.Tree.{path_within}

@@ -3,8 +3,8 @@ use Rattle.std.specs.Prelude.{◌≡◌, codes, [], ◌∷◌, ◌++◌, refl, r
 use Rattle.std.specs.Fmt.{digits}
 use Rattle.kl1_model.specs.Record.{other_line}
 use Rattle.kl1_model.specs.Event.{syntax}
-use Rattle.kl1_model_history.specs.Cut.{cut_within, cut_of}
-use Rattle.kl1_model_history.specs.Inputs.{login, refused}
+use Rattle.kl1_model_server.specs.Cut.{cut_within, cut_of}
+use Rattle.kl1_model_server.specs.Inputs.{login, refused}
 use Rattle.kl1_model_laws.specs.StreamRows.{come, asks, leaves, quiet_asked, logout_asked, load_asked, StreamRowsHold}
 
 nothing_row : come [] ≡ asks []

@@ -8,8 +8,8 @@ use Rattle.kl1_model.specs.Meaning.{nil, cell}
 use Rattle.kl1_model.specs.State.{fresh, shoen_at}
 use Rattle.kl1_model.specs.Event.{reduce, read, answer, status, reports, sent, status_is, listed, refused, syntax, no_shoen, shoen_ended, too_many_names, limit_passed, journal_full, answer_refused}
 use Rattle.kl1_model.specs.Step.{step}
-use Rattle.kl1_model_history.specs.Journal.{answers}
-use Rattle.kl1_model_history.specs.JournalText.{entry_in, heading_in}
+use Rattle.kl1_model_server.specs.Journal.{answers}
+use Rattle.kl1_model_server.specs.JournalText.{entry_in, heading_in}
 use Rattle.std.specs.Fmt.{digits}
 use Rattle.kl1_model.specs.Unify.{mgu_within}
 use Rattle.kl1_model.specs.Tree.{path_within}

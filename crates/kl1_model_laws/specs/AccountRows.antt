@@ -8,9 +8,9 @@ use Rattle.kl1_model.specs.State.{State, fresh, shoen_at, Origin}
 use Rattle.kl1_model.specs.Event.{Event, load, start, reduce, reduced, ran, quiet_is, refused, syntax, exists, step_refused, journal_full}
 use Rattle.kl1_model.specs.Step.{step, origin_at}
 use Rattle.kl1_model.specs.Choice.{first, quiet}
-use Rattle.kl1_model_history.specs.Journal.{Kept, Done, new_journal}
-use Rattle.kl1_model_history.specs.Command.{Command, run, parse, act}
-use Rattle.kl1_model_history.specs.Script.{done_by}
+use Rattle.kl1_model_server.specs.Journal.{Kept, Done, new_journal}
+use Rattle.kl1_model_server.specs.Command.{Command, run, parse, act}
+use Rattle.kl1_model_server.specs.Script.{done_by}
 
 -- lines, each ended by a line feed
 abbrev pub lines : List (List ℕ) → List ℕ

@@ -1,6 +1,6 @@
 -- The example scripts with what is written for them. Made by tools/examples_as_definitions from examples/scripts.
 use Rattle.std.specs.Prelude.{◌≡◌, ℕ, List, [], ◌∷◌, ◌++◌, codes}
-use Rattle.kl1_model_history.specs.Script.{output}
+use Rattle.kl1_model_server.specs.Script.{output}
 
 -- the bytes of a_failure_stops_nothing_else.script
 abbrev pub a_failure_stops_nothing_else_script : List ℕ

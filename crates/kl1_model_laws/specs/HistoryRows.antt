@@ -6,11 +6,11 @@ use Rattle.kl1_model.specs.Term.{variable, integer, atom}
 use Rattle.kl1_model.specs.State.{State, fresh, fresh_with}
 use Rattle.kl1_model.specs.Event.{Event, load, start, reduce, login, logout, reset, Reply, loaded, opened, welcome, bye, was_reset, refused, step_refused, too_many_names, sessions_refused}
 use Rattle.kl1_model.specs.Step.{step}
-use Rattle.kl1_model_history.specs.Journal.{loads, starts, sends, steps, new_journal, replay, Kept, done, fresh_kept}
-use Rattle.kl1_model_history.specs.JournalText.{journal_lines, page_of, entry_in, name_in, heading_in, journal_in}
-use Rattle.kl1_model_history.specs.Alone.{Deed, only, replies_at, alone}
-use Rattle.kl1_model_history.specs.Command.{parse, written_lines}
-use Rattle.kl1_model_history.specs.Script.{done_by}
+use Rattle.kl1_model_server.specs.Journal.{loads, starts, sends, steps, new_journal, replay, Kept, done, fresh_kept}
+use Rattle.kl1_model_server.specs.JournalText.{journal_lines, page_of, entry_in, name_in, heading_in, journal_in}
+use Rattle.kl1_model_server.specs.Alone.{Deed, only, replies_at, alone}
+use Rattle.kl1_model_server.specs.Command.{parse, written_lines}
+use Rattle.kl1_model_server.specs.Script.{done_by}
 use Rattle.kl1_model_laws.specs.AccountRows.{equals, numbers, stream, true_term, with_entries}
 use Rattle.kl1_model_laws.specs.ShoenRows.{with_counts, with_reports, with_last_shoen, with_many_names, with_modules}
 

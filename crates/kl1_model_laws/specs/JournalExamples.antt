@@ -1,6 +1,6 @@
 -- The example journals with what is written for them. Made by tools/examples_as_definitions from examples/journals.
 use Rattle.std.specs.Prelude.{◌≡◌, ℕ, List, [], ◌∷◌, ◌++◌, codes}
-use Rattle.kl1_model_history.specs.Replay.{replay_output}
+use Rattle.kl1_model_server.specs.Replay.{replay_output}
 
 -- the bytes of answer_in_another_spelling.journal
 abbrev pub answer_in_another_spelling_journal : List ℕ

@@ -3,9 +3,9 @@ use Rattle.std.specs.Prelude.{◌≡◌, ℕ, codes, List, [], ◌∷◌, ◌++�
 use Rattle.kl1_model.specs.Record.{other_line}
 use Rattle.kl1_model.specs.Event as event
 use Rattle.kl1_model.specs.Event.{syntax}
-use Rattle.kl1_model_history.specs.Command.{does}
-use Rattle.kl1_model_history.specs.Cut.{cut_of}
-use Rattle.kl1_model_history.specs.Inputs.{Input, login, command, refused, inputs, rest}
+use Rattle.kl1_model_server.specs.Command.{does}
+use Rattle.kl1_model_server.specs.Cut.{cut_of}
+use Rattle.kl1_model_server.specs.Inputs.{Input, login, command, refused, inputs, rest}
 
 -- what bytes come to: the inputs that they are, and their rest
 pub record Come : Type 0 where

@@ -8,8 +8,8 @@ use Rattle.kl1_model.specs.Meaning.{nil, cell}
 use Rattle.kl1_model.specs.State.{State, fresh, shoen_at}
 use Rattle.kl1_model.specs.Event.{reduce, read, answer, status, reports, sent, status_is, listed, refused, syntax, no_shoen, shoen_ended, too_many_names, limit_passed, journal_full, answer_refused}
 use Rattle.kl1_model.specs.Step.{step}
-use Rattle.kl1_model_history.specs.Journal.{answers}
-use Rattle.kl1_model_history.specs.JournalText.{entry_in, heading_in}
+use Rattle.kl1_model_server.specs.Journal.{answers}
+use Rattle.kl1_model_server.specs.JournalText.{entry_in, heading_in}
 use Rattle.kl1_model_laws.specs.AccountRows.{after_events, after_lines, equals, having, numbers, one_fact, stream, true_term, with_entries}
 use Rattle.kl1_model_laws.specs.ShoenRows.{counts, crowded, nothing_done, with_counts, with_many_names, with_reports}
 

@@ -4,12 +4,12 @@ ghost use Rattle.std.specs.Prelude.{◌≡◌, vec_len};
 ghost use Rattle.kl1_pool_tickets.specs.Totals.{Gathered};
 
 use crate::pool::Pool;
-use kl1_pool_cell::CellNaming;
+use crate::pool_ids::PoolIds;
 use kl1_pool_tickets::{Share, Totals};
 use std::sync::Wait;
 
 /// What all shares of a pool counted, put and took, and the tickets that are left in its queue.
-pub fn gather<'t, R: Wait, K: CellNaming, W: Wait>(
+pub fn gather<'t, R: Wait, K: PoolIds, W: Wait>(
     rt: &W,
     pool: Pool<'t, R, K>,
     shares: Vec<Share<K>>,

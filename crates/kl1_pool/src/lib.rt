@@ -1,20 +1,33 @@
-//! Accounts under locks, which threads command and workers go on with, and what all of it adds up to.
+//! Accounts under locks: many threads command them, and workers go on with those that can step.
 #![tactic(auto)]
 
+mod answering;
+mod counting;
 mod gate;
 mod gathering;
+mod locked_slot;
+mod locked_slots;
+mod named_atoms;
+mod outcome;
 mod parts;
-mod place;
-mod places;
 mod pool;
+mod pool_account;
+mod pool_ids;
+mod running;
+mod totals_before_reset;
 mod working;
 
+pub use counting::MOST_EVENTS;
 pub use gate::Gate;
 pub use gathering::gather;
 pub use kl1_command::{Command, Performed};
-pub use kl1_pool_cell::{AccountName, CellNaming, Rules};
-pub use kl1_pool_tickets::{Share, Totals};
+pub use kl1_journal::{AccountName, Rules};
+pub use kl1_pool_tickets::{Share, TimeSlice, Totals};
+pub use locked_slot::LockedSlot;
+pub use named_atoms::NamedAtoms;
 pub use parts::PoolParts;
-pub use place::Place;
 pub use pool::Pool;
+pub use pool_account::PoolAccount;
+pub use pool_ids::PoolIds;
+pub use totals_before_reset::TotalsBeforeReset;
 pub use working::worker;

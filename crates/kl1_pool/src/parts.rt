@@ -7,7 +7,7 @@ ghost use Rattle.kl1_tally.specs.declared.amounts.TheConstants.{MOST_ACCOUNTS};
 
 use kl1_atoms::{AtomSeat, AtomTable};
 use kl1_codes::CodeTable;
-use kl1_pool_cell::{AccountName, Rules};
+use kl1_journal::{AccountName, Rules};
 use kl1_pool_tickets::Parts;
 use std::alloc::{AllocError, Global};
 use std::marker::Model;

@@ -4,17 +4,18 @@ ghost use Rattle.std.specs.Prelude.{◌≡◌, ◌<◌, ◌≤◌, IfOk, All, ve
 ghost use Rattle.kl1_tally.specs.declared.amounts.TheConstants.{MOST_ACCOUNTS};
 ghost use Rattle.kl1_pool_tickets.specs.Counts.{Moved, Acts, new_counts};
 ghost use Rattle.kl1_pool_tickets.specs.declared.serving.TheConstants.{MOST_STEPS};
-ghost use Rattle.kl1_pool_cell.specs.Told.{events_told, steps_told};
+ghost use Rattle.kl1_pool.specs.Told.{events_told, steps_told};
 
 use crate::gate::Gate;
+use crate::locked_slot::LockedSlot;
+use crate::locked_slots::{drop_all, places_of};
+use crate::named_atoms::NamedAtoms;
 use crate::parts::PoolParts;
-use crate::place::Place;
-use crate::places::{drop_all, places_of};
+use crate::pool_ids::PoolIds;
 use kl1_atoms::AtomTable;
 use kl1_codes::{CodeTable, SharedCodes};
 use kl1_command::{Command, Performed};
-use kl1_pool_cell::{CellNaming, NamedAtoms};
-use kl1_pool_tickets::{Common, Opened, Share, Turn};
+use kl1_pool_tickets::{Opened, PoolShared, Share, TimeSlice};
 use std::alloc::{AllocError, Global};
 use std::marker::PhantomData;
 use std::sync::{Mutex, Wait};
@@ -22,12 +23,12 @@ use std::sync::{Mutex, Wait};
 /// Accounts, each under its lock, the table of names and the table of codes that they share, and what the threads share that command
 /// them and go on with them. All of it is what K names.
 #[derive(Drop)]
-pub struct Pool<'t, R: Wait, K: CellNaming> {
+pub struct Pool<'t, R: Wait, K: PoolIds> {
     pub(crate) rt: &'t R,
     pub(crate) table: &'t AtomTable,
     pub(crate) codes: &'t CodeTable,
-    pub(crate) common: Common<K>,
-    pub(crate) places: Vec<Mutex<Place<'t, R, K>>>,
+    pub(crate) common: PoolShared<K>,
+    pub(crate) places: Vec<Mutex<LockedSlot<'t, R, K>>>,
     pub ghost named: { table.now.table.shared.table_id ≡ K.table },
     pub ghost sized: { table.now.accounts ≡ K.seats },
     pub ghost coded: { codes.now ≡ K.codes },
@@ -35,12 +36,12 @@ pub struct Pool<'t, R: Wait, K: CellNaming> {
 }
 
 /// What becomes of a ticket if no turn was done.
-const NO_TURN: Turn = Turn {
+const NO_TURN: TimeSlice = TimeSlice {
     steps: 0,
     again: false,
 };
 
-impl<'t, R: Wait, K: CellNaming> Pool<'t, R, K> {
+impl<'t, R: Wait, K: PoolIds> Pool<'t, R, K> {
     /// The pool of these parts, in whose accounts nothing has happened, and its shares, which are at zero. By `rt` codes are put in.
     pub fn new(
         rt: &'t R,
@@ -65,7 +66,7 @@ impl<'t, R: Wait, K: CellNaming> Pool<'t, R, K> {
             books,
             shares,
         } = tickets.open::<K>(alloc)?;
-        let places = places_of::<Place<'t, R, K>>(alloc, accounts, rules, seats, books)?;
+        let places = places_of::<LockedSlot<'t, R, K>>(alloc, accounts, rules, seats, books)?;
         Ok((
             Pool {
                 rt,
@@ -172,7 +173,7 @@ impl<'t, R: Wait, K: CellNaming> Pool<'t, R, K> {
         number: u64,
         account: usize,
         share: &mut Share<K>,
-    ) -> Turn
+    ) -> TimeSlice
         ensures few { result.steps ≤ MOST_STEPS }
         ensures counted { Moved account result.steps result.steps 0 0 share.old share.new }
     {

@@ -7,20 +7,20 @@ ghost use Rattle.kl1_pool_tickets.specs.declared.serving.TheConstants.{MOST_STEP
 
 use crate::gate::Gate;
 use crate::pool::Pool;
-use kl1_pool_cell::CellNaming;
-use kl1_pool_tickets::{Accounts, Share, Turn};
+use crate::pool_ids::PoolIds;
+use kl1_pool_tickets::{Accounts, Share, TimeSlice};
 use std::sync::Wait;
 
 /// A worker with its gate and its number, in a pool.
 #[derive(Drop)]
-struct AtWork<'p, 't, G: Gate, R: Wait, K: CellNaming> {
+struct AtWork<'p, 't, G: Gate, R: Wait, K: PoolIds> {
     pool: &'p Pool<'t, R, K>,
     gate: &'p G,
     number: u64,
 }
 
-impl<'p, 't, G: Gate, R: Wait, K: CellNaming> Accounts<K> for AtWork<'p, 't, G, R, K> {
-    fn turn<W: Wait>(&self, rt: &W, account: usize, share: &mut Share<K>) -> Turn {
+impl<'p, 't, G: Gate, R: Wait, K: PoolIds> Accounts<K> for AtWork<'p, 't, G, R, K> {
+    fn turn<W: Wait>(&self, rt: &W, account: usize, share: &mut Share<K>) -> TimeSlice {
         self.pool.turn(rt, self.gate, self.number, account, share)
     }
 
@@ -31,7 +31,7 @@ impl<'p, 't, G: Gate, R: Wait, K: CellNaming> Accounts<K> for AtWork<'p, 't, G, 
 
 /// Takes tickets, and does a turn of each ticket's account, between `enter` and `leave` of `gate` with the worker's `number`; the
 /// ticket is put back if the account goes on. Ends when `close` was called, or if the share can take no more.
-pub fn worker<'t, G: Gate, R: Wait, K: CellNaming, W: Wait>(
+pub fn worker<'t, G: Gate, R: Wait, K: PoolIds, W: Wait>(
     rt: &W,
     pool: &Pool<'t, R, K>,
     gate: &G,

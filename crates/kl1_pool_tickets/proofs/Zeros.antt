@@ -4,7 +4,7 @@ use Rattle.std.specs.Prelude.{sum_by}
 use Rattle.kl1_tally.specs.declared.amounts.TheConstants.{MOST_ACCOUNTS}
 use Rattle.kl1_tally.specs.Numbers.{times}
 use Rattle.kl1_tally.specs.Seats.{Share}
-use Rattle.kl1_pool_tickets.specs.declared.hand.Hand.{Hand}
+use Rattle.kl1_pool_tickets.specs.declared.ticket_history.TicketHistory.{TicketHistory}
 use Rattle.kl1_pool_tickets.specs.Counts.{Counts, Keeps}
 use Rattle.kl1_pool_tickets.specs.Totals.{TookIn}
 
@@ -18,7 +18,7 @@ zeros_length zero = refl
 zeros_length (suc n) = ap suc (zeros_length n)
 
 -- a pass that put and took nothing
-pub keeps_none : (v : Hand) → v.put ≡ [] → v.taken ≡ [] → Keeps (replicate MOST_ACCOUNTS 0) (replicate MOST_ACCOUNTS 0) v
+pub keeps_none : (v : TicketHistory) → v.put ≡ [] → v.taken ≡ [] → Keeps (replicate MOST_ACCOUNTS 0) (replicate MOST_ACCOUNTS 0) v
 keeps_none v put taken = record {
   put_size = zeros_length MOST_ACCOUNTS;
   take_size = zeros_length MOST_ACCOUNTS;
@@ -29,7 +29,7 @@ keeps_none v put taken = record {
 }
 
 -- no share was taken apart
-pub took_none : (all : List Counts) (seats : List Share) (v : Hand) → seats ≡ [] → v.put ≡ [] → v.taken ≡ [] → TookIn all all seats v v (replicate MOST_ACCOUNTS 0) (replicate MOST_ACCOUNTS 0)
+pub took_none : (all : List Counts) (seats : List Share) (v : TicketHistory) → seats ≡ [] → v.put ≡ [] → v.taken ≡ [] → TookIn all all seats v v (replicate MOST_ACCOUNTS 0) (replicate MOST_ACCOUNTS 0)
 took_none all seats v none put taken = record {
   parts = refl;
   count = (let z : length seats ≡ 0 = ap length none in omega arith);

@@ -2,7 +2,7 @@
 use Rattle.std.specs.Prelude.{◌≡◌, ℕ, ◌+◌, ◌*◌, ◌<◌, ◌≤◌, ◌^◌, List, length, replicate, slice_index, ◌≢◌}
 use Rattle.kl1_tally.specs.declared.amounts.TheConstants.{MOST_ACCOUNTS}
 use Rattle.kl1_tally.specs.Numbers.{times}
-use Rattle.kl1_pool_tickets.specs.declared.hand.Hand.{Hand}
+use Rattle.kl1_pool_tickets.specs.declared.ticket_history.TicketHistory.{TicketHistory}
 use Rattle.kl1_pool_tickets.specs.declared.serving.TheConstants.{MOST_STEPS}
 
 -- the events and steps of each account that were counted, and how many of its tickets were put and taken, at the accounts' numbers
@@ -33,7 +33,7 @@ abbrev pub CanTake : Counts → Type 0
 CanTake s = (k : ℕ) → k < MOST_ACCOUNTS → slice_index s.takes k < 2 ^ 63
 
 -- the numbers are those of what a pass put and took, and of each account there are at most 2^63
-pub record Keeps (puts takes : List ℕ) (v : Hand) : Type 0 where
+pub record Keeps (puts takes : List ℕ) (v : TicketHistory) : Type 0 where
   pub put_size : length puts ≡ MOST_ACCOUNTS
   pub take_size : length takes ≡ MOST_ACCOUNTS
   pub put_are : (k : ℕ) → k < MOST_ACCOUNTS → slice_index puts k ≡ times k v.put

@@ -1,4 +1,4 @@
-pub mod Hands
+pub mod Histories
 pub mod Counts
 pub mod Totals
 pub mod Parts

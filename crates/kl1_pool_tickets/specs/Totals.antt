@@ -3,7 +3,7 @@ use Rattle.std.specs.Prelude.{◌≡◌, ℕ, ◌+◌, ◌*◌, ◌<◌, ◌≤�
 use Rattle.kl1_tally.specs.declared.amounts.TheConstants.{MOST_ACCOUNTS}
 use Rattle.kl1_tally.specs.Numbers.{times}
 use Rattle.kl1_tally.specs.Seats.{Share}
-use Rattle.kl1_pool_tickets.specs.declared.hand.Hand.{Hand}
+use Rattle.kl1_pool_tickets.specs.declared.ticket_history.TicketHistory.{TicketHistory}
 use Rattle.kl1_pool_tickets.specs.declared.totals.Totals.{Totals}
 use Rattle.kl1_pool_tickets.specs.Counts.{Counts}
 
@@ -16,7 +16,7 @@ pub record Gathered (shares : List Counts) (totals : Totals) : Type 0 where
   pub left : (k : ℕ) → k < MOST_ACCOUNTS → slice_index totals.puts k ≡ slice_index totals.takes k + slice_index totals.left k
 
 -- some shares were taken apart, of all but those that are left: their seats, their passes and the sums of their tickets are here
-pub record TookIn (all left : List Counts) (seats : List Share) (before v : Hand) (puts takes : List ℕ) : Type 0 where
+pub record TookIn (all left : List Counts) (seats : List Share) (before v : TicketHistory) (puts takes : List ℕ) : Type 0 where
   pub parts : v.parts + length left ≡ before.parts + length all
   pub count : length seats + length left ≡ length all
   pub events : (k : ℕ) → sum_by (λ (s : Share). slice_index s.events k) seats + sum_by (λ (c : Counts). slice_index c.events k) left ≡ sum_by (λ (c : Counts). slice_index c.events k) all

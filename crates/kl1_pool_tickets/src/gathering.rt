@@ -5,14 +5,14 @@ ghost use Rattle.atomic_table.specs.Seated.{TableId};
 ghost use Rattle.crossbeam_queue.specs.Passes.{view};
 ghost use Rattle.kl1_tally.specs.declared.amounts.TheConstants.{MOST_ACCOUNTS};
 ghost use Rattle.kl1_tally.specs.Numbers.{times};
-ghost use Rattle.kl1_pool_tickets.specs.Hands.{all_parts};
+ghost use Rattle.kl1_pool_tickets.specs.Histories.{all_parts};
 ghost use Rattle.kl1_pool_tickets.specs.Totals.{TookIn, Gathered};
 
-use crate::common::Common;
-use crate::hand::{Cut, Hand, Queue, Takes};
-use crate::naming::Naming;
-use crate::rest::Rest;
+use crate::pool_shared::PoolShared;
+use crate::reserve::Reserve;
 use crate::share::Share;
+use crate::ticket_history::{Cut, Queue, Takes, TicketHistory};
+use crate::ticket_ids::TicketIds;
 use crate::totals::Totals;
 use crossbeam_queue::Pass;
 use kl1_tally::{Amounts, BookSeat, MOST_ACCOUNTS, ShareSeat};
@@ -46,9 +46,9 @@ fn add(sums: &mut [u128; MOST_ACCOUNTS], more: &[u64; MOST_ACCOUNTS])
 }
 
 /// Takes all shares apart: `joint` takes in their passes, their seats are put at the end of `seats`, and their tickets are added up.
-fn take_in<K: Naming>(
+fn take_in<K: TicketIds>(
     queue: &Queue,
-    joint: &mut Pass<u64, Hand>,
+    joint: &mut Pass<u64, TicketHistory>,
     mut shares: Vec<Share<K>>,
     seats: &mut Vec<ShareSeat>,
 ) -> Sums
@@ -82,7 +82,11 @@ fn take_in<K: Naming>(
 }
 
 /// Takes all tickets that are left, and counts them.
-fn drain<R: Wait>(rt: &R, queue: &Queue, joint: &mut Pass<u64, Hand>) -> [u128; MOST_ACCOUNTS]
+fn drain<R: Wait>(
+    rt: &R,
+    queue: &Queue,
+    joint: &mut Pass<u64, TicketHistory>,
+) -> [u128; MOST_ACCOUNTS]
     requires of { (joint.old.table_id ≡ queue.now.table.shared.table_id) × (joint.old.me.1 ≡ []) }
     requires all { (view joint.old).parts ≡ all_parts }
     requires few { (k : ℕ) → k < MOST_ACCOUNTS → times k (view joint.old).put < 2 ^ 127 }
@@ -112,9 +116,9 @@ fn take_books<C: Booked>(mut booked: Vec<Mutex<C>>, books: &mut Vec<BookSeat>)
 
 /// What all shares counted, put and took, and the tickets that are left in the queue. `booked` has the books of all accounts, in any
 /// order.
-pub fn gather<R: Wait, K: Naming, C: Booked>(
+pub fn gather<R: Wait, K: TicketIds, C: Booked>(
     rt: &R,
-    common: Common<K>,
+    common: PoolShared<K>,
     booked: Vec<Mutex<C>>,
     shares: Vec<Share<K>>,
 ) -> Totals
@@ -123,14 +127,14 @@ pub fn gather<R: Wait, K: Naming, C: Booked>(
     requires all_shares { vec_len shares ≡ K.shares }
     ensures { Gathered shares.items result }
 {
-    let Common {
+    let PoolShared {
         tally,
         queue,
-        bell: _,
+        event_count: _,
         is_closed: _,
         rest,
     } = common;
-    let Rest {
+    let Reserve {
         mut pass,
         mut books,
         mut seats,

@@ -5,16 +5,16 @@ ghost use Rattle.crossbeam_queue.specs.Passes.{view};
 ghost use Rattle.kl1_tally.specs.declared.amounts.TheConstants.{MOST_ACCOUNTS};
 ghost use Rattle.kl1_tally.specs.Numbers.{up_from};
 ghost use Rattle.kl1_tally.specs.Seats.{new_book, new_share};
-ghost use Rattle.kl1_pool_tickets.specs.Hands.{all_parts};
+ghost use Rattle.kl1_pool_tickets.specs.Histories.{all_parts};
 ghost use Rattle.kl1_pool_tickets.specs.Counts.{new_counts};
 ghost use Rattle.kl1_pool_tickets.specs.Parts.{IsNewBook};
 
-use crate::bell::Bell;
-use crate::common::Common;
-use crate::hand::{Cut, Hand, Queue};
-use crate::naming::Naming;
-use crate::rest::Rest;
+use crate::event_count::EventCount;
+use crate::pool_shared::PoolShared;
+use crate::reserve::Reserve;
 use crate::share::Share;
+use crate::ticket_history::{Cut, Queue, TicketHistory};
+use crate::ticket_ids::TicketIds;
 use crossbeam_queue::Pass;
 use crossbeam_utils::CachePadded;
 use kl1_tally::{BookSeat, MOST_ACCOUNTS, ShareSeat, Tally};
@@ -29,7 +29,7 @@ use std::sync::atomic::AtomicBool;
 pub struct Parts {
     tally: Tally,
     queue: Queue,
-    rest: Pass<u64, Hand>,
+    rest: Pass<u64, TicketHistory>,
     books: Vec<BookSeat>,
     seats: Vec<ShareSeat>,
 }
@@ -40,21 +40,21 @@ impl Model for Parts {
     ghost use Rattle.kl1_tally.specs.Numbers.{up_from};
     ghost use Rattle.kl1_tally.specs.Seats.{new_book, new_share};
     ghost use Rattle.kl1_tally.specs.declared.amounts.TheConstants.{MOST_ACCOUNTS};
-    ghost use Rattle.kl1_pool_tickets.specs.Hands.{all_parts, hand};
+    ghost use Rattle.kl1_pool_tickets.specs.Histories.{all_parts, history};
     ghost use Rattle.kl1_pool_tickets.specs.Parts.{PartsValue};
 
     ghost Value = { PartsValue };
 
     ghost view = { λ p. record { tally = p.tally.id; queue = p.queue.table.shared.table_id; accounts = p.tally.accounts; shares = p.tally.shares } };
 
-    ghost invariant = { λ p. (p.rest.table_id ≡ p.queue.table.shared.table_id) × (p.rest.me.1 ≡ []) × (knows p.rest ≡ hand all_parts [] []) × (p.books.items ≡ map (new_book p.tally.id) (up_from 0 p.tally.accounts)) × All (λ seat. seat ≡ new_share p.tally.id) p.seats.items × (vec_len p.books ≡ p.tally.accounts) × (vec_len p.seats ≡ p.tally.shares) × (p.tally.accounts ≤ MOST_ACCOUNTS) };
+    ghost invariant = { λ p. (p.rest.table_id ≡ p.queue.table.shared.table_id) × (p.rest.me.1 ≡ []) × (knows p.rest ≡ history all_parts [] []) × (p.books.items ≡ map (new_book p.tally.id) (up_from 0 p.tally.accounts)) × All (λ seat. seat ≡ new_share p.tally.id) p.seats.items × (vec_len p.books ≡ p.tally.accounts) × (vec_len p.seats ≡ p.tally.shares) × (p.tally.accounts ≤ MOST_ACCOUNTS) };
 }
 
 /// The parts of a pool that a type names: what its threads share besides the accounts, the book of each account in the order of
 /// the accounts, and the shares.
 #[derive(Drop)]
-pub struct Opened<K: Naming> {
-    pub common: Common<K>,
+pub struct Opened<K: TicketIds> {
+    pub common: PoolShared<K>,
     pub books: Vec<BookSeat>,
     pub shares: Vec<Share<K>>,
 }
@@ -78,7 +78,7 @@ impl Parts {
     }
 
     /// Opens these parts, with their names in the type `K`.
-    pub fn open<K: Naming>(self, alloc: Global) -> Result<Opened<K>, AllocError>
+    pub fn open<K: TicketIds>(self, alloc: Global) -> Result<Opened<K>, AllocError>
         requires { (self.tally ≡ K.tally) × (self.queue ≡ K.queue) × (self.accounts ≡ K.accounts) × (self.shares ≡ K.shares) }
         ensures books { IfOk result (λ opened. opened.books.items ≡ map (new_book K.tally) (up_from 0 K.accounts)) }
         ensures new_books { IfOk result (λ opened. All (IsNewBook K.tally) opened.books.items) }
@@ -95,10 +95,10 @@ impl Parts {
         let room_of_books = Vec::with_capacity(alloc, books.len())?;
         let room_of_seats = Vec::with_capacity(alloc, seats.len())?;
         let shares = shares_of::<K>(alloc, &queue, &mut rest, seats)?;
-        let common = Common {
+        let common = PoolShared {
             tally,
             queue,
-            bell: CachePadded::new(Bell::new()),
+            event_count: CachePadded::new(EventCount::new()),
             is_closed: AtomicBool::new(false),
             rest: Mutex::new(rest_of(rest, room_of_books, room_of_seats)),
         };
@@ -111,10 +111,10 @@ impl Parts {
 }
 
 /// A share for each seat, with a pass of one part that is cut off from `rest`.
-fn shares_of<K: Naming>(
+fn shares_of<K: TicketIds>(
     alloc: Global,
     queue: &Queue,
-    rest: &mut Pass<u64, Hand>,
+    rest: &mut Pass<u64, TicketHistory>,
     mut seats: Vec<ShareSeat>,
 ) -> Result<Vec<Share<K>>, AllocError>
     requires queue { queue.now.table.shared.table_id ≡ K.queue }
@@ -135,7 +135,7 @@ fn shares_of<K: Naming>(
 }
 
 /// A share of a seat and a pass.
-fn share_of<K: Naming>(seat: ShareSeat, pass: Pass<u64, Hand>) -> Share<K>
+fn share_of<K: TicketIds>(seat: ShareSeat, pass: Pass<u64, TicketHistory>) -> Share<K>
     requires seat { seat ≡ new_share K.tally }
     requires of { (pass.table_id ≡ K.queue) × (pass.me.1 ≡ []) }
     requires knows { ((view pass).parts ≡ 1) × ((view pass).put ≡ []) × ((view pass).taken ≡ []) }
@@ -151,14 +151,18 @@ fn share_of<K: Naming>(seat: ShareSeat, pass: Pass<u64, Hand>) -> Share<K>
 }
 
 /// What is kept for the end.
-fn rest_of<K: Naming>(pass: Pass<u64, Hand>, books: Vec<BookSeat>, seats: Vec<ShareSeat>) -> Rest<K>
+fn rest_of<K: TicketIds>(
+    pass: Pass<u64, TicketHistory>,
+    books: Vec<BookSeat>,
+    seats: Vec<ShareSeat>,
+) -> Reserve<K>
     requires of { (pass.table_id ≡ K.queue) × (pass.me.1 ≡ []) }
     requires parts { (view pass).parts + K.shares ≡ all_parts }
     requires idle { ((view pass).put ≡ []) × ((view pass).taken ≡ []) }
     requires books { (books.items ≡ []) × (K.accounts ≤ vec_capacity books) }
     requires seats { (seats.items ≡ []) × (K.shares ≤ vec_capacity seats) }
 {
-    Rest {
+    Reserve {
         pass,
         books,
         seats,

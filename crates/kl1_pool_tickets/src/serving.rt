@@ -5,9 +5,9 @@ ghost use Rattle.kl1_tally.specs.declared.amounts.TheConstants.{MOST_ACCOUNTS};
 ghost use Rattle.kl1_pool_tickets.specs.declared.serving.TheConstants.{MOST_STEPS};
 ghost use Rattle.kl1_pool_tickets.specs.Counts.{Moved, Acts, Worked, CanTake};
 
-use crate::common::Common;
-use crate::naming::Naming;
+use crate::pool_shared::PoolShared;
 use crate::share::Share;
+use crate::ticket_ids::TicketIds;
 use std::sync::Wait;
 
 /// The most steps of a turn.
@@ -15,15 +15,15 @@ pub const MOST_STEPS: u64 = 64;
 
 /// What a turn of an account did: how many steps, and whether its ticket is to be put back.
 #[derive(Clone, Copy)]
-pub struct Turn {
+pub struct TimeSlice {
     pub steps: u64,
     pub again: bool,
 }
 
 /// The accounts of a pool, each under its lock, with a note whether its ticket is out.
-pub trait Accounts<K: Naming> {
+pub trait Accounts<K: TicketIds> {
     /// Does steps of an account and counts them in `share`. Unless the ticket is to be put back, it notes that none is out.
-    fn turn<R: Wait>(&self, rt: &R, account: usize, share: &mut Share<K>) -> Turn
+    fn turn<R: Wait>(&self, rt: &R, account: usize, share: &mut Share<K>) -> TimeSlice
         requires within { account < MOST_ACCOUNTS }
         ensures few { result.steps ≤ MOST_STEPS }
         ensures counted { Moved account result.steps result.steps 0 0 share.old share.new };
@@ -34,9 +34,9 @@ pub trait Accounts<K: Naming> {
 }
 
 /// Puts the ticket of an account back; if it can't be put, none is out.
-fn put_back<R: Wait, K: Naming, A: Accounts<K>>(
+fn put_back<R: Wait, K: TicketIds, A: Accounts<K>>(
     rt: &R,
-    common: &Common<K>,
+    common: &PoolShared<K>,
     accounts: &A,
     account: usize,
     share: &mut Share<K>,
@@ -50,9 +50,9 @@ fn put_back<R: Wait, K: Naming, A: Accounts<K>>(
 }
 
 /// Serves the ticket of an account.
-fn serve<R: Wait, K: Naming, A: Accounts<K>>(
+fn serve<R: Wait, K: TicketIds, A: Accounts<K>>(
     rt: &R,
-    common: &Common<K>,
+    common: &PoolShared<K>,
     accounts: &A,
     account: usize,
     share: &mut Share<K>,
@@ -67,9 +67,9 @@ fn serve<R: Wait, K: Naming, A: Accounts<K>>(
 }
 
 /// Takes a ticket and serves it; false tells that there was none.
-fn serve_next<R: Wait, K: Naming, A: Accounts<K>>(
+fn serve_next<R: Wait, K: TicketIds, A: Accounts<K>>(
     rt: &R,
-    common: &Common<K>,
+    common: &PoolShared<K>,
     accounts: &A,
     share: &mut Share<K>,
 ) -> bool
@@ -86,27 +86,27 @@ fn serve_next<R: Wait, K: Naming, A: Accounts<K>>(
 }
 
 /// Looks for a ticket once more, and sleeps if there is none, until there may be one.
-fn serve_or_sleep<R: Wait, K: Naming, A: Accounts<K>>(
+fn serve_or_sleep<R: Wait, K: TicketIds, A: Accounts<K>>(
     rt: &R,
-    common: &Common<K>,
+    common: &PoolShared<K>,
     accounts: &A,
     share: &mut Share<K>,
 )
     requires can { CanTake share.old }
     ensures { Worked share.old share.new }
 {
-    let heard = common.bell.listen();
+    let heard = common.event_count.listen();
     let served = serve_next(rt, common, accounts, share);
     if !served && !common.is_closed() {
-        common.bell.sleep(rt, heard);
+        common.event_count.sleep(rt, heard);
     }
-    common.bell.rise();
+    common.event_count.rise();
 }
 
 /// Takes tickets and serves them until `close` was called, or the share can take no more.
-pub fn worker<R: Wait, K: Naming, A: Accounts<K>>(
+pub fn worker<R: Wait, K: TicketIds, A: Accounts<K>>(
     rt: &R,
-    common: &Common<K>,
+    common: &PoolShared<K>,
     accounts: &A,
     share: &mut Share<K>,
 )

@@ -5,9 +5,9 @@ ghost use Rattle.kl1_tally.specs.declared.amounts.TheConstants.{MOST_ACCOUNTS};
 ghost use Rattle.kl1_tally.specs.Seats.{raised_book};
 ghost use Rattle.kl1_pool_tickets.specs.Counts.{Moved, CanTake};
 
-use crate::common::Common;
-use crate::hand::{Hand, Puts, Takes};
-use crate::naming::Naming;
+use crate::pool_shared::PoolShared;
+use crate::ticket_history::{Puts, Takes, TicketHistory};
+use crate::ticket_ids::TicketIds;
 use crossbeam_queue::Pass;
 use kl1_tally::{BookSeat, MOST_ACCOUNTS, ShareSeat, Tally};
 use std::marker::{Model, PhantomData};
@@ -19,15 +19,15 @@ pub const MOST_TICKETS: u64 = 1 << 63;
 /// What a thread counted of each account, and how many of its tickets the thread put and took. Contracts see four lists of numbers,
 /// at the accounts' numbers.
 #[derive(Drop)]
-pub struct Share<K: Naming> {
+pub struct Share<K: TicketIds> {
     pub(crate) seat: ShareSeat,
-    pub(crate) pass: Pass<u64, Hand>,
+    pub(crate) pass: Pass<u64, TicketHistory>,
     pub(crate) puts: [u64; MOST_ACCOUNTS],
     pub(crate) takes: [u64; MOST_ACCOUNTS],
     pub(crate) of: PhantomData<K>,
 }
 
-impl<K: Naming> Model for Share<K> {
+impl<K: TicketIds> Model for Share<K> {
     ghost use Rattle.std.specs.Prelude.{◌≡◌, ℕ, List, [], length};
     ghost use Rattle.crossbeam_queue.specs.Passes.{view as knows};
     ghost use Rattle.kl1_pool_tickets.specs.Counts.{Counts, Keeps};
@@ -39,7 +39,7 @@ impl<K: Naming> Model for Share<K> {
     ghost invariant = { λ s. (s.seat.tally ≡ K.tally) × (s.pass.table_id ≡ K.queue) × (s.pass.me.1 ≡ []) × ((knows s.pass).parts ≡ 1) × Keeps s.puts s.takes (knows s.pass) };
 }
 
-impl<K: Naming> Share<K> {
+impl<K: TicketIds> Share<K> {
     /// Counts one event, which is a step or not, in an account's book and in the share.
     pub fn raise(&mut self, tally: &Tally, book: &mut BookSeat, step: bool)
         requires of { tally.now.id ≡ K.tally }
@@ -56,7 +56,7 @@ impl<K: Naming> Share<K> {
 
     /// Puts an account's ticket into the queue, and wakes nobody; false tells that the queue is full, or that the share has put
     /// `MOST_TICKETS` of this account.
-    pub fn put<R: Wait>(&mut self, rt: &R, common: &Common<K>, account: usize) -> bool
+    pub fn put<R: Wait>(&mut self, rt: &R, common: &PoolShared<K>, account: usize) -> bool
         requires within { account < MOST_ACCOUNTS }
         ensures { Moved account 0 0 (cond result 1 0) 0 self.old self.new }
     {
@@ -88,7 +88,7 @@ impl<K: Naming> Share<K> {
     }
 
     /// Takes the first ticket in the queue, if there is one: the number of its account.
-    pub fn take<R: Wait>(&mut self, rt: &R, common: &Common<K>) -> Option<usize>
+    pub fn take<R: Wait>(&mut self, rt: &R, common: &PoolShared<K>) -> Option<usize>
         requires can { CanTake self.old }
         ensures { MatchOption result (self.new ≡ self.old) (λ account. (account < MOST_ACCOUNTS) × Moved account 0 0 0 1 self.old self.new) }
     {

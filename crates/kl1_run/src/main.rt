@@ -1,10 +1,19 @@
 //! The program that tries modules from files: it loads them, runs a goal, and tells what came of it.
 #![tactic(auto)]
 
+mod alone;
+mod asked;
+mod fault;
+mod files;
+mod progress;
+mod tasks;
+mod told;
 mod words;
 
+use crate::asked::words_in;
+use crate::fault::Fault;
+use crate::tasks::do_task;
 use crate::words::{asked_in, tell};
-use kl1_run_tasks::{Fault, do_task, words_in};
 use std::process::ExitCode;
 
 fn main(rt: HostRuntime) -> ExitCode {

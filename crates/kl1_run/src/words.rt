@@ -1,7 +1,9 @@
 // The words that the program knows, and what they ask for.
 
+use crate::asked::{Asked, Task, USAGE};
+use crate::fault::BAD;
 use clap::{Arg, ArgAction, Command, Error, value_parser};
-use kl1_run_tasks::{Asked, BAD, MOST_ALLOWANCE, MOST_STEPS, Task, USAGE, Wanted};
+use kl1_run_work::{MOST_ALLOWANCE, MOST_STEPS, Wanted};
 use std::alloc::{AllocError, Global};
 
 /// The flag of a name, with what help says of it.

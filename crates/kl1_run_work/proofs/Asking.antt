@@ -6,7 +6,7 @@ use Rattle.kl1_model.specs.Asking.{reply_to, origin_at}
 use Rattle.kl1_model.specs.code.Steps.{value_of, status_of, reports_of}
 use Rattle.kl1_model.specs.Choice.{Chosen, first}
 use Rattle.kl1_model.specs.laws.TreeLaws.{is_refused}
-use Rattle.kl1_model_history.specs.Journal.{Journal, Kept, Done, done}
+use Rattle.kl1_model_server.specs.Journal.{Journal, Kept, Done, done}
 use Rattle.kl1_run_work.specs.declared.ending.Ending.{Ending}
 use Rattle.kl1_run_work.specs.Answers.{value_text, value_line, ending_in, ending_of}
 

@@ -6,9 +6,9 @@ use Rattle.kl1_model.specs.Module.{Module, Reading, good, bad, read_module}
 use Rattle.kl1_model.specs.State.{State}
 use Rattle.kl1_model.specs.Event.{Refusal, syntax, load, refused, refuse}
 use Rattle.kl1_model.specs.Step.{load_module}
-use Rattle.kl1_model_history.specs.Journal.{Kept, done}
-use Rattle.kl1_model_history.proofs.Replays.{kept_after}
-use Rattle.kl1_model_history.specs.Command.{said}
+use Rattle.kl1_model_server.specs.Journal.{Kept, done}
+use Rattle.kl1_model_server.proofs.Replays.{kept_after}
+use Rattle.kl1_model_server.specs.Command.{said}
 use Rattle.kl1_run_work.specs.Faults.{fault_by, fault_in, told_of}
 
 refused_as : (s : State) (r q : Refusal) → Some q ≡ Some r → refuse s q ≡ refuse s r

@@ -6,8 +6,8 @@ use Rattle.kl1_model.specs.declared.limits.TheConstants.{MOST_PRIORITY}
 use Rattle.kl1_model.specs.Term.{Term}
 use Rattle.kl1_model.specs.Event.{start, status, Reply}
 use Rattle.kl1_model.specs.Asking.{reply_to}
-use Rattle.kl1_model_history.specs.Journal.{Kept, Done, done}
-use Rattle.kl1_model_history.specs.Command.{run_from}
+use Rattle.kl1_model_server.specs.Journal.{Kept, Done, done}
+use Rattle.kl1_model_server.specs.Command.{run_from}
 use Rattle.kl1_run_work.specs.Works.{all_loaded, loaded_from, Worked, worked, opened_in, started, start_on, worked_of}
 use Rattle.kl1_run_work.specs.Watching.{progress_in, progress_of, IsProgress, Follows}
 use Rattle.kl1_run_work.proofs.RunLaws.{runs_both}

@@ -3,10 +3,10 @@ use Rattle.std.proofs.Common.{◌≡◌, ℕ, ◌+◌, ◌-◌, ◌<◌, ◌≤�
 use Rattle.std.proofs.Math.Seq.{take-add}
 use Rattle.std.proofs.lemmas.Bool.{ltb-true}
 use Rattle.std.proofs.lemmas.List.{take_all}
-use Rattle.kl1_model_history.specs.Journal.{Journal}
-use Rattle.kl1_model_history.specs.Command.{written_lines}
-use Rattle.kl1_model_history.specs.JournalText.{journal_lines, page_of}
-use Rattle.kl1_command_lines.proofs.DeviceLaws.{appends_both, front_behind}
+use Rattle.kl1_model_server.specs.Journal.{Journal}
+use Rattle.kl1_model_server.specs.Command.{written_lines}
+use Rattle.kl1_model_server.specs.JournalText.{journal_lines, page_of}
+use Rattle.kl1_lines.proofs.DeviceLaws.{appends_both, front_behind}
 use Rattle.kl1_run_work.specs.Streams.{Stream, WritesAll, BreaksOff}
 use Rattle.kl1_run_work.proofs.Pages.{lines_both}
 

@@ -2,7 +2,7 @@
 use Rattle.std.proofs.Common.{◌≡◌, ℕ, suc, ◌+◌, ◌-◌, ◌<◌, ◌≤◌, List, [], ◌∷◌, length, get_or, take, drop, Option, Some, None, ap, sym, ◌∙◌, subst, refl, arith}
 use Rattle.std.proofs.lemmas.List.{take_all}
 use Rattle.kl1_model.specs.Event.{Refusal, load}
-use Rattle.kl1_model_history.specs.Journal.{Kept, done}
+use Rattle.kl1_model_server.specs.Journal.{Kept, done}
 use Rattle.kl1_command.specs.Performing.{refusal_in}
 use Rattle.kl1_run_work.specs.declared.source_file.SourceFile.{SourceFile}
 use Rattle.kl1_run_work.specs.Works.{Loaded, all_loaded, load_refused, load_on, loaded_from, texts_of}

@@ -11,7 +11,7 @@ use Rattle.kl1_model.specs.State.{Origin, State}
 use Rattle.kl1_model.specs.Event.{syntax, reports, refuse, is_number}
 use Rattle.kl1_model.specs.Asking.{reply_to, origin_at, elements_of}
 use Rattle.kl1_model.specs.code.Steps.{reports_of}
-use Rattle.kl1_model_history.specs.Command.{written_line, written_lines}
+use Rattle.kl1_model_server.specs.Command.{written_line, written_lines}
 use Rattle.kl1_run_work.specs.Answers.{listed_in, is_exception, reports_by, reports_in, all_reports, report_lines, exception_lines}
 
 false_true : (X : Type 0) → false ≡ true → X

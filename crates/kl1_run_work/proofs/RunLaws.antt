@@ -2,8 +2,8 @@
 use Rattle.std.proofs.Common.{◌≡◌, ℕ, zero, suc, ◌+◌, Option, Some, None, ap, sym, ◌∙◌, refl, arith}
 use Rattle.kl1_model.specs.Event.{Refusal, reduce, Reply, loaded, opened, sent, reduced, ran, shown, status_is, listed, quiet_is, welcome, bye, was_reset, refused}
 use Rattle.kl1_model.specs.Choice.{Chosen, first}
-use Rattle.kl1_model_history.specs.Journal.{Kept, Done, done}
-use Rattle.kl1_model_history.specs.Command.{run, Going, run_choice, run_on, stopped_by, run_from, act}
+use Rattle.kl1_model_server.specs.Journal.{Kept, Done, done}
+use Rattle.kl1_model_server.specs.Command.{run, Going, run_choice, run_on, stopped_by, run_from, act}
 
 -- a run that stops leaves the account as it is
 stopped_state : (s : Kept) (n : ℕ) (r : Refusal) → (stopped_by s n r).kept ≡ s

@@ -6,8 +6,8 @@ use Rattle.kl1_model.specs.declared.limits.TheConstants.{MOST_PRIORITY}
 use Rattle.kl1_model.specs.Term.{Term}
 use Rattle.kl1_model.specs.Event as model
 use Rattle.kl1_model.specs.Event.{start}
-use Rattle.kl1_model_history.specs.Journal.{Kept, Done, done}
-use Rattle.kl1_model_history.specs.Command.{run_from}
+use Rattle.kl1_model_server.specs.Journal.{Kept, Done, done}
+use Rattle.kl1_model_server.specs.Command.{run_from}
 use Rattle.kl1_user_events.specs.Views.{refusal_of}
 use Rattle.kl1_user_events.specs.declared.numbers.ShoenNo.{ShoenNo}
 use Rattle.kl1_user_events.specs.declared.refusal.Refusal.{Refusal}

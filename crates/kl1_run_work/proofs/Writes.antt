@@ -6,9 +6,9 @@ use Rattle.std.specs.declared.option.Option.{Option}
 use Rattle.std.specs.declared.result.Result.{Result}
 use Rattle.std.specs.Io.KnownBytes.{Appends}
 use Rattle.kl1_model.specs.State.{State}
-use Rattle.kl1_model_history.specs.Journal.{Kept}
-use Rattle.kl1_command_lines.specs.Devices.{AppendsFront}
-use Rattle.kl1_command_lines.proofs.DeviceLaws.{appends_none, front_behind}
+use Rattle.kl1_model_server.specs.Journal.{Kept}
+use Rattle.kl1_lines.specs.Devices.{AppendsFront}
+use Rattle.kl1_lines.proofs.DeviceLaws.{appends_none, front_behind}
 use Rattle.kl1_run_work.specs.declared.answers.Answers.{Answers}
 use Rattle.kl1_run_work.specs.declared.ending.Ending.{Ending}
 use Rattle.kl1_run_work.specs.declared.stop.Stop.{Stop}

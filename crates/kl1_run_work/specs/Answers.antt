@@ -10,8 +10,8 @@ use Rattle.kl1_model.specs.State.{Origin, State}
 use Rattle.kl1_model.specs.Event.{value, status, is_number, Reply, loaded, opened, sent, reduced, ran, shown, status_is, listed, quiet_is, welcome, bye, was_reset, refused}
 use Rattle.kl1_model.specs.Asking.{reply_to, origin_at, elements_of}
 use Rattle.kl1_model.specs.Choice.{first}
-use Rattle.kl1_model_history.specs.Journal.{Kept}
-use Rattle.kl1_model_history.specs.Command.{written_line, written_lines}
+use Rattle.kl1_model_server.specs.Journal.{Kept}
+use Rattle.kl1_model_server.specs.Command.{written_line, written_lines}
 use Rattle.kl1_user_events.specs.Views.{refusal_of}
 use Rattle.kl1_user_events.specs.Whole.{whole_value}
 use Rattle.kl1_run_work.specs.declared.answers.Answers.{Answers}

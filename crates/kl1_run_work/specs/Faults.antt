@@ -3,7 +3,7 @@ use Rattle.std.specs.Prelude.{ℕ, nat_le, if◌then◌else◌, List, [], ◌∷
 use Rattle.kl1_model.specs.declared.limits.TheConstants.{MOST_SOURCE_BYTES}
 use Rattle.kl1_model.specs.Module.{Module, Reading, good, bad, read_module}
 use Rattle.kl1_model.specs.Event.{Refusal, syntax, source, exists, no_shoen, shoen_ended, step_refused, too_many_names, limit_passed, journal_full, sessions_refused, answer_refused}
-use Rattle.kl1_model_history.specs.Command.{written_line}
+use Rattle.kl1_model_server.specs.Command.{written_line}
 use Rattle.kl1_run_work.specs.declared.source_file.SourceFile.{SourceFile}
 
 -- the line, from 1, on which a source that is refused is bad

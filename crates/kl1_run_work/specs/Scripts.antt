@@ -2,7 +2,7 @@
 use Rattle.std.specs.Prelude.{ℕ, Bool, if◌then◌else◌, List, [], ◌∷◌, ◌++◌, length, codes, decimal}
 use Rattle.kl1_model.specs.Term.{Term}
 use Rattle.kl1_model.specs.Print.{print}
-use Rattle.kl1_model_history.specs.Command.{written_line}
+use Rattle.kl1_model_server.specs.Command.{written_line}
 
 -- the line that loads a text, and the text as a line
 abbrev pub load_line : List ℕ → List ℕ

@@ -3,10 +3,10 @@ use Rattle.std.specs.Prelude.{◌≡◌, ℕ, ◌<◌, ◌⊎◌, List, take, Ok
 use Rattle.std.specs.declared.option.Option.{Option}
 use Rattle.std.specs.declared.result.Result.{Result}
 use Rattle.std.specs.Io.KnownBytes.{Appends}
-use Rattle.kl1_model_history.specs.Command.{written_lines}
-use Rattle.kl1_model_history.specs.Journal.{Journal}
-use Rattle.kl1_model_history.specs.JournalText.{journal_lines}
-use Rattle.kl1_command_lines.specs.Devices.{AppendsFront}
+use Rattle.kl1_model_server.specs.Command.{written_lines}
+use Rattle.kl1_model_server.specs.Journal.{Journal}
+use Rattle.kl1_model_server.specs.JournalText.{journal_lines}
+use Rattle.kl1_lines.specs.Devices.{AppendsFront}
 use Rattle.kl1_run_work.specs.declared.stop.Stop.{Stop}
 use Rattle.kl1_run_work.specs.declared.stop.Stop.TheVariants as stop
 

@@ -4,8 +4,8 @@ use Rattle.std.specs.declared.result.Result.{Result}
 use Rattle.kl1_model.specs.declared.limits.TheConstants.{MOST_PRIORITY}
 use Rattle.kl1_model.specs.Term.{Term}
 use Rattle.kl1_model.specs.Event.{Refusal, syntax, load, start, Reply, loaded, opened, sent, reduced, ran, shown, status_is, listed, quiet_is, welcome, bye, was_reset, refused}
-use Rattle.kl1_model_history.specs.Journal.{Kept, Done, done}
-use Rattle.kl1_model_history.specs.Command.{run_from}
+use Rattle.kl1_model_server.specs.Journal.{Kept, Done, done}
+use Rattle.kl1_model_server.specs.Command.{run_from}
 use Rattle.kl1_user_events.specs.Views.{refusal_of}
 use Rattle.kl1_user_events.specs.declared.numbers.ShoenNo.{ShoenNo}
 use Rattle.kl1_command.specs.Performing.{refusal_in}

@@ -2,8 +2,8 @@
 
 ghost use Rattle.std.specs.Prelude.{◌≡◌, ◌++◌, Some, option_map, IfOk, OnOk};
 ghost use Rattle.kl1_model.specs.Event as model;
-ghost use Rattle.kl1_model_history.specs.Journal.{Kept, done};
-ghost use Rattle.kl1_model_history.specs.Command.{said};
+ghost use Rattle.kl1_model_server.specs.Journal.{Kept, done};
+ghost use Rattle.kl1_model_server.specs.Command.{said};
 ghost use Rattle.kl1_user_events.specs.Views.{refusal_of};
 ghost use Rattle.kl1_run_work.specs.Faults.{fault_in, checked};
 

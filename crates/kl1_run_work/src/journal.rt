@@ -1,14 +1,14 @@
 // The journal of an account, written page by page.
 
 ghost use Rattle.std.specs.Prelude.{◌≡◌, ◌++◌, ◌+◌, ◌*◌, ◌<◌, ◌≤◌, length, map, take, drop, IsTrue, IfOk, OnOk};
-ghost use Rattle.kl1_model_history.specs.Command.{written_lines};
-ghost use Rattle.kl1_model_history.specs.JournalText.{journal_lines};
+ghost use Rattle.kl1_model_server.specs.Command.{written_lines};
+ghost use Rattle.kl1_model_server.specs.JournalText.{journal_lines};
 ghost use Rattle.kl1_run_work.specs.Streams.{seen, IsTold};
 
 use crate::reports::{PAGE, put_line};
 use crate::stop::Stop;
 use kl1_command::Host;
-use kl1_command_lines::{Sink, finish};
+use kl1_lines::{Sink, finish};
 use std::alloc::{AllocError, Global};
 
 /// The most pages of a journal: more lines have no number.

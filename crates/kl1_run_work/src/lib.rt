@@ -25,7 +25,7 @@ pub use ending::Ending;
 pub use faults::{put_fault, words_of};
 pub use journal::put_journal;
 pub use kl1_command::Host;
-pub use kl1_command_lines::{Counted, DeviceFailed, Sink};
+pub use kl1_lines::{DeviceFailed, FailureCounter, Sink};
 pub use kl1_model::limits::{MOST_ALLOWANCE, MOST_SOURCE_BYTES, MOST_STEPS};
 pub use kl1_read::{ReadFault, read_goal};
 pub use kl1_term::Term;

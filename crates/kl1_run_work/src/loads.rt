@@ -2,7 +2,7 @@
 
 ghost use Rattle.std.specs.Prelude.{◌≡◌, option_map, IfOk};
 ghost use Rattle.kl1_model.specs.Event as model;
-ghost use Rattle.kl1_model_history.specs.Journal.{done};
+ghost use Rattle.kl1_model_server.specs.Journal.{done};
 ghost use Rattle.kl1_user_events.specs.Views.{refusal_of, reply_of};
 ghost use Rattle.kl1_command.specs.Performing.{refusal_in};
 ghost use Rattle.kl1_run_work.specs.Works.{texts_of, loaded_from, IsLoaded};

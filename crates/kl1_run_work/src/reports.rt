@@ -1,7 +1,7 @@
 // The reports of a shoen, and the exceptions among them.
 
 ghost use Rattle.std.specs.Prelude.{◌≡◌, ◌++◌, ◌<◌, ◌*◌, [], length, map, take, drop, filter, IfOk, OnOk};
-ghost use Rattle.kl1_model_history.specs.Command.{written_line, written_lines};
+ghost use Rattle.kl1_model_server.specs.Command.{written_line, written_lines};
 ghost use Rattle.kl1_model.specs.declared.limits.TheConstants.{MOST_LISTED};
 ghost use Rattle.kl1_user_events.specs.Views.{reply_of};
 ghost use Rattle.kl1_run_work.specs.Answers.{listed_in, is_exception, reports_in, report_lines, exception_lines};

@@ -1,7 +1,7 @@
 // A run in slices, which is told as it goes on.
 
 ghost use Rattle.std.specs.Prelude.{◌≡◌, OnOk};
-ghost use Rattle.kl1_model_history.specs.Command.{run_from};
+ghost use Rattle.kl1_model_server.specs.Command.{run_from};
 ghost use Rattle.kl1_user_events.specs.Views.{reply_of};
 ghost use Rattle.kl1_run_work.specs.Works.{worked};
 ghost use Rattle.kl1_run_work.specs.Watching.{progress_in, Follows};

@@ -1,7 +1,7 @@
 // The script that does the same work.
 
 ghost use Rattle.std.specs.Prelude.{◌≡◌, ◌++◌, [], codes, if◌then◌else◌, OnOk};
-ghost use Rattle.kl1_model_history.specs.Command.{written_line};
+ghost use Rattle.kl1_model_server.specs.Command.{written_line};
 ghost use Rattle.kl1_run_work.specs.Scripts.{load_line, load_lines, goal_lines, run_lines, question_lines, script_of};
 ghost use Rattle.kl1_run_work.specs.Works.{texts_of};
 

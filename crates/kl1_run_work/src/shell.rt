@@ -2,7 +2,7 @@
 
 ghost use Rattle.std.specs.Prelude.{◌≡◌, ◌++◌, ◌<◌, [], OnOk, OnErr, if◌then◌else◌};
 ghost use Rattle.std.specs.Io.KnownBytes.{Appends};
-ghost use Rattle.kl1_command_lines.specs.Devices.{AppendsFront};
+ghost use Rattle.kl1_lines.specs.Devices.{AppendsFront};
 ghost use Rattle.kl1_run_work.specs.Works.{texts_of, worked_of};
 ghost use Rattle.kl1_run_work.specs.Streams.{seen};
 ghost use Rattle.kl1_run_work.specs.Watching.{Follows};
@@ -15,7 +15,7 @@ use crate::wanted::Wanted;
 use crate::watch::Watch;
 use crate::works::{Work, do_work};
 use kl1_command::Host;
-use kl1_command_lines::{DeviceFailed, Sink, finish, write_all};
+use kl1_lines::{DeviceFailed, Sink, finish, write_all};
 use std::alloc::Global;
 
 /// Writes the goal, and the reports if they are wanted.

@@ -3,7 +3,7 @@
 ghost use Rattle.std.specs.Prelude.{◌≡◌, option_map};
 ghost use Rattle.kl1_model.specs.declared.limits.TheConstants.{MOST_PRIORITY};
 ghost use Rattle.kl1_model.specs.Event as model;
-ghost use Rattle.kl1_model_history.specs.Journal.{done};
+ghost use Rattle.kl1_model_server.specs.Journal.{done};
 ghost use Rattle.kl1_user_events.specs.Views.{reply_of};
 ghost use Rattle.kl1_run_work.specs.Works.{opened_in, IsStarted};
 

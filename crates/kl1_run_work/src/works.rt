@@ -3,7 +3,7 @@
 ghost use Rattle.std.specs.Prelude.{◌≡◌};
 ghost use Rattle.kl1_model.specs.declared.limits.TheConstants.{MOST_PRIORITY};
 ghost use Rattle.kl1_model.specs.Event as model;
-ghost use Rattle.kl1_model_history.specs.Journal.{done};
+ghost use Rattle.kl1_model_server.specs.Journal.{done};
 ghost use Rattle.kl1_run_work.specs.Works.{texts_of, started, worked_of, IsWorked};
 ghost use Rattle.kl1_run_work.specs.Watching.{Follows};
 

@@ -4,17 +4,17 @@ use Rattle.std.proofs.lemmas.List.{append-nil}
 use Rattle.std.specs.Prelude.{Ok, Err}
 use Rattle.std.specs.declared.result.Result.{Result}
 use Rattle.std.specs.Io.KnownBytes.{Appends}
-use Rattle.kl1_model_history.specs.Command.{written_line}
+use Rattle.kl1_model_server.specs.Command.{written_line}
 use Rattle.kl1_model.specs.Line.{line_in, behind_feed, words_of}
 use Rattle.kl1_model.specs.Record.{Record, record_first, records_of}
-use Rattle.kl1_model_history.specs.Script.{accounts_in, written_for, written_from, written_records}
-use Rattle.kl1_command_lines.specs.Devices.{PassesOn}
+use Rattle.kl1_model_server.specs.Script.{accounts_in, written_for, written_from, written_records}
+use Rattle.kl1_lines.specs.Devices.{PassesOn}
 use Rattle.kl1_journal.specs.Keeping.{Held}
 use Rattle.kl1_script.specs.Alone.{AreAlone}
 use Rattle.kl1_script.specs.Scripts.{Closes, Ends, Fails, Stops, StopsBefore, Finishes, first_written}
-use Rattle.kl1_command_lines.specs.declared.script_fault.ScriptFault.{ScriptFault}
-use Rattle.kl1_command_lines.specs.declared.script_fault.ScriptFault.TheVariants as faults
-use Rattle.kl1_command_lines.proofs.DeviceLaws.{appends_both, appends_none, front_behind, some_left}
+use Rattle.kl1_lines.specs.declared.script_fault.ScriptFault.{ScriptFault}
+use Rattle.kl1_lines.specs.declared.script_fault.ScriptFault.TheVariants as faults
+use Rattle.kl1_lines.proofs.DeviceLaws.{appends_both, appends_none, front_behind, some_left}
 use Rattle.kl1_script.proofs.Progress.{Progress, begins, goes_on, told_as, told_first, told_all, told_some}
 
 -- some records are done, after which the accounts are these, and of what was told for them these bytes were not passed on yet

@@ -3,3 +3,7 @@ pub mod Others
 pub mod Worlds
 pub mod Progress
 pub mod Endings
+pub mod NewNames
+pub mod LinesOfNames
+pub mod Accepted
+pub mod ReplayEndings

@@ -7,9 +7,9 @@ use Rattle.std.proofs.lemmas.List.Folds.{list_all-append}
 use Rattle.kl1_model.specs.declared.limits.TheConstants.{MOST_ACCOUNTS}
 use Rattle.kl1_model.specs.AccountName.{is_account_name}
 use Rattle.kl1_model.specs.Line.{is_space, first_word, word_in, behind_word_in, is_blank_line, words_of}
-use Rattle.kl1_model_history.specs.Script.{accounts_in, are_distinct}
+use Rattle.kl1_model_server.specs.Script.{accounts_in, are_distinct}
 use Rattle.kl1_script.specs.Accounts.{named}
-use Rattle.kl1_command_lines.proofs.WordFuel.{words_none, words_more}
+use Rattle.kl1_lines.proofs.WordFuel.{words_none, words_more}
 
 -- one word more
 pub one_more : (names words : List (List ℕ)) (rest : List ℕ) → names ++ words_of rest ≡ words → is_blank_line rest ≡ false → (names ++ word_in rest ∷ []) ++ words_of (behind_word_in rest) ≡ words

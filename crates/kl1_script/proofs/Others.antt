@@ -8,9 +8,9 @@ use Rattle.std.proofs.lemmas.Slice.Eq.{bytes_eq-Decides}
 use Rattle.std.proofs.lemmas.Bool.{and_parts}
 use Rattle.kl1_model.specs.Record.{Record}
 use Rattle.kl1_model.specs.declared.rules.Rules.TheVariants.{Three}
-use Rattle.kl1_model_history.specs.Journal.{Kept, fresh_kept}
-use Rattle.kl1_model_history.specs.Command.{Command, command_of}
-use Rattle.kl1_model_history.specs.Script.{are_distinct, is_account, commands_of, done_by, alone_after}
+use Rattle.kl1_model_server.specs.Journal.{Kept, fresh_kept}
+use Rattle.kl1_model_server.specs.Command.{Command, command_of}
+use Rattle.kl1_model_server.specs.Script.{are_distinct, is_account, commands_of, done_by, alone_after}
 
 -- an account after commands, done in order
 abbrev after_all : Kept → List (Option Command) → Kept

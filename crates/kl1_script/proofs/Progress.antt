@@ -2,9 +2,9 @@
 use Rattle.std.proofs.Common.{◌≡◌, ℕ, Bool, if◌then◌else◌, List, [], ◌∷◌, ◌++◌, length, take, codes, Some, refl, ap, sym, ◌∙◌, append_assoc}
 use Rattle.std.proofs.Math.Seq.{take-append_seam}
 use Rattle.std.proofs.lemmas.List.{append-nil}
-use Rattle.kl1_model_history.specs.Command.{written_line}
+use Rattle.kl1_model_server.specs.Command.{written_line}
 use Rattle.kl1_model.specs.Record.{Record, Records, record_first, records_of}
-use Rattle.kl1_model_history.specs.Script.{written_for, written_from, written_records}
+use Rattle.kl1_model_server.specs.Script.{written_for, written_from, written_records}
 use Rattle.kl1_script.specs.Scripts.{first_written}
 
 -- records after others

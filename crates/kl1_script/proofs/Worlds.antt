@@ -7,9 +7,9 @@ use Rattle.std.proofs.lemmas.Option.{slice_get_within, get_or_from_slice_get}
 use Rattle.kl1_model.specs.declared.rules.Rules.TheVariants.{Three}
 use Rattle.kl1_model.specs.Record.{Record}
 use Rattle.kl1_model.specs.Event.{refused, syntax}
-use Rattle.kl1_model_history.specs.Journal.{Kept}
-use Rattle.kl1_model_history.specs.Command.{Command, command_of, act, reply_lines, written_line}
-use Rattle.kl1_model_history.specs.Script.{are_distinct, is_account, done_by, alone_after, written_reply, written_for}
+use Rattle.kl1_model_server.specs.Journal.{Kept}
+use Rattle.kl1_model_server.specs.Command.{Command, command_of, act, reply_lines, written_line}
+use Rattle.kl1_model_server.specs.Script.{are_distinct, is_account, done_by, alone_after, written_reply, written_for}
 use Rattle.kl1_atoms.specs.Names.{AreNames}
 use Rattle.kl1_journal.specs.Keeping.{Reading, Fits, Held, kept_of}
 use Rattle.kl1_user.specs.Readings.{reading_of, reading_fits}

@@ -1,7 +1,7 @@
 -- The accounts of a script in a world.
 use Rattle.std.specs.Prelude.{◌≡◌, ℕ, ◌<◌, List, [], length, get_or}
 use Rattle.kl1_model.specs.Record.{Record}
-use Rattle.kl1_model_history.specs.Script.{alone_after}
+use Rattle.kl1_model_server.specs.Script.{alone_after}
 use Rattle.kl1_journal.specs.Keeping.{Reading, Fits, Held, kept_of}
 use Rattle.kl1_world.specs.Worlds.{account_in}
 

@@ -5,10 +5,10 @@ use Rattle.std.specs.declared.result.Result.{Result}
 use Rattle.std.specs.Io.KnownBytes.{Appends}
 use Rattle.kl1_model.specs.Line.{line_in, behind_feed, words_of}
 use Rattle.kl1_model.specs.Record.{Record, records_of}
-use Rattle.kl1_model_history.specs.Script.{accounts_in, written_from, output}
-use Rattle.kl1_command_lines.specs.Devices.{IsLeft, IsWhole, AppendsFront, PassesOn}
-use Rattle.kl1_command_lines.specs.declared.script_fault.ScriptFault.{ScriptFault}
-use Rattle.kl1_command_lines.specs.declared.script_fault.ScriptFault.TheVariants as faults
+use Rattle.kl1_model_server.specs.Script.{accounts_in, written_from, output}
+use Rattle.kl1_lines.specs.Devices.{IsLeft, IsWhole, AppendsFront, PassesOn}
+use Rattle.kl1_lines.specs.declared.script_fault.ScriptFault.{ScriptFault}
+use Rattle.kl1_lines.specs.declared.script_fault.ScriptFault.TheVariants as faults
 
 -- what is written for the first `n` of these records
 abbrev pub first_written : ℕ → Option (List (List ℕ)) → List Record → List ℕ

@@ -3,10 +3,10 @@
 ghost use Rattle.std.specs.Prelude.{◌≡◌, ◌&&◌, nat_le, length, bytes_eq, slice_get, IsFalse, IfOk, IfSome, IfNone, option_map};
 ghost use Rattle.std.specs.List.{list_any};
 ghost use Rattle.kl1_model.specs.Line.{words_of};
-ghost use Rattle.kl1_model_history.specs.Script.{are_distinct, is_account, accounts_in};
+ghost use Rattle.kl1_model_server.specs.Script.{are_distinct, is_account, accounts_in};
 ghost use Rattle.kl1_script.specs.Accounts.{named};
 
-use kl1_command_lines::{is_blank_line, is_same, split_word};
+use kl1_lines::{is_blank_line, is_same, split_word};
 use kl1_model::limits::MOST_ACCOUNTS;
 use kl1_world::AccountName;
 use std::alloc::{AllocError, Global};

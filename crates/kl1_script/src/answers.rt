@@ -3,12 +3,12 @@
 ghost use Rattle.std.specs.Prelude.{◌≡◌, ◌++◌, ◌∷◌, ◌<◌, ℕ, List, [], length, IsTrue, OnOk, OnErr};
 ghost use Rattle.kl1_model.specs.declared.limits.TheConstants.{MOST_WAITING_BYTES};
 ghost use Rattle.kl1_model.specs.Record.{Record as Asked};
-ghost use Rattle.kl1_model_history.specs.Command.{act, reply_lines};
-ghost use Rattle.kl1_model_history.specs.Script.{are_distinct, written_for, written_reply};
+ghost use Rattle.kl1_model_server.specs.Command.{act, reply_lines};
+ghost use Rattle.kl1_model_server.specs.Script.{are_distinct, written_for, written_reply};
 ghost use Rattle.kl1_atoms.specs.Names.{AreNames};
 ghost use Rattle.kl1_journal.specs.Keeping.{Reading, Fits, kept_of};
 ghost use Rattle.kl1_command.specs.Commands.{command_view};
-ghost use Rattle.kl1_command_lines.specs.Records.{request_of};
+ghost use Rattle.kl1_lines.specs.Records.{request_of};
 ghost use Rattle.kl1_world.specs.Worlds.{account_in};
 ghost use Rattle.kl1_script.specs.Alone.{AreAlone};
 
@@ -16,7 +16,7 @@ use crate::accounts::place_in;
 use kl1_atoms::AtomSource;
 use kl1_codes::CodeSource;
 use kl1_command::{Command, Parsed, Performed, command_in, put_lines};
-use kl1_command_lines::Record;
+use kl1_lines::Record;
 use kl1_user_events::{Refusal, Reply};
 use kl1_world::{AccountName, World};
 use std::alloc::{AllocError, Global};

@@ -3,11 +3,17 @@
 
 mod accounts;
 mod answers;
+mod entries;
+mod finishing;
+mod names;
+mod replayed;
+mod replays;
 mod scripts;
 
 pub use accounts::accounts_in;
 pub use kl1_command::{
     Command, Parsed, Performed, command_in, parse, perform, put_lines, put_reply,
 };
-pub use kl1_command_lines::{Counted, DeviceFailed, Request, ScriptFault, Sink, Source};
+pub use kl1_lines::{DeviceFailed, FailureCounter, Request, ScriptFault, Sink, Source};
+pub use replays::{replay_over, run_replay};
 pub use scripts::{answer_over, run_script};

@@ -2,22 +2,22 @@
 
 ghost use Rattle.std.specs.Prelude.{◌≡◌, ◌+◌, ◌++◌, ◌∷◌, ◌<◌, ◌≤◌, ℕ, List, [], length, Some, IsTrue, OnOk, IsErrOf, codes, if◌then◌else◌};
 ghost use Rattle.std.specs.Io.KnownBytes.{Consumes, Appends};
-ghost use Rattle.kl1_model_history.specs.Command.{written_line};
+ghost use Rattle.kl1_model_server.specs.Command.{written_line};
 ghost use Rattle.kl1_model.specs.declared.limits.TheConstants.{MOST_ACCOUNTS, MOST_SCRIPT_BYTES, MOST_WAITING_BYTES};
 ghost use Rattle.kl1_model.specs.Record.{Record as Asked, records_of};
-ghost use Rattle.kl1_model_history.specs.Script.{are_distinct, output, written_for, written_records};
-ghost use Rattle.kl1_command_lines.specs.Devices.{ReadsFew};
+ghost use Rattle.kl1_model_server.specs.Script.{are_distinct, output, written_for, written_records};
+ghost use Rattle.kl1_lines.specs.Devices.{ReadsFew};
 ghost use Rattle.kl1_script.specs.Scripts.{Answered, BreaksOff, Closes, Ends, Finishes, Passes, StopsBefore, Stops, first_written, front_of};
 ghost use Rattle.kl1_script.specs.Alone.{AreAlone};
-ghost use Rattle.kl1_world.specs.Lodging.{AreNewSeats};
-ghost use Rattle.kl1_command_lines.specs.Records.{request_of};
-ghost use Rattle.kl1_command_lines.specs.declared.script_fault.ScriptFault.TheVariants as faults;
+ghost use Rattle.kl1_world.specs.Seating.{AreNewSeats};
+ghost use Rattle.kl1_lines.specs.Records.{request_of};
+ghost use Rattle.kl1_lines.specs.declared.script_fault.ScriptFault.TheVariants as faults;
 
 use crate::accounts::accounts_in;
 use crate::answers::put_record;
 use kl1_atoms::{AtomSource, AtomTable, SharedAtoms};
 use kl1_codes::{CodeSource, CodeTable, SharedCodes};
-use kl1_command_lines::{
+use kl1_lines::{
     NextRecord, Record, ScriptFault, Sink, Source, finish, next_record, pass_on, read_all,
     split_line,
 };

@@ -1,13 +1,13 @@
 //! The server: accounts behind a socket, for those who know their keys.
 #![tactic(auto)]
 
-use kl1_server_work::{Counted, Halt, run_server, stop};
+use kl1_server_work::{FailureCounter, StartupError, run_server, stop};
 use std::process::ExitCode;
 use std::{env, io};
 
 fn main(rt: HostRuntime) -> ExitCode {
-    let mut out = Counted::new(rt.stdout());
-    let mut err = Counted::new(rt.stderr());
+    let mut out = FailureCounter::new(rt.stdout());
+    let mut err = FailureCounter::new(rt.stderr());
     ExitCode::from(match words_in(&rt) {
         Ok(words) => run_server(&rt, rt.alloc(), words.as_slice(), &mut out, &mut err),
         Err(halt) => stop(halt, &mut err),
@@ -15,19 +15,19 @@ fn main(rt: HostRuntime) -> ExitCode {
 }
 
 /// The words of the program, of which the first is its name.
-fn words_in(rt: &HostRuntime) -> Result<Vec<String>, Halt> {
+fn words_in(rt: &HostRuntime) -> Result<Vec<String>, StartupError> {
     let words = match env::args(rt) {
         Ok(words) => words,
         Err(error) => {
             return Err(if error.kind() == io::ErrorKind::OutOfMemory {
-                Halt::Memory
+                StartupError::Memory
             } else {
-                Halt::Usage
+                StartupError::Usage
             });
         }
     };
     match words.collect(rt.alloc()) {
         Ok(words) => Ok(words),
-        Err(_) => Err(Halt::Memory),
+        Err(_) => Err(StartupError::Memory),
     }
 }

@@ -2,11 +2,10 @@
 
 ghost use Rattle.std.specs.Prelude.{◌≤◌, length};
 
-use crate::counter::Counter;
-use kl1_command_lines::{Counted, Sink, Source};
-use kl1_pool::{CellNaming, Pool, Share};
-use kl1_session_door::Served;
-use kl1_session_keys::Key;
+use crate::pool_handler::PoolHandler;
+use kl1_lines::{FailureCounter, Sink, Source};
+use kl1_pool::{Pool, PoolIds, Share};
+use kl1_session::{Disconnect, Key};
 use std::alloc::Global;
 use std::net::TcpStream;
 use std::sync::Wait;
@@ -15,7 +14,7 @@ use std::sync::Wait;
 const PIECE: usize = 4_096;
 
 /// Serves one connection, of the accounts of a pool with these keys.
-pub fn serve<'t, S: Source, T: Sink, R: Wait, K: CellNaming>(
+pub fn serve<'t, S: Source, T: Sink, R: Wait, K: PoolIds>(
     rt: &R,
     alloc: Global,
     source: &mut S,
@@ -23,16 +22,16 @@ pub fn serve<'t, S: Source, T: Sink, R: Wait, K: CellNaming>(
     pool: &Pool<'t, R, K>,
     keys: &[Key],
     share: &mut Share<K>,
-) -> Served
+) -> Disconnect
     requires { length keys.now ≤ K.accounts }
 {
-    let mut counter = Counter { rt, pool, share };
+    let mut counter = PoolHandler { rt, pool, share };
     let mut buffer = [0u8; PIECE];
-    kl1_session_door::serve(alloc, source, sink, &mut counter, keys, &mut buffer)
+    kl1_session::serve(alloc, source, sink, &mut counter, keys, &mut buffer)
 }
 
 /// Serves one connection over a socket, and gives the share back.
-pub(crate) fn serve_stream<'t, R: Wait, K: CellNaming>(
+pub(crate) fn serve_stream<'t, R: Wait, K: PoolIds>(
     rt: &R,
     alloc: Global,
     stream: TcpStream,
@@ -45,8 +44,8 @@ pub(crate) fn serve_stream<'t, R: Wait, K: CellNaming>(
     let mut share = share;
     // Replies go out at once. A socket that can't do this serves all the same.
     let _ = stream.set_nodelay(true);
-    let mut source = Counted::new(&stream);
-    let mut sink = Counted::new(&stream);
+    let mut source = FailureCounter::new(&stream);
+    let mut sink = FailureCounter::new(&stream);
     let _ = serve(rt, alloc, &mut source, &mut sink, pool, keys, &mut share);
     share
 }

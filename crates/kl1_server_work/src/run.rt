@@ -1,9 +1,11 @@
 // The program, from its words to its status.
 
-use crate::house::serve_all;
-use kl1_command_lines::{Sink, finish};
+use crate::server::serve_all;
+use crate::startup::{Startup, ready_by};
+use crate::startup_error::StartupError;
+use crate::told::put_served;
+use kl1_lines::{Sink, finish};
 use kl1_pool::Totals;
-use kl1_server_settings::{Halt, Ready, put_served, ready_by};
 use std::alloc::Global;
 use std::fs::Files;
 use std::net::{Net, TcpListener, TcpStream};
@@ -23,11 +25,11 @@ fn sum_of(numbers: &[u64]) -> u128 {
 }
 
 /// Serves as the words ask for, to the end; and answers how many connections were accepted, and what was done to the accounts.
-fn served_by<R>(rt: &R, alloc: Global, words: &[String]) -> Result<(u16, Totals), Halt>
+fn served_by<R>(rt: &R, alloc: Global, words: &[String]) -> Result<(u16, Totals), StartupError>
 where
     R: Net<Listener = TcpListener, Stream = TcpStream> + Files + Threads + Wait + Sync,
 {
-    let Ready {
+    let Startup {
         words,
         keys,
         listener,
@@ -74,7 +76,7 @@ fn tell<O: Sink, E: Sink>(
     let events = sum_of(&totals.events);
     let steps = sum_of(&totals.steps);
     if put_served(&mut line, u64::from(accepted), events, steps).is_err() {
-        return stop(Halt::Memory, err);
+        return stop(StartupError::Memory, err);
     }
     match finish(out, line.as_slice()) {
         Ok(()) => 0,
@@ -83,7 +85,7 @@ fn tell<O: Sink, E: Sink>(
 }
 
 /// Tells why the server doesn't serve, and answers the program's status.
-pub fn stop<E: Sink>(halt: Halt, err: &mut E) -> u8 {
+pub fn stop<E: Sink>(halt: StartupError, err: &mut E) -> u8 {
     let _ = finish(err, halt.line());
     halt.status()
 }

@@ -3,8 +3,8 @@
 ghost use Rattle.std.specs.Prelude.{◌≤◌, length};
 
 use crate::connection::serve_stream;
-use kl1_pool::{CellNaming, Gate, Pool, Share, worker};
-use kl1_session_keys::Key;
+use kl1_pool::{Gate, Pool, PoolIds, Share, worker};
+use kl1_session::Key;
 use std::alloc::{AllocError, Global};
 use std::net::{Net, TcpListener, TcpStream};
 use std::sync::atomic::{AtomicU64, Ordering};
@@ -23,7 +23,7 @@ impl Gate for OpenGate {
 }
 
 /// Goes on with accounts until the pool is closed, and gives the share back. The worker whose number is `left_out` does nothing.
-fn work<'t, R: Wait, K: CellNaming>(
+fn work<'t, R: Wait, K: PoolIds>(
     rt: &R,
     pool: &Pool<'t, R, K>,
     left_out: &AtomicU64,
@@ -38,14 +38,14 @@ fn work<'t, R: Wait, K: CellNaming>(
 }
 
 /// Puts a share back. There is room for each, so that no memory is asked for.
-fn put_back<R: Wait, K: CellNaming>(rt: &R, back: &Mutex<Vec<Share<K>>>, share: Share<K>) {
+fn put_back<R: Wait, K: PoolIds>(rt: &R, back: &Mutex<Vec<Share<K>>>, share: Share<K>) {
     let mut back = back.lock(rt);
     let _ = back.push(share);
 }
 
 /// Accepts a connection for each share, and serves each in a thread of its own, or in this one if no thread can be made. When all
 /// have ended, it gives the shares back, after those of `back`, which has room for them. An accept that fails counts as a connection.
-fn serve_each<'t, R, K: CellNaming + Send + Sync>(
+fn serve_each<'t, R, K: PoolIds + Send + Sync>(
     rt: &R,
     alloc: Global,
     listener: &TcpListener,
@@ -92,7 +92,7 @@ where
 
 /// Starts a worker for each share of `workers`, and leaves out those for which no thread can be made; and serves a connection for each
 /// share of `visitors`. When all connections have ended, it closes the pool, waits for the workers, and gives the shares back.
-pub(crate) fn serve_with_workers<'t, R, K: CellNaming + Send + Sync>(
+pub(crate) fn serve_with_workers<'t, R, K: PoolIds + Send + Sync>(
     rt: &R,
     alloc: Global,
     listener: &TcpListener,

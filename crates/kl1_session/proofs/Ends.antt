@@ -5,15 +5,15 @@ use Rattle.std.proofs.Math.Seq.{take-add, take-append_seam, drop-append-add}
 use Rattle.std.proofs.lemmas.Bool.{cases_lt}
 use Rattle.kl1_model.specs.declared.limits.TheConstants.{MOST_COMMAND_BYTES}
 use Rattle.kl1_model.specs.Record.{other_line}
-use Rattle.kl1_model_history.specs.Cut.{has_feed, request_first, only_rest, cut_of}
-use Rattle.kl1_model_history.specs.code.Streams.{load_request}
-use Rattle.kl1_command_lines.specs.Places.{IsSplit}
-use Rattle.kl1_model_history.specs.Inputs.{inputs_in, inputs, rest}
+use Rattle.kl1_model_server.specs.Cut.{has_feed, request_first, only_rest, cut_of}
+use Rattle.kl1_model_server.specs.code.Streams.{load_request}
+use Rattle.kl1_lines.specs.Places.{IsSplit}
+use Rattle.kl1_model_server.specs.Inputs.{inputs_in, inputs, rest}
 use Rattle.kl1_session.specs.Going.{going, rest_of, IsFew, IsKept, passed_by, most_kept, IsWhole, EndsIn, ending}
 use Rattle.kl1_session.specs.Asking.{input_view, Begins, Collects}
 use Rattle.kl1_session.specs.declared.input.Input.{Input}
-use Rattle.kl1_model_history.proofs.Feeds.{feed_append}
-use Rattle.kl1_model_history.proofs.Cuts.{cut_waits, cut_at, cut_load, load_waits, load_at, load_spoiled, long_line}
+use Rattle.kl1_model_server.proofs.Feeds.{feed_append}
+use Rattle.kl1_model_server.proofs.Cuts.{cut_waits, cut_at, cut_load, load_waits, load_at, load_spoiled, long_line}
 use Rattle.kl1_session.proofs.Kept.{line_kept, load_kept}
 
 -- what is left of two texts

@@ -6,12 +6,12 @@ use Rattle.std.proofs.lemmas.Bool.{true≢false}
 use Rattle.kl1_model.specs.declared.limits.TheConstants.{MOST_COMMAND_BYTES, MOST_SOURCE_BYTES}
 use Rattle.kl1_model.specs.Line.{behind_feed, without_return, line_in}
 use Rattle.kl1_model.specs.Record.{source_bytes_in}
-use Rattle.kl1_command_lines.specs.Places.{IsSplit}
-use Rattle.kl1_model_history.specs.Cut.{has_feed, cut_of}
-use Rattle.kl1_model_history.specs.code.Streams.{line_cut, pending_source, pending_in}
-use Rattle.kl1_model_history.proofs.Feeds.{feed_front}
-use Rattle.kl1_model_history.proofs.Loads.{source_of_load, load_line, load_behind, load_feed}
-use Rattle.kl1_model_history.proofs.Cuts.{cut_at}
+use Rattle.kl1_lines.specs.Places.{IsSplit}
+use Rattle.kl1_model_server.specs.Cut.{has_feed, cut_of}
+use Rattle.kl1_model_server.specs.code.Streams.{line_cut, pending_source, pending_in}
+use Rattle.kl1_model_server.proofs.Feeds.{feed_front}
+use Rattle.kl1_model_server.proofs.Loads.{source_of_load, load_line, load_behind, load_feed}
+use Rattle.kl1_model_server.proofs.Cuts.{cut_at}
 use Rattle.kl1_session.specs.Going.{rest_of, IsKept, pending_kept}
 
 -- bytes after others, as far as there is room

@@ -2,9 +2,9 @@
 use Rattle.std.specs.Prelude.{◌≡◌, ℕ, List, ◌++◌, map, Option}
 use Rattle.kl1_user_events.specs.Views.{refusal_of}
 use Rattle.kl1_command.specs.Commands.{command_view}
-use Rattle.kl1_model_history.specs.Cut.{Cut}
-use Rattle.kl1_model_history.specs.Inputs as inputs
-use Rattle.kl1_model_history.specs.Inputs.{inputs_in}
+use Rattle.kl1_model_server.specs.Cut.{Cut}
+use Rattle.kl1_model_server.specs.Inputs as inputs
+use Rattle.kl1_model_server.specs.Inputs.{inputs_in}
 use Rattle.kl1_session.specs.Going.{rest_of, IsKept, IsFew, going}
 use Rattle.kl1_session.specs.declared.input.Input.{Input}
 use Rattle.kl1_session.specs.declared.input.Input.TheVariants as input

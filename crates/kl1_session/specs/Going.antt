@@ -3,9 +3,9 @@ use Rattle.std.specs.Prelude.{◌≡◌, ℕ, ◌+◌, ◌≤◌, ◌<◌, false
 use Rattle.kl1_model.specs.declared.limits.TheConstants.{MOST_COMMAND_BYTES, MOST_SOURCE_BYTES}
 use Rattle.kl1_model.specs.Line.{without_return}
 use Rattle.kl1_model.specs.Record.{source_bytes_in}
-use Rattle.kl1_command_lines.specs.Records.{request_of}
-use Rattle.kl1_model_history.specs.Cut.{has_feed, Cut, request_first, only_rest, load_cut, cut_of}
-use Rattle.kl1_model_history.specs.code.Streams.{load_request, line_cut}
+use Rattle.kl1_lines.specs.Records.{request_of}
+use Rattle.kl1_model_server.specs.Cut.{has_feed, Cut, request_first, only_rest, load_cut, cut_of}
+use Rattle.kl1_model_server.specs.code.Streams.{load_request, line_cut}
 use Rattle.kl1_session.specs.declared.next.Next.{Next}
 use Rattle.kl1_session.specs.declared.next.Next.TheVariants as next
 use Rattle.kl1_session.specs.declared.ended.Ended.{Ended}

@@ -1,3 +1,9 @@
 pub mod Going
 pub mod Asking
 pub mod Kept
+pub mod Limits
+pub mod Files
+pub mod Views
+pub mod Doors
+pub mod ActionViews
+pub mod Replies

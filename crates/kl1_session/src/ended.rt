@@ -1,12 +1,12 @@
 // Where what is kept ends in a piece, and what it is then.
 
 ghost use Rattle.std.specs.Prelude.{◌≡◌, ◌++◌, ◌≤◌, ◌<◌, ◌+◌, ◌^◌, ℕ, List, length, drop, false, IfSome, IsNone};
-ghost use Rattle.kl1_model_history.specs.Cut.{has_feed};
+ghost use Rattle.kl1_model_server.specs.Cut.{has_feed};
 ghost use Rattle.kl1_session.specs.Going.{IsKept, IsFew, EndsIn, passed_by, most_kept as most_kept_by, ending, ended_from, IsEnded};
 
 use crate::next::load_of;
 use crate::texts::front;
-use kl1_command_lines::{Request, source_bytes_in, split_feed, without_return};
+use kl1_lines::{Request, source_bytes_in, split_feed, without_return};
 use kl1_model::limits::MOST_COMMAND_BYTES;
 
 /// What a line, or the end of a load, comes to.

@@ -2,13 +2,13 @@
 
 ghost use Rattle.std.specs.Prelude.{◌≡◌, IfOk};
 ghost use Rattle.kl1_model.specs.Record.{other_line};
-ghost use Rattle.kl1_command_lines.specs.Records.{request_of};
+ghost use Rattle.kl1_lines.specs.Records.{request_of};
 ghost use Rattle.kl1_command.specs.Commands.{parsed_view};
-ghost use Rattle.kl1_model_history.specs.Inputs.{input_of, input_by, login_in};
+ghost use Rattle.kl1_model_server.specs.Inputs.{input_of, input_by, login_in};
 ghost use Rattle.kl1_session.specs.Asking.{input_view};
 
 use kl1_command::{Command, Parsed, command_in, parse};
-use kl1_command_lines::{Request, is_blank_line, is_same, split_word};
+use kl1_lines::{Request, is_blank_line, is_same, split_word};
 use kl1_model::limits::MOST_COMMAND_BYTES;
 use kl1_user_events::Refusal;
 use std::alloc::{AllocError, Global};

@@ -1,15 +1,28 @@
 //! What a session is asked, from the bytes that come in, in whatever pieces.
 #![tactic(auto)]
 
-ghost use Rattle.kl1_model_history.specs.laws.InputLaws.{CutsAnywhere, CutsInPieces, InputsCutAnywhere};
+ghost use Rattle.kl1_model_server.specs.laws.InputLaws.{CutsAnywhere, CutsInPieces, InputsCutAnywhere};
 
+mod action;
+mod command_handler;
+mod connection;
 mod ended;
+mod file;
+mod found;
 mod input;
+mod key;
+pub mod limits;
 mod next;
 mod session;
 mod texts;
 
+pub use action::{Action, action_of};
+pub use command_handler::CommandHandler;
+pub use connection::{Disconnect, serve};
+pub use file::read_keys;
+pub use found::{find, is_same_key};
 pub use input::Input;
+pub use key::Key;
 pub use session::Session;
 
 /// What a stream asks for, and its rest, don't depend on the pieces in which it comes. It does nothing: its contract is this

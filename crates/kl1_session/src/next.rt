@@ -2,13 +2,13 @@
 
 ghost use Rattle.std.specs.Prelude.{◌≡◌, ◌≤◌, ◌<◌, length, Some};
 ghost use Rattle.kl1_model.specs.declared.limits.TheConstants.{MOST_SOURCE_BYTES};
-ghost use Rattle.kl1_model_history.specs.Cut.{cut_of, load_cut};
-ghost use Rattle.kl1_model_history.specs.code.Streams.{load_request};
+ghost use Rattle.kl1_model_server.specs.Cut.{cut_of, load_cut};
+ghost use Rattle.kl1_model_server.specs.code.Streams.{load_request};
 ghost use Rattle.kl1_session.specs.Going.{going, cut_from, IsNext, IsFew};
-ghost use Rattle.kl1_command_lines.specs.Records.{request_of};
+ghost use Rattle.kl1_lines.specs.Records.{request_of};
 
 use crate::texts::front;
-use kl1_command_lines::{Request, source_bytes_in, split_feed, without_return};
+use kl1_lines::{Request, source_bytes_in, split_feed, without_return};
 use kl1_model::limits::MOST_COMMAND_BYTES;
 
 /// The next request of a stream.

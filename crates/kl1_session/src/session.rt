@@ -2,9 +2,9 @@
 
 ghost use Rattle.std.specs.Prelude.{◌≡◌, ◌++◌, ◌+◌, ◌≤◌, false, [], length, take, map, IfOk, OnOk, OnErr};
 ghost use Rattle.kl1_model.specs.declared.limits.TheConstants.{MOST_COMMAND_BYTES, MOST_SOURCE_BYTES};
-ghost use Rattle.kl1_model_history.specs.Cut.{has_feed};
-ghost use Rattle.kl1_model_history.specs.code.Streams.{pending_in};
-ghost use Rattle.kl1_model_history.specs.Inputs.{inputs, rest};
+ghost use Rattle.kl1_model_server.specs.Cut.{has_feed};
+ghost use Rattle.kl1_model_server.specs.code.Streams.{pending_in};
+ghost use Rattle.kl1_model_server.specs.Inputs.{inputs, rest};
 ghost use Rattle.kl1_session.specs.Going.{going, IsFew, IsKept, passed_by, most_kept, ending};
 ghost use Rattle.kl1_session.specs.Asking.{input_view, Begins, Collects};
 

@@ -1,6 +1,6 @@
 // What threads do in a pool.
 
-use kl1_pool::{CellNaming, Pool, Share};
+use kl1_pool::{Pool, PoolIds, Share};
 use kl1_tests_rows::Text;
 use std::rt::Clock;
 use std::sync::Wait;
@@ -8,7 +8,7 @@ use std::sync::Wait;
 /// What threads do in a pool, each with a share of its own, and what they have to say of it.
 pub trait Job {
     /// Before there are other threads.
-    fn begin<'t, R: Wait + Clock, K: CellNaming>(
+    fn begin<'t, R: Wait + Clock, K: PoolIds>(
         &self,
         rt: &R,
         pool: &Pool<'t, R, K>,
@@ -17,7 +17,7 @@ pub trait Job {
     );
 
     /// What the thread numbered `number`, from 0, does.
-    fn go_on<'t, R: Wait + Clock, K: CellNaming>(
+    fn go_on<'t, R: Wait + Clock, K: PoolIds>(
         &self,
         rt: &R,
         pool: &Pool<'t, R, K>,
@@ -27,7 +27,7 @@ pub trait Job {
     );
 
     /// After all other threads have ended.
-    fn end<'t, R: Wait + Clock, K: CellNaming>(
+    fn end<'t, R: Wait + Clock, K: PoolIds>(
         &self,
         rt: &R,
         pool: &Pool<'t, R, K>,

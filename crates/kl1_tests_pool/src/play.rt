@@ -3,15 +3,15 @@
 use crate::gate::{Counter, LOOKS};
 use crate::replaying::put_replay;
 use kl1_command::{Parsed, command_in, put_reply};
-use kl1_command_lines::{NextRecord, Record, Request, next_record};
-use kl1_pool::{CellNaming, Command, Performed, Pool, Share};
+use kl1_lines::{NextRecord, Record, Request, next_record};
+use kl1_pool::{Command, Performed, Pool, PoolIds, Share};
 use kl1_tests_rows::{Text, cut, number_of};
 use kl1_user_events::{Event, Query, Reply};
 use std::sync::Wait;
 use std::thread;
 
 /// What an account answers to a command; `Memory` if there is no account of this number.
-pub fn answered<'t, R: Wait, K: CellNaming>(
+pub fn answered<'t, R: Wait, K: PoolIds>(
     rt: &R,
     pool: &Pool<'t, R, K>,
     account: usize,
@@ -25,7 +25,7 @@ pub fn answered<'t, R: Wait, K: CellNaming>(
 }
 
 /// What an account answers to a run that want of memory cut short after `steps`, if it goes on: the steps of both.
-fn answered_after<'t, R: Wait, K: CellNaming>(
+fn answered_after<'t, R: Wait, K: PoolIds>(
     rt: &R,
     pool: &Pool<'t, R, K>,
     account: usize,
@@ -46,7 +46,7 @@ fn answered_after<'t, R: Wait, K: CellNaming>(
 }
 
 /// What an account answers to a command, at the second try if memory is refused at the first.
-fn answered_again<'t, R: Wait, K: CellNaming>(
+fn answered_again<'t, R: Wait, K: PoolIds>(
     rt: &R,
     pool: &Pool<'t, R, K>,
     account: usize,
@@ -61,7 +61,7 @@ fn answered_again<'t, R: Wait, K: CellNaming>(
 }
 
 /// Puts what an account answers to a request.
-pub fn put_answer<'t, R: Wait, K: CellNaming>(
+pub fn put_answer<'t, R: Wait, K: PoolIds>(
     rt: &R,
     pool: &Pool<'t, R, K>,
     account: usize,
@@ -84,7 +84,7 @@ pub fn put_answer<'t, R: Wait, K: CellNaming>(
 }
 
 /// Whether no goal of an account can step.
-pub fn is_quiet<'t, R: Wait, K: CellNaming>(
+pub fn is_quiet<'t, R: Wait, K: PoolIds>(
     rt: &R,
     pool: &Pool<'t, R, K>,
     account: usize,
@@ -98,7 +98,7 @@ pub fn is_quiet<'t, R: Wait, K: CellNaming>(
 }
 
 /// Waits until no goal of an account can step; whether it came to that.
-pub fn comes_to_rest<'t, R: Wait, K: CellNaming>(
+pub fn comes_to_rest<'t, R: Wait, K: PoolIds>(
     rt: &R,
     pool: &Pool<'t, R, K>,
     account: usize,
@@ -134,7 +134,7 @@ fn account_of(name: &[u8]) -> usize {
 
 /// Does what a record asks for. Beside commands, `rest` waits until the account is quiet, `turns N` until N turns have ended, and
 /// `replay` puts how the replay of its journal ends.
-fn play_record<'t, R: Wait, K: CellNaming>(
+fn play_record<'t, R: Wait, K: PoolIds>(
     rt: &R,
     pool: &Pool<'t, R, K>,
     gate: &Counter,
@@ -161,7 +161,7 @@ fn play_record<'t, R: Wait, K: CellNaming>(
 }
 
 /// Does what the records of a text ask for, each of which begins with the name of an account.
-pub fn play<'t, R: Wait, K: CellNaming>(
+pub fn play<'t, R: Wait, K: PoolIds>(
     rt: &R,
     pool: &Pool<'t, R, K>,
     gate: &Counter,

@@ -1,9 +1,9 @@
 // The replay of an account's journal.
 
 use crate::play::answered;
-use kl1_command_lines::{is_same, split_feed};
-use kl1_pool::{CellNaming, Command, Performed, Pool, Share};
-use kl1_script_replay::{Counted, run_replay};
+use kl1_lines::{is_same, split_feed};
+use kl1_pool::{Command, Performed, Pool, PoolIds, Share};
+use kl1_script::{FailureCounter, run_replay};
 use kl1_tests_rows::Text;
 use kl1_user_events::{Listed, Reply};
 use std::sync::Wait;
@@ -21,7 +21,7 @@ fn put_page(text: &mut Text, lines: &Listed) -> u64 {
 }
 
 /// Puts the journal of an account, as it is told page by page.
-fn put_journal<'t, R: Wait, K: CellNaming>(
+fn put_journal<'t, R: Wait, K: PoolIds>(
     rt: &R,
     pool: &Pool<'t, R, K>,
     account: usize,
@@ -66,7 +66,7 @@ fn last_and_reduced(text: &[u8]) -> (&[u8], u64) {
 }
 
 /// Replays the journal of an account; puts the last line that is written, and after a space how many reductions were replayed.
-pub fn put_replay<'t, R: Wait, K: CellNaming>(
+pub fn put_replay<'t, R: Wait, K: PoolIds>(
     rt: &R,
     pool: &Pool<'t, R, K>,
     account: usize,
@@ -75,8 +75,8 @@ pub fn put_replay<'t, R: Wait, K: CellNaming>(
 ) {
     let mut text = Text::new(out.alloc);
     put_journal(rt, pool, account, share, &mut text);
-    let mut source = Counted::new(text.bytes.as_slice());
-    let mut sink = Counted::new(Vec::new(out.alloc));
+    let mut source = FailureCounter::new(text.bytes.as_slice());
+    let mut sink = FailureCounter::new(Vec::new(out.alloc));
     let done = run_replay(rt, out.alloc, &mut source, &mut sink);
     if text.has_failed || done.is_err() {
         out.fail();

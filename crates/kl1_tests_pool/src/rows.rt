@@ -7,7 +7,7 @@ use crate::job::Job;
 use crate::numbers::small;
 use crate::play::play;
 use crate::tried::tried;
-use kl1_pool::{CellNaming, Pool, Share, Totals, worker};
+use kl1_pool::{Pool, PoolIds, Share, Totals, worker};
 use kl1_tests_rows::{Text, cut};
 use std::alloc::Global;
 use std::rt::Clock;
@@ -27,7 +27,7 @@ struct Row<'a> {
 }
 
 impl Job for Row<'_> {
-    fn begin<'t, R: Wait + Clock, K: CellNaming>(
+    fn begin<'t, R: Wait + Clock, K: PoolIds>(
         &self,
         rt: &R,
         pool: &Pool<'t, R, K>,
@@ -37,7 +37,7 @@ impl Job for Row<'_> {
         play(rt, pool, &self.gate, self.before, share, out);
     }
 
-    fn go_on<'t, R: Wait + Clock, K: CellNaming>(
+    fn go_on<'t, R: Wait + Clock, K: PoolIds>(
         &self,
         rt: &R,
         pool: &Pool<'t, R, K>,
@@ -54,7 +54,7 @@ impl Job for Row<'_> {
         }
     }
 
-    fn end<'t, R: Wait + Clock, K: CellNaming>(
+    fn end<'t, R: Wait + Clock, K: PoolIds>(
         &self,
         rt: &R,
         pool: &Pool<'t, R, K>,

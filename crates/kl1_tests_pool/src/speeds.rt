@@ -7,8 +7,8 @@ use crate::job::Job;
 use crate::numbers::small;
 use crate::play::{is_quiet, put_answer};
 use crate::tried::tried;
-use kl1_command_lines::Request;
-use kl1_pool::{CellNaming, Pool, Share, Totals, worker};
+use kl1_lines::Request;
+use kl1_pool::{Pool, PoolIds, Share, Totals, worker};
 use kl1_tests_rows::{Text, moment, nanoseconds_since, number_of};
 use std::alloc::{AllocError, Global};
 use std::rt::Clock;
@@ -40,7 +40,7 @@ struct Busy {
 
 impl Busy {
     /// Asks each account that is to run for the same, whatever it answers.
-    fn ask_each<'t, R: Wait, K: CellNaming>(
+    fn ask_each<'t, R: Wait, K: PoolIds>(
         &self,
         rt: &R,
         pool: &Pool<'t, R, K>,
@@ -59,7 +59,7 @@ impl Busy {
 }
 
 /// Waits until all accounts are quiet.
-fn rest<'t, R: Wait + Clock, K: CellNaming>(rt: &R, pool: &Pool<'t, R, K>, share: &mut Share<K>) {
+fn rest<'t, R: Wait + Clock, K: PoolIds>(rt: &R, pool: &Pool<'t, R, K>, share: &mut Share<K>) {
     for account in 0..pool.accounts() {
         for _look in 0..1_000_000u32 {
             if is_quiet(rt, pool, account, share) {
@@ -71,7 +71,7 @@ fn rest<'t, R: Wait + Clock, K: CellNaming>(rt: &R, pool: &Pool<'t, R, K>, share
 }
 
 /// The nanoseconds of looks, each after a short sleep.
-fn look_times<'t, R: Wait + Clock, K: CellNaming>(
+fn look_times<'t, R: Wait + Clock, K: PoolIds>(
     rt: &R,
     alloc: Global,
     pool: &Pool<'t, R, K>,
@@ -113,7 +113,7 @@ pub fn put_halves(out: &mut Text, times: Result<Vec<u64>, AllocError>) {
 }
 
 impl Job for Busy {
-    fn begin<'t, R: Wait + Clock, K: CellNaming>(
+    fn begin<'t, R: Wait + Clock, K: PoolIds>(
         &self,
         rt: &R,
         pool: &Pool<'t, R, K>,
@@ -123,7 +123,7 @@ impl Job for Busy {
         self.ask_each(rt, pool, Request::Load(SPIN), share, out);
     }
 
-    fn go_on<'t, R: Wait + Clock, K: CellNaming>(
+    fn go_on<'t, R: Wait + Clock, K: PoolIds>(
         &self,
         rt: &R,
         pool: &Pool<'t, R, K>,
@@ -153,7 +153,7 @@ impl Job for Busy {
         pool.close();
     }
 
-    fn end<'t, R: Wait + Clock, K: CellNaming>(
+    fn end<'t, R: Wait + Clock, K: PoolIds>(
         &self,
         _rt: &R,
         _pool: &Pool<'t, R, K>,

@@ -3,8 +3,8 @@
 use crate::job::Job;
 use crate::play::put_answer;
 use crate::tried::tried;
-use kl1_command_lines::{Request, is_same};
-use kl1_pool::{CellNaming, Pool, Share, Totals};
+use kl1_lines::{Request, is_same};
+use kl1_pool::{Pool, PoolIds, Share, Totals};
 use kl1_tests_rows::{Text, cut, number_of};
 use std::alloc::{AllocError, Global};
 use std::rt::Clock;
@@ -19,7 +19,7 @@ const STARTS: u64 = 50;
 struct Starts;
 
 /// Starts a goal of the first account: the number of its shoen.
-fn started<'t, R: Wait, K: CellNaming>(
+fn started<'t, R: Wait, K: PoolIds>(
     rt: &R,
     alloc: Global,
     pool: &Pool<'t, R, K>,
@@ -44,7 +44,7 @@ fn started<'t, R: Wait, K: CellNaming>(
 }
 
 impl Job for Starts {
-    fn begin<'t, R: Wait + Clock, K: CellNaming>(
+    fn begin<'t, R: Wait + Clock, K: PoolIds>(
         &self,
         _rt: &R,
         _pool: &Pool<'t, R, K>,
@@ -53,7 +53,7 @@ impl Job for Starts {
     ) {}
 
     /// Puts the sum of the numbers of the shoens.
-    fn go_on<'t, R: Wait + Clock, K: CellNaming>(
+    fn go_on<'t, R: Wait + Clock, K: PoolIds>(
         &self,
         rt: &R,
         pool: &Pool<'t, R, K>,
@@ -69,7 +69,7 @@ impl Job for Starts {
         out.put(b" ");
     }
 
-    fn end<'t, R: Wait + Clock, K: CellNaming>(
+    fn end<'t, R: Wait + Clock, K: PoolIds>(
         &self,
         rt: &R,
         pool: &Pool<'t, R, K>,

@@ -3,7 +3,7 @@
 ghost use Rattle.std.specs.Prelude.{◌≡◌, ◌+◌, ◌≤◌, IfOk, vec_len};
 
 use crate::job::Job;
-use kl1_pool::{CellNaming, Pool, Share};
+use kl1_pool::{Pool, PoolIds, Share};
 use kl1_tests_rows::Text;
 use std::alloc::{AllocError, Global};
 use std::rt::Clock;
@@ -13,14 +13,14 @@ use std::thread::Threads;
 
 /// A thread's number, its share, and what it has to say.
 #[derive(Drop)]
-struct Hand<K: CellNaming> {
+struct Hand<K: PoolIds> {
     number: u64,
     share: Share<K>,
     out: Text,
 }
 
 /// A hand for each share.
-fn hands_of<K: CellNaming>(
+fn hands_of<K: PoolIds>(
     alloc: Global,
     mut shares: Vec<Share<K>>,
 ) -> Result<Vec<Hand<K>>, AllocError>
@@ -39,7 +39,7 @@ fn hands_of<K: CellNaming>(
 }
 
 /// The shares of hands. What they have to say is put.
-fn shares_of<K: CellNaming>(
+fn shares_of<K: PoolIds>(
     alloc: Global,
     mut hands: Vec<Hand<K>>,
     out: &mut Text,
@@ -60,7 +60,7 @@ fn shares_of<K: CellNaming>(
 }
 
 /// What the thread of a hand does.
-fn worked<'t, J: Job, R: Wait + Clock, K: CellNaming>(
+fn worked<'t, J: Job, R: Wait + Clock, K: PoolIds>(
     rt: &R,
     pool: &Pool<'t, R, K>,
     job: &J,
@@ -72,7 +72,7 @@ fn worked<'t, J: Job, R: Wait + Clock, K: CellNaming>(
 }
 
 /// Does a job in as many threads as there are shares, and gives them back.
-pub fn work<'t, J: Job + Sync, R: Threads + Wait + Clock + Sync, K: CellNaming + Send + Sync>(
+pub fn work<'t, J: Job + Sync, R: Threads + Wait + Clock + Sync, K: PoolIds + Send + Sync>(
     rt: &R,
     alloc: Global,
     pool: &Pool<'t, R, K>,

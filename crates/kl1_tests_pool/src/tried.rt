@@ -6,7 +6,7 @@ use crate::job::Job;
 use crate::threads::work;
 use kl1_atoms::AtomTable;
 use kl1_codes::CodeTable;
-use kl1_pool::{AccountName, CellNaming, Pool, PoolParts, Rules, Totals, gather};
+use kl1_pool::{AccountName, Pool, PoolIds, PoolParts, Rules, Totals, gather};
 use kl1_tests_rows::Text;
 use std::alloc::{AllocError, Global};
 use std::marker::Brand;
@@ -15,7 +15,7 @@ use std::sync::Wait;
 use std::thread::Threads;
 
 /// What accounts and threads come to when a job is done.
-fn done<'t, J: Job + Sync, R: Threads + Wait + Clock + Sync, K: CellNaming + Send + Sync>(
+fn done<'t, J: Job + Sync, R: Threads + Wait + Clock + Sync, K: PoolIds + Send + Sync>(
     rt: &'t R,
     alloc: Global,
     parts: PoolParts<'t>,

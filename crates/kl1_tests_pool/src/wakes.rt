@@ -6,8 +6,8 @@ use crate::numbers::small;
 use crate::play::{comes_to_rest, put_answer};
 use crate::speeds::put_halves;
 use crate::tried::tried;
-use kl1_command_lines::Request;
-use kl1_pool::{CellNaming, Pool, Share, worker};
+use kl1_lines::Request;
+use kl1_pool::{Pool, PoolIds, Share, worker};
 use kl1_tests_rows::{Text, moment, nanoseconds_since};
 use std::alloc::{AllocError, Global};
 use std::rt::Clock;
@@ -35,7 +35,7 @@ fn wait_past(gate: &Counter, entered: u64) {
 }
 
 /// The nanoseconds from each start until a worker has taken the account's ticket and its lock.
-fn wake_times<'t, R: Wait + Clock, K: CellNaming>(
+fn wake_times<'t, R: Wait + Clock, K: PoolIds>(
     rt: &R,
     alloc: Global,
     pool: &Pool<'t, R, K>,
@@ -64,7 +64,7 @@ fn wake_times<'t, R: Wait + Clock, K: CellNaming>(
 }
 
 impl Job for Wakes {
-    fn begin<'t, R: Wait + Clock, K: CellNaming>(
+    fn begin<'t, R: Wait + Clock, K: PoolIds>(
         &self,
         _rt: &R,
         _pool: &Pool<'t, R, K>,
@@ -72,7 +72,7 @@ impl Job for Wakes {
         _out: &mut Text,
     ) {}
 
-    fn go_on<'t, R: Wait + Clock, K: CellNaming>(
+    fn go_on<'t, R: Wait + Clock, K: PoolIds>(
         &self,
         rt: &R,
         pool: &Pool<'t, R, K>,
@@ -92,7 +92,7 @@ impl Job for Wakes {
         pool.close();
     }
 
-    fn end<'t, R: Wait + Clock, K: CellNaming>(
+    fn end<'t, R: Wait + Clock, K: PoolIds>(
         &self,
         _rt: &R,
         _pool: &Pool<'t, R, K>,

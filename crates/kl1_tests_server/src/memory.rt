@@ -6,11 +6,9 @@ use crate::pieces::{Pieces, Written};
 use crate::row::{LINES, REPLIES, alice};
 use kl1_atoms::AtomTable;
 use kl1_codes::CodeTable;
-use kl1_command_lines::Counted;
-use kl1_pool::{
-    AccountName, CellNaming, Command, Performed, Pool, PoolParts, Rules, Share, gather,
-};
-use kl1_server_work::{Served, serve};
+use kl1_lines::FailureCounter;
+use kl1_pool::{AccountName, Command, Performed, Pool, PoolIds, PoolParts, Rules, Share, gather};
+use kl1_server_work::{Disconnect, serve};
 use kl1_user_events::{Event, Refusal, Reply};
 use std::alloc::{AllocError, Global};
 use std::marker::Brand;
@@ -27,11 +25,7 @@ struct Way {
 }
 
 /// Whether no session of the account is open, so that none can be closed.
-fn is_closed<'t, K: CellNaming, R: Wait>(
-    rt: &R,
-    pool: &Pool<'t, R, K>,
-    share: &mut Share<K>,
-) -> bool
+fn is_closed<'t, K: PoolIds, R: Wait>(rt: &R, pool: &Pool<'t, R, K>, share: &mut Share<K>) -> bool
     requires { 1 ≤ K.accounts }
 {
     matches!(
@@ -42,16 +36,16 @@ fn is_closed<'t, K: CellNaming, R: Wait>(
 
 /// Whether a conversation that ended so, and for which this is written, went as it should: all replies up to the logout, or if a call
 /// failed a front of them.
-fn is_right(served: Served, written: &[u8], way: Way) -> bool {
+fn is_right(served: Disconnect, written: &[u8], way: Way) -> bool {
     match served {
-        Served::Bye => written == REPLIES,
-        Served::Fault => (way.read > 0 || way.write > 0) && REPLIES.starts_with(written),
-        Served::Ended => false,
+        Disconnect::Bye => written == REPLIES,
+        Disconnect::Fault => (way.read > 0 || way.write > 0) && REPLIES.starts_with(written),
+        Disconnect::Ended => false,
     }
 }
 
 /// Whether the conversation goes as it should with these parts, of one account and one share, and leaves no session open.
-fn is_same_by<'t, K: CellNaming, R: Wait>(
+fn is_same_by<'t, K: PoolIds, R: Wait>(
     rt: &'t R,
     alloc: Global,
     parts: PoolParts<'t>,
@@ -63,13 +57,13 @@ fn is_same_by<'t, K: CellNaming, R: Wait>(
 {
     let keys = [alice(alloc)?];
     let (pool, mut shares) = Pool::<R, K>::new(rt, alloc, parts)?;
-    let mut source = Counted::new(Pieces {
+    let mut source = FailureCounter::new(Pieces {
         bytes: LINES,
         first: way.first,
         size: way.size,
         fails: way.read,
     });
-    let mut sink = Counted::new(Written {
+    let mut sink = FailureCounter::new(Written {
         bytes: Vec::new(alloc),
         fails: way.write,
     });

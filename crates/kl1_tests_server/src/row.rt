@@ -1,6 +1,6 @@
 // The conversation.
 
-use kl1_session_keys::Key;
+use kl1_session::Key;
 use std::alloc::{AllocError, Global};
 
 /// What is sent.

@@ -1,8 +1,7 @@
 // The conversation over a socket of this machine.
 
 use crate::row::{LINES, REPLIES, alice};
-use kl1_server_settings::Halt;
-use kl1_server_work::{Totals, serve_all};
+use kl1_server_work::{StartupError, Totals, serve_all};
 use std::alloc::Global;
 use std::io::{Read, Write};
 use std::net::{Net, SocketAddr, TcpListener, TcpStream};
@@ -41,7 +40,7 @@ where
 }
 
 /// What a client was told by a server that runs beside it, and what the server counted.
-fn talk<R>(rt: &R, alloc: Global) -> io::Result<(Result<Totals, Halt>, io::Result<Vec<u8>>)>
+fn talk<R>(rt: &R, alloc: Global) -> io::Result<(Result<Totals, StartupError>, io::Result<Vec<u8>>)>
 where
     R: Net<Listener = TcpListener, Stream = TcpStream> + Threads + Wait + Sync,
 {

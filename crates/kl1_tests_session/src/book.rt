@@ -1,7 +1,7 @@
 // What stands in the place of accounts.
 
 use kl1_command::{Command, Performed};
-use kl1_session_door::Desk;
+use kl1_session::CommandHandler;
 use kl1_text::AtomText;
 use kl1_user_events::{Event, Query, Refusal, Reply};
 
@@ -35,7 +35,7 @@ impl Book {
     }
 }
 
-impl Desk for Book {
+impl CommandHandler for Book {
     ghost accounts = { λ b. 2 };
 
     fn act(&mut self, account: usize, command: &Command) -> Performed {

@@ -2,14 +2,14 @@
 
 use crate::streams::Pieces;
 use kl1_client_talk::{Caller, Connection, Fault, LineReader, status_of, talk};
-use kl1_command_lines::{Counted, is_same};
+use kl1_lines::{FailureCounter, is_same};
 use kl1_tests_rows::{Text, cut};
 use std::alloc::Global;
 
 /// Who gives the commands: a file has its own name for its bytes, and there is no file `absent`.
 #[derive(Drop)]
 struct Script<'a> {
-    lines: LineReader<Counted<&'a [u8]>>,
+    lines: LineReader<FailureCounter<&'a [u8]>>,
 }
 
 impl Caller for Script<'_> {
@@ -30,16 +30,16 @@ impl Caller for Script<'_> {
 /// bar and what it shows.
 fn talk_of(alloc: Global, commands: &[u8], replies: &[u8], size: usize, is_paged: bool) -> Text {
     let mut sent = Vec::new(alloc);
-    let mut shown = Counted::new(Vec::new(alloc));
+    let mut shown = FailureCounter::new(Vec::new(alloc));
     let mut caller = Script {
-        lines: LineReader::new(alloc, Counted::new(commands)),
+        lines: LineReader::new(alloc, FailureCounter::new(commands)),
     };
-    let source = Counted::new(Pieces {
+    let source = FailureCounter::new(Pieces {
         bytes: replies,
         size,
     });
     let status = {
-        let mut connection = Connection::new(alloc, source, Counted::new(&mut sent));
+        let mut connection = Connection::new(alloc, source, FailureCounter::new(&mut sent));
         status_of(talk(
             alloc,
             &mut connection,

@@ -1,6 +1,6 @@
 // Files of accounts.
 
-use kl1_session_keys::read_keys;
+use kl1_session::read_keys;
 use kl1_tests_rows::Text;
 use std::alloc::Global;
 

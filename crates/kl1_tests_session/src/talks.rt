@@ -2,16 +2,15 @@
 
 use crate::book::Book;
 use crate::streams::Failing;
-use kl1_command_lines::{Counted, is_same};
-use kl1_session_door::{Served, serve};
-use kl1_session_keys::Key;
+use kl1_lines::{FailureCounter, is_same};
+use kl1_session::{Disconnect, Key, serve};
 use kl1_tests_rows::cut;
 use std::alloc::{AllocError, Global};
 
 /// How a connection ended, what was written, and what is left open.
 #[derive(Drop)]
 struct Talk {
-    served: Served,
+    served: Disconnect,
     written: Vec<u8>,
     book: Book,
 }
@@ -36,11 +35,11 @@ fn talk_of(
         key_of(alloc, b"bob", b"k2")?,
         key_of(alloc, b"alice", b"k1")?,
     ];
-    let mut source = Counted::new(Failing {
+    let mut source = FailureCounter::new(Failing {
         inner: bytes,
         calls: reads,
     });
-    let mut sink = Counted::new(Failing {
+    let mut sink = FailureCounter::new(Failing {
         inner: Vec::new(alloc),
         calls: writes,
     });
@@ -64,11 +63,11 @@ fn talk_of(
 }
 
 /// The word for how a connection ended.
-fn end_of(served: Served) -> &'static [u8] {
+fn end_of(served: Disconnect) -> &'static [u8] {
     match served {
-        Served::Bye => b"bye",
-        Served::Ended => b"ended",
-        Served::Fault => b"fault",
+        Disconnect::Bye => b"bye",
+        Disconnect::Ended => b"ended",
+        Disconnect::Fault => b"fault",
     }
 }
 

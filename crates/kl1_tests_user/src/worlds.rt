@@ -2,7 +2,7 @@
 
 use crate::player::Player;
 use kl1_command::{Command, Parsed, command_in, put_lines};
-use kl1_command_lines::{NextRecord, is_same, next_record, split_line};
+use kl1_lines::{NextRecord, is_same, next_record, split_line};
 use kl1_tests_rows::{Text, cut};
 use kl1_user_events::{Event, Reply};
 use kl1_world::{AccountName, Rules};

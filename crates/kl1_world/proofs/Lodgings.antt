@@ -7,7 +7,7 @@ use Rattle.std.proofs.lemmas.Bool.{cases_eq}
 use Rattle.kl1_codes_modules.specs.Numbered.{ArePlaced}
 use Rattle.kl1_codes_modules.proofs.Placing.{placed_still}
 use Rattle.kl1_journal.specs.Keeping.{Held, nobody}
-use Rattle.kl1_world.specs.Lodging.{AreLodged}
+use Rattle.kl1_world.specs.Seating.{AreSeated}
 use Rattle.kl1_world.specs.Worlds.{account_in}
 
 -- the accounts of those that are lodged
@@ -43,9 +43,9 @@ get_set_other (x ∷ xs) (suc n) (suc k) y apart = get_set_other xs n k y (λ e.
 
 -- one of them changed, and the others are lodged still
 pub lodged_set : {T S : Type 0} (is_of : T → S → Type 0) (place : S → ℕ × ℕ) (has after : ℕ × ℕ → Type 0) (old new : T) (xs : List (S × Held)) (n : ℕ) (x y : S × Held) →
-    AreLodged is_of place has old xs → slice_get xs n ≡ Some x → is_of new y.0 → place y.0 ≡ place x.0 →
+    AreSeated is_of place has old xs → slice_get xs n ≡ Some x → is_of new y.0 → place y.0 ≡ place x.0 →
     ((other : S) → is_of old other → (place other ≡ place x.0 → ⊥) → is_of new other) → ArePlaced after y.1.0.modules → ((p : ℕ × ℕ) → has p ↔ after p) →
-    AreLodged is_of place after new (slice_set xs n y)
+    AreSeated is_of place after new (slice_set xs n y)
 lodged_set is_of place has after old new xs n x y lodged at of same others placed still k z e = elim (cases_eq k n) [
   | inl here ↦
       let is : y ≡ z = same_Some y z (sym (get_set_same xs n y (slice_get_within xs n x at)) ∙ ap (slice_get (slice_set xs n y)) (sym here) ∙ e) in

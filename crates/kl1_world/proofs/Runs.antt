@@ -2,15 +2,15 @@
 use Rattle.std.proofs.Common.{◌≡◌, ℕ, ◌<◌, ◌+◌, ◌==◌, Bool, true, false, if◌then◌else◌, List, [], ◌∷◌, ◌++◌, refl, sym, ap, ◌∙◌, subst, length, get_or, inl, inr, arith, map, take}
 use Rattle.std.proofs.lemmas.List.{length-map, map-append, length-append, length-set, get_or-set_other, take_more, length-take}
 use Rattle.std.proofs.lemmas.Bool.{cases_eq, eq-eqb, ne_eqb}
-use Rattle.kl1_model_history.specs.Journal.{Kept, Done, done}
+use Rattle.kl1_model_server.specs.Journal.{Kept, Done, done}
 use Rattle.kl1_model.specs.Event as model
 use Rattle.kl1_user_events.specs.declared.event.Event.{Event}
 use Rattle.kl1_user_events.specs.declared.reply.Reply.{Reply}
 use Rattle.kl1_user_events.specs.Views.{event_of, reply_of}
 use Rattle.kl1_journal.specs.Keeping.{Fits}
-use Rattle.kl1_model_history.specs.Alone.{Deed, Told, only, replies_at, alone}
+use Rattle.kl1_model_server.specs.Alone.{Deed, Told, only, replies_at, alone}
 use Rattle.kl1_journal.specs.Keeping.{Held, nobody, kept_of}
-use Rattle.kl1_world.specs.Worlds.{account_in, deed_of, deeds_of, IsRun, Answers}
+use Rattle.kl1_world.specs.Worlds.{account_in, deed_of, events_of, IsRun, Answers}
 
 -- one event more, of the account or of another
 only_here : (u : ℕ) (ds : List Deed) (d : Deed) → (d.account == u) ≡ true → only u (ds ++ d ∷ []) ≡ only u ds ++ d.event ∷ []
@@ -84,13 +84,13 @@ length_of_take : {X : Type 0} (n : ℕ) (xs : List X) → n < length xs → leng
 length_of_take n xs less = omega (arith, length-take n xs, less)
 
 -- one event of a list more
-pub run_next : (start now new : List Held) (events : List (ℕ × Event)) (done : ℕ) (x : ℕ × Event) (rs after : List Reply) → done < length events → x ≡ get_or events done x → IsRun start now (deeds_of (take done events)) rs → length now ≡ length start → length rs ≡ done → Answers now new x.0 (event_of x.1) rs after →
-    IsRun start new (deeds_of (take (done + 1) events)) after
+pub run_next : (start now new : List Held) (events : List (ℕ × Event)) (done : ℕ) (x : ℕ × Event) (rs after : List Reply) → done < length events → x ≡ get_or events done x → IsRun start now (events_of (take done events)) rs → length now ≡ length start → length rs ≡ done → Answers now new x.0 (event_of x.1) rs after →
+    IsRun start new (events_of (take (done + 1) events)) after
 run_next start now new events done x rs after less at run many count a =
-    let seam : deeds_of (take (done + 1) events) ≡ deeds_of (take done events) ++ deed_of x ∷ [] =
-    ap deeds_of (take_more events done x less) ∙ map-append deed_of (take done events) (get_or events done x ∷ []) ∙ ap (λ y. deeds_of (take done events) ++ deed_of y ∷ []) (sym at) in
-    let long : length rs ≡ length (deeds_of (take done events)) = count ∙ sym (length-map (take done events) deed_of ∙ length_of_take done events less) in
-    subst (λ ds. IsRun start new ds after) (sym seam) (run_more start now new (deeds_of (take done events)) rs x.0 (event_of x.1) after run many long a)
+    let seam : events_of (take (done + 1) events) ≡ events_of (take done events) ++ deed_of x ∷ [] =
+    ap events_of (take_more events done x less) ∙ map-append deed_of (take done events) (get_or events done x ∷ []) ∙ ap (λ y. events_of (take done events) ++ deed_of y ∷ []) (sym at) in
+    let long : length rs ≡ length (events_of (take done events)) = count ∙ sym (length-map (take done events) deed_of ∙ length_of_take done events less) in
+    subst (λ ds. IsRun start new ds after) (sym seam) (run_more start now new (events_of (take done events)) rs x.0 (event_of x.1) after run many long a)
 
 -- as many accounts and one reply more
 pub as_many_after : (now new : List Held) (n : ℕ) (e : model.Event) (rs after : List Reply) → Answers now new n e rs after → length new ≡ length now

@@ -1,2 +1,2 @@
-pub mod Lodging
+pub mod Seating
 pub mod Worlds

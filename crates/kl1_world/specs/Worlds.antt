@@ -3,8 +3,8 @@ use Rattle.std.specs.Prelude.{◌≡◌, ℕ, ◌<◌, List, [], ◌∷◌, ◌+
 use Rattle.std.specs.List.{AllByRecursion}
 use Rattle.kl1_model.specs.declared.rules.Rules.{Rules}
 use Rattle.kl1_model.specs.Event as model
-use Rattle.kl1_model_history.specs.Journal.{done, fresh_kept}
-use Rattle.kl1_model_history.specs.Alone.{Deed, only, replies_at, alone}
+use Rattle.kl1_model_server.specs.Journal.{done, fresh_kept}
+use Rattle.kl1_model_server.specs.Alone.{Deed, only, replies_at, alone}
 use Rattle.kl1_user_events.specs.declared.event.Event.{Event}
 use Rattle.kl1_user_events.specs.declared.reply.Reply.{Reply}
 use Rattle.kl1_user_events.specs.Views.{event_of, reply_of}
@@ -20,8 +20,8 @@ abbrev pub deed_of : (ℕ × Event) → Deed
 deed_of x = record { account = x.0; event = event_of x.1 }
 
 -- events with their accounts, as the definitions have them
-abbrev pub deeds_of : List (ℕ × Event) → List Deed
-deeds_of events = map deed_of events
+abbrev pub events_of : List (ℕ × Event) → List Deed
+events_of events = map deed_of events
 
 -- each event is of one of this number of accounts
 abbrev pub AreOf : ℕ → List (ℕ × Event) → Type 0

@@ -3,8 +3,8 @@
 ghost use Rattle.std.specs.Prelude.{◌≡◌, ℕ, ◌<◌, [], List, IfOk, IfErr, IsOk, IsTrue, OnOk, OnErr, length, take, slice_set, option_map};
 ghost use Rattle.kl1_model.specs.Event.{reduce as reduce_event};
 ghost use Rattle.kl1_model.specs.Choice.{first, quiet};
-ghost use Rattle.kl1_model_history.specs.Journal.{done};
-ghost use Rattle.kl1_model_history.specs.JournalText.{page_of};
+ghost use Rattle.kl1_model_server.specs.Journal.{done};
+ghost use Rattle.kl1_model_server.specs.JournalText.{page_of};
 ghost use Rattle.kl1_atoms.specs.Names.{AreNames};
 ghost use Rattle.kl1_journal.specs.Keeping.{Reading, Fits};
 ghost use Rattle.kl1_user_events.specs.Views.{event_of, is_logout, reply_of, reduced_or, chosen_of};
@@ -12,14 +12,14 @@ ghost use Rattle.kl1_user_events.specs.Whole.{whole_value};
 ghost use Rattle.kl1_command.specs.Commands.{command_view};
 ghost use Rattle.kl1_command.specs.Performing.{IsUntouched, Performs};
 ghost use Rattle.kl1_journal.specs.Keeping.{IsKept, kept_of};
-ghost use Rattle.kl1_world.specs.Lodging.{AreNewSeats};
-ghost use Rattle.kl1_world.specs.Worlds.{account_in, deeds_of, AreOf, AreFresh, IsRun, Answers};
+ghost use Rattle.kl1_world.specs.Seating.{AreNewSeats};
+ghost use Rattle.kl1_world.specs.Worlds.{account_in, events_of, AreOf, AreFresh, IsRun, Answers};
 
 use crate::stopped::Stopped;
 use kl1_atoms::AtomSource;
 use kl1_codes::CodeSource;
 use kl1_command::{Command, Host, Performed, perform};
-use kl1_journal::{AccountName, Kept, Rules};
+use kl1_journal::{AccountName, JournaledAccount, Rules};
 use kl1_user_events::{ClauseNo, Event, GoalNo, Listed, Refusal, Reply, ShoenNo};
 use std::alloc::{AllocError, Global};
 use std::marker::Model;
@@ -29,7 +29,7 @@ use std::marker::Model;
 pub struct World<A: AtomSource + Drop, C: CodeSource + Drop> {
     names: A,
     code_source: C,
-    accounts: Vec<Kept<A, C>>,
+    accounts: Vec<JournaledAccount<A, C>>,
     at: usize,
     alloc: Global,
 }
@@ -40,7 +40,7 @@ impl<A: AtomSource + Drop, C: CodeSource + Drop> Model for World<A, C> {
     ghost use Rattle.kl1_codes_modules.specs.Numbered.{numbered_code};
     ghost use Rattle.kl1_journal_entries.specs.Codes.{journal_code};
     ghost use Rattle.kl1_journal.specs.Keeping.{Held};
-    ghost use Rattle.kl1_world.specs.Lodging.{AreLodged};
+    ghost use Rattle.kl1_world.specs.Seating.{AreSeated};
 
     ghost Value = { List Held × ℕ };
 
@@ -48,7 +48,7 @@ impl<A: AtomSource + Drop, C: CodeSource + Drop> Model for World<A, C> {
 
     ghost view = { λ w. (map (λ r. r.1) w.accounts.items, w.at) };
 
-    ghost invariant = { λ w. AreLodged A.is_of A.place (C.has w.code_source) w.names w.accounts.items × (w.at < length w.accounts.items) };
+    ghost invariant = { λ w. AreSeated A.is_of A.place (C.has w.code_source) w.names w.accounts.items × (w.at < length w.accounts.items) };
 }
 
 impl<A: AtomSource + Drop, C: CodeSource + Drop> World<A, C> {
@@ -71,7 +71,7 @@ impl<A: AtomSource + Drop, C: CodeSource + Drop> World<A, C> {
         let mut kept = Vec::new(alloc);
         for seat in seats {
             let name = accounts[kept.len()];
-            kept.push(Kept::new(alloc, name, rules, seat)?)?;
+            kept.push(JournaledAccount::new(alloc, name, rules, seat)?)?;
         }
         Ok(World {
             names,
@@ -169,8 +169,8 @@ impl<A: AtomSource + Drop, C: CodeSource + Drop> World<A, C> {
     /// state and its journal are those that its own events alone make of it.
     pub fn run(&mut self, events: &[(usize, Event)]) -> Result<Vec<Reply>, Stopped>
         requires { AreOf (length self.old.0) events.now }
-        ensures all { IfOk result (λ replies. IsRun self.old.0 self.new.0 (deeds_of events.now) replies.items) }
-        ensures stopped { IfErr result (λ s. (s.done < length events.now) × IsRun self.old.0 self.new.0 (deeds_of (take s.done events.now)) s.replies.items) }
+        ensures all { IfOk result (λ replies. IsRun self.old.0 self.new.0 (events_of events.now) replies.items) }
+        ensures stopped { IfErr result (λ s. (s.done < length events.now) × IsRun self.old.0 self.new.0 (events_of (take s.done events.now)) s.replies.items) }
         ensures many { length self.new.0 ≡ length self.old.0 }
     {
         let mut replies = Vec::new(self.alloc);

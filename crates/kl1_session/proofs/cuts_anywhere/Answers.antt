@@ -1,5 +1,5 @@
-use Rattle.kl1_model_history.proofs.Cuts as cuts
-use Rattle.kl1_model_history.proofs.InputLaws as laws
+use Rattle.kl1_model_server.proofs.Cuts as cuts
+use Rattle.kl1_model_server.proofs.InputLaws as laws
 use Rattle.kl1_session.proofs.cuts_anywhere.Goals as goal
 
 pub returns-clause-two : goal.returns-clause-two

@@ -2,7 +2,7 @@
 
 ghost use Rattle.std.specs.Prelude.{◌≡◌, ℕ, [], OnErr};
 ghost use Rattle.kl1_model.specs.declared.rules.Rules.TheVariants.{One};
-ghost use Rattle.kl1_model_history.specs.Journal.{fresh_kept};
+ghost use Rattle.kl1_model_server.specs.Journal.{fresh_kept};
 
 use kl1_command::{Host, Parsed, Performed, parse, perform, put_reply};
 use kl1_tests_rows::{Text, cut};

@@ -1,7 +1,7 @@
 // The commands of lines and records.
 
 use kl1_command::{Command, Parsed, command_in, parse};
-use kl1_command_lines::{NextRecord, next_record};
+use kl1_lines::{NextRecord, next_record};
 use kl1_model::Message;
 use kl1_term::{Term, put_whole};
 use kl1_tests_rows::Text;

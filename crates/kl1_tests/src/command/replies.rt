@@ -1,7 +1,7 @@
 // What is put for replies.
 
 use kl1_command::{put_lines, put_reply};
-use kl1_command_lines::is_same;
+use kl1_lines::is_same;
 use kl1_model::Condition;
 use kl1_tests_rows::{Text, cut, is_joined, number_of};
 use kl1_text::AtomText;

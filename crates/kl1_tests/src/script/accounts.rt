@@ -1,6 +1,6 @@
 // The names of accounts.
 
-use kl1_command_lines::is_same;
+use kl1_lines::is_same;
 use kl1_script::accounts_in;
 use kl1_tests_rows::cut;
 use kl1_user::AccountName;

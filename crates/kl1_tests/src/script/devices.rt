@@ -2,12 +2,12 @@
 
 use crate::script::streams::{Faulty, cause_of};
 use crate::script::told::{end_of, is_told};
-use kl1_command_lines::{Counted, Sink, read_all, write_all};
+use kl1_lines::{FailureCounter, Sink, read_all, write_all};
 use kl1_tests_rows::{cut, number_of};
 use std::alloc::Global;
 
 /// How many reads failed, and how many bytes are left.
-fn counts_of(source: &Counted<Faulty<&[u8]>>) -> [u64; 2] {
+fn counts_of(source: &FailureCounter<Faulty<&[u8]>>) -> [u64; 2] {
     [source.failures, source.inner.inner.len() as u64]
 }
 
@@ -17,7 +17,7 @@ pub fn is_read(alloc: Global, act: &[u8], wanted: &[u8]) -> bool {
     let (most, rest) = cut(act, b' ');
     let (calls, rest) = cut(rest, b' ');
     let (cause, text) = cut(rest, b' ');
-    let mut source = Counted::new(Faulty {
+    let mut source = FailureCounter::new(Faulty {
         inner: text,
         most: number_of(most),
         calls: number_of(calls),
@@ -40,7 +40,7 @@ pub fn is_written(alloc: Global, act: &[u8], wanted: &[u8]) -> bool {
     let (most, rest) = cut(act, b' ');
     let (calls, rest) = cut(rest, b' ');
     let (cause, text) = cut(rest, b' ');
-    let mut sink = Counted::new(Faulty {
+    let mut sink = FailureCounter::new(Faulty {
         inner: Vec::new(alloc),
         most: number_of(most),
         calls: number_of(calls),

@@ -1,6 +1,6 @@
 // The texts of faults.
 
-use kl1_command_lines::is_same;
+use kl1_lines::is_same;
 use kl1_script::ScriptFault;
 use std::alloc::Global;
 

@@ -1,6 +1,6 @@
 // Lines, names, words and numbers.
 
-use kl1_command_lines::{
+use kl1_lines::{
     is_blank_line, is_same, number_in, source_bytes_in, split_line, split_name, split_word,
 };
 use kl1_tests_rows::{cut, is_counted};

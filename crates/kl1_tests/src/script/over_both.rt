@@ -4,8 +4,8 @@ use crate::script::kind::Kind;
 use crate::script::scripts::is_whole;
 use kl1_atoms::PlainTable;
 use kl1_codes::PlainCodes;
-use kl1_command_lines::split_line;
-use kl1_script::{Counted, accounts_in, answer_over};
+use kl1_lines::split_line;
+use kl1_script::{FailureCounter, accounts_in, answer_over};
 use std::alloc::Global;
 use std::sync::Wait;
 
@@ -18,7 +18,7 @@ fn is_over_plain(alloc: Global, script: &[u8], output: &[u8]) -> bool {
     let Ok((names, seats)) = PlainTable::new(alloc, accounts.len()) else {
         return false;
     };
-    let mut sink = Counted::new(Vec::new(alloc));
+    let mut sink = FailureCounter::new(Vec::new(alloc));
     let done = answer_over(
         alloc,
         accounts.as_slice(),

@@ -1,7 +1,7 @@
 // The records of a script.
 
 use crate::script::told::is_told;
-use kl1_command_lines::{NextRecord, Record, Request, is_same, next_record};
+use kl1_lines::{NextRecord, Record, Request, is_same, next_record};
 use kl1_tests_rows::cut;
 
 /// Whether the next record of a script is what is wanted: its name, what it asks for and what is after it, parted by

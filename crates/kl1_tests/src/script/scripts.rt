@@ -3,8 +3,7 @@
 use crate::script::kind::Kind;
 use crate::script::streams::{Faulty, cause_of};
 use crate::script::told::{are_told, end_of};
-use kl1_script::{Counted, run_script};
-use kl1_script_replay::run_replay;
+use kl1_script::{FailureCounter, run_replay, run_script};
 use kl1_tests_rows::{cut, number_of};
 use std::alloc::Global;
 use std::sync::Wait;
@@ -22,13 +21,13 @@ fn is_between<H: Wait>(
     told: &[u8],
     output: &[u8],
 ) -> bool {
-    let mut source = Counted::new(Faulty {
+    let mut source = FailureCounter::new(Faulty {
         inner: text,
         most,
         calls: read,
         cause: cause_of(b"other"),
     });
-    let mut sink = Counted::new(Faulty {
+    let mut sink = FailureCounter::new(Faulty {
         inner: Vec::new(alloc),
         most,
         calls: write,

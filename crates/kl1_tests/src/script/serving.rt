@@ -2,8 +2,8 @@
 
 use kl1_atoms::{AtomTable, SharedAtoms};
 use kl1_codes::{CodeTable, SharedCodes};
-use kl1_command_lines::split_line;
-use kl1_script::{Counted, accounts_in, answer_over};
+use kl1_lines::split_line;
+use kl1_script::{FailureCounter, accounts_in, answer_over};
 use kl1_tests_goals::{found, table_with};
 use std::alloc::{AllocError, Global};
 use std::sync::Wait;
@@ -45,7 +45,7 @@ fn is_answered<R: Wait>(
         return Ok(false);
     };
     let (names, seats) = AtomTable::new(alloc, accounts.len())?;
-    let mut sink = Counted::new(Vec::new(alloc));
+    let mut sink = FailureCounter::new(Vec::new(alloc));
     let done = answer_over(
         alloc,
         accounts.as_slice(),

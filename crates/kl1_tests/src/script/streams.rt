@@ -1,6 +1,6 @@
 // A stream that gives and takes little, and fails.
 
-use kl1_command_lines::is_same;
+use kl1_lines::is_same;
 use std::io;
 use std::io::{ErrorKind, Read, Write};
 

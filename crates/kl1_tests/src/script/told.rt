@@ -1,6 +1,6 @@
 // What is told of an act: a word, numbers and a text.
 
-use kl1_command_lines::ScriptFault;
+use kl1_lines::ScriptFault;
 use kl1_tests_rows::{cut, number_of};
 
 /// The word for a fault.

@@ -3,11 +3,15 @@
 ghost use Rattle.std.specs.Prelude.{◌≡◌, ◌<◌, vec_len};
 
 use crate::tickets::stand_ins::StandIn;
-use kl1_pool_tickets::{Common, Naming, Share, Totals, gather};
+use kl1_pool_tickets::{PoolShared, Share, TicketIds, Totals, gather};
 use std::sync::{Mutex, Wait};
 
 /// Puts a ticket of each of two accounts, and then one more of the first; whether the first two were put and the last wasn't.
-fn are_two_put<K: Naming, R: Wait>(rt: &R, common: &Common<K>, share: &mut Share<K>) -> bool {
+fn are_two_put<K: TicketIds, R: Wait>(
+    rt: &R,
+    common: &PoolShared<K>,
+    share: &mut Share<K>,
+) -> bool {
     let first = common.offer(rt, 0, share);
     let second = common.offer(rt, 1, share);
     let third = common.offer(rt, 0, share);
@@ -16,9 +20,9 @@ fn are_two_put<K: Naming, R: Wait>(rt: &R, common: &Common<K>, share: &mut Share
 
 /// What comes of three tickets in a queue for two accounts, if nobody takes one, and whether the first two were put and the last
 /// wasn't.
-pub fn left_over<K: Naming, R: Wait>(
+pub fn left_over<K: TicketIds, R: Wait>(
     rt: &R,
-    common: Common<K>,
+    common: PoolShared<K>,
     accounts: Vec<Mutex<StandIn<K>>>,
     mut shares: Vec<Share<K>>,
 ) -> (Totals, bool)

@@ -5,7 +5,7 @@ ghost use Rattle.kl1_tally.specs.declared.amounts.TheConstants.{MOST_ACCOUNTS};
 ghost use Rattle.kl1_pool_tickets.specs.Counts.{Moved, Acts};
 ghost use Rattle.kl1_pool_tickets.specs.Parts.{IsNewBook};
 
-use kl1_pool_tickets::{Accounts, Booked, Common, Naming, Share, Turn};
+use kl1_pool_tickets::{Accounts, Booked, PoolShared, Share, TicketIds, TimeSlice};
 use kl1_tally::{BookSeat, Tally};
 use std::alloc::{AllocError, Global};
 use std::marker::PhantomData;
@@ -15,7 +15,7 @@ use std::thread;
 
 /// An account's book, and how many steps it still has to do.
 #[derive(Drop)]
-pub struct StandIn<K: Naming> {
+pub struct StandIn<K: TicketIds> {
     book: BookSeat,
     left: u64,
     of: PhantomData<K>,
@@ -23,7 +23,7 @@ pub struct StandIn<K: Naming> {
     ghost within: { book.account < MOST_ACCOUNTS },
 }
 
-impl<K: Naming> Booked for StandIn<K> {
+impl<K: TicketIds> Booked for StandIn<K> {
     ghost tally = { K.tally };
 
     fn into_book(self) -> BookSeat {
@@ -36,7 +36,7 @@ impl<K: Naming> Booked for StandIn<K> {
     }
 }
 
-impl<K: Naming> StandIn<K> {
+impl<K: TicketIds> StandIn<K> {
     /// An account that has nothing to do.
     fn quiet(book: BookSeat) -> StandIn<K>
         requires { IsNewBook K.tally book }
@@ -63,20 +63,26 @@ impl<K: Naming> StandIn<K> {
     }
 
     /// Enters the gate and does a step, if this is the account of the number.
-    fn turn(&mut self, gate: &Gate, tally: &Tally, account: usize, share: &mut Share<K>) -> Turn
+    fn turn(
+        &mut self,
+        gate: &Gate,
+        tally: &Tally,
+        account: usize,
+        share: &mut Share<K>,
+    ) -> TimeSlice
         requires of { tally.now.id ≡ K.tally }
         ensures few { result.steps ≤ 1 }
         ensures counted { Moved account result.steps result.steps 0 0 share.old share.new }
     {
         if self.book.account() != account {
-            return Turn {
+            return TimeSlice {
                 steps: 0,
                 again: false,
             };
         }
         gate.enter();
         let done = self.step(tally, share);
-        Turn {
+        TimeSlice {
             steps: u64::from(done),
             again: self.left > 0,
         }
@@ -120,17 +126,17 @@ impl Gate {
 
 /// Accounts that stand in, each under its lock, with what threads share, and a gate that each turn enters under the lock.
 #[derive(Drop)]
-pub struct Pool<K: Naming> {
-    pub common: Common<K>,
+pub struct Pool<K: TicketIds> {
+    pub common: PoolShared<K>,
     pub accounts: Vec<Mutex<StandIn<K>>>,
     pub gate: Gate,
 }
 
-impl<K: Naming> Accounts<K> for Pool<K> {
+impl<K: TicketIds> Accounts<K> for Pool<K> {
     /// A turn is one step.
-    fn turn<R: Wait>(&self, rt: &R, account: usize, share: &mut Share<K>) -> Turn {
+    fn turn<R: Wait>(&self, rt: &R, account: usize, share: &mut Share<K>) -> TimeSlice {
         match self.accounts.get(account) {
-            None => Turn {
+            None => TimeSlice {
                 steps: 0,
                 again: false,
             },
@@ -144,7 +150,7 @@ impl<K: Naming> Accounts<K> for Pool<K> {
     fn clear_ticket<R: Wait>(&self, _rt: &R, _account: usize) {}
 }
 
-impl<K: Naming> Pool<K> {
+impl<K: TicketIds> Pool<K> {
     /// Gives an account that is quiet steps to do, and puts its ticket.
     pub fn start<R: Wait>(&self, rt: &R, account: usize, steps: u64, share: &mut Share<K>)
         requires within { account < MOST_ACCOUNTS }
@@ -167,7 +173,7 @@ impl<K: Naming> Pool<K> {
 }
 
 /// The last of some new books.
-fn next_new<K: Naming>(books: &mut Vec<BookSeat>) -> BookSeat
+fn next_new<K: TicketIds>(books: &mut Vec<BookSeat>) -> BookSeat
     requires new { All (IsNewBook K.tally) books.old.items }
     requires some { 0 < vec_len books.old }
     ensures rest { All (IsNewBook K.tally) books.new.items }
@@ -181,7 +187,7 @@ fn next_new<K: Naming>(books: &mut Vec<BookSeat>) -> BookSeat
 }
 
 /// An account that has nothing to do for each book, in the order of the books.
-pub fn stand_ins<K: Naming>(
+pub fn stand_ins<K: TicketIds>(
     alloc: Global,
     mut books: Vec<BookSeat>,
 ) -> Result<Vec<Mutex<StandIn<K>>>, AllocError>

@@ -4,7 +4,7 @@ ghost use Rattle.std.specs.Prelude.{◌≡◌, ◌<◌, vec_len};
 
 use crate::tickets::left::left_over;
 use crate::tickets::stand_ins::{Gate, Pool, StandIn, stand_ins};
-use kl1_pool_tickets::{Common, Naming, Opened, Parts, Share, Totals, gather, worker};
+use kl1_pool_tickets::{Opened, Parts, PoolShared, Share, TicketIds, Totals, gather, worker};
 use std::alloc::{AllocError, Global};
 use std::marker::Brand;
 use std::rt::Clock;
@@ -15,7 +15,7 @@ use std::thread::{Threads, map_vec};
 use std::time::Duration;
 
 /// Waits until an account has nothing to do, but looks at most 10,000,000 times.
-fn wait_until_quiet<R: Wait, K: Naming>(rt: &R, pool: &Pool<K>, account: usize) {
+fn wait_until_quiet<R: Wait, K: TicketIds>(rt: &R, pool: &Pool<K>, account: usize) {
     for _look in 0..10_000_000u32 {
         if pool.is_quiet(rt, account) {
             return;
@@ -25,7 +25,7 @@ fn wait_until_quiet<R: Wait, K: Naming>(rt: &R, pool: &Pool<K>, account: usize) 
 }
 
 /// Twice gives two accounts 100 steps each, waits until they are done, and lets the workers fall asleep; then ends them.
-fn lead<R: Wait + Clock, K: Naming>(rt: &R, pool: &Pool<K>, share: &mut Share<K>) {
+fn lead<R: Wait + Clock, K: TicketIds>(rt: &R, pool: &Pool<K>, share: &mut Share<K>) {
     for _round in 0..2u8 {
         pool.start(rt, 0, 100, share);
         pool.start(rt, 1, 100, share);
@@ -37,7 +37,7 @@ fn lead<R: Wait + Clock, K: Naming>(rt: &R, pool: &Pool<K>, share: &mut Share<K>
 }
 
 /// A thread's part: the first that comes leads, and the others are workers.
-fn take_part<R: Wait + Clock, K: Naming>(
+fn take_part<R: Wait + Clock, K: TicketIds>(
     rt: &R,
     pool: &Pool<K>,
     come: &AtomicU64,
@@ -53,9 +53,9 @@ fn take_part<R: Wait + Clock, K: Naming>(
 }
 
 /// What one who leads and workers come to, a thread for each share, and whether two workers met at the gate.
-fn worked_over<K: Naming + Send + Sync, R: Threads + Wait + Clock + Sync>(
+fn worked_over<K: TicketIds + Send + Sync, R: Threads + Wait + Clock + Sync>(
     rt: &R,
-    common: Common<K>,
+    common: PoolShared<K>,
     accounts: Vec<Mutex<StandIn<K>>>,
     shares: Vec<Share<K>>,
 ) -> Result<(Totals, bool), AllocError>
@@ -78,7 +78,7 @@ fn worked_over<K: Naming + Send + Sync, R: Threads + Wait + Clock + Sync>(
 }
 
 /// What comes of some parts: of tickets that nobody takes, or of what threads do.
-fn gathered<K: Naming + Send + Sync, R: Threads + Wait + Clock + Sync>(
+fn gathered<K: TicketIds + Send + Sync, R: Threads + Wait + Clock + Sync>(
     rt: &R,
     alloc: Global,
     parts: Parts,

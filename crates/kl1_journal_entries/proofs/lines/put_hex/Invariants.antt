@@ -1,5 +1,5 @@
 use Rattle.std.proofs.Common.{◌≡◌, ◌++◌, length}
-use Rattle.kl1_model_history.specs.JournalText.{hex_text}
+use Rattle.kl1_model_server.specs.JournalText.{hex_text}
 use Rattle.kl1_journal_entries.proofs.lines.put_hex.Given as goal
 
 -- the bytes put so far, with the digits of those that are left, are the bytes before and the digits of all

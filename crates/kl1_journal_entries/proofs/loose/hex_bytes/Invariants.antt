@@ -1,7 +1,7 @@
 use Rattle.std.proofs.Common.{◌≡◌, ◌++◌, length}
 use Rattle.std.specs.Prelude.{IsTrue}
 use Rattle.std.specs.List.{list_all}
-use Rattle.kl1_model_history.specs.JournalText.{is_hex_digit, hex_bytes}
+use Rattle.kl1_model_server.specs.JournalText.{is_hex_digit, hex_bytes}
 use Rattle.kl1_journal_entries.proofs.loose.hex_bytes.Given as goal
 
 -- the bytes put so far, with those of the digits that are left, are those of all digits; and what is left are digits

@@ -1,6 +1,6 @@
 use Rattle.std.proofs.Common.{◌≡◌, ◌≤◌, ◌++◌, length}
 use Rattle.kl1_model.specs.declared.limits.TheConstants.{MOST_NAME_BYTES}
-use Rattle.kl1_model_history.specs.JournalText.{unquoted}
+use Rattle.kl1_model_server.specs.JournalText.{unquoted}
 use Rattle.kl1_journal_entries.proofs.name.unquoted.Given as goal
 
 -- the bytes put so far, with those that are left without their quotes, are all without their quotes

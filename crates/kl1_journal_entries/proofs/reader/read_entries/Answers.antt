@@ -1,6 +1,6 @@
 use Rattle.std.proofs.Common.{ap, sym, ◌∙◌}
 use Rattle.std.specs.Prelude.{option_map}
-use Rattle.kl1_model_history.specs.Journal.{Journal}
+use Rattle.kl1_model_server.specs.Journal.{Journal}
 use Rattle.kl1_journal_entries.specs.Lined.{with_prepared}
 use Rattle.kl1_journal_entries.specs.Found.{found_entry}
 use Rattle.kl1_journal_entries.proofs.TextsRead.{no_entry, entry_more}

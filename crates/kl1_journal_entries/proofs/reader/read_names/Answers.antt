@@ -1,8 +1,8 @@
 use Rattle.std.proofs.Common.{◌≡◌, ℕ, suc, ◌-◌, ◌∷◌, [], false, refl, List, length, ap, ap₂, sym, ◌∙◌, arith}
 use Rattle.std.proofs.lemmas.List.{length-append}
-use Rattle.kl1_model_history.specs.Journal.{new_journal}
-use Rattle.kl1_model_history.specs.JournalText.{is_new_name}
-use Rattle.kl1_model_history.specs.laws.TextLaws.{are_new_names}
+use Rattle.kl1_model_server.specs.Journal.{new_journal}
+use Rattle.kl1_model_server.specs.JournalText.{is_new_name}
+use Rattle.kl1_model_server.specs.laws.TextLaws.{are_new_names}
 use Rattle.kl1_journal_entries.specs.Reading.{read_after}
 use Rattle.kl1_journal_entries.proofs.TextsRead.{no_line, no_name, no_new_name, name_more, names_more, names_done}
 use Rattle.kl1_journal_entries.proofs.reader.read_names.Goals as goal

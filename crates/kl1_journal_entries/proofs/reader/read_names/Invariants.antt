@@ -1,5 +1,5 @@
 use Rattle.std.proofs.Common.{◌≡◌, ◌-◌, ◌≤◌, [], length, true}
-use Rattle.kl1_model_history.specs.laws.TextLaws.{are_new_names}
+use Rattle.kl1_model_server.specs.laws.TextLaws.{are_new_names}
 use Rattle.kl1_journal_entries.specs.Reading.{read_after}
 use Rattle.kl1_journal_entries.proofs.reader.read_names.Given as goal
 

@@ -1,5 +1,5 @@
 use Rattle.std.proofs.Common.{◌≡◌, ◌+◌, length}
-use Rattle.kl1_command_lines.specs.Places.{place_of}
+use Rattle.kl1_lines.specs.Places.{place_of}
 use Rattle.kl1_journal_entries.proofs.text.feed_place.Given as goal
 
 -- the first line feed is as far after this place as it is in what is left

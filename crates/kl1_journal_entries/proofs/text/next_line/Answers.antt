@@ -1,5 +1,5 @@
 use Rattle.std.proofs.Common.{List, ℕ, take, ap, sym, ◌∙◌}
-use Rattle.kl1_model_history.specs.JournalText.{lines_of}
+use Rattle.kl1_model_server.specs.JournalText.{lines_of}
 use Rattle.kl1_journal_entries.specs.Reading.{with_line}
 use Rattle.kl1_journal_entries.proofs.Feeds.{first_of_lines, no_lines}
 use Rattle.kl1_journal_entries.proofs.text.next_line.Goals as goal

@@ -1,6 +1,6 @@
 -- Printed terms, by the lemmas on their tokens and trees.
-use Rattle.kl1_model_history.proofs.ReadBack.{prints_are_tokens, prints_are_terms, printed_goals_read_back, printing_is_one_to_one}
-use Rattle.kl1_model_history.proofs.ReadPlain.{prints_are_plain}
+use Rattle.kl1_model_server.proofs.ReadBack.{prints_are_tokens, prints_are_terms, printed_goals_read_back, printing_is_one_to_one}
+use Rattle.kl1_model_server.proofs.ReadPlain.{prints_are_plain}
 use Rattle.kl1_model_laws.proofs.reading.printed_goal_reads_back.Goals as goal
 
 pub returns-clause-plain : goal.returns-clause-plain

@@ -2,7 +2,7 @@ use Rattle.std.proofs.Common.{◌≡◌, ℕ, ◌+◌, ◌<◌, [], slice_index,
 use Rattle.crossbeam_queue.specs.Passes.{view}
 use Rattle.kl1_tally.specs.declared.amounts.TheConstants.{MOST_ACCOUNTS}
 use Rattle.kl1_tally.specs.Numbers.{times}
-use Rattle.kl1_pool_tickets.specs.Hands.{all_parts}
+use Rattle.kl1_pool_tickets.specs.Histories.{all_parts}
 use Rattle.kl1_pool_tickets.proofs.gathering.drain.Given as goal
 
 -- what was taken since the beginning is counted

@@ -13,7 +13,7 @@ pub loop-share-init : goal.loop-share-init
 loop-share-init g c = record {
   of = c.requires.of.0;
   free = c.requires.of.1;
-  seats_of = subst (All (λ seat. seat.tally ≡ g.K.Naming.tally)) (sym c.requires.none) (search rules);
+  seats_of = subst (All (λ seat. seat.tally ≡ g.K.TicketIds.tally)) (sym c.requires.none) (search rules);
   room = (let n = ap (λ (ss : List _). length ss) c.requires.none in let r = c.requires.room in let o = c.args.shares.ok in omega (arith, n, r, o));
   some = c.requires.rest.0;
   took = took_none c.args.shares.items c.args.seats.now.items (view c.args.joint.now) c.requires.none c.requires.rest.1 c.requires.rest.2;
@@ -30,7 +30,7 @@ loop-share-preserved g c =
     record {
       of = search rules;
       free = search rules;
-      seats_of = subst (All (λ seat. seat.tally ≡ g.K.Naming.tally)) (sym c.push_reserved.ensures.items) (All-push (λ seat. seat.tally ≡ g.K.Naming.tally) c.loop-share.seats.items i.seat c.loop-share.invariant.seats_of c.share.invariant.0);
+      seats_of = subst (All (λ seat. seat.tally ≡ g.K.TicketIds.tally)) (sym c.push_reserved.ensures.items) (All-push (λ seat. seat.tally ≡ g.K.TicketIds.tally) c.loop-share.seats.items i.seat c.loop-share.invariant.seats_of c.share.invariant.0);
       room = search rules;
       some = search rules;
       took = subst (λ l. TookIn c.args.shares.items left l (view c.args.joint.now) (view c.absorb.new.pass) c.add.new.sums c.add-in-Some.new.sums) (sym c.push_reserved.ensures.items)

@@ -14,7 +14,7 @@ another-pass-requires-clause-rule g c =
 
 pub share_of-requires-clause-seat : goal.share_of-requires-clause-seat
 share_of-requires-clause-seat g c =
-    let new = λ (seat : Share). seat ≡ new_share g.K.Naming.tally in
+    let new = λ (seat : Share). seat ≡ new_share g.K.TicketIds.tally in
     subst (λ r. IfSome r new) c.in-Some.is (All-pop new c.loop-seat.seats.items c.pop.new.self.items c.pop.result c.pop.ensures.items c.loop-seat.invariant.at_zero).1
 
 pub loop-seat-preserved : goal.loop-seat-preserved
@@ -32,7 +32,7 @@ loop-seat-preserved g c =
           omega (arith, p, q, n, m, more));
       put = ap (λ (v : _). v.put) is ∙ c.loop-seat.invariant.put;
       taken = ap (λ (v : _). v.taken) is ∙ c.loop-seat.invariant.taken;
-      at_zero = (All-pop (λ (seat : Share). seat ≡ new_share g.K.Naming.tally) c.loop-seat.seats.items c.pop.new.self.items c.pop.result c.pop.ensures.items c.loop-seat.invariant.at_zero).0;
+      at_zero = (All-pop (λ (seat : Share). seat ≡ new_share g.K.TicketIds.tally) c.loop-seat.seats.items c.pop.new.self.items c.pop.result c.pop.ensures.items c.loop-seat.invariant.at_zero).0;
       made = subst (All (λ share. share ≡ new_counts)) (sym c.push_reserved.ensures.items) (All-push (λ share. share ≡ new_counts) c.loop-seat.shares.items c.share_of.result c.loop-seat.invariant.made c.share_of.ensures);
       count = search rules;
       room = search rules;

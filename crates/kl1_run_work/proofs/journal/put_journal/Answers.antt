@@ -1,5 +1,5 @@
 use Rattle.std.proofs.Common.{◌≡◌, ◌+◌, ◌*◌, ◌∙◌, arith}
-use Rattle.kl1_model_history.specs.JournalText.{journal_lines}
+use Rattle.kl1_model_server.specs.JournalText.{journal_lines}
 use Rattle.kl1_run_work.specs.Streams.{seen}
 use Rattle.kl1_run_work.proofs.JournalPages.{page_written, pages_written, page_fails}
 use Rattle.kl1_run_work.proofs.journal.put_journal.Goals as goal

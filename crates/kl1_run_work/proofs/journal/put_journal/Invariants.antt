@@ -1,6 +1,6 @@
 use Rattle.std.proofs.Common.{◌*◌, take}
-use Rattle.kl1_model_history.specs.Command.{written_lines}
-use Rattle.kl1_model_history.specs.JournalText.{journal_lines}
+use Rattle.kl1_model_server.specs.Command.{written_lines}
+use Rattle.kl1_model_server.specs.JournalText.{journal_lines}
 use Rattle.kl1_run_work.specs.Streams.{seen, WritesAll}
 use Rattle.kl1_run_work.proofs.journal.put_journal.Given as goal
 

@@ -1,5 +1,5 @@
 use Rattle.std.proofs.Common.{◌≡◌, ◌++◌, length, map}
-use Rattle.kl1_model_history.specs.Command.{written_lines}
+use Rattle.kl1_model_server.specs.Command.{written_lines}
 use Rattle.kl1_run_work.proofs.journal.put_lines.Given as goal
 
 -- the bytes, and the lines that are left, are all that is to be put

@@ -1,6 +1,6 @@
 use Rattle.std.proofs.Common.{◌≡◌, ◌++◌, length, map}
 use Rattle.std.specs.Prelude.{filter}
-use Rattle.kl1_model_history.specs.Command.{written_lines}
+use Rattle.kl1_model_server.specs.Command.{written_lines}
 use Rattle.kl1_run_work.specs.Answers.{is_exception}
 use Rattle.kl1_run_work.proofs.reports.put_page.Given as goal
 

@@ -1,8 +1,8 @@
 use Rattle.std.proofs.Common.{◌≡◌, ◌+◌, ◌*◌, take, ◌∙◌, sym, subst, arith}
 use Rattle.std.specs.Prelude.{filter}
 use Rattle.kl1_model.specs.declared.limits.TheConstants.{MOST_LISTED, MOST_REPORTS}
-use Rattle.kl1_model_history.specs.Journal.{Kept}
-use Rattle.kl1_model_history.specs.Command.{written_lines}
+use Rattle.kl1_model_server.specs.Journal.{Kept}
+use Rattle.kl1_model_server.specs.Command.{written_lines}
 use Rattle.kl1_run_work.specs.Answers.{is_exception, reports_in}
 use Rattle.kl1_run_work.proofs.Pages.{lines_more, exceptions_more, lines_all, exceptions_all}
 use Rattle.kl1_run_work.proofs.reports.reported_by.Goals as goal

@@ -1,5 +1,5 @@
 use Rattle.std.proofs.Common.{◌≡◌, ◌-◌, ◌≤◌}
-use Rattle.kl1_model_history.specs.Command.{run_from}
+use Rattle.kl1_model_server.specs.Command.{run_from}
 use Rattle.kl1_run_work.specs.Works.{worked}
 use Rattle.kl1_run_work.specs.Watching.{Follows}
 use Rattle.kl1_run_work.proofs.runs.run_watched.Given as goal

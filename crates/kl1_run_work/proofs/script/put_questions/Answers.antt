@@ -1,5 +1,5 @@
 use Rattle.std.proofs.Common.{codes, [], if◌then◌else◌}
-use Rattle.kl1_model_history.specs.Command.{written_line}
+use Rattle.kl1_model_server.specs.Command.{written_line}
 use Rattle.kl1_run_work.proofs.Writes.{two_parts}
 use Rattle.kl1_run_work.proofs.script.put_questions.Goals as goal
 

@@ -1,5 +1,5 @@
 use Rattle.std.proofs.Common.{codes}
-use Rattle.kl1_model_history.specs.Command.{written_line}
+use Rattle.kl1_model_server.specs.Command.{written_line}
 use Rattle.kl1_run_work.specs.Scripts.{load_lines, goal_lines, question_lines}
 use Rattle.kl1_run_work.specs.Works.{texts_of}
 use Rattle.kl1_run_work.proofs.Writes.{four_parts}

@@ -1,6 +1,6 @@
 use Rattle.std.proofs.Common.{List, ℕ, subst, refl, inl, inr}
 use Rattle.std.specs.Io.KnownBytes.{Appends}
-use Rattle.kl1_command_lines.specs.Devices.{AppendsFront}
+use Rattle.kl1_lines.specs.Devices.{AppendsFront}
 use Rattle.kl1_run_work.proofs.shell.write_answers.Goals as goal
 
 pub returns-in-Err : goal.returns-in-Err

@@ -1,6 +1,6 @@
 use Rattle.kl1_model.specs.declared.limits.TheConstants.{MOST_PRIORITY}
 use Rattle.kl1_model.specs.Event.{start}
-use Rattle.kl1_model_history.specs.Journal.{done}
+use Rattle.kl1_model_server.specs.Journal.{done}
 use Rattle.kl1_run_work.proofs.Followed.{follows_start}
 use Rattle.kl1_run_work.proofs.works.start_and_run.Goals as goal
 

@@ -1,5 +1,5 @@
 use Rattle.std.proofs.Common.{◌≡◌, false, take}
-use Rattle.kl1_model_history.specs.Script.{is_account}
+use Rattle.kl1_model_server.specs.Script.{is_account}
 use Rattle.kl1_script.proofs.accounts.place_in.Given as goal
 
 -- no account so far has the name

@@ -2,9 +2,9 @@ use Rattle.std.proofs.Common.{◌≡◌, ◌++◌, ◌∙◌, Some, None, ap, sy
 use Rattle.std.proofs.lemmas.Option.{slice_get_within}
 use Rattle.std.proofs.lemmas.Result.{on_ok_weaker}
 use Rattle.kl1_model.specs.Record.{Record}
-use Rattle.kl1_model_history.specs.Command.{command_of}
+use Rattle.kl1_model_server.specs.Command.{command_of}
 use Rattle.kl1_command.specs.Commands.{command_view}
-use Rattle.kl1_command_lines.specs.Records.{request_of}
+use Rattle.kl1_lines.specs.Records.{request_of}
 use Rattle.kl1_script.proofs.Worlds.{does_nothing, does_command, alone_still, alone_done, always_ok, written_refused, written_done}
 use Rattle.kl1_script.proofs.answers.put_record.Goals as goal
 

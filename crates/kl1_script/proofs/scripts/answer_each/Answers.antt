@@ -1,6 +1,6 @@
 use Rattle.std.proofs.Common.{◌∙◌, true, false, refl, ap, sym, subst, arith, length, List, ℕ}
 use Rattle.kl1_model.specs.Record.{Record}
-use Rattle.kl1_command_lines.specs.Records.{request_of}
+use Rattle.kl1_lines.specs.Records.{request_of}
 use Rattle.kl1_script.proofs.Endings.{Underway, starts, more_done, fails_there, ends_here, finish_waiting}
 use Rattle.kl1_script.proofs.scripts.answer_each.Goals as goal
 

@@ -1,6 +1,6 @@
 use Rattle.std.proofs.Common.{subst, List, ℕ, ◌∙◌}
-use Rattle.kl1_model_history.specs.Script.{written_for}
-use Rattle.kl1_command_lines.specs.Records.{request_of}
+use Rattle.kl1_model_server.specs.Script.{written_for}
+use Rattle.kl1_lines.specs.Records.{request_of}
 use Rattle.kl1_script.specs.Scripts.{Stops}
 use Rattle.kl1_script.proofs.Endings.{stop_fails}
 use Rattle.kl1_script.proofs.scripts.answer_record.Goals as goal

@@ -1,5 +1,5 @@
 use Rattle.std.proofs.Common.{◌≡◌, ◌++◌, ◌∙◌, codes}
-use Rattle.kl1_model_history.specs.Command.{written_line}
+use Rattle.kl1_model_server.specs.Command.{written_line}
 use Rattle.kl1_script.proofs.Endings.{finish_same}
 use Rattle.kl1_script.proofs.scripts.finish_truncated.Goals as goal
 

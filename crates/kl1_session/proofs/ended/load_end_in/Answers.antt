@@ -1,7 +1,7 @@
 use Rattle.std.proofs.Common.{ap, sym, ◌∙◌, refl, subst, List, ℕ}
 use Rattle.std.proofs.lemmas.List.{take_rest}
-use Rattle.kl1_model_history.specs.Cut.{has_feed}
-use Rattle.kl1_command_lines.specs.Places.{IsSplit}
+use Rattle.kl1_model_server.specs.Cut.{has_feed}
+use Rattle.kl1_lines.specs.Places.{IsSplit}
 use Rattle.kl1_session.proofs.Ends.{load_goes_past, load_ends}
 use Rattle.kl1_session.proofs.ended.load_end_in.Goals as goal
 

@@ -1,8 +1,8 @@
 use Rattle.std.proofs.Common.{ap, sym, ◌∙◌, subst, List, ℕ, None, Some, refl}
-use Rattle.kl1_model_history.specs.Cut.{cut_of, only_rest, request_first}
+use Rattle.kl1_model_server.specs.Cut.{cut_of, only_rest, request_first}
 use Rattle.kl1_model.specs.Record.{other_line}
 use Rattle.kl1_session.specs.Going.{IsKept}
-use Rattle.kl1_model_history.proofs.Cuts.{cut_waits}
+use Rattle.kl1_model_server.proofs.Cuts.{cut_waits}
 use Rattle.kl1_session.proofs.Kept.{line_at, line_kept}
 use Rattle.kl1_session.proofs.next.next_line.Goals as goal
 

@@ -1,8 +1,8 @@
 use Rattle.std.proofs.Common.{ap, sym, ◌∙◌, subst, List, ℕ, Some, refl}
 use Rattle.std.proofs.lemmas.List.{take_rest}
-use Rattle.kl1_model_history.specs.Cut.{has_feed, cut_of, request_first}
+use Rattle.kl1_model_server.specs.Cut.{has_feed, cut_of, request_first}
 use Rattle.kl1_session.specs.Going.{IsKept}
-use Rattle.kl1_model_history.proofs.Cuts.{load_at}
+use Rattle.kl1_model_server.proofs.Cuts.{load_at}
 use Rattle.kl1_session.proofs.Kept.{load_kept}
 use Rattle.kl1_session.proofs.next.next_load.Goals as goal
 

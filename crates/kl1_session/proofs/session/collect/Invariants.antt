@@ -1,5 +1,5 @@
 use Rattle.std.proofs.Common.{◌≡◌, ◌++◌, map, length}
-use Rattle.kl1_model_history.specs.Inputs.{inputs_in}
+use Rattle.kl1_model_server.specs.Inputs.{inputs_in}
 use Rattle.kl1_session.specs.Going.{going, IsFew}
 use Rattle.kl1_session.specs.Asking.{input_view}
 use Rattle.kl1_session.proofs.session.collect.Given as goal

@@ -1,8 +1,8 @@
 use Rattle.std.proofs.Common.{◌≡◌, ℕ, ◌-◌, ◌++◌, List, length, ap, sym, ◌∙◌, arith}
 use Rattle.std.specs.Prelude.{slice_get, Some}
 use Rattle.std.proofs.lemmas.List.{length-map}
-use Rattle.kl1_model_history.specs.JournalText.{name_line, entry_line}
-use Rattle.kl1_journal_entries.specs.declared.whole.Whole.{Whole}
+use Rattle.kl1_model_server.specs.JournalText.{name_line, entry_line}
+use Rattle.kl1_journal_entries.specs.declared.long_entry.LongEntry.{LongEntry}
 use Rattle.kl1_journal_entries.specs.Lined.{Rows}
 use Rattle.kl1_journal_entries.specs.Slots.{entry_at}
 use Rattle.kl1_journal_entries.specs.Shown.{entry_shown}
@@ -28,7 +28,7 @@ returns c =
     let count = ap (λ (r : Rows). length r.journal.names) c.self.view_is in
     let entries = sym (length-map ss (entry_at ws)) ∙ ap (λ (r : Rows). length r.journal.entries) c.self.view_is in
     let found : slice_get ss n ≡ Some slot = get_is ss n slot (omega (arith, c.self.inside.slots.ok, c.self.inside.names.ok, count, entries, lines_count c.args.self.now.journal, c.requires)) c.index-slot.ensures in
-    let entry : entry_shown c.shown_at.result ≡ entry_at ws slot = c.shown_at.ensures.entry ∙ ap (λ (us : List Whole). entry_at us slot) c.as_slice.ensures.value in
+    let entry : entry_shown c.shown_at.result ≡ entry_at ws slot = c.shown_at.ensures.entry ∙ ap (λ (us : List LongEntry). entry_at us slot) c.as_slice.ensures.value in
     let text : c.put_entry.new.out.items ≡ entry_line (entry_at ws slot) = c.in_ok-put_entry.ensures ∙ ap (λ bs. bs ++ entry_line (entry_shown c.shown_at.result)) c.new-line.ensures.items ∙ ap entry_line entry in
     entry_place c.args.self.now.journal c.args.place k n (entry_at ws slot) (omega arith) (omega (arith, count, c.self.inside.names.ok)) (ap (λ (r : Rows). slice_get r.journal.entries n) (sym c.self.view_is) ∙ get_entry (entry_at ws) ss n slot found)
     ∙ ap (λ (t : List ℕ). Some t) (sym text)

@@ -1,5 +1,5 @@
 use Rattle.std.proofs.Common.{◌<◌, ◌^◌, ◌++◌, ◌∷◌, [], List, ℕ, length, min, take, drop, ap, ap₂, sym, ◌∙◌, arith}
-use Rattle.kl1_model_history.specs.JournalText.{journal_lines}
+use Rattle.kl1_model_server.specs.JournalText.{journal_lines}
 use Rattle.kl1_journal_entries.proofs.Pages.{page_next, page_whole}
 use Rattle.kl1_journal_entries.proofs.journal.Journal.page.Goals as goal
 

@@ -1,5 +1,5 @@
 use Rattle.std.proofs.Common.{◌≡◌, ◌-◌, take, drop}
-use Rattle.kl1_model_history.specs.JournalText.{journal_lines}
+use Rattle.kl1_model_server.specs.JournalText.{journal_lines}
 use Rattle.kl1_journal_entries.proofs.journal.Journal.page.Given as goal
 
 -- the lines so far are those from the first up to this place

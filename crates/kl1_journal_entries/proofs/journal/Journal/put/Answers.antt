@@ -1,8 +1,8 @@
 use Rattle.std.proofs.Common.{◌≡◌, ap, ap₂, sym, subst, ◌∙◌, List, Option, length, map, arith}
-use Rattle.kl1_model_history.specs.Journal.{Entry, Journal, with_entry}
-use Rattle.kl1_journal_entries.specs.declared.slot.Slot.{Slot}
-use Rattle.kl1_journal_entries.specs.declared.whole.Whole.{Whole}
-use Rattle.kl1_journal_entries.specs.declared.prepared.Form.{Form}
+use Rattle.kl1_model_server.specs.Journal.{Entry, Journal, with_entry}
+use Rattle.kl1_journal_entries.specs.declared.packed_entry.PackedEntry.{PackedEntry}
+use Rattle.kl1_journal_entries.specs.declared.long_entry.LongEntry.{LongEntry}
+use Rattle.kl1_journal_entries.specs.declared.pending_entry.EntryForm.{EntryForm}
 use Rattle.kl1_journal_entries.specs.Lined.{Rows, with_prepared}
 use Rattle.kl1_journal_entries.specs.Slots.{entry_of_whole, entry_at, entry_in, IsSoundForm}
 use Rattle.kl1_journal_entries.proofs.Rows.{row_more, places_put, sound_put}
@@ -26,8 +26,8 @@ returns-in-Long c =
     let ss = c.self.inside.slots.items in
     let J : List Entry → Journal = λ es. record { rules = c.self.inside.rules; sessions = c.self.inside.sessions; names = c.self.inside.names.items; entries = es } in
     let place : c.len-place.result ≡ length ws = (let o = c.self.inside.wholes.ok in let e = c.len-place.ensures in omega (arith, o, e)) in
-    ap₂ (λ (xs : List Whole) (ys : List Slot). J (map (entry_at xs) ys)) c.push_reserved-in-Long.ensures.items c.push_reserved-in-Long-2.ensures.items
+    ap₂ (λ (xs : List LongEntry) (ys : List PackedEntry). J (map (entry_at xs) ys)) c.push_reserved-in-Long.ensures.items c.push_reserved-in-Long-2.ensures.items
     ∙ ap J (row_more ws c.in-Long.whole ss _ c.self.invariant.places place)
     ∙ ap (λ (r : Rows). with_entry r.journal (entry_of_whole c.in-Long.whole)) c.self.view_is
-    ∙ ap (λ (f : Form). with_prepared c.args.self.now.journal (entry_in f)) (sym c.in-Long.is)
+    ∙ ap (λ (f : EntryForm). with_prepared c.args.self.now.journal (entry_in f)) (sym c.in-Long.is)
     ∙ ap (λ (o : Option Entry). with_prepared c.args.self.now.journal o) c.prepared.view_is

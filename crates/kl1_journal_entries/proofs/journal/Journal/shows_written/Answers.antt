@@ -1,5 +1,5 @@
 use Rattle.std.proofs.Common.{subst}
-use Rattle.kl1_model_history.specs.laws.TextLaws.{IsWritten}
+use Rattle.kl1_model_server.specs.laws.TextLaws.{IsWritten}
 use Rattle.kl1_journal_entries.specs.Lined.{Rows}
 use Rattle.kl1_journal_entries.proofs.Sound.{row_lines}
 use Rattle.kl1_journal_entries.proofs.journal.Journal.shows_written.Goals as goal

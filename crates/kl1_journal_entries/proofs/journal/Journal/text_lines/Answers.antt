@@ -1,6 +1,6 @@
 use Rattle.std.proofs.Common.{◌≡◌, ◌≤◌, List, ℕ, length, subst, arith}
 use Rattle.std.specs.Prelude.{IfOk}
-use Rattle.kl1_model_history.specs.JournalText.{journal_lines}
+use Rattle.kl1_model_server.specs.JournalText.{journal_lines}
 use Rattle.kl1_journal_entries.proofs.Pages.{page_all}
 use Rattle.kl1_journal_entries.proofs.journal.Journal.text_lines.Goals as goal
 

@@ -1,6 +1,6 @@
 use Rattle.std.proofs.Common.{◌≡◌, ap, sym, ◌∙◌, subst}
 use Rattle.std.specs.Prelude.{IfOk}
-use Rattle.kl1_model_history.specs.JournalText.{page_of}
+use Rattle.kl1_model_server.specs.JournalText.{page_of}
 use Rattle.kl1_journal.specs.Keeping.{Held}
 use Rattle.kl1_world.specs.Worlds.{account_in}
 use Rattle.kl1_world.proofs.Lodgings.{accounts_of, as_many, stands, account_at}

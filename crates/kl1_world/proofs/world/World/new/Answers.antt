@@ -2,7 +2,7 @@ use Rattle.std.proofs.Common.{◌≡◌, ◌<◌, ◌+◌, [], ◌∷◌, ap, sy
 use Rattle.std.specs.Prelude.{slice_get}
 use Rattle.std.proofs.lemmas.List.{length-append, length-map}
 use Rattle.kl1_codes_modules.specs.Numbered.{ArePlaced}
-use Rattle.kl1_world.specs.Lodging.{AreLodged}
+use Rattle.kl1_world.specs.Seating.{AreSeated}
 use Rattle.kl1_world.proofs.Makes.{AreSeatsFrom, seats_left, seats_all, lodged_none, lodged_more, fresh_none, fresh_next, same_within}
 use Rattle.kl1_world.proofs.world.World.new.Goals as goal
 
@@ -35,7 +35,7 @@ loop-seat-preserved g c =
     let place : c.len.result ≡ length xs = (let o = c.loop-seat.kept.ok in let e = c.len.ensures in omega (arith, o, e)) in
     let name_is : c.index-accounts-len.result ≡ get_or c.args.accounts.now (length xs) [] = c.index-accounts-len.is ∙ ap (λ n. get_or c.args.accounts.now n c.index-accounts-len.result) place ∙ same_within c.args.accounts.now (length xs) c.index-accounts-len.result [] within in
     record {
-      lodged = subst (λ ys. AreLodged g.A.AtomSource.is_of g.A.AtomSource.place has c.args.names ys) (sym items)
+      lodged = subst (λ ys. AreSeated g.A.AtomSource.is_of g.A.AtomSource.place has c.args.names ys) (sym items)
           (lodged_more g.A.AtomSource.is_of g.A.AtomSource.place has c.args.names xs x c.loop-seat.invariant.lodged
           (subst (g.A.AtomSource.is_of c.args.names) (sym c.in_ok-new.ensures.seat) first.0)
           (ap (λ s. (g.A.AtomSource.place s).1) c.in_ok-new.ensures.seat ∙ first.1 ∙ omega arith)

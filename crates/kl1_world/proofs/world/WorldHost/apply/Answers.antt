@@ -1,6 +1,6 @@
 use Rattle.std.proofs.Common.{◌≡◌, ap}
 use Rattle.std.specs.Prelude.{IfOk}
-use Rattle.kl1_model_history.specs.Journal.{done}
+use Rattle.kl1_model_server.specs.Journal.{done}
 use Rattle.kl1_user_events.specs.Views.{event_of, reply_of}
 use Rattle.kl1_journal.specs.Keeping.{Reading, Fits, kept_of}
 use Rattle.kl1_world.proofs.Steps.{hosted, beside_same}

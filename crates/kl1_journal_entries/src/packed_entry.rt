@@ -1,0 +1,13 @@
+// Places of a journal.
+
+/// An entry in the row of a journal: a reduction or a message in numbers of 32 bits, or the number of an entry that is kept whole, from 0.
+#[derive(Clone, Copy)]
+pub(crate) enum PackedEntry {
+    Step { goal: u32, clause: u32 },
+    Stop(u32),
+    Resume(u32),
+    Abort(u32),
+    Kept(u32),
+}
+
+const _: () = prove!(size_of::<PackedEntry>() == 12);

@@ -1,0 +1,318 @@
+// Entries before they are put.
+
+ghost use Rattle.std.specs.Prelude.{◌≡◌, ◌≤◌, ◌+◌, nat_le, length, decimal, is_some, option_map, IfOk, IsOk, None};
+ghost use Rattle.kl1_model.specs.Print.{print};
+ghost use Rattle.kl1_model.specs.Event.{is_number};
+ghost use Rattle.kl1_model.specs.declared.limits.TheConstants.{MOST_LINE_BYTES};
+ghost use Rattle.kl1_model.specs.Sending.{may_send};
+ghost use Rattle.kl1_model_server.specs.Journal.{loads, starts, sends, steps, answers};
+ghost use Rattle.kl1_model_server.specs.JournalText.{entry_line};
+ghost use Rattle.kl1_user_events.specs.Views.{event_of};
+ghost use Rattle.kl1_journal_entries.specs.Lined.{entry_of, is_lined, if_lined, lined_entry};
+ghost use Rattle.kl1_journal_entries.specs.Reading.{is_line_of};
+
+use crate::entry::{shown_at, shown_whole};
+use crate::lines::put_entry;
+use crate::long_entry::LongEntry;
+use crate::packed_entry::PackedEntry;
+use itoa::Buffer;
+use kl1_lines::is_same;
+use kl1_model::Message;
+use kl1_model::limits::{MOST_LINE_BYTES, NUMBER_LIMIT};
+use kl1_read::is_goal;
+use kl1_term::{Term, print_whole};
+use kl1_user_events::Event;
+use std::alloc::{AllocError, Global};
+use std::marker::Model;
+
+/// The most bytes of a source whose line isn't too long.
+const MOST_LOADED: usize = (MOST_LINE_BYTES - 5) / 2;
+
+/// What is put into a journal.
+#[derive(Drop)]
+pub(crate) enum EntryForm {
+    Nothing,
+    /// A place that is no number of an entry kept whole.
+    Short(PackedEntry),
+    Long(LongEntry),
+}
+
+/// What an event is in a journal: an entry with a line, or nothing.
+#[derive(Drop)]
+pub struct PendingEntry {
+    pub(crate) form: EntryForm,
+}
+
+impl Model for PendingEntry {
+    ghost use Rattle.std.specs.Prelude.{Option};
+    ghost use Rattle.std.specs.Coded.{coded_option};
+    ghost use Rattle.kl1_model_server.specs.Journal.{Entry};
+    ghost use Rattle.kl1_journal_entries.specs.Codes.{entry_code};
+    ghost use Rattle.kl1_journal_entries.specs.Slots.{entry_in, IsSoundForm};
+
+    ghost Value = { Option Entry };
+
+    ghost coded = { coded_option entry_code };
+
+    ghost view = { λ p. entry_in p.form };
+
+    ghost invariant = { λ p. IsSoundForm p.form };
+}
+
+impl PendingEntry {
+    /// Whether this is an entry.
+    pub fn is_entry(&self) -> bool
+        ensures { result ≡ is_some self.now }
+    {
+        match &self.form {
+            EntryForm::Nothing => false,
+            EntryForm::Short(_slot) => true,
+            EntryForm::Long(_whole) => true,
+        }
+    }
+
+    /// The line of what is prepared, if it is an entry.
+    fn line(&self, alloc: Global) -> Result<Option<Vec<u8>>, AllocError>
+        ensures { IfOk result (λ line. option_map (λ v. v.items) line ≡ option_map entry_line self.now) }
+    {
+        let entry = match &self.form {
+            EntryForm::Nothing => return Ok(None),
+            EntryForm::Short(slot) => shown_at(&[], *slot),
+            EntryForm::Long(whole) => shown_whole(whole),
+        };
+        let mut line = Vec::new(alloc);
+        put_entry(&mut line, entry)?;
+        Ok(Some(line))
+    }
+
+    /// Whether a line is that of what is prepared.
+    pub(crate) fn is_canonical(&self, alloc: Global, line: &[u8]) -> Result<bool, AllocError>
+        ensures { IfOk result (λ is. is ≡ is_line_of self.now line.now) }
+    {
+        match self.line(alloc)? {
+            None => Ok(false),
+            Some(own) => Ok(is_same(own.as_slice(), line)),
+        }
+    }
+}
+
+/// What an event is in a journal, if it is accepted: an entry, or nothing for a query, for a session that is opened or closed, and for
+/// a reset. Of an event whose line couldn't be read back it is nothing too; no such event is accepted.
+pub fn entry_for(alloc: Global, event: &Event) -> Result<PendingEntry, AllocError>
+    ensures entry { IfOk result (λ p. p ≡ lined_entry (event_of event.now)) }
+    ensures nothing { entry_of (event_of event.now) ≡ None → IsOk result }
+{
+    match event {
+        Event::Load { source } => load_for(alloc, source.as_slice()),
+        Event::Start {
+            allowance,
+            low,
+            high,
+            goal,
+        } => start_for(alloc, *allowance, *low, *high, goal),
+        Event::Control { shoen, message } => Ok(control_for(shoen.0, *message)),
+        Event::Reduce { goal, clause } => Ok(step_for(goal.0, clause.0)),
+        Event::Read(_query) => Ok(nothing()),
+        Event::Login => Ok(nothing()),
+        Event::Logout => Ok(nothing()),
+        Event::Reset => Ok(nothing()),
+        Event::Answer {
+            shoen,
+            report,
+            goal,
+        } => answer_for(alloc, shoen.0, *report, goal),
+    }
+}
+
+/// Nothing.
+fn nothing() -> PendingEntry
+    ensures { result ≡ None }
+{
+    PendingEntry {
+        form: EntryForm::Nothing,
+    }
+}
+
+/// Whether a number may stand in a command.
+fn is_number(number: u64) -> bool
+    ensures { result ≡ is_number number }
+{
+    number < NUMBER_LIMIT
+}
+
+/// A load of a source, if its line isn't too long.
+fn load_for(alloc: Global, source: &[u8]) -> Result<PendingEntry, AllocError>
+    ensures { IfOk result (λ p. p ≡ if_lined (loads source.now)) }
+{
+    if source.len() > MOST_LOADED {
+        return Ok(nothing());
+    }
+    let source = Vec::from_slice(alloc, source)?;
+    Ok(PendingEntry {
+        form: EntryForm::Long(LongEntry::Load { source }),
+    })
+}
+
+/// How many digits a number has.
+fn digits(number: u64) -> usize
+    ensures value { result ≡ length (decimal number) }
+    ensures few { result ≤ 20 }
+{
+    let mut buffer = Buffer::new();
+    buffer.format(number).len()
+}
+
+/// Whether the line of a start whose goal's print has `bytes` bytes isn't too long.
+fn fits_line(allowance: u64, low: u64, high: u64, bytes: usize) -> bool
+    ensures { result ≡ nat_le (9 + length (decimal allowance) + length (decimal low) + length (decimal high) + bytes) MOST_LINE_BYTES }
+{
+    bytes <= MOST_LINE_BYTES
+        && 9 + digits(allowance) + digits(low) + digits(high) + bytes <= MOST_LINE_BYTES
+}
+
+/// Whether the numbers of a start may stand in a line, its goal, whose print is `text`, can be written and read back, and the line isn't
+/// too long.
+fn is_lined(
+    alloc: Global,
+    allowance: u64,
+    low: u64,
+    high: u64,
+    goal: &Term,
+    text: &[u8],
+) -> Result<bool, AllocError>
+    requires { text.now ≡ print goal.now }
+    ensures { IfOk result (λ may. may ≡ is_lined (starts allowance low high goal.now)) }
+{
+    let writable = goal.is_writable(alloc)?;
+    Ok(
+        is_number(allowance)
+            && is_number(low)
+            && is_number(high)
+            && is_goal(goal)
+            && writable
+            && goal.is_numbered()
+            && fits_line(allowance, low, high, text.len()),
+    )
+}
+
+/// A start, if its line can be read back.
+fn start_for(
+    alloc: Global,
+    allowance: u64,
+    low: u64,
+    high: u64,
+    goal: &Term,
+) -> Result<PendingEntry, AllocError>
+    ensures { IfOk result (λ p. p ≡ if_lined (starts allowance low high goal.now)) }
+{
+    let text = print_whole(alloc, goal)?;
+    if !is_lined(alloc, allowance, low, high, goal, text.as_slice())? {
+        return Ok(nothing());
+    }
+    Ok(PendingEntry {
+        form: EntryForm::Long(LongEntry::Start {
+            allowance,
+            low,
+            high,
+            goal: text,
+        }),
+    })
+}
+
+/// Whether a message and the number of its shoen may stand in a line.
+fn may_send(shoen: u64, message: Message) -> bool
+    ensures { result ≡ may_send shoen message }
+{
+    if !is_number(shoen) {
+        return false;
+    }
+    match message {
+        Message::Allow(more) => is_number(more),
+        _ => true,
+    }
+}
+
+/// A message to a shoen: in the row if the shoen's number has 32 bits.
+fn control_for(shoen: u64, message: Message) -> PendingEntry
+    ensures { result ≡ if_lined (sends shoen message) }
+{
+    if !may_send(shoen, message) {
+        return nothing();
+    }
+    let form = match (u32::try_from(shoen), message) {
+        (Ok(number), Message::Stop) => EntryForm::Short(PackedEntry::Stop(number)),
+        (Ok(number), Message::Start) => EntryForm::Short(PackedEntry::Resume(number)),
+        (Ok(number), Message::Abort) => EntryForm::Short(PackedEntry::Abort(number)),
+        _ => EntryForm::Long(LongEntry::Control { shoen, message }),
+    };
+    PendingEntry { form }
+}
+
+/// A reduction: in the row if both numbers have 32 bits.
+pub fn step_for(goal: u64, clause: u64) -> PendingEntry
+    ensures { result ≡ if_lined (steps goal clause) }
+{
+    if !is_number(goal) || !is_number(clause) {
+        return nothing();
+    }
+    let form = match (u32::try_from(goal), u32::try_from(clause)) {
+        (Ok(short_goal), Ok(short_clause)) => EntryForm::Short(PackedEntry::Step {
+            goal: short_goal,
+            clause: short_clause,
+        }),
+        _ => EntryForm::Long(LongEntry::Step { goal, clause }),
+    };
+    PendingEntry { form }
+}
+
+/// Whether the line of an answer whose goal's print has `bytes` bytes isn't too long.
+fn fits_answer(shoen: u64, report: u64, bytes: usize) -> bool
+    ensures { result ≡ nat_le (9 + length (decimal shoen) + length (decimal report) + bytes) MOST_LINE_BYTES }
+{
+    bytes <= MOST_LINE_BYTES && 9 + digits(shoen) + digits(report) + bytes <= MOST_LINE_BYTES
+}
+
+/// Whether the numbers of an answer may stand in a line, its goal, whose print is `text`, can be written and read back, and the line isn't
+/// too long.
+fn is_answer_lined(
+    alloc: Global,
+    shoen: u64,
+    report: u64,
+    goal: &Term,
+    text: &[u8],
+) -> Result<bool, AllocError>
+    requires { text.now ≡ print goal.now }
+    ensures { IfOk result (λ may. may ≡ is_lined (answers shoen report goal.now)) }
+{
+    let writable = goal.is_writable(alloc)?;
+    Ok(
+        is_number(shoen)
+            && is_number(report)
+            && is_goal(goal)
+            && writable
+            && goal.is_numbered()
+            && fits_answer(shoen, report, text.len()),
+    )
+}
+
+/// An answer, if its line can be read back.
+fn answer_for(
+    alloc: Global,
+    shoen: u64,
+    report: u64,
+    goal: &Term,
+) -> Result<PendingEntry, AllocError>
+    ensures { IfOk result (λ p. p ≡ if_lined (answers shoen report goal.now)) }
+{
+    let text = print_whole(alloc, goal)?;
+    if !is_answer_lined(alloc, shoen, report, goal, text.as_slice())? {
+        return Ok(nothing());
+    }
+    Ok(PendingEntry {
+        form: EntryForm::Long(LongEntry::Answer {
+            shoen,
+            report,
+            goal: text,
+        }),
+    })
+}

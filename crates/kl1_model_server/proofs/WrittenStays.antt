@@ -1,0 +1,240 @@
+-- Each event leaves an account with a journal that has a text.
+use Rattle.std.specs.Prelude.{◌≡◌, ℕ, suc, ◌+◌, ◌-◌, ◌≤◌, nat_le, nat_lt, ◌&&◌, Bool, true, false, if◌then◌else◌, List, [], ◌∷◌, ◌++◌, length, Option, Some, None, is_some}
+use Rattle.std.specs.List.{list_all, AllByRecursion}
+use Rattle.std.proofs.Common.{refl, sym, ap, subst, arith}
+use Rattle.std.proofs.lemmas.Bool.{and_parts, leb-true, ltb-true}
+use Rattle.kl1_model.specs.declared.limits.TheConstants.{NUMBER_LIMIT, MOST_SOURCE_BYTES, MOST_LINE_BYTES, MOST_PRIORITY, MOST_ENTRIES, MOST_MODULES, MOST_NAMES, MOST_SESSIONS, MOST_DEPTH}
+use Rattle.kl1_model.specs.Text.{is_text}
+use Rattle.kl1_model.specs.declared.message.Message.{Message}
+use Rattle.kl1_model.specs.Term.{Term, variable}
+use Rattle.kl1_model.specs.Meaning.{depth, highest, is_narrow, is_writable, is_numbered}
+use Rattle.kl1_model.specs.Goal.{is_goal}
+use Rattle.kl1_model.specs.Nodes.{goal_nodes}
+use Rattle.kl1_model.specs.Module.{Module, Reading, good, bad, read_module}
+use Rattle.kl1_model.specs.Match.{module_of}
+use Rattle.kl1_model.specs.State.{State, has_substitutes, Goal, Shoen, Origin, goal_at, shoen_at, names_of, names_of_module, with_names, is_living}
+use Rattle.kl1_model.specs.Event.{Refusal, syntax, exists, shoen_ended, too_many_names, limit_passed, journal_full, sessions_refused, Event, load, start, control, reduce, read, login, logout, reset, answer, loaded, opened, sent, reduced, welcome, bye, Transition, refuse, is_number, is_range, with_entry, recorded, named, limited}
+use Rattle.kl1_model.specs.Opening.{start_line, may_start, has_room_to_start, with_next_variables, started_shoen, start_goal}
+use Rattle.kl1_model.specs.Sending.{may_send, has_room_to_send, sent_on, send_to}
+use Rattle.kl1_model.specs.Answering.{answer_line, may_answer, has_room_to_answer, unanswered_at, answer_by, answer_to}
+use Rattle.kl1_model.specs.Reduction.{Action, action_of, acted, reduce_goal}
+use Rattle.kl1_model.specs.Step.{load_module, step}
+use Rattle.kl1_model.specs.code.Steps.{send_by, answer_in, reduced_by, with_module}
+use Rattle.kl1_model.specs.laws.TreeLaws.{is_refused}
+use Rattle.kl1_model_server.specs.Journal.{Entry, loads, starts, sends, steps, answers, event_in, Journal, with_entry as with_entry_more, with_event}
+use Rattle.kl1_model_server.specs.laws.TextLaws.{HasLine, AreNames, IsWritten, HasBytes, FreshIsWritten, WrittenStays}
+use Rattle.kl1_model_server.proofs.Besides.{stays_beside}
+use Rattle.kl1_model_server.proofs.Replays.{reading_stays}
+use Rattle.kl1_model_server.proofs.TextEntries.{length_hex}
+use Rattle.kl1_model_server.proofs.NewNames.{with_names_new, no_names, names_are_texts}
+use Rattle.kl1_model_server.proofs.SpelledTexts.{MayAct, actions_name_texts}
+use Rattle.kl1_model_server.proofs.NamesKept.{IsNamed, same_names, open_has, acted_named, sent_has}
+use Rattle.kl1_model_server.proofs.ModuleNames.{module_names_are_texts}
+
+pub fresh_is_written : FreshIsWritten
+fresh_is_written rules name = record {
+  journal = record { sessions = leb-true 0 MOST_SESSIONS refl; names = no_names; entries = tt };
+  names = no_names;
+  sessions = leb-true 0 MOST_SESSIONS refl;
+}
+
+-- ---- the names of an account
+
+-- what may be refused
+named_if : (c : Bool) (r : Refusal) (s : State) (x : Transition) → (c ≡ true → IsNamed x.state) → IsNamed s → IsNamed (if c then x else refuse s r).state
+named_if true r s x go h = go refl
+named_if false r s x go h = h
+
+-- what may be refused if a test says so
+named_unless : (c : Bool) (r : Refusal) (s : State) (x : Transition) → IsNamed x.state → IsNamed s → IsNamed (if c then refuse s r else x).state
+named_unless true r s x n h = h
+named_unless false r s x n h = n
+
+recorded_named : (s : State) (x : Transition) → IsNamed x.state → IsNamed s → IsNamed (recorded s x).state
+recorded_named s x n h = named_if (nat_lt s.entries MOST_ENTRIES) journal_full s x (λ is. n) h
+
+-- names that come to those used, if there is room for them
+more_named : (names others : List (List ℕ)) → AreNames names → list_all is_text others ≡ true → nat_le (length (with_names names others)) MOST_NAMES ≡ true → AreNames (with_names names others)
+more_named names others h texts room = record { few = leb-true (length (with_names names others)) MOST_NAMES room; new = with_names_new names others h.new texts }
+
+load_named : (s : State) (r : Reading Module) → ((m : Module) → r ≡ good m → list_all is_text (names_of_module m) ≡ true) → IsNamed s → IsNamed (load_module s r).state
+load_named s (bad line) texts h = h
+load_named s (good m) texts h =
+    let names = with_names s.names (names_of_module m) in
+    let x : Transition = record { state = with_entry (with_module s m); reply = loaded m.name } in
+    let y = limited s (nat_lt (length s.modules) MOST_MODULES) (recorded s x) in
+    named_unless (is_some (module_of s.modules m.name)) exists s (named s names y)
+    (named_if (nat_le (length names) MOST_NAMES) too_many_names s y (λ room.
+    let n : IsNamed x.state = more_named s.names (names_of_module m) h (texts m refl) room in
+    named_if (nat_lt (length s.modules) MOST_MODULES) limit_passed s (recorded s x) (λ is. recorded_named s x n h) h)
+    h) h
+
+-- the facts of a start
+may_start_line : (allowance low high : ℕ) (t : Term) → may_start allowance low high t ≡ true → HasLine (starts allowance low high t)
+may_start_line allowance low high t h =
+    let numbers = is_number allowance && is_range low high in
+    let last = nat_le (length (start_line allowance low high t)) MOST_LINE_BYTES in
+    let five = and_parts (numbers && is_goal t && is_writable t && is_numbered t) last h in
+    let four = and_parts (numbers && is_goal t && is_writable t) (is_numbered t) five.0 in
+    let three = and_parts (numbers && is_goal t) (is_writable t) four.0 in
+    let two = and_parts numbers (is_goal t) three.0 in
+    let one = and_parts (is_number allowance) (is_range low high) two.0 in
+    let range = and_parts (nat_le low high) (nat_le high MOST_PRIORITY) one.1 in
+    let least = leb-true low high range.0 in
+    let most = leb-true high MOST_PRIORITY range.1 in
+    (ltb-true allowance NUMBER_LIMIT one.0, omega arith, omega arith, two.1, three.1, four.1, leb-true (length (start_line allowance low high t)) MOST_LINE_BYTES five.1)
+
+-- the goal of a start is one that a text can write
+start_narrow : (allowance low high : ℕ) (t : Term) → may_start allowance low high t ≡ true → is_narrow t ≡ true
+start_narrow allowance low high t h = (and_parts (is_narrow t) (nat_le (depth t) MOST_DEPTH) (may_start_line allowance low high t h).4).0
+
+start_named : (s : State) (allowance low high : ℕ) (t : Term) → IsNamed s → IsNamed (step s (start allowance low high t)).state
+start_named s allowance low high t h =
+    let names = with_names s.names (names_of t) in
+    let x : Transition = record { state = with_entry (start_goal s allowance low high t); reply = opened (suc s.last_shoen) } in
+    let y = limited s (has_room_to_start s t) (recorded s x) in
+    let goal = with_next_variables s.last_variable t in
+    let count = s.last_variable + highest t in
+    let u = record s { names = names; last_variable = suc (suc count); variables = s.variables + suc (suc (highest t)); nodes = s.nodes + goal_nodes t } in
+    let shoen = started_shoen s allowance low high goal (variable (suc count)) (variable (suc (suc count))) in
+    named_if (may_start allowance low high t) syntax s (named s names y) (λ may.
+    named_if (nat_le (length names) MOST_NAMES) too_many_names s y (λ room.
+    let n : IsNamed u = more_named s.names (names_of t) h (names_are_texts t (start_narrow allowance low high t may)) room in
+    named_if (has_room_to_start s t) limit_passed s (recorded s x) (λ is. recorded_named s x (same_names u (start_goal s allowance low high t) (open_has shoen goal u) n) h) h) h) h
+
+send_by_named : (s : State) (n : ℕ) (m : Message) (h : Shoen) (o : Option Origin) → IsNamed s → IsNamed (send_by s n m h o).state
+send_by_named s n m h None is = is
+send_by_named s n m h (Some o) is =
+    let x : Transition = record { state = with_entry (sent_on n m o.control s); reply = sent } in
+    let y = limited s (has_room_to_send s m) (recorded s x) in
+    named_if (is_living h.life) shoen_ended s y (λ living.
+    named_if (has_room_to_send s m) limit_passed s (recorded s x) (λ room. recorded_named s x (same_names s (sent_on n m o.control s) (sent_has n m o.control s) is) is) is) is
+
+send_named : (s : State) (n : ℕ) (m : Message) (o : Option Shoen) → IsNamed s → IsNamed (send_to s n m o).state
+send_named s n m None is = is
+send_named s n m (Some h) is = send_by_named s n m h h.origin is
+
+-- the facts of an answer
+may_answer_line : (n report : ℕ) (t : Term) → may_answer n report t ≡ true → HasLine (answers n report t)
+may_answer_line n report t h =
+    let numbers = is_number n && is_number report && nat_le 1 report in
+    let last = nat_le (length (answer_line n report t)) MOST_LINE_BYTES in
+    let five = and_parts (numbers && is_goal t && is_writable t && is_numbered t) last h in
+    let four = and_parts (numbers && is_goal t && is_writable t) (is_numbered t) five.0 in
+    let three = and_parts (numbers && is_goal t) (is_writable t) four.0 in
+    let two = and_parts numbers (is_goal t) three.0 in
+    let both = and_parts (is_number n && is_number report) (nat_le 1 report) two.0 in
+    let one = and_parts (is_number n) (is_number report) both.0 in
+    (ltb-true n NUMBER_LIMIT one.0, ltb-true report NUMBER_LIMIT one.1, two.1, three.1, four.1, leb-true (length (answer_line n report t)) MOST_LINE_BYTES five.1)
+
+answer_by_named : (s : State) (t : Term) (o : Option ℕ) → IsNamed s → AreNames (with_names s.names (names_of t)) → IsNamed (answer_by s t o).state
+answer_by_named s t None h is = h
+answer_by_named s t (Some v) h is = record { few = is.few; new = is.new }
+
+answer_in_named : (s : State) (report : ℕ) (t : Term) (h : Shoen) (o : Option Origin) → is_narrow t ≡ true → IsNamed s → IsNamed (answer_in s report t h o).state
+answer_in_named s report t h None narrow is = is
+answer_in_named s report t h (Some o) narrow is =
+    let names = with_names s.names (names_of t) in
+    let x = answer_by s t (unanswered_at o.reports report) in
+    let y = limited s (has_room_to_answer s t) (recorded s x) in
+    named_if (is_living h.life) shoen_ended s (named s names y) (λ living.
+    named_if (nat_le (length names) MOST_NAMES) too_many_names s y (λ room.
+    let n : AreNames names = more_named s.names (names_of t) is (names_are_texts t narrow) room in
+    named_if (has_room_to_answer s t) limit_passed s (recorded s x) (λ fits. recorded_named s x (answer_by_named s t (unanswered_at o.reports report) is n) is) is) is) is
+
+answer_named : (s : State) (report : ℕ) (t : Term) (o : Option Shoen) → is_narrow t ≡ true → IsNamed s → IsNamed (answer_to s report t o).state
+answer_named s report t None narrow is = is
+answer_named s report t (Some h) narrow is = answer_in_named s report t h h.origin narrow is
+
+-- the goal of an answer is one that a text can write
+answer_narrow : (c : Bool) (n report : ℕ) (t : Term) → (c && may_answer n report t) ≡ true → is_narrow t ≡ true
+answer_narrow c n report t h = (and_parts (is_narrow t) (nat_le (depth t) MOST_DEPTH) (may_answer_line n report t (and_parts c (may_answer n report t) h).1).3).0
+
+reduced_named : (s : State) (g : Goal) (o : Option Action) → MayAct o → IsNamed s → IsNamed (reduced_by s g o).state
+reduced_named s g None texts h = h
+reduced_named s g (Some a) texts h = recorded_named s (record { state = acted g a (with_entry s); reply = reduced }) (acted_named g a (with_entry s) texts h) h
+
+reduce_named : (s : State) (clause : ℕ) (g : Option Goal) → IsNamed s → IsNamed (reduce_goal s clause g).state
+reduce_named s clause None h = h
+reduce_named s clause (Some g) h = reduced_named s g (action_of s g clause) (actions_name_texts s g clause) h
+
+-- each event leaves names that may have been used
+pub step_named : (s : State) (e : Event) → IsNamed s → IsNamed (step s e).state
+step_named s (load text) h = named_if (nat_le (length text) MOST_SOURCE_BYTES) syntax s (load_module s (read_module text)) (λ short. load_named s (read_module text) (module_names_are_texts text) h) h
+step_named s (start allowance low high t) h = start_named s allowance low high t h
+step_named s (control n m) h = named_if (may_send n m) syntax s (send_to s n m (shoen_at n s.shoens)) (λ may. send_named s n m (shoen_at n s.shoens) h) h
+step_named s (reduce goal clause) h = named_if (is_number goal && is_number clause) syntax s (reduce_goal s clause (goal_at goal s.goals)) (λ may. reduce_named s clause (goal_at goal s.goals) h) h
+step_named s (read q) h = same_names s (step s (read q)).state (ap (λ (z : State). z.names) (reading_stays s q)) h
+step_named s login h = named_if (nat_lt s.sessions MOST_SESSIONS) sessions_refused s (record { state = record s { sessions = suc s.sessions }; reply = welcome s.own_name }) (λ may. record { few = h.few; new = h.new }) h
+step_named s logout h = named_if (nat_lt 0 s.sessions) sessions_refused s (record { state = record s { sessions = s.sessions - 1 }; reply = bye }) (λ may. record { few = h.few; new = h.new }) h
+step_named s reset h = h
+step_named s (answer n report t) h = named_if (has_substitutes s.rules && may_answer n report t) syntax s (answer_to s report t (shoen_at n s.shoens)) (λ may. answer_named s report t (shoen_at n s.shoens) (answer_narrow (has_substitutes s.rules) n report t may) h) h
+
+-- ---- the sessions of an account
+
+entry_sessions : (s : State) (e : Entry) → (step s (event_in e)).state.sessions ≡ s.sessions
+entry_sessions s e = ap (λ (x : Transition). x.state.sessions) (stays_beside s.own_name s.sessions s e)
+
+few_or : (c : Bool) (s : State) (x : Transition) (r : Refusal) → (c ≡ true → x.state.sessions ≤ MOST_SESSIONS) → s.sessions ≤ MOST_SESSIONS → (if c then x else refuse s r).state.sessions ≤ MOST_SESSIONS
+few_or true s x r go h = go refl
+few_or false s x r go h = h
+
+entry_few : (s : State) (e : Entry) → s.sessions ≤ MOST_SESSIONS → (step s (event_in e)).state.sessions ≤ MOST_SESSIONS
+entry_few s e h = subst (λ n. n ≤ MOST_SESSIONS) (sym (entry_sessions s e)) h
+
+step_few : (s : State) (e : Event) → s.sessions ≤ MOST_SESSIONS → (step s e).state.sessions ≤ MOST_SESSIONS
+step_few s (load text) h = entry_few s (loads text) h
+step_few s (start allowance low high t) h = entry_few s (starts allowance low high t) h
+step_few s (control n m) h = entry_few s (sends n m) h
+step_few s (reduce goal clause) h = entry_few s (steps goal clause) h
+step_few s (read q) h = subst (λ n. n ≤ MOST_SESSIONS) (sym (ap (λ (z : State). z.sessions) (reading_stays s q))) h
+step_few s login h = few_or (nat_lt s.sessions MOST_SESSIONS) s (record { state = record s { sessions = suc s.sessions }; reply = welcome s.own_name }) sessions_refused (λ may. ltb-true s.sessions MOST_SESSIONS may) h
+step_few s logout h = few_or (nat_lt 0 s.sessions) s (record { state = record s { sessions = s.sessions - 1 }; reply = bye }) sessions_refused (λ may. let few : s.sessions - 1 ≤ MOST_SESSIONS = omega arith in few) h
+step_few s reset h = h
+step_few s (answer n report t) h = entry_few s (answers n report t) h
+
+-- ---- the journal of an account
+
+-- what isn't refused passed the test
+passed : (c : Bool) (s : State) (x : Transition) (r : Refusal) → is_refused (if c then x else refuse s r).reply ≡ false → c ≡ true
+passed true s x r h = refl
+passed false s x r h = cc
+
+added : (es : List Entry) (e : Entry) → AllByRecursion HasLine es → HasLine e → AllByRecursion HasLine (es ++ e ∷ [])
+added [] e h is = (is, tt)
+added (d ∷ ds) e h is = (h.0, added ds e h.1 is)
+
+entry_written : (j : Journal) (e : Entry) → HasLine e → IsWritten j → IsWritten (with_entry_more j e)
+entry_written j e is w = record { sessions = w.sessions; names = w.names; entries = added j.entries e w.entries is }
+
+accepted_written : (j : Journal) (s : State) (e : Event) → HasBytes e → is_refused (step s e).reply ≡ false → IsNamed (step s e).state → (step s e).state.sessions ≤ MOST_SESSIONS → IsWritten j → IsWritten (with_event j e (step s e).state)
+accepted_written j s (load text) bytes a named few w =
+    entry_written j (loads text) (bytes, omega (arith, length_hex text, leb-true (length text) MOST_SOURCE_BYTES (passed (nat_le (length text) MOST_SOURCE_BYTES) s (load_module s (read_module text)) syntax a))) w
+accepted_written j s (start allowance low high t) bytes a named few w =
+    entry_written j (starts allowance low high t) (may_start_line allowance low high t (passed (may_start allowance low high t) s _ syntax a)) w
+accepted_written j s (control n m) bytes a named few w = entry_written j (sends n m) (passed (may_send n m) s (send_to s n m (shoen_at n s.shoens)) syntax a) w
+accepted_written j s (reduce goal clause) bytes a named few w =
+    let both = and_parts (is_number goal) (is_number clause) (passed (is_number goal && is_number clause) s (reduce_goal s clause (goal_at goal s.goals)) syntax a) in
+    entry_written j (steps goal clause) (ltb-true goal NUMBER_LIMIT both.0, ltb-true clause NUMBER_LIMIT both.1) w
+accepted_written j s (read q) bytes a named few w = w
+accepted_written j s login bytes a named few w = record { sessions = few; names = w.names; entries = w.entries }
+accepted_written j s logout bytes a named few w = record { sessions = few; names = w.names; entries = w.entries }
+accepted_written j s reset bytes a named few w = record { sessions = few; names = named; entries = tt }
+accepted_written j s (answer n report t) bytes a named few w =
+    let may = and_parts (has_substitutes s.rules) (may_answer n report t) (passed (has_substitutes s.rules && may_answer n report t) s (answer_to s report t (shoen_at n s.shoens)) syntax a) in
+    entry_written j (answers n report t) (may_answer_line n report t may.1) w
+
+noted_written : (c : Bool) (j : Journal) (s : State) (e : Event) → HasBytes e → is_refused (step s e).reply ≡ c → IsNamed (step s e).state → (step s e).state.sessions ≤ MOST_SESSIONS → IsWritten j → IsWritten (if c then j else with_event j e (step s e).state)
+noted_written true j s e bytes a named few w = w
+noted_written false j s e bytes a named few w = accepted_written j s e bytes a named few w
+
+pub written_stays : WrittenStays
+written_stays k e bytes w =
+    let x = step k.state e in
+    let named = step_named k.state e w.names in
+    let few = step_few k.state e w.sessions in
+    record {
+      journal = noted_written (is_refused x.reply) k.journal k.state e bytes refl named few w.journal;
+      names = named;
+      sessions = few;
+    }

@@ -1,0 +1,20 @@
+use Rattle.std.proofs.Common.{◌≡◌, ◌+◌, [], ◌∷◌, ap, ◌∙◌, length, length-append, rules, arith}
+use Rattle.std.proofs.lemmas.List.Elements.{All-pop}
+use Rattle.kl1_pool_tickets.specs.Parts.{IsNewBook}
+use Rattle.kl1_pool.specs.Parts.{IsFreshSeat}
+use Rattle.kl1_pool.proofs.Seating.{but_last}
+use Rattle.kl1_pool.proofs.locked_slots.places_of.Goals as goal
+
+pub loop-book-preserved : goal.loop-book-preserved
+loop-book-preserved g c =
+    let books : length c.loop-book.books.items ≡ length c.pop.new.self.items + 1 = ap length c.in-Some.ensures.items ∙ length-append c.pop.new.self.items (c.in-Some.book ∷ []) in
+    let names : length c.loop-book.names.items ≡ length c.last_of-name.new.list.items + 1 = ap length c.last_of-name.ensures ∙ length-append c.last_of-name.new.list.items (c.last_of-name.result ∷ []) in
+    let seats : length c.loop-book.seats.items ≡ length c.last_of-seat.new.list.items + 1 = ap length c.last_of-seat.ensures ∙ length-append c.last_of-seat.new.list.items (c.last_of-seat.result ∷ []) in
+    record {
+      seats = but_last (IsFreshSeat g.C.Fresh.table g.C.Fresh.seats) c.loop-book.seats.items c.last_of-seat.new.list.items c.last_of-seat.result c.last_of-seat.ensures c.loop-book.invariant.seats;
+      books = (All-pop (IsNewBook g.C.Fresh.tally) c.loop-book.books.items c.pop.new.self.items c.pop.result c.pop.ensures.items c.loop-book.invariant.books).0;
+      names = omega (arith, books, names, c.loop-book.invariant.names);
+      as_many = omega (arith, books, seats, c.loop-book.invariant.as_many);
+      count = search rules;
+      room = search rules;
+    }

@@ -1,0 +1,63 @@
+-- What a book tells of a journal and of those before it.
+use Rattle.std.specs.Prelude.{◌≡◌, ℕ, suc, ◌+◌, ◌≤◌, ◌^◌, Bool, true, false, List, [], ◌∷◌, length}
+use Rattle.kl1_model.specs.Event as model
+use Rattle.kl1_model_server.specs.Journal.{Entry, loads, starts, sends, steps, answers, Journal}
+use Rattle.kl1_tally.specs.Seats.{Book}
+use Rattle.kl1_pool.specs.declared.totals_before_reset.TotalsBeforeReset.{TotalsBeforeReset}
+
+-- how many of some entries are reductions
+abbrev pub reduces_in : List Entry → ℕ
+reduces_in [] = 0
+reduces_in (loads text ∷ es) = reduces_in es
+reduces_in (starts allowance low high t ∷ es) = reduces_in es
+reduces_in (sends n m ∷ es) = reduces_in es
+reduces_in (answers n report t ∷ es) = reduces_in es
+reduces_in (steps goal clause ∷ es) = suc (reduces_in es)
+
+-- no journal was ended yet
+abbrev pub no_past : TotalsBeforeReset
+no_past = record { events = 0; steps = 0 }
+
+-- a past to which a journal is added
+abbrev pub with_journal : TotalsBeforeReset → Journal → TotalsBeforeReset
+with_journal p j = record { events = p.events + length j.entries; steps = p.steps + reduces_in j.entries }
+
+-- a book tells the events and steps of a past and of a journal, and no more events than can be told
+pub record IsCounted (p : TotalsBeforeReset) (j : Journal) (b : Book) : Type 0 where
+  pub events : b.events ≡ p.events + length j.entries
+  pub steps : b.steps ≡ p.steps + reduces_in j.entries
+  pub few : b.events ≤ 2 ^ 63
+
+-- a book with more events and steps
+abbrev pub with_more : Book → ℕ → ℕ → Book
+with_more b e s = record { tally = b.tally; account = b.account; events = b.events + e; steps = b.steps + s }
+
+-- how many events a reply tells: one of a load, a start, a message, an answer and a reduction, and those of a run
+abbrev pub events_by : model.Reply → ℕ
+events_by (model.loaded name) = 1
+events_by (model.opened n) = 1
+events_by model.sent = 1
+events_by model.reduced = 1
+events_by (model.ran n) = n
+events_by _ = 0
+
+-- how many steps a reply tells: one of a reduction, and those of a run
+abbrev pub steps_by : model.Reply → ℕ
+steps_by model.reduced = 1
+steps_by (model.ran n) = n
+steps_by _ = 0
+
+-- the past after a reply: an accepted reset adds the journal that it ends
+abbrev pub past_by : TotalsBeforeReset → Journal → model.Reply → TotalsBeforeReset
+past_by p j model.was_reset = with_journal p j
+past_by p j _ = p
+
+-- whether a reply tells the steps of a run
+abbrev pub is_run : model.Reply → Bool
+is_run (model.ran n) = true
+is_run _ = false
+
+-- the past after a reply, by what a book tells
+abbrev pub ended : TotalsBeforeReset → Book → model.Reply → TotalsBeforeReset
+ended p b model.was_reset = record { events = b.events; steps = b.steps }
+ended p b _ = p

@@ -1,0 +1,74 @@
+// Where an account lies under its lock.
+
+ghost use Rattle.std.specs.Prelude.{◌≡◌, ℕ};
+ghost use Rattle.atomic_table.specs.Seated.{TableId};
+ghost use Rattle.kl1_pool_tickets.specs.Parts.{IsNewBook};
+ghost use Rattle.kl1_pool.specs.Parts.{IsFreshSeat};
+
+use crate::pool_account::PoolAccount;
+use crate::pool_ids::PoolIds;
+use crossbeam_utils::CachePadded;
+use kl1_atoms::AtomSeat;
+use kl1_journal::{AccountName, JournaledAccount, Rules};
+use kl1_pool_tickets::Booked;
+use kl1_tally::BookSeat;
+use std::alloc::{AllocError, Global};
+use std::sync::Wait;
+
+/// What an account in which nothing has happened is made as.
+pub(crate) trait Fresh: Drop {
+    /// Which table of names its seat is of.
+    ghost table: { TableId };
+
+    /// For how many accounts that table was made.
+    ghost seats: { ℕ };
+
+    /// Which tally its book is of.
+    ghost tally: { TableId };
+
+    /// An account of this name, which keeps to these rules, in which nothing has happened.
+    fn fresh(
+        alloc: Global,
+        name: AccountName,
+        rules: Rules,
+        seat: AtomSeat,
+        book: BookSeat,
+    ) -> Result<Self, AllocError>
+        requires seat { IsFreshSeat table seats seat }
+        requires book { IsNewBook tally book };
+}
+
+/// An account under its lock. It is padded: a lock's word is written by each thread that wants the account, and no word of an account
+/// lies on its line.
+#[derive(Drop)]
+pub struct LockedSlot<'t, R: Wait, K: PoolIds> {
+    pub(crate) cell: CachePadded<PoolAccount<'t, R, K>>,
+}
+
+impl<'t, R: Wait, K: PoolIds> Fresh for LockedSlot<'t, R, K> {
+    ghost table = { K.table };
+
+    ghost seats = { K.seats };
+
+    ghost tally = { K.tally };
+
+    fn fresh(
+        alloc: Global,
+        name: AccountName,
+        rules: Rules,
+        seat: AtomSeat,
+        book: BookSeat,
+    ) -> Result<Self, AllocError> {
+        let kept = JournaledAccount::new(alloc, name, rules, seat)?;
+        let cell = CachePadded::new(PoolAccount::new(kept, book));
+        Ok(LockedSlot { cell })
+    }
+}
+
+impl<'t, R: Wait, K: PoolIds> Booked for LockedSlot<'t, R, K> {
+    ghost tally = { K.tally };
+
+    fn into_book(self) -> BookSeat {
+        self.cell.into_inner().into_book()
+    }
+}

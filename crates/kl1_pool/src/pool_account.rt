@@ -1,0 +1,219 @@
+// An account with its book.
+
+ghost use Rattle.std.specs.Prelude.{◌≡◌, ℕ, ◌<◌, ◌≤◌, ◌^◌, [], IfOk, IsOk, IsTrue, OnErr, false, option_map};
+ghost use Rattle.kl1_model.specs.Event.{reduce as reduce_event, refused, journal_full};
+ghost use Rattle.kl1_model.specs.Choice.{first, quiet};
+ghost use Rattle.kl1_model_server.specs.Journal.{done};
+ghost use Rattle.kl1_model_server.specs.JournalText.{page_of};
+ghost use Rattle.kl1_atoms.specs.Names.{AreNames};
+ghost use Rattle.kl1_atoms.specs.Seats.{face_in, IsSharedSeat};
+ghost use Rattle.kl1_codes_modules.specs.Numbered.{ArePlaced};
+ghost use Rattle.kl1_user_events.specs.Views.{event_of, is_logout, reply_of, reduced_or, chosen_of};
+ghost use Rattle.kl1_pool_tickets.specs.Counts.{Moved};
+ghost use Rattle.kl1_pool_tickets.specs.Parts.{IsNewBook};
+ghost use Rattle.kl1_journal.specs.Keeping.{Reading, Fits, kept_of, IsKept};
+ghost use Rattle.kl1_pool.specs.Cells.{StandsIn};
+ghost use Rattle.kl1_pool.specs.Counted.{no_past, with_more, IsCounted, events_by, steps_by, past_by};
+ghost use Rattle.kl1_pool.specs.Filling.{room_in, is_entry, HasRoom};
+
+use crate::counting::{MOST_EVENTS, count, count_step, is_full, past_after};
+use crate::named_atoms::NamedAtoms;
+use crate::pool_ids::PoolIds;
+use crate::totals_before_reset::TotalsBeforeReset;
+use kl1_codes::SharedCodes;
+use kl1_journal::JournaledAccount;
+use kl1_pool_tickets::{Booked, Share};
+use kl1_tally::{BookSeat, Tally};
+use kl1_user_events::{ClauseNo, Event, GoalNo, Listed, Refusal, Reply};
+use std::alloc::AllocError;
+use std::marker::{Model, PhantomData};
+use std::sync::Wait;
+
+/// An account with its journal and its book; what its journals counted that resets ended; and whether its ticket is out, which no
+/// contract speaks of. What a book tells is always what was counted before the last reset and the entries of the journal.
+#[derive(Drop)]
+pub struct PoolAccount<'t, R: Wait, K: PoolIds> {
+    kept: JournaledAccount<NamedAtoms<'t, K>, SharedCodes<'t, R>>,
+    book: BookSeat,
+    past: TotalsBeforeReset,
+    is_out: bool,
+    of: PhantomData<K>,
+}
+
+impl<'t, R: Wait, K: PoolIds> Model for PoolAccount<'t, R, K> {
+    ghost use Rattle.std.specs.Prelude.{◌≡◌, ◌<◌};
+    ghost use Rattle.std.specs.Coded.{codes};
+    ghost use Rattle.kl1_tally.specs.declared.amounts.TheConstants.{MOST_ACCOUNTS};
+    ghost use Rattle.kl1_atoms.specs.Seats.{face_in, IsSharedSeat};
+    ghost use Rattle.kl1_codes_modules.specs.Numbered.{numbered_code, ArePlaced};
+    ghost use Rattle.kl1_journal_entries.specs.Codes.{journal_code};
+    ghost use Rattle.kl1_pool.specs.Cells.{PoolAccountValue, StandsIn};
+    ghost use Rattle.kl1_pool.specs.Counted.{IsCounted};
+
+    ghost Value = { PoolAccountValue };
+
+    ghost coded = { Prim.hlevel (codes, numbered_code, journal_code) };
+
+    ghost view = { λ c. record { held = c.kept.1; book = c.book; past = c.past } };
+
+    ghost invariant = { λ c. IsSharedSeat K.table c.kept.0.badge.table_id K.seats (face_in c.kept.0.badge.views) c.kept.0.account × ArePlaced (StandsIn K.codes) c.kept.1.0.modules × (c.book.tally ≡ K.tally) × (c.book.account < MOST_ACCOUNTS) × IsCounted c.past c.kept.1.1 c.book };
+}
+
+impl<'t, R: Wait, K: PoolIds> PoolAccount<'t, R, K> {
+    /// The cell of an account whose journal has no entries, with a new book.
+    pub fn new(
+        kept: JournaledAccount<NamedAtoms<'t, K>, SharedCodes<'t, R>>,
+        book: BookSeat,
+    ) -> Self
+        requires seat { IsSharedSeat K.table kept.0.badge.table_id K.seats (face_in kept.0.badge.views) kept.0.account }
+        requires modules { ArePlaced (StandsIn K.codes) kept.1.0.modules }
+        requires entries { kept.1.1.entries ≡ [] }
+        requires book { IsNewBook K.tally book }
+        ensures held { result.held ≡ kept.entry.1 }
+        ensures book { result.book ≡ book }
+        ensures past { result.past ≡ no_past }
+    {
+        PoolAccount {
+            kept,
+            book,
+            past: TotalsBeforeReset {
+                events: 0,
+                steps: 0,
+            },
+            is_out: false,
+            of: PhantomData,
+        }
+    }
+
+    /// What an event does to the account and its journal, and the reply. An accepted entry is one event more in the book and in
+    /// `share`, and a reduction is a step besides; an accepted reset adds the journal that it ends to what was counted before. If
+    /// memory is refused, account, journal, book and share are as before; a code may have been put in. A session is closed without
+    /// memory. If the book tells `MOST_EVENTS` already, what would be an entry is refused, as by a full journal.
+    pub fn apply(
+        &mut self,
+        tally: &Tally,
+        names: &mut NamedAtoms<'t, K>,
+        codes: &mut SharedCodes<'t, R>,
+        share: &mut Share<K>,
+        event: &Event,
+    ) -> Result<Reply, AllocError>
+        requires tally { tally.now.id ≡ K.tally }
+        requires codes { codes.old.table.now ≡ K.codes }
+        ensures step { HasRoom self.old.book (event_of event.now) → IfOk result (λ reply. (f : Reading) → Fits self.new.held.0.names f → done (kept_of f self.old.held) (event_of event.now) ≡ record { kept = kept_of f self.new.held; reply = reply_of reply }) }
+        ensures full { IsTrue (is_entry (event_of event.now)) → 2 ^ 63 ≤ self.old.book.events → IsOk result × IfOk result (λ reply. reply_of reply ≡ refused journal_full) × (self.new ≡ self.old) × (share.new ≡ share.old) }
+        ensures counted { IfOk result (λ reply. Moved self.old.book.account (events_by (reply_of reply)) (steps_by (reply_of reply)) 0 0 share.old share.new) }
+        ensures book { IfOk result (λ reply. self.new.book ≡ with_more self.old.book (events_by (reply_of reply)) (steps_by (reply_of reply))) }
+        ensures past { IfOk result (λ reply. self.new.past ≡ past_by self.old.past self.old.held.1 (reply_of reply)) }
+        ensures logout { IsTrue (is_logout event.now) → IsOk result }
+        ensures err { OnErr result ((self.new ≡ self.old) × (share.new ≡ share.old)) }
+        ensures before { (f : Reading) → Fits self.new.held.0.names f → Fits self.old.held.0.names f }
+    {
+        if is_full(&self.book, event) {
+            return Ok(Reply::Refused(Refusal::Journal));
+        }
+        let reply = self.kept.apply(names, codes, event)?;
+        self.kept.shows_replay();
+        self.past = past_after(self.past, &self.book, &reply);
+        count(tally, &mut self.book, share, &reply);
+        Ok(reply)
+    }
+
+    /// Reduces a goal by a clause, or says why it is refused: what `apply` does if the event is a reduction.
+    pub(crate) fn reduce(
+        &mut self,
+        tally: &Tally,
+        names: &mut NamedAtoms<'t, K>,
+        codes: &SharedCodes<'t, R>,
+        share: &mut Share<K>,
+        goal: GoalNo,
+        clause: ClauseNo,
+    ) -> Result<Option<Refusal>, AllocError>
+        requires tally { tally.now.id ≡ K.tally }
+        requires codes { codes.now.table.now ≡ K.codes }
+        requires room { self.old.book.events < 2 ^ 63 }
+        ensures step { IfOk result (λ refused. (f : Reading) → Fits self.new.held.0.names f → done (kept_of f self.old.held) (reduce_event goal.0 clause.0) ≡ record { kept = kept_of f self.new.held; reply = reduced_or refused }) }
+        ensures counted { IfOk result (λ refused. Moved self.old.book.account (events_by (reduced_or refused)) (steps_by (reduced_or refused)) 0 0 share.old share.new) }
+        ensures book { IfOk result (λ refused. self.new.book ≡ with_more self.old.book (events_by (reduced_or refused)) (steps_by (reduced_or refused))) }
+        ensures past { self.new.past ≡ self.old.past }
+        ensures err { OnErr result ((self.new ≡ self.old) × (share.new ≡ share.old)) }
+        ensures before { (f : Reading) → Fits self.new.held.0.names f → Fits self.old.held.0.names f }
+    {
+        let refused = self.kept.reduce(names, codes, goal, clause)?;
+        self.kept.shows_replay();
+        count_step(tally, &mut self.book, share, &refused);
+        Ok(refused)
+    }
+
+    /// Tells a caller's proof what the type keeps: the account is the replay of its journal for each reading of its names, there is
+    /// such a reading, and the book tells what was counted before the last reset and the entries of the journal. It does nothing.
+    pub fn shows_counts(&self)
+        ensures kept { IsKept self.now.held }
+        ensures names { AreNames self.now.held.0.names }
+        ensures counted { IsCounted self.now.past self.now.held.1 self.now.book }
+    {
+        self.kept.shows_replay();
+    }
+
+    /// The lines of the journal from one on, the first being 1, at most `count` of them.
+    pub fn journal(&self, from: u64, count: u64) -> Result<Listed, AllocError>
+        ensures { IfOk result (λ lines. lines ≡ page_of self.now.held.1 from count) }
+    {
+        self.kept.journal(from, count)
+    }
+
+    /// The first goal that can step, with the clause by which it steps.
+    pub fn pick(&self) -> Option<(GoalNo, ClauseNo)>
+        ensures { (f : Reading) → Fits self.now.held.0.names f → option_map chosen_of result ≡ first (kept_of f self.now.held).state }
+    {
+        self.kept.pick()
+    }
+
+    /// Whether no goal can step.
+    pub fn quiet(&self) -> bool
+        ensures { (f : Reading) → Fits self.now.held.0.names f → result ≡ quiet (kept_of f self.now.held).state }
+    {
+        self.kept.quiet()
+    }
+
+    /// The account's number.
+    pub fn account(&self) -> usize
+        ensures { result ≡ self.now.book.account }
+    {
+        self.book.account()
+    }
+
+    /// How many events more the book can tell.
+    pub fn room(&self) -> u64
+        ensures { result ≡ room_in self.now.book }
+    {
+        MOST_EVENTS - self.book.events()
+    }
+
+    /// Whether a ticket of the account is to be put, which from then on counts as out: the account isn't quiet, and no ticket was
+    /// out.
+    pub fn wants_ticket(&mut self) -> bool
+        ensures same { self.new ≡ self.old }
+        ensures steps { IsTrue result → (f : Reading) → Fits self.new.held.0.names f → quiet (kept_of f self.new.held).state ≡ false }
+    {
+        if self.is_out || self.kept.quiet() {
+            return false;
+        }
+        self.is_out = true;
+        true
+    }
+
+    /// Notes that no ticket of the account is out.
+    pub fn clear_ticket(&mut self)
+        ensures { self.new ≡ self.old }
+    {
+        self.is_out = false;
+    }
+}
+
+impl<'t, R: Wait, K: PoolIds> Booked for PoolAccount<'t, R, K> {
+    ghost tally = { K.tally };
+
+    fn into_book(self) -> BookSeat {
+        self.book
+    }
+}

@@ -1,5 +1,0 @@
-pub mod Tells
-pub mod FirstSteps
-pub mod Runs
-pub mod Cells
-pub mod Grows

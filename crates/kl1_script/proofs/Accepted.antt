@@ -1,0 +1,74 @@
+-- What is written for a line by what became of its entry.
+use Rattle.std.proofs.Common.{◌≡◌, ℕ, suc, Bool, true, false, List, ◌∷◌, ◌++◌, Option, Some, None, refl, sym, ap, ◌∙◌, if◌then◌else◌}
+use Rattle.std.specs.Prelude.{option_map, option_and_then}
+use Rattle.kl1_model.specs.State.{State}
+use Rattle.kl1_model.specs.Event.{Event, Transition}
+use Rattle.kl1_model.specs.Step.{step}
+use Rattle.kl1_model.specs.laws.TreeLaws.{is_refused}
+use Rattle.kl1_model_server.specs.Command.{reply_lines, written_lines}
+use Rattle.kl1_model_server.specs.Journal.{Entry, event_in}
+use Rattle.kl1_model_server.specs.JournalText.{entry_in}
+use Rattle.kl1_model_server.specs.Replay.{written_entries, written_fault}
+use Rattle.kl1_model_server.proofs.ReplayReplies.{written_step, written_entry}
+use Rattle.kl1_script.specs.Fronts.{if_accepted, accepted_in, first_entries}
+use Rattle.kl1_script.specs.Steps.{told_of}
+
+not_refused : (v : Bool) (y x : Transition) → (if v then None else Some y) ≡ Some x → v ≡ false
+not_refused true y x e = cc
+not_refused false y x e = refl
+
+same_step : (v : Bool) (y x : Transition) → (if v then None else Some y) ≡ Some x → y ≡ x
+same_step true y x e = cc
+same_step false y x e = cc
+
+refused : (v : Bool) (y : Transition) → (if v then None else Some y) ≡ None → v ≡ true
+refused true y e = refl
+refused false y e = cc
+
+step_accepted : (next : State → List ℕ) (k : ℕ) (y x : Transition) → if_accepted y ≡ Some x → written_step next k y ≡ written_lines (reply_lines x.reply) ++ next x.state
+step_accepted next k y x e =
+    rw (not_refused (is_refused y.reply) y x e) (ap (λ (z : Transition). written_lines (reply_lines z.reply) ++ next z.state) (same_step (is_refused y.reply) y x e))
+
+entry_accepted : (next : State → List ℕ) (k : ℕ) (s : State) (o : Option Entry) (x : Transition) → option_and_then (λ e. if_accepted (step s (event_in e))) o ≡ Some x → written_entry next k s o ≡ written_lines (reply_lines x.reply) ++ next x.state
+entry_accepted next k s None x h = cc
+entry_accepted next k s (Some e) x h = step_accepted next k (step s (event_in e)) x h
+
+-- an entry that is accepted
+pub one_accepted : (k n : ℕ) (s : State) (line : List ℕ) (lines : List (List ℕ)) (rest : List ℕ) (x : Transition) → accepted_in s line ≡ Some x → written_entries k n s (line ∷ lines) rest ≡ written_lines (reply_lines x.reply) ++ written_entries (suc k) (suc n) x.state lines rest
+one_accepted k n s line lines rest x h = entry_accepted (λ after. written_entries (suc k) (suc n) after lines rest) k s (entry_in line) x h
+
+entry_fault : (next : State → List ℕ) (k : ℕ) (s : State) (o : Option Entry) → option_and_then (λ e. if_accepted (step s (event_in e))) o ≡ None → written_entry next k s o ≡ written_fault k
+entry_fault next k s None h = refl
+entry_fault next k s (Some e) h = rw (refused (is_refused (step s (event_in e)).reply) (step s (event_in e)) h) refl
+
+-- a line that is no entry's, or whose entry is refused
+pub one_fault : (k n : ℕ) (s : State) (line : List ℕ) (lines : List (List ℕ)) (rest : List ℕ) → accepted_in s line ≡ None → written_entries k n s (line ∷ lines) rest ≡ written_fault k
+one_fault k n s line lines rest h = entry_fault (λ after. written_entries (suc k) (suc n) after lines rest) k s (entry_in line) h
+
+-- so what is told of an entry is the front of what is written
+pub told_front : (k n : ℕ) (s : State) (line : List ℕ) (lines : List (List ℕ)) (rest : List ℕ) (o : Option Transition) → accepted_in s line ≡ o → (others : List ℕ) × (told_of o ++ others ≡ written_entries k n s (line ∷ lines) rest)
+told_front k n s line lines rest None h = (written_entries k n s (line ∷ lines) rest, refl)
+told_front k n s line lines rest (Some x) h = (written_entries (suc k) (suc n) x.state lines rest, sym (one_accepted k n s line lines rest x h))
+
+-- the entry is one of the first
+pub one_first : (m : ℕ) (s : State) (line : List ℕ) (lines : List (List ℕ)) (x : Transition) → accepted_in s line ≡ Some x → first_entries (suc m) s (line ∷ lines) ≡ written_lines (reply_lines x.reply) ++ first_entries m x.state lines
+one_first m s line lines x h = rw h refl
+
+found_none : (o : Option Entry) → option_map event_in o ≡ None → o ≡ None
+found_none None e = refl
+found_none (Some x) e = cc
+
+-- a line that is no entry's
+pub no_entry : (s : State) (line : List ℕ) (found : Option Event) → found ≡ option_map event_in (entry_in line) → found ≡ None → accepted_in s line ≡ None
+no_entry s line found is none = rw (found_none (entry_in line) (sym is ∙ none)) refl
+
+found_some : (s : State) (e : Event) (o : Option Entry) → option_map event_in o ≡ Some e → option_and_then (λ x. if_accepted (step s (event_in x))) o ≡ if_accepted (step s e)
+found_some s e None h = cc
+found_some s e (Some x) h = ap (λ (y : Event). if_accepted (step s y)) (same_some (event_in x) e h)
+  where
+    same_some : (x y : Event) → Some x ≡ Some y → x ≡ y
+    same_some x y h = cc
+
+-- a line whose entry is this event
+pub some_entry : (s : State) (line : List ℕ) (e : Event) (found : Option Event) → found ≡ option_map event_in (entry_in line) → found ≡ Some e → accepted_in s line ≡ if_accepted (step s e)
+some_entry s line e found is some = found_some s e (entry_in line) (sym is ∙ some)

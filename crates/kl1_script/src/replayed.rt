@@ -1,0 +1,105 @@
+// The account that replays a journal, with its seat.
+
+ghost use Rattle.std.specs.Prelude.{◌≡◌, ◌≤◌, [], length, IfOk, OnErr};
+ghost use Rattle.kl1_model.specs.declared.limits.TheConstants.{MOST_NAMES};
+ghost use Rattle.kl1_model.specs.State.{fresh_with};
+ghost use Rattle.kl1_model.specs.Step.{step};
+ghost use Rattle.kl1_model_server.specs.Replay.{replay_name};
+ghost use Rattle.kl1_atoms.specs.Names.{AreNames};
+ghost use Rattle.kl1_user_events.specs.Views.{event_of, reply_of};
+ghost use Rattle.kl1_user.specs.Accounts.{Reading, Fits, IsNameList, state_of};
+
+use kl1_atoms::AtomSource;
+use kl1_codes::CodeSource;
+use kl1_text::AtomText;
+use kl1_user::{AccountName, Rules, UserState};
+use kl1_user_events::{Event, Reply};
+use std::alloc::{AllocError, Global};
+use std::marker::Model;
+
+/// The account that replays a journal, with the table of its names and its seat there, and the source of its codes.
+#[derive(Drop)]
+pub(crate) struct Replayed<A: AtomSource + Drop, C: CodeSource + Drop> {
+    user: UserState<A, C>,
+    names: A,
+    seat: A::Seat,
+    code_source: C,
+}
+
+impl<A: AtomSource + Drop, C: CodeSource + Drop> Model for Replayed<A, C> {
+    ghost use Rattle.std.specs.Coded.{codes};
+    ghost use Rattle.kl1_codes_modules.specs.Numbered.{numbered_code, ArePlaced};
+    ghost use Rattle.kl1_user.specs.Accounts.{Account as Kept};
+
+    ghost Value = { Kept };
+
+    ghost coded = { Prim.hlevel (codes, numbered_code) };
+
+    ghost use Rattle.std.specs.Prelude.{◌≡◌};
+
+    ghost view = { λ s. s.user };
+
+    ghost invariant = { λ s. A.is_of s.names s.seat × (A.knows s.seat ≡ s.user.names) × ArePlaced (C.has s.code_source) s.user.modules };
+}
+
+impl<A: AtomSource + Drop, C: CodeSource + Drop> Replayed<A, C> {
+    /// The account, which keeps to these rules, from which a journal of these names and this number of open sessions is replayed,
+    /// with a seat that knows the built-in names alone.
+    pub(crate) fn new(
+        alloc: Global,
+        rules: Rules,
+        sessions: u64,
+        texts: &[AtomText],
+        mut names: A,
+        mut seat: A::Seat,
+        codes: C,
+    ) -> Result<Self, AllocError>
+        requires of { A.is_of names seat }
+        requires nothing { A.knows seat ≡ [] }
+        requires list { IsNameList texts.now }
+        requires few { length texts.now ≤ MOST_NAMES }
+        ensures { IfOk result (λ replayed. (f : Reading) → state_of f replayed ≡ fresh_with rules replay_name texts.now sessions) }
+    {
+        let name = replay_name();
+        let user = UserState::with_names(
+            alloc, name, rules, sessions, &mut names, &mut seat, texts,
+        )?;
+        Ok(Replayed {
+            user,
+            names,
+            seat,
+            code_source: codes,
+        })
+    }
+
+    /// What an event does to the account, and the reply. If memory is refused, the account is as before.
+    pub(crate) fn apply(&mut self, event: &Event) -> Result<Reply, AllocError>
+        ensures step { IfOk result (λ reply. (f : Reading) → Fits self.new.names f → step (state_of f self.old) (event_of event.now) ≡ record { state = state_of f self.new; reply = reply_of reply }) }
+        ensures before { (f : Reading) → Fits self.new.names f → Fits self.old.names f }
+        ensures err { OnErr result (self.new ≡ self.old) }
+    {
+        self.user.apply(
+            &mut self.names,
+            &mut self.seat,
+            &mut self.code_source,
+            event,
+        )
+    }
+
+    /// Tells a caller's proof that the names of the account are one to one with their numbers. It does nothing.
+    pub(crate) fn shows_names(&self)
+        ensures { AreNames self.now.names }
+    {
+        let _seat = &self.seat;
+    }
+}
+
+/// The name of the account that replays a journal.
+fn replay_name() -> AccountName
+    ensures { result ≡ replay_name }
+{
+    match AccountName::read(b"replay") {
+        Some(name) => name,
+        None => unreachable!(),
+    }
+}

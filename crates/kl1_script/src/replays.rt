@@ -1,0 +1,166 @@
+// The replay of a journal, from the bytes of its text to what is written for it.
+
+ghost use Rattle.std.specs.Prelude.{◌≡◌, ◌+◌, ◌<◌, ◌≤◌, ℕ, List, [], length, OnOk, IsErrOf};
+ghost use Rattle.std.specs.Io.KnownBytes.{Consumes};
+ghost use Rattle.kl1_model.specs.declared.limits.TheConstants.{MOST_NAMES, MOST_SCRIPT_BYTES};
+ghost use Rattle.kl1_model.specs.State.{fresh_with};
+ghost use Rattle.kl1_model_server.specs.JournalText.{lines_of};
+ghost use Rattle.kl1_model_server.specs.Replay.{replay_name, replay_output, written_entries, written_names};
+ghost use Rattle.kl1_user.specs.Accounts.{IsNameList};
+ghost use Rattle.kl1_lines.specs.Devices.{ReadsFew};
+ghost use Rattle.kl1_lines.specs.declared.script_fault.ScriptFault.TheVariants as faults;
+ghost use Rattle.kl1_script.specs.Fronts.{first_entries, first_names, front_of};
+ghost use Rattle.kl1_script.specs.Replays.{Answered, BreaksOff, Ends, StopsBefore};
+
+use crate::entries::answer_entries;
+use crate::finishing::finish_fault;
+use crate::names::{Named, names_in};
+use crate::replayed::Replayed;
+use kl1_atoms::{AtomSource, AtomTable, SharedAtoms};
+use kl1_codes::{CodeSource, CodeTable, SharedCodes};
+use kl1_journal_entries::{Heading, heading_of, next_line};
+use kl1_lines::{ScriptFault, Sink, Source, read_all};
+use kl1_text::AtomText;
+use kl1_user::Rules;
+use std::alloc::Global;
+use std::sync::Wait;
+
+/// Replays a journal: reads all of its text, and writes the replies to its entries. It may wait when a code is put in.
+pub fn run_replay<H: Wait, R: Source, W: Sink>(
+    rt: &H,
+    alloc: Global,
+    source: &mut R,
+    sink: &mut W,
+) -> Result<(), ScriptFault>
+    ensures ok { OnOk result (Answered (R.remaining source.old) (R.remaining source.new) (W.contents sink.old) (W.contents sink.new)) }
+    ensures memory { IsErrOf result faults.Memory → StopsBefore (R.remaining source.old) (W.contents sink.old) (W.contents sink.new) }
+    ensures write { IsErrOf result faults.Write → BreaksOff (R.remaining source.old) (W.contents sink.old) (W.contents sink.new) }
+    ensures read { IsErrOf result faults.Read → W.contents sink.new ≡ W.contents sink.old }
+    ensures too_long { IsErrOf result faults.TooLong → W.contents sink.new ≡ W.contents sink.old }
+    ensures read_many { IsErrOf result faults.TooLong → (bytes : List ℕ) × (length bytes ≡ MOST_SCRIPT_BYTES + 1) × Consumes (R.remaining source.old) (R.remaining source.new) bytes }
+    ensures read_failed { IsErrOf result faults.Read → R.failures source.old < R.failures source.new }
+    ensures read_kept { (IsErrOf result faults.Read → ⊥) → R.failures source.new ≡ R.failures source.old }
+    ensures write_failed { IsErrOf result faults.Write → W.failures sink.old < W.failures sink.new }
+    ensures write_kept { (IsErrOf result faults.Write → ⊥) → W.failures sink.new ≡ W.failures sink.old }
+    ensures few { ReadsFew (R.remaining source.old) (R.remaining source.new) (MOST_SCRIPT_BYTES + 1) }
+{
+    match read_all(alloc, source) {
+        Ok(text) => answer(rt, alloc, text.as_slice(), sink),
+        Err(fault) => Err(fault),
+    }
+}
+
+/// Writes what is written for the text of a journal.
+fn answer<H: Wait, W: Sink>(
+    rt: &H,
+    alloc: Global,
+    text: &[u8],
+    sink: &mut W,
+) -> Result<(), ScriptFault>
+    requires { length text.now ≤ MOST_SCRIPT_BYTES }
+    ensures { Ends (W.contents sink.old) (W.contents sink.new) (W.failures sink.old) (W.failures sink.new) (replay_output text.now) (λ n. front_of n text.now) result }
+{
+    let Some((line, rest)) = next_line(text) else {
+        return finish_fault(sink, b"", 1);
+    };
+    match heading_of(line) {
+        None => finish_fault(sink, b"", 1),
+        Some(heading) => answer_headed(rt, alloc, heading, rest, sink),
+    }
+}
+
+/// Writes what is written for the text after a journal's first line, by what that says.
+fn answer_headed<H: Wait, W: Sink>(
+    rt: &H,
+    alloc: Global,
+    heading: Heading,
+    text: &[u8],
+    sink: &mut W,
+) -> Result<(), ScriptFault>
+    requires names { heading.names ≤ MOST_NAMES }
+    requires small { length text.now ≤ MOST_SCRIPT_BYTES }
+    ensures { Ends (W.contents sink.old) (W.contents sink.new) (W.failures sink.old) (W.failures sink.new) (written_names heading.names 2 heading.rules heading.sessions [] (lines_of text.now).whole (lines_of text.now).rest) (λ n. first_names n heading.names heading.rules heading.sessions [] (lines_of text.now).whole) result }
+{
+    match names_in(alloc, heading.names, text) {
+        Ok(Named::All { names, rest }) => {
+            answer_shared(
+                rt,
+                alloc,
+                heading.rules,
+                heading.sessions,
+                names.as_slice(),
+                rest,
+                sink,
+            )
+        }
+        Ok(Named::Fault { line }) => finish_fault(sink, b"", line),
+        Err(_) => Err(ScriptFault::Memory),
+    }
+}
+
+/// Writes what is written for the entries whose lines a text has, over a table of names and a table of codes that are made for one account.
+fn answer_shared<H: Wait, W: Sink>(
+    rt: &H,
+    alloc: Global,
+    rules: Rules,
+    sessions: u64,
+    texts: &[AtomText],
+    text: &[u8],
+    sink: &mut W,
+) -> Result<(), ScriptFault>
+    requires list { IsNameList texts.now }
+    requires few { length texts.now ≤ MOST_NAMES }
+    requires small { length text.now ≤ MOST_SCRIPT_BYTES }
+    ensures { Ends (W.contents sink.old) (W.contents sink.new) (W.failures sink.old) (W.failures sink.new) (written_entries (2 + length texts.now) 0 (fresh_with rules replay_name texts.now sessions) (lines_of text.now).whole (lines_of text.now).rest) (λ n. first_entries n (fresh_with rules replay_name texts.now sessions) (lines_of text.now).whole) result }
+{
+    let Ok(codes) = CodeTable::new(alloc) else {
+        return Err(ScriptFault::Memory);
+    };
+    match AtomTable::new(alloc, 1) {
+        Ok((table, mut seats)) => {
+            let seat = seats.swap_remove(0);
+            replay_over(
+                alloc,
+                SharedAtoms { table: &table },
+                seat,
+                SharedCodes { table: &codes, rt },
+                rules,
+                sessions,
+                texts,
+                text,
+                sink,
+            )
+        }
+        Err(_) => Err(ScriptFault::Memory),
+    }
+}
+
+/// Writes what is written for the entries whose lines a text has, in a journal of these rules, these names and this number of open
+/// sessions, over any table of names and a seat that knows the built-in names alone, and any source of codes.
+pub fn replay_over<A: AtomSource + Drop, C: CodeSource + Drop, W: Sink>(
+    alloc: Global,
+    names: A,
+    seat: A::Seat,
+    codes: C,
+    rules: Rules,
+    sessions: u64,
+    texts: &[AtomText],
+    text: &[u8],
+    sink: &mut W,
+) -> Result<(), ScriptFault>
+    requires of { A.is_of names seat }
+    requires nothing { A.knows seat ≡ [] }
+    requires list { IsNameList texts.now }
+    requires few { length texts.now ≤ MOST_NAMES }
+    requires small { length text.now ≤ MOST_SCRIPT_BYTES }
+    ensures { Ends (W.contents sink.old) (W.contents sink.new) (W.failures sink.old) (W.failures sink.new) (written_entries (2 + length texts.now) 0 (fresh_with rules replay_name texts.now sessions) (lines_of text.now).whole (lines_of text.now).rest) (λ n. first_entries n (fresh_with rules replay_name texts.now sessions) (lines_of text.now).whole) result }
+{
+    let first = texts.len() as u64 + 2;
+    match Replayed::new(alloc, rules, sessions, texts, names, seat, codes) {
+        Ok(mut replayed) => {
+            let mut out = Vec::new(alloc);
+            answer_entries(alloc, &mut replayed, first, text, &mut out, sink)
+        }
+        Err(_) => Err(ScriptFault::Memory),
+    }
+}

@@ -1,4 +1,0 @@
-pub mod NewNames
-pub mod LinesOfNames
-pub mod Accepted
-pub mod Endings

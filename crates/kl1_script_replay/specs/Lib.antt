@@ -1,4 +1,0 @@
-pub mod Fronts
-pub mod Replays
-pub mod Steps
-pub mod Names

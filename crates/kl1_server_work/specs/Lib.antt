@@ -1,0 +1,3 @@
+pub mod Counts
+pub mod Files
+pub mod StartupErrors

@@ -1,0 +1,60 @@
+// What becomes of an input.
+
+ghost use Rattle.std.specs.Prelude.{◌≡◌, ◌<◌, ℕ, length};
+ghost use Rattle.kl1_session.specs.Asking.{input_view};
+ghost use Rattle.kl1_command.specs.Commands.{command_view};
+ghost use Rattle.kl1_session.specs.Views.{entries_view};
+ghost use Rattle.kl1_session.specs.Doors.{action_of, doing};
+ghost use Rattle.kl1_session.specs.ActionViews.{action_view, IsOfOne, IsVisitor};
+
+use crate::found::find;
+use crate::input::Input;
+use crate::key::Key;
+use kl1_command::Command;
+use kl1_user_events::{Event, Refusal};
+
+/// What becomes of an input.
+#[derive(Clone, Copy)]
+pub enum Action {
+    /// It is refused for this reason.
+    Refuse(Refusal),
+    /// It is refused as a login, or since nobody is logged in.
+    RefuseLogin,
+    /// A session of the account of this number, from 0, begins.
+    LogIn(usize),
+    /// The session of the account of this number ends.
+    LogOut(usize),
+    /// The command is done to the account of this number.
+    Perform(usize),
+}
+
+/// What becomes of an input of one who isn't logged in, or who is, to the account of the number `visitor`, from 0.
+pub fn action_of(keys: &[Key], visitor: Option<usize>, input: &Input) -> Action
+    ensures value { action_view result ≡ action_of (entries_view keys.now) visitor (input_view input.now) }
+    ensures within { IsVisitor (length keys.now) visitor → IsOfOne (length keys.now) result }
+{
+    match (visitor, input) {
+        (_, Input::Refused(refusal)) => Action::Refuse(*refusal),
+        (None, Input::Login { name, key }) => {
+            match find(keys, name.as_slice(), key.as_slice()) {
+                None => Action::RefuseLogin,
+                Some(number) => Action::LogIn(number),
+            }
+        }
+        (None, Input::Command(_)) => Action::RefuseLogin,
+        (Some(_), Input::Login { .. }) => Action::RefuseLogin,
+        (Some(number), Input::Command(command)) => action_by(number, command),
+    }
+}
+
+/// What becomes of a command of one who is logged in to the account of this number.
+fn action_by(number: usize, command: &Command) -> Action
+    ensures value { action_view result ≡ doing number (command_view command.now) }
+    ensures within { (n : ℕ) → number < n → IsOfOne n result }
+{
+    match command {
+        Command::Does(Event::Login) => Action::RefuseLogin,
+        Command::Does(Event::Logout) => Action::LogOut(number),
+        _ => Action::Perform(number),
+    }
+}

@@ -1,3 +1,0 @@
-pub mod Doors
-pub mod Views
-pub mod Replies

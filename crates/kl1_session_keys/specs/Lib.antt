@@ -1,3 +1,0 @@
-pub mod Limits
-pub mod Files
-pub mod Views
