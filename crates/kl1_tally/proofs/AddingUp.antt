@@ -5,7 +5,6 @@ use Rattle.std.proofs.lemmas.List.Sums.{sum_by-append, sum_by_push}
 use mathlib.Core.Option.{some}
 use lib.ListN.{get_elem?}
 use Rattle.atomic_table.specs.Table.{State}
-use Rattle.kl1_tally.specs.declared.view.Mark.{Mark}
 use Rattle.kl1_tally.specs.declared.view.View.{View}
 use Rattle.kl1_tally.specs.Numbers.{same, times}
 use Rattle.kl1_tally.specs.Marks.{event_of, step_of, events_at, steps_at}
