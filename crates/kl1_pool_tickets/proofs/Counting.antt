@@ -3,7 +3,7 @@ use Rattle.std.proofs.Common.{◌≡◌, ℕ, ◌+◌, ◌<◌, ◌≤◌, List,
 use Rattle.std.specs.Prelude.{Result, Ok, Err, IfOk}
 use Rattle.kl1_tally.specs.Seats.{raised_at}
 use Rattle.std.proofs.lemmas.Bool.{cases_eq}
-use Rattle.kl1_pool_tickets.specs.Counts.{Counts, IsMoreAt, Moved, Acts, Worked, WorkedAt}
+use Rattle.kl1_pool_tickets.specs.Counts.{Counts, IsMoreAt, Moved, Worked, WorkedAt}
 
 -- one more at one place
 pub raised_more : (ns : List ℕ) (k n : ℕ) → k < length ns → IsMoreAt k n ns (raised_at ns k n)

@@ -1,5 +1,5 @@
 -- Tickets that are taken and served.
-use Rattle.std.proofs.Common.{◌≡◌, ℕ, ◌+◌, ◌<◌, ◌≤◌, Bool, true, false, cond, List, [], ◌∷◌, ◌++◌, slice_index, refl, sym, subst, arith}
+use Rattle.std.proofs.Common.{◌≡◌, ℕ, ◌+◌, ◌<◌, ◌≤◌, Bool, true, false, cond, List, [], ◌∷◌, ◌++◌, refl, sym, subst, arith}
 use Rattle.kl1_tally.specs.declared.amounts.TheConstants.{MOST_ACCOUNTS}
 use Rattle.kl1_pool_tickets.specs.declared.serving.TimeSlice.{TimeSlice}
 use Rattle.kl1_pool_tickets.specs.Counts.{Counts, Moved, Acts, Serves, TakesAndServes, ServesEach, ServesTickets, Worked}
@@ -22,7 +22,7 @@ module _ (turned : ℕ → TimeSlice → Counts → Counts → Type 0) where
 
   -- one ticket
   pub serves_one : (a : ℕ) (s : TimeSlice) (x y z : Counts) → a < MOST_ACCOUNTS → Moved a 0 0 0 1 x y → Serves turned a s y z → ServesTickets turned x z
-  serves_one a s x y z within take serve = ((a, s) ∷ [], z, record { between = y; within = within; take = take; serve = serve }, refl)
+  serves_one a s x y z within take serve = ((a, s) ∷ [], (z, record { between = y; within = within; take = take; serve = serve }, refl))
 
   -- no ticket
   pub serves_none : (x y : Counts) → y ≡ x → ServesTickets turned x y
