@@ -1,15 +1,13 @@
 -- What follows of the rule of the queue, and of the kinds of step.
-use Rattle.std.proofs.Common.{◌≡◌, ℕ, ◌+◌, ◌-◌, ◌*◌, ◌<◌, ◌≤◌, List, [], ◌∷◌, ◌++◌, refl, sym, ap, arith}
+use Rattle.std.proofs.Common.{◌≡◌, ℕ, ◌+◌, ◌-◌, ◌*◌, ◌≤◌, List, [], ◌∷◌, ◌++◌, refl, sym, ap, arith}
 use Rattle.std.specs.Prelude.{sum_by}
 use Rattle.std.proofs.lemmas.Bool.Decides.{nat_tests}
 use Rattle.std.proofs.lemmas.List.Sums.{sum_by-append, sum_by-cons, sum_by_push}
-use mathlib.Core.Option.{some}
-use lib.ListN.{get_elem?}
 use Rattle.kl1_tally.specs.declared.amounts.TheConstants.{MOST_ACCOUNTS}
 use Rattle.kl1_tally.specs.Numbers.{same, times}
 use Rattle.kl1_tally.proofs.Sums.{alone}
 use Rattle.kl1_pool_tickets.specs.declared.ticket_history.TicketHistory.{TicketHistory}
-use Rattle.kl1_pool_tickets.specs.Histories.{history, all_parts, beyond, Balanced}
+use Rattle.kl1_pool_tickets.specs.Histories.{history, beyond, Balanced}
 use Rattle.kl1_pool_tickets.specs.Laws.{PassesAddUp, PassMoved, IsMadeOf}
 
 -- a number that is no account's is at most counted as one beyond
