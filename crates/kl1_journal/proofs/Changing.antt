@@ -1,32 +1,43 @@
 -- What is noted of an event is its change.
 use Rattle.std.proofs.Common.{◌≡◌, ℕ, suc, ◌-◌, ◌<◌, nat_lt, Bool, true, false, if◌then◌else◌, List, refl, sym, ap, ◌∙◌, subst, inl, inr}
-use Rattle.std.specs.Prelude.{◌⊎◌}
+use Rattle.std.specs.Prelude.{◌⊎◌, IsTrue}
 use Rattle.std.proofs.lemmas.Bool.{ltb-true}
 use Rattle.kl1_model.specs.declared.limits.TheConstants.{MOST_SESSIONS}
 use Rattle.kl1_model.specs.State.{State}
 use Rattle.kl1_model.specs.Event as model
 use Rattle.kl1_model.specs.Event.{Transition, refuse, sessions_refused}
 use Rattle.kl1_model.specs.Step.{step}
-use Rattle.kl1_model.specs.code.Steps.{log_in, log_out}
 use Rattle.kl1_model.specs.laws.TreeLaws.{is_refused}
 use Rattle.kl1_model_server.specs.Journal.{Journal, new_journal, with_event, noted}
-use Rattle.kl1_journal_entries.specs.Lined.{entry_of, with_prepared}
+use Rattle.kl1_journal_entries.specs.Lined.{entry_of, is_entry, with_prepared}
 use Rattle.kl1_journal_entries.proofs.Accepted.{accepted_entries}
 use Rattle.kl1_journal.specs.declared.change.Change.{Change}
 use Rattle.kl1_journal.specs.declared.change.Change.TheVariants as change
-use Rattle.kl1_journal.specs.Changes.{IsEntered, IsChange, ReplyFits, SessionsFit, sessions_after, changed}
+use Rattle.kl1_journal.specs.Changes.{IsQuery, IsChange, ReplyFits, SessionsFit, sessions_after, changed}
 
--- an entry or a query
-entered_is : (j : Journal) (e : model.Event) (t : State) → IsEntered e → with_event j e t ≡ with_prepared j (entry_of e)
+-- an entry
+entered_is : (j : Journal) (e : model.Event) (t : State) → IsTrue (is_entry e) → with_event j e t ≡ with_prepared j (entry_of e)
 entered_is j (model.load text) t h = refl
 entered_is j (model.start allowance low high goal) t h = refl
 entered_is j (model.control n m) t h = refl
 entered_is j (model.reduce goal clause) t h = refl
 entered_is j (model.answer n report goal) t h = refl
-entered_is j (model.read q) t h = refl
-entered_is j model.login t h = absurd h
-entered_is j model.logout t h = absurd h
-entered_is j model.reset t h = absurd h
+entered_is j (model.read q) t h = cc
+entered_is j model.login t h = cc
+entered_is j model.logout t h = cc
+entered_is j model.reset t h = cc
+
+-- a query
+asked_is : (j : Journal) (e : model.Event) (t : State) → IsQuery e → with_event j e t ≡ j
+asked_is j (model.read q) t h = refl
+asked_is j (model.load text) t h = absurd h
+asked_is j (model.start allowance low high goal) t h = absurd h
+asked_is j (model.control n m) t h = absurd h
+asked_is j (model.reduce goal clause) t h = absurd h
+asked_is j (model.answer n report goal) t h = absurd h
+asked_is j model.login t h = absurd h
+asked_is j model.logout t h = absurd h
+asked_is j model.reset t h = absurd h
 
 sized : Journal → ℕ → Journal
 sized j n = record j { sessions = n }
@@ -51,6 +62,7 @@ session_is s j e (inr is) same a =
 -- an event that is accepted
 accepted_is : (s : State) (names : List (List ℕ)) (j : Journal) (e : model.Event) (c : Change) → IsChange names j e c → s.names ≡ names → j.rules ≡ s.rules → j.sessions ≡ s.sessions → is_refused (step s e).reply ≡ false →
     with_event j e (step s e).state ≡ changed j c (step s e).reply
+accepted_is s names j e change.Nothing h used ruled same a = asked_is j e (step s e).state h
 accepted_is s names j e (change.Entry entry) h used ruled same a =
     entered_is j e (step s e).state h.1 ∙ ap (with_prepared j) (sym (accepted_entries s e a) ∙ sym h.0)
 accepted_is s names j e change.Sessions h used ruled same a = session_is s j e h same a
@@ -81,6 +93,7 @@ session_fits s j e (inr is) same = subst (λ d. ReplyFits j (step s d).reply) (s
 
 -- a reply fits the change of its event
 pub sessions_fit : (s : State) (names : List (List ℕ)) (j : Journal) (e : model.Event) (d : Change) → IsChange names j e d → j.sessions ≡ s.sessions → SessionsFit j d (step s e).reply
+sessions_fit s names j e change.Nothing h same = tt
 sessions_fit s names j e (change.Entry entry) h same = tt
 sessions_fit s names j e change.Sessions h same = session_fits s j e h same
 sessions_fit s names j e (change.Anew new) h same = tt

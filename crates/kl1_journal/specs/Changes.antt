@@ -1,9 +1,9 @@
 -- What an event changes in a journal.
-use Rattle.std.specs.Prelude.{⊤, ◌≡◌, ℕ, suc, ◌-◌, ◌<◌, ◌⊎◌, List, IfSome}
+use Rattle.std.specs.Prelude.{⊤, ◌≡◌, ℕ, suc, ◌-◌, ◌<◌, ◌⊎◌, List, IfSome, IsTrue}
 use Rattle.kl1_model.specs.declared.limits.TheConstants.{MOST_SESSIONS}
 use Rattle.kl1_model.specs.Event as model
 use Rattle.kl1_model_server.specs.Journal.{Journal, new_journal}
-use Rattle.kl1_journal_entries.specs.Lined.{Rows, lined_entry, with_prepared}
+use Rattle.kl1_journal_entries.specs.Lined.{Rows, is_entry, lined_entry, with_prepared}
 use Rattle.kl1_journal.specs.declared.change.Change.{Change}
 use Rattle.kl1_journal.specs.declared.change.Change.TheVariants as change
 
@@ -15,25 +15,26 @@ sessions_after j _ = j
 
 -- a journal after a change, and the reply
 abbrev pub changed : Journal → Change → model.Reply → Journal
+changed j change.Nothing reply = j
 changed j (change.Entry entry) reply = with_prepared j entry
 changed j change.Sessions reply = sessions_after j reply
 changed j (change.Anew new) reply = new.journal
 
--- whether an event is an entry or a query: it opens and closes no session, and begins no journal
-abbrev pub IsEntered : model.Event → Type 0
-IsEntered model.login = ⊥
-IsEntered model.logout = ⊥
-IsEntered model.reset = ⊥
-IsEntered _ = ⊤
+-- an event is a query
+abbrev pub IsQuery : model.Event → Type 0
+IsQuery (model.read q) = ⊤
+IsQuery _ = ⊥
 
 -- a change is that of an event in this journal, if the account uses these names
 abbrev pub IsChange : List (List ℕ) → Journal → model.Event → Change → Type 0
-IsChange names j e (change.Entry entry) = (entry ≡ lined_entry e) × IsEntered e
+IsChange names j e change.Nothing = IsQuery e
+IsChange names j e (change.Entry entry) = (entry ≡ lined_entry e) × IsTrue (is_entry e)
 IsChange names j e change.Sessions = (e ≡ model.login) ⊎ (e ≡ model.logout)
 IsChange names j e (change.Anew new) = (e ≡ model.reset) × (new.journal ≡ new_journal j.rules names j.sessions)
 
 -- there is room for the entry of a change
 abbrev pub HasRoom : Rows → Change → Type 0
+HasRoom rows change.Nothing = ⊤
 HasRoom rows (change.Entry entry) = IfSome entry (λ _. 0 < rows.room)
 HasRoom rows change.Sessions = ⊤
 HasRoom rows (change.Anew new) = ⊤
@@ -47,5 +48,6 @@ ReplyFits j _ = ⊤
 -- a reply fits a change of how many sessions are open
 abbrev pub SessionsFit : Journal → Change → model.Reply → Type 0
 SessionsFit j change.Sessions reply = ReplyFits j reply
+SessionsFit j change.Nothing reply = ⊤
 SessionsFit j (change.Entry entry) reply = ⊤
 SessionsFit j (change.Anew new) reply = ⊤

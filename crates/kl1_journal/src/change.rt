@@ -5,10 +5,10 @@ ghost use Rattle.kl1_model.specs.laws.TreeLaws.{is_refused};
 ghost use Rattle.kl1_user_events.specs.Views.{event_of, is_logout, reply_of};
 ghost use Rattle.kl1_model_server.specs.laws.TextLaws.{AreNames};
 ghost use Rattle.kl1_model_server.specs.Journal.{new_journal, steps};
-ghost use Rattle.kl1_journal_entries.specs.Lined.{if_lined, with_prepared};
-ghost use Rattle.kl1_journal.specs.Changes.{IsChange, HasRoom, SessionsFit, ReplyFits, IsEntered, changed, sessions_after};
+ghost use Rattle.kl1_journal_entries.specs.Lined.{is_entry, if_lined, with_prepared};
+ghost use Rattle.kl1_journal.specs.Changes.{IsChange, HasRoom, SessionsFit, ReplyFits, changed, sessions_after};
 
-use kl1_journal_entries::{Journal, PendingEntry, entry_for, step_for};
+use kl1_journal_entries::{Journal, PendingEntry, entry_for, is_entry, step_for};
 use kl1_text::AtomText;
 use kl1_user_events::{ClauseNo, Event, GoalNo, Refusal, Reply};
 use std::alloc::{AllocError, Global};
@@ -16,7 +16,9 @@ use std::alloc::{AllocError, Global};
 /// What an event changes in a journal, if it is accepted.
 #[derive(Drop)]
 pub(crate) enum Change {
-    /// This entry comes after the others, if there is one.
+    /// A query: the journal stays.
+    Nothing,
+    /// This entry comes after the others, if there is one: of an event whose line can't be read back, which is refused, there is none.
     Entry(PendingEntry),
     /// The number of open sessions is what the reply tells.
     Sessions,
@@ -38,31 +40,14 @@ pub(crate) fn prepare(
     ensures room { IfOk result (λ change. HasRoom journal.new change) }
     ensures logout { IsTrue (is_logout event.now) → IsOk result }
 {
+    if is_entry(event) {
+        return entered(alloc, journal, event);
+    }
     match event {
         Event::Login => Ok(Change::Sessions),
         Event::Logout => Ok(Change::Sessions),
         Event::Reset => Ok(Change::Anew(anew(alloc, journal, names)?)),
-        Event::Load { source: _source } => entered(alloc, journal, event),
-        Event::Start {
-            allowance: _allowance,
-            low: _low,
-            high: _high,
-            goal: _goal,
-        } => entered(alloc, journal, event),
-        Event::Control {
-            shoen: _shoen,
-            message: _message,
-        } => entered(alloc, journal, event),
-        Event::Answer {
-            shoen: _shoen,
-            report: _report,
-            goal: _goal,
-        } => entered(alloc, journal, event),
-        Event::Reduce {
-            goal: _goal,
-            clause: _clause,
-        } => entered(alloc, journal, event),
-        Event::Read(_query) => entered(alloc, journal, event),
+        _ => Ok(Change::Nothing),
     }
 }
 
@@ -76,17 +61,14 @@ fn anew(alloc: Global, journal: &Journal, names: &[AtomText]) -> Result<Journal,
     Journal::with_names(alloc, journal.rules(), names, journal.sessions())
 }
 
-/// The entry of an event, with room for it. A query is no entry, and no room is made for it.
+/// The entry of an event, with room for it.
 fn entered(alloc: Global, journal: &mut Journal, event: &Event) -> Result<Change, AllocError>
-    requires { IsEntered (event_of event.now) }
+    requires { IsTrue (is_entry (event_of event.now)) }
     ensures same { journal.new.journal ≡ journal.old.journal }
     ensures change { IfOk result (λ change. (names : List (List ℕ)) → IsChange names journal.old.journal (event_of event.now) change) }
     ensures room { IfOk result (λ change. HasRoom journal.new change) }
 {
     let entry = entry_for(alloc, event)?;
-    if !entry.is_entry() {
-        return Ok(Change::Entry(entry));
-    }
     journal.reserve()?;
     Ok(Change::Entry(entry))
 }
@@ -101,6 +83,7 @@ pub(crate) fn note(journal: &mut Journal, change: Change, reply: &Reply)
         return;
     }
     match change {
+        Change::Nothing => {}
         Change::Entry(entry) => journal.put(entry),
         Change::Sessions => note_sessions(journal, reply),
         Change::Anew(new) => *journal = new,

@@ -165,12 +165,14 @@ impl<A: AtomSource + Drop, C: CodeSource + Drop> World<A, C> {
         Ok(())
     }
 
-    /// Does events of accounts, each with its account's number from 0, in order, and gives their replies: each account's replies, its
-    /// state and its journal are those that its own events alone make of it.
+    /// Does events of accounts, each with its account's number from 0, in order, and gives their replies, one for each event: each
+    /// account's replies, its state and its journal are those that its own events alone make of it.
     pub fn run(&mut self, events: &[(usize, Event)]) -> Result<Vec<Reply>, Stopped>
         requires { AreOf (length self.old.0) events.now }
         ensures all { IfOk result (λ replies. IsRun self.old.0 self.new.0 (events_of events.now) replies.items) }
+        ensures count { IfOk result (λ replies. length replies.items ≡ length events.now) }
         ensures stopped { IfErr result (λ s. (s.done < length events.now) × IsRun self.old.0 self.new.0 (events_of (take s.done events.now)) s.replies.items) }
+        ensures stopped_count { IfErr result (λ s. length s.replies.items ≡ s.done) }
         ensures many { length self.new.0 ≡ length self.old.0 }
     {
         let mut replies = Vec::new(self.alloc);
@@ -184,8 +186,9 @@ impl<A: AtomSource + Drop, C: CodeSource + Drop> World<A, C> {
         Ok(replies)
     }
 
-    /// Tells a caller's proof that an account is the replay of its journal for each reading of its names, and that its names are one to
-    /// one with their numbers, so that there is such a reading. It does nothing.
+    /// Tells a caller's proof that an account is the replay of its journal for each reading of its names, that the journal's entries are
+    /// all accepted if it is replayed, that it has a text, which reads back, and that its names are one to one with their numbers, so
+    /// that there is such a reading. It does nothing.
     pub fn shows_names(&self, account: usize)
         requires { account < length self.now.0 }
         ensures names { AreNames (account_in self.now.0 account).0.names }

@@ -10,7 +10,7 @@ use Rattle.kl1_journal.specs.Keeping.{Held, nobody}
 use Rattle.kl1_world.specs.Seating.{AreSeated}
 use Rattle.kl1_world.specs.Worlds.{account_in}
 
--- the accounts of those that are lodged
+-- the accounts of those that are seated
 abbrev pub accounts_of : {S : Type 0} → List (S × Held) → List Held
 accounts_of xs = map (λ x. x.1) xs
 
@@ -41,19 +41,19 @@ get_set_other (x ∷ xs) zero (suc k) y apart = refl
 get_set_other (x ∷ xs) (suc n) zero y apart = refl
 get_set_other (x ∷ xs) (suc n) (suc k) y apart = get_set_other xs n k y (λ e. apart (ap suc e))
 
--- one of them changed, and the others are lodged still
-pub lodged_set : {T S : Type 0} (is_of : T → S → Type 0) (place : S → ℕ × ℕ) (has after : ℕ × ℕ → Type 0) (old new : T) (xs : List (S × Held)) (n : ℕ) (x y : S × Held) →
+-- one of them changed, and the others are seated still
+pub seated_set : {T S : Type 0} (is_of : T → S → Type 0) (place : S → ℕ × ℕ) (has after : ℕ × ℕ → Type 0) (old new : T) (xs : List (S × Held)) (n : ℕ) (x y : S × Held) →
     AreSeated is_of place has old xs → slice_get xs n ≡ Some x → is_of new y.0 → place y.0 ≡ place x.0 →
     ((other : S) → is_of old other → (place other ≡ place x.0 → ⊥) → is_of new other) → ArePlaced after y.1.0.modules → ((p : ℕ × ℕ) → has p ↔ after p) →
     AreSeated is_of place after new (slice_set xs n y)
-lodged_set is_of place has after old new xs n x y lodged at of same others placed still k z e = elim (cases_eq k n) [
+seated_set is_of place has after old new xs n x y seated at of same others placed still k z e = elim (cases_eq k n) [
   | inl here ↦
       let is : y ≡ z = same_Some y z (sym (get_set_same xs n y (slice_get_within xs n x at)) ∙ ap (slice_get (slice_set xs n y)) (sym here) ∙ e) in
-      subst (λ w. is_of new w.0 × ((place w.0).1 ≡ k) × ArePlaced after w.1.0.modules) is (of, ap (λ p. p.1) same ∙ (lodged n x at).1 ∙ sym here, placed)
+      subst (λ w. is_of new w.0 × ((place w.0).1 ≡ k) × ArePlaced after w.1.0.modules) is (of, ap (λ p. p.1) same ∙ (seated n x at).1 ∙ sym here, placed)
   | inr apart ↦
       let was : slice_get xs k ≡ Some z = sym (get_set_other xs n k y apart) ∙ e in
-      let h = lodged k z was in
-      (others z.0 h.0 (λ p. apart (sym h.1 ∙ ap (λ q. q.1) p ∙ (lodged n x at).1)), h.1, placed_still has after still z.1.0.modules h.2)
+      let h = seated k z was in
+      (others z.0 h.0 (λ p. apart (sym h.1 ∙ ap (λ q. q.1) p ∙ (seated n x at).1)), h.1, placed_still has after still z.1.0.modules h.2)
 ]
 
 -- the account that has changed
