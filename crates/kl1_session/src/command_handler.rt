@@ -1,6 +1,8 @@
 // What does the commands of connections.
 
-ghost use Rattle.std.specs.Prelude.{◌≡◌, ◌<◌, ◌++◌, ℕ, OnOk, OnErr};
+ghost use Rattle.std.specs.Prelude.{◌≡◌, ◌<◌, ◌++◌, ◌∷◌, [], ℕ, List, OnOk, OnErr};
+ghost use Rattle.kl1_command.specs.Commands.{command_view};
+ghost use Rattle.kl1_session.specs.Conversations.{Done, is_welcome, is_bye};
 ghost use Rattle.kl1_session.specs.Replies.{told};
 
 use kl1_command::{Command, Performed, put_reply};
@@ -12,10 +14,28 @@ pub trait CommandHandler {
     /// How many accounts there are.
     ghost accounts: { Self → ℕ };
 
+    /// What was done, in order, with what was answered.
+    ghost done: { Self → List Done };
+
     /// Does a command to the account of this number, from 0.
     fn act(&mut self, account: usize, command: &Command) -> Performed
         requires { account < accounts self.old }
-        ensures { accounts self.new ≡ accounts self.old };
+        ensures accounts { accounts self.new ≡ accounts self.old }
+        ensures done { done self.new ≡ done self.old ++ record { account = account; command = command_view command.now; answer = result } ∷ [] };
+}
+
+/// Whether what was answered to a login lets in.
+pub(crate) fn is_welcome(performed: &Performed) -> bool
+    ensures { result ≡ is_welcome performed.now }
+{
+    matches!(performed, Performed::Whole(Reply::Welcome(_)))
+}
+
+/// Whether what was answered is that a session was closed.
+pub(crate) fn is_bye(performed: &Performed) -> bool
+    ensures { result ≡ is_bye performed.now }
+{
+    matches!(performed, Performed::Whole(Reply::Bye))
 }
 
 /// Puts what a session is told of a command after the bytes.
