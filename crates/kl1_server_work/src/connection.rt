@@ -16,7 +16,7 @@ use std::sync::Wait;
 use std::time::Duration;
 
 /// The bytes of one read. They bound what one connection may have read and not yet answered.
-pub const PIECE: usize = 4_096;
+pub(crate) const PIECE: usize = 4_096;
 
 /// How long a connection may be silent, in seconds: after that its read fails, and its session is closed.
 const MOST_SILENT_SECONDS: u64 = 3_600;

@@ -1,5 +1,7 @@
 // A pool as what does the commands of one connection.
 
+ghost use Rattle.kl1_session.specs.Histories.{done_in};
+
 use kl1_command::{Command, Performed};
 use kl1_pool::{Pool, PoolIds, Share};
 use kl1_session::{CommandHandler, History};
@@ -17,7 +19,7 @@ pub struct PoolHandler<'p, 't, R: Wait, K: PoolIds> {
 impl<'p, 't, R: Wait, K: PoolIds> CommandHandler for PoolHandler<'p, 't, R, K> {
     ghost accounts = { λ handler. K.accounts };
 
-    ghost done = { λ handler. handler.history };
+    ghost done = { λ handler. done_in handler.history };
 
     fn act(&mut self, account: usize, command: &Command) -> Performed {
         let performed = self.pool.act(self.rt, account, command, self.share);

@@ -1,5 +1,5 @@
 -- A conversation: what the inputs of a connection come to, one after another.
-use Rattle.std.specs.Prelude.{◌≡◌, ◌×◌, ◌||◌, ℕ, Bool, true, false, if◌then◌else◌, List, [], ◌∷◌, ◌++◌, codes, Option, Some, None}
+use Rattle.std.specs.Prelude.{◌≡◌, ◌||◌, ℕ, Bool, true, false, if◌then◌else◌, List, [], ◌∷◌, ◌++◌, codes, Option, Some, None}
 use Rattle.kl1_model.specs.Event as event
 use Rattle.kl1_model_server.specs.Command.{Command, does, reply_lines, written_line, written_lines}
 use Rattle.kl1_model_server.specs.Inputs.{Input}

@@ -9,3 +9,4 @@ pub mod ActionViews
 pub mod Replies
 pub mod Conversations
 pub mod Connections
+pub mod Histories

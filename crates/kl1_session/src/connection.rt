@@ -1,8 +1,9 @@
 // One connection.
 
-ghost use Rattle.std.specs.Prelude.{◌≡◌, ◌<◌, ◌≤◌, ℕ, [], ◌∷◌, length, map, OnOk, OnErr, IfErr};
+ghost use Rattle.std.specs.Prelude.{◌≡◌, ◌<◌, ◌≤◌, ℕ, [], ◌∷◌, length, map, OnOk, OnErr, IsErr, Ok};
 ghost use Rattle.std.specs.Io.KnownBytes.{Appends};
 ghost use Rattle.kl1_lines.specs.Devices.{AppendsFront, PassesOn};
+ghost use Rattle.kl1_model_server.specs.Inputs.{inputs};
 ghost use Rattle.kl1_command.specs.Commands.{command_view};
 ghost use Rattle.kl1_session.specs.Asking.{input_view};
 ghost use Rattle.kl1_session.specs.Views.{entries_view};
@@ -114,6 +115,7 @@ fn serve_piece<S: Source, T: Sink, D: CommandHandler>(
     requires handler { length keys.now ≤ D.accounts handler.old }
     requires visitor { IsVisitor (length keys.now) state.old.account }
     requires empty { state.old.replies.items ≡ [] }
+    requires quiet { inputs session.old ≡ [] }
     ensures handler { D.accounts handler.new ≡ D.accounts handler.old }
     ensures visitor { IsVisitor (length keys.now) state.new.account }
     ensures room { length buffer.new ≡ length buffer.old }
@@ -149,13 +151,16 @@ fn answer_piece<T: Sink, D: CommandHandler>(
     ensures visitor { IsVisitor (length keys.now) state.new.account }
     ensures talk { Tells (entries_view keys.now) (map input_view inputs.now) result (standing (T.contents sink.old) (D.done handler.old) state.old) (standing (T.contents sink.new) (D.done handler.new) state.new) }
 {
-    let answered = answer_all(sink, handler, keys, inputs, state);
-    if let Answered::Fault = answered {
-        return Answered::Fault;
-    }
-    match send(sink, &mut state.replies) {
-        Ok(()) => answered,
-        Err(_) => Answered::Fault,
+    match answer_all(sink, handler, keys, inputs, state) {
+        Answered::All => match send(sink, &mut state.replies) {
+            Ok(()) => Answered::All,
+            Err(_) => Answered::Fault,
+        },
+        Answered::Bye => match send(sink, &mut state.replies) {
+            Ok(()) => Answered::Bye,
+            Err(_) => Answered::Fault,
+        },
+        Answered::Fault => Answered::Fault,
     }
 }
 

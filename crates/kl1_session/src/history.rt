@@ -2,10 +2,10 @@
 
 ghost use Rattle.std.specs.Prelude.{◌≡◌, [], ◌++◌, ◌∷◌};
 ghost use Rattle.kl1_command.specs.Commands.{command_view};
+ghost use Rattle.kl1_session.specs.Histories.{done_in};
 
 use kl1_command::{Command, Performed};
 use logbook::{Opening, Rule, Seen, Start};
-use std::marker::Model;
 use std::snapshot::Snapshot;
 
 /// A command that was done to the account of this number, from 0, and what was answered.
@@ -14,15 +14,6 @@ struct Entry {
     account: usize,
     command: Snapshot<Command>,
     performed: Snapshot<Performed>,
-}
-
-impl Model for Entry {
-    ghost use Rattle.kl1_command.specs.Commands.{command_view};
-    ghost use Rattle.kl1_session.specs.Conversations.{Done};
-
-    ghost Value = { Done };
-
-    ghost view = { λ e. record { account = e.account; command = command_view e.command.value; answer = e.performed.value } };
 }
 
 /// A book without words: it is there for its log.
@@ -51,15 +42,6 @@ pub struct History {
     seen: Seen<Entry, (), Unruled>,
 }
 
-impl Model for History {
-    ghost use Rattle.std.specs.Prelude.{List};
-    ghost use Rattle.kl1_session.specs.Conversations.{Done};
-
-    ghost Value = { List Done };
-
-    ghost view = { λ h. h.seen.log };
-}
-
 /// No entries.
 struct Nothing;
 
@@ -84,7 +66,7 @@ impl Opening<Longer, Entry> for More {
 impl History {
     /// Nothing was done.
     pub fn new() -> History
-        ensures { result ≡ [] }
+        ensures { done_in result ≡ [] }
     {
         let (seen, _pens) = Seen::open_row::<(), Nothing>(&(), Start::alone(), 0);
         History { seen }
@@ -92,7 +74,7 @@ impl History {
 
     /// Takes in a command that was done to an account, and what was answered.
     pub fn add(&mut self, account: usize, command: &Command, performed: &Performed)
-        ensures { self.new ≡ self.old ++ record { account = account; command = command_view command.now; answer = performed.now } ∷ [] }
+        ensures { done_in self.new ≡ done_in self.old ++ record { account = account; command = command_view command.now; answer = performed.now } ∷ [] }
     {
         let longer = Longer {
             before: Snapshot::of(&self.seen),

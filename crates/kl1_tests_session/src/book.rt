@@ -1,6 +1,7 @@
 // What stands in the place of accounts.
 
 ghost use Rattle.std.specs.Prelude.{◌≡◌};
+ghost use Rattle.kl1_session.specs.Histories.{done_in};
 
 use kl1_command::{Command, Performed};
 use kl1_session::{CommandHandler, History};
@@ -64,7 +65,7 @@ impl Book {
 impl CommandHandler for Book {
     ghost accounts = { λ b. 2 };
 
-    ghost done = { λ b. b.history };
+    ghost done = { λ b. done_in b.history };
 
     fn act(&mut self, account: usize, command: &Command) -> Performed {
         let performed = self.perform(account, command);
