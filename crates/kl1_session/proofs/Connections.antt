@@ -5,7 +5,7 @@ use Rattle.std.specs.declared.option.Option.{Option}
 use Rattle.std.specs.declared.result.Result.{Result}
 use Rattle.std.specs.Io.KnownBytes.{Appends, Consumes, IsAtEnd}
 use Rattle.std.proofs.lemmas.List.{append-nil}
-use Rattle.kl1_lines.specs.Devices.{AppendsFront, PassesOn, ConsumesIfKnown, KeepsIfKnown, GrowsIfKnown}
+use Rattle.kl1_lines.specs.Devices.{AppendsFront, PassesOn, ConsumesIfKnown, KeepsIfKnown}
 use Rattle.kl1_lines.proofs.DeviceLaws.{appends_none, appends_both, front_behind}
 use Rattle.kl1_model_server.specs.Cut.{cut_of}
 use Rattle.kl1_model_server.specs.Inputs.{Input, inputs, rest}
@@ -16,7 +16,7 @@ use Rattle.kl1_session.specs.Conversations.{Done, Turn, silence, both, Converses
 use Rattle.kl1_session.specs.Connections.{Standing, TalksOn, TalksToBye, TalksToFault, GoesOn, Connects, GoesOrEnds, Ends}
 use Rattle.kl1_session.specs.declared.connection.Disconnect.{Disconnect}
 use Rattle.kl1_session.specs.declared.connection.Disconnect.TheVariants as disconnect
-use Rattle.kl1_session.proofs.Conversations.{converses_more}
+use Rattle.kl1_session.proofs.Conversations.{converses_more, front_all}
 
 -- ---- bytes
 
@@ -46,15 +46,6 @@ kept_if_known None b h = tt
 kept_if_known (Some xs) None h = tt
 kept_if_known (Some xs) (Some ys) h = sym h
 
-grows_none : (a : Option (List ℕ)) → GrowsIfKnown a a []
-grows_none None = tt
-grows_none (Some xs) = sym (append-nil xs)
-
-front_all : (a b : Option (List ℕ)) (bs : List ℕ) → Appends a b bs → AppendsFront a b bs
-front_all a b bs h =
-    let none : AppendsFront b b [] = record { count = 0; grows = grows_none b } in
-    front_behind a b b bs [] [] bs h none (append-nil (bs ++ []) ∙ append-nil bs)
-
 -- ---- inputs
 
 no_more : (xs ys : List Input) → xs ≡ xs ++ ys → ys ≡ []
@@ -69,7 +60,7 @@ rest_is_quiet bytes =
 nothing_rests : rest [] ≡ []
 nothing_rests = ap (λ c. c.rest) (cut_waits [] refl)
 
-nothing_asked : inputs [] ≡ []
+pub nothing_asked : inputs [] ≡ []
 nothing_asked = ap (λ x. inputs x) (sym nothing_rests) ∙ rest_is_quiet []
 
 inputs_more : (kept first second : List ℕ) → inputs (kept ++ (first ++ second)) ≡ inputs (kept ++ first) ++ inputs (rest (kept ++ first) ++ second)

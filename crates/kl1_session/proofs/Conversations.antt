@@ -1,18 +1,24 @@
 -- How the turns of a conversation go together.
 use Rattle.std.proofs.Common.{◌≡◌, ℕ, Bool, true, false, ◌||◌, List, [], ◌∷◌, ◌++◌, length, length-append, append_assoc, refl, ap, sym, ◌∙◌, subst, arith}
-use Rattle.std.specs.Prelude.{Ok, Err, Some, None}
+use Rattle.std.specs.Prelude.{Ok, Err, Some, None, OnOk, OnErr, IsErr, is_err, if◌then◌else◌, codes, map, take, drop, slice_index_or, ◌+◌, ◌<◌}
 use Rattle.std.specs.declared.option.Option.{Option}
 use Rattle.std.specs.declared.result.Result.{Result}
 use Rattle.std.specs.Io.KnownBytes.{Appends}
-use Rattle.std.proofs.lemmas.List.{append-nil}
+use Rattle.std.proofs.lemmas.List.{append-nil, take-append-drop, take_more, map-append}
 use Rattle.std.proofs.lemmas.Bool.{true≢false}
-use Rattle.kl1_lines.specs.Devices.{AppendsFront, PassesOn}
+use Rattle.kl1_lines.specs.Devices.{AppendsFront, PassesOn, GrowsIfKnown}
 use Rattle.kl1_lines.proofs.DeviceLaws.{appends_none, appends_both, front_behind}
 use Rattle.kl1_model_server.specs.Inputs.{Input}
 use Rattle.kl1_session.specs.Files.{Entry}
-use Rattle.kl1_session.specs.Doors.{action_of}
-use Rattle.kl1_session.specs.Conversations.{Done, Turn, silence, both, Answers, Converses}
-use Rattle.kl1_session.specs.Connections.{Standing, TalksOn, TalksToBye, TalksToFault, Talks, Takes}
+use Rattle.kl1_model.specs.Event as event
+use Rattle.kl1_model_server.specs.Command.{does}
+use Rattle.kl1_command.specs.declared.performed.Performed.{Performed}
+use Rattle.kl1_session.specs.Replies.{told}
+use Rattle.kl1_session.specs.Asking.{input_view}
+use Rattle.kl1_session.specs.declared.input.Input as code
+use Rattle.kl1_session.specs.Doors.{Action, action_of, log_in, log_out}
+use Rattle.kl1_session.specs.Conversations.{Done, Turn, silence, both, refusing, performing, is_welcome, is_bye, Answers, Converses}
+use Rattle.kl1_session.specs.Connections.{Standing, TalksOn, TalksToBye, TalksToFault, Talks, Puts, Takes}
 use Rattle.kl1_session.specs.declared.connection.Answered.{Answered}
 use Rattle.kl1_session.specs.declared.connection.Answered.TheVariants as answered
 use Rattle.kl1_session.specs.declared.connection.ConnectionState.{ConnectionState}
@@ -75,6 +81,29 @@ passes_front a b c xs more ys zs others p e h =
 
 front_left : (a b c : Option (List ℕ)) (xs ys : List ℕ) → PassesOn a b xs ys → AppendsFront b c ys → AppendsFront a c xs
 front_left a b c xs ys p h = front_behind a b c p.passed ys [] xs p.appends h (append-nil (p.passed ++ ys) ∙ p.same)
+
+grows_none : (a : Option (List ℕ)) → GrowsIfKnown a a []
+grows_none None = tt
+grows_none (Some xs) = sym (append-nil xs)
+
+pub front_all : (a b : Option (List ℕ)) (bs : List ℕ) → Appends a b bs → AppendsFront a b bs
+front_all a b bs h =
+    let none : AppendsFront b b [] = record { count = 0; grows = grows_none b } in
+    front_behind a b b bs [] [] bs h none (append-nil (bs ++ []) ∙ append-nil bs)
+
+-- bytes were written, or a front of them
+pub sent_front : {T E : Type 0} (r : Result T E) (a b : Option (List ℕ)) (bs : List ℕ) → OnOk r (Appends a b bs) → OnErr r (AppendsFront a b bs) → AppendsFront a b bs
+sent_front (Ok x) a b bs h k = front_all a b bs h
+sent_front (Err e) a b bs h k = k
+
+-- what holds after a call that didn't fail, or that did
+pub on_ok : {T E P : Type 0} (r : Result T E) → false ≡ is_err r → OnOk r P → P
+on_ok (Ok x) e h = h
+on_ok (Err x) e h = absurd (true≢false (sym e))
+
+pub on_err : {T E P : Type 0} (r : Result T E) → true ≡ is_err r → OnErr r P → P
+on_err (Ok x) e h = absurd (true≢false e)
+on_err (Err x) e h = h
 
 -- ---- inputs, one after another
 
@@ -152,27 +181,36 @@ one_converse accounts i s m n after r v k =
     let P : Option ℕ → Type 0 = λ x. Converses accounts x (i ∷ []) k.turn in
     subst P (sym v) (converses_one accounts m.account i k.turn k.answers)
 
-pub next_on : {E : Type 0} (accounts : List Entry) (i : Input) (s u : Standing) (m n : ConnectionState) (sink : Option (List ℕ)) (last : Bool) → s.visitor ≡ m.account → PassesOn s.sink sink s.waiting m.replies.items → Takes {E} (action_of accounts m.account i) (Ok last) s.done u.done m n → PassesOn sink u.sink n.replies.items u.waiting → u.visitor ≡ n.account → TalksOn accounts (i ∷ []) last s u
-next_on accounts i s u m n sink last v p k q w = record {
-  turn = k.turn;
-  converses = one_converse accounts i s m n u.done (Ok last) v k;
-  last = k.puts.1;
-  done = k.done;
-  visitor = w ∙ k.visitor;
-  written = passes_more s.sink sink u.sink s.waiting k.turn.told m.replies.items n.replies.items u.waiting p k.puts.0 q;
-}
+pub next_on : {E : Type 0} (accounts : List Entry) (i : Input) (s u : Standing) (m n : ConnectionState) (sink : Option (List ℕ)) (last : Bool) (r : Result Bool E) → r ≡ Ok last → s.visitor ≡ m.account → PassesOn s.sink sink s.waiting m.replies.items → Takes (action_of accounts m.account i) r s.done u.done m n → PassesOn sink u.sink n.replies.items u.waiting → u.visitor ≡ n.account → TalksOn accounts (i ∷ []) last s u
+next_on {E = E} accounts i s u m n sink last r e v p k q w =
+    let P : Result Bool E → Type 0 = λ x. Puts x m.replies.items n.replies.items k.turn in
+    let puts : Puts {E = E} (Ok last) m.replies.items n.replies.items k.turn = subst P e k.puts in
+    record {
+      turn = k.turn;
+      converses = one_converse accounts i s m n u.done r v k;
+      last = puts.1;
+      done = k.done;
+      visitor = w ∙ k.visitor;
+      written = passes_more s.sink sink u.sink s.waiting k.turn.told m.replies.items n.replies.items u.waiting p puts.0 q;
+    }
 
-pub next_bye : {E : Type 0} (accounts : List Entry) (i : Input) (s u : Standing) (m n : ConnectionState) → s.visitor ≡ m.account → PassesOn s.sink u.sink s.waiting m.replies.items → Takes {E} (action_of accounts m.account i) (Ok true) s.done u.done m n → u.waiting ≡ n.replies.items → u.visitor ≡ n.account → TalksToBye accounts (i ∷ []) s u
-next_bye accounts i s u m n v p k e w =
+pub next_bye : {E : Type 0} (accounts : List Entry) (i : Input) (s u : Standing) (m n : ConnectionState) (r : Result Bool E) → r ≡ Ok true → s.visitor ≡ m.account → PassesOn s.sink u.sink s.waiting m.replies.items → Takes (action_of accounts m.account i) r s.done u.done m n → u.waiting ≡ n.replies.items → u.visitor ≡ n.account → TalksToBye accounts (i ∷ []) s u
+next_bye accounts i s u m n r f v p k e w =
     let P : List ℕ → Type 0 = λ x. PassesOn u.sink u.sink n.replies.items x in
     record {
       answered = i ∷ [];
       others = [];
       all = refl;
-      talk = next_on accounts i s u m n u.sink true v p k (subst P (sym e) (passes_none u.sink n.replies.items)) w;
+      talk = next_on accounts i s u m n u.sink true r f v p k (subst P (sym e) (passes_none u.sink n.replies.items)) w;
     }
 
-put_front : {E : Type 0} (r : Result Bool E) (a b c : Option (List ℕ)) (xs old new : List ℕ) (t : Turn) → PassesOn a b xs old → Rattle.kl1_session.specs.Connections.Puts r old new t → AppendsFront b c new → AppendsFront a c (xs ++ t.told)
+-- a text was put, or memory was refused for it
+pub puts_by : {T E : Type 0} (r : Result T E) (q : Result Bool E) (old new text : List ℕ) (last : Bool) (t : Turn) → OnOk r (new ≡ old ++ text) → OnErr r (new ≡ old) → OnOk r (q ≡ Ok last) → OnErr r (IsErr q) → t.told ≡ text → t.is_last ≡ last → Puts q old new t
+puts_by {E = E} (Ok x) q old new text last t h k e f l m = let P : Result Bool E → Type 0 = λ y. Puts y old new t in subst P (sym e) (h ∙ ap (λ y. old ++ y) (sym l), m)
+puts_by (Err x) (Ok b) old new text last t h k e f l m = absurd (true≢false (sym f))
+puts_by (Err x) (Err y) old new text last t h k e f l m = k
+
+put_front : {E : Type 0} (r : Result Bool E) (a b c : Option (List ℕ)) (xs old new : List ℕ) (t : Turn) → PassesOn a b xs old → Puts r old new t → AppendsFront b c new → AppendsFront a c (xs ++ t.told)
 put_front (Ok last) a b c xs old new t p k h = passes_front a b c xs t.told old new [] p (append-nil new ∙ k.0) h
 put_front (Err e) a b c xs old new t p k h = passes_front a b c xs t.told old new t.told p (ap (λ x. x ++ t.told) k) h
 
@@ -186,6 +224,68 @@ next_fault accounts i s u m n sink r v p k h w = record {
   done = k.done;
   visitor = w ∙ k.visitor;
   written = put_front r s.sink sink u.sink s.waiting m.replies.items n.replies.items k.turn p k.puts h;
+}
+
+pub refuses : {T E : Type 0} (s t : ConnectionState) (base action : Action) (text : List ℕ) (done : List Done) (r : Result T E) (q : Result Bool E) → base ≡ action → Answers s.account base (refusing s.account text) → t.account ≡ s.account → OnOk r (t.replies.items ≡ s.replies.items ++ text) → OnErr r (t.replies.items ≡ s.replies.items) → OnOk r (q ≡ Ok false) → OnErr r (IsErr q) → Takes action q done done s t
+refuses s t base action text done r q e a v h k f l =
+    let P : Action → Type 0 = λ x. Answers s.account x (refusing s.account text) in
+    record {
+      turn = refusing s.account text;
+      answers = subst P e a;
+      done = sym (append-nil done);
+      visitor = v;
+      puts = puts_by r q s.replies.items t.replies.items text false (refusing s.account text) h k f l refl refl;
+    }
+
+-- a login and a logout, of which `m` is who is connected before the reply is put
+pub login_takes : {T E : Type 0} (n : ℕ) (answer : Performed) (r : Result T E) (q : Result Bool E) (before after : List Done) (s m t : ConnectionState) → m.account ≡ (if is_welcome answer then Some n else s.account) → m.replies.items ≡ s.replies.items → t.account ≡ m.account → after ≡ before ++ record { account = n; command = does event.login; answer = answer } ∷ [] → OnOk r (t.replies.items ≡ m.replies.items ++ told answer) → OnErr r (t.replies.items ≡ m.replies.items) → OnOk r (q ≡ Ok false) → OnErr r (IsErr q) → Takes (log_in n) q before after s t
+login_takes n answer r q before after s m t v w x d h k f l =
+    let turn : Turn = performing n (does event.login) answer (if is_welcome answer then Some n else s.account) false in
+    let P : List ℕ → Type 0 = λ y. OnOk r (t.replies.items ≡ y ++ told answer) in
+    let Q : List ℕ → Type 0 = λ y. OnErr r (t.replies.items ≡ y) in
+    record {
+      turn = turn;
+      answers = (answer, refl);
+      done = d;
+      visitor = x ∙ v;
+      puts = puts_by r q s.replies.items t.replies.items (told answer) false turn (subst P w h) (subst Q w k) f l refl refl;
+    }
+
+pub logout_takes : {T E : Type 0} (n : ℕ) (answer : Performed) (last : Bool) (r : Result T E) (q : Result Bool E) (before after : List Done) (s m t : ConnectionState) → last ≡ is_bye answer → m.account ≡ (if is_bye answer then None else s.account) → m.replies.items ≡ s.replies.items → t.account ≡ m.account → after ≡ before ++ record { account = n; command = does event.logout; answer = answer } ∷ [] → OnOk r (t.replies.items ≡ m.replies.items ++ told answer) → OnErr r (t.replies.items ≡ m.replies.items) → OnOk r (q ≡ Ok last) → OnErr r (IsErr q) → Takes (log_out n) q before after s t
+logout_takes n answer last r q before after s m t b v w x d h k f l =
+    let turn : Turn = performing n (does event.logout) answer (if is_bye answer then None else s.account) (is_bye answer) in
+    let P : List ℕ → Type 0 = λ y. OnOk r (t.replies.items ≡ y ++ told answer) in
+    let Q : List ℕ → Type 0 = λ y. OnErr r (t.replies.items ≡ y) in
+    record {
+      turn = turn;
+      answers = (answer, refl);
+      done = d;
+      visitor = x ∙ v;
+      puts = puts_by r q s.replies.items t.replies.items (told answer) last turn (subst P w h) (subst Q w k) f l refl (sym b);
+    }
+
+-- ---- the inputs of a piece, up to one
+
+pub inputs_next : (xs : List code.Input) (i : ℕ) (x : code.Input) → i < length xs → x ≡ slice_index_or xs i x → map input_view (take (i + 1) xs) ≡ map input_view (take i xs) ++ input_view x ∷ []
+inputs_next xs i x l e = ap (λ ys. map input_view ys) (take_more xs i x l ∙ ap (λ y. take i xs ++ y ∷ []) (sym e)) ∙ map-append input_view (take i xs) (x ∷ [])
+
+pub inputs_split : (xs : List code.Input) (i : ℕ) (x : code.Input) → i < length xs → x ≡ slice_index_or xs i x → map input_view xs ≡ (map input_view (take i xs) ++ input_view x ∷ []) ++ map input_view (drop (i + 1) xs)
+inputs_split xs i x l e =
+    ap (λ ys. map input_view ys) (sym (take-append-drop (i + 1) xs)) ∙ map-append input_view (take (i + 1) xs) (drop (i + 1) xs) ∙ ap (λ ys. ys ++ map input_view (drop (i + 1) xs)) (inputs_next xs i x l e)
+
+pub bye_early : (accounts : List Entry) (xs ys zs : List Input) (s u : Standing) → xs ≡ ys ++ zs → TalksToBye accounts ys s u → TalksToBye accounts xs s u
+bye_early accounts xs ys zs s u e k = record { answered = k.answered; others = k.others ++ zs; all = e ∙ ap (λ x. x ++ zs) k.all ∙ append_assoc k.answered k.others zs; talk = k.talk }
+
+pub fault_early : (accounts : List Entry) (xs ys zs : List Input) (s u : Standing) → xs ≡ ys ++ zs → TalksToFault accounts ys s u → TalksToFault accounts xs s u
+fault_early accounts xs ys zs s u e k = record {
+  answered = k.answered;
+  others = k.others ++ zs;
+  turn = k.turn;
+  all = e ∙ ap (λ x. x ++ zs) k.all ∙ append_assoc k.answered k.others zs;
+  converses = k.converses;
+  done = k.done;
+  visitor = k.visitor;
+  written = k.written;
 }
 
 -- ---- the replies that are left are written

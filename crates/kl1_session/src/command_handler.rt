@@ -1,6 +1,7 @@
 // What does the commands of connections.
 
-ghost use Rattle.std.specs.Prelude.{◌≡◌, ◌<◌, ◌++◌, ◌∷◌, [], ℕ, List, OnOk, OnErr};
+ghost use Rattle.std.specs.Prelude.{◌≡◌, ◌<◌, ◌++◌, ◌∷◌, [], ℕ, List, codes, OnOk, OnErr};
+ghost use Rattle.kl1_model_server.specs.Command.{written_line};
 ghost use Rattle.kl1_command.specs.Commands.{command_view};
 ghost use Rattle.kl1_session.specs.Conversations.{Done, is_welcome, is_bye};
 ghost use Rattle.kl1_session.specs.Replies.{told};
@@ -48,4 +49,12 @@ pub(crate) fn put_performed(out: &mut Vec<u8>, performed: &Performed) -> Result<
         Performed::Short { steps } => put_reply(out, &Reply::Ran(*steps)),
         Performed::Memory => out.extend_from_slice(b"- 10 memory\n"),
     }
+}
+
+/// Puts what is told to who is refused as a login, or since nobody is logged in, after the bytes.
+pub(crate) fn put_login_refused(out: &mut Vec<u8>) -> Result<(), AllocError>
+    ensures ok { OnOk result (out.new.items ≡ out.old.items ++ written_line (codes "- 11 login")) }
+    ensures err { OnErr result (out.new.items ≡ out.old.items) }
+{
+    out.extend_from_slice(b"- 11 login\n")
 }

@@ -12,7 +12,9 @@ ghost use Rattle.kl1_session.specs.ActionViews.{IsVisitor};
 ghost use Rattle.kl1_session.specs.Connections.{Serves, Connects, GoesOrEnds, Talks, Tells, Takes, fresh, standing};
 
 use crate::action::{Action, action_of};
-use crate::command_handler::{CommandHandler, is_bye, is_welcome, put_performed};
+use crate::command_handler::{
+    CommandHandler, is_bye, is_welcome, put_login_refused, put_performed,
+};
 use crate::input::Input;
 use crate::key::Key;
 use crate::session::Session;
@@ -268,10 +270,11 @@ fn answer<D: CommandHandler>(
     ensures takes { Takes (action_of (entries_view keys.now) state.old.account (input_view input.now)) result (D.done handler.old) (D.done handler.new) state.old state.new }
 {
     match action_of(keys, state.account, input) {
-        Action::Refuse(refusal) => {
-            told_as(put_reply(&mut state.replies, &Reply::Refused(refusal)), false)
-        }
-        Action::RefuseLogin => told_as(state.replies.extend_from_slice(b"- 11 login\n"), false),
+        Action::Refuse(refusal) => told_as(
+            put_reply(&mut state.replies, &Reply::Refused(refusal)),
+            false,
+        ),
+        Action::RefuseLogin => told_as(put_login_refused(&mut state.replies), false),
         Action::LogIn(account) => log_in(handler, account, state),
         Action::LogOut(account) => log_out(handler, account, state),
         Action::Perform(account, command) => perform(handler, account, command, state),
@@ -300,8 +303,7 @@ fn perform<D: CommandHandler>(
     ensures takes { Takes (perform account (command_view command.now)) result (D.done handler.old) (D.done handler.new) state.old state.new }
 {
     let performed = handler.act(account, command);
-    put_performed(&mut state.replies, &performed)?;
-    Ok(false)
+    told_as(put_performed(&mut state.replies, &performed), false)
 }
 
 /// Opens a session of an account. If that is refused, the visitor stays out.
@@ -315,12 +317,11 @@ fn log_in<D: CommandHandler>(
     ensures visitor { (n : ℕ) → account < n → IsVisitor n state.old.account → IsVisitor n state.new.account }
     ensures takes { Takes (log_in account) result (D.done handler.old) (D.done handler.new) state.old state.new }
 {
-    let performed = handler.act(account, &Command::Does(Event::Login));
-    if is_welcome(&performed) {
+    let answer = handler.act(account, &Command::Does(Event::Login));
+    if is_welcome(&answer) {
         state.account = Some(account);
     }
-    put_performed(&mut state.replies, &performed)?;
-    Ok(false)
+    told_as(put_performed(&mut state.replies, &answer), false)
 }
 
 /// Closes the session of an account, and tells whether that was done. The visitor is out before the reply is put, so that no session
@@ -335,11 +336,10 @@ fn log_out<D: CommandHandler>(
     ensures visitor { (n : ℕ) → IsVisitor n state.old.account → IsVisitor n state.new.account }
     ensures takes { Takes (log_out account) result (D.done handler.old) (D.done handler.new) state.old state.new }
 {
-    let performed = handler.act(account, &Command::Does(Event::Logout));
-    let is_done = is_bye(&performed);
+    let answer = handler.act(account, &Command::Does(Event::Logout));
+    let is_done = is_bye(&answer);
     if is_done {
         state.account = None;
     }
-    put_performed(&mut state.replies, &performed)?;
-    Ok(is_done)
+    told_as(put_performed(&mut state.replies, &answer), is_done)
 }

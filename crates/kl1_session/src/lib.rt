@@ -1,4 +1,4 @@
-//! What a session is asked, from the bytes that come in, in whatever pieces.
+//! A connection: what its bytes ask for, in whatever pieces they come; who is let in; and what is done and told.
 #![tactic(auto)]
 
 ghost use Rattle.kl1_model_server.specs.laws.InputLaws.{CutsAnywhere, CutsInPieces, InputsCutAnywhere};
