@@ -104,12 +104,7 @@ pub fn words_in<'a>(alloc: Global, words: &'a [String]) -> Result<Words<'a>, Sta
 }
 
 /// What the words FILE, ADDRESS, WORKERS and ACCEPT ask for; `None` if one of the last two is no number that it may be.
-fn words_of<'a>(
-    file: &'a str,
-    address: &'a str,
-    workers: &str,
-    accept: &str,
-) -> Option<Words<'a>>
+fn words_of<'a>(file: &'a str, address: &'a str, workers: &str, accept: &str) -> Option<Words<'a>>
     ensures { option_map (λ w. asked w.file.now w.address.now w.workers w.accept) result ≡ asked_by file.now address.now workers.now accept.now }
 {
     match (

@@ -1,13 +1,11 @@
 -- How the pieces of a connection go together.
-use Rattle.std.proofs.Common.{◌≡◌, ℕ, ◌<◌, Bool, true, false, ◌||◌, List, [], ◌∷◌, ◌++◌, length, length-append, append_assoc, refl, ap, sym, ◌∙◌, subst, arith}
-use Rattle.std.specs.Prelude.{Ok, Err, Some, None}
+use Rattle.std.proofs.Common.{◌≡◌, ℕ, ◌<◌, false, ◌||◌, List, [], ◌∷◌, ◌++◌, length, length-append, append_assoc, refl, ap, sym, ◌∙◌, subst, arith}
+use Rattle.std.specs.Prelude.{Some, None}
 use Rattle.std.specs.declared.option.Option.{Option}
-use Rattle.std.specs.declared.result.Result.{Result}
 use Rattle.std.specs.Io.KnownBytes.{Appends, Consumes, IsAtEnd}
 use Rattle.std.proofs.lemmas.List.{append-nil}
 use Rattle.kl1_lines.specs.Devices.{AppendsFront, PassesOn, ConsumesIfKnown, KeepsIfKnown}
 use Rattle.kl1_lines.proofs.DeviceLaws.{appends_none, appends_both, front_behind}
-use Rattle.kl1_model_server.specs.Cut.{cut_of}
 use Rattle.kl1_model_server.specs.Inputs.{Input, inputs, rest}
 use Rattle.kl1_model_server.proofs.Cuts.{cut_waits}
 use Rattle.kl1_model_server.proofs.InputLaws.{inputs_cut_anywhere}
@@ -110,8 +108,8 @@ more_pieces accounts room None kept k1 k2 r0 r1 r2 s t u h k = record {
   reads = consumes_both r0 r1 r2 h.bytes k.bytes h.reads k.reads;
   rest = k.rest ∙ ap (λ x. rest (x ++ k.bytes)) h.rest ∙ sym (rest_more kept h.bytes k.bytes);
   converses =
-    let P : List Input → Type 0 = λ x. Converses accounts s.visitor x (both h.turn k.turn) in
-    subst P (ap (λ x. inputs (kept ++ h.bytes) ++ inputs (x ++ k.bytes)) h.rest ∙ sym (inputs_more kept h.bytes k.bytes)) (more_converse accounts (inputs (kept ++ h.bytes)) (inputs (k1 ++ k.bytes)) s.visitor t.visitor h.turn k.turn h.converses h.going h.visitor k.converses);
+      let P : List Input → Type 0 = λ x. Converses accounts s.visitor x (both h.turn k.turn) in
+      subst P (ap (λ x. inputs (kept ++ h.bytes) ++ inputs (x ++ k.bytes)) h.rest ∙ sym (inputs_more kept h.bytes k.bytes)) (more_converse accounts (inputs (kept ++ h.bytes)) (inputs (k1 ++ k.bytes)) s.visitor t.visitor h.turn k.turn h.converses h.going h.visitor k.converses);
   going = ap (λ b. b || k.turn.is_last) h.going ∙ k.going;
   done = more_done s.done t.done u.done h.turn.done k.turn.done h.done k.done;
   visitor = k.visitor;

@@ -1,6 +1,6 @@
 -- How the turns of a conversation go together.
-use Rattle.std.proofs.Common.{◌≡◌, ℕ, Bool, true, false, ◌||◌, List, [], ◌∷◌, ◌++◌, length, length-append, append_assoc, refl, ap, sym, ◌∙◌, subst, arith}
-use Rattle.std.specs.Prelude.{Ok, Err, Some, None, OnOk, OnErr, IsErr, is_err, if◌then◌else◌, codes, map, take, drop, slice_index_or, ◌+◌, ◌<◌}
+use Rattle.std.proofs.Common.{◌≡◌, ℕ, Bool, true, false, ◌||◌, List, [], ◌∷◌, ◌++◌, length, append_assoc, refl, ap, sym, ◌∙◌, subst}
+use Rattle.std.specs.Prelude.{Ok, Err, Some, None, OnOk, OnErr, IsErr, is_err, if◌then◌else◌, map, take, drop, slice_index_or, ◌+◌, ◌<◌}
 use Rattle.std.specs.declared.option.Option.{Option}
 use Rattle.std.specs.declared.result.Result.{Result}
 use Rattle.std.specs.Io.KnownBytes.{Appends}
@@ -133,8 +133,8 @@ on_more accounts is js last s t u h k = record {
   done = more_done s.done t.done u.done h.turn.done k.turn.done h.done k.done;
   visitor = k.visitor;
   written =
-    let P : List ℕ → Type 0 = λ x. PassesOn s.sink u.sink x u.waiting in
-    subst P (append_assoc s.waiting h.turn.told k.turn.told) (passes_more s.sink t.sink u.sink (s.waiting ++ h.turn.told) k.turn.told t.waiting (t.waiting ++ k.turn.told) u.waiting h.written refl k.written);
+      let P : List ℕ → Type 0 = λ x. PassesOn s.sink u.sink x u.waiting in
+      subst P (append_assoc s.waiting h.turn.told k.turn.told) (passes_more s.sink t.sink u.sink (s.waiting ++ h.turn.told) k.turn.told t.waiting (t.waiting ++ k.turn.told) u.waiting h.written refl k.written);
 }
 
 all_more : (is js answered others : List Input) → js ≡ answered ++ others → is ++ js ≡ (is ++ answered) ++ others
@@ -158,8 +158,8 @@ talks_more accounts is js answered.Fault s t u h k = record {
   done = more_done s.done t.done u.done h.turn.done k.turn.done h.done k.done;
   visitor = k.visitor;
   written =
-    let P : List ℕ → Type 0 = λ x. AppendsFront s.sink u.sink x in
-    subst P (append_assoc s.waiting h.turn.told k.turn.told) (passes_front s.sink t.sink u.sink (s.waiting ++ h.turn.told) k.turn.told t.waiting (t.waiting ++ k.turn.told) [] h.written (append-nil (t.waiting ++ k.turn.told)) k.written);
+      let P : List ℕ → Type 0 = λ x. AppendsFront s.sink u.sink x in
+      subst P (append_assoc s.waiting h.turn.told k.turn.told) (passes_front s.sink t.sink u.sink (s.waiting ++ h.turn.told) k.turn.told t.waiting (t.waiting ++ k.turn.told) [] h.written (append-nil (t.waiting ++ k.turn.told)) k.written);
 }
 
 -- ---- one input, before which the replies that wait may be written

@@ -1,4 +1,4 @@
-use Rattle.std.proofs.Common.{true, false, Ok, refl, ap, sym, ◌∙◌}
+use Rattle.std.proofs.Common.{false, Ok, refl, ap, sym, ◌∙◌}
 use Rattle.kl1_session.specs.Asking.{input_view}
 use Rattle.kl1_session.specs.Views.{entries_view}
 use Rattle.kl1_session.specs.Connections.{Standing, standing}

@@ -3,7 +3,7 @@ use Rattle.std.specs.declared.option.Option.{Option}
 use Rattle.kl1_model_server.specs.Inputs.{inputs}
 use Rattle.kl1_session.specs.ActionViews.{IsVisitor}
 use Rattle.kl1_session.specs.Views.{entries_view}
-use Rattle.kl1_session.specs.Connections.{Standing, GoesOn, Connects, GoesOrEnds, standing}
+use Rattle.kl1_session.specs.Connections.{Standing, GoesOn, Connects, standing}
 use Rattle.kl1_session.proofs.Connections.{starts, more_pieces, gives_up, nothing_asked, rest_is_quiet}
 use Rattle.kl1_session.proofs.connection.converse.Goals as goal
 

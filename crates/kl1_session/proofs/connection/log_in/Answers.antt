@@ -1,5 +1,4 @@
 use Rattle.std.proofs.Common.{Some, ap, sym, ◌∙◌, if◌then◌else◌, refl}
-use Rattle.kl1_session.specs.Conversations.{is_welcome}
 use Rattle.kl1_session.specs.declared.connection.ConnectionState.{ConnectionState}
 use Rattle.kl1_session.proofs.Conversations.{login_takes}
 use Rattle.kl1_session.proofs.connection.log_in.Goals as goal

@@ -1,5 +1,4 @@
 use Rattle.std.proofs.Common.{None, ap, sym, ◌∙◌, if◌then◌else◌, refl}
-use Rattle.kl1_session.specs.Conversations.{is_bye}
 use Rattle.kl1_session.specs.declared.connection.ConnectionState.{ConnectionState}
 use Rattle.kl1_session.proofs.Conversations.{logout_takes}
 use Rattle.kl1_session.proofs.connection.log_out.Goals as goal

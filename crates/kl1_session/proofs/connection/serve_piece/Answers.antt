@@ -1,4 +1,4 @@
-use Rattle.std.proofs.Common.{[], List, ℕ, length, take, arith, ap}
+use Rattle.std.proofs.Common.{List, ℕ, length, take, arith, ap}
 use Rattle.kl1_session.specs.Views.{entries_view}
 use Rattle.kl1_session.specs.Connections.{Standing, standing}
 use Rattle.kl1_session.proofs.Connections.{read_fails, piece_is_dropped, input_ends}
