@@ -3,7 +3,7 @@
 use crate::session::book::Book;
 use crate::session::streams::Failing;
 use kl1_lines::{FailureCounter, is_same};
-use kl1_session::{Disconnect, Key, serve};
+use kl1_session::{Disconnect, History, Key, serve};
 use kl1_tests_rows::cut;
 use std::alloc::{AllocError, Global};
 
@@ -45,6 +45,7 @@ fn talk_of(
     });
     let mut book = Book {
         open: [false, false],
+        history: History::new(),
     };
     let mut buffer = [0u8; 64];
     let served = serve(
