@@ -12,7 +12,6 @@ mod exchanging;
 mod installing;
 mod judging;
 mod limits;
-mod line_length;
 mod loading;
 mod looking;
 mod looking_beside;
