@@ -3,11 +3,12 @@
 
 mod accounts;
 mod answers;
-mod entries;
-mod finishing;
+mod last_lines;
 mod names;
+mod replay_replies;
 mod replayed;
 mod replays;
+mod script_replies;
 mod scripts;
 
 pub use accounts::accounts_in;
