@@ -1,12 +1,11 @@
 -- What a run is, by what it read and how its records were answered.
 use Rattle.std.proofs.Common.{◌≡◌, ℕ, ◌+◌, ◌<◌, List, length, refl, arith}
 use Rattle.std.specs.Prelude.{Ok, Err, IsErrOf}
-use Rattle.std.specs.declared.option.Option.{Option}
 use Rattle.std.specs.declared.result.Result.{Result}
 use Rattle.std.specs.Io.KnownBytes.{Consumes}
 use Rattle.kl1_model.specs.declared.limits.TheConstants.{MOST_SCRIPT_BYTES}
 use Rattle.kl1_lines.specs.Devices.{IsWhole}
-use Rattle.kl1_lines.specs.Replies.{Ends, front_of}
+use Rattle.kl1_lines.specs.Replies.{Ends}
 use Rattle.kl1_lines.specs.Runs.{Runs, Streams}
 use Rattle.kl1_lines.specs.declared.script_fault.ScriptFault.{ScriptFault}
 use Rattle.kl1_lines.specs.declared.script_fault.ScriptFault.TheVariants as faults
