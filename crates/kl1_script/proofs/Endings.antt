@@ -1,14 +1,16 @@
 -- Endings in which no record is done.
 use Rattle.std.proofs.Common.{◌≡◌, ℕ, List, [], ◌++◌, refl, ◌∙◌, subst, arith}
 use Rattle.std.proofs.lemmas.List.{append-nil}
-use Rattle.std.specs.Prelude.{Ok, Err}
+use Rattle.std.specs.Prelude.{Ok, Err, None, Some}
 use Rattle.std.specs.declared.option.Option.{Option}
 use Rattle.std.specs.declared.result.Result.{Result}
 use Rattle.std.specs.Io.KnownBytes.{Appends}
+use Rattle.kl1_lines.specs.Devices.{ReadsFew}
 use Rattle.kl1_lines.specs.Replies.{Ends, Finishes}
+use Rattle.kl1_lines.specs.Runs.{Runs, Streams}
 use Rattle.kl1_lines.specs.declared.script_fault.ScriptFault.{ScriptFault}
 use Rattle.kl1_lines.specs.declared.script_fault.ScriptFault.TheVariants as faults
-use Rattle.kl1_lines.proofs.DeviceLaws.{appends_none, front_behind}
+use Rattle.kl1_lines.proofs.DeviceLaws.{appends_none, front_behind, some_left}
 
 -- memory was refused before any record was done
 pub nothing_ends : (T : Type 0) (old : Option (List ℕ)) (f : ℕ) (all : List ℕ) (each : List (List ℕ)) → Ends {T = T} old old f f all each (Err faults.Memory)
@@ -28,3 +30,14 @@ ends_as r old new f g all every each replies e d x =
     let P : List ℕ → Type 0 = λ y. Ends old new f g y replies r in
     let Q : List (List ℕ) → Type 0 = λ y. Ends old new f g all y r in
     subst Q d (subst P e x)
+
+-- memory was refused before the text was read
+pub nothing_runs : (T : Type 0) (output : List ℕ → List ℕ) (replies : List ℕ → List (List ℕ)) (old : Streams) → Runs {T = T} output replies old old (Err faults.Memory)
+nothing_runs T output replies old =
+    let left = some_left old.remaining in
+    (record { text = left.0; left = left.1; stops = record { count = 0; fewer = omega arith; written = appends_none old.contents } }, refl, refl)
+
+-- no byte was read
+pub nothing_read : (old : Option (List ℕ)) (most : ℕ) → ReadsFew old old most
+nothing_read None most = record { bytes = []; few = omega arith; consumes = tt }
+nothing_read (Some xs) most = record { bytes = []; few = omega arith; consumes = refl }

@@ -24,8 +24,8 @@ use kl1_user::Rules;
 use std::alloc::Global;
 use std::sync::Wait;
 
-/// Replays a journal: reads all of its text, and writes the replies to its entries. Only to put a code into the table may it wait;
-/// `replay_over`, which does the entries, never waits.
+/// Replays a journal: reads all of its text, and writes the replies to its entries. It may wait only when a code is put into the table
+/// of codes that it makes: `run_replay_over` does all the rest.
 pub fn run_replay<H: Wait, R: Source, W: Sink>(
     rt: &H,
     alloc: Global,
@@ -35,16 +35,32 @@ pub fn run_replay<H: Wait, R: Source, W: Sink>(
     ensures runs { Runs replay_output replay_replies (streams R.remaining R.failures W.contents W.failures source.old sink.old) (streams R.remaining R.failures W.contents W.failures source.new sink.new) result }
     ensures few { ReadsFew (R.remaining source.old) (R.remaining source.new) (MOST_SCRIPT_BYTES + 1) }
 {
+    match CodeTable::new(alloc) {
+        Ok(table) => run_replay_over(alloc, SharedCodes { table: &table, rt }, source, sink),
+        Err(_) => Err(ScriptFault::Memory),
+    }
+}
+
+/// Like `run_replay`, over any source of codes.
+pub fn run_replay_over<C: CodeSource + Drop, R: Source, W: Sink>(
+    alloc: Global,
+    codes: C,
+    source: &mut R,
+    sink: &mut W,
+) -> Result<(), ScriptFault>
+    ensures runs { Runs replay_output replay_replies (streams R.remaining R.failures W.contents W.failures source.old sink.old) (streams R.remaining R.failures W.contents W.failures source.new sink.new) result }
+    ensures few { ReadsFew (R.remaining source.old) (R.remaining source.new) (MOST_SCRIPT_BYTES + 1) }
+{
     match read_all(alloc, source) {
-        Ok(text) => answer(rt, alloc, text.as_slice(), sink),
+        Ok(text) => answer(alloc, codes, text.as_slice(), sink),
         Err(fault) => Err(fault),
     }
 }
 
 /// Writes what is written for the text of a journal.
-fn answer<H: Wait, W: Sink>(
-    rt: &H,
+fn answer<C: CodeSource + Drop, W: Sink>(
     alloc: Global,
+    codes: C,
     text: &[u8],
     sink: &mut W,
 ) -> Result<(), ScriptFault>
@@ -56,14 +72,14 @@ fn answer<H: Wait, W: Sink>(
     };
     match heading_of(line) {
         None => finish_fault(sink, 1),
-        Some(heading) => answer_headed(rt, alloc, heading, rest, sink),
+        Some(heading) => answer_headed(alloc, codes, heading, rest, sink),
     }
 }
 
 /// Writes what is written for the text after a journal's first line, by what that says.
-fn answer_headed<H: Wait, W: Sink>(
-    rt: &H,
+fn answer_headed<C: CodeSource + Drop, W: Sink>(
     alloc: Global,
+    codes: C,
     heading: Heading,
     text: &[u8],
     sink: &mut W,
@@ -75,8 +91,8 @@ fn answer_headed<H: Wait, W: Sink>(
     match names_in(alloc, heading.names, text) {
         Ok(Named::All { names, rest }) => {
             answer_shared(
-                rt,
                 alloc,
+                codes,
                 heading.rules,
                 heading.sessions,
                 names.as_slice(),
@@ -89,10 +105,10 @@ fn answer_headed<H: Wait, W: Sink>(
     }
 }
 
-/// Writes what is written for the entries whose lines a text has, over a table of names and a table of codes that are made for one account.
-fn answer_shared<H: Wait, W: Sink>(
-    rt: &H,
+/// Writes what is written for the entries whose lines a text has, over a table of names that is made for one account.
+fn answer_shared<C: CodeSource + Drop, W: Sink>(
     alloc: Global,
+    codes: C,
     rules: Rules,
     sessions: u64,
     texts: &[AtomText],
@@ -104,9 +120,6 @@ fn answer_shared<H: Wait, W: Sink>(
     requires small { length text.now ≤ MOST_SCRIPT_BYTES }
     ensures { Ends (W.contents sink.old) (W.contents sink.new) (W.failures sink.old) (W.failures sink.new) (written_entries (2 + length texts.now) 0 (fresh_with rules replay_name texts.now sessions) (lines_of text.now).whole (lines_of text.now).rest) (entry_replies (fresh_with rules replay_name texts.now sessions) (lines_of text.now).whole) result }
 {
-    let Ok(codes) = CodeTable::new(alloc) else {
-        return Err(ScriptFault::Memory);
-    };
     match AtomTable::new(alloc, 1) {
         Ok((table, mut seats)) => {
             let seat = seats.swap_remove(0);
@@ -114,7 +127,7 @@ fn answer_shared<H: Wait, W: Sink>(
                 alloc,
                 SharedAtoms { table: &table },
                 seat,
-                SharedCodes { table: &codes, rt },
+                codes,
                 rules,
                 sessions,
                 texts,

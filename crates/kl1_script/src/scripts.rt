@@ -19,8 +19,8 @@ use kl1_world::{AccountName, Rules, World};
 use std::alloc::Global;
 use std::sync::Wait;
 
-/// Runs a script: reads all of it, and writes its output. Only to put a code into the table may it wait; `answer_over`, which does
-/// all the rest, never waits.
+/// Runs a script: reads all of it, and writes its output. It may wait only when a code is put into the table of codes that it makes:
+/// `run_script_over` does all the rest.
 pub fn run_script<H: Wait, R: Source, W: Sink>(
     rt: &H,
     alloc: Global,
@@ -30,16 +30,32 @@ pub fn run_script<H: Wait, R: Source, W: Sink>(
     ensures runs { Runs output script_replies (streams R.remaining R.failures W.contents W.failures source.old sink.old) (streams R.remaining R.failures W.contents W.failures source.new sink.new) result }
     ensures few { ReadsFew (R.remaining source.old) (R.remaining source.new) (MOST_SCRIPT_BYTES + 1) }
 {
+    match CodeTable::new(alloc) {
+        Ok(table) => run_script_over(alloc, SharedCodes { table: &table, rt }, source, sink),
+        Err(_) => Err(ScriptFault::Memory),
+    }
+}
+
+/// Like `run_script`, over any source of codes.
+pub fn run_script_over<C: CodeSource + Drop, R: Source, W: Sink>(
+    alloc: Global,
+    codes: C,
+    source: &mut R,
+    sink: &mut W,
+) -> Result<(), ScriptFault>
+    ensures runs { Runs output script_replies (streams R.remaining R.failures W.contents W.failures source.old sink.old) (streams R.remaining R.failures W.contents W.failures source.new sink.new) result }
+    ensures few { ReadsFew (R.remaining source.old) (R.remaining source.new) (MOST_SCRIPT_BYTES + 1) }
+{
     match read_all(alloc, source) {
-        Ok(script) => answer(rt, alloc, script.as_slice(), sink),
+        Ok(script) => answer(alloc, codes, script.as_slice(), sink),
         Err(fault) => Err(fault),
     }
 }
 
 /// Writes the output of a script.
-fn answer<H: Wait, W: Sink>(
-    rt: &H,
+fn answer<C: CodeSource + Drop, W: Sink>(
     alloc: Global,
+    codes: C,
     script: &[u8],
     sink: &mut W,
 ) -> Result<(), ScriptFault>
@@ -47,17 +63,17 @@ fn answer<H: Wait, W: Sink>(
 {
     let (line, rest) = split_line(script);
     match accounts_in(alloc, line) {
-        Ok(Some(accounts)) => answer_shared(rt, alloc, accounts.as_slice(), rest, sink),
+        Ok(Some(accounts)) => answer_shared(alloc, accounts.as_slice(), codes, rest, sink),
         Ok(None) => finish_with(sink, b"", b"! accounts\n"),
         Err(_) => Err(ScriptFault::Memory),
     }
 }
 
-/// Writes what is written for the records of a text, over a table of names and a table of codes that are made for the accounts.
-fn answer_shared<H: Wait, W: Sink>(
-    rt: &H,
+/// Writes what is written for the records of a text, over a table of names that is made for the accounts.
+fn answer_shared<C: CodeSource + Drop, W: Sink>(
     alloc: Global,
     accounts: &[AccountName],
+    codes: C,
     text: &[u8],
     sink: &mut W,
 ) -> Result<(), ScriptFault>
@@ -66,16 +82,13 @@ fn answer_shared<H: Wait, W: Sink>(
     requires distinct { IsTrue (are_distinct accounts.now) }
     ensures { Ends (W.contents sink.old) (W.contents sink.new) (W.failures sink.old) (W.failures sink.new) (written_records accounts.now (records_of text.now)) (replies_from accounts.now [] (records_of text.now).list) result }
 {
-    let Ok(codes) = CodeTable::new(alloc) else {
-        return Err(ScriptFault::Memory);
-    };
     match AtomTable::new(alloc, accounts.len()) {
         Ok((table, seats)) => answer_over(
             alloc,
             accounts,
             SharedAtoms { table: &table },
             seats,
-            SharedCodes { table: &codes, rt },
+            codes,
             text,
             sink,
         ),
