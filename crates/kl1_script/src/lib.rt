@@ -1,4 +1,4 @@
-//! Scripts: what their records do to accounts, and the bytes that are written for them.
+//! Scripts and replays of journals: what their records do to accounts, and the bytes that are written for them.
 #![tactic(auto)]
 
 mod accounts;
