@@ -30,16 +30,18 @@ entries_all k n s (line ∷ lines) rest = all_by k n s line lines rest (accepted
 pub on_all : (k n : ℕ) (s : State) (ls : Lines) → all_of (written_on k n s ls) ≡ written_entries k n s ls.whole ls.rest
 on_all k n s ls = entries_all k n s ls.whole ls.rest
 
-by_accepted : (k n : ℕ) (lines : List (List ℕ)) (rest : List ℕ) (o p : Option Transition) → o ≡ p → record { each = reply_then (λ after. entry_replies after lines) o; last = end_then k (λ after. entry_end (suc k) (suc n) after lines rest) o } ≡ record { each = reply_then (λ after. entry_replies after lines) p; last = end_then k (λ after. entry_end (suc k) (suc n) after lines rest) p }
-by_accepted k n lines rest o p e =
-    let P : Option Transition → Written = λ x. record { each = reply_then (λ after. entry_replies after lines) x; last = end_then k (λ after. entry_end (suc k) (suc n) after lines rest) x } in
-    ap P e
+-- what is written for a line, if this became of its entry, and for the lines after it
+abbrev written_by : ℕ → ℕ → List (List ℕ) → List ℕ → Option Transition → Written
+written_by k n lines rest o = record { each = reply_then (λ after. entry_replies after lines) o; last = end_then k (λ after. entry_end (suc k) (suc n) after lines rest) o }
+
+on_line : (k n : ℕ) (s : State) (line : List ℕ) (ls rest : Lines) (o : Option Transition) (w : Written) → ls ≡ with_line line rest → accepted_in s line ≡ o → w ≡ written_on k n s ls → w ≡ written_by k n rest.whole rest.rest o
+on_line k n s line ls rest o w is h same = same ∙ ap (written_on k n s) is ∙ ap (written_by k n rest.whole rest.rest) h
 
 -- the entry of a line is accepted
 accepted_on : (k n j m : ℕ) (s next : State) (line : List ℕ) (ls rest : Lines) (o : Option Transition) (w : Written) → j ≡ suc k → m ≡ suc n → ls ≡ with_line line rest → accepted_in s line ≡ o → Went true o next → w ≡ written_on k n s ls → w ≡ record { each = told_of o ∷ entry_replies next rest.whole; last = entry_end j m next rest.whole rest.rest }
 accepted_on k n j m s next line ls rest None w e d is h went same = absurd went
 accepted_on k n j m s next line ls rest (Some x) w e d is h went same =
-    same ∙ ap (written_on k n s) is ∙ by_accepted k n rest.whole rest.rest (accepted_in s line) (Some x) h ∙ rw (e, d, went) refl
+    on_line k n s line ls rest (Some x) w is h same ∙ rw (e, d, went) refl
 
 tail_same : (x y : List ℕ) (xs ys : List (List ℕ)) → x ∷ xs ≡ y ∷ ys → xs ≡ ys
 tail_same x y xs ys e = cc
@@ -62,7 +64,7 @@ entry_put k n j m old new line ls rest out put f e d is fits before went told w 
 -- a line is no entry's, or its entry is refused
 pub entry_fault : (k n : ℕ) (s next : State) (line bytes : List ℕ) (ls rest : Lines) (o : Option Transition) (w : Written) → ls ≡ with_line line rest → accepted_in s line ≡ o → Went false o next → bytes ≡ written_fault k → w ≡ written_on k n s ls → all_of w ≡ bytes
 entry_fault k n s next line bytes ls rest None w is h went e same =
-    ap all_of (same ∙ ap (written_on k n s) is ∙ by_accepted k n rest.whole rest.rest (accepted_in s line) None h) ∙ sym e
+    ap all_of (on_line k n s line ls rest None w is h same) ∙ sym e
 entry_fault k n s next line bytes ls rest (Some x) w is h went e same = absurd went
 
 -- for it no reply was put
