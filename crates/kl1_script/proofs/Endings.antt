@@ -1,7 +1,7 @@
 -- Endings in which no record is done.
 use Rattle.std.proofs.Common.{◌≡◌, ℕ, List, [], ◌++◌, refl, ◌∙◌, subst, arith}
 use Rattle.std.proofs.lemmas.List.{append-nil}
-use Rattle.std.specs.Prelude.{Ok, Err, None, Some}
+use Rattle.std.specs.Prelude.{Ok, Err, None, Some, OnErr}
 use Rattle.std.specs.declared.option.Option.{Option}
 use Rattle.std.specs.declared.result.Result.{Result}
 use Rattle.std.specs.Io.KnownBytes.{Appends}
@@ -41,3 +41,8 @@ nothing_runs T output replies old =
 pub nothing_read : (old : Option (List ℕ)) (most : ℕ) → ReadsFew old old most
 nothing_read None most = record { bytes = []; few = omega arith; consumes = tt }
 nothing_read (Some xs) most = record { bytes = []; few = omega arith; consumes = refl }
+
+-- what holds in any case holds after a failure
+pub always_err : {T E P : Type 0} (r : Result T E) → P → OnErr r P
+always_err (Ok x) p = tt
+always_err (Err e) p = p

@@ -1,6 +1,7 @@
 use Rattle.std.proofs.Common.{true, false, [], refl}
 use Rattle.kl1_model.specs.Record.{Record}
 use Rattle.kl1_lines.specs.Records.{request_of}
+use Rattle.kl1_script.proofs.Endings.{always_err}
 use Rattle.kl1_script.proofs.RecordReplies.{record_put, record_end, record_some, record_fewer}
 use Rattle.kl1_script.proofs.script_replies.ScriptRepliesReplies.put_next.Goals as goal
 
@@ -17,7 +18,7 @@ returns-in-Found-clause-one g c =
 pub returns-in_err-put_record-clause-some : goal.returns-in_err-put_record-clause-some
 returns-in_err-put_record-clause-some g c =
     let r : Record = record { name = c.in-Found.record.name.now; request = request_of c.in-Found.record.request } in
-    record_some c.args.self.now.accounts.now c.args.self.now.world.0 c.args.self.now.rest.now c.in-Found.record.rest.now r c.in-Found.ensures.step
+    always_err c.from_residual.result (record_some c.args.self.now.accounts.now c.args.self.now.world.0 c.args.self.now.rest.now c.in-Found.record.rest.now r c.in-Found.ensures.step)
 
 pub returns-in-Truncated-clause-puts : goal.returns-in-Truncated-clause-puts
 returns-in-Truncated-clause-puts g c =
