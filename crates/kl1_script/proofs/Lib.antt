@@ -1,4 +1,4 @@
-pub mod Names
+pub mod AccountNames
 pub mod Others
 pub mod Worlds
 pub mod Endings
