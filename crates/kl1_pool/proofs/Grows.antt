@@ -1,17 +1,20 @@
--- Books and shares that grow twice.
-use Rattle.std.proofs.Common.{◌≡◌, ℕ, ◌+◌, ap, sym, ◌∙◌, subst, arith}
+-- Books and shares that grow, and grow again.
+use Rattle.std.proofs.Common.{◌≡◌, ℕ, ◌+◌, ◌-◌, ◌^◌, Some, ap, sym, ◌∙◌, subst, refl, arith}
 use Rattle.kl1_tally.specs.Seats.{Book}
 use Rattle.kl1_pool_tickets.specs.Counts.{Counts, Moved}
 use Rattle.kl1_pool_tickets.proofs.Counting.{moved_moved, not_moved}
-use Rattle.kl1_pool.specs.Counted.{with_more}
+use Rattle.kl1_command.specs.Told.{Told, told_steps}
+use Rattle.kl1_command.specs.Room.{less}
+use Rattle.kl1_pool.specs.Counted.{with_more, room_in}
+use Rattle.kl1_pool.specs.PoolAccounts.{PoolAccountValue, HasCounted}
 
 -- a share that grows by steps of an account, and by more of them
-pub counted_on : (k j n m t : ℕ) (x y z : Counts) → Moved k n n 0 0 x y → Moved j m m 0 0 y z → j ≡ k → n + m ≡ t → Moved k t t 0 0 x z
+counted_on : (k j n m t : ℕ) (x y z : Counts) → Moved k n n 0 0 x y → Moved j m m 0 0 y z → j ≡ k → n + m ≡ t → Moved k t t 0 0 x z
 counted_on k j n m t x y z a b same sum =
     subst (λ i. Moved k i i 0 0 x z) sum (moved_moved k n n 0 0 m m 0 0 x y z a (subst (λ i. Moved i m m 0 0 y z) same b))
 
 -- a book that grows by steps, and by more of them
-pub grown_on : (a b c : Book) (n m t : ℕ) → b ≡ with_more a n n → c ≡ with_more b m m → n + m ≡ t → c ≡ with_more a t t
+grown_on : (a b c : Book) (n m t : ℕ) → b ≡ with_more a n n → c ≡ with_more b m m → n + m ≡ t → c ≡ with_more a t t
 grown_on a b c n m t first second sum =
     let e : a.events + n + m ≡ a.events + t = omega (arith, sum) in
     let s : a.steps + n + m ≡ a.steps + t = omega (arith, sum) in
@@ -20,21 +23,28 @@ grown_on a b c n m t first second sum =
     ∙ ap (λ (i : ℕ). let z : Book = record { tally = a.tally; account = a.account; events = a.events + t; steps = i } in z) s
 
 -- a book that doesn't grow
-pub not_grown : (a : Book) → a ≡ with_more a 0 0
+not_grown : (a : Book) → a ≡ with_more a 0 0
 not_grown a =
     let e : a.events ≡ a.events + 0 = omega arith in
     let s : a.steps ≡ a.steps + 0 = omega arith in
     ap (λ (i : ℕ). let z : Book = record { tally = a.tally; account = a.account; events = i; steps = a.steps } in z) e
     ∙ ap (λ (i : ℕ). let z : Book = record { tally = a.tally; account = a.account; events = a.events + 0; steps = i } in z) s
 
--- a share that is as it was
-pub not_counted : (k : ℕ) (x y : Counts) → y ≡ x → Moved k 0 0 0 0 x y
-not_counted k x y same = subst (λ (z : Counts). Moved k 0 0 0 0 x z) (sym same) (not_moved k x)
+-- nothing is counted at once
+pub none_counted : (a : PoolAccountValue) (s : Counts) → HasCounted a s (told_steps 0) a s
+none_counted a s = record { book = not_grown a.book; past = refl; share = not_moved a.book.account s }
 
--- what was counted under the numbers that an answer tells
-pub told_counted : (k n e s : ℕ) (x y : Counts) → e ≡ n → s ≡ n → Moved k n n 0 0 x y → Moved k e s 0 0 x y
-told_counted k n e s x y events steps moved =
-    subst (λ i. Moved k i s 0 0 x y) (sym events) (subst (λ i. Moved k n i 0 0 x y) (sym steps) moved)
+-- steps and then more steps are counted as all of them
+pub more_counted : (a b c : PoolAccountValue) (x y z : Counts) (n m : ℕ) → HasCounted a x (told_steps n) b y → HasCounted b y (told_steps m) c z → HasCounted a x (told_steps (n + m)) c z
+more_counted a b c x y z n m first then = record {
+  book = grown_on a.book b.book c.book n m (n + m) first.book then.book refl;
+  past = then.past ∙ first.past;
+  share = counted_on a.book.account b.book.account n m (n + m) x y z first.share then.share (ap (λ (k : Book). k.account) first.book) refl;
+}
 
-pub told_grown : (a b : Book) (n e s : ℕ) → e ≡ n → s ≡ n → b ≡ with_more a n n → b ≡ with_more a e s
-told_grown a b n e s events steps grown = grown ∙ ap (λ i. with_more a i n) (sym events) ∙ ap (λ i. with_more a e i) (sym steps)
+-- each event that is counted takes room
+pub room_left : (a b : PoolAccountValue) (x y : Counts) (told : Told) → HasCounted a x told b y → Some (room_in b.book) ≡ less (Some (room_in a.book)) told.events
+room_left a b x y told h =
+    let more : b.book.events ≡ a.book.events + told.events = ap (λ (k : Book). k.events) h.book in
+    let left : 2 ^ 63 - b.book.events ≡ 2 ^ 63 - a.book.events - told.events = omega (arith, more) in
+    ap (λ (n : ℕ). Some n) left

@@ -1,6 +1,4 @@
 pub mod Seating
 pub mod Tells
-pub mod FirstSteps
-pub mod Runs
-pub mod Cells
+pub mod PoolAccounts
 pub mod Grows

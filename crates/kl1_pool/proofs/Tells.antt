@@ -24,8 +24,8 @@ use Rattle.kl1_model_server.specs.Journal.{Kept, Done, done}
 use Rattle.kl1_model_server.specs.Journal as history
 use Rattle.kl1_tally.specs.Seats.{Book}
 use Rattle.kl1_pool.specs.declared.totals_before_reset.TotalsBeforeReset.{TotalsBeforeReset}
-use Rattle.kl1_pool.specs.Counted.{reduces_in, IsCounted, with_more, events_by, steps_by, past_by, is_run, ended}
-use Rattle.kl1_pool.specs.Filling.{HasRoom}
+use Rattle.kl1_command.specs.Told.{events_by, steps_by}
+use Rattle.kl1_pool.specs.Counted.{reduces_in, IsCounted, with_more, past_by, is_run, ended, HasRoom}
 
 -- what holds of both sides of a choice holds of it
 by_choice : (P : Transition → Type 0) (c : Bool) (x y : Transition) → P x → P y → P (if c then x else y)

@@ -42,7 +42,7 @@ pub(crate) trait Fresh: Drop {
 /// lies on its line.
 #[derive(Drop)]
 pub struct LockedSlot<'t, R: Wait, K: PoolIds> {
-    pub(crate) cell: CachePadded<PoolAccount<'t, R, K>>,
+    pub(crate) account: CachePadded<PoolAccount<'t, R, K>>,
 }
 
 impl<'t, R: Wait, K: PoolIds> Fresh for LockedSlot<'t, R, K> {
@@ -60,8 +60,8 @@ impl<'t, R: Wait, K: PoolIds> Fresh for LockedSlot<'t, R, K> {
         book: BookSeat,
     ) -> Result<Self, AllocError> {
         let kept = JournaledAccount::new(alloc, name, rules, seat)?;
-        let cell = CachePadded::new(PoolAccount::new(kept, book));
-        Ok(LockedSlot { cell })
+        let account = CachePadded::new(PoolAccount::new(kept, book));
+        Ok(LockedSlot { account })
     }
 }
 
@@ -69,6 +69,6 @@ impl<'t, R: Wait, K: PoolIds> Booked for LockedSlot<'t, R, K> {
     ghost tally = { K.tally };
 
     fn into_book(self) -> BookSeat {
-        self.cell.into_inner().into_book()
+        self.account.into_inner().into_book()
     }
 }

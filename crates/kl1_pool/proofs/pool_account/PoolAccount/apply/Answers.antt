@@ -3,9 +3,9 @@ use Rattle.kl1_model_server.specs.Journal.{done}
 use Rattle.kl1_user_events.specs.Views.{event_of, reply_of}
 use Rattle.kl1_tally.specs.declared.amounts.TheConstants.{MOST_ACCOUNTS}
 use Rattle.kl1_journal.specs.Keeping.{Held, kept_of}
-use Rattle.kl1_pool.specs.Cells.{StandsIn, PoolAccountValue}
-use Rattle.kl1_pool.specs.Counted.{events_by, steps_by}
-use Rattle.kl1_pool.proofs.Cells.{held_counts, kept_counts, of_tally, within, placed_in}
+use Rattle.kl1_pool.specs.PoolAccounts.{StandsIn, PoolAccountValue}
+use Rattle.kl1_command.specs.Told.{events_by, steps_by}
+use Rattle.kl1_pool.proofs.PoolAccounts.{held_counts, kept_counts, of_tally, within, placed_in}
 use Rattle.kl1_pool.proofs.pool_account.PoolAccount.apply.Goals as goal
 
 pub count-requires-clause-one : goal.count-requires-clause-one

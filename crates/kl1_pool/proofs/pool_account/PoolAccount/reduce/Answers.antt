@@ -4,9 +4,9 @@ use Rattle.kl1_codes_modules.specs.Numbered.{Numbered, ArePlaced}
 use Rattle.kl1_user_events.specs.Views.{reduced_or}
 use Rattle.kl1_tally.specs.declared.amounts.TheConstants.{MOST_ACCOUNTS}
 use Rattle.kl1_tally.specs.Seats.{Book}
-use Rattle.kl1_pool.specs.Cells.{StandsIn, PoolAccountValue}
-use Rattle.kl1_pool.specs.Counted.{events_by, steps_by}
-use Rattle.kl1_pool.proofs.Cells.{held_counts, kept_counts, of_tally, within, step_ended}
+use Rattle.kl1_pool.specs.PoolAccounts.{StandsIn, PoolAccountValue}
+use Rattle.kl1_command.specs.Told.{events_by, steps_by}
+use Rattle.kl1_pool.proofs.PoolAccounts.{held_counts, kept_counts, of_tally, within, step_ended}
 use Rattle.kl1_pool.proofs.pool_account.PoolAccount.reduce.Goals as goal
 
 pub invariant_of-self-2 : goal.invariant_of-self-2

@@ -1,5 +1,5 @@
--- What a book that can tell no more events refuses.
-use Rattle.std.specs.Prelude.{◌≡◌, ℕ, zero, suc, ◌-◌, ◌<◌, ◌^◌, min, Bool, true, false, if◌then◌else◌, Option, Some, None}
+-- What commands do to an account whose book can tell only so many entries more.
+use Rattle.std.specs.Prelude.{◌≡◌, ℕ, zero, suc, ◌-◌, ◌≤◌, min, Bool, true, false, if◌then◌else◌, Option, Some, None}
 use Rattle.kl1_model.specs.Event as model
 use Rattle.kl1_model.specs.Choice.{Chosen, first}
 use Rattle.kl1_model_server.specs.Journal.{Kept, Done, done}
@@ -7,11 +7,17 @@ use Rattle.kl1_model_server.specs.Command.{Command, does, run, shows, said, act}
 use Rattle.kl1_user_events.specs.Views.{reply_of}
 use Rattle.kl1_command.specs.declared.performed.Performed.{Performed}
 use Rattle.kl1_command.specs.declared.performed.Performed.TheVariants as performed
-use Rattle.kl1_tally.specs.Seats.{Book}
+use Rattle.kl1_command.specs.Performing.{Performs}
 
--- how many events more a book can tell
-abbrev pub room_in : Book → ℕ
-room_in b = 2 ^ 63 - b.events
+-- a book with this room can tell n entries more; without a book there is always room
+abbrev pub HasRoomFor : ℕ → Option ℕ → Type 0
+HasRoomFor n None = Unit {0}
+HasRoomFor n (Some room) = n ≤ room
+
+-- the room that is left after n entries
+abbrev pub less : Option ℕ → ℕ → Option ℕ
+less None n = None
+less (Some room) n = Some (room - n)
 
 -- whether an event is an entry of a journal if it is accepted
 abbrev pub is_entry : model.Event → Bool
@@ -21,6 +27,16 @@ is_entry (model.control n m) = true
 is_entry (model.answer n report t) = true
 is_entry (model.reduce goal clause) = true
 is_entry _ = false
+
+-- what an event does if the book has no room: what would be an entry is refused, as by a full journal
+abbrev pub done_in_vain : Kept → model.Event → Done
+done_in_vain s e = if is_entry e then said s (model.refused model.journal_full) else done s e
+
+-- what an event does if the book has this room
+abbrev pub done_within : Option ℕ → Kept → model.Event → Done
+done_within None s e = done s e
+done_within (Some zero) s e = done_in_vain s e
+done_within (Some (suc n)) s e = done s e
 
 -- a command whose run is of no more steps than there is room for
 abbrev pub held_to : ℕ → Command → Command
@@ -33,9 +49,9 @@ abbrev pub run_in_vain : Kept → Option Chosen → Done
 run_in_vain s None = said s (model.ran 0)
 run_in_vain s (Some c) = said s (model.refused model.journal_full)
 
--- what a command does if the book has no room: what would be an entry is refused, as by a full journal
+-- what a command does if the book has no room
 abbrev pub act_in_vain : Kept → Command → Done
-act_in_vain s (does e) = if is_entry e then said s (model.refused model.journal_full) else done s e
+act_in_vain s (does e) = done_in_vain s e
 act_in_vain s (run zero) = said s (model.ran 0)
 act_in_vain s (run (suc k)) = run_in_vain s (first s.state)
 act_in_vain s (shows from count) = act s (shows from count)
@@ -46,6 +62,8 @@ PerformsInVain s c (performed.Whole reply) after = act_in_vain s c ≡ record { 
 PerformsInVain s c (performed.Short n) after = ⊥
 PerformsInVain s c performed.Memory after = after ≡ s
 
--- a book has room for an event, if that is an entry
-abbrev pub HasRoom : Book → model.Event → Type 0
-HasRoom b e = is_entry e ≡ true → b.events < 2 ^ 63
+-- a command was done if the book has this room, with its reply; or a run's first steps were; or nothing was
+abbrev pub PerformsWithin : Option ℕ → Kept → Command → Performed → Kept → Type 0
+PerformsWithin None s c p after = Performs s c p after
+PerformsWithin (Some zero) s c p after = PerformsInVain s c p after
+PerformsWithin (Some (suc n)) s c p after = Performs s (held_to (suc n) c) p after

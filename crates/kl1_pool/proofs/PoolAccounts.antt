@@ -1,4 +1,4 @@
--- What a cell keeps over an event.
+-- What an account of a pool keeps over an event.
 use Rattle.std.proofs.Common.{◌≡◌, ℕ, ◌<◌, false, List, ap, sym, ◌∙◌, subst, refl}
 use Rattle.std.specs.Prelude.{◌↔◌, Option, Some, None}
 use Rattle.kl1_model.specs.Event as model
@@ -14,9 +14,9 @@ use Rattle.kl1_user_events.specs.declared.refusal.Refusal.{Refusal}
 use Rattle.kl1_journal.specs.Keeping.{Reading, Fits, Held, kept_of}
 use Rattle.kl1_user.specs.Readings.{reading_of, reading_fits}
 use Rattle.kl1_pool.specs.declared.totals_before_reset.TotalsBeforeReset.{TotalsBeforeReset}
-use Rattle.kl1_pool.specs.Counted.{IsCounted, with_more, events_by, steps_by, past_by, is_run, ended}
-use Rattle.kl1_pool.specs.Cells.{StandsIn}
-use Rattle.kl1_pool.specs.Filling.{HasRoom}
+use Rattle.kl1_command.specs.Told.{events_by, steps_by}
+use Rattle.kl1_pool.specs.Counted.{IsCounted, with_more, past_by, is_run, ended, HasRoom}
+use Rattle.kl1_pool.specs.PoolAccounts.{StandsIn}
 use Rattle.kl1_pool.proofs.Tells.{done_counts, ended_is}
 
 -- what a book is to tell after an event

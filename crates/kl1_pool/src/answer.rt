@@ -1,0 +1,144 @@
+// Commands to an account of a pool, and the answers to them.
+
+ghost use Rattle.std.specs.Prelude.{◌≡◌, ◌≢◌, Some};
+ghost use Rattle.kl1_command.specs.Commands.{command_view};
+ghost use Rattle.kl1_command.specs.Performing.{IsUntouched};
+ghost use Rattle.kl1_command.specs.Told.{told_in, told_steps};
+ghost use Rattle.kl1_command.specs.Room.{PerformsWithin};
+ghost use Rattle.kl1_journal.specs.Keeping.{Reading, Fits, kept_of};
+ghost use Rattle.kl1_pool.specs.Counted.{room_in};
+ghost use Rattle.kl1_pool.specs.PoolAccounts.{HasCounted};
+ghost use Rattle.kl1_pool.specs.Answers.{IsGiven};
+
+use crate::account_host::AccountHost;
+use crate::pool_account::PoolAccount;
+use crate::pool_ids::PoolIds;
+use crate::shared_tables::SharedTables;
+use kl1_command::{Command, Performed};
+use kl1_pool_tickets::{PoolShared, Share};
+use std::marker::Model;
+use std::snapshot::Snapshot;
+use std::sync::Wait;
+
+/// The answer to a command to an account of a pool. Nothing makes one but a command that was done, or an account that isn't the one
+/// that was asked for. Contracts see for which account and for which command it is.
+#[derive(Drop)]
+pub struct Answer {
+    performed: Performed,
+    account: Snapshot<usize>,
+    command: Snapshot<Command>,
+}
+
+impl Model for Answer {
+    ghost use Rattle.std.specs.Coded.{codes};
+    ghost use Rattle.kl1_command.specs.Commands.{command_view};
+    ghost use Rattle.kl1_pool.specs.Answers.{AnswerValue, IsGiven};
+
+    ghost Value = { AnswerValue };
+
+    ghost view = { λ a. record { account = a.account.value; command = command_view a.command.value; performed = a.performed } };
+
+    ghost invariant = { λ a. IsGiven (command_view a.command.value) a.performed };
+}
+
+impl Answer {
+    /// The answer if the account of another number was found in the place of the one that was asked for. Nothing is done.
+    pub(crate) fn misplaced<'t, R: Wait, K: PoolIds>(
+        found: &PoolAccount<'t, R, K>,
+        account: usize,
+        command: &Command,
+    ) -> Answer
+        requires { found.now.book.account ≢ account }
+        ensures account { result.account ≡ account }
+        ensures command { result.command ≡ command_view command.now }
+        ensures told { told_in result.performed ≡ told_steps 0 }
+    {
+        let _found = found.account();
+        Answer {
+            performed: Performed::Memory,
+            account: Snapshot::of(&account),
+            command: Snapshot::of(command),
+        }
+    }
+
+    /// Tells a caller's proof that some account gives this answer to this command. It does nothing.
+    pub fn shows_given(&self)
+        ensures { IsGiven self.now.command self.now.performed }
+    {
+        let _performed = &self.performed;
+    }
+
+    /// What became of the command.
+    pub fn performed(&self) -> &Performed
+        ensures { result.now ≡ self.now.performed }
+    {
+        &self.performed
+    }
+
+    /// What became of the command.
+    pub fn into_performed(self) -> Performed
+        ensures { result ≡ self.performed }
+    {
+        let Answer {
+            performed,
+            account: _,
+            command: _,
+        } = self;
+        performed
+    }
+}
+
+impl<'t, R: Wait, K: PoolIds> PoolAccount<'t, R, K> {
+    /// What a command does to the account and its journal, and the answer. The book and `share` get what the answer tells: one event
+    /// for a load, a start, a message and an answer, one event and one step for a reduction, and both for each step of a run. An
+    /// accepted reset adds the journal that it ends to what was counted before. A run ends when the book tells `MOST_EVENTS`, as if
+    /// the next step was refused by a full journal, and so is what would be an entry.
+    pub fn perform(
+        &mut self,
+        common: &PoolShared<K>,
+        tables: &SharedTables<'t, R, K>,
+        share: &mut Share<K>,
+        command: &Command,
+    ) -> Answer
+        ensures does { (f : Reading) → Fits self.new.held.0.names f → PerformsWithin (Some (room_in self.old.book)) (kept_of f self.old.held) (command_view command.now) result.performed (kept_of f self.new.held) }
+        ensures memory { IsUntouched result.performed self.old self.new × IsUntouched result.performed share.old share.new }
+        ensures counted { HasCounted self.old share.old (told_in result.performed) self.new share.new }
+        ensures account { result.account ≡ self.old.book.account }
+        ensures command { result.command ≡ command_view command.now }
+        ensures out { self.new.is_out ≡ self.old.is_out }
+        ensures before { (f : Reading) → Fits self.new.held.0.names f → Fits self.old.held.0.names f }
+    {
+        let account = self.account();
+        let performed = self.performed(common, tables, share, command);
+        // For a reading of the names, by which the account gives the answer.
+        self.shows_counts();
+        Answer {
+            performed,
+            account: Snapshot::of(&account),
+            command: Snapshot::of(command),
+        }
+    }
+
+    /// What became of a command that was done.
+    fn performed(
+        &mut self,
+        common: &PoolShared<K>,
+        tables: &SharedTables<'t, R, K>,
+        share: &mut Share<K>,
+        command: &Command,
+    ) -> Performed
+        ensures does { (f : Reading) → Fits self.new.held.0.names f → PerformsWithin (Some (room_in self.old.book)) (kept_of f self.old.held) (command_view command.now) result (kept_of f self.new.held) }
+        ensures memory { IsUntouched result self.old self.new × IsUntouched result share.old share.new }
+        ensures counted { HasCounted self.old share.old (told_in result) self.new share.new }
+        ensures out { self.new.is_out ≡ self.old.is_out }
+        ensures before { (f : Reading) → Fits self.new.held.0.names f → Fits self.old.held.0.names f }
+    {
+        let mut host = AccountHost {
+            account: self,
+            share,
+            common,
+            tables,
+        };
+        kl1_command::perform(&mut host, command)
+    }
+}
