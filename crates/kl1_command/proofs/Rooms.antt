@@ -32,20 +32,20 @@ none_within (Some zero) s after c same = same
 none_within (Some (suc n)) s after c same = same
 
 -- what is done without a book
-pub unbooked : (room : Option ℕ) (s after : Kept) (c : Command) (p : Performed) → None ≡ room → Performs s c p after → PerformsWithin room s c p after
-unbooked room s after c p e h = subst (λ r. PerformsWithin r s c p after) e h
+pub within_none : (room : Option ℕ) (s after : Kept) (c : Command) (p : Performed) → None ≡ room → Performs s c p after → PerformsWithin room s c p after
+within_none room s after c p e h = subst (λ r. PerformsWithin r s c p after) e h
 
 -- what is done if there is no room
-pub full : (room : Option ℕ) (s after : Kept) (c : Command) (p : Performed) → Some 0 ≡ room → PerformsInVain s c p after → PerformsWithin room s c p after
-full room s after c p e h = subst (λ r. PerformsWithin r s c p after) e h
+pub within_full : (room : Option ℕ) (s after : Kept) (c : Command) (p : Performed) → Some 0 ≡ room → PerformsInVain s c p after → PerformsWithin room s c p after
+within_full room s after c p e h = subst (λ r. PerformsWithin r s c p after) e h
 
 some_room : (n : ℕ) (s after : Kept) (k : ℕ) (p : Performed) → 0 < n → Performs s (run (min k n)) p after → PerformsWithin (Some n) s (run k) p after
 some_room zero s after k p some h = absurd (let z : 0 < 0 = some in omega (arith, z))
 some_room (suc n) s after k p some h = h
 
 -- a run that is held to the room
-pub held : (room : Option ℕ) (n : ℕ) (s after : Kept) (k : ℕ) (p : Performed) → Some n ≡ room → 0 < n → Performs s (run (min k n)) p after → PerformsWithin room s (run k) p after
-held room n s after k p e some h = subst (λ r. PerformsWithin r s (run k) p after) e (some_room n s after k p some h)
+pub within_some : (room : Option ℕ) (n : ℕ) (s after : Kept) (k : ℕ) (p : Performed) → Some n ≡ room → 0 < n → Performs s (run (min k n)) p after → PerformsWithin room s (run k) p after
+within_some room n s after k p e some h = subst (λ r. PerformsWithin r s (run k) p after) e (some_room n s after k p some h)
 
 -- a run in vain of no steps
 pub vain_zero : (s : Kept) (most : ℕ) → most ≡ 0 → act_in_vain s (run most) ≡ record { kept = s; reply = model.ran 0 }
@@ -67,8 +67,8 @@ room_for_one None done most more h = tt
 room_for_one (Some room) done most more h = let z : most ≤ room = h in let one : 1 ≤ room - done = omega (arith, more, z) in one
 
 -- a run is held to the room
-pub within_room : (room : Option ℕ) (k n : ℕ) → Some n ≡ room → HasRoomFor (min k n) room
-within_room room k n e = let z : min k n ≤ n = omega arith in subst (λ r. HasRoomFor (min k n) r) e z
+pub fits_room : (room : Option ℕ) (k n : ℕ) → Some n ≡ room → HasRoomFor (min k n) room
+fits_room room k n e = let z : min k n ≤ n = omega arith in subst (λ r. HasRoomFor (min k n) r) e z
 
 no_entry : (X : Type 0) (b : Bool) → b ≡ false → b ≡ true → X
 no_entry X true other entry = cc

@@ -31,13 +31,13 @@ steps_by (model.ran n) = n
 steps_by _ = 0
 
 -- whether a reply tells that a journal was ended: that of an accepted reset
-abbrev pub is_reset : model.Reply → Bool
-is_reset model.was_reset = true
-is_reset _ = false
+abbrev pub ends_journal : model.Reply → Bool
+ends_journal model.was_reset = true
+ends_journal _ = false
 
 -- what a reply tells
 abbrev pub told_by : model.Reply → Told
-told_by reply = record { events = events_by reply; steps = steps_by reply; is_reset = is_reset reply }
+told_by reply = record { events = events_by reply; steps = steps_by reply; is_reset = ends_journal reply }
 
 -- what an answer to a command tells
 abbrev pub told_in : Performed → Told

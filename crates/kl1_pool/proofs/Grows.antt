@@ -31,20 +31,20 @@ not_grown a =
     ∙ ap (λ (i : ℕ). let z : Book = record { tally = a.tally; account = a.account; events = a.events + 0; steps = i } in z) s
 
 -- nothing is counted at once
-pub none_counted : (a : PoolAccountValue) (s : Counts) → HasCounted a s (told_steps 0) a s
-none_counted a s = record { book = not_grown a.book; past = refl; share = not_moved a.book.account s }
+pub counted_none : (a : PoolAccountValue) (s : Counts) → HasCounted a s (told_steps 0) a s
+counted_none a s = record { book = not_grown a.book; past = refl; share = not_moved a.book.account s }
 
 -- steps and then more steps are counted as all of them
-pub more_counted : (a b c : PoolAccountValue) (x y z : Counts) (n m : ℕ) → HasCounted a x (told_steps n) b y → HasCounted b y (told_steps m) c z → HasCounted a x (told_steps (n + m)) c z
-more_counted a b c x y z n m first then = record {
+pub counted_more : (a b c : PoolAccountValue) (x y z : Counts) (n m : ℕ) → HasCounted a x (told_steps n) b y → HasCounted b y (told_steps m) c z → HasCounted a x (told_steps (n + m)) c z
+counted_more a b c x y z n m first then = record {
   book = grown_on a.book b.book c.book n m (n + m) first.book then.book refl;
   past = then.past ∙ first.past;
   share = counted_on a.book.account b.book.account n m (n + m) x y z first.share then.share (ap (λ (k : Book). k.account) first.book) refl;
 }
 
 -- each event that is counted takes room
-pub room_left : (a b : PoolAccountValue) (x y : Counts) (told : Told) → HasCounted a x told b y → Some (room_in b.book) ≡ less (Some (room_in a.book)) told.events
-room_left a b x y told h =
+pub counted_room : (a b : PoolAccountValue) (x y : Counts) (told : Told) → HasCounted a x told b y → Some (room_in b.book) ≡ less (Some (room_in a.book)) told.events
+counted_room a b x y told h =
     let more : b.book.events ≡ a.book.events + told.events = ap (λ (k : Book). k.events) h.book in
     let left : 2 ^ 63 - b.book.events ≡ 2 ^ 63 - a.book.events - told.events = omega (arith, more) in
     ap (λ (n : ℕ). Some n) left

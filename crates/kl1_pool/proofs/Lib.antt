@@ -2,3 +2,4 @@ pub mod Seating
 pub mod Tells
 pub mod PoolAccounts
 pub mod Grows
+pub mod Naming

@@ -1,8 +1,9 @@
 -- What an account of a pool keeps over an event.
 use Rattle.std.proofs.Common.{◌≡◌, ℕ, ◌<◌, false, List, ap, sym, ◌∙◌, subst, refl}
-use Rattle.std.specs.Prelude.{◌↔◌, Option, Some, None}
+use Rattle.std.specs.Prelude.{◌↔◌, Option, Some, None, slice_get}
 use Rattle.kl1_model.specs.Event as model
 use Rattle.kl1_model_server.specs.Journal.{Journal, Done, done}
+use Rattle.kl1_model_server.proofs.Replays.{names_stay, rules_stay}
 use Rattle.kl1_atoms.specs.Names.{AreNames}
 use Rattle.kl1_codes_modules.specs.Numbered.{Numbered, ArePlaced}
 use Rattle.kl1_codes_modules.proofs.Placing.{placed_still}
@@ -55,3 +56,15 @@ within most b c e n is less = subst (λ (x : Book). x.account < most) (sym is) l
 -- modules that stand in a table of codes as it is lent stand in the table that a type names
 pub placed_in : (codes named : Shelves) (has : ℕ × ℕ → Type 0) (ms : List Numbered) → codes ≡ named → ((p : ℕ × ℕ) → StandsIn codes p ↔ has p) → ArePlaced has ms → ArePlaced (StandsIn named) ms
 placed_in codes named has ms is same placed = subst (λ (x : Shelves). ArePlaced (StandsIn x) ms) is (placed_back (StandsIn codes) has ms same placed)
+
+-- no event changes the rules or the name of an account
+pub held_stays : (old new : Held) (e : model.Event) (reply : model.Reply) → AreNames new.0.names → ((f : Reading) → Fits new.0.names f → done (kept_of f old) e ≡ record { kept = kept_of f new; reply = reply }) →
+    (new.0.rules ≡ old.0.rules) × (new.0.own_name ≡ old.0.own_name)
+held_stays old new e reply names is =
+    let f = reading_of new.0.names in
+    let d = is f (reading_fits new.0.names names) in
+    (sym (ap (λ (x : Done). x.kept.state.rules) d) ∙ rules_stay (kept_of f old).state e, sym (ap (λ (x : Done). x.kept.state.own_name) d) ∙ names_stay (kept_of f old).state e)
+
+-- the name of an account is still that at the number of its book
+pub named_still : (names : List (List ℕ)) (b c : Book) (e n : ℕ) (old new : List ℕ) → c ≡ with_more b e n → new ≡ old → slice_get names b.account ≡ Some old → slice_get names c.account ≡ Some new
+named_still names b c e n old new is same named = ap (λ (x : Book). slice_get names x.account) is ∙ named ∙ ap (λ (t : List ℕ). Some t) (sym same)

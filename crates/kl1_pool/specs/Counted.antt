@@ -3,7 +3,7 @@ use Rattle.std.specs.Prelude.{◌≡◌, ℕ, suc, ◌+◌, ◌-◌, ◌<◌, �
 use Rattle.kl1_model.specs.Event as model
 use Rattle.kl1_model_server.specs.Journal.{Entry, loads, starts, sends, steps, answers, Journal}
 use Rattle.kl1_tally.specs.Seats.{Book}
-use Rattle.kl1_command.specs.Told.{is_reset}
+use Rattle.kl1_command.specs.Told.{ends_journal}
 use Rattle.kl1_command.specs.Room.{is_entry}
 use Rattle.kl1_pool.specs.declared.totals_before_reset.TotalsBeforeReset.{TotalsBeforeReset}
 
@@ -41,7 +41,7 @@ past_after false p j = p
 
 -- the past after a reply
 abbrev pub past_by : TotalsBeforeReset → Journal → model.Reply → TotalsBeforeReset
-past_by p j reply = past_after (is_reset reply) p j
+past_by p j reply = past_after (ends_journal reply) p j
 
 -- whether a reply tells the steps of a run
 abbrev pub is_run : model.Reply → Bool

@@ -26,7 +26,7 @@ impl<'a, 's, 'p, 'm, 't, R: Wait, K: PoolIds> Host for AccountHost<'a, 's, 'p, '
     ghost use Rattle.kl1_journal.specs.Keeping.{Reading as NameReading, Fits, kept_of};
     ghost use Rattle.kl1_pool.specs.Counted.{room_in};
     ghost use Rattle.kl1_pool.specs.PoolAccounts.{HasCounted};
-    ghost use Rattle.kl1_pool.proofs.Grows.{none_counted, more_counted, room_left};
+    ghost use Rattle.kl1_pool.proofs.Grows.{counted_none, counted_more, counted_room};
 
     ghost Reading = { NameReading };
 
@@ -68,9 +68,9 @@ impl<'a, 's, 'p, 'm, 't, R: Wait, K: PoolIds> Host for AccountHost<'a, 's, 'p, '
         Some(self.account.room())
     }
 
-    ghost none_counted = { λ h. none_counted h.account.now h.share.now };
+    ghost none_counted = { λ h. counted_none h.account.now h.share.now };
 
-    ghost counted_on = { λ a b c n m first then. more_counted a.account.now b.account.now c.account.now a.share.now b.share.now c.share.now n m first then };
+    ghost counted_on = { λ a b c n m first then. counted_more a.account.now b.account.now c.account.now a.share.now b.share.now c.share.now n m first then };
 
-    ghost room_left = { λ a b told counted. room_left a.account.now b.account.now a.share.now b.share.now told counted };
+    ghost room_left = { λ a b told counted. counted_room a.account.now b.account.now a.share.now b.share.now told counted };
 }

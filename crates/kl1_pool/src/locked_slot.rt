@@ -1,7 +1,8 @@
 // Where an account lies under its lock.
 
-ghost use Rattle.std.specs.Prelude.{◌≡◌, ℕ};
+ghost use Rattle.std.specs.Prelude.{◌≡◌, ℕ, List, Some, slice_get};
 ghost use Rattle.atomic_table.specs.Seated.{TableId};
+ghost use Rattle.kl1_model.specs.declared.rules.Rules.{Rules};
 ghost use Rattle.kl1_pool_tickets.specs.Parts.{IsNewBook};
 ghost use Rattle.kl1_pool.specs.Parts.{IsFreshSeat};
 
@@ -26,6 +27,12 @@ pub(crate) trait Fresh: Drop {
     /// Which tally its book is of.
     ghost tally: { TableId };
 
+    /// Which rules it keeps to.
+    ghost keeps_to: { Rules };
+
+    /// What accounts are called, in the order of their numbers.
+    ghost names: { List (List ℕ) };
+
     /// An account of this name, which keeps to these rules, in which nothing has happened.
     fn fresh(
         alloc: Global,
@@ -35,7 +42,9 @@ pub(crate) trait Fresh: Drop {
         book: BookSeat,
     ) -> Result<Self, AllocError>
         requires seat { IsFreshSeat table seats seat }
-        requires book { IsNewBook tally book };
+        requires book { IsNewBook tally book }
+        requires rules { rules ≡ keeps_to }
+        requires name { slice_get names book.account ≡ Some name };
 }
 
 /// An account under its lock. It is padded: a lock's word is written by each thread that wants the account, and no word of an account
@@ -51,6 +60,10 @@ impl<'t, R: Wait, K: PoolIds> Fresh for LockedSlot<'t, R, K> {
     ghost seats = { K.seats };
 
     ghost tally = { K.tally };
+
+    ghost keeps_to = { K.rules };
+
+    ghost names = { K.names };
 
     fn fresh(
         alloc: Global,

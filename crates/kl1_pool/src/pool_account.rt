@@ -1,6 +1,6 @@
 // An account with its book.
 
-ghost use Rattle.std.specs.Prelude.{◌≡◌, ◌<◌, ◌≤◌, ◌^◌, ◌&&◌, ◌||◌, [], IfOk, IsOk, IsTrue, OnErr, false, not, option_map};
+ghost use Rattle.std.specs.Prelude.{◌≡◌, ◌<◌, ◌≤◌, ◌^◌, ◌&&◌, ◌||◌, [], Some, slice_get, IfOk, IsOk, IsTrue, OnErr, false, not, option_map};
 ghost use Rattle.kl1_model.specs.Event.{reduce as reduce_event, refused, journal_full};
 ghost use Rattle.kl1_model.specs.Choice.{first, quiet};
 ghost use Rattle.kl1_model_server.specs.Journal.{done};
@@ -42,7 +42,7 @@ pub struct PoolAccount<'t, R: Wait, K: PoolIds> {
 }
 
 impl<'t, R: Wait, K: PoolIds> Model for PoolAccount<'t, R, K> {
-    ghost use Rattle.std.specs.Prelude.{◌≡◌, ◌<◌};
+    ghost use Rattle.std.specs.Prelude.{◌≡◌, ◌<◌, Some, slice_get};
     ghost use Rattle.std.specs.Coded.{codes};
     ghost use Rattle.kl1_tally.specs.declared.amounts.TheConstants.{MOST_ACCOUNTS};
     ghost use Rattle.kl1_atoms.specs.Seats.{face_in, IsSharedSeat};
@@ -57,7 +57,7 @@ impl<'t, R: Wait, K: PoolIds> Model for PoolAccount<'t, R, K> {
 
     ghost view = { λ c. record { held = c.kept.1; book = c.book; past = c.past; is_out = c.is_out } };
 
-    ghost invariant = { λ c. IsSharedSeat K.table c.kept.0.badge.table_id K.seats (face_in c.kept.0.badge.views) c.kept.0.account × ArePlaced (StandsIn K.codes) c.kept.1.0.modules × (c.book.tally ≡ K.tally) × (c.book.account < MOST_ACCOUNTS) × IsCounted c.past c.kept.1.1 c.book };
+    ghost invariant = { λ c. IsSharedSeat K.table c.kept.0.badge.table_id K.seats (face_in c.kept.0.badge.views) c.kept.0.account × ArePlaced (StandsIn K.codes) c.kept.1.0.modules × (c.book.tally ≡ K.tally) × (c.book.account < MOST_ACCOUNTS) × IsCounted c.past c.kept.1.1 c.book × (c.kept.1.0.rules ≡ K.rules) × (slice_get K.names c.book.account ≡ Some c.kept.1.0.own_name) };
 }
 
 impl<'t, R: Wait, K: PoolIds> PoolAccount<'t, R, K> {
@@ -70,6 +70,8 @@ impl<'t, R: Wait, K: PoolIds> PoolAccount<'t, R, K> {
         requires modules { ArePlaced (StandsIn K.codes) kept.1.0.modules }
         requires entries { kept.1.1.entries ≡ [] }
         requires book { IsNewBook K.tally book }
+        requires rules { kept.1.0.rules ≡ K.rules }
+        requires name { slice_get K.names book.account ≡ Some kept.1.0.own_name }
         ensures held { result.held ≡ kept.entry.1 }
         ensures book { result.book ≡ book }
         ensures past { result.past ≡ no_past }
@@ -149,11 +151,14 @@ impl<'t, R: Wait, K: PoolIds> PoolAccount<'t, R, K> {
     }
 
     /// Tells a caller's proof what the type keeps: the account is the replay of its journal for each reading of its names, there is
-    /// such a reading, and the book tells what was counted before the last reset and the entries of the journal. It does nothing.
+    /// such a reading; the book tells what was counted before the last reset and the entries of the journal; and the rules and the
+    /// name are those that K names. It does nothing.
     pub fn shows_counts(&self)
         ensures kept { IsKept self.now.held }
         ensures names { AreNames self.now.held.0.names }
         ensures counted { IsCounted self.now.past self.now.held.1 self.now.book }
+        ensures rules { self.now.held.0.rules ≡ K.rules }
+        ensures name { slice_get K.names self.now.book.account ≡ Some self.now.held.0.own_name }
     {
         self.kept.shows_replay();
     }

@@ -17,6 +17,8 @@ impl<'p, 't, R: Wait, K: PoolIds> CommandHandler for PoolHandler<'p, 't, R, K> {
     ghost accounts = { λ counter. K.accounts };
 
     fn act(&mut self, account: usize, command: &Command) -> Performed {
-        self.pool.act(self.rt, account, command, self.share)
+        self.pool
+            .act(self.rt, account, command, self.share)
+            .into_performed()
     }
 }
