@@ -3,3 +3,4 @@ pub mod Tells
 pub mod PoolAccounts
 pub mod Grows
 pub mod Naming
+pub mod Answering

@@ -45,15 +45,27 @@ impl<'a, 's, 'p, 'm, 't, R: Wait, K: PoolIds> Host for AccountHost<'a, 's, 'p, '
     fn apply(&mut self, event: &Event) -> Result<Reply, AllocError> {
         let mut names = self.tables.atoms();
         let mut codes = self.tables.source();
-        self.account
-            .apply(self.common.tally(), &mut names, &mut codes, self.share, event)
+        let tally = self.common.tally();
+        match self
+            .account
+            .apply(tally, &mut names, &mut codes, self.share, event)
+        {
+            Ok(reply) => Ok(reply),
+            Err(error) => Err(error),
+        }
     }
 
     fn reduce(&mut self, goal: GoalNo, clause: ClauseNo) -> Result<Option<Refusal>, AllocError> {
         let mut names = self.tables.atoms();
         let codes = self.tables.source();
-        self.account
-            .reduce(self.common.tally(), &mut names, &codes, self.share, goal, clause)
+        let tally = self.common.tally();
+        match self
+            .account
+            .reduce(tally, &mut names, &codes, self.share, goal, clause)
+        {
+            Ok(refused) => Ok(refused),
+            Err(error) => Err(error),
+        }
     }
 
     fn journal(&self, from: u64, count: u64) -> Result<Listed, AllocError> {

@@ -1,6 +1,6 @@
 // Commands to an account of a pool, and the answers to them.
 
-ghost use Rattle.std.specs.Prelude.{◌≡◌, ◌≢◌, Some};
+ghost use Rattle.std.specs.Prelude.{◌≡◌, ◌≢◌, Some, slice_get};
 ghost use Rattle.kl1_command.specs.Commands.{command_view};
 ghost use Rattle.kl1_command.specs.Performing.{IsUntouched};
 ghost use Rattle.kl1_command.specs.Told.{told_in, told_steps};
@@ -16,38 +16,43 @@ use crate::pool_ids::PoolIds;
 use crate::shared_tables::SharedTables;
 use kl1_command::{Command, Performed};
 use kl1_pool_tickets::{PoolShared, Share};
-use std::marker::Model;
+use std::marker::{Model, PhantomData};
 use std::snapshot::Snapshot;
 use std::sync::Wait;
 
-/// The answer to a command to an account of a pool. Nothing makes one but a command that was done, or an account that isn't the one
-/// that was asked for. Contracts see for which account and for which command it is.
+/// The answer to a command to an account of the pool that K names. Nothing makes one but a command that was done, or an account that
+/// isn't the one that was asked for. Contracts see for which account and for which command it is.
 #[derive(Drop)]
-pub struct Answer {
+pub struct Answer<K: PoolIds> {
     performed: Performed,
     account: Snapshot<usize>,
     command: Snapshot<Command>,
+    of: PhantomData<K>,
 }
 
-impl Model for Answer {
+impl<K: PoolIds> Model for Answer<K> {
+    ghost use Rattle.std.specs.Prelude.{slice_get};
     ghost use Rattle.std.specs.Coded.{codes};
+    ghost use Rattle.kl1_model.specs.code.TermCode.{term_code};
     ghost use Rattle.kl1_command.specs.Commands.{command_view};
     ghost use Rattle.kl1_pool.specs.Answers.{AnswerValue, IsGiven};
 
     ghost Value = { AnswerValue };
 
+    ghost coded = { Prim.hlevel (codes, term_code) };
+
     ghost view = { λ a. record { account = a.account.value; command = command_view a.command.value; performed = a.performed } };
 
-    ghost invariant = { λ a. IsGiven (command_view a.command.value) a.performed };
+    ghost invariant = { λ a. IsGiven K.rules (slice_get K.names a.account.value) (command_view a.command.value) a.performed };
 }
 
-impl Answer {
+impl<K: PoolIds> Answer<K> {
     /// The answer if the account of another number was found in the place of the one that was asked for. Nothing is done.
-    pub(crate) fn misplaced<'t, R: Wait, K: PoolIds>(
+    pub(crate) fn misplaced<'t, R: Wait>(
         found: &PoolAccount<'t, R, K>,
         account: usize,
         command: &Command,
-    ) -> Answer
+    ) -> Answer<K>
         requires { found.now.book.account ≢ account }
         ensures account { result.account ≡ account }
         ensures command { result.command ≡ command_view command.now }
@@ -58,12 +63,14 @@ impl Answer {
             performed: Performed::Memory,
             account: Snapshot::of(&account),
             command: Snapshot::of(command),
+            of: PhantomData,
         }
     }
 
-    /// Tells a caller's proof that some account gives this answer to this command. It does nothing.
+    /// Tells a caller's proof that some account of the rules and of the name that K names gives this answer to this command, unless
+    /// memory was refused. It does nothing.
     pub fn shows_given(&self)
-        ensures { IsGiven self.now.command self.now.performed }
+        ensures { IsGiven K.rules (slice_get K.names self.now.account) self.now.command self.now.performed }
     {
         let _performed = &self.performed;
     }
@@ -83,6 +90,7 @@ impl Answer {
             performed,
             account: _,
             command: _,
+            of: _,
         } = self;
         performed
     }
@@ -99,7 +107,7 @@ impl<'t, R: Wait, K: PoolIds> PoolAccount<'t, R, K> {
         tables: &SharedTables<'t, R, K>,
         share: &mut Share<K>,
         command: &Command,
-    ) -> Answer
+    ) -> Answer<K>
         ensures does { (f : Reading) → Fits self.new.held.0.names f → PerformsWithin (Some (room_in self.old.book)) (kept_of f self.old.held) (command_view command.now) result.performed (kept_of f self.new.held) }
         ensures memory { IsUntouched result.performed self.old self.new × IsUntouched result.performed share.old share.new }
         ensures counted { HasCounted self.old share.old (told_in result.performed) self.new share.new }
@@ -109,13 +117,16 @@ impl<'t, R: Wait, K: PoolIds> PoolAccount<'t, R, K> {
         ensures before { (f : Reading) → Fits self.new.held.0.names f → Fits self.old.held.0.names f }
     {
         let account = self.account();
+        // This and the next one are called for the facts that they prove: the account that answers is the replay of its journal, and some
+        // reading fits the names.
+        self.shows_counts();
         let performed = self.performed(common, tables, share, command);
-        // For a reading of the names, by which the account gives the answer.
         self.shows_counts();
         Answer {
             performed,
             account: Snapshot::of(&account),
             command: Snapshot::of(command),
+            of: PhantomData,
         }
     }
 

@@ -6,7 +6,6 @@ ghost use Rattle.kl1_pool_tickets.specs.Counts.{Moved, Acts, new_counts};
 ghost use Rattle.kl1_pool_tickets.specs.declared.serving.TheConstants.{MOST_STEPS};
 ghost use Rattle.kl1_command.specs.Commands.{command_view};
 ghost use Rattle.kl1_command.specs.Told.{events_told, steps_told};
-ghost use Rattle.kl1_pool.specs.Answers.{AnswerValue};
 
 use crate::answer::Answer;
 use crate::gate::Gate;
@@ -94,7 +93,7 @@ impl<'t, R: Wait, K: PoolIds> Pool<'t, R, K> {
         account: usize,
         command: &Command,
         share: &mut Share<K>,
-    ) -> (Answer, bool)
+    ) -> (Answer<K>, bool)
         requires within { account < K.accounts }
         ensures counted { Moved account (events_told result.0.performed) (steps_told result.0.performed) 0 0 share.old share.new }
         ensures account { result.0.account ≡ account }
@@ -119,7 +118,7 @@ impl<'t, R: Wait, K: PoolIds> Pool<'t, R, K> {
         account: usize,
         command: &Command,
         share: &mut Share<K>,
-    ) -> Answer
+    ) -> Answer<K>
         requires within { account < K.accounts }
         ensures counted { Acts account (events_told result.performed) (steps_told result.performed) share.old share.new }
         ensures account { result.account ≡ account }

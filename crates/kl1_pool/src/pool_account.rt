@@ -1,6 +1,6 @@
 // An account with its book.
 
-ghost use Rattle.std.specs.Prelude.{◌≡◌, ◌<◌, ◌≤◌, ◌^◌, ◌&&◌, ◌||◌, [], Some, slice_get, IfOk, IsOk, IsTrue, OnErr, false, not, option_map};
+ghost use Rattle.std.specs.Prelude.{◌≡◌, ◌<◌, ◌≤◌, ◌^◌, ◌&&◌, if◌then◌else◌, [], Some, slice_get, IfOk, IsOk, IsTrue, OnErr, true, false, not, option_map};
 ghost use Rattle.kl1_model.specs.Event.{reduce as reduce_event, refused, journal_full};
 ghost use Rattle.kl1_model.specs.Choice.{first, quiet};
 ghost use Rattle.kl1_model_server.specs.Journal.{done};
@@ -202,7 +202,7 @@ impl<'t, R: Wait, K: PoolIds> PoolAccount<'t, R, K> {
     /// out.
     pub fn wants_ticket(&mut self) -> bool
         ensures wants { (f : Reading) → Fits self.new.held.0.names f → result ≡ (not self.old.is_out && not (quiet (kept_of f self.new.held).state)) }
-        ensures new { self.new ≡ record self.old { is_out = self.old.is_out || result } }
+        ensures new { self.new ≡ record self.old { is_out = (if result then true else self.old.is_out) } }
     {
         if self.is_out || self.kept.quiet() {
             return false;
