@@ -1,5 +1,5 @@
 -- What becomes of the first goal that can step.
-use Rattle.std.proofs.Common.{◌≡◌, ℕ, suc, Bool, true, false, if◌then◌else◌, Option, Some, None, ap, sym, ◌∙◌, subst, refl}
+use Rattle.std.proofs.Common.{◌≡◌, ℕ, Bool, true, false, if◌then◌else◌, Option, Some, None, ap, sym, ◌∙◌, subst, refl}
 use Rattle.kl1_model.specs.State.{State}
 use Rattle.kl1_model.specs.Event as model
 use Rattle.kl1_model.specs.Event.{reduce}

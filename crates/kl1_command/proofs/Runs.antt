@@ -1,8 +1,8 @@
 -- How runs go on after their first steps, and the answers to them.
-use Rattle.std.proofs.Common.{◌≡◌, ℕ, zero, suc, ◌+◌, ◌-◌, ◌<◌, ap, sym, ◌∙◌, subst, arith}
-use Rattle.std.specs.Prelude.{Some, None}
+use Rattle.std.proofs.Common.{◌≡◌, ℕ, suc, ◌+◌, ◌-◌, ◌<◌, ap, sym, ◌∙◌, subst, arith}
+use Rattle.std.specs.Prelude.{None}
 use Rattle.kl1_model.specs.Event as model
-use Rattle.kl1_model.specs.Choice.{Chosen, first}
+use Rattle.kl1_model.specs.Choice.{first}
 use Rattle.kl1_model_server.specs.Journal.{Kept}
 use Rattle.kl1_model_server.specs.Command.{run, Going, stopped_by, run_choice, run_from, act}
 use Rattle.kl1_user_events.specs.Views.{refusal_of}

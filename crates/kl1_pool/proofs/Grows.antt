@@ -1,5 +1,5 @@
 -- Books and shares that grow, and grow again.
-use Rattle.std.proofs.Common.{◌≡◌, ℕ, ◌+◌, ◌-◌, ◌^◌, Some, ap, sym, ◌∙◌, subst, refl, arith}
+use Rattle.std.proofs.Common.{◌≡◌, ℕ, ◌+◌, ◌-◌, ◌^◌, Some, ap, ◌∙◌, subst, refl, arith}
 use Rattle.kl1_tally.specs.Seats.{Book}
 use Rattle.kl1_pool_tickets.specs.Counts.{Counts, Moved}
 use Rattle.kl1_pool_tickets.proofs.Counting.{moved_moved, not_moved}

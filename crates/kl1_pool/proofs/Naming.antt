@@ -1,5 +1,5 @@
 -- Which names accounts have, by the numbers of their books.
-use Rattle.std.proofs.Common.{◌≡◌, ℕ, suc, ◌+◌, List, [], ◌∷◌, ◌++◌, map, length, slice_get, Some, refl, ap, sym, ◌∙◌, subst, arith}
+use Rattle.std.proofs.Common.{◌≡◌, ℕ, ◌+◌, List, [], ◌∷◌, ◌++◌, map, length, slice_get, Some, refl, ap, sym, ◌∙◌, subst}
 use Rattle.std.proofs.lemmas.List.{append_assoc, length_push, map_push, same_from_push}
 use Rattle.atomic_table.specs.Seated.{TableId}
 use Rattle.kl1_tally.specs.Numbers.{up_from}

@@ -1,7 +1,5 @@
 // An account of a pool as what commands are done to.
 
-ghost use Rattle.std.specs.Prelude.{◌≡◌};
-
 use crate::pool_account::PoolAccount;
 use crate::pool_ids::PoolIds;
 use crate::shared_tables::SharedTables;

@@ -50,7 +50,11 @@ fn shown_in(alloc: Global, reply: Reply) -> Vec<u8>
 }
 
 /// A shoen's goal as started, with what is bound now, as a reply shows it.
-fn shown_text<H: UnbookedHost>(alloc: Global, host: &mut H, shoen: ShoenNo) -> Result<Vec<u8>, AllocError>
+fn shown_text<H: UnbookedHost>(
+    alloc: Global,
+    host: &mut H,
+    shoen: ShoenNo,
+) -> Result<Vec<u8>, AllocError>
     ensures text { IfOk result (λ text. (f : H.Reading) → H.fits host.new f → text.items ≡ shown_text (H.kept f host.new).state shoen.0) }
     ensures same { (f : H.Reading) → H.fits host.new f → H.kept f host.new ≡ H.kept f host.old }
     ensures before { (f : H.Reading) → H.fits host.new f → H.fits host.old f }
@@ -149,7 +153,11 @@ fn ending_in(is_quiet: bool, raised: bool, reply: &Reply) -> Ending
 }
 
 /// How a shoen stands, by whether there were exceptions.
-fn ending_of<H: UnbookedHost>(host: &mut H, shoen: ShoenNo, raised: bool) -> Result<Ending, AllocError>
+fn ending_of<H: UnbookedHost>(
+    host: &mut H,
+    shoen: ShoenNo,
+    raised: bool,
+) -> Result<Ending, AllocError>
     ensures ending { IfOk result (λ ending. (f : H.Reading) → H.fits host.new f → ending ≡ ending_of (H.kept f host.new).state shoen.0 raised) }
     ensures same { (f : H.Reading) → H.fits host.new f → H.kept f host.new ≡ H.kept f host.old }
     ensures before { (f : H.Reading) → H.fits host.new f → H.fits host.old f }

@@ -36,7 +36,11 @@ pub(crate) fn refusal_in(reply: &Reply) -> Option<Refusal>
 }
 
 /// Loads a source, or answers why it is refused.
-fn load<H: UnbookedHost>(alloc: Global, host: &mut H, text: &[u8]) -> Result<Option<Refusal>, AllocError>
+fn load<H: UnbookedHost>(
+    alloc: Global,
+    host: &mut H,
+    text: &[u8],
+) -> Result<Option<Refusal>, AllocError>
     ensures kept { IfOk result (λ refused. (f : H.Reading) → H.fits host.new f → (done (H.kept f host.old) (model.load text.now)).kept ≡ H.kept f host.new) }
     ensures refused { IfOk result (λ refused. (f : H.Reading) → H.fits host.new f → refusal_in (done (H.kept f host.old) (model.load text.now)).reply ≡ option_map refusal_of refused) }
     ensures before { (f : H.Reading) → H.fits host.new f → H.fits host.old f }

@@ -37,7 +37,11 @@ fn opened_in(reply: &Reply) -> Option<ShoenNo>
 }
 
 /// Starts a goal with an allowance and all priorities, and answers the number of its shoen.
-pub(crate) fn start<H: UnbookedHost>(host: &mut H, goal: Term, allowance: u64) -> Result<ShoenNo, Stop>
+pub(crate) fn start<H: UnbookedHost>(
+    host: &mut H,
+    goal: Term,
+    allowance: u64,
+) -> Result<ShoenNo, Stop>
     ensures does { (f : H.Reading) → H.fits host.new f → IsStarted (done (H.kept f host.old) (model.start allowance 0 MOST_PRIORITY goal)) result (H.kept f host.new) }
     ensures before { (f : H.Reading) → H.fits host.new f → H.fits host.old f }
     ensures beside { H.beside host.new ≡ H.beside host.old }
