@@ -23,4 +23,4 @@ StandsIn codes p = p.0 ≡ id_at codes.buckets p.1
 pub record HasCounted (old : PoolAccountValue) (share : Counts) (told : Told) (new : PoolAccountValue) (after : Counts) : Type 0 where
   pub book : new.book ≡ with_more old.book told.events told.steps
   pub past : new.past ≡ past_after told.is_reset old.past old.held.1
-  pub share : Moved old.book.account told.events told.steps 0 0 share after
+  pub moved : Moved old.book.account told.events told.steps 0 0 share after

@@ -9,14 +9,15 @@ use kl1_user_events::{ClauseNo, Event, GoalNo, Listed, Refusal, Reply};
 use std::alloc::AllocError;
 use std::sync::Wait;
 
-/// An account with what is lent to it: the share in which its events are counted, what the threads of the pool share, and the tables
-/// of names and codes.
+/// An account with what is lent to it: the share in which its events are counted, what the threads of the pool share, the tables of
+/// names and codes, and the handle by which codes are put in.
 #[derive(Drop)]
 pub(crate) struct AccountHost<'a, 's, 'p, 'm, 't, R: Wait, K: PoolIds> {
     pub(crate) account: &'a mut PoolAccount<'t, R, K>,
     pub(crate) share: &'s mut Share<K>,
     pub(crate) common: &'p PoolShared<K>,
-    pub(crate) tables: &'m SharedTables<'t, R, K>,
+    pub(crate) tables: &'m SharedTables<'t, K>,
+    pub(crate) rt: &'t R,
 }
 
 impl<'a, 's, 'p, 'm, 't, R: Wait, K: PoolIds> Host for AccountHost<'a, 's, 'p, 'm, 't, R, K> {
@@ -24,7 +25,7 @@ impl<'a, 's, 'p, 'm, 't, R: Wait, K: PoolIds> Host for AccountHost<'a, 's, 'p, '
     ghost use Rattle.kl1_journal.specs.Keeping.{Reading as NameReading, Fits, kept_of};
     ghost use Rattle.kl1_pool.specs.Counted.{room_in};
     ghost use Rattle.kl1_pool.specs.PoolAccounts.{HasCounted};
-    ghost use Rattle.kl1_pool.proofs.Grows.{counted_none, counted_more, counted_room};
+    ghost use Rattle.kl1_pool.specs.Growing.{counted_none, counted_more, counted_room};
 
     ghost Reading = { NameReading };
 
@@ -42,7 +43,7 @@ impl<'a, 's, 'p, 'm, 't, R: Wait, K: PoolIds> Host for AccountHost<'a, 's, 'p, '
 
     fn apply(&mut self, event: &Event) -> Result<Reply, AllocError> {
         let mut names = self.tables.atoms();
-        let mut codes = self.tables.source();
+        let mut codes = self.tables.source(self.rt);
         let tally = self.common.tally();
         match self
             .account
@@ -55,7 +56,7 @@ impl<'a, 's, 'p, 'm, 't, R: Wait, K: PoolIds> Host for AccountHost<'a, 's, 'p, '
 
     fn reduce(&mut self, goal: GoalNo, clause: ClauseNo) -> Result<Option<Refusal>, AllocError> {
         let mut names = self.tables.atoms();
-        let codes = self.tables.source();
+        let codes = self.tables.source(self.rt);
         let tally = self.common.tally();
         match self
             .account

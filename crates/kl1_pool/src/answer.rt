@@ -103,8 +103,9 @@ impl<'t, R: Wait, K: PoolIds> PoolAccount<'t, R, K> {
     /// the next step was refused by a full journal, and so is what would be an entry.
     pub fn perform(
         &mut self,
+        rt: &'t R,
         common: &PoolShared<K>,
-        tables: &SharedTables<'t, R, K>,
+        tables: &SharedTables<'t, K>,
         share: &mut Share<K>,
         command: &Command,
     ) -> Answer<K>
@@ -120,7 +121,7 @@ impl<'t, R: Wait, K: PoolIds> PoolAccount<'t, R, K> {
         // This and the next one are called for the facts that they prove: the account that answers is the replay of its journal, and some
         // reading fits the names.
         self.shows_counts();
-        let performed = self.performed(common, tables, share, command);
+        let performed = self.performed(rt, common, tables, share, command);
         self.shows_counts();
         Answer {
             performed,
@@ -133,8 +134,9 @@ impl<'t, R: Wait, K: PoolIds> PoolAccount<'t, R, K> {
     /// What became of a command that was done.
     fn performed(
         &mut self,
+        rt: &'t R,
         common: &PoolShared<K>,
-        tables: &SharedTables<'t, R, K>,
+        tables: &SharedTables<'t, K>,
         share: &mut Share<K>,
         command: &Command,
     ) -> Performed
@@ -149,6 +151,7 @@ impl<'t, R: Wait, K: PoolIds> PoolAccount<'t, R, K> {
             share,
             common,
             tables,
+            rt,
         };
         kl1_command::perform(&mut host, command)
     }

@@ -18,6 +18,7 @@ pub fn gather<'t, R: Wait, K: PoolIds, W: Wait>(
     ensures { Gathered shares.items result }
 {
     let Pool {
+        rt: _,
         tables: _,
         common,
         places,

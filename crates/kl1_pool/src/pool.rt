@@ -24,7 +24,8 @@ use std::sync::{Mutex, Wait};
 /// them and go on with them. All of it is what K names.
 #[derive(Drop)]
 pub struct Pool<'t, R: Wait, K: PoolIds> {
-    pub(crate) tables: SharedTables<'t, R, K>,
+    pub(crate) rt: &'t R,
+    pub(crate) tables: SharedTables<'t, K>,
     pub(crate) common: PoolShared<K>,
     pub(crate) places: Vec<Mutex<LockedSlot<'t, R, K>>>,
     pub ghost counted: { vec_len places ≡ K.accounts },
@@ -64,13 +65,13 @@ impl<'t, R: Wait, K: PoolIds> Pool<'t, R, K> {
         } = tickets.open::<K>(alloc)?;
         let places = places_of::<LockedSlot<'t, R, K>>(alloc, accounts, rules, seats, books)?;
         let tables = SharedTables {
-            rt,
             names: table,
             codes: code_table,
             of: PhantomData,
         };
         Ok((
             Pool {
+                rt,
                 tables,
                 common,
                 places,
@@ -105,7 +106,7 @@ impl<'t, R: Wait, K: PoolIds> Pool<'t, R, K> {
         if found.account() != account {
             return (Answer::misplaced(found, account, command), false);
         }
-        let answer = found.perform(&self.common, &self.tables, share, command);
+        let answer = found.perform(self.rt, &self.common, &self.tables, share, command);
         let wants = found.wants_ticket();
         (answer, wants)
     }
@@ -171,7 +172,7 @@ impl<'t, R: Wait, K: PoolIds> Pool<'t, R, K> {
             return NO_TURN;
         }
         gate.enter(number);
-        let turn = found.turn(&self.common, &self.tables, share);
+        let turn = found.turn(self.rt, &self.common, &self.tables, share);
         gate.leave(number);
         if !turn.again {
             found.clear_ticket();
@@ -186,6 +187,7 @@ impl<'t, R: Wait, K: PoolIds> Pool<'t, R, K> {
     /// are made.
     pub fn discard(self) {
         let Pool {
+            rt: _,
             tables: _,
             common: _,
             places,

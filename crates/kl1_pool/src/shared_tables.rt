@@ -9,10 +9,9 @@ use kl1_codes::{CodeTable, SharedCodes};
 use std::marker::PhantomData;
 use std::sync::Wait;
 
-/// The table of names and the table of codes that K names, lent, with the handle by which codes are put in.
+/// The table of names and the table of codes that K names, lent.
 #[derive(Drop)]
-pub struct SharedTables<'t, R: Wait, K: PoolIds> {
-    pub(crate) rt: &'t R,
+pub struct SharedTables<'t, K: PoolIds> {
     pub(crate) names: &'t AtomTable,
     pub(crate) codes: &'t CodeTable,
     pub(crate) of: PhantomData<K>,
@@ -21,7 +20,7 @@ pub struct SharedTables<'t, R: Wait, K: PoolIds> {
     pub ghost coded: { codes.now ≡ K.codes },
 }
 
-impl<'t, R: Wait, K: PoolIds> SharedTables<'t, R, K> {
+impl<'t, K: PoolIds> SharedTables<'t, K> {
     /// The table of names.
     pub(crate) fn atoms(&self) -> NamedAtoms<'t, K> {
         NamedAtoms {
@@ -30,13 +29,13 @@ impl<'t, R: Wait, K: PoolIds> SharedTables<'t, R, K> {
         }
     }
 
-    /// The table of codes.
-    pub(crate) fn source(&self) -> SharedCodes<'t, R>
+    /// The table of codes, with the handle by which codes are put in.
+    pub(crate) fn source<R: Wait>(&self, rt: &'t R) -> SharedCodes<'t, R>
         ensures { result.table.now ≡ K.codes }
     {
         SharedCodes {
             table: self.codes,
-            rt: self.rt,
+            rt,
         }
     }
 }

@@ -30,8 +30,9 @@ impl<'t, R: Wait, K: PoolIds> PoolAccount<'t, R, K> {
     /// in the book and in `share`. No more are done than the book can tell.
     pub fn turn(
         &mut self,
+        rt: &'t R,
         common: &PoolShared<K>,
-        tables: &SharedTables<'t, R, K>,
+        tables: &SharedTables<'t, K>,
         share: &mut Share<K>,
     ) -> Turn
         ensures few { result.steps.done ≤ MOST_STEPS }
@@ -43,7 +44,7 @@ impl<'t, R: Wait, K: PoolIds> PoolAccount<'t, R, K> {
         ensures before { (f : Reading) → Fits self.new.held.0.names f → Fits self.old.held.0.names f }
     {
         let most = MOST_STEPS.min(self.room());
-        let steps = self.first_steps(common, tables, share, most);
+        let steps = self.first_steps(rt, common, tables, share, most);
         let again = steps.done == MOST_STEPS && !self.quiet();
         Turn { steps, again }
     }
@@ -51,8 +52,9 @@ impl<'t, R: Wait, K: PoolIds> PoolAccount<'t, R, K> {
     /// First steps until `most` are done, none can step, or one is refused.
     fn first_steps(
         &mut self,
+        rt: &'t R,
         common: &PoolShared<K>,
-        tables: &SharedTables<'t, R, K>,
+        tables: &SharedTables<'t, K>,
         share: &mut Share<K>,
         most: u64,
     ) -> Steps
@@ -69,6 +71,7 @@ impl<'t, R: Wait, K: PoolIds> PoolAccount<'t, R, K> {
             share,
             common,
             tables,
+            rt,
         };
         run_steps(&mut host, most)
     }

@@ -1,4 +1,4 @@
--- Books and shares that grow, and grow again.
+-- What is counted in books and shares grows, and grows again.
 use Rattle.std.proofs.Common.{◌≡◌, ℕ, ◌+◌, ◌-◌, ◌^◌, Some, ap, ◌∙◌, subst, refl, arith}
 use Rattle.kl1_tally.specs.Seats.{Book}
 use Rattle.kl1_pool_tickets.specs.Counts.{Counts, Moved}
@@ -32,14 +32,14 @@ not_grown a =
 
 -- nothing is counted at once
 pub counted_none : (a : PoolAccountValue) (s : Counts) → HasCounted a s (told_steps 0) a s
-counted_none a s = record { book = not_grown a.book; past = refl; share = not_moved a.book.account s }
+counted_none a s = record { book = not_grown a.book; past = refl; moved = not_moved a.book.account s }
 
 -- steps and then more steps are counted as all of them
 pub counted_more : (a b c : PoolAccountValue) (x y z : Counts) (n m : ℕ) → HasCounted a x (told_steps n) b y → HasCounted b y (told_steps m) c z → HasCounted a x (told_steps (n + m)) c z
 counted_more a b c x y z n m first then = record {
   book = grown_on a.book b.book c.book n m (n + m) first.book then.book refl;
   past = then.past ∙ first.past;
-  share = counted_on a.book.account b.book.account n m (n + m) x y z first.share then.share (ap (λ (k : Book). k.account) first.book) refl;
+  moved = counted_on a.book.account b.book.account n m (n + m) x y z first.moved then.moved (ap (λ (k : Book). k.account) first.book) refl;
 }
 
 -- each event that is counted takes room
