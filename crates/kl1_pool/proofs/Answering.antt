@@ -29,4 +29,4 @@ pub given : (rules : Rules) (name : Option (List ℕ)) (room : ℕ) (old new : H
 given rules name room old new c p kept keeps called names before does =
     let f = reading_of new.0.names in
     let fits = reading_fits new.0.names names in
-    by_some rules name c p (room, kept_of f old, kept_of f new, record { replay = kept.replay f (before f fits); keeps_to = keeps; called = called }, does f fits)
+    by_some rules name c p (room, kept_of f old, kept_of f new, record { replay = (kept.replay f (before f fits)).is; keeps_to = keeps; called = called }, does f fits)
