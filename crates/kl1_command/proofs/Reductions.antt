@@ -1,18 +1,17 @@
 -- What becomes of the first goal that can step.
-use Rattle.std.proofs.Common.{◌≡◌, ℕ, suc, ◌&&◌, nat_lt, Bool, true, false, if◌then◌else◌, Option, Some, None, ap, sym, ◌∙◌, refl}
+use Rattle.std.proofs.Common.{◌≡◌, ℕ, Bool, true, false, if◌then◌else◌, Option, Some, None, ap, sym, ◌∙◌, subst, refl}
 use Rattle.kl1_model.specs.State.{State}
 use Rattle.kl1_model.specs.Event as model
 use Rattle.kl1_model.specs.Event.{reduce}
 use Rattle.kl1_model.specs.Step.{step}
 use Rattle.kl1_model.specs.laws.TreeLaws.{is_refused}
 use Rattle.kl1_model.proofs.TreeSteps.{refusals_change_nothing}
-use Rattle.kl1_model_server.specs.Journal.{Journal, with_event, Kept, done}
+use Rattle.kl1_model_server.specs.Journal.{Journal, with_event, Kept, Done, done}
 use Rattle.kl1_model.specs.Choice.{Chosen, first}
 use Rattle.kl1_model_server.specs.Command.{Going, run_choice, run_on, stopped_by}
-use Rattle.kl1_user_events.specs.Views.{refusal_of}
-use Rattle.kl1_command.specs.declared.first_step.FirstStep.{FirstStep}
-use Rattle.kl1_command.specs.declared.first_step.FirstStep.TheVariants as first_step
-use Rattle.kl1_command.specs.Performing.{refusal_in, IsTold, IsFirstStep}
+use Rattle.kl1_user_events.specs.Views.{refusal_of, reduced_or}
+use Rattle.kl1_user_events.specs.declared.refusal.Refusal as refusal
+use Rattle.kl1_command.specs.Performing.{refusal_in}
 
 none_is : (X : Type 0) (r : model.Refusal) → None ≡ Some r → X
 none_is X r e = cc
@@ -44,44 +43,12 @@ refused_stays k e r is =
     ap (λ (s : State). let z : Kept = record { state = s; journal = (done k e).kept.journal } in z) (refusals_change_nothing k.state e refused)
     ∙ ap (λ (j : Journal). let z : Kept = record { state = k.state; journal = j } in z) (left_by k.journal e (step k.state e).state (is_refused (step k.state e).reply) refused)
 
-goes_by : (reply : model.Reply) (next : Going) (s after : Kept) (n : ℕ) → refusal_in reply ≡ None → run_on next s n after reply ≡ next (suc n) after
-goes_by (model.refused r) next s after n e = none_is _ r (sym e)
-goes_by (model.loaded name) next s after n e = refl
-goes_by (model.opened m) next s after n e = refl
-goes_by model.sent next s after n e = refl
-goes_by model.reduced next s after n e = refl
-goes_by (model.ran m) next s after n e = refl
-goes_by (model.shown text) next s after n e = refl
-goes_by (model.status_is c charged allowance alive) next s after n e = refl
-goes_by (model.listed texts) next s after n e = refl
-goes_by (model.quiet_is b) next s after n e = refl
-goes_by (model.welcome name) next s after n e = refl
-goes_by model.bye next s after n e = refl
-goes_by model.was_reset next s after n e = refl
+-- the reduction of the first goal was refused, for this reason
+refused_first : (s after : Kept) (c : Chosen) (r : model.Refusal) → Some c ≡ first s.state → done s (reduce c.goal c.clause) ≡ record { kept = after; reply = model.refused r } → ((next : Going) (n : ℕ) → run_choice next s n (first s.state) ≡ stopped_by s n r) × (after ≡ s)
+refused_first s after c r found is =
+    (λ next n. ap (run_choice next s n) (sym found) ∙ ap (λ (x : Done). run_on next s n x.kept x.reply) is, sym (ap (λ (x : Done). x.kept) is) ∙ refused_stays s (reduce c.goal c.clause) r (ap (λ (x : Done). refusal_in x.reply) is))
 
-stops_by : (reply : model.Reply) (next : Going) (s after : Kept) (n : ℕ) (r : model.Refusal) → refusal_in reply ≡ Some r → run_on next s n after reply ≡ stopped_by s n r
-stops_by (model.refused q) next s after n r e = ap (stopped_by s n) (let same : q ≡ r = cc in same)
-stops_by (model.loaded name) next s after n r e = none_is _ r e
-stops_by (model.opened m) next s after n r e = none_is _ r e
-stops_by model.sent next s after n r e = none_is _ r e
-stops_by model.reduced next s after n r e = none_is _ r e
-stops_by (model.ran m) next s after n r e = none_is _ r e
-stops_by (model.shown text) next s after n r e = none_is _ r e
-stops_by (model.status_is c charged allowance alive) next s after n r e = none_is _ r e
-stops_by (model.listed texts) next s after n r e = none_is _ r e
-stops_by (model.quiet_is b) next s after n r e = none_is _ r e
-stops_by (model.welcome name) next s after n r e = none_is _ r e
-stops_by model.bye next s after n r e = none_is _ r e
-stops_by model.was_reset next s after n r e = none_is _ r e
-
--- the first goal was reduced, or its reduction refused
-pub first_told : (s after : Kept) (reply : model.Reply) (c : Chosen) (told : FirstStep) → Some c ≡ first s.state → done s (reduce c.goal c.clause) ≡ record { kept = after; reply = reply } → IsTold reply told → IsFirstStep s told after
-first_told s after reply c first_step.Quiet found is t = absurd t
-first_told s after reply c first_step.Done found is t = λ next n. ap (run_choice next s n) (sym found) ∙ ap (λ x. run_on next s n x.kept x.reply) is ∙ goes_by reply next s after n t
-first_told s after reply c (first_step.Refused r) found is t =
-    (λ next n. ap (run_choice next s n) (sym found) ∙ ap (λ x. run_on next s n x.kept x.reply) is ∙ stops_by reply next s after n (refusal_of r) t, sym (ap (λ x. x.kept) is) ∙ refused_stays s (reduce c.goal c.clause) (refusal_of r) (ap (λ x. refusal_in x.reply) is ∙ t))
-first_told s after reply c first_step.Memory found is t = absurd t
-
--- there was no goal that can step
-pub none_first : (s after : Kept) → None ≡ first s.state → after ≡ s → IsFirstStep s first_step.Quiet after
-none_first s after none same = (sym none, same)
+-- so by what a reduction answers
+pub refused_as : (s after : Kept) (c : Chosen) (o : Option refusal.Refusal) (r : refusal.Refusal) → o ≡ Some r → Some c ≡ first s.state → done s (reduce c.goal c.clause) ≡ record { kept = after; reply = reduced_or o } → ((next : Going) (n : ℕ) → run_choice next s n (first s.state) ≡ stopped_by s n (refusal_of r)) × (after ≡ s)
+refused_as s after c o r e found is =
+    refused_first s after c (refusal_of r) found (subst (λ (x : Option refusal.Refusal). done s (reduce c.goal c.clause) ≡ record { kept = after; reply = reduced_or x }) e is)

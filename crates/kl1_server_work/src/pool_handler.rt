@@ -22,8 +22,10 @@ impl<'p, 't, R: Wait, K: PoolIds> CommandHandler for PoolHandler<'p, 't, R, K> {
     ghost done = { λ handler. done_in handler.history };
 
     fn act(&mut self, account: usize, command: &Command) -> Performed {
-        let performed = self.pool.act(self.rt, account, command, self.share);
-        self.history.add(account, command, &performed);
+        let answer = self.pool.act(self.rt, account, command, self.share);
+        // What is noted is what the answer says of itself, not what was asked for.
+        let (performed, done_to, done) = answer.into_parts();
+        self.history.add(done_to, done, &performed);
         performed
     }
 }

@@ -7,7 +7,7 @@ use Rattle.kl1_session.specs.declared.history.History.{History}
 
 -- the command that an entry has
 abbrev pub done_of : Entry → Done
-done_of e = record { account = e.account; command = command_view e.command.value; answer = e.performed.value }
+done_of e = record { account = e.account.value; command = command_view e.command.value; answer = e.performed.value }
 
 -- what was done, in order
 abbrev pub done_in : History → List Done

@@ -11,7 +11,7 @@ use std::snapshot::Snapshot;
 /// A command that was done to the account of this number, from 0, and what was answered.
 #[derive(Drop)]
 struct Entry {
-    account: usize,
+    account: Snapshot<usize>,
     command: Snapshot<Command>,
     performed: Snapshot<Performed>,
 }
@@ -73,14 +73,19 @@ impl History {
     }
 
     /// Takes in a command that was done to an account, and what was answered.
-    pub fn add(&mut self, account: usize, command: &Command, performed: &Performed)
-        ensures { done_in self.new ≡ done_in self.old ++ record { account = account; command = command_view command.now; answer = performed.now } ∷ [] }
+    pub fn add(
+        &mut self,
+        account: Snapshot<usize>,
+        command: Snapshot<Command>,
+        performed: &Performed,
+    )
+        ensures { done_in self.new ≡ done_in self.old ++ record { account = account.value; command = command_view command.value; answer = performed.now } ∷ [] }
     {
         let longer = Longer {
             before: Snapshot::of(&self.seen),
             entry: Entry {
                 account,
-                command: Snapshot::of(command),
+                command,
                 performed: Snapshot::of(performed),
             },
         };

@@ -18,7 +18,7 @@ ghost use Rattle.kl1_world.specs.Worlds.{account_in, events_of, AreOf, AreFresh,
 use crate::stopped::Stopped;
 use kl1_atoms::AtomSource;
 use kl1_codes::CodeSource;
-use kl1_command::{Command, Host, Performed, perform};
+use kl1_command::{Command, Host, Performed, UnbookedHost, perform};
 use kl1_journal::{AccountName, JournaledAccount, Rules};
 use kl1_user_events::{ClauseNo, Event, GoalNo, Listed, Refusal, Reply, ShoenNo};
 use std::alloc::{AllocError, Global};
@@ -222,7 +222,7 @@ impl<A: AtomSource + Drop, C: CodeSource + Drop> World<A, C> {
 }
 
 impl<A: AtomSource + Drop, C: CodeSource + Drop> Host for World<A, C> {
-    ghost use Rattle.std.specs.Prelude.{List, ℕ};
+    ghost use Rattle.std.specs.Prelude.{List, ℕ, None, refl};
     ghost use Rattle.kl1_journal.specs.Keeping.{Reading as NameReading, Fits};
     ghost use Rattle.kl1_journal.specs.Keeping.{Held, kept_of};
     ghost use Rattle.kl1_world.specs.Worlds.{account_in, all_but};
@@ -237,16 +237,16 @@ impl<A: AtomSource + Drop, C: CodeSource + Drop> Host for World<A, C> {
 
     ghost beside = { λ w. (all_but w.1 w.0, w.1) };
 
+    ghost room = { λ w. None };
+
+    ghost counted = { λ before told after. Unit {0} };
+
     fn apply(&mut self, event: &Event) -> Result<Reply, AllocError> {
         self.apply_at(self.at, event)
     }
 
     fn reduce(&mut self, goal: GoalNo, clause: ClauseNo) -> Result<Option<Refusal>, AllocError> {
         self.reduce_at(self.at, goal, clause)
-    }
-
-    fn whole_value(&mut self, shoen: ShoenNo) -> Result<Option<Vec<u8>>, AllocError> {
-        self.whole_value_at(self.at, shoen)
     }
 
     fn journal(&self, from: u64, count: u64) -> Result<Listed, AllocError> {
@@ -256,4 +256,24 @@ impl<A: AtomSource + Drop, C: CodeSource + Drop> Host for World<A, C> {
     fn pick(&self) -> Option<(GoalNo, ClauseNo)> {
         self.pick_at(self.at)
     }
+
+    fn room(&self) -> Option<u64> {
+        None
+    }
+
+    ghost none_counted = { λ w. tt };
+
+    ghost counted_on = { λ a b c n m first then. tt };
+
+    ghost room_left = { λ a b told counted. refl };
+}
+
+impl<A: AtomSource + Drop, C: CodeSource + Drop> UnbookedHost for World<A, C> {
+    ghost use Rattle.std.specs.Prelude.{refl};
+
+    fn whole_value(&mut self, shoen: ShoenNo) -> Result<Option<Vec<u8>>, AllocError> {
+        self.whole_value_at(self.at, shoen)
+    }
+
+    ghost unbooked = { λ w. refl };
 }

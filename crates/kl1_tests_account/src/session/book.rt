@@ -7,6 +7,7 @@ use kl1_command::{Command, Performed};
 use kl1_session::{CommandHandler, History};
 use kl1_text::AtomText;
 use kl1_user_events::{Event, Query, Refusal, Reply};
+use std::snapshot::Snapshot;
 
 /// Two accounts: bob, and alice. Each has room for one session; a run of 7 steps is cut short after 3, and for a run of 8 there is no
 /// memory; each other run does all its steps.
@@ -69,7 +70,8 @@ impl CommandHandler for Book {
 
     fn act(&mut self, account: usize, command: &Command) -> Performed {
         let performed = self.perform(account, command);
-        self.history.add(account, command, &performed);
+        let (done_to, done) = (Snapshot::of(&account), Snapshot::of(command));
+        self.history.add(done_to, done, &performed);
         performed
     }
 }

@@ -29,7 +29,8 @@ fn is_closed<'t, K: PoolIds, R: Wait>(rt: &R, pool: &Pool<'t, R, K>, share: &mut
     requires { 1 ≤ K.accounts }
 {
     matches!(
-        pool.act(rt, 0, &Command::Does(Event::Logout), share),
+        pool.act(rt, 0, &Command::Does(Event::Logout), share)
+            .into_performed(),
         Performed::Whole(Reply::Refused(Refusal::Sessions))
     )
 }
@@ -52,6 +53,7 @@ fn is_same_by<'t, K: PoolIds, R: Wait>(
     way: Way,
 ) -> Result<bool, AllocError>
     requires tables { (parts.table ≡ K.table) × (parts.seats ≡ K.seats) × (parts.codes ≡ K.codes) }
+    requires names { (parts.rules ≡ K.rules) × (parts.names ≡ K.names) }
     requires tickets { (parts.tally ≡ K.tally) × (parts.queue ≡ K.queue) × (parts.accounts ≡ K.accounts) × (parts.shares ≡ K.shares) }
     requires accounts { 1 ≤ parts.accounts }
 {
