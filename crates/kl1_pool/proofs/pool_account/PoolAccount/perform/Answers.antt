@@ -16,5 +16,5 @@ invariant_of-result g c =
     let account : old.book.account ≡ c.of.result.value = sym (c.of.ensures ∙ c.account-account.ensures) in
     let command : c.args.command.now ≡ c.of-2.result.value = sym c.of-2.ensures in
     let answers : IsGiven rules (slice_get names old.book.account) (command_view c.args.command.now) p =
-        given rules (slice_get names old.book.account) (room_in old.book) old.held c.performed-performed.new.self.held (command_view c.args.command.now) p c.shows_counts.ensures.kept c.shows_counts.ensures.rules c.shows_counts.ensures.name c.shows_counts-2.ensures.names c.performed-performed.ensures.before c.performed-performed.ensures.does in
+    given rules (slice_get names old.book.account) (room_in old.book) old.held c.performed-performed.new.self.held (command_view c.args.command.now) p c.shows_counts.ensures.kept c.shows_counts.ensures.rules c.shows_counts.ensures.name c.shows_counts-2.ensures.names c.performed-performed.ensures.before c.performed-performed.ensures.does in
     subst (λ (x : Command). IsGiven rules (slice_get names c.of.result.value) (command_view x) p) command (subst (λ (k : ℕ). IsGiven rules (slice_get names k) (command_view c.args.command.now) p) account answers)
