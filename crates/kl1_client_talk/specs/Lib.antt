@@ -1,2 +1,6 @@
-pub mod Replies
-pub mod Requests
+pub mod Request
+pub mod Reply
+pub mod UserCommand
+pub mod Streams
+pub mod Exchanges
+pub mod Conversation

@@ -1,7 +1,7 @@
-// The first lines of replies.
+// The first line of a reply.
 
 ghost use Rattle.std.specs.Prelude.{◌≡◌};
-ghost use Rattle.kl1_client_talk.specs.Replies.{count_in, has_ended, is_refusal};
+ghost use Rattle.kl1_client_talk.specs.Reply.{count_in, has_ended, is_refusal};
 
 use kl1_lines::{is_same, only_number, split_word};
 

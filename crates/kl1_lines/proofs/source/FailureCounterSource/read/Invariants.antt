@@ -1,6 +1,6 @@
 use Rattle.std.proofs.Common.{◌≡◌}
 use Rattle.std.specs.Io.KnownBytes.{Keeps}
-use Rattle.kl1_lines.proofs.source.CountedSource.read.Given as goal
+use Rattle.kl1_lines.proofs.source.FailureCounterSource.read.Given as goal
 
 -- interrupted reads gave nothing
 abbrev pub invariant-loop : goal.invariant-loop

@@ -1,6 +1,6 @@
 use Rattle.std.proofs.Common.{◌≡◌}
 use Rattle.std.specs.Io.KnownBytes.{Keeps}
-use Rattle.kl1_lines.proofs.sink.CountedSink.write.Given as goal
+use Rattle.kl1_lines.proofs.sink.FailureCounterSink.write.Given as goal
 
 -- interrupted writes took nothing
 abbrev pub invariant-loop : goal.invariant-loop

@@ -1,0 +1,234 @@
+// A whole talk.
+
+ghost use Rattle.std.specs.Prelude.{◌≡◌, ℕ, List, length, OnOk};
+ghost use Rattle.kl1_client_talk.specs.Exchanges.{wire, screen, ShowsLines, Says};
+ghost use Rattle.kl1_client_talk.specs.Conversation.{ShowsListing, AsksOne, AsksList, AsksPages, Waits, AsksWanted, most_of};
+ghost use Rattle.kl1_client_talk.specs.UserCommand.{wanted_of};
+ghost use Rattle.kl1_client_talk.specs.Request.{text_of};
+ghost use Rattle.kl1_model_server.specs.Command.{written_line};
+
+use crate::caller::Caller;
+use crate::connection::Connection;
+use crate::fault::Fault;
+use crate::reply::{count_in, has_ended, is_refusal};
+use crate::reply_writer::ReplyWriter;
+use crate::request::{Page, Request};
+use crate::summary::TalkSummary;
+use crate::user_command::{UserCommand, command_in};
+use kl1_lines::{Sink, Source, without_return};
+use kl1_model::limits::MOST_LISTED;
+use std::alloc::Global;
+
+/// Logs in to the account, asks for what the caller's commands ask for, one after another, shows their replies, and logs out. The
+/// reply to the login is shown if it is a refusal, and then nothing else is asked for.
+pub fn talk<S: Source, T: Sink, O: Sink, C: Caller>(
+    alloc: Global,
+    connection: &mut Connection<S, T>,
+    shown: &mut ReplyWriter<O>,
+    caller: &mut C,
+    name: &[u8],
+    key: &[u8],
+) -> Result<TalkSummary, Fault> {
+    connection.ask(Request::Login(name, key))?;
+    let mut lacked_file = false;
+    if connection.was_refused() {
+        shown.line(connection.line())?;
+        shown.flush()?;
+    } else {
+        lacked_file = ask_all(alloc, connection, shown, caller)?;
+    }
+    Ok(TalkSummary {
+        was_refused: connection.was_refused(),
+        lacked_file,
+    })
+}
+
+/// Asks for what the commands ask for, and logs out. Tells whether a file could not be loaded.
+fn ask_all<S: Source, T: Sink, O: Sink, C: Caller>(
+    alloc: Global,
+    connection: &mut Connection<S, T>,
+    shown: &mut ReplyWriter<O>,
+    caller: &mut C,
+) -> Result<bool, Fault> {
+    let mut line = Vec::new(alloc);
+    let mut source = Vec::new(alloc);
+    let mut lacked_file = false;
+    for _ in 0..u64::MAX {
+        if !caller.next(&mut line)? {
+            connection.ask(Request::Line(b"logout"))?;
+            return Ok(lacked_file);
+        }
+        let command = command_in(line.as_slice());
+        if let UserCommand::Load(name) = command {
+            if caller.file(name.trim_ascii(), &mut source)? {
+                connection.ask(Request::Load(source.as_slice()))?;
+                shown.line(connection.line())?;
+            } else {
+                lacked_file = true;
+            }
+        } else {
+            ask(
+                connection,
+                shown,
+                caller,
+                command,
+                without_return(line.as_slice()),
+            )?;
+        }
+        shown.flush()?;
+        if matches!(command, UserCommand::Logout) && connection.line().starts_with(b"+ bye") {
+            return Ok(lacked_file);
+        }
+    }
+    Ok(lacked_file)
+}
+
+/// Asks for what a line wants that is no load, and shows the reply.
+fn ask<S: Source, T: Sink, O: Sink, C: Caller>(
+    connection: &mut Connection<S, T>,
+    shown: &mut ReplyWriter<O>,
+    caller: &mut C,
+    command: UserCommand<'_>,
+    line: &[u8],
+) -> Result<(), Fault>
+    ensures ok { OnOk result (Says (wire T.contents S.remaining connection.old) (wire T.contents S.remaining connection.new) (screen O.contents shown.old) (screen O.contents shown.new) (AsksWanted shown.old.are_pages_joined line.now (wanted_of command.entry))) }
+    ensures joined { shown.new.are_pages_joined ≡ shown.old.are_pages_joined }
+{
+    match command {
+        UserCommand::Nothing => Ok(()),
+        UserCommand::Wait(shoen) => wait(connection, shown, caller, shoen),
+        UserCommand::Pages(page, from) => {
+            if shown.are_pages_joined() {
+                ask_pages(connection, shown, page, from)
+            } else {
+                ask_list(connection, shown, line)
+            }
+        }
+        UserCommand::List => ask_list(connection, shown, line),
+        UserCommand::Load(_) | UserCommand::Logout | UserCommand::OneLine => {
+            ask_one(connection, shown, Request::Line(line))
+        }
+    }
+}
+
+/// Makes a request whose reply is one line, and shows it.
+fn ask_one<S: Source, T: Sink, O: Sink>(
+    connection: &mut Connection<S, T>,
+    shown: &mut ReplyWriter<O>,
+    request: Request<'_>,
+) -> Result<(), Fault>
+    ensures ok { OnOk result (Says (wire T.contents S.remaining connection.old) (wire T.contents S.remaining connection.new) (screen O.contents shown.old) (screen O.contents shown.new) (AsksOne (text_of request.entry))) }
+    ensures joined { shown.new.are_pages_joined ≡ shown.old.are_pages_joined }
+{
+    connection.ask(request)?;
+    shown.line(connection.line())
+}
+
+/// Sends a line whose reply lists lines, if it is no refusal, and shows the reply.
+fn ask_list<S: Source, T: Sink, O: Sink>(
+    connection: &mut Connection<S, T>,
+    shown: &mut ReplyWriter<O>,
+    line: &[u8],
+) -> Result<(), Fault>
+    ensures ok { OnOk result (Says (wire T.contents S.remaining connection.old) (wire T.contents S.remaining connection.new) (screen O.contents shown.old) (screen O.contents shown.new) (AsksList (written_line line.now))) }
+    ensures joined { shown.new.are_pages_joined ≡ shown.old.are_pages_joined }
+{
+    connection.ask(Request::Line(line))?;
+    show_list(connection, shown)
+}
+
+/// Asks for the status of a shoen until it has ended or is refused, and shows the last reply.
+fn wait<S: Source, T: Sink, O: Sink, C: Caller>(
+    connection: &mut Connection<S, T>,
+    shown: &mut ReplyWriter<O>,
+    caller: &mut C,
+    shoen: u64,
+) -> Result<(), Fault>
+    ensures ok { OnOk result (Says (wire T.contents S.remaining connection.old) (wire T.contents S.remaining connection.new) (screen O.contents shown.old) (screen O.contents shown.new) (Waits shoen)) }
+    ensures joined { shown.new.are_pages_joined ≡ shown.old.are_pages_joined }
+{
+    for looks in 1..u64::MAX {
+        connection.ask(Request::Status(shoen))?;
+        if is_refusal(connection.line()) || has_ended(connection.line()) {
+            return shown.line(connection.line());
+        }
+        caller.pause(looks);
+    }
+    Err(Fault::Reply)
+}
+
+/// Shows the reply whose first line has come, and which lists lines if it is no refusal.
+fn show_list<S: Source, T: Sink, O: Sink>(
+    connection: &mut Connection<S, T>,
+    shown: &mut ReplyWriter<O>,
+) -> Result<(), Fault>
+    ensures ok { OnOk result (ShowsListing (wire T.contents S.remaining connection.old) (wire T.contents S.remaining connection.new) (screen O.contents shown.old) (screen O.contents shown.new) connection.old.line.items) }
+    ensures joined { shown.new.are_pages_joined ≡ shown.old.are_pages_joined }
+{
+    shown.line(connection.line())?;
+    if is_refusal(connection.line()) {
+        return Ok(());
+    }
+    let Some(count) = count_in(connection.line()) else {
+        return Err(Fault::Reply);
+    };
+    show_lines(connection, shown, count)
+}
+
+/// Takes and shows this number of lines.
+fn show_lines<S: Source, T: Sink, O: Sink>(
+    connection: &mut Connection<S, T>,
+    shown: &mut ReplyWriter<O>,
+    count: u64,
+) -> Result<(), Fault>
+    ensures ok { OnOk result ((lines : List (List ℕ)) × ShowsLines (wire T.contents S.remaining connection.old) (wire T.contents S.remaining connection.new) (screen O.contents shown.old) (screen O.contents shown.new) lines × (length lines ≡ count)) }
+    ensures joined { shown.new.are_pages_joined ≡ shown.old.are_pages_joined }
+{
+    for _ in 0..count {
+        connection.take_line()?;
+        shown.line(connection.line())?;
+    }
+    Ok(())
+}
+
+/// The most lines of a page.
+fn most_of(page: Page) -> u64
+    ensures { result ≡ most_of page }
+{
+    match page {
+        Page::Reports { .. } => MOST_LISTED as u64,
+        Page::Journal { count } => count,
+    }
+}
+
+/// Asks for pages from a number on, up to the last one, and shows their lines without those that count them; or a refusal.
+fn ask_pages<S: Source, T: Sink, O: Sink>(
+    connection: &mut Connection<S, T>,
+    shown: &mut ReplyWriter<O>,
+    page: Page,
+    from: u64,
+) -> Result<(), Fault>
+    ensures ok { OnOk result (Says (wire T.contents S.remaining connection.old) (wire T.contents S.remaining connection.new) (screen O.contents shown.old) (screen O.contents shown.new) (AsksPages page from)) }
+    ensures joined { shown.new.are_pages_joined ≡ shown.old.are_pages_joined }
+{
+    let most = most_of(page);
+    let mut next = from;
+    for _ in 0..u64::MAX {
+        connection.ask(Request::Page(page, next))?;
+        if is_refusal(connection.line()) {
+            return shown.line(connection.line());
+        }
+        let Some(count) = count_in(connection.line()) else {
+            return Err(Fault::Reply);
+        };
+        show_lines(connection, shown, count)?;
+        if count < most || count == 0 {
+            return Ok(());
+        }
+        let Some(after) = next.checked_add(count) else {
+            return Err(Fault::Reply);
+        };
+        next = after;
+    }
+    Err(Fault::Reply)
+}
