@@ -91,6 +91,11 @@ Shows old new text = PassesOn old.written new.written (old.waiting ++ text) new.
 abbrev pub ShowsFront : Screen → Screen → List ℕ → Type 0
 ShowsFront old new text = AppendsFront old.written new.written (old.waiting ++ text)
 
+-- a request was sent, and its reply of one line came and was shown
+pub record ShowsOne (old new : Wire) (before after : Screen) (request line : List ℕ) : Type 0 where
+  pub asks : Asks old new request line
+  pub shows : Shows before after (written_line line)
+
 -- these lines came, and were shown
 pub record ShowsLines (old new : Wire) (before after : Screen) (lines : List (List ℕ)) : Type 0 where
   pub hears : Hears old new lines

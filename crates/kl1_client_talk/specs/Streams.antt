@@ -1,5 +1,5 @@
 -- What is still to come from a stream that is read line by line.
-use Rattle.std.specs.Prelude.{◌≡◌, ℕ, ◌<◌, ◌⊎◌, Bool, true, false, List, [], ◌∷◌, ◌++◌, length, drop, MatchBool}
+use Rattle.std.specs.Prelude.{◌≡◌, ℕ, Bool, false, List, [], ◌∷◌, ◌++◌, drop}
 use Rattle.std.specs.declared.option.Option.{Option}
 use Rattle.std.specs.Io.KnownBytes.{prepend_known, Consumes, IsAtEnd}
 use Rattle.kl1_lines.specs.Places.{has_byte, IsSplit}
@@ -30,6 +30,11 @@ pub record Refills (old new : Option (List ℕ)) (more : Bool) : Type 0 where
   pub same : Consumes old new []
   pub end : more ≡ false → IsAtEnd new
 
+-- bytes of a line were taken that has not ended
+pub record TakesSoFar (old new : Option (List ℕ)) (front : List ℕ) : Type 0 where
+  pub none : has_byte 10 front ≡ false
+  pub bytes : Consumes old new front
+
 -- a line was taken, with its line feed
 pub record TakesLine (old new : Option (List ℕ)) (line : List ℕ) : Type 0 where
   pub none : has_byte 10 line ≡ false
@@ -40,8 +45,3 @@ pub record TakesRest (old new : Option (List ℕ)) (rest : List ℕ) : Type 0 wh
   pub none : has_byte 10 rest ≡ false
   pub bytes : Consumes old new rest
   pub end : IsAtEnd new
-
--- the next line was taken, and the end of the stream stands for the line feed of a last line; or there is none
-abbrev pub TakesNext : Option (List ℕ) → Option (List ℕ) → List ℕ → Bool → Type 0
-TakesNext old new line true = TakesLine old new line ⊎ TakesRest old new line
-TakesNext old new line false = TakesRest old new [] × (line ≡ [])

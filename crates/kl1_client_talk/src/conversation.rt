@@ -1,10 +1,11 @@
 // A whole talk.
 
-ghost use Rattle.std.specs.Prelude.{◌≡◌, ℕ, List, length, OnOk};
-ghost use Rattle.kl1_client_talk.specs.Exchanges.{wire, screen, ShowsLines, Says};
-ghost use Rattle.kl1_client_talk.specs.Conversation.{ShowsListing, AsksOne, AsksList, AsksPages, Waits, AsksWanted, most_of};
-ghost use Rattle.kl1_client_talk.specs.UserCommand.{wanted_of};
-ghost use Rattle.kl1_client_talk.specs.Request.{text_of};
+ghost use Rattle.std.specs.Prelude.{◌≡◌, ℕ, List, [], length, OnOk, IfOk};
+ghost use Rattle.kl1_model.specs.Line.{without_return};
+ghost use Rattle.kl1_client_talk.specs.Exchanges.{wire, screen, ShowsOne, ShowsLines, Says};
+ghost use Rattle.kl1_client_talk.specs.Conversation.{ShowsListing, AsksList, AsksPages, Waits, TakesTurn, TakesTurns, Talks, most_of};
+ghost use Rattle.kl1_client_talk.specs.UserCommand.{wanted_in, load};
+ghost use Rattle.kl1_client_talk.specs.Request.{text_of, login_line};
 ghost use Rattle.kl1_model_server.specs.Command.{written_line};
 
 use crate::caller::Caller;
@@ -14,13 +15,14 @@ use crate::reply::{count_in, has_ended, is_refusal};
 use crate::reply_writer::ReplyWriter;
 use crate::request::{Page, Request};
 use crate::summary::TalkSummary;
+use crate::turn_end::TurnEnd;
 use crate::user_command::{UserCommand, command_in};
 use kl1_lines::{Sink, Source, without_return};
 use kl1_model::limits::MOST_LISTED;
 use std::alloc::Global;
 
-/// Logs in to the account, asks for what the caller's commands ask for, one after another, shows their replies, and logs out. The
-/// reply to the login is shown if it is a refusal, and then nothing else is asked for.
+/// Logs in to the account, asks for what the caller's lines ask for, one after another, shows the replies, and logs out. The reply to
+/// the login is shown if it is a refusal, and then nothing else is asked for.
 pub fn talk<S: Source, T: Sink, O: Sink, C: Caller>(
     alloc: Global,
     connection: &mut Connection<S, T>,
@@ -28,87 +30,118 @@ pub fn talk<S: Source, T: Sink, O: Sink, C: Caller>(
     caller: &mut C,
     name: &[u8],
     key: &[u8],
-) -> Result<TalkSummary, Fault> {
+) -> Result<TalkSummary, Fault>
+    ensures ok { IfOk result (λ s. Talks C.is_file shown.old.are_pages_joined (login_line name.now key.now) (C.remaining caller.old) (C.remaining caller.new) (wire T.contents S.remaining connection.old) (wire T.contents S.remaining connection.new) (screen O.contents shown.old) (screen O.contents shown.new) s) }
+{
     connection.ask(Request::Login(name, key))?;
-    let mut lacked_file = false;
-    if connection.was_refused() {
+    if is_refusal(connection.line()) {
         shown.line(connection.line())?;
         shown.flush()?;
-    } else {
-        lacked_file = ask_all(alloc, connection, shown, caller)?;
+        return Ok(TalkSummary {
+            was_refused: true,
+            lacked_file: false,
+        });
     }
+    let lacked_file = take_turns(alloc, connection, shown, caller)?;
     Ok(TalkSummary {
         was_refused: connection.was_refused(),
         lacked_file,
     })
 }
 
-/// Asks for what the commands ask for, and logs out. Tells whether a file could not be loaded.
-fn ask_all<S: Source, T: Sink, O: Sink, C: Caller>(
+/// Asks for what the caller's lines ask for, and logs out. Tells whether a file could not be loaded.
+fn take_turns<S: Source, T: Sink, O: Sink, C: Caller>(
     alloc: Global,
     connection: &mut Connection<S, T>,
     shown: &mut ReplyWriter<O>,
     caller: &mut C,
-) -> Result<bool, Fault> {
+) -> Result<bool, Fault>
+    ensures ok { IfOk result (λ lacked. TakesTurns C.is_file shown.old.are_pages_joined (C.remaining caller.old) (C.remaining caller.new) (wire T.contents S.remaining connection.old) (wire T.contents S.remaining connection.new) (screen O.contents shown.old) (screen O.contents shown.new) lacked) }
+{
     let mut line = Vec::new(alloc);
-    let mut source = Vec::new(alloc);
     let mut lacked_file = false;
     for _ in 0..u64::MAX {
         if !caller.next(&mut line)? {
             connection.ask(Request::Line(b"logout"))?;
             return Ok(lacked_file);
         }
-        let command = command_in(line.as_slice());
-        if let UserCommand::Load(name) = command {
-            if caller.file(name.trim_ascii(), &mut source)? {
-                connection.ask(Request::Load(source.as_slice()))?;
-                shown.line(connection.line())?;
-            } else {
-                lacked_file = true;
-            }
-        } else {
-            ask(
-                connection,
-                shown,
-                caller,
-                command,
-                without_return(line.as_slice()),
-            )?;
-        }
+        let end = take_turn(alloc, connection, shown, caller, line.as_slice())?;
         shown.flush()?;
-        if matches!(command, UserCommand::Logout) && connection.line().starts_with(b"+ bye") {
-            return Ok(lacked_file);
+        match end {
+            TurnEnd::GoesOn => {}
+            TurnEnd::LacksFile => lacked_file = true,
+            TurnEnd::Over => return Ok(lacked_file),
         }
     }
-    Ok(lacked_file)
+    Err(Fault::Commands)
 }
 
-/// Asks for what a line wants that is no load, and shows the reply.
-fn ask<S: Source, T: Sink, O: Sink, C: Caller>(
+/// Asks for what a line wants, and shows the reply.
+fn take_turn<S: Source, T: Sink, O: Sink, C: Caller>(
+    alloc: Global,
     connection: &mut Connection<S, T>,
     shown: &mut ReplyWriter<O>,
     caller: &mut C,
-    command: UserCommand<'_>,
     line: &[u8],
-) -> Result<(), Fault>
-    ensures ok { OnOk result (Says (wire T.contents S.remaining connection.old) (wire T.contents S.remaining connection.new) (screen O.contents shown.old) (screen O.contents shown.new) (AsksWanted shown.old.are_pages_joined line.now (wanted_of command.entry))) }
+) -> Result<TurnEnd, Fault>
+    ensures ok { IfOk result (λ end. Says (wire T.contents S.remaining connection.old) (wire T.contents S.remaining connection.new) (screen O.contents shown.old) (screen O.contents shown.new) (TakesTurn C.is_file shown.old.are_pages_joined (without_return line.now) (wanted_in line.now) end)) }
     ensures joined { shown.new.are_pages_joined ≡ shown.old.are_pages_joined }
+    ensures caller { C.remaining caller.new ≡ C.remaining caller.old }
 {
+    let command = command_in(line);
+    let line = without_return(line);
     match command {
-        UserCommand::Nothing => Ok(()),
-        UserCommand::Wait(shoen) => wait(connection, shown, caller, shoen),
+        UserCommand::Nothing => Ok(TurnEnd::GoesOn),
+        UserCommand::Load(text) => load(alloc, connection, shown, caller, text),
+        UserCommand::Wait(shoen) => {
+            wait(connection, shown, caller, shoen)?;
+            Ok(TurnEnd::GoesOn)
+        }
         UserCommand::Pages(page, from) => {
             if shown.are_pages_joined() {
-                ask_pages(connection, shown, page, from)
+                ask_pages(connection, shown, page, from)?;
             } else {
-                ask_list(connection, shown, line)
+                ask_list(connection, shown, line)?;
+            }
+            Ok(TurnEnd::GoesOn)
+        }
+        UserCommand::List => {
+            ask_list(connection, shown, line)?;
+            Ok(TurnEnd::GoesOn)
+        }
+        UserCommand::Logout => {
+            ask_one(connection, shown, Request::Line(line))?;
+            if connection.line().starts_with(b"+ bye") {
+                Ok(TurnEnd::Over)
+            } else {
+                Ok(TurnEnd::GoesOn)
             }
         }
-        UserCommand::List => ask_list(connection, shown, line),
-        UserCommand::Load(_) | UserCommand::Logout | UserCommand::OneLine => {
-            ask_one(connection, shown, Request::Line(line))
+        UserCommand::OneLine => {
+            ask_one(connection, shown, Request::Line(line))?;
+            Ok(TurnEnd::GoesOn)
         }
     }
+}
+
+/// Loads the file whose name is in this text, and shows the reply.
+fn load<S: Source, T: Sink, O: Sink, C: Caller>(
+    alloc: Global,
+    connection: &mut Connection<S, T>,
+    shown: &mut ReplyWriter<O>,
+    caller: &mut C,
+    text: &[u8],
+) -> Result<TurnEnd, Fault>
+    ensures ok { IfOk result (λ end. Says (wire T.contents S.remaining connection.old) (wire T.contents S.remaining connection.new) (screen O.contents shown.old) (screen O.contents shown.new) (TakesTurn C.is_file shown.old.are_pages_joined [] (load text.now) end)) }
+    ensures joined { shown.new.are_pages_joined ≡ shown.old.are_pages_joined }
+    ensures caller { C.remaining caller.new ≡ C.remaining caller.old }
+{
+    let mut source = Vec::new(alloc);
+    if !caller.file(text.trim_ascii(), &mut source)? {
+        return Ok(TurnEnd::LacksFile);
+    }
+    ask_one(connection, shown, Request::Load(source.as_slice()))?;
+    Ok(TurnEnd::GoesOn)
 }
 
 /// Makes a request whose reply is one line, and shows it.
@@ -117,7 +150,7 @@ fn ask_one<S: Source, T: Sink, O: Sink>(
     shown: &mut ReplyWriter<O>,
     request: Request<'_>,
 ) -> Result<(), Fault>
-    ensures ok { OnOk result (Says (wire T.contents S.remaining connection.old) (wire T.contents S.remaining connection.new) (screen O.contents shown.old) (screen O.contents shown.new) (AsksOne (text_of request.entry))) }
+    ensures ok { OnOk result (ShowsOne (wire T.contents S.remaining connection.old) (wire T.contents S.remaining connection.new) (screen O.contents shown.old) (screen O.contents shown.new) (text_of request.entry) connection.new.line.items) }
     ensures joined { shown.new.are_pages_joined ≡ shown.old.are_pages_joined }
 {
     connection.ask(request)?;

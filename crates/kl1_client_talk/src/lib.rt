@@ -10,6 +10,7 @@ mod reply;
 mod reply_writer;
 mod request;
 mod summary;
+mod turn_end;
 mod user_command;
 
 pub use caller::Caller;

@@ -1,7 +1,8 @@
 // A stream that is read line by line.
 
-ghost use Rattle.std.specs.Prelude.{◌≡◌, IfOk, MatchBool, drop};
-ghost use Rattle.kl1_client_talk.specs.Streams.{unread, coming, MovesLine, MovesAll, Refills, TakesLine, TakesRest, TakesNext};
+ghost use Rattle.std.specs.Prelude.{◌≡◌, IfOk, MatchBool, drop, option_map};
+ghost use Rattle.kl1_client_talk.specs.Streams.{unread, coming, MovesLine, MovesAll, Refills, TakesLine, TakesRest};
+ghost use Rattle.kl1_client_talk.specs.Given.{GivesLine, lines_in};
 
 use crate::fault::Fault;
 use kl1_lines::{Source, split_feed};
@@ -48,9 +49,10 @@ impl<S: Source> LineReader<S> {
     /// Puts the next line, without its line feed, in the place of `line`, and tells whether there is one. The end of the stream
     /// stands for the line feed of a last line. `bad` is the fault of a stream that can't be read or whose line is too long.
     pub fn next(&mut self, line: &mut Vec<u8>, bad: Fault) -> Result<bool, Fault>
-        ensures { IfOk result (λ found. TakesNext (coming S.remaining self.old) (coming S.remaining self.new) line.new.items found) }
+        ensures { IfOk result (λ found. GivesLine (option_map lines_in (coming S.remaining self.old)) (option_map lines_in (coming S.remaining self.new)) line.new.items found) }
     {
-        if self.next_whole(line, bad)? {
+        let is_whole = self.next_whole(line, bad)?;
+        if is_whole {
             return Ok(true);
         }
         Ok(!line.is_empty())

@@ -1,0 +1,8 @@
+use Rattle.kl1_client_talk.proofs.Comings.{when_true}
+use Rattle.kl1_client_talk.proofs.Lines.{gives_whole}
+use Rattle.kl1_client_talk.specs.Streams.{coming}
+use Rattle.kl1_client_talk.proofs.line_reader.LineReader.next.Goals as goal
+
+pub returns-then-is_whole : goal.returns-then-is_whole
+returns-then-is_whole g c =
+    gives_whole (coming g.S.Source.remaining c.args.self.now) (coming g.S.Source.remaining c.next_whole.new.self) _ (when_true c.in_ok-is_whole.is_whole c.if-is_whole.true c.in_ok-is_whole.ensures)
