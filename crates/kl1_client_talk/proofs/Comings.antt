@@ -4,6 +4,7 @@ use Rattle.std.specs.Prelude.{None, Some, MatchBool}
 use Rattle.std.specs.List.{list_any}
 use Rattle.std.specs.declared.option.Option.{Option}
 use Rattle.std.specs.Io.KnownBytes.{prepend_known, Consumes, IsAtEnd}
+use Rattle.std.proofs.lemmas.Bool.{true≢false}
 use Rattle.std.proofs.lemmas.List.{append-nil}
 use Rattle.std.proofs.lemmas.List.Folds.{list_any-append}
 use Rattle.kl1_lines.specs.Places.{has_byte, IsSplit}
@@ -21,7 +22,7 @@ pub consumes_both : (a b c : Option (List ℕ)) (xs ys : List ℕ) → Consumes 
 consumes_both None b c xs ys h k = tt
 consumes_both (Some us) None c xs ys h k = absurd h
 consumes_both (Some us) (Some vs) None xs ys h k = absurd k
-consumes_both (Some us) (Some vs) (Some ws) xs ys h k = h ∙ ap (λ x. xs ++ x) k ∙ sym (append_assoc xs ys cs)
+consumes_both (Some us) (Some vs) (Some ws) xs ys h k = h ∙ ap (λ x. xs ++ x) k ∙ sym (append_assoc xs ys ws)
 
 -- bytes that were read are still to come if they are kept
 pub kept_to_come : (a b : Option (List ℕ)) (bs : List ℕ) → Consumes a b bs → Consumes a (prepend_known bs b) []
@@ -79,13 +80,13 @@ takes_rest a s c old new before after none h m r =
     let t = takes_more a s c old new before after false none h m r in
     record { none = t.none; bytes = t.bytes; end = r.end refl }
 
-pub when_true : {P Q : Type 0} (b : Bool) → b ≡ true → MatchBool b P Q → P
-when_true true e h = h
-when_true false e h = cc
+pub when_true : {P : Type 0} (b : Bool) (Q : Type 0) → b ≡ true → MatchBool b P Q → P
+when_true true Q e h = h
+when_true false Q e h = absurd (true≢false (sym e))
 
-pub when_false : {P Q : Type 0} (b : Bool) → b ≡ false → MatchBool b P Q → Q
-when_false true e h = cc
-when_false false e h = h
+pub when_false : {Q : Type 0} (b : Bool) (P : Type 0) → b ≡ false → MatchBool b P Q → Q
+when_false true P e h = absurd (true≢false e)
+when_false false P e h = h
 
 -- the same where the stream itself was left alone
 pub takes_line_at : (a s s' : Option (List ℕ)) (old new before after : List ℕ) → s' ≡ s → has_byte 10 before ≡ false → Consumes a (prepend_known old s) before → MovesLine old new before after → TakesLine a (prepend_known new s') after

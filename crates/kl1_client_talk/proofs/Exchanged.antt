@@ -1,5 +1,5 @@
 -- Exchanges after one another, and what is shown of them.
-use Rattle.std.proofs.Common.{◌≡◌, ℕ, suc, ◌+◌, Bool, true, false, not, ◌||◌, ◌&&◌, List, [], ◌∷◌, ◌++◌, length, refl, ap, sym, ◌∙◌, append_assoc, subst, arith}
+use Rattle.std.proofs.Common.{◌≡◌, ℕ, suc, ◌+◌, Bool, true, false, not, ◌||◌, ◌&&◌, List, [], ◌∷◌, ◌++◌, length, length-append, refl, ap, sym, ◌∙◌, append_assoc, subst, arith}
 use Rattle.std.specs.Prelude.{None, Some}
 use Rattle.std.specs.List.{list_all, list_any}
 use Rattle.std.specs.declared.option.Option.{Option}
@@ -22,7 +22,7 @@ or_both : (a b c : Bool) → ((a || b) || c) ≡ (a || (b || c))
 or_both true b c = refl
 or_both false b c = refl
 
-written_both : (xs ys : List (List ℕ)) → written_lines (xs ++ ys) ≡ written_lines xs ++ written_lines ys
+pub written_both : (xs ys : List (List ℕ)) → written_lines (xs ++ ys) ≡ written_lines xs ++ written_lines ys
 written_both [] ys = refl
 written_both (x ∷ xs) ys = ap (λ z. written_line x ++ z) (written_both xs ys) ∙ sym (append_assoc (written_line x) (written_lines xs) (written_lines ys))
 
@@ -34,7 +34,7 @@ come_both : (xs ys : List Exchange) → come_in (xs ++ ys) ≡ come_in xs ++ com
 come_both [] ys = refl
 come_both (x ∷ xs) ys = ap (λ z. written_lines x.reply ++ z) (come_both xs ys) ∙ sym (append_assoc (written_lines x.reply) (come_in xs) (come_in ys))
 
-all_both : {X : Type 0} (p : X → Bool) (xs ys : List X) → list_all p xs ≡ true → list_all p ys ≡ true → list_all p (xs ++ ys) ≡ true
+pub all_both : {X : Type 0} (p : X → Bool) (xs ys : List X) → list_all p xs ≡ true → list_all p ys ≡ true → list_all p (xs ++ ys) ≡ true
 all_both p xs ys h k = rw (list_all-append, h) k
 
 -- nothing was sent
@@ -57,9 +57,13 @@ hears_one a b line sent came none same =
     let P : List ℕ → Type 0 = λ x. Consumes a.coming b.coming x in
     record { sent = sent; came = subst P (sym (append-nil (line ++ 10 ∷ []))) came; whole = rw none refl; refused = same }
 
+no_feed : (b : Bool) → (not b && true) ≡ true → b ≡ false
+no_feed true e = cc
+no_feed false e = refl
+
 -- a request, and then the first line of its reply
-pub asks_by : (a b c : Wire) (request line : List ℕ) → Appends a.sent b.sent request → b.coming ≡ a.coming → Hears b c (line ∷ []) → (was : Bool) → was ≡ (a.was_refused || is_refusal line) → Asks a (record c { was_refused = was }) request line
-asks_by a b c request line sent same h was e =
+pub asks_by : (a b c : Wire) (request line : List ℕ) (was : Bool) → Appends a.sent b.sent request → b.coming ≡ a.coming → Hears b c (line ∷ []) → was ≡ (a.was_refused || is_refusal line) → Asks a (record { sent = c.sent; coming = c.coming; was_refused = was }) request line
+asks_by a b c request line was sent same h e =
     let P : Option (List ℕ) → Type 0 = λ x. Appends a.sent x request in
     let Q : List ℕ → Type 0 = λ x. Consumes b.coming c.coming x in
     let R : Option (List ℕ) → Type 0 = λ x. Consumes x c.coming (written_line line) in
@@ -69,10 +73,14 @@ asks_by a b c request line sent same h was e =
       whole = no_feed (has_byte 10 line) h.whole;
       refused = e;
     }
-  where
-    no_feed : (b : Bool) → (not b && true) ≡ true → b ≡ false
-    no_feed true e = cc
-    no_feed false e = refl
+
+pub or_true : (a b : Bool) → b ≡ true → true ≡ (a || b)
+or_true true b e = refl
+or_true false b e = sym e
+
+pub or_none : (a b : Bool) → b ≡ false → a ≡ (a || b)
+or_none true b e = refl
+or_none false b e = sym e
 
 -- an exchange is a request, the first line of its reply, and the others
 pub one_exchange : (a b c : Wire) (request first : List ℕ) (others : List (List ℕ)) → Asks a b request first → Hears b c others → Exchanges a c (record { request = request; reply = first ∷ others } ∷ [])
@@ -121,17 +129,25 @@ shows_lines_both a b c xs ys h k =
 pub shows_one : (a b : Screen) (line : List ℕ) → Shows a b (written_line line) → Shows a b (written_lines (line ∷ []))
 shows_one a b line h = let P : List ℕ → Type 0 = λ x. Shows a b x in subst P (sym (append-nil (written_line line))) h
 
+grows_none : (a : Option (List ℕ)) → GrowsIfKnown a a []
+grows_none None = tt
+grows_none (Some xs) = sym (append-nil xs)
+
 -- nothing was written, which is the front of any text
 pub front_none : (a : Option (List ℕ)) (bs : List ℕ) → AppendsFront a a bs
 front_none a bs = record { count = 0; grows = grows_none a }
-  where
-    grows_none : (a : Option (List ℕ)) → GrowsIfKnown a a []
-    grows_none None = tt
-    grows_none (Some xs) = sym (append-nil xs)
 
 -- one more line came and was shown
-pub lines_more : (a b c : Wire) (s t u : Screen) (lines : List (List ℕ)) (line : List ℕ) → ShowsLines a b s t lines → Hears b c (line ∷ []) → Shows t u (written_line line) → ShowsLines a c s u (lines ++ line ∷ [])
-lines_more a b c s t u lines line h came shown = record {
-  hears = hears_both a b c lines (line ∷ []) h.hears came;
-  shows = shows_lines_both s t u lines (line ∷ []) h.shows (shows_one t u line shown);
-}
+pub lines_more : (a b c : Wire) (s t u : Screen) (lines : List (List ℕ)) (line told : List ℕ) → ShowsLines a b s t lines → Hears b c (line ∷ []) → told ≡ line → Shows t u (written_line told) → ShowsLines a c s u (lines ++ line ∷ [])
+lines_more a b c s t u lines line told h came e shown =
+    let P : List ℕ → Type 0 = λ x. Shows t u (written_line x) in
+    record {
+      hears = hears_both a b c lines (line ∷ []) h.hears came;
+      shows = shows_lines_both s t u lines (line ∷ []) h.shows (shows_one t u line (subst P e shown));
+    }
+
+pub one_longer : (lines : List (List ℕ)) (line : List ℕ) (n : ℕ) → length lines ≡ n → length (lines ++ line ∷ []) ≡ n + 1
+one_longer lines line n e = omega (arith, length-append lines (line ∷ []), e)
+
+pub asks_first : (a b : Wire) (request line first : List ℕ) → first ≡ line → Asks a b request line → Asks a b request first
+asks_first a b request line first e h = let P : List ℕ → Type 0 = λ x. Asks a b request x in subst P (sym e) h

@@ -1,5 +1,5 @@
 -- What is said for one line of the user.
-use Rattle.std.proofs.Common.{◌≡◌, ℕ, ◌+◌, ◌<◌, ◌≤◌, Bool, true, false, not, ◌||◌, ◌&&◌, nat_lt, nat_le, if◌then◌else◌, List, [], ◌∷◌, ◌++◌, length, map, refl, ap, sym, ◌∙◌, subst, ◌⊎◌, inl, inr, append_assoc, add_assoc, arith}
+use Rattle.std.proofs.Common.{◌≡◌, ℕ, ◌+◌, ◌<◌, ◌≤◌, Bool, true, false, not, ◌||◌, ◌&&◌, nat_lt, nat_le, zero, suc, max, if◌then◌else◌, List, [], ◌∷◌, ◌++◌, length, map, refl, ap, sym, ◌∙◌, subst, inl, inr, append_assoc, add_assoc, arith}
 use Rattle.std.specs.Prelude.{Some, None}
 use Rattle.std.specs.declared.option.Option.{Option}
 use Rattle.std.specs.List.{list_all}
@@ -82,12 +82,12 @@ page_made p from next a b c d s t l g asks hears =
     subst P (sym (page_more p from g.full l)) (exchanges_both a b d (page_exchanges p from g.full) (record { request = page_line p (from + count_of g.full); reply = l.first ∷ l.lines } ∷ []) g.made (one_exchange b c d (page_line p (from + count_of g.full)) l.first l.lines (subst Q g.next_is asks) hears))
 
 -- a full page more, after which the next one begins
-pub page_full : (p : Page) (from next after count : ℕ) (a b c d : Wire) (s t u : Screen) (first : List ℕ) (lines : List (List ℕ)) → PagesSoFar p from next a b s t → Asks b c (page_line p next) first → is_refusal first ≡ false → ShowsLines c d t u lines → length lines ≡ count → most_of p ≤ count → 0 < count → after ≡ next + count → PagesSoFar p from after a d s u
-page_full p from next after count a b c d s t u first lines g asks e h n most some next_is =
+pub page_full : (p : Page) (from next after count : ℕ) (a b c d : Wire) (s t u : Screen) (first : List ℕ) (lines : List (List ℕ)) → PagesSoFar p from next a b s t → Asks b c (page_line p next) first → is_refusal first ≡ false → ShowsLines c d t u lines → length lines ≡ count → max (most_of p) 1 ≤ count → after ≡ next + count → PagesSoFar p from after a d s u
+page_full p from next after count a b c d s t u first lines g asks e h n most next_is =
     let l : Listing = record { first = first; lines = lines } in
     let P : List (List ℕ) → Type 0 = λ x. Shows s u (written_lines x) in
     let many : most_of p ≤ length lines = omega (arith, most, n) in
-    let any : 0 < length lines = omega (arith, some, n) in
+    let any : 0 < length lines = omega (arith, most, n) in
     record {
       full = g.full ++ l ∷ [];
       made = page_made p from next a b c d s t l g asks h.hears;
@@ -112,15 +112,15 @@ and_false : (b : Bool) → (b && false) ≡ false
 and_false true = refl
 and_false false = refl
 
-not_full : (most n : ℕ) → (n < most) ⊎ (n ≡ 0) → (nat_le most n && nat_lt 0 n) ≡ false
-not_full most n (inl less) = rw (lt-leb most n less) refl
-not_full most n (inr none) = rw (none, le-ltb 0 0 (omega arith)) (and_false (nat_le most 0))
+not_full : (most n : ℕ) → n < max most 1 → (nat_le most n && nat_lt 0 n) ≡ false
+not_full most zero h = and_false (nat_le most 0)
+not_full most (suc n) h = rw (lt-leb most (suc n) (omega (arith, h))) refl
 
 -- the last reply is a page that isn't full
-pub pages_end : (p : Page) (from next count : ℕ) (a b c d : Wire) (s t u : Screen) (first : List ℕ) (lines : List (List ℕ)) → PagesSoFar p from next a b s t → Asks b c (page_line p next) first → is_refusal first ≡ false → count_in first ≡ Some count → ShowsLines c d t u lines → length lines ≡ count → (count < most_of p) ⊎ (count ≡ 0) → Says a d s u (AsksPages p from)
+pub pages_end : (p : Page) (from next count : ℕ) (a b c d : Wire) (s t u : Screen) (first : List ℕ) (lines : List (List ℕ)) → PagesSoFar p from next a b s t → Asks b c (page_line p next) first → is_refusal first ≡ false → count_in first ≡ Some count → ShowsLines c d t u lines → length lines ≡ count → count < max (most_of p) 1 → Says a d s u (AsksPages p from)
 pages_end p from next count a b c d s t u first lines g asks e counted h n short =
     let l : Listing = record { first = first; lines = lines } in
-    let P : ℕ → Type 0 = λ m. (m < most_of p) ⊎ (m ≡ 0) in
+    let P : ℕ → Type 0 = λ m. m < max (most_of p) 1 in
     record {
       exchanges = page_exchanges p from (g.full ++ l ∷ []);
       lines = page_lines g.full ++ lines;

@@ -66,10 +66,13 @@ impl<S: Source, T: Sink> Connection<S, T> {
         self.take_line()?;
         if is_refusal(self.line.as_slice()) {
             self.was_refused = true;
-        } else if !self.line.as_slice().starts_with(b"+ ") {
-            return Err(Fault::Reply);
+            return Ok(());
         }
-        Ok(())
+        if self.line.as_slice().starts_with(b"+ ") {
+            Ok(())
+        } else {
+            Err(Fault::Reply)
+        }
     }
 
     /// Takes the next line of a reply.

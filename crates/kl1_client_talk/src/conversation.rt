@@ -1,6 +1,6 @@
 // A whole talk.
 
-ghost use Rattle.std.specs.Prelude.{◌≡◌, ℕ, List, [], length, OnOk, IfOk};
+ghost use Rattle.std.specs.Prelude.{◌≡◌, ℕ, List, [], length, max, OnOk, IfOk};
 ghost use Rattle.kl1_model.specs.Line.{without_return};
 ghost use Rattle.kl1_client_talk.specs.Exchanges.{wire, screen, ShowsOne, ShowsLines, Says};
 ghost use Rattle.kl1_client_talk.specs.Conversation.{ShowsListing, AsksList, AsksPages, Waits, TakesTurn, TakesTurns, Talks, most_of};
@@ -224,13 +224,13 @@ fn show_lines<S: Source, T: Sink, O: Sink>(
     Ok(())
 }
 
-/// The most lines of a page.
-fn most_of(page: Page) -> u64
-    ensures { result ≡ most_of page }
+/// The least lines of a page after which another may follow: as many as a page has at most, and at least one.
+fn least_full(page: Page) -> u64
+    ensures { result ≡ max (most_of page) 1 }
 {
     match page {
         Page::Reports { .. } => MOST_LISTED as u64,
-        Page::Journal { count } => count,
+        Page::Journal { count } => count.max(1),
     }
 }
 
@@ -244,18 +244,19 @@ fn ask_pages<S: Source, T: Sink, O: Sink>(
     ensures ok { OnOk result (Says (wire T.contents S.remaining connection.old) (wire T.contents S.remaining connection.new) (screen O.contents shown.old) (screen O.contents shown.new) (AsksPages page from)) }
     ensures joined { shown.new.are_pages_joined ≡ shown.old.are_pages_joined }
 {
-    let most = most_of(page);
+    let least = least_full(page);
     let mut next = from;
     for _ in 0..u64::MAX {
         connection.ask(Request::Page(page, next))?;
-        if is_refusal(connection.line()) {
-            return shown.line(connection.line());
+        let first = connection.line();
+        if is_refusal(first) {
+            return shown.line(first);
         }
-        let Some(count) = count_in(connection.line()) else {
+        let Some(count) = count_in(first) else {
             return Err(Fault::Reply);
         };
         show_lines(connection, shown, count)?;
-        if count < most || count == 0 {
+        if count < least {
             return Ok(());
         }
         let Some(after) = next.checked_add(count) else {
