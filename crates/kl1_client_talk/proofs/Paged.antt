@@ -3,10 +3,11 @@ use Rattle.std.proofs.Common.{◌≡◌, ℕ, ◌+◌, true, not, map, List, [],
 use Rattle.std.proofs.lemmas.List.{append-nil}
 use Rattle.kl1_client_talk.specs.declared.request.Page.{Page}
 use Rattle.kl1_client_talk.specs.Request.{page_line}
+use Rattle.kl1_client_talk.specs.Reply.{is_over}
 use Rattle.std.specs.List.{list_all}
 use Rattle.kl1_model_server.specs.Command.{written_lines}
 use Rattle.kl1_client_talk.specs.Exchanges.{Exchange, Exchanges, Wire, Screen, Shows}
-use Rattle.kl1_client_talk.specs.Conversation.{Listing, page_exchanges, page_lines, is_full_page, most_of, status_exchange, is_over}
+use Rattle.kl1_client_talk.specs.Conversation.{Listing, page_exchanges, page_lines, is_full_page, most_of, status_exchange}
 
 -- how many lines pages have
 abbrev pub count_of : List Listing → ℕ

@@ -8,9 +8,10 @@ use Rattle.std.proofs.lemmas.Bool.{le-leb, lt-leb, le-ltb, lt-ltb}
 use Rattle.kl1_model_server.specs.Command.{written_line, written_lines}
 use Rattle.kl1_client_talk.specs.declared.request.Page.{Page}
 use Rattle.kl1_client_talk.specs.Request.{page_line, status_line}
-use Rattle.kl1_client_talk.specs.Reply.{is_refusal, count_in, has_ended}
-use Rattle.kl1_client_talk.specs.Exchanges.{Exchange, Exchanges, Wire, Screen, Asks, Hears, Shows, ShowsLines, ShowsOne, Says}
-use Rattle.kl1_client_talk.specs.Conversation.{Listing, ShowsListing, AsksOne, AsksList, AsksPages, Waits, page_exchanges, page_lines, is_full, is_full_page, most_of, status_exchange, is_over}
+use Rattle.kl1_client_talk.specs.Reply.{is_refusal, count_in, is_over}
+use Rattle.kl1_client_talk.specs.Exchanges.{Exchange, Exchanges, Wire, Screen, Asks, Hears, Shows, ShowsLines, ShowsOne, Says, screen}
+use Rattle.kl1_client_talk.specs.declared.reply_writer.ReplyWriter.{ReplyWriter}
+use Rattle.kl1_client_talk.specs.Conversation.{Listing, ShowsListing, AsksOne, AsksList, AsksPages, Waits, page_exchanges, page_lines, is_full, is_full_page, most_of, status_exchange}
 use Rattle.kl1_client_talk.proofs.Exchanged.{hears_none, one_exchange, exchanges_both, no_exchange, shows_one, shows_lines_both, shows_none, all_both, written_both}
 use Rattle.kl1_client_talk.proofs.Paged.{PagesSoFar, WaitsSoFar, count_of, page_more, count_both, lines_both}
 
@@ -31,6 +32,9 @@ list_said a b c s t request first asks h = record {
   made = one_exchange a b c request first h.lines asks h.hears;
   shows = h.shows;
 }
+
+pub shown_as : (s t : Screen) (told line : List ℕ) → told ≡ line → Shows s t (written_line told) → Shows s t (written_line line)
+shown_as s t told line e h = let P : List ℕ → Type 0 = λ x. Shows s t (written_line x) in subst P e h
 
 -- a refusal lists nothing
 pub refusal_listed : (a : Wire) (s t : Screen) (first : List ℕ) → is_refusal first ≡ true → Shows s t (written_line first) → ShowsListing a a s t first
@@ -69,6 +73,12 @@ wait_ends shoen a b c s t line w asks e h = record {
   made = status_more shoen a b c w.replies line w.made asks;
   shows = shows_one s t line h;
 }
+
+-- the same from a writer of replies that is as it was
+pub wait_said : {O : Type 0} (contents : O → Option (List ℕ)) (v w : ReplyWriter O) (shoen : ℕ) (a b c : Wire) (t : Screen) (line : List ℕ) → w ≡ v → WaitsSoFar shoen a b → Asks b c (status_line shoen) line → is_over line ≡ true → Shows (screen contents w) t (written_line line) → Says a c (screen contents v) t (Waits shoen)
+wait_said {O} contents v w shoen a b c t line e so_far asks over h =
+    let Q : ReplyWriter O → Type 0 = λ x. Says a c (screen contents x) t (Waits shoen) in
+    subst Q e (wait_ends shoen a b c (screen contents w) t line so_far asks over h)
 
 -- ---- pages
 

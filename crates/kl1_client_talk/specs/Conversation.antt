@@ -1,5 +1,5 @@
 -- What is said for the lines of a user, and what is shown of it.
-use Rattle.std.specs.Prelude.{◌≡◌, ℕ, ◌+◌, ◌⊎◌, nat_eq, nat_lt, nat_le, not, ◌&&◌, ◌||◌, Bool, true, false, if◌then◌else◌, List, [], ◌∷◌, ◌++◌, length, map, Some, codes}
+use Rattle.std.specs.Prelude.{◌≡◌, ℕ, ◌+◌, ◌⊎◌, nat_eq, nat_lt, nat_le, not, ◌&&◌, Bool, true, false, if◌then◌else◌, List, [], ◌∷◌, ◌++◌, length, map, Some, codes}
 use Rattle.std.specs.List.{list_all, list_any, starts_with}
 use Rattle.kl1_model.specs.declared.limits.TheConstants.{MOST_LISTED}
 use Rattle.kl1_model.specs.Line.{without_return}
@@ -10,7 +10,7 @@ use Rattle.std.specs.Str.{IsTrimAscii}
 use Rattle.kl1_client_talk.specs.declared.turn_end.TurnEnd.{TurnEnd}
 use Rattle.kl1_client_talk.specs.declared.turn_end.TurnEnd.TheVariants as end
 use Rattle.kl1_client_talk.specs.Request.{load_of, page_line, status_line}
-use Rattle.kl1_client_talk.specs.Reply.{is_refusal, count_in, has_ended}
+use Rattle.kl1_client_talk.specs.Reply.{is_refusal, count_in, is_over}
 use Rattle.kl1_client_talk.specs.UserCommand.{Wanted, nothing, load, wait, pages, list, logout, one_line, wanted_in}
 use Rattle.kl1_client_talk.specs.Exchanges.{Exchange, Exchanges, Wire, Screen, Hears, Shows}
 use Rattle.kl1_client_talk.specs.Given.{GivesLines, IsAllGiven}
@@ -76,10 +76,6 @@ pub record AsksPages (p : Page) (from : ℕ) (es : List Exchange) (shown : List 
   pub shown_is : shown ≡ page_lines full ++ end
 
 -- ---- waiting
-
--- whether a status tells that the wait is over
-abbrev pub is_over : List ℕ → Bool
-is_over line = is_refusal line || has_ended line
 
 -- a question for the status of a shoen, and its reply
 abbrev pub status_exchange : ℕ → List ℕ → Exchange

@@ -13,3 +13,7 @@ count_in line = if bytes_eq (word_in line) (codes "+") then only_number (behind_
 -- the second word tells that the shoen has ended
 abbrev pub has_ended : List ℕ → Bool
 has_ended line = bytes_eq (word_in (behind_word_in line)) (codes "terminated") || bytes_eq (word_in (behind_word_in line)) (codes "aborted")
+
+-- a wait is over: the question for the status is refused, or the shoen has ended
+abbrev pub is_over : List ℕ → Bool
+is_over line = is_refusal line || has_ended line

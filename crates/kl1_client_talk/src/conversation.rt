@@ -11,7 +11,7 @@ ghost use Rattle.kl1_model_server.specs.Command.{written_line};
 use crate::caller::Caller;
 use crate::connection::Connection;
 use crate::fault::Fault;
-use crate::reply::{count_in, has_ended, is_refusal};
+use crate::reply::{count_in, is_over, is_refusal};
 use crate::reply_writer::ReplyWriter;
 use crate::request::{Page, Request};
 use crate::summary::TalkSummary;
@@ -182,8 +182,9 @@ fn wait<S: Source, T: Sink, O: Sink, C: Caller>(
 {
     for looks in 1..u64::MAX {
         connection.ask(Request::Status(shoen))?;
-        if is_refusal(connection.line()) || has_ended(connection.line()) {
-            return shown.line(connection.line());
+        let first = connection.line();
+        if is_over(first) {
+            return shown.line(first);
         }
         caller.pause(looks);
     }
@@ -198,11 +199,12 @@ fn show_list<S: Source, T: Sink, O: Sink>(
     ensures ok { OnOk result (ShowsListing (wire T.contents S.remaining connection.old) (wire T.contents S.remaining connection.new) (screen O.contents shown.old) (screen O.contents shown.new) connection.old.line.items) }
     ensures joined { shown.new.are_pages_joined ≡ shown.old.are_pages_joined }
 {
-    shown.line(connection.line())?;
-    if is_refusal(connection.line()) {
+    let first = connection.line();
+    shown.line(first)?;
+    if is_refusal(first) {
         return Ok(());
     }
-    let Some(count) = count_in(connection.line()) else {
+    let Some(count) = count_in(first) else {
         return Err(Fault::Reply);
     };
     show_lines(connection, shown, count)
