@@ -7,11 +7,14 @@ use Rattle.std.proofs.lemmas.List.{append-nil, map-append}
 use Rattle.std.proofs.lemmas.Bool.{le-leb, lt-leb, le-ltb, lt-ltb}
 use Rattle.kl1_model_server.specs.Command.{written_line, written_lines}
 use Rattle.kl1_client_talk.specs.declared.request.Page.{Page}
-use Rattle.kl1_client_talk.specs.Request.{page_line, status_line}
+use Rattle.std.specs.Str.{IsTrimAscii}
+use Rattle.kl1_client_talk.specs.declared.turn_end.TurnEnd.TheVariants as end
+use Rattle.kl1_client_talk.specs.UserCommand.{Wanted, load}
+use Rattle.kl1_client_talk.specs.Request.{page_line, status_line, load_of}
 use Rattle.kl1_client_talk.specs.Reply.{is_refusal, count_in, is_over}
 use Rattle.kl1_client_talk.specs.Exchanges.{Exchange, Exchanges, Wire, Screen, Asks, Hears, Shows, ShowsLines, ShowsOne, Says, screen}
 use Rattle.kl1_client_talk.specs.declared.reply_writer.ReplyWriter.{ReplyWriter}
-use Rattle.kl1_client_talk.specs.Conversation.{Listing, ShowsListing, AsksOne, AsksList, AsksPages, Waits, page_exchanges, page_lines, is_full, is_full_page, most_of, status_exchange}
+use Rattle.kl1_client_talk.specs.Conversation.{Listing, ShowsListing, AsksOne, AsksList, AsksPages, Waits, page_exchanges, page_lines, is_full, is_full_page, most_of, status_exchange, TakesTurn}
 use Rattle.kl1_client_talk.proofs.Exchanged.{hears_none, one_exchange, exchanges_both, no_exchange, shows_one, shows_lines_both, shows_none, all_both, written_both}
 use Rattle.kl1_client_talk.proofs.Paged.{PagesSoFar, WaitsSoFar, count_of, page_more, count_both, lines_both}
 
@@ -138,3 +141,28 @@ pages_end p from next count a b c d s t u first lines g asks e counted h n short
       made = page_made p from next a b c d s t l g asks h.hears;
       shows = shows_lines_both s t u (page_lines g.full) lines g.shows h.shows;
     }
+
+-- ---- turns
+
+-- what is said for a turn of which this holds besides
+pub says_more : (a b : Wire) (s t : Screen) (P Q : List Exchange → List (List ℕ) → Type 0) → ((es : List Exchange) (lines : List (List ℕ)) → P es lines → Q es lines) → Says a b s t P → Says a b s t Q
+says_more a b s t P Q f h = record { exchanges = h.exchanges; lines = h.lines; holds = f h.exchanges h.lines h.holds; made = h.made; shows = h.shows }
+
+pub load_said : (IsFile : List ℕ → List ℕ → Type 0) (joined : Bool) (a b : Wire) (s t : Screen) (text name source line : List ℕ) → IsTrimAscii text name → IsFile name source → ShowsOne a b s t (load_of source) line → Says a b s t (TakesTurn IsFile joined [] (load text) end.GoesOn)
+load_said IsFile joined a b s t text name source line trimmed is h =
+    says_more a b s t (AsksOne (load_of source)) (TakesTurn IsFile joined [] (load text) end.GoesOn) (λ es lines one. (record { name = name; source = source; trimmed = trimmed; asks = inl (is, one) }, rw one.asked refl)) (one_said a b s t (load_of source) line h)
+
+pub load_lacks : (IsFile : List ℕ → List ℕ → Type 0) (joined : Bool) (a : Wire) (s : Screen) (text name : List ℕ) → IsTrimAscii text name → Says a a s s (TakesTurn IsFile joined [] (load text) end.LacksFile)
+load_lacks IsFile joined a s text name trimmed = record {
+  exchanges = [];
+  lines = [];
+  holds = (record { name = name; source = []; trimmed = trimmed; asks = inr (refl, refl) }, refl);
+  made = no_exchange a;
+  shows = shows_none s;
+}
+
+-- a turn for a line that wants this
+pub turn_said : (IsFile : List ℕ → List ℕ → Type 0) (joined : Bool) (line : List ℕ) (wanted is : Wanted) (a b : Wire) (s t : Screen) (P : List Exchange → List (List ℕ) → Type 0) → is ≡ wanted → ((es : List Exchange) (lines : List (List ℕ)) → P es lines → TakesTurn IsFile joined line is end.GoesOn es lines) → Says a b s t P → Says a b s t (TakesTurn IsFile joined line wanted end.GoesOn)
+turn_said IsFile joined line wanted is a b s t P e f h =
+    let Q : Wanted → Type 0 = λ w. Says a b s t (TakesTurn IsFile joined line w end.GoesOn) in
+    subst Q e (says_more a b s t P (TakesTurn IsFile joined line is end.GoesOn) f h)

@@ -137,11 +137,14 @@ fn load<S: Source, T: Sink, O: Sink, C: Caller>(
     ensures caller { C.remaining caller.new ≡ C.remaining caller.old }
 {
     let mut source = Vec::new(alloc);
-    if !caller.file(text.trim_ascii(), &mut source)? {
-        return Ok(TurnEnd::LacksFile);
+    let name = text.trim_ascii();
+    let found = caller.file(name, &mut source)?;
+    if found {
+        ask_one(connection, shown, Request::Load(source.as_slice()))?;
+        Ok(TurnEnd::GoesOn)
+    } else {
+        Ok(TurnEnd::LacksFile)
     }
-    ask_one(connection, shown, Request::Load(source.as_slice()))?;
-    Ok(TurnEnd::GoesOn)
 }
 
 /// Makes a request whose reply is one line, and shows it.
