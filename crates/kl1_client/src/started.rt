@@ -5,8 +5,8 @@ use crate::terminal::Terminal;
 use crate::trouble::Trouble;
 use crate::words::Asked;
 use kl1_client_talk::{
-    Caller, Connection, FailureCounter, LineReader, ReplyWriter, Sink, Source, TalkSummary, status_of,
-    talk,
+    Caller, Connection, FailureCounter, LineReader, ReplyWriter, Sink, Source, TalkSummary,
+    status_of, talk,
 };
 use std::alloc::{AllocError, Global};
 use std::io::IsTerminal;

@@ -6,7 +6,7 @@ use Rattle.std.proofs.lemmas.List.{append-nil}
 use Rattle.kl1_model_server.specs.JournalText.{Lines, lines_of}
 use Rattle.kl1_lines.specs.Places.{has_byte}
 use Rattle.kl1_client_talk.specs.Streams.{TakesLine, TakesRest}
-use Rattle.kl1_client_talk.specs.Given.{lines_in, GivesLine}
+use Rattle.kl1_client_talk.specs.Given.{lines_in, lines_with, GivesLine}
 
 left_false : (a b : Bool) → (a || b) ≡ false → a ≡ false
 left_false true b e = cc
@@ -16,13 +16,17 @@ right_false : (a b : Bool) → (a || b) ≡ false → b ≡ false
 right_false true b e = cc
 right_false false b e = e
 
+-- a byte in front of a text, by the lines of the text
+abbrev put : ℕ → Lines → Lines
+put b ls = elim ls.whole [ [] ↦ record { whole = []; rest = b ∷ ls.rest } | line ∷ lines ↦ record { whole = (b ∷ line) ∷ lines; rest = ls.rest } ]
+
 -- a line with its feed is the first line
 first_line : (line rest : List ℕ) → has_byte 10 line ≡ false → lines_of (line ++ 10 ∷ rest) ≡ record { whole = line ∷ (lines_of rest).whole; rest = (lines_of rest).rest }
 first_line [] rest h = refl
 first_line (b ∷ bs) rest h =
     let e : eqb b 10 ≡ false = left_false (eqb b 10) (has_byte 10 bs) h in
     let next : lines_of (bs ++ 10 ∷ rest) ≡ record { whole = bs ∷ (lines_of rest).whole; rest = (lines_of rest).rest } = first_line bs rest (right_false (eqb b 10) (has_byte 10 bs) h) in
-    rw (lines_of, e, next) refl
+    rw (lines_of, e) (ap (put b) next)
 
 -- a text without a feed has no whole line
 no_line : (text : List ℕ) → has_byte 10 text ≡ false → lines_of text ≡ record { whole = []; rest = text }
@@ -30,13 +34,17 @@ no_line [] h = refl
 no_line (b ∷ bs) h =
     let e : eqb b 10 ≡ false = left_false (eqb b 10) (has_byte 10 bs) h in
     let next : lines_of bs ≡ record { whole = []; rest = bs } = no_line bs (right_false (eqb b 10) (has_byte 10 bs) h) in
-    rw (lines_of, e, next) refl
+    rw (lines_of, e) (ap (put b) next)
+
+with_first : (line : List ℕ) (lines : List (List ℕ)) (rest : List ℕ) → lines_with (line ∷ lines) rest ≡ line ∷ lines_with lines rest
+with_first line lines [] = refl
+with_first line lines (b ∷ bs) = refl
 
 lines_first : (line rest : List ℕ) → has_byte 10 line ≡ false → lines_in (line ++ 10 ∷ rest) ≡ line ∷ lines_in rest
-lines_first line rest h = rw (first_line line rest h) refl
+lines_first line rest h = ap (λ (ls : Lines). lines_with ls.whole ls.rest) (first_line line rest h) ∙ with_first line (lines_of rest).whole (lines_of rest).rest
 
 lines_last : (b : ℕ) (bs : List ℕ) → has_byte 10 (b ∷ bs) ≡ false → lines_in (b ∷ bs) ≡ (b ∷ bs) ∷ []
-lines_last b bs h = rw (no_line (b ∷ bs) h) refl
+lines_last b bs h = ap (λ (ls : Lines). lines_with ls.whole ls.rest) (no_line (b ∷ bs) h)
 
 -- a whole line is the next one
 pub gives_whole : (a b : Option (List ℕ)) (line : List ℕ) → TakesLine a b line → GivesLine (option_map lines_in a) (option_map lines_in b) line true

@@ -148,9 +148,10 @@ pages_end p from next count a b c d s t u first lines g asks e counted h n short
 pub says_more : (a b : Wire) (s t : Screen) (P Q : List Exchange → List (List ℕ) → Type 0) → ((es : List Exchange) (lines : List (List ℕ)) → P es lines → Q es lines) → Says a b s t P → Says a b s t Q
 says_more a b s t P Q f h = record { exchanges = h.exchanges; lines = h.lines; holds = f h.exchanges h.lines h.holds; made = h.made; shows = h.shows }
 
-pub load_said : (IsFile : List ℕ → List ℕ → Type 0) (joined : Bool) (a b : Wire) (s t : Screen) (text name source line : List ℕ) → IsTrimAscii text name → IsFile name source → ShowsOne a b s t (load_of source) line → Says a b s t (TakesTurn IsFile joined [] (load text) end.GoesOn)
-load_said IsFile joined a b s t text name source line trimmed is h =
-    says_more a b s t (AsksOne (load_of source)) (TakesTurn IsFile joined [] (load text) end.GoesOn) (λ es lines one. (record { name = name; source = source; trimmed = trimmed; asks = inl (is, one) }, rw one.asked refl)) (one_said a b s t (load_of source) line h)
+pub load_said : (IsFile : List ℕ → List ℕ → Type 0) (joined : Bool) (a b : Wire) (s t : Screen) (text name source sent line : List ℕ) → IsTrimAscii text name → IsFile name source → sent ≡ source → ShowsOne a b s t (load_of sent) line → Says a b s t (TakesTurn IsFile joined [] (load text) end.GoesOn)
+load_said IsFile joined a b s t text name source sent line trimmed is e h =
+    let P : List ℕ → Type 0 = λ x. ShowsOne a b s t (load_of x) line in
+    says_more a b s t (AsksOne (load_of source)) (TakesTurn IsFile joined [] (load text) end.GoesOn) (λ es lines one. (record { name = name; source = source; trimmed = trimmed; asks = inl (is, one) }, rw one.asked refl)) (one_said a b s t (load_of source) line (subst P e h))
 
 pub load_lacks : (IsFile : List ℕ → List ℕ → Type 0) (joined : Bool) (a : Wire) (s : Screen) (text name : List ℕ) → IsTrimAscii text name → Says a a s s (TakesTurn IsFile joined [] (load text) end.LacksFile)
 load_lacks IsFile joined a s text name trimmed = record {

@@ -1,5 +1,5 @@
 -- The lines that a user gives.
-use Rattle.std.specs.Prelude.{◌≡◌, ℕ, ⊤, nat_eq, if◌then◌else◌, length, Bool, true, false, List, [], ◌∷◌, ◌++◌, None, Some}
+use Rattle.std.specs.Prelude.{◌≡◌, ℕ, ⊤, Bool, true, false, List, [], ◌∷◌, ◌++◌, None, Some}
 use Rattle.kl1_model_server.specs.JournalText.{lines_of}
 use Rattle.std.specs.declared.option.Option.{Option}
 
@@ -21,6 +21,11 @@ abbrev pub IsAllGiven : Option (List (List ℕ)) → Type 0
 IsAllGiven None = ⊤
 IsAllGiven (Some lines) = lines ≡ []
 
+-- lines, and then the bytes after them as a last line, if there is one
+abbrev pub lines_with : List (List ℕ) → List ℕ → List (List ℕ)
+lines_with lines [] = lines
+lines_with lines (b ∷ bs) = lines ++ (b ∷ bs) ∷ []
+
 -- the lines of a text; the end of the text stands for the line feed of a last line
 abbrev pub lines_in : List ℕ → List (List ℕ)
-lines_in text = let ls = lines_of text in ls.whole ++ (if nat_eq (length ls.rest) 0 then [] else ls.rest ∷ [])
+lines_in text = lines_with (lines_of text).whole (lines_of text).rest

@@ -6,3 +6,6 @@ use Rattle.kl1_client_talk.proofs.line_reader.LineReader.next.Goals as goal
 pub returns-then-is_whole : goal.returns-then-is_whole
 returns-then-is_whole g c =
     gives_whole (coming g.S.Source.remaining c.args.self.now) (coming g.S.Source.remaining c.next_whole.new.self) _ (when_true c.in_ok-is_whole.is_whole _ c.if-is_whole.true c.in_ok-is_whole.ensures)
+
+pub returns : goal.returns
+returns g c = ?
