@@ -3,3 +3,4 @@ pub mod Lines
 pub mod Exchanged
 pub mod Paged
 pub mod Said
+pub mod Turns

@@ -1,7 +1,8 @@
 -- The lines of a text, taken one after another.
-use Rattle.std.proofs.Common.{◌≡◌, ℕ, ◌<◌, Bool, true, false, ◌||◌, eqb, List, [], ◌∷◌, ◌++◌, length, refl, ap, sym, ◌∙◌, append_assoc, arith}
+use Rattle.std.proofs.Common.{◌≡◌, ℕ, ◌<◌, Bool, true, false, not, nat_eq, ◌||◌, eqb, eqb-true, suc, List, [], ◌∷◌, ◌++◌, length, refl, ap, sym, ◌∙◌, append_assoc, arith}
 use Rattle.std.specs.Prelude.{None, Some, option_map}
 use Rattle.std.specs.declared.option.Option.{Option}
+use Rattle.std.proofs.lemmas.Bool.{true≢false}
 use Rattle.std.proofs.lemmas.List.{append-nil}
 use Rattle.kl1_model_server.specs.JournalText.{Lines, lines_of}
 use Rattle.kl1_lines.specs.Places.{has_byte}
@@ -48,15 +49,37 @@ lines_last b bs h = ap (λ (ls : Lines). lines_with ls.whole ls.rest) (no_line (
 
 -- a whole line is the next one
 pub gives_whole : (a b : Option (List ℕ)) (line : List ℕ) → TakesLine a b line → GivesLine (option_map lines_in a) (option_map lines_in b) line true
-gives_whole None b line t = tt
+gives_whole None None line t = tt
+gives_whole None (Some ys) line t = tt
 gives_whole (Some xs) None line t = absurd t.bytes
 gives_whole (Some xs) (Some ys) line t = ap lines_in (t.bytes ∙ append_assoc line (10 ∷ []) ys) ∙ lines_first line ys t.none
 
 -- what is left is the last line, if it has a byte
 pub gives_rest : (a b : Option (List ℕ)) (line : List ℕ) (found : Bool) → TakesRest a b line → (found ≡ true → 0 < length line) → (found ≡ false → line ≡ []) → GivesLine (option_map lines_in a) (option_map lines_in b) line found
-gives_rest None b line found t some none = tt
+gives_rest None None line found t some none = tt
+gives_rest None (Some ys) line true t some none = tt
+gives_rest None (Some ys) line false t some none = ap lines_in t.end
 gives_rest (Some xs) None line found t some none = absurd t.bytes
 gives_rest (Some xs) (Some ys) [] true t some none = absurd (omega (arith, some refl))
 gives_rest (Some xs) (Some ys) (b ∷ bs) true t some none =
     ap lines_in (t.bytes ∙ ap (λ x. (b ∷ bs) ++ x) t.end ∙ append-nil (b ∷ bs)) ∙ lines_last b bs t.none ∙ ap (λ x. (b ∷ bs) ∷ lines_in x) (sym t.end)
 gives_rest (Some xs) (Some ys) line false t some none = (ap lines_in (t.bytes ∙ ap (λ x. line ++ x) t.end ∙ append-nil line ∙ none refl), ap lines_in t.end)
+
+has_some : (xs : List ℕ) (empty : Bool) → empty ≡ nat_eq (length xs) 0 → not empty ≡ true → 0 < length xs
+has_some [] true h k = cc
+has_some [] false h k = cc
+has_some (x ∷ xs) empty h k = omega arith
+
+not_zero : (n : ℕ) → nat_eq (suc n) 0 ≡ true → ⊥
+not_zero n e = omega (arith, eqb-true (suc n) 0 e)
+
+has_none : (xs : List ℕ) (empty : Bool) → empty ≡ nat_eq (length xs) 0 → not empty ≡ false → xs ≡ []
+has_none [] empty h k = refl
+has_none (x ∷ xs) true h k = absurd (not_zero (length xs) (sym h))
+has_none (x ∷ xs) false h k = absurd (true≢false k)
+
+-- what is left is the last line, unless it is empty
+pub gives_last : (a b : Option (List ℕ)) (line told : List ℕ) (empty : Bool) → TakesRest a b line → told ≡ line → empty ≡ nat_eq (length told) 0 → GivesLine (option_map lines_in a) (option_map lines_in b) line (not empty)
+gives_last a b line told empty t same e =
+    let is : empty ≡ nat_eq (length line) 0 = e ∙ ap (λ x. nat_eq (length x) 0) same in
+    gives_rest a b line (not empty) t (has_some line empty is) (has_none line empty is)

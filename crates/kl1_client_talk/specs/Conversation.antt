@@ -1,6 +1,6 @@
 -- What is said for the lines of a user, and what is shown of it.
 use Rattle.std.specs.Prelude.{◌≡◌, ℕ, ◌+◌, ◌⊎◌, nat_eq, nat_lt, nat_le, not, ◌&&◌, Bool, true, false, if◌then◌else◌, List, [], ◌∷◌, ◌++◌, length, map, Some, codes}
-use Rattle.std.specs.List.{list_all, list_any, starts_with}
+use Rattle.std.specs.List.{list_all, list_any}
 use Rattle.kl1_model.specs.declared.limits.TheConstants.{MOST_LISTED}
 use Rattle.kl1_model.specs.Line.{without_return}
 use Rattle.kl1_model_server.specs.Command.{written_line, written_lines}
@@ -10,7 +10,7 @@ use Rattle.std.specs.Str.{IsTrimAscii}
 use Rattle.kl1_client_talk.specs.declared.turn_end.TurnEnd.{TurnEnd}
 use Rattle.kl1_client_talk.specs.declared.turn_end.TurnEnd.TheVariants as end
 use Rattle.kl1_client_talk.specs.Request.{load_of, page_line, status_line}
-use Rattle.kl1_client_talk.specs.Reply.{is_refusal, count_in, is_over}
+use Rattle.kl1_client_talk.specs.Reply.{is_refusal, count_in, is_over, is_bye}
 use Rattle.kl1_client_talk.specs.UserCommand.{Wanted, nothing, load, wait, pages, list, logout, one_line, wanted_in}
 use Rattle.kl1_client_talk.specs.Exchanges.{Exchange, Exchanges, Wire, Screen, Hears, Shows}
 use Rattle.kl1_client_talk.specs.Given.{GivesLines, IsAllGiven}
@@ -131,7 +131,7 @@ AsksWanted IsFile joined line one_line es shown = AsksOne (written_line line) es
 -- whether a farewell is shown
 abbrev pub is_farewell : List (List ℕ) → Bool
 is_farewell [] = false
-is_farewell (line ∷ lines) = starts_with nat_eq line (codes "+ bye")
+is_farewell (line ∷ lines) = is_bye line
 
 -- whether nothing was asked
 abbrev pub is_unasked : List Exchange → Bool

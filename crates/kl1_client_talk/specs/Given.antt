@@ -3,9 +3,11 @@ use Rattle.std.specs.Prelude.{◌≡◌, ℕ, ⊤, Bool, true, false, List, [], 
 use Rattle.kl1_model_server.specs.JournalText.{lines_of}
 use Rattle.std.specs.declared.option.Option.{Option}
 
--- a line was given, or there is none
+-- a line was given, or there is none, and then none is left
 abbrev pub GivesLine : Option (List (List ℕ)) → Option (List (List ℕ)) → List ℕ → Bool → Type 0
-GivesLine None new line found = ⊤
+GivesLine None None line found = ⊤
+GivesLine None (Some later) line true = ⊤
+GivesLine None (Some later) line false = later ≡ []
 GivesLine (Some lines) None line found = ⊥
 GivesLine (Some lines) (Some later) line true = lines ≡ line ∷ later
 GivesLine (Some lines) (Some later) line false = (lines ≡ []) × (later ≡ [])

@@ -11,7 +11,7 @@ ghost use Rattle.kl1_model_server.specs.Command.{written_line};
 use crate::caller::Caller;
 use crate::connection::Connection;
 use crate::fault::Fault;
-use crate::reply::{count_in, is_over, is_refusal};
+use crate::reply::{count_in, is_bye, is_over, is_refusal};
 use crate::reply_writer::ReplyWriter;
 use crate::request::{Page, Request};
 use crate::summary::TalkSummary;
@@ -34,8 +34,9 @@ pub fn talk<S: Source, T: Sink, O: Sink, C: Caller>(
     ensures ok { IfOk result (λ s. Talks C.is_file shown.old.are_pages_joined (login_line name.now key.now) (C.remaining caller.old) (C.remaining caller.new) (wire T.contents S.remaining connection.old) (wire T.contents S.remaining connection.new) (screen O.contents shown.old) (screen O.contents shown.new) s) }
 {
     connection.ask(Request::Login(name, key))?;
-    if is_refusal(connection.line()) {
-        shown.line(connection.line())?;
+    let first = connection.line();
+    if is_refusal(first) {
+        shown.line(first)?;
         shown.flush()?;
         return Ok(TalkSummary {
             was_refused: true,
@@ -43,8 +44,9 @@ pub fn talk<S: Source, T: Sink, O: Sink, C: Caller>(
         });
     }
     let lacked_file = take_turns(alloc, connection, shown, caller)?;
+    let was_refused = connection.was_refused();
     Ok(TalkSummary {
-        was_refused: connection.was_refused(),
+        was_refused,
         lacked_file,
     })
 }
@@ -61,16 +63,16 @@ fn take_turns<S: Source, T: Sink, O: Sink, C: Caller>(
     let mut line = Vec::new(alloc);
     let mut lacked_file = false;
     for _ in 0..u64::MAX {
-        if !caller.next(&mut line)? {
+        let found = caller.next(&mut line)?;
+        if !found {
             connection.ask(Request::Line(b"logout"))?;
             return Ok(lacked_file);
         }
         let end = take_turn(alloc, connection, shown, caller, line.as_slice())?;
         shown.flush()?;
-        match end {
-            TurnEnd::GoesOn => {}
-            TurnEnd::LacksFile => lacked_file = true,
-            TurnEnd::Over => return Ok(lacked_file),
+        lacked_file = end.lacks_file(lacked_file);
+        if end.is_over() {
+            return Ok(lacked_file);
         }
     }
     Err(Fault::Commands)
@@ -100,10 +102,11 @@ fn take_turn<S: Source, T: Sink, O: Sink, C: Caller>(
         UserCommand::Pages(page, from) => {
             if shown.are_pages_joined() {
                 ask_pages(connection, shown, page, from)?;
+                Ok(TurnEnd::GoesOn)
             } else {
                 ask_list(connection, shown, line)?;
+                Ok(TurnEnd::GoesOn)
             }
-            Ok(TurnEnd::GoesOn)
         }
         UserCommand::List => {
             ask_list(connection, shown, line)?;
@@ -111,7 +114,7 @@ fn take_turn<S: Source, T: Sink, O: Sink, C: Caller>(
         }
         UserCommand::Logout => {
             ask_one(connection, shown, Request::Line(line))?;
-            if connection.line().starts_with(b"+ bye") {
+            if is_bye(connection.line()) {
                 Ok(TurnEnd::Over)
             } else {
                 Ok(TurnEnd::GoesOn)
@@ -182,6 +185,7 @@ fn wait<S: Source, T: Sink, O: Sink, C: Caller>(
 ) -> Result<(), Fault>
     ensures ok { OnOk result (Says (wire T.contents S.remaining connection.old) (wire T.contents S.remaining connection.new) (screen O.contents shown.old) (screen O.contents shown.new) (Waits shoen)) }
     ensures joined { shown.new.are_pages_joined ≡ shown.old.are_pages_joined }
+    ensures caller { C.remaining caller.new ≡ C.remaining caller.old }
 {
     for looks in 1..u64::MAX {
         connection.ask(Request::Status(shoen))?;

@@ -55,7 +55,8 @@ impl<S: Source> LineReader<S> {
         if is_whole {
             return Ok(true);
         }
-        Ok(!line.is_empty())
+        let rest = line.as_slice();
+        Ok(!rest.is_empty())
     }
 
     /// Like `next`, but tells whether the line has a line feed. If it has none, `line` is all that was left.
