@@ -1,13 +1,12 @@
 -- What is still to come from a stream, as it is read.
 use Rattle.std.proofs.Common.{◌≡◌, ℕ, Bool, true, false, List, [], ◌∷◌, ◌++◌, refl, ap, sym, ◌∙◌, append_assoc, subst}
 use Rattle.std.specs.Prelude.{None, Some, MatchBool}
-use Rattle.std.specs.List.{list_any}
 use Rattle.std.specs.declared.option.Option.{Option}
 use Rattle.std.specs.Io.KnownBytes.{prepend_known, Consumes, IsAtEnd}
 use Rattle.std.proofs.lemmas.Bool.{true≢false}
 use Rattle.std.proofs.lemmas.List.{append-nil}
 use Rattle.std.proofs.lemmas.List.Folds.{list_any-append}
-use Rattle.kl1_lines.specs.Places.{has_byte, IsSplit}
+use Rattle.kl1_lines.specs.Places.{has_byte}
 use Rattle.kl1_client_talk.specs.Streams.{MovesLine, MovesAll, Refills, TakesLine, TakesRest, TakesSoFar}
 
 pub prepend_none : (a : Option (List ℕ)) → prepend_known [] a ≡ a

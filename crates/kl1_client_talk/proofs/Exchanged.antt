@@ -1,17 +1,17 @@
 -- Exchanges after one another, and what is shown of them.
-use Rattle.std.proofs.Common.{◌≡◌, ℕ, suc, ◌+◌, Bool, true, false, not, ◌||◌, ◌&&◌, List, [], ◌∷◌, ◌++◌, length, length-append, refl, ap, sym, ◌∙◌, append_assoc, subst, arith}
+use Rattle.std.proofs.Common.{◌≡◌, ℕ, ◌+◌, Bool, true, false, not, ◌||◌, ◌&&◌, List, [], ◌∷◌, ◌++◌, length, length-append, refl, ap, sym, ◌∙◌, append_assoc, subst, arith}
 use Rattle.std.specs.Prelude.{None, Some}
-use Rattle.std.specs.List.{list_all, list_any}
+use Rattle.std.specs.List.{list_all}
 use Rattle.std.specs.declared.option.Option.{Option}
 use Rattle.std.specs.Io.KnownBytes.{Appends, Consumes}
 use Rattle.std.proofs.lemmas.List.{append-nil}
 use Rattle.std.proofs.lemmas.List.Folds.{list_all-append, list_any-append}
 use Rattle.kl1_model_server.specs.Command.{written_line, written_lines}
 use Rattle.kl1_lines.specs.Places.{has_byte}
-use Rattle.kl1_lines.specs.Devices.{AppendsFront, GrowsIfKnown, PassesOn}
+use Rattle.kl1_lines.specs.Devices.{AppendsFront, GrowsIfKnown}
 use Rattle.kl1_lines.proofs.DeviceLaws.{appends_none, appends_both}
 use Rattle.kl1_client_talk.specs.Reply.{is_refusal}
-use Rattle.kl1_client_talk.specs.Exchanges.{Exchange, sent_in, come_in, are_lines, are_replies, is_refused, are_any_refused, Wire, Asks, Hears, Exchanges, Screen, Shows, ShowsFront, ShowsLines}
+use Rattle.kl1_client_talk.specs.Exchanges.{Exchange, sent_in, come_in, are_lines, is_refused, are_any_refused, Wire, Asks, Hears, Exchanges, Screen, Shows, ShowsLines}
 use Rattle.kl1_client_talk.proofs.Comings.{consumes_none, consumes_both}
 
 or_false : (b : Bool) → (b || false) ≡ b

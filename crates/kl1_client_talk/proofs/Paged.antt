@@ -1,6 +1,5 @@
 -- Pages after one another.
-use Rattle.std.proofs.Common.{◌≡◌, ℕ, ◌+◌, true, not, map, List, [], ◌∷◌, ◌++◌, length, refl, ap, sym, ◌∙◌, append_assoc, add_assoc, add-zero, zero-add, arith}
-use Rattle.std.proofs.lemmas.List.{append-nil}
+use Rattle.std.proofs.Common.{◌≡◌, ℕ, ◌+◌, true, not, map, List, [], ◌∷◌, ◌++◌, length, refl, ap, sym, ◌∙◌, append_assoc, add_assoc, add-zero, arith}
 use Rattle.kl1_client_talk.specs.declared.request.Page.{Page}
 use Rattle.kl1_client_talk.specs.Request.{page_line}
 use Rattle.kl1_client_talk.specs.Reply.{is_over}

@@ -16,7 +16,7 @@ use Rattle.kl1_client_talk.specs.Reply.{is_refusal, is_bye}
 use Rattle.kl1_client_talk.specs.UserCommand.{Wanted, nothing, load, wait, pages, list, logout, one_line, wanted_in}
 use Rattle.kl1_client_talk.specs.Exchanges.{Exchange, Exchanges, Wire, Screen, Asks, Shows, ShowsOne, Says}
 use Rattle.kl1_client_talk.specs.Given.{GivesLine, GivesLines, IsAllGiven}
-use Rattle.kl1_client_talk.specs.Conversation.{AsksOne, AsksList, AsksPages, AsksNothing, Waits, TakesTurn, Turn, AreTurns, IsOverAtLast, TakesTurns, FollowsLogin, Talks, asked_in, shown_in, end_of, turn_end, lacks_file, is_over_at}
+use Rattle.kl1_client_talk.specs.Conversation.{AsksOne, AsksList, AsksPages, AsksNothing, Waits, TakesTurn, Turn, AreTurns, IsOverAtLast, TakesTurns, FollowsLogin, Talks, asked_in, shown_in, end_of, lacks_file, is_over_at}
 use Rattle.kl1_client_talk.proofs.Exchanged.{hears_none, one_exchange, exchanges_both, no_exchange, shows_one, shows_both, shows_lines_both, shows_none, all_both, or_true}
 use Rattle.kl1_client_talk.proofs.Said.{one_said, turn_said}
 

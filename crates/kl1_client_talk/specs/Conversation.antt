@@ -1,5 +1,5 @@
 -- What is said for the lines of a user, and what is shown of it.
-use Rattle.std.specs.Prelude.{◌≡◌, ℕ, ◌+◌, ◌⊎◌, nat_eq, nat_lt, nat_le, not, ◌&&◌, Bool, true, false, if◌then◌else◌, List, [], ◌∷◌, ◌++◌, length, map, Some, codes}
+use Rattle.std.specs.Prelude.{◌≡◌, ℕ, ◌+◌, ◌⊎◌, nat_lt, nat_le, not, ◌&&◌, Bool, true, false, if◌then◌else◌, List, [], ◌∷◌, ◌++◌, length, map, Some, codes}
 use Rattle.std.specs.List.{list_all, list_any}
 use Rattle.kl1_model.specs.declared.limits.TheConstants.{MOST_LISTED}
 use Rattle.kl1_model.specs.Line.{without_return}

@@ -1,4 +1,4 @@
-use Rattle.std.proofs.Common.{◌∙◌, ap, sym, refl, ◌≡◌, ◌≤◌, ◌<◌, max}
+use Rattle.std.proofs.Common.{◌∙◌, sym, refl, ◌≤◌, ◌<◌, max}
 use Rattle.std.proofs.lemmas.Result.{on_ok_weaker}
 use Rattle.kl1_client_talk.specs.Conversation.{most_of}
 use Rattle.kl1_client_talk.specs.Exchanges.{wire, screen}
