@@ -1,7 +1,9 @@
 // Clients over streams in memory.
 
+ghost use Rattle.std.specs.Prelude.{◌≡◌, None};
+
 use crate::session::streams::Pieces;
-use kl1_client_talk::{Caller, Connection, Fault, LineReader, status_of, talk};
+use kl1_client_talk::{Caller, Connection, Fault, LineReader, ReplyWriter, status_of, talk};
 use kl1_lines::{FailureCounter, is_same};
 use kl1_tests_rows::{Text, cut};
 use std::alloc::Global;
@@ -13,6 +15,10 @@ struct Script<'a> {
 }
 
 impl Caller for Script<'_> {
+    ghost remaining = { λ s. None };
+
+    ghost is_file = { λ name bytes. bytes ≡ name };
+
     fn next(&mut self, line: &mut Vec<u8>) -> Result<bool, Fault> {
         self.lines.next(line, Fault::Commands)
     }
@@ -30,7 +36,7 @@ impl Caller for Script<'_> {
 /// bar and what it shows.
 fn talk_of(alloc: Global, commands: &[u8], replies: &[u8], size: usize, is_paged: bool) -> Text {
     let mut sent = Vec::new(alloc);
-    let mut shown = FailureCounter::new(Vec::new(alloc));
+    let mut shown = Vec::new(alloc);
     let mut caller = Script {
         lines: LineReader::new(alloc, FailureCounter::new(commands)),
     };
@@ -40,14 +46,14 @@ fn talk_of(alloc: Global, commands: &[u8], replies: &[u8], size: usize, is_paged
     });
     let status = {
         let mut connection = Connection::new(alloc, source, FailureCounter::new(&mut sent));
+        let mut replies = ReplyWriter::new(alloc, FailureCounter::new(&mut shown), is_paged);
         status_of(talk(
             alloc,
             &mut connection,
-            &mut shown,
+            &mut replies,
             &mut caller,
             b"alice",
             b"k1",
-            is_paged,
         ))
     };
     let mut text = Text::new(alloc);
@@ -55,7 +61,7 @@ fn talk_of(alloc: Global, commands: &[u8], replies: &[u8], size: usize, is_paged
     text.put(b"|");
     text.put(sent.as_slice());
     text.put(b"|");
-    text.put(shown.inner.as_slice());
+    text.put(shown.as_slice());
     text
 }
 

@@ -1,7 +1,7 @@
-// The first lines of replies.
+// The first line of a reply.
 
 ghost use Rattle.std.specs.Prelude.{◌≡◌};
-ghost use Rattle.kl1_client_talk.specs.Replies.{count_in, has_ended, is_refusal};
+ghost use Rattle.kl1_client_talk.specs.Reply.{count_in, has_ended, is_bye, is_over, is_refusal};
 
 use kl1_lines::{is_same, only_number, split_word};
 
@@ -32,4 +32,18 @@ pub fn has_ended(line: &[u8]) -> bool
     let (_, rest) = split_word(line);
     let (state, _) = split_word(rest);
     is_same(state, b"terminated") || is_same(state, b"aborted")
+}
+
+/// Whether a wait for a shoen is over, by the reply to a question for its status: the shoen has ended, or the question is refused.
+pub(crate) fn is_over(line: &[u8]) -> bool
+    ensures { result ≡ is_over line.now }
+{
+    is_refusal(line) || has_ended(line)
+}
+
+/// Whether a reply to a logout is a farewell.
+pub(crate) fn is_bye(line: &[u8]) -> bool
+    ensures { result ≡ is_bye line.now }
+{
+    line.starts_with(b"+ bye")
 }

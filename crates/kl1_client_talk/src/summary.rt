@@ -1,4 +1,4 @@
-// How a talk ended, and the status of a program that held it.
+// What went wrong in a talk, and the status of a program that held it.
 
 ghost use Rattle.std.specs.Prelude.{◌≡◌, IfOk, IsErr, true, if◌then◌else◌};
 
@@ -16,9 +16,9 @@ pub const BAD_WORDS: u8 = 2;
 /// The status if the talk ended before its commands did, and if a file could not be loaded.
 pub const TROUBLE: u8 = 3;
 
-/// How a talk ended that came to its end.
+/// What went wrong in a talk that came to its end.
 #[derive(Clone, Copy)]
-pub struct Outcome {
+pub struct TalkSummary {
     /// Whether a reply was a refusal.
     pub was_refused: bool,
     /// Whether a file could not be loaded.
@@ -26,20 +26,20 @@ pub struct Outcome {
 }
 
 /// The status of a talk.
-pub fn status_of(talked: Result<Outcome, Fault>) -> u8
+pub fn status_of(talked: Result<TalkSummary, Fault>) -> u8
     ensures fault { IsErr talked → result ≡ 3 }
     ensures ok { IfOk talked (λ o. result ≡ (if o.lacked_file then 3 else if o.was_refused then 1 else 0)) }
 {
     match talked {
         Err(_) => TROUBLE,
         Ok(
-            Outcome {
+            TalkSummary {
                 lacked_file: true,
                 ..
             },
         ) => TROUBLE,
         Ok(
-            Outcome {
+            TalkSummary {
                 was_refused: true,
                 ..
             },
