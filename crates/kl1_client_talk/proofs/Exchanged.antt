@@ -14,7 +14,7 @@ use Rattle.kl1_client_talk.specs.Reply.{is_refusal}
 use Rattle.kl1_client_talk.specs.Exchanges.{Exchange, sent_in, come_in, are_lines, is_refused, are_any_refused, Wire, Asks, Hears, Exchanges, Screen, Shows, ShowsLines}
 use Rattle.kl1_client_talk.proofs.Comings.{consumes_none, consumes_both}
 
-or_false : (b : Bool) → (b || false) ≡ b
+pub or_false : (b : Bool) → (b || false) ≡ b
 or_false true = refl
 or_false false = refl
 

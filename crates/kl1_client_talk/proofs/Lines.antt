@@ -55,7 +55,7 @@ gives_whole (Some xs) None line t = absurd t.bytes
 gives_whole (Some xs) (Some ys) line t = ap lines_in (t.bytes ∙ append_assoc line (10 ∷ []) ys) ∙ lines_first line ys t.none
 
 -- what is left is the last line, if it has a byte
-pub gives_rest : (a b : Option (List ℕ)) (line : List ℕ) (found : Bool) → TakesRest a b line → (found ≡ true → 0 < length line) → (found ≡ false → line ≡ []) → GivesLine (option_map lines_in a) (option_map lines_in b) line found
+gives_rest : (a b : Option (List ℕ)) (line : List ℕ) (found : Bool) → TakesRest a b line → (found ≡ true → 0 < length line) → (found ≡ false → line ≡ []) → GivesLine (option_map lines_in a) (option_map lines_in b) line found
 gives_rest None None line found t some none = tt
 gives_rest None (Some ys) line true t some none = tt
 gives_rest None (Some ys) line false t some none = ap lines_in t.end

@@ -8,16 +8,15 @@ use Rattle.std.proofs.lemmas.List.{append-nil, map-append}
 use Rattle.std.proofs.lemmas.List.Folds.{list_any-append}
 use Rattle.kl1_model.specs.Line.{without_return}
 use Rattle.kl1_model_server.specs.Command.{written_line, written_lines}
-use Rattle.kl1_client_talk.specs.declared.request.Page.{Page}
 use Rattle.kl1_client_talk.specs.declared.summary.TalkSummary.{TalkSummary}
 use Rattle.kl1_client_talk.specs.declared.turn_end.TurnEnd.{TurnEnd}
 use Rattle.kl1_client_talk.specs.declared.turn_end.TurnEnd.TheVariants as end
 use Rattle.kl1_client_talk.specs.Reply.{is_refusal, is_bye}
-use Rattle.kl1_client_talk.specs.UserCommand.{Wanted, nothing, load, wait, pages, list, logout, one_line, wanted_in}
+use Rattle.kl1_client_talk.specs.UserCommand.{Wanted, nothing, logout, one_line, wanted_in}
 use Rattle.kl1_client_talk.specs.Exchanges.{Exchange, Exchanges, Wire, Screen, Asks, Shows, ShowsOne, Says}
 use Rattle.kl1_client_talk.specs.Given.{GivesLine, GivesLines, IsAllGiven}
-use Rattle.kl1_client_talk.specs.Conversation.{AsksOne, AsksList, AsksPages, AsksNothing, Waits, TakesTurn, Turn, AreTurns, IsOverAtLast, TakesTurns, FollowsLogin, Talks, asked_in, shown_in, end_of, lacks_file, is_over_at}
-use Rattle.kl1_client_talk.proofs.Exchanged.{hears_none, one_exchange, exchanges_both, no_exchange, shows_one, shows_both, shows_lines_both, shows_none, all_both, or_true}
+use Rattle.kl1_client_talk.specs.Conversation.{AsksOne, AsksNothing, TakesTurn, Turn, AreTurns, IsOverAtLast, TakesTurns, FollowsLogin, Talks, asked_in, shown_in, end_of, lacks_file, is_over_at}
+use Rattle.kl1_client_talk.proofs.Exchanged.{hears_none, one_exchange, exchanges_both, no_exchange, shows_one, shows_both, shows_lines_both, shows_none, all_both, or_false, or_true}
 use Rattle.kl1_client_talk.proofs.Said.{one_said, turn_said}
 
 -- ---- one turn
@@ -25,32 +24,6 @@ use Rattle.kl1_client_talk.proofs.Said.{one_said, turn_said}
 pub nothing_turn : (IsFile : List ℕ → List ℕ → Type 0) (joined : Bool) (line : List ℕ) (wanted : Wanted) (a : Wire) (s : Screen) → nothing ≡ wanted → Says a a s s (TakesTurn IsFile joined line wanted end.GoesOn)
 nothing_turn IsFile joined line wanted a s e =
     turn_said IsFile joined line wanted nothing a a s s AsksNothing e (λ es lines h. (h, refl)) (record { exchanges = []; lines = []; holds = (refl, refl); made = no_exchange a; shows = shows_none s })
-
-pub load_turn : (IsFile : List ℕ → List ℕ → Type 0) (joined : Bool) (line : List ℕ) (wanted : Wanted) (text : List ℕ) (a b : Wire) (s t : Screen) (e : TurnEnd) → load text ≡ wanted → Says a b s t (TakesTurn IsFile joined [] (load text) e) → Says a b s t (TakesTurn IsFile joined line wanted e)
-load_turn IsFile joined line wanted text a b s t e same h =
-    let Q : Wanted → Type 0 = λ w. Says a b s t (TakesTurn IsFile joined line w e) in
-    subst Q same h
-
-pub wait_turn : (IsFile : List ℕ → List ℕ → Type 0) (joined : Bool) (line : List ℕ) (wanted : Wanted) (shoen : ℕ) (a b : Wire) (s t : Screen) → wait shoen ≡ wanted → Says a b s t (Waits shoen) → Says a b s t (TakesTurn IsFile joined line wanted end.GoesOn)
-wait_turn IsFile joined line wanted shoen a b s t e h =
-    turn_said IsFile joined line wanted (wait shoen) a b s t (Waits shoen) e (λ es lines w. (w, refl)) h
-
-pub pages_turn : (IsFile : List ℕ → List ℕ → Type 0) (joined : Bool) (line : List ℕ) (wanted : Wanted) (p : Page) (from : ℕ) (a b : Wire) (s t : Screen) → joined ≡ true → pages p from ≡ wanted → Says a b s t (AsksPages p from) → Says a b s t (TakesTurn IsFile joined line wanted end.GoesOn)
-pages_turn IsFile true line wanted p from a b s t j e h =
-    turn_said IsFile true line wanted (pages p from) a b s t (AsksPages p from) e (λ es lines w. (w, refl)) h
-pages_turn IsFile false line wanted p from a b s t j e h = absurd (true≢false (sym j))
-
-listed_as : (a b : Wire) (s t : Screen) (told line : List ℕ) → told ≡ line → Says a b s t (AsksList (written_line told)) → Says a b s t (AsksList (written_line line))
-listed_as a b s t told line same h = let P : List ℕ → Type 0 = λ x. Says a b s t (AsksList (written_line x)) in subst P same h
-
-pub page_turn : (IsFile : List ℕ → List ℕ → Type 0) (joined : Bool) (line : List ℕ) (wanted : Wanted) (p : Page) (from : ℕ) (a b : Wire) (s t : Screen) (told : List ℕ) → told ≡ line → joined ≡ false → pages p from ≡ wanted → Says a b s t (AsksList (written_line told)) → Says a b s t (TakesTurn IsFile joined line wanted end.GoesOn)
-page_turn IsFile true line wanted p from a b s t told same j e h = absurd (true≢false j)
-page_turn IsFile false line wanted p from a b s t told same j e h =
-    turn_said IsFile false line wanted (pages p from) a b s t (AsksList (written_line line)) e (λ es lines w. (w, refl)) (listed_as a b s t told line same h)
-
-pub list_turn : (IsFile : List ℕ → List ℕ → Type 0) (joined : Bool) (line : List ℕ) (wanted : Wanted) (a b : Wire) (s t : Screen) (told : List ℕ) → told ≡ line → list ≡ wanted → Says a b s t (AsksList (written_line told)) → Says a b s t (TakesTurn IsFile joined line wanted end.GoesOn)
-list_turn IsFile joined line wanted a b s t told same e h =
-    turn_said IsFile joined line wanted list a b s t (AsksList (written_line line)) e (λ es lines w. (w, refl)) (listed_as a b s t told line same h)
 
 shown_one_as : (a b : Wire) (s t : Screen) (told line reply : List ℕ) → told ≡ line → ShowsOne a b s t (written_line told) reply → ShowsOne a b s t (written_line line) reply
 shown_one_as a b s t told line reply same h = let P : List ℕ → Type 0 = λ x. ShowsOne a b s t (written_line x) reply in subst P same h
@@ -127,10 +100,6 @@ pub found_none : (a b : Option (List (List ℕ))) (line : List ℕ) (found : Boo
 found_none a b line found e h = let P : Bool → Type 0 = λ x. GivesLine a b line x in subst P e h
 
 -- ---- turns after one another
-
-or_false : (b : Bool) → (b || false) ≡ b
-or_false true = refl
-or_false false = refl
 
 asked_both : (ts us : List Turn) → asked_in (ts ++ us) ≡ asked_in ts ++ asked_in us
 asked_both [] us = refl

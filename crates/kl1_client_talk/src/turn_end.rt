@@ -25,7 +25,7 @@ impl TurnEnd {
         }
     }
 
-    /// Whether a file could not be loaded in this turn, or in one before it, of which `before` tells that.
+    /// Whether a file could not be loaded in this turn or, as `before` tells, in an earlier one.
     pub(crate) fn lacks_file(self, before: bool) -> bool
         ensures { result ≡ (before || lacks_file self) }
     {
