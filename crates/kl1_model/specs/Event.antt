@@ -1,12 +1,12 @@
 -- Events, replies and refusals.
-use Rattle.std.specs.Prelude.{ℕ, suc, nat_le, nat_lt, ◌&&◌, Bool, if◌then◌else◌, List, length}
-use Rattle.kl1_model.specs.declared.limits.TheConstants.{MOST_ENTRIES, MOST_PRIORITY, MOST_NAMES, NUMBER_LIMIT}
+use Rattle.std.specs.Prelude.{ℕ, suc, ◌==◌, nat_le, nat_lt, not, ◌&&◌, ◌||◌, Bool, true, false, if◌then◌else◌, List, [], ◌∷◌, length}
+use Rattle.kl1_model.specs.declared.limits.TheConstants.{MOST_PRIORITY, MOST_NAMES, NUMBER_LIMIT}
 use Rattle.kl1_model.specs.declared.message.Message.{Message}
 use Rattle.kl1_model.specs.declared.condition.Condition.{Condition}
 use Rattle.kl1_model.specs.Term.{Term}
-use Rattle.kl1_model.specs.State.{State}
+use Rattle.kl1_model.specs.State.{State, limits_of}
 
--- why an account refuses an event, with the line of a bad source
+-- why an account refuses an event, in order of number, from 1 to 9, and 12 and 13; with the line of a bad source
 pub data Refusal : Type 0 where
   syntax : Refusal
   source : ℕ → Refusal
@@ -69,21 +69,42 @@ refuse s r = record { state = s; reply = refused r }
 abbrev pub is_number : ℕ → Bool
 is_number n = nat_lt n NUMBER_LIMIT
 
--- one entry more is counted
+-- whether a reply is a refusal
+abbrev pub is_refused : Reply → Bool
+is_refused (refused r) = true
+is_refused _ = false
+
+-- what comes of an event, unless the account refuses it: by the first of these refusals whose test holds; they stand in order of number
+abbrev pub unless : State → List (Bool × Refusal) → Transition → Transition
+unless s [] after = after
+unless s (r ∷ rs) after = if r.0 then refuse s r.1 else unless s rs after
+
+-- whether names are more than an account may have used
+abbrev pub are_too_many : List (List ℕ) → Bool
+are_too_many names = not (nat_le (length names) MOST_NAMES)
+
+-- whether the journal has no room for one entry more
+abbrev pub is_full : State → Bool
+is_full s = not (nat_lt s.entries (limits_of s.rules).entries)
+
+-- one entry more is counted, which is no run
 abbrev pub with_entry : State → State
-with_entry s = record s { entries = suc s.entries }
+with_entry s = record s { entries = suc s.entries; run = 0 }
 
--- a change that is an entry of the journal: refused if the journal is full
-abbrev pub recorded : State → Transition → Transition
-recorded s after = if nat_lt s.entries MOST_ENTRIES then after else refuse s journal_full
+-- how many reductions the last run has after one more, if it had `n`: one more, or 1 in a new run if that is too many or there was none
+abbrev pub run_after : ℕ → ℕ
+run_after n = if is_number (suc n) then suc n else 1
 
--- a change after which these names are used: refused if they are too many
-abbrev pub named : State → List (List ℕ) → Transition → Transition
-named s names after = if nat_le (length names) MOST_NAMES then after else refuse s too_many_names
+-- whether a reduction needs one entry more: it is in no run, or in a new one
+abbrev pub needs_entry : Bool → State → Bool
+needs_entry in_run s = not in_run || run_after s.run == 1
 
--- a change that keeps to the limits of an account, as a test tells: refused if it doesn't
-abbrev pub limited : State → Bool → Transition → Transition
-limited s keeps after = if keeps then after else refuse s limit_passed
+-- one reduction more is counted in the journal, in a run or as an entry
+abbrev pub with_reduction : Bool → State → State
+with_reduction in_run s = record s {
+  entries = if needs_entry in_run s then suc s.entries else s.entries;
+  run = if in_run then run_after s.run else 0;
+}
 
 -- whether priorities from low to high are a range
 abbrev pub is_range : ℕ → ℕ → Bool

@@ -1,6 +1,6 @@
 -- Reductions: what a goal can do, and what comes of it.
-use Rattle.std.specs.Prelude.{ℕ, suc, ◌+◌, ◌==◌, nat_le, min, ◌&&◌, Bool, true, false, if◌then◌else◌, List, [], ◌∷◌, ◌++◌, length, map, find, codes, bytes_eq, Option, Some, None, option_map, option_and_then, unwrap_or}
-use Rattle.kl1_model.specs.declared.limits.TheConstants.{MOST_GOALS, MOST_VARIABLES, MOST_NODES, MOST_NAMES, MOST_ALLOWANCE}
+use Rattle.std.specs.Prelude.{ℕ, suc, ◌+◌, ◌==◌, nat_le, min, not, ◌&&◌, Bool, true, false, if◌then◌else◌, List, [], ◌∷◌, ◌++◌, length, map, find, codes, bytes_eq, Option, Some, None, option_map, option_and_then, unwrap_or}
+use Rattle.kl1_model.specs.declared.limits.TheConstants.{MOST_ALLOWANCE}
 use Rattle.kl1_model.specs.Term.{Term, variable, integer, atom, structure, none, more, Replacement}
 use Rattle.kl1_model.specs.declared.rules.Rules.{Rules}
 use Rattle.kl1_model.specs.declared.number.Number.{Number}
@@ -16,9 +16,9 @@ use Rattle.kl1_model.specs.Match.{Call, call_of, Candidate, candidates_of, fails
 use Rattle.kl1_model.specs.Instance.{body_instance, body_priorities, fresh_variables}
 use Rattle.kl1_model.specs.Look.{spelling, goal_look, ExecuteArguments, arguments_look}
 use Rattle.kl1_model.specs.Control.{Control, awaits_message, tells, tells_other, ends, breaks_off, control_of}
-use Rattle.kl1_model.specs.State.{Task, monitor, reduces, substitutes, Goal, State, has_substitutes, most_spelled, shoen_at, replace_all, change_shoen, without_goal, with_name}
+use Rattle.kl1_model.specs.State.{Task, monitor, reduces, substitutes, Goal, State, has_substitutes, most_spelled, limits_of, shoen_at, replace_all, change_shoen, without_goal, with_name}
 use Rattle.kl1_model.specs.Tree.{goals_alive, charge, is_enabled}
-use Rattle.kl1_model.specs.Event.{step_refused, reduced, Transition, refuse, with_entry, recorded}
+use Rattle.kl1_model.specs.Event.{step_refused, journal_full, reduced, Transition, refuse, unless, are_too_many, is_full, needs_entry, with_reduction}
 pub use Rattle.kl1_model.specs.Report.{failure, overflow, illegal_input, exhaustion}
 use Rattle.kl1_model.specs.Report.{report, is_reported, exception, exception_with, stopped_report, resumed_report}
 use Rattle.kl1_model.specs.Ending.{without_monitor, settle, after_reduction, abort}
@@ -122,8 +122,9 @@ goals_from last shoen (p ∷ ps) (t ∷ ts) = record { number = suc last; task =
 -- whether the body of a clause keeps to the limits on goals, variables and structures, in place of a goal that has been removed
 abbrev pub has_room_for : State → Clause → Bool
 has_room_for s c =
-    nat_le (goals_alive s + length c.body) MOST_GOALS && nat_le (s.variables + fresh_variables c) MOST_VARIABLES
-    && nat_le (s.nodes + goals_nodes (goals_of c.body)) MOST_NODES
+    let most = limits_of s.rules in
+    nat_le (goals_alive s + length c.body) most.goals && nat_le (s.variables + fresh_variables c) most.variables
+    && nat_le (s.nodes + goals_nodes (goals_of c.body)) most.nodes
 
 -- a goal's place taken by a clause's body; its goals have that goal's priority, or the one that they name, clipped to the shoen's range
 abbrev pub committed : Goal → Candidate → State → State
@@ -179,7 +180,7 @@ moved g t (raises kind) s = raised g kind t s
 moved g t (unifies a b) s = unified g t (mgu (equation a b)) s
 moved g t (names text a) s =
     let used = with_name s.names text in
-    or_exhaustion (nat_le (length used) MOST_NAMES) g t (unified g t (mgu (equation a (atom text))) (record s { names = used })) s
+    or_exhaustion (not (are_too_many used)) g t (unified g t (mgu (equation a (atom text))) (record s { names = used })) s
 moved g t (opens o) s = or_exhaustion (has_room_for_child s g.shoen) g t (open_child s g.shoen o) s
 moved g t goes s = s
 moved g t gives_way s = replaced_by g (reduces t) s
@@ -216,8 +217,12 @@ abbrev pub acted : Goal → Action → State → State
 acted g (moves t m) s = after_reduction g.shoen (moved g t m (charge g.shoen (without_goal g.number s)))
 acted g (reads c) s = settle g.shoen (heard g.shoen c s)
 
--- a reduction of a goal that may be there, if it is allowed
-abbrev pub reduce_goal : State → ℕ → Option Goal → Transition
-reduce_goal s clause None = refuse s step_refused
-reduce_goal s clause (Some g) =
-    elim (action_of s g clause) [ None ↦ refuse s step_refused | Some a ↦ recorded s (record { state = acted g a (with_entry s); reply = reduced }) ]
+-- a reduction that is noted in a run or as an entry: refused if that needs an entry and the journal is full
+abbrev pub noted_reduction : State → Bool → Goal → Action → Transition
+noted_reduction s in_run g a =
+    unless s ((needs_entry in_run s && is_full s, journal_full) ∷ []) (record { state = acted g a (with_reduction in_run s); reply = reduced })
+
+-- a reduction of a goal that may be there, if it is allowed, noted in a run or as an entry
+abbrev pub reduce_goal : State → Bool → ℕ → Option Goal → Transition
+reduce_goal s in_run clause None = refuse s step_refused
+reduce_goal s in_run clause (Some g) = elim (action_of s g clause) [ None ↦ refuse s step_refused | Some a ↦ noted_reduction s in_run g a ]

@@ -1,36 +1,41 @@
 -- Reports of a shoen, and the end of its report stream.
-use Rattle.std.specs.Prelude.{ℕ, suc, nat_lt, not, ◌&&◌, ◌||◌, Bool, true, false, if◌then◌else◌, List, [], ◌∷◌, codes, Some, None}
-use Rattle.kl1_model.specs.declared.limits.TheConstants.{MOST_REPORTS}
+use Rattle.std.specs.Prelude.{ℕ, suc, nat_lt, not, ◌&&◌, Bool, true, false, if◌then◌else◌, List, [], ◌∷◌, codes, Option, Some, None, is_some}
 use Rattle.kl1_model.specs.Term.{Term, variable, atom, structure, none, more, occurs}
 use Rattle.kl1_model.specs.Meaning.{pair, nil, cell}
-use Rattle.kl1_model.specs.State.{State, shoen_at, replace_in_state, change_shoen}
+use Rattle.kl1_model.specs.State.{State, limits_of, shoen_at, replace_in_state, change_shoen}
 
 -- the report stream of a shoen broken
 abbrev pub broken_at : ℕ → State → State
 broken_at n s = change_shoen n (λ h. record h { is_broken = true }) s
 
--- a report on an unbroken stream with this tail, which becomes a cell of the message and the next variable; if it can't, the stream breaks
-abbrev pub reported_at : ℕ → Term → Term → State → State
-reported_at n message (variable v) s =
+-- whether an account may make one report more
+abbrev pub may_report : State → Bool
+may_report s = nat_lt s.reports (limits_of s.rules).reports
+
+-- the variable that the tail of an unbroken stream is, if a report goes on it: one may be made, and its message doesn't hold the tail
+abbrev pub report_tail : Bool → Term → Term → Option ℕ
+report_tail may message (variable v) = if may && not (occurs v message) then Some v else None
+report_tail may message t = None
+
+-- a report of shoen `n` on a tail, which becomes a cell of the message and the next variable; if there is no tail for it, the stream breaks
+abbrev pub reported_on : ℕ → Term → Option ℕ → State → State
+reported_on n message None s = broken_at n s
+reported_on n message (Some v) s =
     let next = suc s.last_variable in
-    if occurs v message || not (nat_lt s.reports MOST_REPORTS) then broken_at n s
-    else
     change_shoen n (λ h. record h { tail = variable next })
     (record (replace_in_state v (cell message (variable next)) s) { last_variable = next; reports = suc s.reports })
-reported_at n message t s = broken_at n s
+
+-- a report on an unbroken stream with this tail
+abbrev pub reported_at : ℕ → Term → Term → State → State
+reported_at n message tail s = reported_on n message (report_tail (may_report s) message tail) s
 
 -- a report of shoen `n`; on a broken stream it is dropped
 abbrev pub report : ℕ → Term → State → State
 report n message s = elim (shoen_at n s.shoens) [ None ↦ s | Some h ↦ if h.is_broken then s else reported_at n message h.tail s ]
 
--- whether a report is made on an unbroken stream with this tail by an account that has made this number of reports
-abbrev pub is_reported_at : Term → Term → ℕ → Bool
-is_reported_at message (variable v) made = not (occurs v message) && nat_lt made MOST_REPORTS
-is_reported_at message t made = false
-
 -- whether a report of shoen `n` is made, and not dropped
 abbrev pub is_reported : ℕ → Term → State → Bool
-is_reported n message s = elim (shoen_at n s.shoens) [ None ↦ false | Some h ↦ not h.is_broken && is_reported_at message h.tail s.reports ]
+is_reported n message s = elim (shoen_at n s.shoens) [ None ↦ false | Some h ↦ not h.is_broken && is_some (report_tail (may_report s) message h.tail) ]
 
 -- a report with this message of each of these shoens, in order
 abbrev pub report_each : List ℕ → Term → State → State

@@ -1,4 +1,4 @@
-//! Each number of the language and of the server, once, with its unit.
+//! Each number of the language and of the server that is the same by all rules, once, with its unit; and the limits that rules set.
 
 /// The most bytes of a name.
 pub const MOST_NAME_BYTES: usize = 127;
@@ -32,9 +32,6 @@ pub const MOST_PRIORITY: u64 = 4_095;
 
 /// The priority of a monitor.
 pub const MONITOR_PRIORITY: u64 = 4_096;
-
-/// The most entries of a journal.
-pub const MOST_ENTRIES: u64 = 262_144;
 
 /// The most bytes of a line of a journal's text, without its line feed.
 pub const MOST_LINE_BYTES: usize = 262_144;
@@ -72,24 +69,6 @@ pub const BUCKETS_EACH: u64 = 2_048;
 /// The most modules of an account.
 pub const MOST_MODULES: usize = 32;
 
-/// The most goals of an account at one time; monitors don't count.
-pub const MOST_GOALS: u64 = 8_192;
-
-/// The most variables of an account's starts, messages, answers and commits since its last reset.
-pub const MOST_VARIABLES: u64 = 262_144;
-
-/// The most structures of an account's starts, messages, answers and commits since its last reset.
-pub const MOST_NODES: u64 = 1_048_576;
-
-/// The most shoens that an account opens since its last reset.
-pub const MOST_SHOENS: u64 = 1_024;
-
-/// The most shoens on a path: how deep a shoen can be.
-pub const MOST_SHOEN_DEPTH: usize = 32;
-
-/// The most reports of an account since its last reset.
-pub const MOST_REPORTS: u64 = 65_536;
-
 /// The most sessions of an account that are open at one time.
 pub const MOST_SESSIONS: u64 = 4;
 
@@ -101,3 +80,25 @@ pub const MOST_ALLOWANCE: u64 = (1 << 63) - 1;
 
 /// The most codes from which `atom_from` makes a name by the first and the second rules.
 pub const MOST_SPELLED_BEFORE: usize = 63;
+
+/// No limit that rules set is greater than this, whichever rules they are.
+pub const MOST_OF_ALL: u64 = 268_435_456;
+
+/// The limits of an account that its rules set. Memory may end the account before it comes to them.
+#[derive(Clone, Copy)]
+pub struct Limits {
+    /// The most entries of the journal.
+    pub entries: u64,
+    /// The most goals at one time; monitors don't count.
+    pub goals: u64,
+    /// The most variables of starts, messages, answers and commits since the last reset.
+    pub variables: u64,
+    /// The most structures of starts, messages, answers and commits since the last reset.
+    pub nodes: u64,
+    /// The most shoens that are opened since the last reset.
+    pub shoens: u64,
+    /// The most shoens on a path: how deep a shoen can be.
+    pub depth: usize,
+    /// The most reports since the last reset.
+    pub reports: u64,
+}

@@ -1,5 +1,5 @@
 -- Parts of steps under names of their own: what contracts and proofs of code speak of.
-use Rattle.std.specs.Prelude.{ℕ, suc, ◌+◌, ◌-◌, ◌==◌, nat_lt, min, max, not, ◌&&◌, Bool, true, false, if◌then◌else◌, List, [], ◌∷◌, ◌++◌, map, take, drop, Option, Some, None, option_map, option_and_then, unwrap_or, ⊤}
+use Rattle.std.specs.Prelude.{ℕ, suc, ◌+◌, ◌-◌, ◌==◌, nat_lt, min, max, not, ◌&&◌, Bool, true, false, if◌then◌else◌, List, [], ◌∷◌, ◌++◌, map, take, drop, Option, Some, None, option_map, option_and_then, is_some, unwrap_or, ⊤}
 use Rattle.kl1_model.specs.declared.limits.TheConstants.{MONITOR_PRIORITY, MOST_ALLOWANCE, MOST_LISTED, MOST_SESSIONS}
 use Rattle.kl1_model.specs.declared.life.Life.{Life}
 use Rattle.kl1_model.specs.declared.life.Life.TheVariants.{Living, Terminated, Aborted}
@@ -15,22 +15,26 @@ use Rattle.kl1_model.specs.State.{monitor, reduces, Goal, Origin, Shoen, State, 
 use Rattle.kl1_model.specs.Tree.{is_on_path, charged_of, is_exhausted, goals_below}
 use Rattle.kl1_model.specs.Look.{ExecuteArguments, arguments_look}
 use Rattle.kl1_model.specs.Control.{control_of}
-use Rattle.kl1_model.specs.Event.{step_refused, no_shoen, shoen_ended, sessions_refused, reduced, sent, shown, status_is, listed, welcome, bye, Transition, refuse, with_entry, recorded, named, limited}
-use Rattle.kl1_model.specs.Report.{reported_at, report, is_reported_at, closed_at, stopped_report, resumed_report}
+use Rattle.kl1_model.specs.Event.{step_refused, no_shoen, shoen_ended, sessions_refused, shown, status_is, listed, welcome, bye, Transition, refuse}
+use Rattle.kl1_model.specs.Report.{report_tail, reported_at, report, closed_at, stopped_report, resumed_report}
 use Rattle.kl1_model.specs.Opening.{clipped_to}
-use Rattle.kl1_model.specs.Reduction.{Move, opens, gives_way, move_found, Action, read_action, unified, equation, with_stopped, acted}
+use Rattle.kl1_model.specs.Reduction.{Move, opens, gives_way, move_found, Action, read_action, unified, equation, with_stopped, noted_reduction}
 use Rattle.kl1_model.specs.Choice.{Chosen, clause_for}
-use Rattle.kl1_model.specs.Sending.{has_room_to_send, sent_on}
+use Rattle.kl1_model.specs.Sending.{send_living}
 use Rattle.kl1_model.specs.Asking.{condition_of, elements_of, reply_about}
-use Rattle.kl1_model.specs.Answering.{has_room_to_answer, unanswered_at, answer_by}
+use Rattle.kl1_model.specs.Answering.{answer_living}
 
 -- a report of a shoen that may be there; on a broken stream it is dropped
 abbrev pub report_of : Option Shoen → ℕ → Term → State → State
 report_of h n message s = elim h [ None ↦ s | Some h ↦ if h.is_broken then s else reported_at n message h.tail s ]
 
--- whether a report of a shoen that may be there is made
-abbrev pub is_reported_of : Option Shoen → Term → ℕ → Bool
-is_reported_of h message made = elim h [ None ↦ false | Some h ↦ not h.is_broken && is_reported_at message h.tail made ]
+-- whether a report is made on an unbroken stream with this tail, if one more may be made
+abbrev pub is_reported_at : Bool → Term → Term → Bool
+is_reported_at may message tail = is_some (report_tail may message tail)
+
+-- whether a report of a shoen that may be there is made, if one more may be made
+abbrev pub is_reported_of : Option Shoen → Term → Bool → Bool
+is_reported_of h message may = elim h [ None ↦ false | Some h ↦ not h.is_broken && is_reported_at may message h.tail ]
 
 -- the end of the report stream of a shoen that may be there
 abbrev pub close_of : Option Shoen → State → State
@@ -82,9 +86,9 @@ resumed_of h n s = elim h [ None ↦ s | Some h ↦ if h.is_stopped then report 
 abbrev pub allowed_more : ℕ → Shoen → Shoen
 allowed_more extra h = record h { allowance = min (h.allowance + extra) MOST_ALLOWANCE }
 
--- a reduction, if it is allowed
-abbrev pub reduced_by : State → Goal → Option Action → Transition
-reduced_by s g action = elim action [ None ↦ refuse s step_refused | Some a ↦ recorded s (record { state = acted g a (with_entry s); reply = reduced }) ]
+-- a reduction, if it is allowed, noted in a run or as an entry
+abbrev pub reduced_by : State → Bool → Goal → Option Action → Transition
+reduced_by s in_run g action = elim action [ None ↦ refuse s step_refused | Some a ↦ noted_reduction s in_run g a ]
 
 -- a goal with the clause by which it can step
 abbrev pub chosen : State → Goal → Option Chosen
@@ -99,10 +103,7 @@ abbrev pub send_by : State → ℕ → Message → Shoen → Option Origin → T
 send_by s n m h origin =
     elim origin [
       | None ↦ refuse s no_shoen
-      | Some o ↦
-          if is_living h.life
-          then limited s (has_room_to_send s m) (recorded s (record { state = with_entry (sent_on n m o.control s); reply = sent }))
-          else refuse s shoen_ended
+      | Some o ↦ if is_living h.life then send_living s n m o else refuse s shoen_ended
     ]
 
 -- the elements of a list whose first cell has this name and these arguments
@@ -135,10 +136,7 @@ abbrev pub answer_in : State → ℕ → Term → Shoen → Option Origin → Tr
 answer_in s report t h origin =
     elim origin [
       | None ↦ refuse s no_shoen
-      | Some o ↦
-          if is_living h.life
-          then named s (with_names s.names (names_of t)) (limited s (has_room_to_answer s t) (recorded s (answer_by s t (unanswered_at o.reports report))))
-          else refuse s shoen_ended
+      | Some o ↦ if is_living h.life then answer_living s report t o else refuse s shoen_ended
     ]
 
 -- an account with one more module, whose names are used
