@@ -1,14 +1,13 @@
 // What an event changes in a journal.
 
 ghost use Rattle.std.specs.Prelude.{◌≡◌, ◌<◌, ℕ, List, is_some, if◌then◌else◌, IfOk, IsOk, IsTrue};
-ghost use Rattle.kl1_model.specs.laws.TreeLaws.{is_refused};
+ghost use Rattle.kl1_model.specs.Event.{is_refused};
 ghost use Rattle.kl1_user_events.specs.Views.{event_of, is_logout, reply_of};
 ghost use Rattle.kl1_model_server.specs.laws.TextLaws.{AreNames};
-ghost use Rattle.kl1_model_server.specs.Journal.{new_journal, steps};
-ghost use Rattle.kl1_journal_entries.specs.Lined.{if_lined, with_prepared};
+ghost use Rattle.kl1_model_server.specs.Journal.{new_journal, stepped};
 ghost use Rattle.kl1_journal.specs.Changes.{IsChange, HasRoom, SessionsFit, ReplyFits, IsEntered, changed, sessions_after};
 
-use kl1_journal_entries::{Journal, PendingEntry, entry_for, step_for};
+use kl1_journal_entries::{Journal, PendingEntry, entry_for};
 use kl1_text::AtomText;
 use kl1_user_events::{ClauseNo, Event, GoalNo, Refusal, Reply};
 use std::alloc::{AllocError, Global};
@@ -18,6 +17,8 @@ use std::alloc::{AllocError, Global};
 pub(crate) enum Change {
     /// This entry comes after the others, if there is one.
     Entry(PendingEntry),
+    /// A reduction is noted, in a run or as an entry.
+    Reduction { goal: GoalNo, clause: ClauseNo },
     /// The number of open sessions is what the reply tells.
     Sessions,
     /// The journal begins anew as this one.
@@ -58,10 +59,13 @@ pub(crate) fn prepare(
             report: _report,
             goal: _goal,
         } => entered(alloc, journal, event),
-        Event::Reduce {
-            goal: _goal,
-            clause: _clause,
-        } => entered(alloc, journal, event),
+        Event::Reduce { goal, clause } => {
+            journal.reserve()?;
+            Ok(Change::Reduction {
+                goal: *goal,
+                clause: *clause,
+            })
+        }
         Event::Read(_query) => entered(alloc, journal, event),
     }
 }
@@ -91,8 +95,8 @@ fn entered(alloc: Global, journal: &mut Journal, event: &Event) -> Result<Change
     Ok(Change::Entry(entry))
 }
 
-/// Changes a journal after a reply, unless that is a refusal.
-pub(crate) fn note(journal: &mut Journal, change: Change, reply: &Reply)
+/// Changes a journal after a reply, unless that is a refusal. `run` is how many reductions the account's last run has now, or 0.
+pub(crate) fn note(journal: &mut Journal, change: Change, run: u64, reply: &Reply)
     requires room { HasRoom journal.old change }
     requires sessions { SessionsFit journal.old.journal change (reply_of reply.now) }
     ensures { journal.new.journal ≡ (if is_refused (reply_of reply.now) then journal.old.journal else changed journal.old.journal change (reply_of reply.now)) }
@@ -102,23 +106,25 @@ pub(crate) fn note(journal: &mut Journal, change: Change, reply: &Reply)
     }
     match change {
         Change::Entry(entry) => journal.put(entry),
+        Change::Reduction { goal, clause } => journal.put_reduction(goal.0, clause.0, run),
         Change::Sessions => note_sessions(journal, reply),
         Change::Anew(new) => *journal = new,
     }
 }
 
-/// Puts the entry of a reduction after the others, unless it was refused.
+/// Notes a reduction, unless it was refused. `run` is how many reductions the account's last run has now, or 0.
 pub(crate) fn note_step(
     journal: &mut Journal,
     goal: GoalNo,
     clause: ClauseNo,
+    run: u64,
     refused: &Option<Refusal>,
 )
     requires { 0 < journal.old.room }
-    ensures { journal.new.journal ≡ (if is_some refused.now then journal.old.journal else with_prepared journal.old.journal (if_lined (steps goal.0 clause.0))) }
+    ensures { journal.new.journal ≡ (if is_some refused.now then journal.old.journal else stepped journal.old.journal goal.0 clause.0 run) }
 {
     if refused.is_none() {
-        journal.put(step_for(goal.0, clause.0));
+        journal.put_reduction(goal.0, clause.0, run);
     }
 }
 

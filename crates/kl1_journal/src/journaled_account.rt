@@ -109,7 +109,7 @@ impl<A: AtomSource, C: CodeSource> JournaledAccount<A, C> {
     {
         let change = prepare(self.alloc, &mut self.journal, self.user.name_texts(), event)?;
         let reply = self.user.apply(names, &mut self.seat, codes, event)?;
-        note(&mut self.journal, change, &reply);
+        note(&mut self.journal, change, self.user.run(), &reply);
         Ok(reply)
     }
 
@@ -136,7 +136,7 @@ impl<A: AtomSource, C: CodeSource> JournaledAccount<A, C> {
         let refused = self
             .user
             .reduce(names, &mut self.seat, codes, goal, clause)?;
-        note_step(&mut self.journal, goal, clause, &refused);
+        note_step(&mut self.journal, goal, clause, self.user.run(), &refused);
         Ok(refused)
     }
 

@@ -8,6 +8,7 @@ ghost use Rattle.kl1_model_server.specs.JournalText.{is_hex_digit, hex_value, he
 ghost use Rattle.kl1_user_events.specs.Views.{event_of};
 ghost use Rattle.kl1_journal_entries.specs.Reading.{two_in, message_by};
 
+use crate::deed::Deed;
 use kl1_lines::{is_same, number_in, split_name};
 use kl1_model::Message;
 use kl1_read::{ReadFault, read_goal};
@@ -162,9 +163,20 @@ fn message_in(word: &[u8], rest: &[u8]) -> Option<Event>
     None
 }
 
-/// The event that a line may be, by its first word and what is after that.
+/// A run of this number of reductions, which is at least 1.
+fn run_in(rest: &[u8]) -> Option<Deed>
+    ensures { option_map deed_shown result ≡ option_and_then run_of (number_in rest.now) }
+{
+    let reductions = number_in(rest)?;
+    if reductions == 0 {
+        return None;
+    }
+    Some(Deed::Run(reductions))
+}
+
+/// The event that a line may be, by its first word and what is after that, if it is no run.
 fn event_by(alloc: Global, word: &[u8], rest: &[u8]) -> Result<Option<Event>, AllocError>
-    ensures { IfOk result (λ e. option_map event_of e ≡ option_map event_in (entry_by word.now rest.now)) }
+    ensures { is_same_word word.now (codes "run") ≡ false → IfOk result (λ e. option_map event_of e ≡ option_and_then event_in (entry_by word.now rest.now)) }
 {
     if is_same(word, b"reduce") {
         return Ok(reduce_in(rest));
@@ -181,10 +193,16 @@ fn event_by(alloc: Global, word: &[u8], rest: &[u8]) -> Result<Option<Event>, Al
     Ok(message_in(word, rest))
 }
 
-/// The event that a line may be.
-pub(crate) fn parse_entry(alloc: Global, line: &[u8]) -> Result<Option<Event>, AllocError>
-    ensures { IfOk result (λ e. option_map event_of e ≡ option_map event_in (entry_by (before_space line.now) (behind_space line.now))) }
+/// What a line may say.
+pub(crate) fn parse_entry(alloc: Global, line: &[u8]) -> Result<Option<Deed>, AllocError>
+    ensures { IfOk result (λ e. option_map deed_shown e ≡ entry_by (before_space line.now) (behind_space line.now)) }
 {
     let (word, rest) = split_name(line);
-    event_by(alloc, word, rest)
+    if is_same(word, b"run") {
+        return Ok(run_in(rest));
+    }
+    match event_by(alloc, word, rest)? {
+        None => Ok(None),
+        Some(event) => Ok(Some(Deed::Event(event))),
+    }
 }

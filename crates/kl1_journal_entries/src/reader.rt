@@ -10,21 +10,21 @@ ghost use Rattle.kl1_user_events.specs.Views.{event_of};
 ghost use Rattle.kl1_journal_entries.specs.Reading.{read_text, read_after};
 ghost use Rattle.kl1_journal_entries.specs.Found.{found_event, found_entry, begun_at};
 
+use crate::deed::Deed;
 use crate::heading::{Heading, heading_of};
 use crate::journal::Journal;
 use crate::loose::parse_entry;
 use crate::name::name_of;
-use crate::pending_entry::{PendingEntry, entry_for};
+use crate::pending_entry::{PendingEntry, entry_for, run_for};
 use crate::text::next_line;
 use kl1_model::limits::MOST_LINE_BYTES;
 use kl1_text::AtomText;
-use kl1_user_events::Event;
 use std::alloc::{AllocError, Global};
 
 /// An entry that was read from its line.
 #[derive(Drop)]
 pub(crate) struct Found {
-    event: Event,
+    deed: Deed,
     prepared: PendingEntry,
 }
 
@@ -36,23 +36,26 @@ fn found_in(alloc: Global, line: &[u8]) -> Result<Option<Found>, AllocError>
     if line.len() > MOST_LINE_BYTES {
         return Ok(None);
     }
-    let Some(event) = parse_entry(alloc, line)? else {
+    let Some(deed) = parse_entry(alloc, line)? else {
         return Ok(None);
     };
-    let prepared = entry_for(alloc, &event)?;
+    let prepared = match &deed {
+        Deed::Event(event) => entry_for(alloc, event)?,
+        Deed::Run(reductions) => run_for(*reductions),
+    };
     if !prepared.is_canonical(alloc, line)? {
         return Ok(None);
     }
-    Ok(Some(Found { event, prepared }))
+    Ok(Some(Found { deed, prepared }))
 }
 
-/// The event of the entry whose line this is, if there is one. A line that isn't written as the journal's own is none.
-pub fn entry_of(alloc: Global, line: &[u8]) -> Result<Option<Event>, AllocError>
-    ensures { IfOk result (λ event. option_map event_of event ≡ option_map event_in (entry_in line.now)) }
+/// What the entry asks for whose line this is, if there is one. A line that isn't written as the journal's own is none.
+pub fn entry_of(alloc: Global, line: &[u8]) -> Result<Option<Deed>, AllocError>
+    ensures { IfOk result (λ deed. option_map deed_shown deed ≡ entry_in line.now) }
 {
     match found_in(alloc, line)? {
         None => Ok(None),
-        Some(Found { event, .. }) => Ok(Some(event)),
+        Some(Found { deed, .. }) => Ok(Some(deed)),
     }
 }
 

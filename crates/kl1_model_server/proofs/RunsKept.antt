@@ -1,8 +1,8 @@
 -- How long the last run of a journal is after what is done to an account.
-use Rattle.std.specs.Prelude.{◌≡◌, ℕ, zero, suc, ◌<◌, ◌==◌, nat_le, nat_lt, not, ◌&&◌, Bool, true, false, if◌then◌else◌, List, [], ◌∷◌, ◌++◌, length, Option, Some, None, is_some}
+use Rattle.std.specs.Prelude.{◌≡◌, ℕ, zero, suc, ◌≤◌, ◌==◌, nat_le, nat_lt, not, ◌&&◌, Bool, true, false, if◌then◌else◌, List, [], ◌∷◌, ◌++◌, length, Option, Some, None, is_some}
 use Rattle.std.proofs.Common.{refl, sym, ap, ◌∙◌, subst, arith}
 use Rattle.std.proofs.lemmas.Bool.{false≢true, and_parts, ltb-true, eqb-true}
-use Rattle.kl1_model.specs.declared.limits.TheConstants.{NUMBER_LIMIT, MOST_MODULES, MOST_SOURCE_BYTES}
+use Rattle.kl1_model.specs.declared.limits.TheConstants.{MOST_RUN, MOST_MODULES, MOST_SOURCE_BYTES}
 use Rattle.kl1_model.specs.declared.message.Message.{Message}
 use Rattle.kl1_model.specs.Term.{Term}
 use Rattle.kl1_model.specs.Module.{Module, Reading, good, bad, read_module}
@@ -123,21 +123,21 @@ reduction_run s goal clause =
     let r = is_in_run s goal clause in
     may_run (is_number goal && is_number clause) s (run_with r s) (reduce_goal s r clause (goal_at goal s.goals)) syntax (reduce_run s r clause (goal_at goal s.goals))
 
-few_after : (c : Bool) (n : ℕ) → is_number (suc n) ≡ c → (if c then suc n else 1) < NUMBER_LIMIT
-few_after true n h = ltb-true (suc n) NUMBER_LIMIT h
+few_after : (c : Bool) (n : ℕ) → nat_lt n MOST_RUN ≡ c → (if c then suc n else 1) ≤ MOST_RUN
+few_after true n h = let less = ltb-true n MOST_RUN h in omega (arith, less)
 few_after false n h = omega arith
 
-few_with : (r : Bool) (s : State) → run_with r s < NUMBER_LIMIT
-few_with true s = few_after (is_number (suc s.run)) s.run refl
+few_with : (r : Bool) (s : State) → run_with r s ≤ MOST_RUN
+few_with true s = few_after (nat_lt s.run MOST_RUN) s.run refl
 few_with false s = omega arith
 
--- a run is shorter than 2 ^ 63
-pub step_run : (s : State) (goal clause : ℕ) → is_refused (step s (reduce goal clause)).reply ≡ false → (step s (reduce goal clause)).state.run < NUMBER_LIMIT
-step_run s goal clause a = subst (λ n. n < NUMBER_LIMIT) (sym (reduction_run s goal clause a)) (few_with (is_in_run s goal clause) s)
+-- a run isn't too long
+pub step_run : (s : State) (goal clause : ℕ) → is_refused (step s (reduce goal clause)).reply ≡ false → (step s (reduce goal clause)).state.run ≤ MOST_RUN
+step_run s goal clause a = subst (λ n. n ≤ MOST_RUN) (sym (reduction_run s goal clause a)) (few_with (is_in_run s goal clause) s)
 
 -- a run that goes on had one reduction less
 pub run_goes_on : (n m : ℕ) → run_after n ≡ suc (suc m) → n ≡ suc m
-run_goes_on n m = by_case (is_number (suc n))
+run_goes_on n m = by_case (nat_lt n MOST_RUN)
   where
     by_case : (c : Bool) → (if c then suc n else 1) ≡ suc (suc m) → n ≡ suc m
     by_case true h = omega (arith, h)

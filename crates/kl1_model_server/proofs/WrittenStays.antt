@@ -3,7 +3,7 @@ use Rattle.std.specs.Prelude.{◌≡◌, ℕ, zero, suc, ◌+◌, ◌-◌, ◌�
 use Rattle.std.specs.List.{list_all, AllByRecursion}
 use Rattle.std.proofs.Common.{refl, sym, ap, subst, arith}
 use Rattle.std.proofs.lemmas.Bool.{and_parts, leb-true, ltb-true}
-use Rattle.kl1_model.specs.declared.limits.TheConstants.{NUMBER_LIMIT, MOST_SOURCE_BYTES, MOST_LINE_BYTES, MOST_PRIORITY, MOST_MODULES, MOST_NAMES, MOST_SESSIONS, MOST_DEPTH}
+use Rattle.kl1_model.specs.declared.limits.TheConstants.{NUMBER_LIMIT, MOST_RUN, MOST_SOURCE_BYTES, MOST_LINE_BYTES, MOST_PRIORITY, MOST_MODULES, MOST_NAMES, MOST_SESSIONS, MOST_DEPTH}
 use Rattle.kl1_model.specs.Text.{is_text}
 use Rattle.kl1_model.specs.declared.message.Message.{Message}
 use Rattle.kl1_model.specs.Term.{Term, variable}
@@ -221,11 +221,11 @@ removed (e ∷ []) h = tt
 removed (e ∷ f ∷ es) h = (h.0, removed (f ∷ es) h.1)
 
 -- a reduction more, in a run or not
-stepped_written : (j : Journal) (goal clause n : ℕ) → goal < NUMBER_LIMIT → clause < NUMBER_LIMIT → n < NUMBER_LIMIT → IsWritten j → IsWritten (stepped j goal clause n)
+stepped_written : (j : Journal) (goal clause n : ℕ) → goal < NUMBER_LIMIT → clause < NUMBER_LIMIT → n ≤ MOST_RUN → IsWritten j → IsWritten (stepped j goal clause n)
 stepped_written j goal clause zero g c few w = entry_written j (steps goal clause) (g, c) w
-stepped_written j goal clause (suc zero) g c few w = entry_written j (runs 1) (omega arith, few) w
+stepped_written j goal clause (suc zero) g c few w = entry_written j (runs 1) (omega arith, omega arith) w
 stepped_written j goal clause (suc (suc n)) g c few w =
-    record { sessions = w.sessions; names = w.names; entries = added (without_last j.entries) (runs (suc (suc n))) (removed j.entries w.entries) (omega arith, few) }
+    record { sessions = w.sessions; names = w.names; entries = added (without_last j.entries) (runs (suc (suc n))) (removed j.entries w.entries) (omega arith, omega (arith, few)) }
 
 accepted_written : (j : Journal) (s : State) (e : Event) → HasBytes e → is_refused (step s e).reply ≡ false → IsNamed (step s e).state → (step s e).state.sessions ≤ MOST_SESSIONS → IsWritten j → IsWritten (with_event j e (step s e).state)
 accepted_written j s (load text) bytes a named few w =

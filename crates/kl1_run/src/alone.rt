@@ -43,14 +43,15 @@ fn write_journal<H: Host, J: Sink>(
 pub fn run_alone<T: Watch, W: Sink, E: Sink, J: Sink>(
     alloc: Global,
     work: Work,
+    rules: Rules,
     wanted: Wanted,
     watch: &mut T,
     out: &mut W,
     err: &mut E,
     journal: &mut Option<J>,
 ) -> Outcome
-    ensures runs { RunsAlone (texts_of work.files.items) work.goal work.allowance work.steps wanted (seen W.contents W.failures out.old) (seen W.contents W.failures out.new) (seen E.contents E.failures err.old) (seen E.contents E.failures err.new) (seen_if J.contents J.failures journal.old) (seen_if J.contents J.failures journal.new) result }
-    ensures follows { Follows (alone_of (texts_of work.files.items) work.goal work.allowance) work.steps (T.told watch.old) (T.told watch.new) }
+    ensures runs { RunsAlone rules (texts_of work.files.items) work.goal work.allowance work.steps wanted (seen W.contents W.failures out.old) (seen W.contents W.failures out.new) (seen E.contents E.failures err.old) (seen E.contents E.failures err.new) (seen_if J.contents J.failures journal.old) (seen_if J.contents J.failures journal.new) result }
+    ensures follows { Follows (alone_of rules (texts_of work.files.items) work.goal work.allowance) work.steps (T.told watch.old) (T.told watch.new) }
 {
     let name = AccountName::read(b"me").unwrap();
     match AtomTable::new(alloc, 1) {
@@ -61,7 +62,7 @@ pub fn run_alone<T: Watch, W: Sink, E: Sink, J: Sink>(
                 seats,
                 PlainCodes::new(alloc),
                 &[name],
-                Rules::Three,
+                rules,
             ) {
                 Ok(mut world) => {
                     let ending = run(alloc, &mut world, work, wanted, watch, out, err);

@@ -112,6 +112,7 @@ fn run_goal(
     } = run_alone(
         alloc,
         work,
+        asked.rules,
         asked.wanted,
         &mut progress,
         &mut out,

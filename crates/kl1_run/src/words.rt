@@ -4,6 +4,7 @@ use crate::asked::{Asked, Task, USAGE};
 use crate::fault::BAD;
 use clap::{Arg, ArgAction, Command, Error, value_parser};
 use kl1_run_work::{MOST_ALLOWANCE, MOST_STEPS, Wanted};
+use kl1_world::Rules;
 use std::alloc::{AllocError, Global};
 
 /// The flag of a name, with what help says of it.
@@ -31,6 +32,11 @@ fn command<'a>(alloc: Global) -> Result<Command<'a>, AllocError> {
         "allowance",
         "Let the goal be charged N reductions at most",
     );
+    let rules = Arg::new(alloc, "rules")
+        .long("rules")
+        .action(ArgAction::Set)
+        .value_parser(value_parser!(u64).range(3..=4))
+        .help("Keep to the rules of version N, 3 or 4; 4 has the greater limits");
     let reports = flag(alloc, "reports", "Tell the goal's reports too");
     let whole = flag(
         alloc,
@@ -63,6 +69,7 @@ fn command<'a>(alloc: Global) -> Result<Command<'a>, AllocError> {
         .override_usage(USAGE)
         .arg(steps)?
         .arg(allowance)?
+        .arg(rules)?
         .arg(reports)?
         .arg(whole)?
         .arg(journal)?
@@ -91,6 +98,11 @@ pub fn asked_in<'a>(alloc: Global, words: &'a [String]) -> Result<Asked<'a>, Err
         allowance: matches
             .get_one::<u64>("allowance")
             .unwrap_or(MOST_ALLOWANCE),
+        rules: if matches.get_one::<u64>("rules") == Some(3) {
+            Rules::Three
+        } else {
+            Rules::Four
+        },
         wanted: Wanted {
             reports: matches.get_flag("reports"),
             whole: matches.get_flag("whole"),

@@ -17,7 +17,7 @@ use crate::replayed::Replayed;
 use kl1_atoms::AtomSource;
 use kl1_codes::CodeSource;
 use kl1_command::put_reply;
-use kl1_journal_entries::{entry_of, next_line};
+use kl1_journal_entries::{Deed, entry_of, next_line};
 use kl1_lines::{ScriptFault, Sink, pass_on};
 use kl1_user_events::{Event, Reply};
 use std::alloc::{AllocError, Global};
@@ -44,6 +44,26 @@ fn put_event<A: AtomSource + Drop, C: CodeSource + Drop>(
     }
 }
 
+/// Does a run, and puts its reply after the bytes, unless it is refused. Answers whether it was accepted. After an `Err` the bytes are as
+/// they were, and some of the run may be done.
+fn put_run<A: AtomSource + Drop, C: CodeSource + Drop>(
+    replayed: &mut Replayed<A, C>,
+    reductions: u64,
+    out: &mut Vec<u8>,
+) -> Result<bool, AllocError>
+    requires few { length out.old.items < MOST_WAITING_BYTES }
+    ensures went { IfOk result (λ accepted. (f : Reading) → Fits replayed.new.names f → Went accepted (if_accepted (entry_step (state_of f replayed.old) (runs reductions))) (state_of f replayed.new)) }
+    ensures told { OnOk result ((f : Reading) → Fits replayed.new.names f → out.new.items ≡ out.old.items ++ told_of (if_accepted (entry_step (state_of f replayed.old) (runs reductions)))) }
+    ensures before { (f : Reading) → Fits replayed.new.names f → Fits replayed.old.names f }
+    ensures err { OnErr result (out.new.items ≡ out.old.items) }
+{
+    if !replayed.run(reductions)? {
+        return Ok(false);
+    }
+    put_reply(out, &Reply::Ran(reductions))?;
+    Ok(true)
+}
+
 /// Does the entry of a line, if it is one, and puts its reply after the bytes, unless it is refused. Answers whether it was accepted.
 /// After an `Err` the bytes are as they were, and the entry may be done.
 fn put_entry<A: AtomSource + Drop, C: CodeSource + Drop>(
@@ -60,7 +80,8 @@ fn put_entry<A: AtomSource + Drop, C: CodeSource + Drop>(
 {
     match entry_of(alloc, line)? {
         None => Ok(false),
-        Some(event) => put_event(replayed, &event, out),
+        Some(Deed::Event(event)) => put_event(replayed, &event, out),
+        Some(Deed::Run(reductions)) => put_run(replayed, reductions, out),
     }
 }
 

@@ -86,6 +86,46 @@ impl<A: AtomSource + Drop, C: CodeSource + Drop> Replayed<A, C> {
         )
     }
 
+    /// Does a first reduction. Answers whether one was done: none can be, or it is refused. If memory is refused, the account is as before.
+    fn step(&mut self) -> Result<bool, AllocError>
+        ensures step { IfOk result (λ accepted. (f : Reading) → Fits self.new.names f → Went accepted (if_accepted (first_step (state_of f self.old))) (state_of f self.new)) }
+        ensures before { (f : Reading) → Fits self.new.names f → Fits self.old.names f }
+        ensures err { OnErr result (self.new ≡ self.old) }
+    {
+        match self.user.pick() {
+            None => Ok(false),
+            Some((goal, clause)) => {
+                let refused = self.user.reduce(
+                    &mut self.names,
+                    &mut self.seat,
+                    &self.code_source,
+                    goal,
+                    clause,
+                )?;
+                Ok(refused.is_none())
+            }
+        }
+    }
+
+    /// Does first reductions, one after another, `reductions` of them. Answers whether all were done; rules without runs refuse them. If
+    /// memory is refused, some may be done.
+    pub(crate) fn run(&mut self, reductions: u64) -> Result<bool, AllocError>
+        ensures step { IfOk result (λ accepted. (f : Reading) → Fits self.new.names f → Went accepted (if_accepted (entry_step (state_of f self.old) (runs reductions))) (state_of f self.new)) }
+        ensures before { (f : Reading) → Fits self.new.names f → Fits self.old.names f }
+    {
+        if !self.user.rules().has_runs() {
+            return Ok(false);
+        }
+        let mut left = reductions;
+        while left > 0 {
+            if !self.step()? {
+                return Ok(false);
+            }
+            left -= 1;
+        }
+        Ok(true)
+    }
+
     /// Tells a caller's proof that the names of the account are one to one with their numbers. It does nothing.
     pub(crate) fn shows_names(&self)
         ensures { AreNames self.now.names }

@@ -214,6 +214,20 @@ impl<A: AtomSource, C: CodeSource> UserState<A, C> {
         self.account.name_texts()
     }
 
+    /// The rules that the account keeps to.
+    pub fn rules(&self) -> Rules
+        ensures { result ≡ self.now.rules }
+    {
+        self.account.rules()
+    }
+
+    /// How many reductions the last entry of the journal has, if it is a run, or else 0.
+    pub fn run(&self) -> u64
+        ensures { (f : Reading) → result ≡ (state_of f self.now).run }
+    {
+        self.account.run()
+    }
+
     /// The first goal that can step, with the clause by which it steps, by each reading of the names; there is such a reading.
     pub fn pick(&self) -> Option<(GoalNo, ClauseNo)>
         ensures picks { (f : Reading) → Fits self.now.names f → option_map chosen_of result ≡ first (state_of f self.now) }

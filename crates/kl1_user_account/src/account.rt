@@ -3,10 +3,10 @@
 mod beginning;
 mod sessions;
 
-ghost use Rattle.std.specs.Prelude.{◌≡◌, ◌↔◌, ℕ, [], IfOk, OnErr, option_map};
+ghost use Rattle.std.specs.Prelude.{◌≡◌, ◌↔◌, ℕ, suc, if◌then◌else◌, [], IfOk, OnErr, option_map};
 ghost use Rattle.kl1_model.specs.Step.{step};
-ghost use Rattle.kl1_model.specs.Choice.{first, quiet};
-ghost use Rattle.kl1_model.specs.Event.{load as load_event, start as start_event, answer as answer_event, control, reduce, read, value, status, reports, modules as modules_query};
+ghost use Rattle.kl1_model.specs.Choice.{first, is_in_run, quiet};
+ghost use Rattle.kl1_model.specs.Event.{load as load_event, start as start_event, answer as answer_event, control, reduce, read, value, status, reports, modules as modules_query, is_full, needs_entry, run_after};
 ghost use Rattle.kl1_user_effects.specs.Fitting.{Reading, Fits};
 ghost use Rattle.kl1_user_effects.specs.Account.{state_of, texts_of};
 ghost use Rattle.kl1_user_effects.specs.Naming.{Keeps};
@@ -38,7 +38,7 @@ use kl1_goals::{GoalTable, Rules};
 use kl1_goals_moves::Trial;
 use kl1_match::Scratch;
 use kl1_model::Message;
-use kl1_model::limits::MOST_PRINTED_BYTES;
+use kl1_model::limits::{MOST_PRINTED_BYTES, MOST_RUN};
 use kl1_shoen::ShoenTree;
 use kl1_store::Store;
 use kl1_term::Term;
@@ -64,6 +64,7 @@ pub struct Account<C: CodeSource> {
     nodes: u64,
     reports: u64,
     entries: u64,
+    run: u64,
     sessions: u64,
     trial: Trial<CellName>,
     draft: Draft,
@@ -97,6 +98,20 @@ impl<C: CodeSource> Account<C> {
         self.names.texts()
     }
 
+    /// The rules that the account keeps to.
+    pub fn rules(&self) -> Rules
+        ensures { result ≡ self.now.rules }
+    {
+        self.rules
+    }
+
+    /// How many reductions the last entry of the journal has, if it is a run, or else 0.
+    pub fn run(&self) -> u64
+        ensures { (f : Reading) → result ≡ (state_of f self.now).run }
+    {
+        self.run
+    }
+
     /// The first goal that can step, with the clause by which it steps.
     pub fn pick(&self) -> Option<(GoalNo, ClauseNo)>
         ensures { (f : Reading) → Fits self.now.names f → option_map chosen_of result ≡ first (state_of f self.now) }
@@ -124,7 +139,57 @@ impl<C: CodeSource> Account<C> {
             nodes: self.nodes,
             shoens: self.shoens.len(),
             entries: self.entries,
+            most: self.rules.limits(),
         }
+    }
+
+    /// Whether the journal has no room for one entry more.
+    fn is_full(&self) -> bool
+        ensures { (f : Reading) → result ≡ is_full (state_of f self.now) }
+    {
+        self.rules.limits().entries <= self.entries
+    }
+
+    /// Counts an entry of the journal that is no run.
+    fn note_entry(&mut self)
+        ensures { self.new ≡ record self.old { entries = suc self.old.entries; run = 0 } }
+    {
+        self.entries += 1;
+        self.run = 0;
+    }
+
+    /// Whether the reduction of goal `number` by this clause is noted in a run: it is the first, by rules with runs.
+    fn is_in_run(&self, number: u64, clause: u64) -> bool
+        ensures { (f : Reading) → Fits self.now.names f → result ≡ is_in_run (state_of f self.now) number clause }
+    {
+        if !self.rules.has_runs() {
+            return false;
+        }
+        match self.goals.pick() {
+            None => false,
+            Some((first, by)) => first == number && by == clause,
+        }
+    }
+
+    /// Whether a reduction needs one entry more: it is in no run, or in a new one.
+    fn needs_entry(&self, in_run: bool) -> bool
+        ensures { (f : Reading) → result ≡ needs_entry in_run (state_of f self.now) }
+    {
+        !in_run || self.run == 0 || self.run >= MOST_RUN
+    }
+
+    /// Counts a reduction in the journal, in a run or as an entry.
+    fn note_reduction(&mut self, in_run: bool, needs_entry: bool)
+        ensures { self.new ≡ record self.old { entries = if needs_entry then suc self.old.entries else self.old.entries; run = if in_run then run_after self.old.run else 0 } }
+    {
+        if needs_entry {
+            self.entries += 1;
+        }
+        self.run = match (in_run, needs_entry) {
+            (false, _) => 0,
+            (true, true) => 1,
+            (true, false) => self.run + 1,
+        };
     }
 
     /// Reduces goal `number` by the clause numbered `clause`, or says why it is refused.
@@ -145,6 +210,9 @@ impl<C: CodeSource> Account<C> {
         ensures knows { A.knows seat.new ≡ self.new.names }
         ensures modules { self.new.modules ≡ self.old.modules }
     {
+        let in_run = self.is_in_run(number, clause);
+        let needs_entry = self.needs_entry(in_run);
+        let is_full = needs_entry && self.is_full();
         let mark = self.store.mark();
         // Only for the proof: the goals are in order of number.
         let _ordered = self.goals.shoens();
@@ -168,7 +236,7 @@ impl<C: CodeSource> Account<C> {
             &mut self.draft,
             &mut self.walk,
             &mut self.numbers,
-            self.entries,
+            is_full,
             number,
             clause,
         );
@@ -197,7 +265,7 @@ impl<C: CodeSource> Account<C> {
         self.variables = self.draft.variables;
         self.nodes = self.draft.nodes;
         self.reports = self.draft.reports;
-        self.entries += 1;
+        self.note_reduction(in_run, needs_entry);
         Ok(None)
     }
 
@@ -243,7 +311,7 @@ impl<C: CodeSource> Account<C> {
         install(&mut self.goals, &self.draft, false);
         self.variables = self.draft.variables;
         self.nodes = self.draft.nodes;
-        self.entries += 1;
+        self.note_entry();
         Ok(Reply::Sent)
     }
 
@@ -265,12 +333,13 @@ impl<C: CodeSource> Account<C> {
         ensures placed { ArePlaced (C.has codes.new) self.new.modules }
         ensures same { (p : ℕ × ℕ) → C.has codes.old p ↔ C.has codes.new p }
     {
+        let is_full = self.is_full();
         let draft = match draft_module(
             self.alloc,
             &self.modules,
             &self.names,
             codes,
-            self.entries,
+            is_full,
             source,
         )? {
             Loading::Refused(refusal) => return Ok(Reply::Refused(refusal)),
@@ -305,7 +374,7 @@ impl<C: CodeSource> Account<C> {
             row.as_slice(),
             self.draft.changes.as_slice(),
         );
-        self.entries += 1;
+        self.note_entry();
         Ok(Reply::Loaded(name))
     }
 
@@ -375,7 +444,7 @@ impl<C: CodeSource> Account<C> {
         self.variables += variables + 2;
         self.nodes += code.nodes();
         self.reports = opening.streams.made;
-        self.entries += 1;
+        self.note_entry();
         Ok(Reply::Opened(ShoenNo(shoen)))
     }
 
@@ -462,7 +531,7 @@ impl<C: CodeSource> Account<C> {
         install(&mut self.goals, &self.draft, false);
         self.variables = self.draft.variables;
         self.nodes = self.draft.nodes;
-        self.entries += 1;
+        self.note_entry();
         Ok(Reply::Sent)
     }
 

@@ -10,7 +10,7 @@ use crate::limits::are_numbers;
 use crate::startable::put_number;
 use kl1_clause::{GoalCode, structures_of};
 use kl1_goals::Rules;
-use kl1_model::limits::{MOST_ENTRIES, MOST_LINE_BYTES};
+use kl1_model::limits::MOST_LINE_BYTES;
 use kl1_read::is_goal;
 use kl1_shoen::ShoenTree;
 use kl1_store::Store;
@@ -102,7 +102,7 @@ pub(crate) fn code_of_answer(
     if !counted.has_room_to_answer(goal.highest(), structures_of(goal)) {
         return Ok(Answering::Refused(Refusal::Limit));
     }
-    if MOST_ENTRIES <= counted.entries {
+    if counted.is_full() {
         return Ok(Answering::Refused(Refusal::Journal));
     }
     match unanswered_at(store, origin.reports, report) {

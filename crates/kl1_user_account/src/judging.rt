@@ -75,7 +75,7 @@ pub(crate) fn draft_start<C: CodeSource>(
     ensures grown { HasGrown store.old store.new }
 {
     put_goal_variables(store, count, scratch)?;
-    let streams = open_streams(store, allowance, made)?;
+    let streams = open_streams(store, allowance, made, modules.rules().limits().reports)?;
     draft_row(names, texts, numbers)?;
     let mark = store.mark();
     let judged = judge(store, modules, numbers.as_slice(), row, scratch, trial);

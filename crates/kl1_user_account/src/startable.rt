@@ -9,7 +9,7 @@ use crate::counted::Counted;
 use crate::limits::is_number;
 use itoa::Buffer;
 use kl1_clause::GoalCode;
-use kl1_model::limits::{MOST_ENTRIES, MOST_LINE_BYTES, MOST_PRIORITY};
+use kl1_model::limits::{MOST_LINE_BYTES, MOST_PRIORITY};
 use kl1_read::is_goal;
 use kl1_term::{Term, put_whole};
 use kl1_user_effects::AccountNames;
@@ -101,7 +101,7 @@ pub(crate) fn code_of(
     if !counted.has_room_to_start(goal.highest(), code.nodes()) {
         return Ok(Starting::Refused(Refusal::Limit));
     }
-    if MOST_ENTRIES <= counted.entries {
+    if counted.is_full() {
         return Ok(Starting::Refused(Refusal::Journal));
     }
     Ok(Starting::Coded(code))

@@ -1,6 +1,6 @@
 -- Parts of steps under names of their own: what contracts and proofs of code speak of.
 use Rattle.std.specs.Prelude.{ℕ, suc, ◌+◌, ◌-◌, ◌==◌, nat_lt, min, max, not, ◌&&◌, Bool, true, false, if◌then◌else◌, List, [], ◌∷◌, ◌++◌, map, take, drop, Option, Some, None, option_map, option_and_then, is_some, unwrap_or, ⊤}
-use Rattle.kl1_model.specs.declared.limits.TheConstants.{MONITOR_PRIORITY, MOST_ALLOWANCE, MOST_LISTED, MOST_SESSIONS}
+use Rattle.kl1_model.specs.declared.limits.TheConstants.{MONITOR_PRIORITY, MOST_LISTED, MOST_SESSIONS}
 use Rattle.kl1_model.specs.declared.life.Life.{Life}
 use Rattle.kl1_model.specs.declared.life.Life.TheVariants.{Living, Terminated, Aborted}
 use Rattle.kl1_model.specs.declared.condition.Condition.{Condition}
@@ -18,7 +18,7 @@ use Rattle.kl1_model.specs.Control.{control_of}
 use Rattle.kl1_model.specs.Event.{step_refused, no_shoen, shoen_ended, sessions_refused, shown, status_is, listed, welcome, bye, Transition, refuse}
 use Rattle.kl1_model.specs.Report.{report_tail, reported_at, report, closed_at, stopped_report, resumed_report}
 use Rattle.kl1_model.specs.Opening.{clipped_to}
-use Rattle.kl1_model.specs.Reduction.{Move, opens, gives_way, move_found, Action, read_action, unified, equation, with_stopped, noted_reduction}
+use Rattle.kl1_model.specs.Reduction.{Move, opens, gives_way, move_found, Action, read_action, unified, equation, with_stopped, grown, noted_reduction}
 use Rattle.kl1_model.specs.Choice.{Chosen, clause_for}
 use Rattle.kl1_model.specs.Sending.{send_living}
 use Rattle.kl1_model.specs.Asking.{condition_of, elements_of, reply_about}
@@ -84,7 +84,7 @@ resumed_of h n s = elim h [ None ↦ s | Some h ↦ if h.is_stopped then report 
 
 -- a shoen whose allowance grows by `extra`, up to the greatest there is
 abbrev pub allowed_more : ℕ → Shoen → Shoen
-allowed_more extra h = record h { allowance = min (h.allowance + extra) MOST_ALLOWANCE }
+allowed_more extra h = record h { allowance = grown h.allowance extra }
 
 -- a reduction, if it is allowed, noted in a run or as an entry
 abbrev pub reduced_by : State → Bool → Goal → Option Action → Transition

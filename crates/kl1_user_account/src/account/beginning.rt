@@ -123,6 +123,7 @@ impl<C: CodeSource> Account<C> {
             nodes: 0,
             reports: 0,
             entries: 0,
+            run: 0,
             sessions,
             trial: Trial::new(alloc),
             draft: Draft::new(alloc),
