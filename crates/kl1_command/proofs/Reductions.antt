@@ -2,9 +2,8 @@
 use Rattle.std.proofs.Common.{◌≡◌, ℕ, suc, ◌&&◌, nat_lt, Bool, true, false, if◌then◌else◌, Option, Some, None, ap, sym, ◌∙◌, refl}
 use Rattle.kl1_model.specs.State.{State}
 use Rattle.kl1_model.specs.Event as model
-use Rattle.kl1_model.specs.Event.{reduce}
+use Rattle.kl1_model.specs.Event.{reduce, is_refused}
 use Rattle.kl1_model.specs.Step.{step}
-use Rattle.kl1_model.specs.laws.TreeLaws.{is_refused}
 use Rattle.kl1_model.proofs.TreeSteps.{refusals_change_nothing}
 use Rattle.kl1_model_server.specs.Journal.{Journal, with_event, Kept, done}
 use Rattle.kl1_model.specs.Choice.{Chosen, first}

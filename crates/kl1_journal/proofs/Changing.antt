@@ -5,10 +5,9 @@ use Rattle.std.proofs.lemmas.Bool.{ltb-true}
 use Rattle.kl1_model.specs.declared.limits.TheConstants.{MOST_SESSIONS}
 use Rattle.kl1_model.specs.State.{State}
 use Rattle.kl1_model.specs.Event as model
-use Rattle.kl1_model.specs.Event.{Transition, refuse, sessions_refused}
+use Rattle.kl1_model.specs.Event.{Transition, refuse, sessions_refused, is_refused}
 use Rattle.kl1_model.specs.Step.{step}
 use Rattle.kl1_model.specs.code.Steps.{log_in, log_out}
-use Rattle.kl1_model.specs.laws.TreeLaws.{is_refused}
 use Rattle.kl1_model_server.specs.Journal.{Journal, new_journal, with_event, noted}
 use Rattle.kl1_journal_entries.specs.Lined.{entry_of, with_prepared}
 use Rattle.kl1_journal_entries.proofs.Accepted.{accepted_entries}

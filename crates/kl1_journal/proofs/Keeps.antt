@@ -4,9 +4,8 @@ use Rattle.std.specs.Prelude.{Option, Some, None, is_some}
 use Rattle.kl1_model.specs.declared.rules.Rules.{Rules}
 use Rattle.kl1_model.specs.State.{State}
 use Rattle.kl1_model.specs.Event as model
-use Rattle.kl1_model.specs.Event.{Transition}
+use Rattle.kl1_model.specs.Event.{Transition, is_refused}
 use Rattle.kl1_model.specs.Step.{step}
-use Rattle.kl1_model.specs.laws.TreeLaws.{is_refused}
 use Rattle.kl1_model_server.specs.Journal.{Journal, steps, noted, Done, fresh_kept, done}
 use Rattle.kl1_model_server.specs.laws.HistoryLaws.{IsReplay}
 use Rattle.kl1_model_server.specs.laws.TextLaws as texts

@@ -7,14 +7,13 @@ use Rattle.kl1_model.specs.Term.{Term}
 use Rattle.kl1_model.specs.Goal.{is_goal}
 use Rattle.kl1_model.specs.Meaning.{is_writable, is_numbered}
 use Rattle.kl1_model.specs.State.{State, shoen_at, goal_at, has_substitutes, names_of, with_names}
-use Rattle.kl1_model.specs.Event.{Event, load, start, control, reduce, read, login, logout, reset, answer, syntax, opened, Transition, refuse, is_number, is_range, with_entry, recorded, named, limited}
+use Rattle.kl1_model.specs.Event.{Event, load, start, control, reduce, read, login, logout, reset, answer, syntax, opened, Transition, refuse, is_number, is_range, with_entry, recorded, named, limited, is_refused}
 use Rattle.kl1_model.specs.Module.{read_module}
 use Rattle.kl1_model.specs.Opening.{start_line, may_start, has_room_to_start, start_goal}
 use Rattle.kl1_model.specs.Reduction.{reduce_goal}
 use Rattle.kl1_model.specs.Sending.{may_send, send_to}
 use Rattle.kl1_model.specs.Answering.{answer_line, may_answer, answer_to}
 use Rattle.kl1_model.specs.Step.{load_module, step}
-use Rattle.kl1_model.specs.laws.TreeLaws.{is_refused}
 use Rattle.kl1_model_server.specs.Journal.{Entry, loads, starts, sends, steps, answers, Journal, with_event}
 use Rattle.kl1_journal_entries.specs.Lined.{is_lined, entry_of, lined_entry, with_prepared}
 use Rattle.kl1_journal_entries.proofs.Sound.{if_true}

@@ -19,7 +19,7 @@ use Rattle.kl1_model.specs.Opening.{start_line}
 use Rattle.kl1_model.specs.Sending.{may_send}
 use Rattle.kl1_model.specs.Answering.{answer_line}
 use Rattle.kl1_model_server.specs.Journal.{Entry, loads, starts, sends, steps, answers, event_in}
-use Rattle.kl1_model_server.specs.JournalText.{is_hex_digit, hex_bytes, load_in, of_two, if_read, start_in, answer_in, entry_by, entry_line, entry_in}
+use Rattle.kl1_model_server.specs.JournalText.{is_hex_digit, hex_bytes, load_in, of_two, if_good, start_in, answer_in, entry_by, entry_line, entry_in}
 use Rattle.kl1_model_server.proofs.ReadStrict.{goals_read_are_printable}
 use Rattle.kl1_model_server.proofs.TextEntries.{length_hex, is_read, if_line}
 use Rattle.kl1_journal_entries.specs.Lined.{is_lined, if_lined, lined_entry}
@@ -94,10 +94,10 @@ start_lined rest e h small few =
     let c = behind_space b in
     let text = behind_space c in
     let less : length text < NUMBER_LIMIT = omega (arith, small, behind_short rest, behind_short b, behind_short c) in
-    option_and_then_some (λ a. option_and_then (λ low. option_and_then (λ high. option_map (starts a low high) (if_read (read_goal text))) (number_in (before_space c))) (number_in (before_space b))) (number_in (before_space rest)) e h
-    (λ a first m. option_and_then_some (λ low. option_and_then (λ high. option_map (starts a low high) (if_read (read_goal text))) (number_in (before_space c))) (number_in (before_space b)) e m
-    (λ low second n. option_and_then_some (λ high. option_map (starts a low high) (if_read (read_goal text))) (number_in (before_space c)) e n
-    (λ high third o. map_some (starts a low high) (if_read (read_goal text)) e o
+    option_and_then_some (λ a. option_and_then (λ low. option_and_then (λ high. option_map (starts a low high) (if_good (read_goal text))) (number_in (before_space c))) (number_in (before_space b))) (number_in (before_space rest)) e h
+    (λ a first m. option_and_then_some (λ low. option_and_then (λ high. option_map (starts a low high) (if_good (read_goal text))) (number_in (before_space c))) (number_in (before_space b)) e m
+    (λ low second n. option_and_then_some (λ high. option_map (starts a low high) (if_good (read_goal text))) (number_in (before_space c)) e n
+    (λ high third o. map_some (starts a low high) (if_good (read_goal text)) e o
     (λ t read is.
     let facts = goals_read_are_printable text t less (is_read (read_goal text) t read) in
     ap is_lined (sym is) ∙ start_from a low high t (number_read (before_space rest) a first) (number_read (before_space b) low second) (number_read (before_space c) high third) facts.1 facts.0 (subst (λ (d : Entry). length (entry_line d) ≤ MOST_LINE_BYTES) (sym is) few)))))
@@ -116,9 +116,9 @@ answer_lined rest e h small few =
     let b = behind_space rest in
     let text = behind_space b in
     let less : length text < NUMBER_LIMIT = omega (arith, small, behind_short rest, behind_short b) in
-    option_and_then_some (λ n. option_and_then (λ report. option_map (answers n report) (if_read (read_goal text))) (number_in (before_space b))) (number_in (before_space rest)) e h
-    (λ n first m. option_and_then_some (λ report. option_map (answers n report) (if_read (read_goal text))) (number_in (before_space b)) e m
-    (λ report second o. map_some (answers n report) (if_read (read_goal text)) e o
+    option_and_then_some (λ n. option_and_then (λ report. option_map (answers n report) (if_good (read_goal text))) (number_in (before_space b))) (number_in (before_space rest)) e h
+    (λ n first m. option_and_then_some (λ report. option_map (answers n report) (if_good (read_goal text))) (number_in (before_space b)) e m
+    (λ report second o. map_some (answers n report) (if_good (read_goal text)) e o
     (λ t read is.
     let facts = goals_read_are_printable text t less (is_read (read_goal text) t read) in
     ap is_lined (sym is) ∙ answer_from n report t (number_read (before_space rest) n first) (number_read (before_space b) report second) facts.1 facts.0 (subst (λ (d : Entry). length (entry_line d) ≤ MOST_LINE_BYTES) (sym is) few))))

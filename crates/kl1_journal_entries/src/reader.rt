@@ -4,11 +4,9 @@ ghost use Rattle.std.specs.Prelude.{◌≡◌, ◌≤◌, [], Some, IfOk, bytes_
 ghost use Rattle.std.specs.List.{list_any};
 ghost use Rattle.kl1_model.specs.declared.limits.TheConstants.{MOST_SESSIONS, MOST_NAMES};
 ghost use Rattle.kl1_model.specs.Text.{is_built_in};
-ghost use Rattle.kl1_model_server.specs.Journal.{event_in};
 ghost use Rattle.kl1_model_server.specs.JournalText.{is_new_name, entry_in, journal_in};
-ghost use Rattle.kl1_user_events.specs.Views.{event_of};
 ghost use Rattle.kl1_journal_entries.specs.Reading.{read_text, read_after};
-ghost use Rattle.kl1_journal_entries.specs.Found.{found_event, found_entry, begun_at};
+ghost use Rattle.kl1_journal_entries.specs.Found.{deed_in, found_deed, found_entry, begun_at};
 
 use crate::deed::Deed;
 use crate::heading::{Heading, heading_of};
@@ -30,7 +28,7 @@ pub(crate) struct Found {
 
 /// The entry whose line this is, if there is one.
 fn found_in(alloc: Global, line: &[u8]) -> Result<Option<Found>, AllocError>
-    ensures event { IfOk result (λ found. option_map found_event found ≡ option_map event_in (entry_in line.now)) }
+    ensures deed { IfOk result (λ found. option_and_then found_deed found ≡ entry_in line.now) }
     ensures entry { IfOk result (λ found. option_map found_entry found ≡ option_map (λ e. Some e) (entry_in line.now)) }
 {
     if line.len() > MOST_LINE_BYTES {
@@ -51,7 +49,7 @@ fn found_in(alloc: Global, line: &[u8]) -> Result<Option<Found>, AllocError>
 
 /// What the entry asks for whose line this is, if there is one. A line that isn't written as the journal's own is none.
 pub fn entry_of(alloc: Global, line: &[u8]) -> Result<Option<Deed>, AllocError>
-    ensures { IfOk result (λ deed. option_map deed_shown deed ≡ entry_in line.now) }
+    ensures { IfOk result (λ deed. option_and_then deed_in deed ≡ entry_in line.now) }
 {
     match found_in(alloc, line)? {
         None => Ok(None),

@@ -2,9 +2,8 @@
 use Rattle.std.specs.Prelude.{ℕ, zero, suc, if◌then◌else◌, List, [], ◌∷◌, ◌++◌, Option, Some, None, option_and_then}
 use Rattle.kl1_model.specs.declared.rules.Rules.{Rules}
 use Rattle.kl1_model.specs.State.{State, fresh_with}
-use Rattle.kl1_model.specs.Event.{Transition}
+use Rattle.kl1_model.specs.Event.{Transition, is_refused}
 use Rattle.kl1_model.specs.Step.{step}
-use Rattle.kl1_model.specs.laws.TreeLaws.{is_refused}
 use Rattle.kl1_model_server.specs.Command.{reply_lines, written_lines}
 use Rattle.kl1_model_server.specs.Journal.{event_in}
 use Rattle.kl1_model_server.specs.JournalText.{Heading, entry_in, name_in, is_new_name, heading_in, lines_of}

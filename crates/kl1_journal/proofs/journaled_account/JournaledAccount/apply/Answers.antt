@@ -1,5 +1,5 @@
 use Rattle.std.proofs.Common.{◌≡◌, if◌then◌else◌, ap, sym, ◌∙◌, subst}
-use Rattle.kl1_model.specs.laws.TreeLaws.{is_refused}
+use Rattle.kl1_model.specs.Event.{is_refused}
 use Rattle.kl1_model_server.specs.Journal.{Journal, done}
 use Rattle.kl1_atoms.specs.Names.{AreNames}
 use Rattle.kl1_user.specs.Accounts.{Reading, Fits}
