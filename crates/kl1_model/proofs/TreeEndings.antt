@@ -10,7 +10,7 @@ use Rattle.kl1_model.specs.Meaning.{nil, cell}
 use Rattle.kl1_model.specs.Module.{is_among}
 use Rattle.kl1_model.specs.State.{Task, monitor, reduces, substitutes, Goal, Shoen, State, shoen_at, replace_in_task, replace_in_goal, replace_in_shoen, replace_in_state, change_shoen, is_monitor, is_living}
 use Rattle.kl1_model.specs.Tree.{path, is_on_path}
-use Rattle.kl1_model.specs.Report.{broken_at, may_report, report_tail, reported_on, reported_at, report, report_each, closed_at, close, exhausted_report, terminated_report, aborted_report}
+use Rattle.kl1_model.specs.Report.{broken_at, has_made_last, report_tail, reported_on, reported_at, report, report_each, closed_at, close, exhausted_report, terminated_report, aborted_report}
 use Rattle.kl1_model.specs.Ending.{has_goal, has_living_child, lives, ends_now, without_monitor, ended_at, terminate, terminate_each, ending_of, settle, has_reached, newly_exhausted, after_reduction, ended_below, abort}
 use Rattle.kl1_model.specs.code.Steps.{report_of, close_of, aborted_below}
 use Rattle.kl1_model.specs.laws.TreeLaws.{lives_of, numbers_of, AbortEndsAllBelow, AbortRemovesAllBelow, TerminationsEnd, TerminationsEndAlone, EndingHaveNoGoals, ReachedGoOn}
@@ -97,7 +97,7 @@ told_leaves n m (Some v) s =
     leaves_both s bound (change_shoen n (λ h. record h { tail = variable next }) bound) b (leaves_change n (λ h. record h { tail = variable next }) bound (λ h. refl))
 
 reported_leaves : (n : ℕ) (m t : Term) (s : State) → Leaves s (reported_at n m t s)
-reported_leaves n m t s = told_leaves n m (report_tail (may_report s) m t) s
+reported_leaves n m t s = told_leaves n m (report_tail (has_made_last s) m t) s
 
 report_of_leaves : (o : Option Shoen) (n : ℕ) (m : Term) (s : State) → Leaves s (report_of o n m s)
 report_of_leaves None n m s = leaves_same s

@@ -10,7 +10,7 @@ use Rattle.kl1_model.specs.Meaning.{nil, cell}
 use Rattle.kl1_model.specs.State.{Goal, Shoen, State, shoen_at, replace_in_goal, replace_in_shoen, replace_in_state, replace_all, change_shoen, is_living}
 use Rattle.kl1_model.specs.Tree.{parents_of, path, is_on_path}
 use Rattle.kl1_model.specs.Control.{Control, awaits_message, tells, tells_other, ends, breaks_off}
-use Rattle.kl1_model.specs.Report.{broken_at, may_report, report_tail, reported_on, reported_at, report, report_each, closed_at, close, exception, illegal_input, exhausted_report, terminated_report, aborted_report, stopped_report, resumed_report}
+use Rattle.kl1_model.specs.Report.{broken_at, has_made_last, report_tail, reported_on, reported_at, report, report_each, closed_at, close, exception, illegal_input, exhausted_report, terminated_report, aborted_report, stopped_report, resumed_report}
 use Rattle.kl1_model.specs.Ending.{without_monitor, ended_at, terminate, terminate_each, ending_of, settle, newly_exhausted, after_reduction, ended_below, abort}
 use Rattle.kl1_model.specs.Reduction.{obeyed, with_control, heard}
 use Rattle.kl1_model.specs.code.Steps.{report_of, close_of, aborted_below, stopped_of, resumed_of, allowed_more}
@@ -107,7 +107,7 @@ told_keeps n m (Some v) s =
     keeps_both s bound (change_shoen n (λ h. record h { tail = variable next }) bound) b (keeps_change n (λ h. record h { tail = variable next }) bound (λ h. refl) (λ h. refl))
 
 reported_keeps : (n : ℕ) (m t : Term) (s : State) → Keeps s (reported_at n m t s)
-reported_keeps n m t s = told_keeps n m (report_tail (may_report s) m t) s
+reported_keeps n m t s = told_keeps n m (report_tail (has_made_last s) m t) s
 
 report_of_keeps : (o : Option Shoen) (n : ℕ) (m : Term) (s : State) → Keeps s (report_of o n m s)
 report_of_keeps None n m s = keeps_same s

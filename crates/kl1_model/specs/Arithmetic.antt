@@ -1,12 +1,13 @@
 -- Expressions of arithmetic: how a term is scanned, and what it comes to.
-use Rattle.std.specs.Prelude.{ℕ, suc, nat_lt, if◌then◌else◌, Bool, ℤ, pos, negsuc, ◌+ℤ◌, ◌-ℤ◌, ◌*ℤ◌, int_div, int_rem, List, [], ◌∷◌, codes, bytes_eq, find, Option, Some}
+use Rattle.std.specs.Prelude.{ℕ, suc, if◌then◌else◌, Bool, ℤ, pos, negsuc, ◌+ℤ◌, ◌-ℤ◌, ◌*ℤ◌, int_div, int_rem, List, [], ◌∷◌, codes, bytes_eq, find, Option, Some}
 use Rattle.std.specs.Ordering.{int_eq}
-use Rattle.kl1_model.specs.declared.limits.TheConstants.{MOST_OPERATORS, NUMBER_LIMIT}
+use Rattle.kl1_model.specs.declared.limits.TheConstants.{MOST_OPERATORS}
 use Rattle.kl1_model.specs.declared.operator.Operator.{Operator}
 use Rattle.kl1_model.specs.declared.operator.Operator.TheVariants.{Plus, Minus, Times, Divide, Modulo}
 use Rattle.kl1_model.specs.declared.number.Number.{Number}
 use Rattle.kl1_model.specs.declared.number.Number.TheVariants.{Value, Overflow, ZeroDivisor}
 use Rattle.kl1_model.specs.Term.{Term, variable, integer, atom, structure, Terms, none, more}
+use Rattle.kl1_model.specs.Meaning.{is_word}
 use Rattle.kl1_model.specs.Found.{Found, found, awaits, wrong, then_found, found_map}
 
 -- the name of an operator
@@ -33,21 +34,21 @@ pub data ArithmeticExpression : Type 0 where
 -- an expression that is found in a term, and how many operators more there might have been
 pub record Scanned : Type 0 where
   pub expression : ArithmeticExpression
-  pub left : ℕ
+  pub operators_left : ℕ
 
 -- an operation, if its right operand is found
 abbrev pub with_right : Operator → ArithmeticExpression → Found Scanned → Found Scanned
-with_right o a right = found_map (λ b. record { expression = operation o a b.expression; left = b.left }) right
+with_right o a right = found_map (λ b. record { expression = operation o a b.expression; operators_left = b.operators_left }) right
 
 -- an operation, if its left operand is found; the right one is scanned then
 abbrev pub with_left : Operator → Found Scanned → (ℕ → Found Scanned) → Found Scanned
-with_left o left right = then_found left (λ a. with_right o a.expression (right a.left))
+with_left o left right = then_found left (λ a. with_right o a.expression (right a.operators_left))
 
 -- a term scanned for at most `most` operators, each before its operands, from the left: the first leaf that is no integer decides
 abbrev mutual
   pub scan : ℕ → Term → Found Scanned
   scan most (variable v) = awaits v
-  scan most (integer i) = found (record { expression = number i; left = most })
+  scan most (integer i) = found (record { expression = number i; operators_left = most })
   scan most (atom a) = wrong
   scan most (structure f ts) = scan_operation (operator_named f) most ts
 
@@ -55,14 +56,9 @@ abbrev mutual
   scan_operation (Some o) (suc most) (more a (more b none)) = with_left o (scan most a) (λ left. scan left b)
   scan_operation o most ts = wrong
 
--- whether an integer has 64 bits
-abbrev pub fits : ℤ → Bool
-fits (pos n) = nat_lt n NUMBER_LIMIT
-fits (negsuc n) = nat_lt n NUMBER_LIMIT
-
 -- a result, which has 64 bits or overflows
 abbrev pub fitted : ℤ → Number
-fitted z = if fits z then Value z else Overflow
+fitted z = if is_word z then Value z else Overflow
 
 -- what an operator makes of two integers: a quotient is rounded towards zero, so a remainder has the dividend's sign
 abbrev pub operated : Operator → ℤ → ℤ → Number

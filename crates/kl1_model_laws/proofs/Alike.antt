@@ -7,7 +7,7 @@ use Rattle.kl1_model.specs.declared.life.Life.{Life}
 use Rattle.kl1_model.specs.Term.{Term, variable, integer, atom, structure, Replacement, occurs}
 use Rattle.kl1_model.specs.Meaning.{nil, cell, highest}
 use Rattle.kl1_model.specs.State.{Task, monitor, reduces, substitutes, Goal, Shoen, State, has_substitutes, shoen_at, replace_in_task, replace_in_goal, replace_in_shoen, replace_in_state, replace_all, change_shoen, is_monitor, is_living, names_of, with_names}
-use Rattle.kl1_model.specs.Report.{broken_at, may_report, report_tail, reported_on, reported_at, report, is_reported, report_each, closed_at, close, exception, exception_with, failure, exhaustion, started_report, exhausted_report, stopped_report, resumed_report}
+use Rattle.kl1_model.specs.Report.{broken_at, has_made_last, report_tail, reported_on, reported_at, report, is_reported, report_each, closed_at, close, exception, exception_with, failure, exhaustion, started_report, exhausted_report, stopped_report, resumed_report}
 use Rattle.kl1_model.specs.Ending.{has_goal, has_living_child, lives, ends_now}
 use Rattle.kl1_model.specs.Nodes.{goal_nodes}
 use Rattle.kl1_model.specs.Control.{message_term, message_nodes}
@@ -105,7 +105,7 @@ told_alike n m (Some v) s =
     alike_both s bound (change_shoen n (λ h. record h { tail = variable next }) bound) b (alike_change n (λ h. record h { tail = variable next }) bound (λ h. refl))
 
 reported_alike : (n : ℕ) (m t : Term) (s : State) → Alike s (reported_at n m t s)
-reported_alike n m t s = told_alike n m (report_tail (may_report s) m t) s
+reported_alike n m t s = told_alike n m (report_tail (has_made_last s) m t) s
 
 report_of_alike : (o : Option Shoen) (n : ℕ) (m : Term) (s : State) → Alike s (report_of o n m s)
 report_of_alike None n m s = alike_same s

@@ -16,7 +16,7 @@ use Rattle.kl1_model.specs.Control.{Control, awaits_message, tells, tells_other,
 use Rattle.kl1_model.specs.State.{Goal, Shoen, State, has_substitutes, shoen_at, replace_in_shoen, replace_in_state, replace_all, change_shoen, without_goal, with_name, is_monitor, is_living}
 use Rattle.kl1_model.specs.Tree.{parents_of, path_within, path, is_on_path, charged_of, charge, is_enabled}
 use Rattle.kl1_model.specs.Event.{are_too_many, with_entry, with_reduction}
-use Rattle.kl1_model.specs.Report.{broken_at, may_report, report_tail, reported_on, reported_at, report, is_reported, report_each, closed_at, close, exception, exception_with, failure, illegal_input, exhaustion, started_report, exhausted_report, stopped_report, resumed_report, terminated_report, aborted_report}
+use Rattle.kl1_model.specs.Report.{broken_at, has_made_last, report_tail, reported_on, reported_at, report, is_reported, report_each, closed_at, close, exception, exception_with, failure, illegal_input, exhaustion, started_report, exhausted_report, stopped_report, resumed_report, terminated_report, aborted_report}
 use Rattle.kl1_model.specs.Ending.{ended_at, ending_of, without_monitor, terminate, terminate_each, settle, newly_exhausted, after_reduction, ended_below, abort}
 use Rattle.kl1_model.specs.Opening.{with_shoen, open_shoen, with_next_variables, start_goal, has_room_for_child, child_shoen, open_child}
 use Rattle.kl1_model.specs.Reduction.{Move, commits, raises, unifies, names, opens, goes, gives_way, moves, reads, has_room_for, committed, substituted_by, raised, unified, equation, or_exhaustion, moved, obeyed, with_control, grown, heard, acted}
@@ -76,7 +76,7 @@ told b n m (Some v) s a =
     changed b n (λ h. record h { tail = variable next }) bound (λ h p. p) (replaced b v (cell m (variable next)) s a)
 
 reported : (b : ℕ → ℕ) (n : ℕ) (m t : Term) (s : State) → Cap b s → Cap b (reported_at n m t s)
-reported b n m t s a = told b n m (report_tail (may_report s) m t) s a
+reported b n m t s a = told b n m (report_tail (has_made_last s) m t) s a
 
 cap_report_of : (b : ℕ → ℕ) (o : Option Shoen) (n : ℕ) (m : Term) (s : State) → Cap b s → Cap b (report_of o n m s)
 cap_report_of b None n m s a = a

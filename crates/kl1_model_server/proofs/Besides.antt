@@ -13,7 +13,7 @@ use Rattle.kl1_model.specs.Match.{module_of}
 use Rattle.kl1_model.specs.State.{State, Goal, substitutes, has_substitutes, has_runs, Shoen, Origin, goal_at, shoen_at, names_of, names_of_module, with_name, with_names, replace_in_state, replace_all, change_shoen, is_living, without_goal}
 use Rattle.kl1_model.specs.Tree.{path, charge}
 use Rattle.kl1_model.specs.Control.{Control, awaits_message, tells, tells_other, ends, breaks_off}
-use Rattle.kl1_model.specs.Report.{may_report, report_tail, reported_on, reported_at, report, is_reported, report_each, closed_at, close, exception, exception_with, failure, illegal_input, exhaustion, started_report, stopped_report, resumed_report, exhausted_report, terminated_report, aborted_report}
+use Rattle.kl1_model.specs.Report.{has_made_last, report_tail, reported_on, reported_at, report, is_reported, report_each, closed_at, close, exception, exception_with, failure, illegal_input, exhaustion, started_report, stopped_report, resumed_report, exhausted_report, terminated_report, aborted_report}
 use Rattle.kl1_model.specs.Ending.{ends_now, ended_at, ending_of, without_monitor, terminate, terminate_each, settle, newly_exhausted, after_reduction, ended_below, abort}
 use Rattle.kl1_model.specs.Opening.{may_start, has_room_to_start, with_shoen, open_shoen, with_next_variables, started_shoen, start_goal, child_shoen, has_room_for_child, open_child}
 use Rattle.kl1_model.specs.Reduction.{Move, commits, raises, unifies, names, opens, goes, gives_way, Action, moves, reads, action_of, has_room_for, committed, replaced_by, substituted_by, raised, unified, equation, or_exhaustion, moved, obeyed, with_control, heard, acted, reduce_goal}
@@ -24,7 +24,7 @@ use Rattle.kl1_model.specs.Step.{load_module, start_by, step}
 use Rattle.kl1_model.specs.Choice.{Chosen, first, is_in_run}
 use Rattle.kl1_model.specs.code.Steps.{report_of, close_of, stopped_of, resumed_of, reduced_by, send_by, answer_in, with_module, named_by}
 use Rattle.kl1_model_server.specs.laws.HistoryLaws.{beside, stepped_beside, StaysBeside}
-use Rattle.kl1_model_server.specs.Journal.{loads, starts, sends, steps, answers, runs, first_step, first_steps}
+use Rattle.kl1_model_server.specs.Journal.{loads, starts, sends, steps, answers, runs, chosen_step, first_step, first_steps}
 
 -- either of two
 either : (c : Bool) (name : List ℕ) (n : ℕ) (a b s t : State) → a ≡ beside name n s → b ≡ beside name n t → (if c then a else b) ≡ beside name n (if c then s else t)
@@ -44,7 +44,7 @@ told k m None name n s = refl
 told k m (Some v) name n s = refl
 
 reported : (k : ℕ) (m t : Term) (name : List ℕ) (n : ℕ) (s : State) → reported_at k m t (beside name n s) ≡ beside name n (reported_at k m t s)
-reported k m t name n s = told k m (report_tail (may_report s) m t) name n s
+reported k m t name n s = told k m (report_tail (has_made_last s) m t) name n s
 
 report_of_beside : (o : Option Shoen) (k : ℕ) (m : Term) (name : List ℕ) (n : ℕ) (s : State) → report_of o k m (beside name n s) ≡ beside name n (report_of o k m s)
 report_of_beside None k m name n s = refl
@@ -272,8 +272,7 @@ step_beside goal clause name n s =
     let r = is_in_run s goal clause in
     refused_or (is_number goal && is_number clause) syntax name n (reduce_goal (beside name n s) r clause (goal_at goal s.goals)) (reduce_goal s r clause (goal_at goal s.goals)) s (reduce_beside r clause (goal_at goal s.goals) name n s)
 
-chosen_beside : (o : Option Chosen) (name : List ℕ) (n : ℕ) (s : State) →
-    elim o [ None ↦ refuse (beside name n s) step_refused | Some c ↦ step (beside name n s) (reduce c.goal c.clause) ] ≡ stepped_beside name n (elim o [ None ↦ refuse s step_refused | Some c ↦ step s (reduce c.goal c.clause) ])
+chosen_beside : (o : Option Chosen) (name : List ℕ) (n : ℕ) (s : State) → chosen_step (beside name n s) o ≡ stepped_beside name n (chosen_step s o)
 chosen_beside None name n s = refl
 chosen_beside (Some c) name n s = step_beside c.goal c.clause name n s
 

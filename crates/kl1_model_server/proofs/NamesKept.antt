@@ -12,7 +12,7 @@ use Rattle.kl1_model.specs.Unify.{mgu}
 use Rattle.kl1_model.specs.State.{State, Goal, has_substitutes, Shoen, shoen_at, with_name, replace_in_state, replace_all, change_shoen, without_goal}
 use Rattle.kl1_model.specs.Tree.{path, charge}
 use Rattle.kl1_model.specs.Control.{Control, awaits_message, tells, tells_other, ends, breaks_off}
-use Rattle.kl1_model.specs.Report.{may_report, report_tail, reported_on, reported_at, report, is_reported, report_each, closed_at, close, exception, exception_with, failure, illegal_input, exhaustion, started_report, stopped_report, resumed_report, exhausted_report, terminated_report, aborted_report}
+use Rattle.kl1_model.specs.Report.{has_made_last, report_tail, reported_on, reported_at, report, is_reported, report_each, closed_at, close, exception, exception_with, failure, illegal_input, exhaustion, started_report, stopped_report, resumed_report, exhausted_report, terminated_report, aborted_report}
 use Rattle.kl1_model.specs.Ending.{ended_at, ending_of, without_monitor, terminate, terminate_each, settle, newly_exhausted, after_reduction, ended_below, abort}
 use Rattle.kl1_model.specs.Opening.{with_shoen, open_shoen, child_shoen, has_room_for_child, open_child}
 use Rattle.kl1_model.specs.Reduction.{Move, commits, raises, unifies, names, opens, goes, gives_way, Action, moves, reads, has_room_for, committed, substituted_by, raised, unified, equation, or_exhaustion, moved, obeyed, with_control, heard, acted}
@@ -40,7 +40,7 @@ told k m None s = refl
 told k m (Some v) s = refl
 
 reported : (k : ℕ) (m t : Term) (s : State) → Has s.names (reported_at k m t s)
-reported k m t s = told k m (report_tail (may_report s) m t) s
+reported k m t s = told k m (report_tail (has_made_last s) m t) s
 
 report_of_has : (o : Option Shoen) (k : ℕ) (m : Term) (s : State) → Has s.names (report_of o k m s)
 report_of_has None k m s = refl

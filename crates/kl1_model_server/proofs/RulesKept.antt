@@ -14,7 +14,7 @@ use Rattle.kl1_model.specs.Match.{module_of}
 use Rattle.kl1_model.specs.State.{State, Goal, has_substitutes, has_runs, Shoen, Origin, goal_at, shoen_at, names_of, names_of_module, with_name, with_names, replace_in_state, replace_all, change_shoen, without_goal, is_living}
 use Rattle.kl1_model.specs.Tree.{path, charge}
 use Rattle.kl1_model.specs.Control.{Control, awaits_message, tells, tells_other, ends, breaks_off}
-use Rattle.kl1_model.specs.Report.{may_report, report_tail, reported_on, reported_at, report, is_reported, report_each, closed_at, close, exception, exception_with, failure, illegal_input, exhaustion, started_report, stopped_report, resumed_report, exhausted_report, terminated_report, aborted_report}
+use Rattle.kl1_model.specs.Report.{has_made_last, report_tail, reported_on, reported_at, report, is_reported, report_each, closed_at, close, exception, exception_with, failure, illegal_input, exhaustion, started_report, stopped_report, resumed_report, exhausted_report, terminated_report, aborted_report}
 use Rattle.kl1_model.specs.Ending.{ended_at, ending_of, without_monitor, terminate, terminate_each, settle, newly_exhausted, after_reduction, ended_below, abort}
 use Rattle.kl1_model.specs.Opening.{may_start, has_room_to_start, with_shoen, open_shoen, with_next_variables, started_shoen, start_goal, child_shoen, has_room_for_child, open_child}
 use Rattle.kl1_model.specs.Reduction.{Move, commits, raises, unifies, names, opens, goes, gives_way, Action, moves, reads, action_of, has_room_for, committed, substituted_by, raised, unified, equation, or_exhaustion, moved, obeyed, with_control, heard, acted, reduce_goal}
@@ -24,7 +24,7 @@ use Rattle.kl1_model.specs.Answering.{may_answer, has_room_to_answer, unanswered
 use Rattle.kl1_model.specs.Step.{load_module, start_by, step}
 use Rattle.kl1_model.specs.Choice.{Chosen, first, is_in_run}
 use Rattle.kl1_model.specs.code.Steps.{report_of, close_of, stopped_of, resumed_of, reduced_by, send_by, answer_in, with_module, named_by}
-use Rattle.kl1_model_server.specs.Journal.{Entry, loads, starts, sends, steps, answers, runs, first_steps, entry_step}
+use Rattle.kl1_model_server.specs.Journal.{Entry, loads, starts, sends, steps, answers, runs, chosen_step, first_steps, entry_step}
 
 -- the rules of an account, and the length of its last run
 abbrev kept_of : State → Rules × ℕ
@@ -47,7 +47,7 @@ told k m None s = refl
 told k m (Some v) s = refl
 
 reported : (k : ℕ) (m t : Term) (s : State) → Alike s (reported_at k m t s)
-reported k m t s = told k m (report_tail (may_report s) m t) s
+reported k m t s = told k m (report_tail (has_made_last s) m t) s
 
 report_of_alike : (o : Option Shoen) (k : ℕ) (m : Term) (s : State) → Alike s (report_of o k m s)
 report_of_alike None k m s = refl
@@ -261,7 +261,7 @@ step_rules s goal clause =
     let r = is_in_run s goal clause in
     may (is_number goal && is_number clause) s (reduce_goal s r clause (goal_at goal s.goals)) syntax (reduce_alike s r clause (goal_at goal s.goals))
 
-chosen_rules : (s : State) (o : Option Chosen) → Ruled s (elim o [ None ↦ refuse s step_refused | Some c ↦ step s (reduce c.goal c.clause) ]).state
+chosen_rules : (s : State) (o : Option Chosen) → Ruled s (chosen_step s o).state
 chosen_rules s None = refl
 chosen_rules s (Some c) = step_rules s c.goal c.clause
 

@@ -8,7 +8,7 @@ use Rattle.kl1_model.specs.Term.{Term}
 use Rattle.kl1_model.specs.Module.{Module, Reading, good, bad, read_module}
 use Rattle.kl1_model.specs.Match.{module_of}
 use Rattle.kl1_model.specs.State.{State, has_substitutes, has_runs, Goal, Shoen, Origin, goal_at, shoen_at, names_of, names_of_module, with_names, is_living}
-use Rattle.kl1_model.specs.Event.{Refusal, syntax, exists, no_shoen, shoen_ended, step_refused, too_many_names, limit_passed, journal_full, answer_refused, load, start, control, reduce, answer, loaded, opened, sent, reduced, Transition, refuse, is_number, is_refused, unless, are_too_many, is_full, with_entry, run_after, needs_entry, with_reduction}
+use Rattle.kl1_model.specs.Event.{Refusal, syntax, source, exists, no_shoen, shoen_ended, step_refused, too_many_names, limit_passed, journal_full, answer_refused, load, start, control, reduce, answer, loaded, opened, sent, reduced, Transition, refuse, is_number, is_refused, unless, are_too_many, is_full, with_entry, run_after, needs_entry, with_reduction}
 use Rattle.kl1_model.specs.Opening.{may_start, has_room_to_start, start_goal}
 use Rattle.kl1_model.specs.Sending.{may_send, has_room_to_send, sent_on, send_living, send_to}
 use Rattle.kl1_model.specs.Answering.{may_answer, has_room_to_answer, unanswered_at, answer_by, answer_living, answer_to}
@@ -16,7 +16,7 @@ use Rattle.kl1_model.specs.Reduction.{Action, action_of, acted, reduce_goal}
 use Rattle.kl1_model.specs.Choice.{Chosen, first, is_first, is_in_run}
 use Rattle.kl1_model.specs.Step.{load_module, start_by, step}
 use Rattle.kl1_model.specs.code.Steps.{send_by, answer_in, reduced_by, with_module}
-use Rattle.kl1_model_server.specs.Journal.{first_step}
+use Rattle.kl1_model_server.specs.Journal.{chosen_step, first_step}
 use Rattle.kl1_model_server.proofs.RulesKept.{acted_run}
 
 -- ---- events that are no reductions
@@ -41,7 +41,7 @@ unrun_unless s [] x u = u
 unrun_unless s (r ∷ rs) x u = unrun_by r.0 s r.1 (unless s rs x) (unrun_unless s rs x u)
 
 load_unrun : (s : State) (r : Reading Module) → Unrun (load_module s r)
-load_unrun s (bad line) = unrun_refused s _
+load_unrun s (bad line) = unrun_refused s (source line)
 load_unrun s (good m) =
     unrun_unless s
     ((is_some (module_of s.modules m.name), exists) ∷ (are_too_many (with_names s.names (names_of_module m)), too_many_names)
@@ -144,7 +144,7 @@ run_goes_on n m = by_case (nat_lt n MOST_RUN)
     by_case false h = absurd (omega (arith, h))
 
 chosen_first : (s : State) (goal clause : ℕ) (o : Option Chosen) → elim o [ None ↦ false | Some c ↦ c.goal == goal && c.clause == clause ] ≡ true →
-    elim o [ None ↦ refuse s step_refused | Some c ↦ step s (reduce c.goal c.clause) ] ≡ step s (reduce goal clause)
+    chosen_step s o ≡ step s (reduce goal clause)
 chosen_first s goal clause None h = absurd (false≢true h)
 chosen_first s goal clause (Some c) h =
     let both = and_parts (c.goal == goal) (c.clause == clause) h in

@@ -1,11 +1,11 @@
 -- The journal of an account, and what it says of the account.
-use Rattle.std.specs.Prelude.{ℕ, zero, suc, if◌then◌else◌, List, [], ◌∷◌, ◌++◌, fold, Some, None}
+use Rattle.std.specs.Prelude.{ℕ, zero, suc, if◌then◌else◌, List, [], ◌∷◌, ◌++◌, fold, Option, Some, None}
 use Rattle.kl1_model.specs.declared.message.Message.{Message}
 use Rattle.kl1_model.specs.declared.rules.Rules.{Rules}
 use Rattle.kl1_model.specs.Term.{Term}
 use Rattle.kl1_model.specs.State.{State, has_runs, fresh, fresh_with}
 use Rattle.kl1_model.specs.Event.{syntax, step_refused, Event, load, start, control, reduce, read, login, logout, reset, answer, Reply, ran, Transition, refuse, is_refused}
-use Rattle.kl1_model.specs.Choice.{first}
+use Rattle.kl1_model.specs.Choice.{Chosen, first}
 use Rattle.kl1_model.specs.Step.{step}
 
 -- an entry: a loaded source, a start, a message to a shoen, a reduction, or an answer to a report, whose numbers are those of its event; or a
@@ -18,9 +18,14 @@ pub data Entry : Type 0 where
   answers : ℕ → ℕ → Term → Entry
   runs : ℕ → Entry
 
--- the first reduction that an account can do, and the reply; refused if it can do none
+-- the reduction that was chosen, and the reply; refused if there is none
+abbrev pub chosen_step : State → Option Chosen → Transition
+chosen_step s None = refuse s step_refused
+chosen_step s (Some c) = step s (reduce c.goal c.clause)
+
+-- the first reduction that an account can do, and the reply
 abbrev pub first_step : State → Transition
-first_step s = elim (first s) [ None ↦ refuse s step_refused | Some c ↦ step s (reduce c.goal c.clause) ]
+first_step s = chosen_step s (first s)
 
 -- `n` first reductions, one after another, and how many they are as the reply; refused if one of them is, and then the others are done
 abbrev pub first_steps : ℕ → State → Transition

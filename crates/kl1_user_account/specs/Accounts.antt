@@ -19,6 +19,7 @@ kept_in u = record {
   nodes = u.nodes;
   reports = u.reports;
   entries = u.entries;
+  run = u.run;
   sessions = u.sessions;
 }
 

@@ -28,13 +28,13 @@ use Rattle.kl1_model.specs.Answering.{answer_living}
 abbrev pub report_of : Option Shoen → ℕ → Term → State → State
 report_of h n message s = elim h [ None ↦ s | Some h ↦ if h.is_broken then s else reported_at n message h.tail s ]
 
--- whether a report is made on an unbroken stream with this tail, if one more may be made
+-- whether a report is made on an unbroken stream with this tail, by whether the last was made
 abbrev pub is_reported_at : Bool → Term → Term → Bool
-is_reported_at may message tail = is_some (report_tail may message tail)
+is_reported_at made_last message tail = is_some (report_tail made_last message tail)
 
--- whether a report of a shoen that may be there is made, if one more may be made
+-- whether a report of a shoen that may be there is made, by whether the last was made
 abbrev pub is_reported_of : Option Shoen → Term → Bool → Bool
-is_reported_of h message may = elim h [ None ↦ false | Some h ↦ not h.is_broken && is_reported_at may message h.tail ]
+is_reported_of h message made_last = elim h [ None ↦ false | Some h ↦ not h.is_broken && is_reported_at made_last message h.tail ]
 
 -- the end of the report stream of a shoen that may be there
 abbrev pub close_of : Option Shoen → State → State
