@@ -11,7 +11,7 @@ use Rattle.kl1_model.specs.Report.{report, close, exception, illegal_input, stop
 use Rattle.kl1_model.specs.code.Steps as steps
 use Rattle.kl1_model.specs.Ending.{without_monitor, ended_below}
 use Rattle.kl1_model.specs.declared.message.Message.TheVariants.{Stop, Start, Abort, Allow}
-use Rattle.kl1_model.specs.declared.limits.TheConstants.{MOST_ALLOWANCE}
+use Rattle.kl1_model.specs.Reduction.{grown}
 use Rattle.kl1_model.specs.declared.message.Message.{Message}
 use Rattle.kl1_model.specs.Control.{awaits_message, tells, tells_other, breaks_off}
 use Rattle.kl1_model.specs.Reduction.{obeyed, heard, with_control}
@@ -186,7 +186,7 @@ shifted f h k t u d e b p ms goals names i = p ms goals names i
 
 -- a shoen whose allowance grows
 abbrev pub allowing : ℕ → Shoen CellName → Shoen CellName
-allowing extra h = record h { allowance = min (h.allowance + extra) MOST_ALLOWANCE }
+allowing extra h = record h { allowance = grown h.allowance extra }
 
 pub drafts_allowed : (h : Held CellName) (t u : Tree CellName) (d : Draft) (n extra : ℕ) (b : Bool) → u ≡ record t { shoens = changed n (allowing extra) t.shoens } → DraftsAll (λ f. obeyed n (Allow extra)) h h t u d (record d { shifts = b })
 drafts_allowed h t u d n extra b is ms goals names i = drafts_changed h t u d n (allowing extra) (allowed_more extra) is (λ s a. record { control = a.control; tail = a.tail; origin = a.origin; low = a.low; high = a.high }) (λ f s. refl) ms goals names i

@@ -5,7 +5,7 @@ use Rattle.std.proofs.lemmas.Slice.Eq.{bytes_eq-Decides}
 use Rattle.kl1_model.specs.declared.limits.TheConstants.{MOST_NAMES}
 use Rattle.kl1_model.specs.Text.{is_text}
 use Rattle.kl1_model.specs.Term.{Term, Terms, variable, integer, atom, structure, sizes, replace}
-use Rattle.kl1_model.specs.Unify.{Equation, highest_among, mgu_within, mgu, goes_on, fails, equations_size}
+use Rattle.kl1_model.specs.Unify.{Equation, highest_among, mgu_within, mgu, remains, conflicts, equations_size}
 use Rattle.kl1_model.specs.code.Unifying.{after}
 use Rattle.kl1_model.specs.State.{State, replace_in_state, with_name}
 use Rattle.kl1_model.specs.Tree.{charge}
@@ -67,7 +67,7 @@ structure_unsolved g ts b =
 atom_unsolved : (a b : List ℕ) → (a ≡ b → ⊥) → mgu (equation (atom a) (atom b)) ≡ None
 unfolding mgu_within
 atom_unsolved a b other =
-    ap (λ (c : Bool). after (mgu_within 2 1) (λ to. mgu_within 1 (equations_size to) to) (if c then goes_on [] else fails)) (not_true (bytes_eq a b) (λ e. other ((bytes_eq-Decides a b).0 e)))
+    ap (λ (c : Bool). after (mgu_within 2 1) (λ to. mgu_within 1 (equations_size to) to) (if c then remains [] else conflicts)) (not_true (bytes_eq a b) (λ e. other ((bytes_eq-Decides a b).0 e)))
 
 -- an integer becomes no name
 pub integer_none : (h : Held CellName) (known : List Known) (text : List ℕ) (a x : Cell CellName) (i : ℤ) → x ≡ Integer i → ((f : Reading) → meaning f h x ≡ meaning f h a) → IsNoSpelling h known text a
