@@ -1,11 +1,11 @@
 -- How shoens end: whose lives change, and whose goals go.
 use Rattle.std.proofs.Common.{◌≡◌, ℕ, suc, ◌==◌, ◌||◌, not, ◌&&◌, Bool, true, false, if◌then◌else◌, List, [], ◌∷◌, refl, sym, ap, ap₂, ◌∙◌}
-use Rattle.std.specs.Prelude.{nat_lt, map, Option, Some, None}
+use Rattle.std.specs.Prelude.{map, Option, Some, None}
 use Rattle.std.specs.List.{AllByRecursion}
 use Rattle.std.proofs.lemmas.Bool.{and_parts}
 use Rattle.kl1_model.specs.declared.life.Life.{Life}
 use Rattle.kl1_model.specs.declared.life.Life.TheVariants.{Terminated, Aborted}
-use Rattle.kl1_model.specs.Term.{Term, variable, integer, atom, structure, occurs}
+use Rattle.kl1_model.specs.Term.{Term, variable, integer, atom, structure}
 use Rattle.kl1_model.specs.Meaning.{nil, cell}
 use Rattle.kl1_model.specs.Module.{is_among}
 use Rattle.kl1_model.specs.State.{Task, monitor, reduces, substitutes, Goal, Shoen, State, shoen_at, replace_in_task, replace_in_goal, replace_in_shoen, replace_in_state, change_shoen, is_monitor, is_living}

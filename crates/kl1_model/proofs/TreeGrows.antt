@@ -1,6 +1,6 @@
 -- Each event leaves the shoens of an account a tree, and charges just the path of the goal that it reduces.
 use Rattle.std.proofs.Common.{not, ◌||◌, ◌≡◌, ◌≤◌, ◌<◌, ℕ, zero, suc, ◌+◌, ◌==◌, Bool, true, false, if◌then◌else◌, List, [], ◌∷◌, ◌++◌, refl, sym, ap, ap₂, ◌∙◌, subst, arith}
-use Rattle.std.specs.Prelude.{◌&&◌, nat_le, length, get_or, count_by, cond, Option, Some, None}
+use Rattle.std.specs.Prelude.{◌&&◌, length, get_or, count_by, cond, Option, Some, None}
 use Rattle.std.specs.List.{AllByRecursion, list_any}
 use Rattle.std.proofs.Math.Bool.{or-true}
 use Rattle.std.proofs.lemmas.Bool.{false≢true, eqb-true}

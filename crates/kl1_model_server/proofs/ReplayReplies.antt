@@ -143,7 +143,7 @@ longer_accepted k goal clause m r in_run b ends a =
     let h : has_runs t.rules ≡ true = ap has_runs (rules_after s (without_last j.entries) ∙ r.rules) ∙ run_has_rules k.state goal clause in_run in
     let fewer : are_accepted s (without_last j.entries) ≡ true = fewer_accepted s j.entries (accepted_beside own j.sessions (replayed_from j) j.entries ∙ a) in
     let next : is_refused (first_step (entry_step t (runs (suc m))).state).reply ≡ false =
-        ap (λ z. is_refused (first_step z).reply) (last_run own j k.state (suc m) r.is ends) ∙ ap (λ (x : Transition). is_refused x.reply) (run_is_first k.state goal clause in_run) ∙ b in
+    ap (λ z. is_refused (first_step z).reply) (last_run own j k.state (suc m) r.is ends) ∙ ap (λ (x : Transition). is_refused x.reply) (run_is_first k.state goal clause in_run) ∙ b in
     accepted_beside replay_name j.sessions s (without_last j.entries ++ runs (suc (suc m)) ∷ []) ∙ accepted_more s (without_last j.entries) (runs (suc (suc m))) fewer (run_accepted t (suc m) h next)
 
 begun_accepted : (k : Kept) (goal clause : ℕ) → IsReplay k → is_in_run k.state goal clause ≡ true → is_refused (step k.state (reduce goal clause)).reply ≡ false → IsAccepted k.journal → IsAccepted (entered k.journal (runs 1))
