@@ -78,6 +78,14 @@ fn command<'a>(alloc: Global) -> Result<Command<'a>, AllocError> {
         .arg(words)
 }
 
+/// The most steps of a task: a script's `run` takes no more than its limit, and a run ends at its allowance.
+fn most_steps(task: Task) -> u64 {
+    match task {
+        Task::Script => MOST_STEPS,
+        Task::Check | Task::Run => MOST_ALLOWANCE,
+    }
+}
+
 /// What the words ask for, of which the first is the program's name.
 pub fn asked_in<'a>(alloc: Global, words: &'a [String]) -> Result<Asked<'a>, Error> {
     let matches = command(alloc)?.try_get_matches_from(words)?;
@@ -93,8 +101,8 @@ pub fn asked_in<'a>(alloc: Global, words: &'a [String]) -> Result<Asked<'a>, Err
         task,
         steps: matches
             .get_one::<u64>("steps")
-            .unwrap_or(MOST_STEPS)
-            .min(MOST_STEPS),
+            .unwrap_or(MOST_ALLOWANCE)
+            .min(most_steps(task)),
         allowance: matches
             .get_one::<u64>("allowance")
             .unwrap_or(MOST_ALLOWANCE),
