@@ -4,7 +4,8 @@ ghost use Rattle.std.specs.Prelude.{◌≡◌, ◌<◌, ℕ, List, is_some, if�
 ghost use Rattle.kl1_model.specs.Event.{is_refused};
 ghost use Rattle.kl1_user_events.specs.Views.{event_of, is_logout, reply_of};
 ghost use Rattle.kl1_model_server.specs.laws.TextLaws.{AreNames};
-ghost use Rattle.kl1_model_server.specs.Journal.{new_journal, stepped};
+ghost use Rattle.kl1_model_server.specs.Journal.{new_journal};
+ghost use Rattle.kl1_journal_entries.specs.Lined.{with_reduction};
 ghost use Rattle.kl1_journal.specs.Changes.{IsChange, HasRoom, SessionsFit, ReplyFits, IsEntered, changed, sessions_after};
 
 use kl1_journal_entries::{Journal, PendingEntry, entry_for};
@@ -96,10 +97,10 @@ fn entered(alloc: Global, journal: &mut Journal, event: &Event) -> Result<Change
 }
 
 /// Changes a journal after a reply, unless that is a refusal. `run` is how many reductions the account's last run has now, or 0.
-pub(crate) fn note(journal: &mut Journal, change: Change, run: u64, reply: &Reply)
+pub(crate) fn note(journal: &mut Journal, change: Change, run: u32, reply: &Reply)
     requires room { HasRoom journal.old change }
     requires sessions { SessionsFit journal.old.journal change (reply_of reply.now) }
-    ensures { journal.new.journal ≡ (if is_refused (reply_of reply.now) then journal.old.journal else changed journal.old.journal change (reply_of reply.now)) }
+    ensures { journal.new.journal ≡ (if is_refused (reply_of reply.now) then journal.old.journal else changed journal.old.journal change run (reply_of reply.now)) }
 {
     if is_refusal(reply) {
         return;
@@ -117,11 +118,11 @@ pub(crate) fn note_step(
     journal: &mut Journal,
     goal: GoalNo,
     clause: ClauseNo,
-    run: u64,
+    run: u32,
     refused: &Option<Refusal>,
 )
     requires { 0 < journal.old.room }
-    ensures { journal.new.journal ≡ (if is_some refused.now then journal.old.journal else stepped journal.old.journal goal.0 clause.0 run) }
+    ensures { journal.new.journal ≡ (if is_some refused.now then journal.old.journal else with_reduction journal.old.journal goal.0 clause.0 run) }
 {
     if refused.is_none() {
         journal.put_reduction(goal.0, clause.0, run);

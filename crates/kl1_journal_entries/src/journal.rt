@@ -5,7 +5,6 @@ ghost use Rattle.kl1_model.specs.declared.limits.TheConstants.{MOST_SESSIONS};
 ghost use Rattle.kl1_model_server.specs.Journal.{new_journal};
 ghost use Rattle.kl1_model_server.specs.laws.TextLaws.{AreNames, IsWritten};
 ghost use Rattle.kl1_journal_entries.specs.Lined.{with_prepared, with_reduction};
-ghost use Rattle.kl1_model.specs.declared.limits.TheConstants.{MOST_RUN};
 
 use crate::long_entry::LongEntry;
 use crate::packed_entry::PackedEntry;
@@ -111,16 +110,15 @@ impl Journal {
 
     /// Puts a reduction after the entries, or into the last of them, which is a run then: `run` is how many reductions the last run has
     /// with it, or 0 if it is in no run. It takes no memory.
-    pub fn put_reduction(&mut self, goal: u64, clause: u64, run: u64)
-        requires room { 0 < self.old.room }
-        requires run { run ≤ MOST_RUN }
+    pub fn put_reduction(&mut self, goal: u64, clause: u64, run: u32)
+        requires { 0 < self.old.room }
         ensures { self.new.journal ≡ with_reduction self.old.journal goal clause run }
     {
         if run == 0 {
             self.put(step_for(goal, clause));
             return;
         }
-        let slot = PackedEntry::Run(run as u32);
+        let slot = PackedEntry::Run(run);
         if run == 1 {
             self.slots.push_reserved(slot);
             return;

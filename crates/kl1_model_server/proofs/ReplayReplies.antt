@@ -7,7 +7,7 @@ use Rattle.std.proofs.lemmas.List.{append_assoc, append-nil}
 use Rattle.kl1_model.specs.Text.{is_text}
 use Rattle.kl1_model.specs.declared.rules.Rules.{Rules}
 use Rattle.kl1_model.specs.State.{State, has_runs, fresh_with}
-use Rattle.kl1_model.specs.Event.{Event, load, start, control, reduce, read, login, logout, reset, answer, ran, Transition, refuse, syntax, is_refused}
+use Rattle.kl1_model.specs.Event.{Event, load, start, control, reduce, read, login, logout, reset, answer, ran, Transition, is_refused}
 use Rattle.kl1_model.specs.Choice.{is_in_run}
 use Rattle.kl1_model.specs.Step.{step}
 use Rattle.kl1_model_server.specs.Command.{reply_lines, written_lines}
@@ -20,7 +20,6 @@ use Rattle.kl1_model_server.specs.laws.ReplayLaws.{are_accepted, written_replies
 use Rattle.kl1_model_server.proofs.Besides.{stays_beside}
 use Rattle.kl1_model_server.proofs.Replays.{after_entries, fresh_is_replay, replays_stay, rules_after, run_does, before_run, last_run}
 use Rattle.kl1_model_server.proofs.RunsKept.{run_with, reduction_run, run_goes_on, run_is_first, run_has_rules}
-use Rattle.kl1_model_server.proofs.RulesKept.{entry_rules}
 use Rattle.kl1_model_server.proofs.TextEntries.{entries_read_back}
 use Rattle.kl1_model_server.proofs.TextNames.{names_read_back, headings_read_back}
 use Rattle.kl1_model_server.proofs.TextJournals.{text_lines}

@@ -222,7 +222,7 @@ impl<A: AtomSource, C: CodeSource> UserState<A, C> {
     }
 
     /// How many reductions the last entry of the journal has, if it is a run, or else 0.
-    pub fn run(&self) -> u64
+    pub fn run(&self) -> u32
         ensures { (f : Reading) → result ≡ (state_of f self.now).run }
     {
         self.account.run()

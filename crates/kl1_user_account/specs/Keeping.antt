@@ -1,7 +1,6 @@
 -- What always holds of an account.
 use Rattle.std.specs.Prelude.{◌≡◌, ℕ, ◌<◌, ◌≤◌, List, length}
 use Rattle.std.specs.List.{AllByRecursion}
-use Rattle.kl1_model.specs.declared.limits.TheConstants.{MOST_RUN}
 use Rattle.kl1_model.specs.Rules.{limits_of}
 use Rattle.kl1_store.specs.Hooks.{Hook}
 use Rattle.kl1_codes_modules.specs.Numbered.{AreRead}
@@ -22,7 +21,6 @@ pub record IsKept (a : Account) (hooks : List Hook) (known : ℕ) : Type 0 where
   pub first : AllByRecursion (λ g. 0 < g.number) a.goals
   pub last : AreUpTo a.last_goal a.goals
   pub most : a.entries ≤ (limits_of a.rules).entries
-  pub run : a.run ≤ MOST_RUN
   pub settled : (f : Reading) → Fits a.names f → AreSettled f hooks a.held (program_of a) a.shoens a.goals
   pub enabled : AreEnabled a.shoens a.work a.goals
   pub rows : (f : Reading) → Fits a.names f → AreRead f a.modules

@@ -64,7 +64,7 @@ pub struct Account<C: CodeSource> {
     nodes: u64,
     reports: u64,
     entries: u64,
-    run: u64,
+    run: u32,
     sessions: u64,
     trial: Trial<CellName>,
     draft: Draft,
@@ -106,7 +106,7 @@ impl<C: CodeSource> Account<C> {
     }
 
     /// How many reductions the last entry of the journal has, if it is a run, or else 0.
-    pub fn run(&self) -> u64
+    pub fn run(&self) -> u32
         ensures { (f : Reading) → result ≡ (state_of f self.now).run }
     {
         self.run
@@ -175,7 +175,7 @@ impl<C: CodeSource> Account<C> {
     fn needs_entry(&self, in_run: bool) -> bool
         ensures { (f : Reading) → result ≡ needs_entry in_run (state_of f self.now) }
     {
-        !in_run || self.run == 0 || self.run >= MOST_RUN
+        !in_run || self.run == 0 || self.run as u64 >= MOST_RUN
     }
 
     /// Counts a reduction in the journal, in a run or as an entry.
