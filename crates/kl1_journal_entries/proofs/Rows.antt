@@ -24,6 +24,7 @@ place_stays ws w (slot.Step g c) here = refl
 place_stays ws w (slot.Stop n) here = refl
 place_stays ws w (slot.Resume n) here = refl
 place_stays ws w (slot.Abort n) here = refl
+place_stays ws w (slot.Run n) here = refl
 place_stays ws w (slot.Kept k) here = ap kept_at (get_front ws w k here)
 
 -- and what stands in the row
@@ -42,6 +43,7 @@ short_place ws (slot.Step g c) here = refl
 short_place ws (slot.Stop n) here = refl
 short_place ws (slot.Resume n) here = refl
 short_place ws (slot.Abort n) here = refl
+short_place ws (slot.Run n) here = refl
 short_place ws (slot.Kept k) here = absurd (omega (arith, here))
 
 -- and stays a place if more is kept whole
@@ -50,6 +52,7 @@ place_more n m (slot.Step g c) less here = here
 place_more n m (slot.Stop k) less here = here
 place_more n m (slot.Resume k) less here = here
 place_more n m (slot.Abort k) less here = here
+place_more n m (slot.Run k) less here = here
 place_more n m (slot.Kept k) less here = omega (arith, less, here)
 
 pub places_more : (n : ℕ) (ss : List PackedEntry) → AllByRecursion (IsPlace n) ss → AllByRecursion (IsPlace (suc n)) ss

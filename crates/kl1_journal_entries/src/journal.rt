@@ -119,7 +119,7 @@ impl Journal {
             return;
         }
         let slot = PackedEntry::Run(run);
-        if run == 1 {
+        if run == 1 || self.slots.is_empty() {
             self.slots.push_reserved(slot);
             return;
         }

@@ -5,6 +5,7 @@ ghost use Rattle.std.specs.List.{list_any};
 ghost use Rattle.kl1_model.specs.declared.limits.TheConstants.{MOST_SESSIONS, MOST_NAMES};
 ghost use Rattle.kl1_model.specs.Text.{is_built_in};
 ghost use Rattle.kl1_model_server.specs.JournalText.{is_new_name, entry_in, journal_in};
+ghost use Rattle.kl1_journal_entries.specs.Lined.{if_lined};
 ghost use Rattle.kl1_journal_entries.specs.Reading.{read_text, read_after};
 ghost use Rattle.kl1_journal_entries.specs.Found.{deed_in, found_deed, found_entry, begun_at};
 
@@ -26,6 +27,16 @@ pub(crate) struct Found {
     prepared: PendingEntry,
 }
 
+/// The entry that asks for this, if there is one and it has a line that reads back.
+fn prepared_for(alloc: Global, deed: &Deed) -> Result<PendingEntry, AllocError>
+    ensures { IfOk result (λ entry. entry ≡ option_and_then if_lined (deed_in deed.now)) }
+{
+    match deed {
+        Deed::Event(event) => entry_for(alloc, event),
+        Deed::Run(reductions) => Ok(run_for(*reductions)),
+    }
+}
+
 /// The entry whose line this is, if there is one.
 fn found_in(alloc: Global, line: &[u8]) -> Result<Option<Found>, AllocError>
     ensures deed { IfOk result (λ found. option_and_then found_deed found ≡ entry_in line.now) }
@@ -37,10 +48,7 @@ fn found_in(alloc: Global, line: &[u8]) -> Result<Option<Found>, AllocError>
     let Some(deed) = parse_entry(alloc, line)? else {
         return Ok(None);
     };
-    let prepared = match &deed {
-        Deed::Event(event) => entry_for(alloc, event)?,
-        Deed::Run(reductions) => run_for(*reductions),
-    };
+    let prepared = prepared_for(alloc, &deed)?;
     if !prepared.is_canonical(alloc, line)? {
         return Ok(None);
     }
