@@ -1,8 +1,8 @@
 -- What a command, and the first step of a run, did to an account.
-use Rattle.std.specs.Prelude.{◌≡◌, ℕ, suc, ◌<◌, Option, Some, None}
+use Rattle.std.specs.Prelude.{◌≡◌, ℕ, suc, ◌<◌, ◌==◌, if◌then◌else◌, Option, Some, None}
 use Rattle.kl1_model.specs.Event as model
-use Rattle.kl1_model_server.specs.Journal.{Kept}
-use Rattle.kl1_model_server.specs.Command.{Command, does, run, shows, Going, run_choice, stopped_by, run_from, act}
+use Rattle.kl1_model_server.specs.Journal.{Kept, Done}
+use Rattle.kl1_model_server.specs.Command.{Command, does, run, shows, said, run_from, act}
 use Rattle.kl1_model.specs.Choice.{first}
 use Rattle.kl1_user_events.specs.Views.{refusal_of, reply_of}
 use Rattle.kl1_command.specs.declared.performed.Performed.{Performed}
@@ -45,11 +45,15 @@ Performs s c (performed.Whole reply) after = act s c ≡ record { kept = after; 
 Performs s c (performed.Short n) after = StopsShort s c n after
 Performs s c performed.Memory after = after ≡ s
 
+-- a run that a refusal stops, after n steps that are done
+abbrev pub stopped_by : Kept → ℕ → model.Refusal → Done
+stopped_by s n r = said s (if n == 0 then model.refused r else model.ran n)
+
 -- what became of the first goal that can step: how each run goes on after it
 abbrev pub IsFirstStep : Kept → FirstStep → Kept → Type 0
 IsFirstStep s first_step.Quiet after = (first s.state ≡ None) × (after ≡ s)
-IsFirstStep s first_step.Done after = (next : Going) (n : ℕ) → run_choice next s n (first s.state) ≡ next (suc n) after
-IsFirstStep s (first_step.Refused r) after = ((next : Going) (n : ℕ) → run_choice next s n (first s.state) ≡ stopped_by s n (refusal_of r)) × (after ≡ s)
+IsFirstStep s first_step.Done after = (most n : ℕ) → run_from (suc most) n s ≡ run_from most (suc n) after
+IsFirstStep s (first_step.Refused r) after = ((left n : ℕ) → run_from (suc left) n s ≡ stopped_by s n (refusal_of r)) × (after ≡ s)
 IsFirstStep s first_step.Memory after = after ≡ s
 
 -- if memory was refused at once, a host is as it was

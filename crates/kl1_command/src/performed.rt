@@ -5,7 +5,7 @@ ghost use Rattle.kl1_model_server.specs.Command as model;
 ghost use Rattle.kl1_model_server.specs.Journal.{Kept};
 ghost use Rattle.kl1_user_events.specs.Views.{refusal_of, reply_of};
 ghost use Rattle.kl1_command.specs.Commands.{command_view};
-ghost use Rattle.kl1_command.specs.Performing.{IsUntouched, Performs};
+ghost use Rattle.kl1_command.specs.Performing.{IsUntouched, Performs, stopped_by};
 
 use crate::command::Command;
 use crate::first_step::{FirstStep, reduce_first};
@@ -69,7 +69,7 @@ fn run<H: Host>(host: &mut H, most: u64) -> Performed
 
 /// The reply to a run whose next step is refused, after `done` steps that are done.
 fn stopped(done: u64, refusal: Refusal) -> Reply
-    ensures { (k : Kept) → model.stopped_by k done (refusal_of refusal) ≡ record { kept = k; reply = reply_of result } }
+    ensures { (k : Kept) → stopped_by k done (refusal_of refusal) ≡ record { kept = k; reply = reply_of result } }
 {
     if done == 0 {
         Reply::Refused(refusal)

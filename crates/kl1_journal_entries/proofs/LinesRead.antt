@@ -21,7 +21,7 @@ use Rattle.kl1_model.specs.Answering.{answer_line}
 use Rattle.kl1_model_server.specs.Journal.{Entry, loads, starts, sends, steps, answers, runs}
 use Rattle.kl1_model_server.specs.JournalText.{is_hex_digit, hex_bytes, load_in, of_two, if_good, start_in, answer_in, run_of, entry_by, entry_line, entry_in}
 use Rattle.kl1_model_server.proofs.ReadStrict.{goals_read_are_printable}
-use Rattle.kl1_model_server.proofs.TextEntries.{length_hex, is_read, if_line}
+use Rattle.kl1_model_server.proofs.TextEntries.{length_hex, is_read}
 use Rattle.kl1_journal_entries.specs.Lined.{is_lined, if_lined}
 use Rattle.kl1_journal_entries.specs.Reading.{is_line_of}
 use Rattle.kl1_journal_entries.proofs.Sound.{if_true}
@@ -174,6 +174,10 @@ by_word w rest e h small few =
 pub record IsFound (line : List ℕ) (d p : Option Entry) : Type 0 where
   pub deed : d ≡ entry_in line
   pub entry : Some p ≡ option_map (λ e. Some e) (entry_in line)
+
+-- an entry, if this is its line
+abbrev if_line : List ℕ → Entry → Option Entry
+if_line line e = if bytes_eq (entry_line e) line then Some e else None
 
 short_in : (b : Bool) (o : Option Entry) → b ≡ true → (if b then o else None) ≡ o
 short_in true o h = refl

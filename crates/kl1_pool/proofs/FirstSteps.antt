@@ -5,27 +5,29 @@ use Rattle.kl1_model.specs.Event as model
 use Rattle.kl1_model.specs.Event.{Refusal, reduce}
 use Rattle.kl1_model.specs.Choice.{Chosen, first}
 use Rattle.kl1_model_server.specs.Journal.{Kept, Done, done}
-use Rattle.kl1_model_server.specs.Command.{Going, run_choice, run_on, stopped_by}
+use Rattle.kl1_model_server.specs.Command.{run_from}
 use Rattle.kl1_user_events.specs.Views.{refusal_of, reduced_or}
 use Rattle.kl1_user_events.specs.declared.refusal.Refusal as refusal
-use Rattle.kl1_command.specs.Performing.{refusal_in}
-use Rattle.kl1_command.proofs.Reductions.{refused_stays}
-use Rattle.kl1_command.proofs.Runs.{goes_further}
+use Rattle.kl1_command.specs.Performing.{refusal_in, stopped_by}
+use Rattle.kl1_command.proofs.Reductions.{after_by, refused_stays}
+use Rattle.kl1_command.proofs.Runs.{run_by, goes_further}
 use Rattle.kl1_pool.specs.declared.outcome.Outcome.{Outcome}
 use Rattle.kl1_pool.specs.declared.outcome.Outcome.TheVariants as outcome
 use Rattle.kl1_pool.specs.Stepping.{IsOutcome, step_of, RunsOn, IsEnd, IsLeft}
 
 -- the first goal that can step was reduced
-pub done_first : (s after : Kept) (c : Chosen) → Some c ≡ first s.state → done s (reduce c.goal c.clause) ≡ record { kept = after; reply = model.reduced } → (next : Going) (n : ℕ) → run_choice next s n (first s.state) ≡ next (suc n) after
-done_first s after c found is next n = ap (run_choice next s n) (sym found) ∙ ap (λ (x : Done). run_on next s n x.kept x.reply) is
+pub done_first : (s after : Kept) (c : Chosen) → Some c ≡ first s.state → done s (reduce c.goal c.clause) ≡ record { kept = after; reply = model.reduced } → (most n : ℕ) → run_from (suc most) n s ≡ run_from most (suc n) after
+unfolding after_by
+done_first s after c found is most n = ap (run_by most n s) (sym found) ∙ ap (after_by most n s) is
 
 -- its reduction was refused
-pub refused_first : (s after : Kept) (c : Chosen) (r : Refusal) → Some c ≡ first s.state → done s (reduce c.goal c.clause) ≡ record { kept = after; reply = model.refused r } → ((next : Going) (n : ℕ) → run_choice next s n (first s.state) ≡ stopped_by s n r) × (after ≡ s)
+pub refused_first : (s after : Kept) (c : Chosen) (r : Refusal) → Some c ≡ first s.state → done s (reduce c.goal c.clause) ≡ record { kept = after; reply = model.refused r } → ((left n : ℕ) → run_from (suc left) n s ≡ stopped_by s n r) × (after ≡ s)
+unfolding after_by
 refused_first s after c r found is =
-    (λ next n. ap (run_choice next s n) (sym found) ∙ ap (λ (x : Done). run_on next s n x.kept x.reply) is, sym (ap (λ (x : Done). x.kept) is) ∙ refused_stays s (reduce c.goal c.clause) r (ap (λ (x : Done). refusal_in x.reply) is))
+    (λ most n. ap (run_by most n s) (sym found) ∙ ap (after_by most n s) is, sym (ap (λ (x : Done). x.kept) is) ∙ refused_stays s (reduce c.goal c.clause) r (ap (λ (x : Done). refusal_in x.reply) is))
 
 -- so by what a reduction answers
-pub refused_as : (s after : Kept) (c : Chosen) (o : Option refusal.Refusal) (r : refusal.Refusal) → o ≡ Some r → Some c ≡ first s.state → done s (reduce c.goal c.clause) ≡ record { kept = after; reply = reduced_or o } → ((next : Going) (n : ℕ) → run_choice next s n (first s.state) ≡ stopped_by s n (refusal_of r)) × (after ≡ s)
+pub refused_as : (s after : Kept) (c : Chosen) (o : Option refusal.Refusal) (r : refusal.Refusal) → o ≡ Some r → Some c ≡ first s.state → done s (reduce c.goal c.clause) ≡ record { kept = after; reply = reduced_or o } → ((left n : ℕ) → run_from (suc left) n s ≡ stopped_by s n (refusal_of r)) × (after ≡ s)
 refused_as s after c o r e found is =
     refused_first s after c (refusal_of r) found (subst (λ (x : Option refusal.Refusal). done s (reduce c.goal c.clause) ≡ record { kept = after; reply = reduced_or x }) e is)
 
@@ -52,7 +54,7 @@ pub ends_by : (mid after : Kept) (n most : ℕ) (o : Outcome) → n < most → I
 ends_by mid after n most outcome.Done less h z = absurd (let e : 1 ≡ 0 = z in omega (arith, e))
 ends_by mid after n most outcome.Quiet less h z = (less, subst (λ (k : Kept). first k.state ≡ None) (sym h.1) h.0)
 ends_by mid after n most (outcome.Refused r) less h z =
-    (less, subst (λ (k : Kept). (next : Going) (m : ℕ) → run_choice next k m (first k.state) ≡ stopped_by k m (refusal_of r)) (sym h.1) h.0)
+    (less, subst (λ (k : Kept). (left m : ℕ) → run_from (suc left) m k ≡ stopped_by k m (refusal_of r)) (sym h.1) h.0)
 ends_by mid after n most outcome.Memory less h z = less
 
 -- what an outcome leaves is left if it came at once

@@ -4,12 +4,12 @@ use Rattle.std.specs.Prelude.{Some, None}
 use Rattle.kl1_model.specs.Event as model
 use Rattle.kl1_model.specs.Choice.{Chosen, first}
 use Rattle.kl1_model_server.specs.Journal.{Kept, Done, done}
-use Rattle.kl1_model_server.specs.Command.{Command, does, run, Going, run_choice, run_from, stopped_by, said, act}
+use Rattle.kl1_model_server.specs.Command.{Command, does, run, run_from, said, act}
 use Rattle.kl1_user_events.specs.Views.{refusal_of}
 use Rattle.kl1_user_events.specs.declared.refusal.Refusal.{Refusal}
 use Rattle.kl1_command.specs.declared.performed.Performed.{Performed}
 use Rattle.kl1_command.specs.declared.performed.Performed.TheVariants as performed
-use Rattle.kl1_command.specs.Performing.{Performs, IsUntouched}
+use Rattle.kl1_command.specs.Performing.{Performs, stopped_by, IsUntouched}
 use Rattle.kl1_command.proofs.Runs.{none_done, all_done, none_left, next_refused}
 use Rattle.kl1_pool.specs.declared.outcome.Outcome.{Outcome}
 use Rattle.kl1_pool.specs.Stepping.{RunsOn, IsLeft, IsNoneFor}
@@ -24,7 +24,7 @@ pub run_quiet : (s after : Kept) (n most : ℕ) → RunsOn s n after → (n < mo
 run_quiet s after n most h e = none_left s after n most h e.0 e.1
 
 -- a run whose next step is refused
-pub run_stopped : (s after : Kept) (n most : ℕ) (r : Refusal) (reply : model.Reply) → RunsOn s n after → (n < most) × ((next : Going) (k : ℕ) → run_choice next after k (first after.state) ≡ stopped_by after k (refusal_of r)) →
+pub run_stopped : (s after : Kept) (n most : ℕ) (r : Refusal) (reply : model.Reply) → RunsOn s n after → (n < most) × ((left k : ℕ) → run_from (suc left) k after ≡ stopped_by after k (refusal_of r)) →
     stopped_by after n (refusal_of r) ≡ record { kept = after; reply = reply } → act s (run most) ≡ record { kept = after; reply = reply }
 run_stopped s after n most r reply h e is = next_refused s after n most (refusal_of r) h e.0 e.1 ∙ is
 

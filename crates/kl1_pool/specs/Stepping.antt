@@ -3,7 +3,8 @@ use Rattle.std.specs.Prelude.{◌≡◌, ℕ, suc, ◌+◌, ◌<◌, nat_le, not
 use Rattle.kl1_model.specs.Event as model
 use Rattle.kl1_model.specs.Choice.{first, quiet}
 use Rattle.kl1_model_server.specs.Journal.{Kept}
-use Rattle.kl1_model_server.specs.Command.{Going, run_choice, run_from, stopped_by}
+use Rattle.kl1_model_server.specs.Command.{run_from}
+use Rattle.kl1_command.specs.Performing.{stopped_by}
 use Rattle.kl1_user_events.specs.Views.{refusal_of}
 use Rattle.kl1_command.specs.declared.performed.Performed.{Performed}
 use Rattle.kl1_command.specs.declared.performed.Performed.TheVariants as performed
@@ -20,9 +21,9 @@ goes_on most n after = nat_le most n && not (quiet after.state)
 
 -- what became of the first goal that can step: how each run goes on after it
 abbrev pub IsOutcome : Kept → Outcome → Kept → Type 0
-IsOutcome s outcome.Done after = (next : Going) (n : ℕ) → run_choice next s n (first s.state) ≡ next (suc n) after
+IsOutcome s outcome.Done after = (most n : ℕ) → run_from (suc most) n s ≡ run_from most (suc n) after
 IsOutcome s outcome.Quiet after = (first s.state ≡ None) × (after ≡ s)
-IsOutcome s (outcome.Refused r) after = ((next : Going) (n : ℕ) → run_choice next s n (first s.state) ≡ stopped_by s n (refusal_of r)) × (after ≡ s)
+IsOutcome s (outcome.Refused r) after = ((left n : ℕ) → run_from (suc left) n s ≡ stopped_by s n (refusal_of r)) × (after ≡ s)
 IsOutcome s outcome.Memory after = after ≡ s
 
 -- how many steps an outcome is
@@ -38,7 +39,7 @@ RunsOn s n after = (m : ℕ) → run_from (n + m) 0 s ≡ run_from m n after
 abbrev pub IsEnd : ℕ → ℕ → Outcome → Kept → Type 0
 IsEnd most n outcome.Done after = n ≡ most
 IsEnd most n outcome.Quiet after = (n < most) × (first after.state ≡ None)
-IsEnd most n (outcome.Refused r) after = (n < most) × ((next : Going) (k : ℕ) → run_choice next after k (first after.state) ≡ stopped_by after k (refusal_of r))
+IsEnd most n (outcome.Refused r) after = (n < most) × ((left k : ℕ) → run_from (suc left) k after ≡ stopped_by after k (refusal_of r))
 IsEnd most n outcome.Memory after = n < most
 
 -- if memory was refused, or no step was tried, nothing changes

@@ -1,7 +1,8 @@
 // Answers to runs.
 
 ghost use Rattle.std.specs.Prelude.{◌≡◌, ℕ, ◌<◌};
-ghost use Rattle.kl1_model_server.specs.Command.{run as run_command, stopped_by};
+ghost use Rattle.kl1_model_server.specs.Command.{run as run_command};
+ghost use Rattle.kl1_command.specs.Performing.{stopped_by};
 ghost use Rattle.kl1_model_server.specs.Journal.{Journal, Kept};
 ghost use Rattle.kl1_user_events.specs.Views.{refusal_of, reply_of};
 ghost use Rattle.kl1_command.specs.Performing.{Performs};

@@ -1,11 +1,10 @@
 -- What is written for a line by what became of its entry.
 use Rattle.std.proofs.Common.{◌≡◌, ℕ, suc, Bool, true, false, List, ◌∷◌, ◌++◌, Option, Some, None, refl, sym, ap, ◌∙◌, if◌then◌else◌}
-use Rattle.std.specs.Prelude.{option_map, option_and_then}
+use Rattle.std.specs.Prelude.{option_and_then}
 use Rattle.kl1_model.specs.State.{State}
-use Rattle.kl1_model.specs.Event.{Event, Transition, is_refused}
-use Rattle.kl1_model.specs.Step.{step}
+use Rattle.kl1_model.specs.Event.{Transition, is_refused}
 use Rattle.kl1_model_server.specs.Command.{reply_lines, written_lines}
-use Rattle.kl1_model_server.specs.Journal.{Entry, event_in}
+use Rattle.kl1_model_server.specs.Journal.{Entry, entry_step}
 use Rattle.kl1_model_server.specs.JournalText.{entry_in}
 use Rattle.kl1_model_server.specs.Replay.{written_entries, written_fault}
 use Rattle.kl1_model_server.proofs.ReplayReplies.{written_step, written_entry}
@@ -28,17 +27,17 @@ step_accepted : (next : State → List ℕ) (k : ℕ) (y x : Transition) → if_
 step_accepted next k y x e =
     rw (not_refused (is_refused y.reply) y x e) (ap (λ (z : Transition). written_lines (reply_lines z.reply) ++ next z.state) (same_step (is_refused y.reply) y x e))
 
-entry_accepted : (next : State → List ℕ) (k : ℕ) (s : State) (o : Option Entry) (x : Transition) → option_and_then (λ e. if_accepted (step s (event_in e))) o ≡ Some x → written_entry next k s o ≡ written_lines (reply_lines x.reply) ++ next x.state
+entry_accepted : (next : State → List ℕ) (k : ℕ) (s : State) (o : Option Entry) (x : Transition) → option_and_then (λ e. if_accepted (entry_step s e)) o ≡ Some x → written_entry next k s o ≡ written_lines (reply_lines x.reply) ++ next x.state
 entry_accepted next k s None x h = cc
-entry_accepted next k s (Some e) x h = step_accepted next k (step s (event_in e)) x h
+entry_accepted next k s (Some e) x h = step_accepted next k (entry_step s e) x h
 
 -- an entry that is accepted
 pub one_accepted : (k n : ℕ) (s : State) (line : List ℕ) (lines : List (List ℕ)) (rest : List ℕ) (x : Transition) → accepted_in s line ≡ Some x → written_entries k n s (line ∷ lines) rest ≡ written_lines (reply_lines x.reply) ++ written_entries (suc k) (suc n) x.state lines rest
 one_accepted k n s line lines rest x h = entry_accepted (λ after. written_entries (suc k) (suc n) after lines rest) k s (entry_in line) x h
 
-entry_fault : (next : State → List ℕ) (k : ℕ) (s : State) (o : Option Entry) → option_and_then (λ e. if_accepted (step s (event_in e))) o ≡ None → written_entry next k s o ≡ written_fault k
+entry_fault : (next : State → List ℕ) (k : ℕ) (s : State) (o : Option Entry) → option_and_then (λ e. if_accepted (entry_step s e)) o ≡ None → written_entry next k s o ≡ written_fault k
 entry_fault next k s None h = refl
-entry_fault next k s (Some e) h = rw (refused (is_refused (step s (event_in e)).reply) (step s (event_in e)) h) refl
+entry_fault next k s (Some e) h = rw (refused (is_refused (entry_step s e).reply) (entry_step s e) h) refl
 
 -- a line that is no entry's, or whose entry is refused
 pub one_fault : (k n : ℕ) (s : State) (line : List ℕ) (lines : List (List ℕ)) (rest : List ℕ) → accepted_in s line ≡ None → written_entries k n s (line ∷ lines) rest ≡ written_fault k
@@ -53,21 +52,10 @@ told_front k n s line lines rest (Some x) h = (written_entries (suc k) (suc n) x
 pub one_first : (m : ℕ) (s : State) (line : List ℕ) (lines : List (List ℕ)) (x : Transition) → accepted_in s line ≡ Some x → first_entries (suc m) s (line ∷ lines) ≡ written_lines (reply_lines x.reply) ++ first_entries m x.state lines
 one_first m s line lines x h = rw h refl
 
-found_none : (o : Option Entry) → option_map event_in o ≡ None → o ≡ None
-found_none None e = refl
-found_none (Some x) e = cc
-
 -- a line that is no entry's
-pub no_entry : (s : State) (line : List ℕ) (found : Option Event) → found ≡ option_map event_in (entry_in line) → found ≡ None → accepted_in s line ≡ None
-no_entry s line found is none = rw (found_none (entry_in line) (sym is ∙ none)) refl
+pub no_entry : (s : State) (line : List ℕ) (found : Option Entry) → found ≡ entry_in line → found ≡ None → accepted_in s line ≡ None
+no_entry s line found is none = rw (sym is ∙ none) refl
 
-found_some : (s : State) (e : Event) (o : Option Entry) → option_map event_in o ≡ Some e → option_and_then (λ x. if_accepted (step s (event_in x))) o ≡ if_accepted (step s e)
-found_some s e None h = cc
-found_some s e (Some x) h = ap (λ (y : Event). if_accepted (step s y)) (same_some (event_in x) e h)
-  where
-    same_some : (x y : Event) → Some x ≡ Some y → x ≡ y
-    same_some x y h = cc
-
--- a line whose entry is this event
-pub some_entry : (s : State) (line : List ℕ) (e : Event) (found : Option Event) → found ≡ option_map event_in (entry_in line) → found ≡ Some e → accepted_in s line ≡ if_accepted (step s e)
-some_entry s line e found is some = found_some s e (entry_in line) (sym is ∙ some)
+-- a line of this entry
+pub some_entry : (s : State) (line : List ℕ) (e : Entry) (found : Option Entry) → found ≡ entry_in line → found ≡ Some e → accepted_in s line ≡ if_accepted (entry_step s e)
+some_entry s line e found is some = ap (option_and_then (λ d. if_accepted (entry_step s d))) (sym is ∙ some)

@@ -3,19 +3,18 @@ use Rattle.std.specs.Prelude.{ℕ, zero, suc, if◌then◌else◌, List, [], ◌
 use Rattle.kl1_model.specs.declared.rules.Rules.{Rules}
 use Rattle.kl1_model.specs.State.{State, fresh_with}
 use Rattle.kl1_model.specs.Event.{Transition, is_refused}
-use Rattle.kl1_model.specs.Step.{step}
 use Rattle.kl1_model_server.specs.Command.{reply_lines, written_lines}
-use Rattle.kl1_model_server.specs.Journal.{event_in}
+use Rattle.kl1_model_server.specs.Journal.{entry_step}
 use Rattle.kl1_model_server.specs.JournalText.{Heading, entry_in, name_in, is_new_name, heading_in, lines_of}
 use Rattle.kl1_model_server.specs.Replay.{replay_name}
 
--- what became of an event, if it is accepted
+-- what became of an event or an entry, if it is accepted
 abbrev pub if_accepted : Transition → Option Transition
 if_accepted x = if is_refused x.reply then None else Some x
 
 -- what became of the entry of a line, if it is one and is accepted
 abbrev pub accepted_in : State → List ℕ → Option Transition
-accepted_in s line = option_and_then (λ e. if_accepted (step s (event_in e))) (entry_in line)
+accepted_in s line = option_and_then (λ e. if_accepted (entry_step s e)) (entry_in line)
 
 -- what is written for an entry that is accepted, if it is one, and how it goes on from the account
 abbrev pub first_then : (State → List ℕ) → Option Transition → List ℕ

@@ -5,6 +5,7 @@ ghost use Rattle.kl1_model.specs.declared.limits.TheConstants.{MOST_WAITING_BYTE
 ghost use Rattle.kl1_model.specs.State.{State};
 ghost use Rattle.kl1_model.specs.Step.{step};
 ghost use Rattle.kl1_user_events.specs.Views.{event_of};
+ghost use Rattle.kl1_model_server.specs.Journal.{runs, entry_step};
 ghost use Rattle.kl1_model_server.specs.JournalText.{lines_of};
 ghost use Rattle.kl1_model_server.specs.Replay.{written_entries};
 ghost use Rattle.kl1_user.specs.Accounts.{Reading, Fits, state_of};
