@@ -12,10 +12,11 @@ use Rattle.kl1_model.specs.Module.{BodyGoal, goals_of}
 use Rattle.kl1_model.specs.Match.{Candidate}
 use Rattle.kl1_model.specs.Unify.{mgu}
 use Rattle.kl1_model.specs.Instance.{body_variable, body_instance, body_priorities, fresh_variables}
-use Rattle.kl1_model.specs.State.{limits_of, reduces, Goal, Shoen, State, goal_at, shoen_at, with_name, without_goal, is_monitor}
+use Rattle.kl1_model.specs.State.{fresh, limits_of, reduces, Goal, Shoen, State, goal_at, shoen_at, with_name, without_goal, is_monitor}
 use Rattle.kl1_model.specs.Tree.{charge, goals_alive}
 use Rattle.kl1_model.specs.Event.{Event, are_too_many, with_reduction}
 use Rattle.kl1_model.specs.Opening.{with_shoen, with_next_variables, start_goal, has_room_to_start, has_room_for_child, child_shoen, open_child}
+use Rattle.kl1_model.specs.Step.{step}
 use Rattle.kl1_model.specs.code.Steps.{opening_goals, priority_of, named_by}
 use Rattle.kl1_model.specs.Reduction.{Move, commits, raises, unifies, names, opens, goes, gives_way, moves, goals_from, has_room_for, committed, replaced_by, equation, moved, heard, acted}
 use Rattle.kl1_model.specs.Answering.{answered}

@@ -12,7 +12,7 @@ use Rattle.kl1_model.specs.Unify.{mgu}
 use Rattle.kl1_model.specs.Module.{is_among}
 use Rattle.kl1_model.specs.Match.{Candidate}
 use Rattle.kl1_model.specs.Control.{Control, awaits_message, tells, tells_other, ends, breaks_off}
-use Rattle.kl1_model.specs.State.{Task, reduces, substitutes, Goal, Shoen, State, has_substitutes, goal_at, shoen_at, replace_all, with_name, without_goal, is_monitor, is_living}
+use Rattle.kl1_model.specs.State.{limits_of, Task, reduces, substitutes, Goal, Shoen, State, has_substitutes, goal_at, shoen_at, replace_all, with_name, without_goal, is_monitor, is_living}
 use Rattle.kl1_model.specs.Tree.{parents_of, path_within, is_on_path, charge}
 use Rattle.kl1_model.specs.Event.{are_too_many, with_reduction}
 use Rattle.kl1_model.specs.Report.{report, is_reported, exception, exception_with, failure, illegal_input, exhaustion}
@@ -297,7 +297,7 @@ acted_busy s r n g t m tree there plain b =
 
 keeping : Keeping IsBusy
 keeping = record {
-  fresh = λ rules name names sessions. record { counted = fresh_counted; idle = λ m. refl };
+  fresh = λ rules name names sessions. record { counted = fresh_counted (limits_of rules).goals; idle = λ m. refl };
   seats = λ s n b. record { counted = b.counted; idle = b.idle };
   loads = λ s source m is b. record { counted = b.counted; idle = b.idle };
   starts = λ s allowance low high t tree may room b. let d = start_busy s allowance low high t room b in record { counted = d.counted; idle = d.idle };

@@ -29,7 +29,7 @@ numbers_with_a_run_row : numbers with_each_and_a_run.state ≡ 12 ∷ 2 ∷ 1 �
 unfolding digits tokens_within expression_at parted_by grouped_by mgu_within path_within
 numbers_with_a_run_row = refl
 
-replay_of_a_run_row : replay (codes "alice") with_each_and_a_run.journal ≡ with_each_and_a_run.state
+replay_of_a_run_row : numbers (replay (codes "alice") with_each_and_a_run.journal) ≡ 12 ∷ 2 ∷ 1 ∷ 7 ∷ []
 unfolding digits tokens_within expression_at parted_by grouped_by mgu_within path_within
 replay_of_a_run_row = refl
 

@@ -36,7 +36,7 @@ pub record RunRowsHold : Type 0 where
   -- variables, goals, shoens and entries of the account
   pub numbers_with_a_run : numbers with_each_and_a_run.state ≡ 12 ∷ 2 ∷ 1 ∷ 7 ∷ []
   -- the replay of its journal
-  pub replay_of_a_run : replay (codes "alice") with_each_and_a_run.journal ≡ with_each_and_a_run.state
+  pub replay_of_a_run : numbers (replay (codes "alice") with_each_and_a_run.journal) ≡ 12 ∷ 2 ∷ 1 ∷ 7 ∷ []
   -- how many reductions its last run has
   pub run_is_counted : with_each_and_a_run.state.run ≡ 4
   -- a start ends a run
