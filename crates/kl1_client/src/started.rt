@@ -5,7 +5,8 @@ use crate::terminal::Terminal;
 use crate::trouble::Trouble;
 use crate::words::Asked;
 use kl1_client_talk::{
-    Caller, Connection, FailureCounter, LineReader, Outcome, Sink, Source, status_of, talk,
+    Caller, Connection, FailureCounter, LineReader, ReplyWriter, Sink, Source, TalkSummary,
+    status_of, talk,
 };
 use std::alloc::{AllocError, Global};
 use std::io::IsTerminal;
@@ -58,18 +59,17 @@ fn talk_by<'a, S: Source, T: Sink, C: Caller>(
     caller: &mut C,
     asked: &Asked<'a>,
     key: &[u8],
-) -> Result<Outcome, Trouble<'a>> {
-    let mut out = FailureCounter::new(rt.stdout());
+) -> Result<TalkSummary, Trouble<'a>> {
+    let mut replies = ReplyWriter::new(rt.alloc(), FailureCounter::new(rt.stdout()), asked.all);
     match talk(
         rt.alloc(),
         connection,
-        &mut out,
+        &mut replies,
         caller,
         asked.name.as_bytes(),
         key,
-        asked.all,
     ) {
-        Ok(outcome) => Ok(outcome),
+        Ok(summary) => Ok(summary),
         Err(fault) => Err(Trouble::Talk(fault)),
     }
 }

@@ -1,5 +1,9 @@
 // Who gives the commands: words of the program, or standard input.
 
+ghost use Rattle.std.specs.Prelude.{⊤, option_map};
+ghost use Rattle.kl1_client_talk.specs.Given.{lines_in};
+ghost use Rattle.kl1_client_talk.specs.Streams.{coming};
+
 use kl1_client_talk::{Caller, Fault, LineReader, MOST_SOURCE_BYTES, Source};
 use std::fs::File;
 use std::io::Read;
@@ -31,6 +35,11 @@ fn read_file(rt: &HostRuntime, name: &str, bytes: &mut Vec<u8>) -> io::Result<()
 }
 
 impl<S: Source> Caller for Terminal<'_, S> {
+    ghost remaining = { λ t. option_map lines_in (coming S.remaining t.lines) };
+
+    // Any file may have any bytes.
+    ghost is_file = { λ name bytes. ⊤ };
+
     fn next(&mut self, line: &mut Vec<u8>) -> Result<bool, Fault> {
         if let Some(name) = self.prompt {
             let _ = eprint!(self.rt; "{name}> ");

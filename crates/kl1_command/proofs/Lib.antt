@@ -2,3 +2,4 @@ pub mod Lines
 pub mod Starts
 pub mod Runs
 pub mod Reductions
+pub mod Rooms

@@ -1,5 +1,5 @@
 -- What becomes of the first goal that can step.
-use Rattle.std.proofs.Common.{◌≡◌, ℕ, suc, ◌==◌, ◌&&◌, nat_lt, Bool, true, false, if◌then◌else◌, Option, Some, None, ap, sym, ◌∙◌, refl}
+use Rattle.std.proofs.Common.{◌≡◌, ℕ, suc, ◌==◌, Bool, true, false, if◌then◌else◌, Option, Some, None, ap, sym, ◌∙◌, subst, refl}
 use Rattle.kl1_model.specs.State.{State}
 use Rattle.kl1_model.specs.Event as model
 use Rattle.kl1_model.specs.Event.{reduce, is_refused}
@@ -8,10 +8,9 @@ use Rattle.kl1_model.proofs.TreeSteps.{refusals_change_nothing}
 use Rattle.kl1_model_server.specs.Journal.{Journal, with_event, Kept, Done, done}
 use Rattle.kl1_model.specs.Choice.{Chosen, first}
 use Rattle.kl1_model_server.specs.Command.{said, run_from}
-use Rattle.kl1_user_events.specs.Views.{refusal_of}
-use Rattle.kl1_command.specs.declared.first_step.FirstStep.{FirstStep}
-use Rattle.kl1_command.specs.declared.first_step.FirstStep.TheVariants as first_step
-use Rattle.kl1_command.specs.Performing.{refusal_in, IsTold, stopped_by, IsFirstStep}
+use Rattle.kl1_user_events.specs.Views.{refusal_of, reduced_or}
+use Rattle.kl1_user_events.specs.declared.refusal.Refusal as refusal
+use Rattle.kl1_command.specs.Performing.{refusal_in, stopped_by}
 use Rattle.kl1_command.proofs.Runs.{run_by}
 
 none_is : (X : Type 0) (r : model.Refusal) → None ≡ Some r → X
@@ -48,47 +47,18 @@ refused_stays k e r is =
 pub after_by : (most n : ℕ) (s : Kept) → Done → Done
 after_by most n s x = if is_refused x.reply then said s (if n == 0 then x.reply else model.ran n) else run_from most (suc n) x.kept
 
-goes_by : (reply : model.Reply) (most n : ℕ) (s after : Kept) → refusal_in reply ≡ None → after_by most n s (record { kept = after; reply = reply }) ≡ run_from most (suc n) after
+-- the first goal was reduced
+pub done_first : (s after : Kept) (c : Chosen) → Some c ≡ first s.state → done s (reduce c.goal c.clause) ≡ record { kept = after; reply = model.reduced } → (most n : ℕ) → run_from (suc most) n s ≡ run_from most (suc n) after
 unfolding after_by
-goes_by (model.refused r) most n s after e = none_is _ r (sym e)
-goes_by (model.loaded name) most n s after e = refl
-goes_by (model.opened m) most n s after e = refl
-goes_by model.sent most n s after e = refl
-goes_by model.reduced most n s after e = refl
-goes_by (model.ran m) most n s after e = refl
-goes_by (model.shown text) most n s after e = refl
-goes_by (model.status_is c charged allowance alive) most n s after e = refl
-goes_by (model.listed texts) most n s after e = refl
-goes_by (model.quiet_is b) most n s after e = refl
-goes_by (model.welcome name) most n s after e = refl
-goes_by model.bye most n s after e = refl
-goes_by model.was_reset most n s after e = refl
+done_first s after c found is most n = ap (run_by most n s) (sym found) ∙ ap (after_by most n s) is
 
-stops_by : (reply : model.Reply) (most n : ℕ) (s after : Kept) (r : model.Refusal) → refusal_in reply ≡ Some r → after_by most n s (record { kept = after; reply = reply }) ≡ stopped_by s n r
+-- the reduction of the first goal was refused, for this reason
+refused_first : (s after : Kept) (c : Chosen) (r : model.Refusal) → Some c ≡ first s.state → done s (reduce c.goal c.clause) ≡ record { kept = after; reply = model.refused r } → ((left n : ℕ) → run_from (suc left) n s ≡ stopped_by s n r) × (after ≡ s)
 unfolding after_by
-stops_by (model.refused q) most n s after r e = ap (stopped_by s n) (let same : q ≡ r = cc in same)
-stops_by (model.loaded name) most n s after r e = none_is _ r e
-stops_by (model.opened m) most n s after r e = none_is _ r e
-stops_by model.sent most n s after r e = none_is _ r e
-stops_by model.reduced most n s after r e = none_is _ r e
-stops_by (model.ran m) most n s after r e = none_is _ r e
-stops_by (model.shown text) most n s after r e = none_is _ r e
-stops_by (model.status_is c charged allowance alive) most n s after r e = none_is _ r e
-stops_by (model.listed texts) most n s after r e = none_is _ r e
-stops_by (model.quiet_is b) most n s after r e = none_is _ r e
-stops_by (model.welcome name) most n s after r e = none_is _ r e
-stops_by model.bye most n s after r e = none_is _ r e
-stops_by model.was_reset most n s after r e = none_is _ r e
+refused_first s after c r found is =
+    (λ most n. ap (run_by most n s) (sym found) ∙ ap (after_by most n s) is, sym (ap (λ (x : Done). x.kept) is) ∙ refused_stays s (reduce c.goal c.clause) r (ap (λ (x : Done). refusal_in x.reply) is))
 
--- the first goal was reduced, or its reduction refused
-pub first_told : (s after : Kept) (reply : model.Reply) (c : Chosen) (told : FirstStep) → Some c ≡ first s.state → done s (reduce c.goal c.clause) ≡ record { kept = after; reply = reply } → IsTold reply told → IsFirstStep s told after
-unfolding after_by
-first_told s after reply c first_step.Quiet found is t = absurd t
-first_told s after reply c first_step.Done found is t = λ most n. ap (run_by most n s) (sym found) ∙ ap (after_by most n s) is ∙ goes_by reply most n s after t
-first_told s after reply c (first_step.Refused r) found is t =
-    (λ most n. ap (run_by most n s) (sym found) ∙ ap (after_by most n s) is ∙ stops_by reply most n s after (refusal_of r) t, sym (ap (λ x. x.kept) is) ∙ refused_stays s (reduce c.goal c.clause) (refusal_of r) (ap (λ x. refusal_in x.reply) is ∙ t))
-first_told s after reply c first_step.Memory found is t = absurd t
-
--- there was no goal that can step
-pub none_first : (s after : Kept) → None ≡ first s.state → after ≡ s → IsFirstStep s first_step.Quiet after
-none_first s after none same = (sym none, same)
+-- so by what a reduction answers
+pub refused_as : (s after : Kept) (c : Chosen) (o : Option refusal.Refusal) (r : refusal.Refusal) → o ≡ Some r → Some c ≡ first s.state → done s (reduce c.goal c.clause) ≡ record { kept = after; reply = reduced_or o } → ((left n : ℕ) → run_from (suc left) n s ≡ stopped_by s n (refusal_of r)) × (after ≡ s)
+refused_as s after c o r e found is =
+    refused_first s after c (refusal_of r) found (subst (λ (x : Option refusal.Refusal). done s (reduce c.goal c.clause) ≡ record { kept = after; reply = reduced_or x }) e is)

@@ -7,9 +7,13 @@ mod host;
 mod parsed;
 mod performed;
 mod replies;
+mod run;
+mod steps;
 
 pub use command::Command;
-pub use host::Host;
+pub use first_step::FirstStep;
+pub use host::{Host, UnbookedHost};
 pub use parsed::{Parsed, command_in, parse};
 pub use performed::{Performed, perform};
 pub use replies::{put_lines, put_reply};
+pub use steps::{Steps, run_steps};

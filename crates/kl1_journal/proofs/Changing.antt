@@ -7,25 +7,36 @@ use Rattle.kl1_model.specs.State.{State}
 use Rattle.kl1_model.specs.Event as model
 use Rattle.kl1_model.specs.Event.{Transition, refuse, sessions_refused, is_refused}
 use Rattle.kl1_model.specs.Step.{step}
-use Rattle.kl1_model.specs.code.Steps.{log_in, log_out}
 use Rattle.kl1_model_server.specs.Journal.{Journal, steps, new_journal, with_event, noted, stepped}
 use Rattle.kl1_journal_entries.specs.Lined.{entry_of, if_lined, with_prepared, with_reduction}
 use Rattle.kl1_journal_entries.proofs.Accepted.{accepted_entries}
 use Rattle.kl1_journal.specs.declared.change.Change.{Change}
 use Rattle.kl1_journal.specs.declared.change.Change.TheVariants as change
-use Rattle.kl1_journal.specs.Changes.{IsEntered, IsChange, ReplyFits, SessionsFit, sessions_after, changed}
+use Rattle.kl1_journal.specs.Changes.{IsQuery, IsEntered, IsChange, ReplyFits, SessionsFit, sessions_after, changed}
 
--- an entry or a query
+-- an entry that is no reduction
 entered_is : (j : Journal) (e : model.Event) (t : State) → IsEntered e → with_event j e t ≡ with_prepared j (entry_of e)
 entered_is j (model.load text) t h = refl
 entered_is j (model.start allowance low high goal) t h = refl
 entered_is j (model.control n m) t h = refl
 entered_is j (model.reduce goal clause) t h = absurd h
 entered_is j (model.answer n report goal) t h = refl
-entered_is j (model.read q) t h = refl
+entered_is j (model.read q) t h = absurd h
 entered_is j model.login t h = absurd h
 entered_is j model.logout t h = absurd h
 entered_is j model.reset t h = absurd h
+
+-- a query
+asked_is : (j : Journal) (e : model.Event) (t : State) → IsQuery e → with_event j e t ≡ j
+asked_is j (model.read q) t h = refl
+asked_is j (model.load text) t h = absurd h
+asked_is j (model.start allowance low high goal) t h = absurd h
+asked_is j (model.control n m) t h = absurd h
+asked_is j (model.reduce goal clause) t h = absurd h
+asked_is j (model.answer n report goal) t h = absurd h
+asked_is j model.login t h = absurd h
+asked_is j model.logout t h = absurd h
+asked_is j model.reset t h = absurd h
 
 -- a reduction whose entry is lined
 pub reduction_is : (j : Journal) (goal clause run : ℕ) → if_lined (steps goal clause) ≡ Some (steps goal clause) → stepped j goal clause run ≡ with_reduction j goal clause run
@@ -55,6 +66,7 @@ session_is s j e (inr is) same a =
 -- an event that is accepted
 accepted_is : (s : State) (names : List (List ℕ)) (j : Journal) (e : model.Event) (c : Change) (run : ℕ) → IsChange names j e c → s.names ≡ names → j.rules ≡ s.rules → j.sessions ≡ s.sessions → run ≡ (step s e).state.run → is_refused (step s e).reply ≡ false →
     with_event j e (step s e).state ≡ changed j c run (step s e).reply
+accepted_is s names j e change.Nothing run h used ruled same told a = asked_is j e (step s e).state h
 accepted_is s names j e (change.Entry entry) run h used ruled same told a =
     entered_is j e (step s e).state h.1 ∙ ap (with_prepared j) (sym (accepted_entries s e a) ∙ sym h.0)
 accepted_is s names j e (change.Reduction goal clause) run h used ruled same told a =
@@ -88,6 +100,7 @@ session_fits s j e (inr is) same = subst (λ d. ReplyFits j (step s d).reply) (s
 
 -- a reply fits the change of its event
 pub sessions_fit : (s : State) (names : List (List ℕ)) (j : Journal) (e : model.Event) (d : Change) → IsChange names j e d → j.sessions ≡ s.sessions → SessionsFit j d (step s e).reply
+sessions_fit s names j e change.Nothing h same = tt
 sessions_fit s names j e (change.Entry entry) h same = tt
 sessions_fit s names j e (change.Reduction goal clause) h same = tt
 sessions_fit s names j e change.Sessions h same = session_fits s j e h same

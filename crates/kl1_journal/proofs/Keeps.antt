@@ -7,9 +7,9 @@ use Rattle.kl1_model.specs.Event as model
 use Rattle.kl1_model.specs.Event.{Transition, is_refused}
 use Rattle.kl1_model.specs.Step.{step}
 use Rattle.kl1_model_server.specs.Journal.{Journal, stepped, noted, Done, fresh_kept, done}
-use Rattle.kl1_model_server.specs.laws.HistoryLaws.{IsReplay}
+use Rattle.kl1_model_server.specs.laws.ReplayLaws.{IsReplayable}
 use Rattle.kl1_model_server.specs.laws.TextLaws as texts
-use Rattle.kl1_model_server.proofs.Replays.{fresh_is_replay, replays_stay}
+use Rattle.kl1_model_server.proofs.ReplayReplies.{fresh_is_replayable, replayable_stays}
 use Rattle.kl1_model_server.proofs.NewNames.{no_names}
 use Rattle.kl1_model_server.proofs.WrittenStays.{step_named}
 use Rattle.kl1_atoms.specs.declared.known.Known.{Known}
@@ -24,7 +24,7 @@ use Rattle.kl1_user_events.specs.declared.refusal.Refusal.{Refusal}
 use Rattle.kl1_user_events.specs.Views.{reduced_or}
 use Rattle.kl1_journal.specs.declared.change.Change.{Change}
 use Rattle.kl1_journal.specs.Changes.{IsChange, SessionsFit, changed}
-use Rattle.kl1_journal.specs.Keeping.{kept_of, IsKept}
+use Rattle.kl1_journal.specs.Keeping.{kept_of, IsReplayed}
 use Rattle.kl1_user.specs.Readings.{reading_of, reading_fits}
 use Rattle.kl1_journal.proofs.Changing.{reduction_is, noted_is, sessions_fit}
 
@@ -40,34 +40,34 @@ done_by f old new j k e reply is noted_as =
     ∙ ap (λ (x : Transition). let z : Done = record { kept = record { state = x.state; journal = k }; reply = x.reply } in z) is
 
 -- the change of an event was noted
-pub done_change : (f : Reading) (old new : Account) (j k : Journal) (e : model.Event) (reply : model.Reply) (c : Change) → IsReplay (kept_of f (old, j)) → step (state_of f old) e ≡ record { state = state_of f new; reply = reply } → IsChange (texts_of old.names) j e c →
+pub done_change : (f : Reading) (old new : Account) (j k : Journal) (e : model.Event) (reply : model.Reply) (c : Change) → IsReplayable (kept_of f (old, j)) → step (state_of f old) e ≡ record { state = state_of f new; reply = reply } → IsChange (texts_of old.names) j e c →
     k ≡ (if is_refused reply then j else changed j c new.run reply) → done (kept_of f (old, j)) e ≡ record { kept = kept_of f (new, k); reply = reply }
 done_change f old new j k e reply c was is h k_is =
     done_by f old new j k e reply is
-    (noted_is (state_of f old) (texts_of old.names) j e c new.run h refl was.rules was.sessions (sym (ap (λ (x : Transition). x.state.run) is)) ∙ ap (λ (x : Transition). if is_refused x.reply then j else changed j c new.run x.reply) is ∙ sym k_is)
+    (noted_is (state_of f old) (texts_of old.names) j e c new.run h refl was.is.rules was.is.sessions (sym (ap (λ (x : Transition). x.state.run) is)) ∙ ap (λ (x : Transition). if is_refused x.reply then j else changed j c new.run x.reply) is ∙ sym k_is)
 
 -- an account is the replay of its journal after an event
-kept_by : (old new : Account) (j k : Journal) (e : model.Event) (reply : model.Reply) → IsKept (old, j) → AreNames new.names → Does old e new reply → ((f : Reading) → Fits new.names f → Fits old.names f) →
-    ((f : Reading) → Fits new.names f → done (kept_of f (old, j)) e ≡ record { kept = kept_of f (new, k); reply = reply }) → IsKept (new, k)
+kept_by : (old new : Account) (j k : Journal) (e : model.Event) (reply : model.Reply) → IsReplayed (old, j) → AreNames new.names → Does old e new reply → ((f : Reading) → Fits new.names f → Fits old.names f) →
+    ((f : Reading) → Fits new.names f → done (kept_of f (old, j)) e ≡ record { kept = kept_of f (new, k); reply = reply }) → IsReplayed (new, k)
 kept_by old new j k e reply was names does before is = record {
-  replay = λ f fits. subst IsReplay (ap (λ (x : Done). x.kept) (is f fits)) (replays_stay (kept_of f (old, j)) e (was.replay f (before f fits)));
+  replay = λ f fits. subst IsReplayable (ap (λ (x : Done). x.kept) (is f fits)) (replayable_stays (kept_of f (old, j)) e (was.replay f (before f fits)));
   names =
       let f = reading_of new.names in
       subst texts.AreNames (ap (λ (x : Transition). x.state.names) (does f (reading_fits new.names names))) (step_named (state_of f old) e was.names);
 }
 
 -- so by its change
-pub kept_change : (old new : Account) (j k : Journal) (e : model.Event) (reply : model.Reply) (c : Change) → IsKept (old, j) → AreNames new.names → Does old e new reply → ((f : Reading) → Fits new.names f → Fits old.names f) → IsChange (texts_of old.names) j e c →
-    k ≡ (if is_refused reply then j else changed j c new.run reply) → IsKept (new, k)
+pub kept_change : (old new : Account) (j k : Journal) (e : model.Event) (reply : model.Reply) (c : Change) → IsReplayed (old, j) → AreNames new.names → Does old e new reply → ((f : Reading) → Fits new.names f → Fits old.names f) → IsChange (texts_of old.names) j e c →
+    k ≡ (if is_refused reply then j else changed j c new.run reply) → IsReplayed (new, k)
 kept_change old new j k e reply c was names does before h k_is =
     kept_by old new j k e reply was names does before (λ f fits. done_change f old new j k e reply c (was.replay f (before f fits)) (does f fits) h k_is)
 
 -- a reply fits how many sessions are open
-pub fits_change : (old new : Account) (j : Journal) (e : model.Event) (reply : model.Reply) (c : Change) → IsKept (old, j) → AreNames new.names → Does old e new reply → ((f : Reading) → Fits new.names f → Fits old.names f) → IsChange (texts_of old.names) j e c → SessionsFit j c reply
+pub fits_change : (old new : Account) (j : Journal) (e : model.Event) (reply : model.Reply) (c : Change) → IsReplayed (old, j) → AreNames new.names → Does old e new reply → ((f : Reading) → Fits new.names f → Fits old.names f) → IsChange (texts_of old.names) j e c → SessionsFit j c reply
 fits_change old new j e reply c was names does before h =
     let f = reading_of new.names in
     let fits = reading_fits new.names names in
-    subst (SessionsFit j c) (ap (λ (x : Transition). x.reply) (does f fits)) (sessions_fit (state_of f old) (texts_of old.names) j e c h (was.replay f (before f fits)).sessions)
+    subst (SessionsFit j c) (ap (λ (x : Transition). x.reply) (does f fits)) (sessions_fit (state_of f old) (texts_of old.names) j e c h (was.replay f (before f fits)).is.sessions)
 
 step_noted : (s : State) (j k : Journal) (goal clause run : ℕ) (o : Option Refusal) → (step s (model.reduce goal clause)).reply ≡ reduced_or o → run ≡ (step s (model.reduce goal clause)).state.run → k ≡ (if is_some o then j else with_reduction j goal clause run) → noted j (model.reduce goal clause) (step s (model.reduce goal clause)) ≡ k
 step_noted s j k goal clause run None told ran is =
@@ -82,15 +82,15 @@ pub done_step : (f : Reading) (old new : Account) (j k : Journal) (goal clause :
 done_step f old new j k goal clause o is k_is =
     done_by f old new j k (model.reduce goal clause) (reduced_or o) is (step_noted (state_of f old) j k goal clause new.run o (ap (λ (x : Transition). x.reply) is) (sym (ap (λ (x : Transition). x.state.run) is)) k_is)
 
-pub kept_step : (old new : Account) (j k : Journal) (goal clause : ℕ) (o : Option Refusal) → IsKept (old, j) → AreNames new.names → Does old (model.reduce goal clause) new (reduced_or o) → ((f : Reading) → Fits new.names f → Fits old.names f) →
-    k ≡ (if is_some o then j else with_reduction j goal clause new.run) → IsKept (new, k)
+pub kept_step : (old new : Account) (j k : Journal) (goal clause : ℕ) (o : Option Refusal) → IsReplayed (old, j) → AreNames new.names → Does old (model.reduce goal clause) new (reduced_or o) → ((f : Reading) → Fits new.names f → Fits old.names f) →
+    k ≡ (if is_some o then j else with_reduction j goal clause new.run) → IsReplayed (new, k)
 kept_step old new j k goal clause o was names does before k_is =
     kept_by old new j k (model.reduce goal clause) (reduced_or o) was names does before (λ f fits. done_step f old new j k goal clause o (does f fits) k_is)
 
 -- a fresh account is the replay of its journal
-pub kept_fresh : (a : Account) (j : Journal) (rules : Rules) (name : List ℕ) → a.names ≡ [] → ((f : Reading) → kept_of f (a, j) ≡ fresh_kept rules name) → IsKept (a, j)
+pub kept_fresh : (a : Account) (j : Journal) (rules : Rules) (name : List ℕ) → a.names ≡ [] → ((f : Reading) → kept_of f (a, j) ≡ fresh_kept rules name) → IsReplayed (a, j)
 kept_fresh a j rules name none is = record {
-  replay = λ f fits. subst IsReplay (sym (is f)) (fresh_is_replay rules name);
+  replay = λ f fits. subst IsReplayable (sym (is f)) (fresh_is_replayable rules name);
   names = subst (λ (ks : List Known). texts.AreNames (texts_of ks)) (sym none) no_names;
 }
 

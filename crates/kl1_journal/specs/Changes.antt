@@ -1,5 +1,5 @@
 -- What an event changes in a journal.
-use Rattle.std.specs.Prelude.{⊤, ◌≡◌, ℕ, suc, ◌-◌, ◌<◌, ◌⊎◌, List, IfSome}
+use Rattle.std.specs.Prelude.{⊤, ◌≡◌, ℕ, suc, ◌-◌, ◌<◌, ◌⊎◌, List, IfSome, IsTrue}
 use Rattle.kl1_model.specs.declared.limits.TheConstants.{MOST_SESSIONS}
 use Rattle.kl1_model.specs.Event as model
 use Rattle.kl1_model_server.specs.Journal.{Journal, new_journal}
@@ -15,21 +15,28 @@ sessions_after j _ = j
 
 -- a journal after a change, and the reply, of an account whose last run then has this many reductions
 abbrev pub changed : Journal → Change → ℕ → model.Reply → Journal
+changed j change.Nothing run reply = j
 changed j (change.Entry entry) run reply = with_prepared j entry
 changed j (change.Reduction goal clause) run reply = with_reduction j goal.0 clause.0 run
 changed j change.Sessions run reply = sessions_after j reply
 changed j (change.Anew new) run reply = new.journal
 
--- whether an event is an entry or a query: it opens and closes no session, and begins no journal
+-- an event is a query
+abbrev pub IsQuery : model.Event → Type 0
+IsQuery (model.read q) = ⊤
+IsQuery _ = ⊥
+
+-- an event is an entry of its own, if it is accepted: a reduction isn't always, since it may be in a run
 abbrev pub IsEntered : model.Event → Type 0
-IsEntered model.login = ⊥
-IsEntered model.logout = ⊥
-IsEntered model.reset = ⊥
-IsEntered (model.reduce goal clause) = ⊥
-IsEntered _ = ⊤
+IsEntered (model.load text) = ⊤
+IsEntered (model.start allowance low high t) = ⊤
+IsEntered (model.control n m) = ⊤
+IsEntered (model.answer n report t) = ⊤
+IsEntered _ = ⊥
 
 -- a change is that of an event in this journal, if the account uses these names
 abbrev pub IsChange : List (List ℕ) → Journal → model.Event → Change → Type 0
+IsChange names j e change.Nothing = IsQuery e
 IsChange names j e (change.Entry entry) = (entry ≡ lined_entry e) × IsEntered e
 IsChange names j e (change.Reduction goal clause) = e ≡ model.reduce goal.0 clause.0
 IsChange names j e change.Sessions = (e ≡ model.login) ⊎ (e ≡ model.logout)
@@ -37,6 +44,7 @@ IsChange names j e (change.Anew new) = (e ≡ model.reset) × (new.journal ≡ n
 
 -- there is room for the entry of a change
 abbrev pub HasRoom : Rows → Change → Type 0
+HasRoom rows change.Nothing = ⊤
 HasRoom rows (change.Entry entry) = IfSome entry (λ _. 0 < rows.room)
 HasRoom rows (change.Reduction goal clause) = 0 < rows.room
 HasRoom rows change.Sessions = ⊤
@@ -51,6 +59,7 @@ ReplyFits j _ = ⊤
 -- a reply fits a change of how many sessions are open
 abbrev pub SessionsFit : Journal → Change → model.Reply → Type 0
 SessionsFit j change.Sessions reply = ReplyFits j reply
+SessionsFit j change.Nothing reply = ⊤
 SessionsFit j (change.Entry entry) reply = ⊤
 SessionsFit j (change.Reduction goal clause) reply = ⊤
 SessionsFit j (change.Anew new) reply = ⊤

@@ -2,8 +2,8 @@
 use Rattle.std.specs.Prelude.{[]}
 use Rattle.kl1_model.specs.declared.rules.Rules.TheVariants.{One}
 use Rattle.kl1_model_server.specs.Journal.{Journal, new_journal, Kept}
-use Rattle.kl1_model_server.specs.laws.HistoryLaws.{IsReplay}
-use Rattle.kl1_model_server.specs.laws.TextLaws.{AreNames}
+use Rattle.kl1_model_server.specs.laws.ReplayLaws.{IsReplayable}
+use Rattle.kl1_model_server.specs.laws.TextLaws.{AreNames, IsWritten}
 use Rattle.kl1_store.specs.Held.{nothing_held}
 pub use Rattle.kl1_user.specs.Accounts.{Reading, Fits}
 use Rattle.kl1_user.specs.Accounts.{Account, state_of, texts_of}
@@ -20,7 +20,14 @@ nobody = (record { own_name = []; rules = One; held = nothing_held; goals = []; 
 abbrev pub kept_of : Reading → Held → Kept
 kept_of f k = record { state = state_of f k.0; journal = k.1 }
 
--- for each reading of its names an account is the replay of its journal, and its names may have been used
-pub record IsKept (k : Held) : Type 0 where
-  pub replay : (f : Reading) → Fits k.0.names f → IsReplay (kept_of f k)
+-- for each reading of its names an account is the replay of its journal, whose entries are all accepted if it is replayed, and its names
+-- may have been used
+pub record IsReplayed (k : Held) : Type 0 where
+  pub replay : (f : Reading) → Fits k.0.names f → IsReplayable (kept_of f k)
   pub names : AreNames (texts_of k.0.names)
+
+-- what is told of an account with its journal: it is replayed so, and the journal has a text, which reads back
+pub record IsKept (k : Held) : Type 0 where
+  pub replay : (f : Reading) → Fits k.0.names f → IsReplayable (kept_of f k)
+  pub names : AreNames (texts_of k.0.names)
+  pub written : IsWritten k.1

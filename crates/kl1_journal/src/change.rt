@@ -6,7 +6,7 @@ ghost use Rattle.kl1_user_events.specs.Views.{event_of, is_logout, reply_of};
 ghost use Rattle.kl1_model_server.specs.laws.TextLaws.{AreNames};
 ghost use Rattle.kl1_model_server.specs.Journal.{new_journal};
 ghost use Rattle.kl1_journal_entries.specs.Lined.{with_reduction};
-ghost use Rattle.kl1_journal.specs.Changes.{IsChange, HasRoom, SessionsFit, ReplyFits, IsEntered, changed, sessions_after};
+ghost use Rattle.kl1_journal.specs.Changes.{IsChange, IsEntered, HasRoom, SessionsFit, ReplyFits, changed, sessions_after};
 
 use kl1_journal_entries::{Journal, PendingEntry, entry_for};
 use kl1_text::AtomText;
@@ -16,7 +16,9 @@ use std::alloc::{AllocError, Global};
 /// What an event changes in a journal, if it is accepted.
 #[derive(Drop)]
 pub(crate) enum Change {
-    /// This entry comes after the others, if there is one.
+    /// A query: the journal stays.
+    Nothing,
+    /// This entry comes after the others, if there is one: of an event whose line can't be read back, which is refused, there is none.
     Entry(PendingEntry),
     /// A reduction is noted, in a run or as an entry.
     Reduction { goal: GoalNo, clause: ClauseNo },
@@ -44,22 +46,7 @@ pub(crate) fn prepare(
         Event::Login => Ok(Change::Sessions),
         Event::Logout => Ok(Change::Sessions),
         Event::Reset => Ok(Change::Anew(anew(alloc, journal, names)?)),
-        Event::Load { source: _source } => entered(alloc, journal, event),
-        Event::Start {
-            allowance: _allowance,
-            low: _low,
-            high: _high,
-            goal: _goal,
-        } => entered(alloc, journal, event),
-        Event::Control {
-            shoen: _shoen,
-            message: _message,
-        } => entered(alloc, journal, event),
-        Event::Answer {
-            shoen: _shoen,
-            report: _report,
-            goal: _goal,
-        } => entered(alloc, journal, event),
+        Event::Read(_query) => Ok(Change::Nothing),
         Event::Reduce { goal, clause } => {
             journal.reserve()?;
             Ok(Change::Reduction {
@@ -67,7 +54,10 @@ pub(crate) fn prepare(
                 clause: *clause,
             })
         }
-        Event::Read(_query) => entered(alloc, journal, event),
+        Event::Load { .. } => entered(alloc, journal, event),
+        Event::Start { .. } => entered(alloc, journal, event),
+        Event::Control { .. } => entered(alloc, journal, event),
+        Event::Answer { .. } => entered(alloc, journal, event),
     }
 }
 
@@ -81,7 +71,7 @@ fn anew(alloc: Global, journal: &Journal, names: &[AtomText]) -> Result<Journal,
     Journal::with_names(alloc, journal.rules(), names, journal.sessions())
 }
 
-/// The entry of an event, with room for it. A query is no entry, and no room is made for it.
+/// The entry of an event, with room for it.
 fn entered(alloc: Global, journal: &mut Journal, event: &Event) -> Result<Change, AllocError>
     requires { IsEntered (event_of event.now) }
     ensures same { journal.new.journal ≡ journal.old.journal }
@@ -89,9 +79,6 @@ fn entered(alloc: Global, journal: &mut Journal, event: &Event) -> Result<Change
     ensures room { IfOk result (λ change. HasRoom journal.new change) }
 {
     let entry = entry_for(alloc, event)?;
-    if !entry.is_entry() {
-        return Ok(Change::Entry(entry));
-    }
     journal.reserve()?;
     Ok(Change::Entry(entry))
 }
@@ -106,6 +93,7 @@ pub(crate) fn note(journal: &mut Journal, change: Change, run: u32, reply: &Repl
         return;
     }
     match change {
+        Change::Nothing => {}
         Change::Entry(entry) => journal.put(entry),
         Change::Reduction { goal, clause } => journal.put_reduction(goal.0, clause.0, run),
         Change::Sessions => note_sessions(journal, reply),

@@ -41,7 +41,7 @@ impl<A: AtomSource, C: CodeSource> Model for JournaledAccount<A, C> {
     ghost use Rattle.kl1_user.specs.Accounts.{Account};
     ghost use Rattle.kl1_model_server.specs.Journal.{Journal as Entered};
     ghost use Rattle.kl1_journal_entries.specs.Codes.{journal_code};
-    ghost use Rattle.kl1_journal.specs.Keeping.{IsKept};
+    ghost use Rattle.kl1_journal.specs.Keeping.{IsReplayed};
 
     ghost Value = { A.Seat × (Account × Entered) };
 
@@ -49,7 +49,7 @@ impl<A: AtomSource, C: CodeSource> Model for JournaledAccount<A, C> {
 
     ghost view = { λ k. (k.seat, (k.user, k.journal.journal)) };
 
-    ghost invariant = { λ k. (A.knows k.seat ≡ k.user.names) × IsKept (k.user, k.journal.journal) × AreNames k.user.names };
+    ghost invariant = { λ k. (A.knows k.seat ≡ k.user.names) × IsReplayed (k.user, k.journal.journal) × AreNames k.user.names };
 }
 
 impl<A: AtomSource, C: CodeSource> JournaledAccount<A, C> {
@@ -77,13 +77,15 @@ impl<A: AtomSource, C: CodeSource> JournaledAccount<A, C> {
         })
     }
 
-    /// Tells a caller's proof that the account is the replay of its journal for each reading of its names, and that its names are one
-    /// to one with their numbers, so that there is such a reading. It does nothing.
+    /// Tells a caller's proof that for each reading of its names the account is the replay of its journal, whose entries are all
+    /// accepted if it is replayed, that the journal has a text, which reads back, and that the names are one to one with their numbers,
+    /// so that there is such a reading. It does nothing.
     pub fn shows_replay(&self)
         ensures kept { IsKept self.now.1 }
         ensures names { AreNames self.now.1.0.names }
     {
-        let _journal = &self.journal;
+        // This is called for the fact that it proves: the journal has a text that reads back.
+        self.journal.shows_written();
     }
 
     /// What an event does to the account and its journal, and the reply. If memory is refused, both are as before, and so are what

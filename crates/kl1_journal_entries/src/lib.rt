@@ -22,6 +22,6 @@ pub use entry::Entry;
 pub use heading::{Heading, heading_of};
 pub use journal::Journal;
 pub use name::name_of;
-pub use pending_entry::{PendingEntry, entry_for};
+pub use pending_entry::{PendingEntry, entry_for, is_entry};
 pub use reader::{entry_of, may_follow};
 pub use text::next_line;

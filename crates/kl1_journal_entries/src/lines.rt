@@ -1,16 +1,18 @@
 // The lines of a journal.
 
-ghost use Rattle.std.specs.Prelude.{◌≡◌, ◌<◌, ◌+◌, ◌*◌, ◌/◌, ◌%◌, ◌++◌, ◌∷◌, [], codes, decimal, OnOk};
+ghost use Rattle.std.specs.Prelude.{◌≡◌, ◌<◌, ◌+◌, ◌*◌, ◌/◌, ◌%◌, ◌++◌, ◌∷◌, [], codes, decimal, bytes_eq, IfOk, OnOk};
 ghost use Rattle.kl1_model_server.specs.Journal.{sends};
 ghost use Rattle.kl1_model_server.specs.JournalText.{hex_digit, hex_text, message_line, name_line, heading_line, entry_line};
 ghost use Rattle.kl1_journal_entries.specs.Shown.{entry_shown, HasPrint};
 
 use crate::entry::Entry;
 use crate::heading::version;
+use crate::text::is_joined;
 use itoa::Buffer;
+use kl1_lines::is_same;
 use kl1_model::{Message, Rules};
 use kl1_text::{AtomText, put_atom};
-use std::alloc::AllocError;
+use std::alloc::{AllocError, Global};
 
 /// Puts a number in decimal.
 fn put_number(out: &mut Vec<u8>, number: u64) -> Result<(), AllocError>
@@ -78,32 +80,24 @@ fn put_message(out: &mut Vec<u8>, shoen: u64, message: Message) -> Result<(), Al
     }
 }
 
-/// Puts the line of a start whose goal has this print.
-fn put_start(
-    out: &mut Vec<u8>,
-    allowance: u64,
-    low: u64,
-    high: u64,
-    print: &[u8],
-) -> Result<(), AllocError>
-    ensures { OnOk result (out.new.items ≡ out.old.items ++ (codes "start " ++ decimal allowance ++ codes " " ++ decimal low ++ codes " " ++ decimal high ++ codes " " ++ print.now)) }
+/// Puts the line of a start up to its goal's print.
+fn put_start(out: &mut Vec<u8>, allowance: u64, low: u64, high: u64) -> Result<(), AllocError>
+    ensures { OnOk result (out.new.items ≡ out.old.items ++ (codes "start " ++ decimal allowance ++ codes " " ++ decimal low ++ codes " " ++ decimal high ++ codes " ")) }
 {
     out.extend_from_slice(b"start ")?;
     put_two(out, allowance, low)?;
     out.extend_from_slice(b" ")?;
     put_number(out, high)?;
-    out.extend_from_slice(b" ")?;
-    out.extend_from_slice(print)
+    out.extend_from_slice(b" ")
 }
 
-/// Puts the line of an answer whose goal has this print.
-fn put_answer(out: &mut Vec<u8>, shoen: u64, report: u64, print: &[u8]) -> Result<(), AllocError>
-    ensures { OnOk result (out.new.items ≡ out.old.items ++ (codes "answer " ++ decimal shoen ++ codes " " ++ decimal report ++ codes " " ++ print.now)) }
+/// Puts the line of an answer up to its goal's print.
+fn put_answer(out: &mut Vec<u8>, shoen: u64, report: u64) -> Result<(), AllocError>
+    ensures { OnOk result (out.new.items ≡ out.old.items ++ (codes "answer " ++ decimal shoen ++ codes " " ++ decimal report ++ codes " ")) }
 {
     out.extend_from_slice(b"answer ")?;
     put_two(out, shoen, report)?;
-    out.extend_from_slice(b" ")?;
-    out.extend_from_slice(print)
+    out.extend_from_slice(b" ")
 }
 
 /// Puts the line of an entry.
@@ -121,7 +115,10 @@ pub(crate) fn put_entry(out: &mut Vec<u8>, entry: Entry<'_>) -> Result<(), Alloc
             low,
             high,
             goal,
-        } => put_start(out, allowance, low, high, goal),
+        } => {
+            put_start(out, allowance, low, high)?;
+            out.extend_from_slice(goal)
+        }
         Entry::Control { shoen, message } => put_message(out, shoen.0, message),
         Entry::Reduce { goal, clause } => {
             out.extend_from_slice(b"reduce ")?;
@@ -135,7 +132,45 @@ pub(crate) fn put_entry(out: &mut Vec<u8>, entry: Entry<'_>) -> Result<(), Alloc
             shoen,
             report,
             goal,
-        } => put_answer(out, shoen.0, report, goal),
+        } => {
+            put_answer(out, shoen.0, report)?;
+            out.extend_from_slice(goal)
+        }
+    }
+}
+
+/// Whether a line is that of an entry. The print of a goal is compared where it stands, and not copied.
+pub(crate) fn is_entry_line(
+    alloc: Global,
+    entry: Entry<'_>,
+    line: &[u8],
+) -> Result<bool, AllocError>
+    requires { HasPrint entry }
+    ensures { IfOk result (λ is. is ≡ bytes_eq (entry_line (entry_shown entry.entry)) line.now) }
+{
+    let mut own = Vec::new(alloc);
+    match entry {
+        Entry::Start {
+            allowance,
+            low,
+            high,
+            goal,
+        } => {
+            put_start(&mut own, allowance, low, high)?;
+            Ok(is_joined(line, own.as_slice(), goal))
+        }
+        Entry::Answer {
+            shoen,
+            report,
+            goal,
+        } => {
+            put_answer(&mut own, shoen.0, report)?;
+            Ok(is_joined(line, own.as_slice(), goal))
+        }
+        _ => {
+            put_entry(&mut own, entry)?;
+            Ok(is_same(own.as_slice(), line))
+        }
     }
 }
 

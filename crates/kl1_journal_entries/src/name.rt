@@ -1,11 +1,11 @@
 // The lines of names in a journal's text.
 
-ghost use Rattle.std.specs.Prelude.{◌≡◌, ◌<◌, ◌++◌, length, bytes_eq, IsNone, IfSome};
+ghost use Rattle.std.specs.Prelude.{◌≡◌, ◌<◌, length, IsNone, IfSome};
 ghost use Rattle.kl1_model.specs.declared.limits.TheConstants.{MOST_NAME_BYTES};
 ghost use Rattle.kl1_model_server.specs.JournalText.{unquoted, name_by, name_line, name_in};
 
-use crate::text::bytes_from;
-use kl1_lines::{is_same, split_name};
+use crate::text::is_joined;
+use kl1_lines::split_name;
 use kl1_model::limits::MOST_NAME_BYTES;
 use kl1_text::{AtomText, ShortBytes};
 
@@ -53,20 +53,6 @@ fn name_by(printed: &[u8]) -> Option<ShortBytes>
         [b'\'', rest @ ..] => unquoted(rest),
         _ => copied(printed),
     }
-}
-
-/// Whether a line is two texts, one after the other.
-#[tactic(auto, using(crate::proofs::Joined::too_short, crate::proofs::Joined::other_front, crate::proofs::Joined::same_front))]
-fn is_joined(line: &[u8], front: &[u8], back: &[u8]) -> bool
-    ensures { result ≡ bytes_eq (front.now ++ back.now) line.now }
-{
-    if line.len() < front.len() {
-        return false;
-    }
-    if !is_same(front, &line[..front.len()]) {
-        return false;
-    }
-    is_same(back, bytes_from(line, front.len()))
 }
 
 /// The name that a line of a journal's text has, if it is a line of a name.

@@ -1,22 +1,20 @@
 // Entries before they are put.
 
-ghost use Rattle.std.specs.Prelude.{◌≡◌, ◌≤◌, ◌+◌, nat_le, length, decimal, is_some, option_map, IfOk, IsOk, None};
+ghost use Rattle.std.specs.Prelude.{◌≡◌, ◌≤◌, ◌+◌, nat_le, length, decimal, false, IfOk, IsOk, None};
 ghost use Rattle.kl1_model.specs.Print.{print};
 ghost use Rattle.kl1_model.specs.Event.{is_number};
 ghost use Rattle.kl1_model.specs.declared.limits.TheConstants.{MOST_LINE_BYTES};
 ghost use Rattle.kl1_model.specs.Sending.{may_send};
 ghost use Rattle.kl1_model_server.specs.Journal.{loads, starts, sends, steps, answers, runs};
-ghost use Rattle.kl1_model_server.specs.JournalText.{entry_line};
 ghost use Rattle.kl1_user_events.specs.Views.{event_of};
-ghost use Rattle.kl1_journal_entries.specs.Lined.{entry_of, is_lined, if_lined, lined_entry};
+ghost use Rattle.kl1_journal_entries.specs.Lined.{is_entry, is_lined, if_lined, lined_entry};
 ghost use Rattle.kl1_journal_entries.specs.Reading.{is_line_of};
 
 use crate::entry::{shown_at, shown_whole};
-use crate::lines::put_entry;
+use crate::lines::is_entry_line;
 use crate::long_entry::LongEntry;
 use crate::packed_entry::PackedEntry;
 use itoa::Buffer;
-use kl1_lines::is_same;
 use kl1_model::Message;
 use kl1_model::limits::{MOST_LINE_BYTES, NUMBER_LIMIT};
 use kl1_read::is_goal;
@@ -60,47 +58,37 @@ impl Model for PendingEntry {
 }
 
 impl PendingEntry {
-    /// Whether this is an entry.
-    pub fn is_entry(&self) -> bool
-        ensures { result ≡ is_some self.now }
-    {
-        match &self.form {
-            EntryForm::Nothing => false,
-            EntryForm::Short(_slot) => true,
-            EntryForm::Long(_whole) => true,
-        }
-    }
-
-    /// The line of what is prepared, if it is an entry.
-    fn line(&self, alloc: Global) -> Result<Option<Vec<u8>>, AllocError>
-        ensures { IfOk result (λ line. option_map (λ v. v.items) line ≡ option_map entry_line self.now) }
-    {
-        let entry = match &self.form {
-            EntryForm::Nothing => return Ok(None),
-            EntryForm::Short(slot) => shown_at(&[], *slot),
-            EntryForm::Long(whole) => shown_whole(whole),
-        };
-        let mut line = Vec::new(alloc);
-        put_entry(&mut line, entry)?;
-        Ok(Some(line))
-    }
-
-    /// Whether a line is that of what is prepared.
+    /// Whether a line is that of what is prepared. A goal's print, which is kept, is compared where it stands.
     pub(crate) fn is_canonical(&self, alloc: Global, line: &[u8]) -> Result<bool, AllocError>
         ensures { IfOk result (λ is. is ≡ is_line_of self.now line.now) }
     {
-        match self.line(alloc)? {
-            None => Ok(false),
-            Some(own) => Ok(is_same(own.as_slice(), line)),
+        match &self.form {
+            EntryForm::Nothing => Ok(false),
+            EntryForm::Short(slot) => is_entry_line(alloc, shown_at(&[], *slot), line),
+            EntryForm::Long(whole) => is_entry_line(alloc, shown_whole(whole), line),
         }
     }
 }
 
+/// Whether an event is an entry of a journal, if it is accepted.
+pub fn is_entry(event: &Event) -> bool
+    ensures { result ≡ is_entry (event_of event.now) }
+{
+    matches!(
+        event,
+        Event::Load { .. }
+            | Event::Start { .. }
+            | Event::Control { .. }
+            | Event::Reduce { .. }
+            | Event::Answer { .. }
+    )
+}
+
 /// What an event is in a journal, if it is accepted: an entry, or nothing for a query, for a session that is opened or closed, and for
-/// a reset. Of an event whose line couldn't be read back it is nothing too; no such event is accepted.
+/// a reset. The print of a goal, which the entry keeps, is made once. Of an event whose line couldn't be read back it is nothing too; no such event is accepted.
 pub fn entry_for(alloc: Global, event: &Event) -> Result<PendingEntry, AllocError>
     ensures entry { IfOk result (λ p. p ≡ lined_entry (event_of event.now)) }
-    ensures nothing { entry_of (event_of event.now) ≡ None → IsOk result }
+    ensures nothing { is_entry (event_of event.now) ≡ false → IsOk result }
 {
     match event {
         Event::Load { source } => load_for(alloc, source.as_slice()),
@@ -112,15 +100,12 @@ pub fn entry_for(alloc: Global, event: &Event) -> Result<PendingEntry, AllocErro
         } => start_for(alloc, *allowance, *low, *high, goal),
         Event::Control { shoen, message } => Ok(control_for(shoen.0, *message)),
         Event::Reduce { goal, clause } => Ok(step_for(goal.0, clause.0)),
-        Event::Read(_query) => Ok(nothing()),
-        Event::Login => Ok(nothing()),
-        Event::Logout => Ok(nothing()),
-        Event::Reset => Ok(nothing()),
         Event::Answer {
             shoen,
             report,
             goal,
         } => answer_for(alloc, shoen.0, *report, goal),
+        _ => Ok(nothing()),
     }
 }
 

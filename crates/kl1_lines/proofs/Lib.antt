@@ -4,3 +4,5 @@ pub mod Fuel
 pub mod WordFuel
 pub mod DeviceLaws
 pub mod Digits
+pub mod Underway
+pub mod RunLaws

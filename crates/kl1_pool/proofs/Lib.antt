@@ -1,6 +1,5 @@
 pub mod Seating
 pub mod Tells
-pub mod FirstSteps
-pub mod Runs
-pub mod Cells
-pub mod Grows
+pub mod PoolAccounts
+pub mod Naming
+pub mod Answering

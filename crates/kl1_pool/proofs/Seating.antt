@@ -1,12 +1,12 @@
 -- Seats of accounts in which nothing has happened.
-use Rattle.std.proofs.Common.{◌≡◌, ℕ, ◌<◌, List, [], ◌∷◌, ◌++◌, length, get_or, slice_get, Some}
+use Rattle.std.proofs.Common.{◌≡◌, ℕ, List, [], ◌∷◌, ◌++◌, get_or, slice_get, Some}
 use Rattle.std.specs.Prelude.{All}
 use Rattle.std.proofs.lemmas.List.Elements.{All-pop}
 use Rattle.std.proofs.lemmas.Option.{slice_get-get_or}
 use Rattle.atomic_table.specs.Seated.{TableId}
 use Rattle.kl1_atoms.specs.Seats.{face_in, IsNewSharedSeat}
 use Rattle.kl1_atoms.specs.declared.atom_seat.AtomSeat.{AtomSeat}
-use Rattle.kl1_pool.specs.Parts.{IsFreshSeat, AreFreshSeats}
+use Rattle.kl1_pool.specs.Parts.{AreFreshSeats}
 
 -- seats as they are made know the built-in names alone
 pub fresh_seats : (table : TableId) (accounts : ℕ) (seats : List AtomSeat) →

@@ -10,7 +10,7 @@ use Rattle.kl1_model.specs.Module.{Module, Reading, good, bad, read_module}
 use Rattle.kl1_model.specs.Match.{module_of}
 use Rattle.kl1_model.specs.State.{Goal, Origin, Shoen, State, goal_at, shoen_at, has_substitutes, names_of, names_of_module, with_names}
 use Rattle.kl1_model.specs.Event as model
-use Rattle.kl1_model.specs.Event.{Refusal, Transition, refuse, is_number, with_entry, recorded, named, limited}
+use Rattle.kl1_model.specs.Event.{Transition, refuse, is_number, with_entry, recorded, named, limited}
 use Rattle.kl1_model.specs.Reduction.{Action, reduce_goal, acted, action_of}
 use Rattle.kl1_model.specs.Opening.{may_start, has_room_to_start, start_goal}
 use Rattle.kl1_model.specs.Sending.{may_send, has_room_to_send, send_to, sent_on}
@@ -24,8 +24,8 @@ use Rattle.kl1_model_server.specs.Journal.{Kept, Done, done}
 use Rattle.kl1_model_server.specs.Journal as history
 use Rattle.kl1_tally.specs.Seats.{Book}
 use Rattle.kl1_pool.specs.declared.totals_before_reset.TotalsBeforeReset.{TotalsBeforeReset}
-use Rattle.kl1_pool.specs.Counted.{reduces_in, IsCounted, with_more, events_by, steps_by, past_by, is_run, ended}
-use Rattle.kl1_pool.specs.Filling.{HasRoom}
+use Rattle.kl1_command.specs.Told.{events_by, steps_by}
+use Rattle.kl1_pool.specs.Counted.{reduces_in, IsCounted, with_more, past_by, is_run, ended, HasRoom}
 
 -- what holds of both sides of a choice holds of it
 by_choice : (P : Transition → Type 0) (c : Bool) (x y : Transition) → P x → P y → P (if c then x else y)

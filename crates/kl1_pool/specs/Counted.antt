@@ -1,8 +1,10 @@
--- What a book tells of a journal and of those before it.
-use Rattle.std.specs.Prelude.{◌≡◌, ℕ, suc, ◌+◌, ◌≤◌, ◌^◌, Bool, true, false, List, [], ◌∷◌}
+-- What a book tells of a journal and of those before it, and how much more it can tell.
+use Rattle.std.specs.Prelude.{◌≡◌, ℕ, suc, ◌+◌, ◌-◌, ◌<◌, ◌≤◌, ◌^◌, Bool, true, false, List, [], ◌∷◌}
 use Rattle.kl1_model.specs.Event as model
 use Rattle.kl1_model_server.specs.Journal.{Entry, loads, starts, sends, steps, answers, runs, Journal}
 use Rattle.kl1_tally.specs.Seats.{Book}
+use Rattle.kl1_command.specs.Told.{ends_journal}
+use Rattle.kl1_command.specs.Room.{is_entry}
 use Rattle.kl1_pool.specs.declared.totals_before_reset.TotalsBeforeReset.{TotalsBeforeReset}
 
 -- how many events some entries are: one each, but a run is one for each of its reductions
@@ -43,25 +45,14 @@ pub record IsCounted (p : TotalsBeforeReset) (j : Journal) (b : Book) : Type 0 w
 abbrev pub with_more : Book → ℕ → ℕ → Book
 with_more b e s = record { tally = b.tally; account = b.account; events = b.events + e; steps = b.steps + s }
 
--- how many events a reply tells: one of a load, a start, a message, an answer and a reduction, and those of a run
-abbrev pub events_by : model.Reply → ℕ
-events_by (model.loaded name) = 1
-events_by (model.opened n) = 1
-events_by model.sent = 1
-events_by model.reduced = 1
-events_by (model.ran n) = n
-events_by _ = 0
+-- the past after a journal was ended, which adds that journal, or wasn't
+abbrev pub past_after : Bool → TotalsBeforeReset → Journal → TotalsBeforeReset
+past_after true p j = with_journal p j
+past_after false p j = p
 
--- how many steps a reply tells: one of a reduction, and those of a run
-abbrev pub steps_by : model.Reply → ℕ
-steps_by model.reduced = 1
-steps_by (model.ran n) = n
-steps_by _ = 0
-
--- the past after a reply: an accepted reset adds the journal that it ends
+-- the past after a reply
 abbrev pub past_by : TotalsBeforeReset → Journal → model.Reply → TotalsBeforeReset
-past_by p j model.was_reset = with_journal p j
-past_by p j _ = p
+past_by p j reply = past_after (ends_journal reply) p j
 
 -- whether a reply tells the steps of a run
 abbrev pub is_run : model.Reply → Bool
@@ -72,3 +63,11 @@ is_run _ = false
 abbrev pub ended : TotalsBeforeReset → Book → model.Reply → TotalsBeforeReset
 ended p b model.was_reset = record { events = b.events; steps = b.steps }
 ended p b _ = p
+
+-- how many events more a book can tell
+abbrev pub room_in : Book → ℕ
+room_in b = 2 ^ 63 - b.events
+
+-- a book has room for an event, if that is an entry
+abbrev pub HasRoom : Book → model.Event → Type 0
+HasRoom b e = is_entry e ≡ true → b.events < 2 ^ 63

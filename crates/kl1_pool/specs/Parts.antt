@@ -1,16 +1,20 @@
 -- What contracts see of the parts of a pool that no type names yet, and of new seats.
-use Rattle.std.specs.Prelude.{◌≡◌, ℕ, List, [], All}
+use Rattle.std.specs.Prelude.{◌≡◌, ℕ, List, [], All, map, slice_get, Some}
 use Rattle.atomic_table.specs.Seated.{TableId}
 use Rattle.boxcar.specs.Table.{Shelves}
+use Rattle.kl1_model.specs.declared.rules.Rules.{Rules}
 use Rattle.kl1_atoms.specs.Seats.{face_in, IsSharedSeat}
 use Rattle.kl1_atoms.specs.declared.atom_seat.AtomSeat.{AtomSeat}
+use Rattle.kl1_tally.specs.Seats.{Book}
 
--- which table of names they have, and for how many accounts that was made; which table of codes; which tally and which queue; and
--- for how many accounts and shares these are
+-- which table of names they have, and for how many accounts that was made; which table of codes; which rules the accounts keep to, and
+-- what they are called; which tally and which queue; and for how many accounts and shares these are
 pub record PoolPartsValue : Type 0 where
   pub table : TableId
   pub seats : ℕ
   pub codes : Shelves
+  pub rules : Rules
+  pub names : List (List ℕ)
   pub tally : TableId
   pub queue : TableId
   pub accounts : ℕ
@@ -23,3 +27,7 @@ IsFreshSeat table accounts seat = IsSharedSeat table seat.badge.table_id account
 -- each of these is such a seat
 abbrev pub AreFreshSeats : TableId → ℕ → List AtomSeat → Type 0
 AreFreshSeats table accounts seats = All (IsFreshSeat table accounts) seats
+
+-- these are the names at the numbers of the accounts that these books are of
+abbrev pub AreNamed : List (List ℕ) → List Book → List (List ℕ) → Type 0
+AreNamed all books names = map (λ (b : Book). slice_get all b.account) books ≡ map (λ (n : List ℕ). Some n) names

@@ -4,8 +4,9 @@ ghost use Rattle.std.specs.Prelude.{◌≡◌, ◌+◌, ◌<◌, ◌≤◌, ◌^
 ghost use Rattle.kl1_tally.specs.declared.amounts.TheConstants.{MOST_ACCOUNTS};
 ghost use Rattle.kl1_user_events.specs.Views.{event_of, reply_of, reduced_or};
 ghost use Rattle.kl1_pool_tickets.specs.Counts.{Moved};
-ghost use Rattle.kl1_pool.specs.Counted.{with_more, events_by, steps_by, is_run, ended};
-ghost use Rattle.kl1_pool.specs.Filling.{is_entry, HasRoom};
+ghost use Rattle.kl1_command.specs.Told.{events_by, steps_by};
+ghost use Rattle.kl1_command.specs.Room.{is_entry};
+ghost use Rattle.kl1_pool.specs.Counted.{with_more, is_run, ended, HasRoom};
 
 use crate::totals_before_reset::TotalsBeforeReset;
 use kl1_pool_tickets::{Share, TicketIds};

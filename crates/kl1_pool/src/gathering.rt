@@ -19,8 +19,7 @@ pub fn gather<'t, R: Wait, K: PoolIds, W: Wait>(
 {
     let Pool {
         rt: _,
-        table: _,
-        codes: _,
+        tables: _,
         common,
         places,
     } = pool;

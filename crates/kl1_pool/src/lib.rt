@@ -1,26 +1,28 @@
 //! Accounts under locks: many threads command them, and workers go on with those that can step.
 #![tactic(auto)]
 
-mod answering;
+mod account_host;
+mod answer;
 mod counting;
 mod gate;
 mod gathering;
 mod locked_slot;
 mod locked_slots;
 mod named_atoms;
-mod outcome;
 mod parts;
 mod pool;
 mod pool_account;
 mod pool_ids;
-mod running;
+mod shared_tables;
 mod totals_before_reset;
+mod turn;
 mod working;
 
+pub use answer::Answer;
 pub use counting::MOST_EVENTS;
 pub use gate::Gate;
 pub use gathering::gather;
-pub use kl1_command::{Command, Performed};
+pub use kl1_command::{Command, FirstStep, Performed, Steps};
 pub use kl1_journal::{AccountName, Rules};
 pub use kl1_pool_tickets::{Share, TimeSlice, Totals};
 pub use locked_slot::LockedSlot;
@@ -29,5 +31,7 @@ pub use parts::PoolParts;
 pub use pool::Pool;
 pub use pool_account::PoolAccount;
 pub use pool_ids::PoolIds;
+pub use shared_tables::SharedTables;
 pub use totals_before_reset::TotalsBeforeReset;
+pub use turn::Turn;
 pub use working::worker;

@@ -1,7 +1,8 @@
 // Where an account lies under its lock.
 
-ghost use Rattle.std.specs.Prelude.{◌≡◌, ℕ};
+ghost use Rattle.std.specs.Prelude.{◌≡◌, ℕ, List, Some, slice_get};
 ghost use Rattle.atomic_table.specs.Seated.{TableId};
+ghost use Rattle.kl1_model.specs.declared.rules.Rules.{Rules};
 ghost use Rattle.kl1_pool_tickets.specs.Parts.{IsNewBook};
 ghost use Rattle.kl1_pool.specs.Parts.{IsFreshSeat};
 
@@ -26,6 +27,12 @@ pub(crate) trait Fresh: Drop {
     /// Which tally its book is of.
     ghost tally: { TableId };
 
+    /// Which rules it keeps to.
+    ghost keeps_to: { Rules };
+
+    /// What accounts are called, in the order of their numbers.
+    ghost names: { List (List ℕ) };
+
     /// An account of this name, which keeps to these rules, in which nothing has happened.
     fn fresh(
         alloc: Global,
@@ -35,14 +42,16 @@ pub(crate) trait Fresh: Drop {
         book: BookSeat,
     ) -> Result<Self, AllocError>
         requires seat { IsFreshSeat table seats seat }
-        requires book { IsNewBook tally book };
+        requires book { IsNewBook tally book }
+        requires rules { rules ≡ keeps_to }
+        requires name { slice_get names book.account ≡ Some name };
 }
 
 /// An account under its lock. It is padded: a lock's word is written by each thread that wants the account, and no word of an account
 /// lies on its line.
 #[derive(Drop)]
 pub struct LockedSlot<'t, R: Wait, K: PoolIds> {
-    pub(crate) cell: CachePadded<PoolAccount<'t, R, K>>,
+    pub(crate) account: CachePadded<PoolAccount<'t, R, K>>,
 }
 
 impl<'t, R: Wait, K: PoolIds> Fresh for LockedSlot<'t, R, K> {
@@ -52,6 +61,10 @@ impl<'t, R: Wait, K: PoolIds> Fresh for LockedSlot<'t, R, K> {
 
     ghost tally = { K.tally };
 
+    ghost keeps_to = { K.rules };
+
+    ghost names = { K.names };
+
     fn fresh(
         alloc: Global,
         name: AccountName,
@@ -60,8 +73,8 @@ impl<'t, R: Wait, K: PoolIds> Fresh for LockedSlot<'t, R, K> {
         book: BookSeat,
     ) -> Result<Self, AllocError> {
         let kept = JournaledAccount::new(alloc, name, rules, seat)?;
-        let cell = CachePadded::new(PoolAccount::new(kept, book));
-        Ok(LockedSlot { cell })
+        let account = CachePadded::new(PoolAccount::new(kept, book));
+        Ok(LockedSlot { account })
     }
 }
 
@@ -69,6 +82,6 @@ impl<'t, R: Wait, K: PoolIds> Booked for LockedSlot<'t, R, K> {
     ghost tally = { K.tally };
 
     fn into_book(self) -> BookSeat {
-        self.cell.into_inner().into_book()
+        self.account.into_inner().into_book()
     }
 }

@@ -2,7 +2,7 @@
 
 ghost use Rattle.std.specs.Prelude.{◌≡◌, ◌<◌, ◌++◌, ◌∷◌, [], IfOk, All, vec_len};
 ghost use Rattle.kl1_pool_tickets.specs.Parts.{IsNewBook};
-ghost use Rattle.kl1_pool.specs.Parts.{AreFreshSeats};
+ghost use Rattle.kl1_pool.specs.Parts.{AreFreshSeats, AreNamed};
 
 use crate::locked_slot::Fresh;
 use kl1_atoms::AtomSeat;
@@ -34,6 +34,8 @@ pub(crate) fn places_of<C: Fresh>(
 ) -> Result<Vec<Mutex<C>>, AllocError>
     requires seats { AreFreshSeats C.table C.seats seats.items }
     requires books { All (IsNewBook C.tally) books.items }
+    requires rules { rules ≡ C.keeps_to }
+    requires names { AreNamed C.names books.items names.items }
     requires count { (vec_len names ≡ vec_len books) × (vec_len seats ≡ vec_len books) }
     ensures { IfOk result (λ places. vec_len places ≡ vec_len books) }
 {

@@ -14,7 +14,7 @@ use std::marker::Model;
 
 /// The names of accounts in which nothing has happened, with the rules that they keep to and their seats in a table of names; a
 /// tally and a queue of tickets for them; and that table and a table of codes, lent. Contracts see which tables, which tally and
-/// which queue they are, and the numbers of accounts and shares.
+/// which queue they are, the rules and the names, and the numbers of accounts and shares.
 #[derive(Drop)]
 pub struct PoolParts<'t> {
     pub(crate) table: &'t AtomTable,
@@ -36,7 +36,7 @@ impl<'t> Model for PoolParts<'t> {
 
     ghost coded = { Prim.hlevel (codes, table_id_coded, shelves_coded) };
 
-    ghost view = { λ p. record { table = p.table.now.table.shared.table_id; seats = p.table.now.accounts; codes = p.code_table.now; tally = p.tickets.tally; queue = p.tickets.queue; accounts = p.tickets.accounts; shares = p.tickets.shares } };
+    ghost view = { λ p. record { table = p.table.now.table.shared.table_id; seats = p.table.now.accounts; codes = p.code_table.now; rules = p.rules; names = p.accounts.items; tally = p.tickets.tally; queue = p.tickets.queue; accounts = p.tickets.accounts; shares = p.tickets.shares } };
 
     ghost invariant = { λ p. AreFreshSeats p.table.now.table.shared.table_id p.table.now.accounts p.seats.items × (vec_len p.accounts ≡ p.tickets.accounts) × (vec_len p.seats ≡ p.tickets.accounts) };
 }
@@ -59,6 +59,8 @@ impl<'t> PoolParts<'t> {
         requires seats { (k : ℕ) (seat : AtomSeat) → slice_get seats.items k ≡ Some seat → IsNewSharedSeat table.now.table.shared.table_id seat.badge.table_id table.now.accounts (face_in seat.badge.views) seat.account k }
         ensures table { IfOk result (λ parts. (parts.table ≡ table.now.table.shared.table_id) × (parts.seats ≡ table.now.accounts)) }
         ensures codes { IfOk result (λ parts. parts.codes ≡ codes.now) }
+        ensures rules { IfOk result (λ parts. parts.rules ≡ rules) }
+        ensures names { IfOk result (λ parts. parts.names ≡ accounts.now) }
         ensures counts { IfOk result (λ parts. (parts.accounts ≡ length accounts.now) × (parts.shares ≡ shares)) }
     {
         let names = accounts.to_vec(alloc)?;

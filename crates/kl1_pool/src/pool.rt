@@ -4,17 +4,17 @@ ghost use Rattle.std.specs.Prelude.{◌≡◌, ◌<◌, ◌≤◌, IfOk, All, ve
 ghost use Rattle.kl1_tally.specs.declared.amounts.TheConstants.{MOST_ACCOUNTS};
 ghost use Rattle.kl1_pool_tickets.specs.Counts.{Moved, Acts, new_counts};
 ghost use Rattle.kl1_pool_tickets.specs.declared.serving.TheConstants.{MOST_STEPS};
-ghost use Rattle.kl1_pool.specs.Told.{events_told, steps_told};
+ghost use Rattle.kl1_command.specs.Commands.{command_view};
+ghost use Rattle.kl1_command.specs.Told.{events_told, steps_told};
 
+use crate::answer::Answer;
 use crate::gate::Gate;
 use crate::locked_slot::LockedSlot;
 use crate::locked_slots::{drop_all, places_of};
-use crate::named_atoms::NamedAtoms;
 use crate::parts::PoolParts;
 use crate::pool_ids::PoolIds;
-use kl1_atoms::AtomTable;
-use kl1_codes::{CodeTable, SharedCodes};
-use kl1_command::{Command, Performed};
+use crate::shared_tables::SharedTables;
+use kl1_command::Command;
 use kl1_pool_tickets::{Opened, PoolShared, Share, TimeSlice};
 use std::alloc::{AllocError, Global};
 use std::marker::PhantomData;
@@ -25,13 +25,9 @@ use std::sync::{Mutex, Wait};
 #[derive(Drop)]
 pub struct Pool<'t, R: Wait, K: PoolIds> {
     pub(crate) rt: &'t R,
-    pub(crate) table: &'t AtomTable,
-    pub(crate) codes: &'t CodeTable,
+    pub(crate) tables: SharedTables<'t, K>,
     pub(crate) common: PoolShared<K>,
     pub(crate) places: Vec<Mutex<LockedSlot<'t, R, K>>>,
-    pub ghost named: { table.now.table.shared.table_id ≡ K.table },
-    pub ghost sized: { table.now.accounts ≡ K.seats },
-    pub ghost coded: { codes.now ≡ K.codes },
     pub ghost counted: { vec_len places ≡ K.accounts },
 }
 
@@ -49,6 +45,7 @@ impl<'t, R: Wait, K: PoolIds> Pool<'t, R, K> {
         parts: PoolParts<'t>,
     ) -> Result<(Pool<'t, R, K>, Vec<Share<K>>), AllocError>
         requires tables { (parts.table ≡ K.table) × (parts.seats ≡ K.seats) × (parts.codes ≡ K.codes) }
+        requires names { (parts.rules ≡ K.rules) × (parts.names ≡ K.names) }
         requires tickets { (parts.tally ≡ K.tally) × (parts.queue ≡ K.queue) × (parts.accounts ≡ K.accounts) × (parts.shares ≡ K.shares) }
         ensures shares { IfOk result (λ made. All (λ share. share ≡ new_counts) made.1.items) }
         ensures count { IfOk result (λ made. vec_len made.1 ≡ K.shares) }
@@ -67,11 +64,15 @@ impl<'t, R: Wait, K: PoolIds> Pool<'t, R, K> {
             shares,
         } = tickets.open::<K>(alloc)?;
         let places = places_of::<LockedSlot<'t, R, K>>(alloc, accounts, rules, seats, books)?;
+        let tables = SharedTables {
+            names: table,
+            codes: code_table,
+            of: PhantomData,
+        };
         Ok((
             Pool {
                 rt,
-                table,
-                codes: code_table,
+                tables,
                 common,
                 places,
             },
@@ -86,24 +87,6 @@ impl<'t, R: Wait, K: PoolIds> Pool<'t, R, K> {
         self.places.len()
     }
 
-    /// The table of names.
-    fn names(&self) -> NamedAtoms<'t, K> {
-        NamedAtoms {
-            table: self.table,
-            of: PhantomData,
-        }
-    }
-
-    /// The table of codes, with the handle by which codes are put in.
-    fn codes(&self) -> SharedCodes<'t, R>
-        ensures { result.table.now ≡ K.codes }
-    {
-        SharedCodes {
-            table: self.codes,
-            rt: self.rt,
-        }
-    }
-
     /// Does a command to an account under its lock; and whether its ticket is to be put, which then counts as out.
     fn visit<W: Wait>(
         &self,
@@ -111,24 +94,24 @@ impl<'t, R: Wait, K: PoolIds> Pool<'t, R, K> {
         account: usize,
         command: &Command,
         share: &mut Share<K>,
-    ) -> (Performed, bool)
+    ) -> (Answer<K>, bool)
         requires within { account < K.accounts }
-        ensures { Moved account (events_told result.0) (steps_told result.0) 0 0 share.old share.new }
+        ensures counted { Moved account (events_told result.0.performed) (steps_told result.0.performed) 0 0 share.old share.new }
+        ensures account { result.0.account ≡ account }
+        ensures command { result.0.command ≡ command_view command.now }
     {
-        let mut names = self.names();
-        let mut codes = self.codes();
         let mut guard = self.places[account].lock(rt);
-        let cell = &mut *guard.cell;
+        let found = &mut *guard.account;
         // The lock tells nothing of which account lies under it. It is always this one.
-        if cell.account() != account {
-            return (Performed::Memory, false);
+        if found.account() != account {
+            return (Answer::misplaced(found, account, command), false);
         }
-        let performed = cell.perform(self.common.tally(), &mut names, &mut codes, share, command);
-        let wants = cell.wants_ticket();
-        (performed, wants)
+        let answer = found.perform(self.rt, &self.common, &self.tables, share, command);
+        let wants = found.wants_ticket();
+        (answer, wants)
     }
 
-    /// Does a command to an account under its lock, as `perform` of its cell. Afterwards a ticket of the account is put unless the
+    /// Does a command to an account under its lock, as `PoolAccount::perform`. Afterwards a ticket of the account is put unless the
     /// account is quiet or one is out.
     pub fn act<W: Wait>(
         &self,
@@ -136,15 +119,17 @@ impl<'t, R: Wait, K: PoolIds> Pool<'t, R, K> {
         account: usize,
         command: &Command,
         share: &mut Share<K>,
-    ) -> Performed
+    ) -> Answer<K>
         requires within { account < K.accounts }
-        ensures { Acts account (events_told result) (steps_told result) share.old share.new }
+        ensures counted { Acts account (events_told result.performed) (steps_told result.performed) share.old share.new }
+        ensures account { result.account ≡ account }
+        ensures command { result.command ≡ command_view command.now }
     {
-        let (performed, wants) = self.visit(rt, account, command, share);
+        let (answer, wants) = self.visit(rt, account, command, share);
         if wants {
             self.offer(rt, account, share);
         }
-        performed
+        answer
     }
 
     /// Puts an account's ticket; if it can't be put, none is out.
@@ -160,11 +145,11 @@ impl<'t, R: Wait, K: PoolIds> Pool<'t, R, K> {
     /// Notes that no ticket of an account is out.
     pub(crate) fn clear_ticket<W: Wait>(&self, rt: &W, account: usize) {
         if let Some(place) = self.places.get(account) {
-            place.lock(rt).cell.clear_ticket();
+            place.lock(rt).account.clear_ticket();
         }
     }
 
-    /// A turn of an account under its lock, as `turn` of its cell, between `enter` and `leave` of a gate. Unless the ticket is to be
+    /// A turn of an account under its lock, as `PoolAccount::turn`, between `enter` and `leave` of a gate. Unless the ticket is to be
     /// put back, none is out afterwards.
     pub(crate) fn turn<G: Gate, W: Wait>(
         &self,
@@ -177,24 +162,25 @@ impl<'t, R: Wait, K: PoolIds> Pool<'t, R, K> {
         ensures few { result.steps ≤ MOST_STEPS }
         ensures counted { Moved account result.steps result.steps 0 0 share.old share.new }
     {
-        let mut names = self.names();
-        let mut codes = self.codes();
         let Some(place) = self.places.get(account) else {
             return NO_TURN;
         };
         let mut guard = place.lock(rt);
-        let cell = &mut *guard.cell;
+        let found = &mut *guard.account;
         // As in `visit`.
-        if cell.account() != account {
+        if found.account() != account {
             return NO_TURN;
         }
         gate.enter(number);
-        let turn = cell.turn(self.common.tally(), &mut names, &mut codes, share);
+        let turn = found.turn(self.rt, &self.common, &self.tables, share);
         gate.leave(number);
         if !turn.again {
-            cell.clear_ticket();
+            found.clear_ticket();
         }
-        turn
+        TimeSlice {
+            steps: turn.steps.done,
+            again: turn.again,
+        }
     }
 
     /// Drops a pool whose shares can't be gathered. A drop without this call is proved only where the tables that are lent to the pool
@@ -202,8 +188,7 @@ impl<'t, R: Wait, K: PoolIds> Pool<'t, R, K> {
     pub fn discard(self) {
         let Pool {
             rt: _,
-            table: _,
-            codes: _,
+            tables: _,
             common: _,
             places,
         } = self;

@@ -1,6 +1,6 @@
 // An account with its book.
 
-ghost use Rattle.std.specs.Prelude.{◌≡◌, ℕ, ◌<◌, ◌≤◌, ◌^◌, [], IfOk, IsOk, IsTrue, OnErr, false, option_map};
+ghost use Rattle.std.specs.Prelude.{◌≡◌, ◌<◌, ◌≤◌, ◌^◌, ◌&&◌, if◌then◌else◌, [], Some, slice_get, IfOk, IsOk, IsTrue, OnErr, true, false, not, option_map};
 ghost use Rattle.kl1_model.specs.Event.{reduce as reduce_event, refused, journal_full};
 ghost use Rattle.kl1_model.specs.Choice.{first, quiet};
 ghost use Rattle.kl1_model_server.specs.Journal.{done};
@@ -12,9 +12,10 @@ ghost use Rattle.kl1_user_events.specs.Views.{event_of, is_logout, reply_of, red
 ghost use Rattle.kl1_pool_tickets.specs.Counts.{Moved};
 ghost use Rattle.kl1_pool_tickets.specs.Parts.{IsNewBook};
 ghost use Rattle.kl1_journal.specs.Keeping.{Reading, Fits, kept_of, IsKept};
-ghost use Rattle.kl1_pool.specs.Cells.{StandsIn};
-ghost use Rattle.kl1_pool.specs.Counted.{no_past, with_more, IsCounted, events_by, steps_by, past_by};
-ghost use Rattle.kl1_pool.specs.Filling.{room_in, is_entry, HasRoom};
+ghost use Rattle.kl1_command.specs.Told.{events_by, steps_by};
+ghost use Rattle.kl1_command.specs.Room.{is_entry};
+ghost use Rattle.kl1_pool.specs.PoolAccounts.{StandsIn};
+ghost use Rattle.kl1_pool.specs.Counted.{no_past, with_more, IsCounted, past_by, room_in, HasRoom};
 
 use crate::counting::{MOST_EVENTS, count, count_step, is_full, past_after};
 use crate::named_atoms::NamedAtoms;
@@ -29,8 +30,8 @@ use std::alloc::AllocError;
 use std::marker::{Model, PhantomData};
 use std::sync::Wait;
 
-/// An account with its journal and its book; what its journals counted that resets ended; and whether its ticket is out, which no
-/// contract speaks of. What a book tells is always what was counted before the last reset and the entries of the journal.
+/// An account with its journal and its book; what its journals counted that resets ended; and whether its ticket is out. What a book
+/// tells is always what was counted before the last reset and the entries of the journal.
 #[derive(Drop)]
 pub struct PoolAccount<'t, R: Wait, K: PoolIds> {
     kept: JournaledAccount<NamedAtoms<'t, K>, SharedCodes<'t, R>>,
@@ -41,26 +42,26 @@ pub struct PoolAccount<'t, R: Wait, K: PoolIds> {
 }
 
 impl<'t, R: Wait, K: PoolIds> Model for PoolAccount<'t, R, K> {
-    ghost use Rattle.std.specs.Prelude.{◌≡◌, ◌<◌};
+    ghost use Rattle.std.specs.Prelude.{◌≡◌, ◌<◌, Some, slice_get};
     ghost use Rattle.std.specs.Coded.{codes};
     ghost use Rattle.kl1_tally.specs.declared.amounts.TheConstants.{MOST_ACCOUNTS};
     ghost use Rattle.kl1_atoms.specs.Seats.{face_in, IsSharedSeat};
     ghost use Rattle.kl1_codes_modules.specs.Numbered.{numbered_code, ArePlaced};
     ghost use Rattle.kl1_journal_entries.specs.Codes.{journal_code};
-    ghost use Rattle.kl1_pool.specs.Cells.{PoolAccountValue, StandsIn};
+    ghost use Rattle.kl1_pool.specs.PoolAccounts.{PoolAccountValue, StandsIn};
     ghost use Rattle.kl1_pool.specs.Counted.{IsCounted};
 
     ghost Value = { PoolAccountValue };
 
     ghost coded = { Prim.hlevel (codes, numbered_code, journal_code) };
 
-    ghost view = { λ c. record { held = c.kept.1; book = c.book; past = c.past } };
+    ghost view = { λ c. record { held = c.kept.1; book = c.book; past = c.past; is_out = c.is_out } };
 
-    ghost invariant = { λ c. IsSharedSeat K.table c.kept.0.badge.table_id K.seats (face_in c.kept.0.badge.views) c.kept.0.account × ArePlaced (StandsIn K.codes) c.kept.1.0.modules × (c.book.tally ≡ K.tally) × (c.book.account < MOST_ACCOUNTS) × IsCounted c.past c.kept.1.1 c.book };
+    ghost invariant = { λ c. IsSharedSeat K.table c.kept.0.badge.table_id K.seats (face_in c.kept.0.badge.views) c.kept.0.account × ArePlaced (StandsIn K.codes) c.kept.1.0.modules × (c.book.tally ≡ K.tally) × (c.book.account < MOST_ACCOUNTS) × IsCounted c.past c.kept.1.1 c.book × (c.kept.1.0.rules ≡ K.rules) × (slice_get K.names c.book.account ≡ Some c.kept.1.0.own_name) };
 }
 
 impl<'t, R: Wait, K: PoolIds> PoolAccount<'t, R, K> {
-    /// The cell of an account whose journal has no entries, with a new book.
+    /// An account whose journal has no entries, with a new book; no ticket of it is out.
     pub fn new(
         kept: JournaledAccount<NamedAtoms<'t, K>, SharedCodes<'t, R>>,
         book: BookSeat,
@@ -69,9 +70,12 @@ impl<'t, R: Wait, K: PoolIds> PoolAccount<'t, R, K> {
         requires modules { ArePlaced (StandsIn K.codes) kept.1.0.modules }
         requires entries { kept.1.1.entries ≡ [] }
         requires book { IsNewBook K.tally book }
+        requires rules { kept.1.0.rules ≡ K.rules }
+        requires name { slice_get K.names book.account ≡ Some kept.1.0.own_name }
         ensures held { result.held ≡ kept.entry.1 }
         ensures book { result.book ≡ book }
         ensures past { result.past ≡ no_past }
+        ensures out { result.is_out ≡ false }
     {
         PoolAccount {
             kept,
@@ -105,6 +109,7 @@ impl<'t, R: Wait, K: PoolIds> PoolAccount<'t, R, K> {
         ensures book { IfOk result (λ reply. self.new.book ≡ with_more self.old.book (events_by (reply_of reply)) (steps_by (reply_of reply))) }
         ensures past { IfOk result (λ reply. self.new.past ≡ past_by self.old.past self.old.held.1 (reply_of reply)) }
         ensures logout { IsTrue (is_logout event.now) → IsOk result }
+        ensures out { self.new.is_out ≡ self.old.is_out }
         ensures err { OnErr result ((self.new ≡ self.old) × (share.new ≡ share.old)) }
         ensures before { (f : Reading) → Fits self.new.held.0.names f → Fits self.old.held.0.names f }
     {
@@ -135,6 +140,7 @@ impl<'t, R: Wait, K: PoolIds> PoolAccount<'t, R, K> {
         ensures counted { IfOk result (λ refused. Moved self.old.book.account (events_by (reduced_or refused)) (steps_by (reduced_or refused)) 0 0 share.old share.new) }
         ensures book { IfOk result (λ refused. self.new.book ≡ with_more self.old.book (events_by (reduced_or refused)) (steps_by (reduced_or refused))) }
         ensures past { self.new.past ≡ self.old.past }
+        ensures out { self.new.is_out ≡ self.old.is_out }
         ensures err { OnErr result ((self.new ≡ self.old) × (share.new ≡ share.old)) }
         ensures before { (f : Reading) → Fits self.new.held.0.names f → Fits self.old.held.0.names f }
     {
@@ -145,11 +151,14 @@ impl<'t, R: Wait, K: PoolIds> PoolAccount<'t, R, K> {
     }
 
     /// Tells a caller's proof what the type keeps: the account is the replay of its journal for each reading of its names, there is
-    /// such a reading, and the book tells what was counted before the last reset and the entries of the journal. It does nothing.
+    /// such a reading; the book tells what was counted before the last reset and the entries of the journal; and the rules and the
+    /// name are those that K names. It does nothing.
     pub fn shows_counts(&self)
         ensures kept { IsKept self.now.held }
         ensures names { AreNames self.now.held.0.names }
         ensures counted { IsCounted self.now.past self.now.held.1 self.now.book }
+        ensures rules { self.now.held.0.rules ≡ K.rules }
+        ensures name { slice_get K.names self.now.book.account ≡ Some self.now.held.0.own_name }
     {
         self.kept.shows_replay();
     }
@@ -192,8 +201,8 @@ impl<'t, R: Wait, K: PoolIds> PoolAccount<'t, R, K> {
     /// Whether a ticket of the account is to be put, which from then on counts as out: the account isn't quiet, and no ticket was
     /// out.
     pub fn wants_ticket(&mut self) -> bool
-        ensures same { self.new ≡ self.old }
-        ensures steps { IsTrue result → (f : Reading) → Fits self.new.held.0.names f → quiet (kept_of f self.new.held).state ≡ false }
+        ensures wants { (f : Reading) → Fits self.new.held.0.names f → result ≡ (not self.old.is_out && not (quiet (kept_of f self.new.held).state)) }
+        ensures new { self.new ≡ record self.old { is_out = (if result then true else self.old.is_out) } }
     {
         if self.is_out || self.kept.quiet() {
             return false;
@@ -204,7 +213,7 @@ impl<'t, R: Wait, K: PoolIds> PoolAccount<'t, R, K> {
 
     /// Notes that no ticket of the account is out.
     pub fn clear_ticket(&mut self)
-        ensures { self.new ≡ self.old }
+        ensures { self.new ≡ record self.old { is_out = false } }
     {
         self.is_out = false;
     }

@@ -3,7 +3,7 @@ use Rattle.std.proofs.Common.{◌≡◌, ℕ, ◌+◌, ◌<◌, ◌≤◌, List,
 use Rattle.std.specs.Prelude.{Result, Ok, Err, IfOk}
 use Rattle.kl1_tally.specs.Seats.{raised_at}
 use Rattle.std.proofs.lemmas.Bool.{cases_eq}
-use Rattle.kl1_pool_tickets.specs.Counts.{Counts, IsMoreAt, Moved, Acts, Worked, WorkedAt}
+use Rattle.kl1_pool_tickets.specs.Counts.{Counts, IsMoreAt, Moved, Worked, WorkedAt}
 
 -- one more at one place
 pub raised_more : (ns : List ℕ) (k n : ℕ) → k < length ns → IsMoreAt k n ns (raised_at ns k n)
@@ -69,21 +69,9 @@ worked_worked x y z p q k b =
       alike = (let s = m.alike in let t = n.alike in omega arith);
     }
 
--- events of an account, and then at most one ticket put
-pub acted : (k e s : ℕ) (x y z : Counts) → Moved k e s 0 0 x y → Acts k 0 0 y z → Acts k e s x z
-acted k e s x y z m a =
-    let two = moved_moved k e s 0 0 0 0 a.0 0 x y z m a.2 in (
-      a.0,
-      a.1,
-      record {
-        events = more_by k (e + 0) e x.events z.events (omega arith) two.events;
-        steps = more_by k (s + 0) s x.steps z.steps (omega arith) two.steps;
-        puts = more_by k (0 + a.0) a.0 x.puts z.puts (omega arith) two.puts;
-        takes = more_by k (0 + 0) 0 x.takes z.takes (omega arith) two.takes;
-      },
-    ) where
-      more_by : (k a b : ℕ) (xs ys : List ℕ) → a ≡ b → IsMoreAt k a xs ys → IsMoreAt k b xs ys
-      more_by k a b xs ys is m = subst (λ (n : ℕ). IsMoreAt k n xs ys) is m
+-- the same more
+pub more_by : (k a b : ℕ) (xs ys : List ℕ) → a ≡ b → IsMoreAt k a xs ys → IsMoreAt k b xs ys
+more_by k a b xs ys is m = subst (λ (n : ℕ). IsMoreAt k n xs ys) is m
 
 -- what follows of an answer
 pub if_ok : {T E : Type 0} (r : Result T E) (P Q : T → Type 0) → ((x : T) → P x → Q x) → IfOk r P → IfOk r Q

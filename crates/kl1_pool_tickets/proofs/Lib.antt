@@ -3,3 +3,5 @@ pub mod Apart
 pub mod Counting
 pub mod NewBooks
 pub mod Zeros
+pub mod Tickets
+pub mod AddingUp

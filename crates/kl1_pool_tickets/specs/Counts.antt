@@ -1,9 +1,10 @@
 -- What contracts see of a share, and how a call changes it.
-use Rattle.std.specs.Prelude.{◌≡◌, ℕ, ◌+◌, ◌*◌, ◌<◌, ◌≤◌, ◌^◌, List, length, replicate, slice_index, ◌≢◌}
+use Rattle.std.specs.Prelude.{◌≡◌, ℕ, ◌+◌, ◌*◌, ◌<◌, ◌≤◌, ◌^◌, cond, List, [], ◌∷◌, length, replicate, slice_index, ◌≢◌}
 use Rattle.kl1_tally.specs.declared.amounts.TheConstants.{MOST_ACCOUNTS}
 use Rattle.kl1_tally.specs.Numbers.{times}
 use Rattle.kl1_pool_tickets.specs.declared.ticket_history.TicketHistory.{TicketHistory}
 use Rattle.kl1_pool_tickets.specs.declared.serving.TheConstants.{MOST_STEPS}
+use Rattle.kl1_pool_tickets.specs.declared.serving.TimeSlice.{TimeSlice}
 
 -- the events and steps of each account that were counted, and how many of its tickets were put and taken, at the accounts' numbers
 pub record Counts : Type 0 where
@@ -53,6 +54,33 @@ pub record WorkedAt (k : ℕ) (old new : Counts) : Type 0 where
 -- a worker's counts of each account grew as a worker's do
 abbrev pub Worked : Counts → Counts → Type 0
 Worked old new = (k : ℕ) → k < MOST_ACCOUNTS → WorkedAt k old new
+
+-- an account's ticket is served: a turn of at most 64 steps, each of them an event, and then at most one put of the ticket, and none
+-- unless the turn said `again`
+pub record Serves (turned : ℕ → TimeSlice → Counts → Counts → Type 0) (account : ℕ) (slice : TimeSlice) (old new : Counts) : Type 0 where
+  pub between : Counts
+  pub puts : ℕ
+  pub turn : turned account slice old between
+  pub steps : Moved account slice.steps slice.steps 0 0 old between
+  pub steps_few : slice.steps ≤ MOST_STEPS
+  pub put : Moved account 0 0 puts 0 between new
+  pub puts_few : puts ≤ cond slice.again 1 0
+
+-- an account's ticket is taken and then served
+pub record TakesAndServes (turned : ℕ → TimeSlice → Counts → Counts → Type 0) (account : ℕ) (slice : TimeSlice) (old new : Counts) : Type 0 where
+  pub between : Counts
+  pub within : account < MOST_ACCOUNTS
+  pub take : Moved account 0 0 0 1 old between
+  pub serve : Serves turned account slice between new
+
+-- tickets, each by its account and what its turn told, are taken and served one after the other
+abbrev pub ServesEach : (ℕ → TimeSlice → Counts → Counts → Type 0) → List (ℕ × TimeSlice) → Counts → Counts → Type 0
+ServesEach turned [] old new = new ≡ old
+ServesEach turned (t ∷ ts) old new = (between : Counts) × TakesAndServes turned t.0 t.1 old between × ServesEach turned ts between new
+
+-- some tickets are taken and served one after the other, and nothing else is done
+abbrev pub ServesTickets : (ℕ → TimeSlice → Counts → Counts → Type 0) → Counts → Counts → Type 0
+ServesTickets turned old new = (ts : List (ℕ × TimeSlice)) × ServesEach turned ts old new
 
 -- nothing counted, put or taken
 abbrev pub new_counts : Counts

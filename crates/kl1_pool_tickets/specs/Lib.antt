@@ -2,3 +2,4 @@ pub mod Histories
 pub mod Counts
 pub mod Totals
 pub mod Parts
+pub mod Laws

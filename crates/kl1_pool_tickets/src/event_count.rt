@@ -14,7 +14,7 @@ pub(crate) struct EventCount {
 }
 
 impl EventCount {
-    /// A event_count that was never rung.
+    /// An event count that was never rung.
     pub(crate) fn new() -> EventCount {
         EventCount {
             rings: AtomicU64::new(0),
@@ -28,7 +28,7 @@ impl EventCount {
         self.rings.load(Ordering::SeqCst)
     }
 
-    /// Sleeps unless the event_count was rung since `listen` answered `heard`.
+    /// Sleeps unless the event count was rung since `listen` answered `heard`.
     pub(crate) fn sleep<R: Wait>(&self, rt: &R, heard: u64) {
         // A sleep compares the low half of the word.
         self.rings.park(rt, (heard & 0xffff_ffff) as u32);

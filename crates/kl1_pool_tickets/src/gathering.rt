@@ -132,14 +132,14 @@ pub fn gather<R: Wait, K: TicketIds, C: Booked>(
         queue,
         event_count: _,
         is_closed: _,
-        rest,
+        reserve,
     } = common;
     let Reserve {
         mut pass,
         mut books,
         mut seats,
         of: _,
-    } = rest.into_inner();
+    } = reserve.into_inner();
     take_books(booked, &mut books);
     let Sums { puts, takes } = take_in(&queue, &mut pass, shares, &mut seats);
     let left = drain(rt, &queue, &mut pass);

@@ -3,6 +3,7 @@
 
 mod event_count;
 mod gathering;
+mod laws;
 mod parts;
 mod pool_shared;
 mod reserve;
@@ -13,6 +14,7 @@ mod ticket_ids;
 mod totals;
 
 pub use gathering::{Booked, gather};
+pub use laws::passes_add_up;
 pub use parts::{Opened, Parts};
 pub use pool_shared::PoolShared;
 pub use reserve::Reserve;

@@ -100,7 +100,7 @@ impl Parts {
             queue,
             event_count: CachePadded::new(EventCount::new()),
             is_closed: AtomicBool::new(false),
-            rest: Mutex::new(rest_of(rest, room_of_books, room_of_seats)),
+            reserve: Mutex::new(reserve_of(rest, room_of_books, room_of_seats)),
         };
         Ok(Opened {
             common,
@@ -151,7 +151,7 @@ fn share_of<K: TicketIds>(seat: ShareSeat, pass: Pass<u64, TicketHistory>) -> Sh
 }
 
 /// What is kept for the end.
-fn rest_of<K: TicketIds>(
+fn reserve_of<K: TicketIds>(
     pass: Pass<u64, TicketHistory>,
     books: Vec<BookSeat>,
     seats: Vec<ShareSeat>,

@@ -23,7 +23,7 @@ pub struct PoolShared<K: TicketIds> {
     /// Padded, since the words beside it are read in each step and it is written when workers fall asleep.
     pub(crate) event_count: CachePadded<EventCount>,
     pub(crate) is_closed: AtomicBool,
-    pub(crate) rest: Mutex<Reserve<K>>,
+    pub(crate) reserve: Mutex<Reserve<K>>,
     pub ghost of_tally: { tally.id ≡ K.tally },
     pub ghost of_queue: { queue.table.shared.table_id ≡ K.queue },
     pub ghost books: { tally.accounts ≡ K.accounts },
@@ -37,6 +37,13 @@ impl<K: TicketIds> PoolShared<K> {
         ensures { result.now.id ≡ K.tally }
     {
         &self.tally
+    }
+
+    /// The queue of tickets. Whoever has it can do what keeps its rule, of which `passes_add_up` speaks, and nothing else.
+    pub fn queue(&self) -> &Queue
+        ensures { result.now.table.shared.table_id ≡ K.queue }
+    {
+        &self.queue
     }
 
     /// Puts an account's ticket, and wakes a worker if one sleeps; false tells that the ticket wasn't put.

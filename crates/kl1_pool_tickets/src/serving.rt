@@ -1,9 +1,10 @@
 // Workers, which take tickets and serve them.
 
-ghost use Rattle.std.specs.Prelude.{◌≡◌, ℕ, ◌<◌, ◌≤◌};
+ghost use Rattle.std.specs.Prelude.{◌≡◌, ℕ, ◌<◌, ◌≤◌, ⊤};
 ghost use Rattle.kl1_tally.specs.declared.amounts.TheConstants.{MOST_ACCOUNTS};
 ghost use Rattle.kl1_pool_tickets.specs.declared.serving.TheConstants.{MOST_STEPS};
-ghost use Rattle.kl1_pool_tickets.specs.Counts.{Moved, Acts, Worked, CanTake};
+ghost use Rattle.kl1_pool_tickets.specs.declared.serving.TimeSlice.{TimeSlice};
+ghost use Rattle.kl1_pool_tickets.specs.Counts.{Counts, Moved, Acts, CanTake, Serves, ServesTickets, Worked};
 
 use crate::pool_shared::PoolShared;
 use crate::share::Share;
@@ -22,11 +23,16 @@ pub struct TimeSlice {
 
 /// The accounts of a pool, each under its lock, with a note whether its ticket is out.
 pub trait Accounts<K: TicketIds> {
+    /// What a turn of an account may tell, by the counts of the share before and after it. It ties what a worker does with a ticket
+    /// to what the turn told; an implementation that needs no more than the clauses of `turn` leaves it out.
+    ghost turned: { ℕ → TimeSlice → Counts → Counts → Type 0 } = { λ _ _ _ _. ⊤ };
+
     /// Does steps of an account and counts them in `share`. Unless the ticket is to be put back, it notes that none is out.
     fn turn<R: Wait>(&self, rt: &R, account: usize, share: &mut Share<K>) -> TimeSlice
         requires within { account < MOST_ACCOUNTS }
         ensures few { result.steps ≤ MOST_STEPS }
-        ensures counted { Moved account result.steps result.steps 0 0 share.old share.new };
+        ensures counted { Moved account result.steps result.steps 0 0 share.old share.new }
+        ensures turned { turned account result share.old share.new };
 
     /// Notes that no ticket of an account is out.
     fn clear_ticket<R: Wait>(&self, rt: &R, account: usize)
@@ -58,10 +64,10 @@ fn serve<R: Wait, K: TicketIds, A: Accounts<K>>(
     share: &mut Share<K>,
 )
     requires within { account < MOST_ACCOUNTS }
-    ensures { (n : ℕ) × (n ≤ MOST_STEPS) × Acts account n n share.old share.new }
+    ensures { (slice : TimeSlice) × Serves A.turned account slice share.old share.new }
 {
-    let turn = accounts.turn(rt, account, share);
-    if turn.again {
+    let slice = accounts.turn(rt, account, share);
+    if slice.again {
         put_back(rt, common, accounts, account, share);
     }
 }
@@ -74,7 +80,7 @@ fn serve_next<R: Wait, K: TicketIds, A: Accounts<K>>(
     share: &mut Share<K>,
 ) -> bool
     requires can { CanTake share.old }
-    ensures { Worked share.old share.new }
+    ensures { ServesTickets A.turned share.old share.new }
 {
     match share.take(rt, common) {
         Some(account) => {
@@ -93,7 +99,7 @@ fn serve_or_sleep<R: Wait, K: TicketIds, A: Accounts<K>>(
     share: &mut Share<K>,
 )
     requires can { CanTake share.old }
-    ensures { Worked share.old share.new }
+    ensures { ServesTickets A.turned share.old share.new }
 {
     let heard = common.event_count.listen();
     let served = serve_next(rt, common, accounts, share);
@@ -110,7 +116,8 @@ pub fn worker<R: Wait, K: TicketIds, A: Accounts<K>>(
     accounts: &A,
     share: &mut Share<K>,
 )
-    ensures { Worked share.old share.new }
+    ensures tickets { ServesTickets A.turned share.old share.new }
+    ensures worked { Worked share.old share.new }
 {
     for _ in rt.forever() {
         if common.is_closed() || !share.can_take() {

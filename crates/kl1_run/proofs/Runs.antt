@@ -22,7 +22,7 @@ use Rattle.kl1_run_work.specs.Streams.{Stream, WritesAll, IsTold}
 use Rattle.kl1_run_work.specs.Watching.{Follows}
 use Rattle.kl1_run_work.specs.Answers.{IsRun}
 use Rattle.kl1_run_work.proofs.Followed.{follows_none}
-use Rattle.kl1_run.specs.declared.alone.Outcome.{Outcome}
+use Rattle.kl1_run.specs.declared.alone.RunResult.{RunResult}
 use Rattle.kl1_run.specs.Alone.{account_name, seen_if, alone_of, RunsAlone}
 
 -- a run from an account that is the fresh one
@@ -64,10 +64,10 @@ world_followed rules old new i j name texts goal allowance steps heard heard' na
     subst P (account_alone rules old i name f named fresh first) (follows f (fits_alone new j same known))
 
 -- memory was refused before anything was done
-pub refused_alone : (rules : Rules) (texts : List (List ℕ)) (goal : Term) (allowance steps : ℕ) (q : Wanted) (out err book : Stream) (outcome : Outcome) →
+pub refused_alone : (rules : Rules) (texts : List (List ℕ)) (goal : Term) (allowance steps : ℕ) (q : Wanted) (out err book : Stream) (outcome : RunResult) →
     outcome ≡ record { ending = Err stop.Memory; journal = Err stop.Memory } → RunsAlone rules texts goal allowance steps q out out err err book book outcome
 refused_alone rules texts goal allowance steps q out err book outcome e =
-    let P : Outcome → Type 0 = λ x. RunsAlone rules texts goal allowance steps q out out err err book book x in
+    let P : RunResult → Type 0 = λ x. RunsAlone rules texts goal allowance steps q out out err err book book x in
     subst P (sym e) (record {
       after = fresh_kept rules account_name;
       runs = record { first = refl; second = refl };

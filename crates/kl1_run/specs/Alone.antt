@@ -7,7 +7,7 @@ use Rattle.kl1_run_work.specs.declared.wanted.Wanted.{Wanted}
 use Rattle.kl1_run_work.specs.Works.{Worked, worked_of}
 use Rattle.kl1_run_work.specs.Streams.{Stream, seen, IsTold}
 use Rattle.kl1_run_work.specs.Answers.{IsRun}
-use Rattle.kl1_run.specs.declared.alone.Outcome.{Outcome}
+use Rattle.kl1_run.specs.declared.alone.RunResult.{RunResult}
 
 -- the name of the account
 abbrev pub account_name : List ℕ
@@ -25,7 +25,7 @@ alone_of rules texts goal allowance steps = worked_of (fresh_kept rules account_
 
 -- that work is done, and what came of it was written to two streams, by how the work ended; and the journal of the account after it
 -- was written to a third
-pub record RunsAlone (rules : Rules) (texts : List (List ℕ)) (goal : Term) (allowance steps : ℕ) (wanted : Wanted) (out out' err err' book book' : Stream) (outcome : Outcome) : Type 0 where
+pub record RunsAlone (rules : Rules) (texts : List (List ℕ)) (goal : Term) (allowance steps : ℕ) (wanted : Wanted) (out out' err err' book book' : Stream) (result : RunResult) : Type 0 where
   pub after : Kept
-  pub runs : IsRun (alone_of rules texts goal allowance steps) wanted out out' err err' outcome.ending after
-  pub journal : IsTold after.journal book book' outcome.journal
+  pub runs : IsRun (alone_of rules texts goal allowance steps) wanted out out' err err' result.ending after
+  pub journal : IsTold after.journal book book' result.journal

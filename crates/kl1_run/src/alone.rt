@@ -15,7 +15,7 @@ use std::alloc::Global;
 
 /// How work on an account of its own ended.
 #[derive(Drop)]
-pub struct Outcome {
+pub struct RunResult {
     /// How the goal's shoen stands, or why the work was not done to its end.
     pub ending: Result<Ending, Stop>,
     /// Why the journal was not written to its end, if it was not.
@@ -49,7 +49,7 @@ pub fn run_alone<T: Watch, W: Sink, E: Sink, J: Sink>(
     out: &mut W,
     err: &mut E,
     journal: &mut Option<J>,
-) -> Outcome
+) -> RunResult
     ensures runs { RunsAlone rules (texts_of work.files.items) work.goal work.allowance work.steps wanted (seen W.contents W.failures out.old) (seen W.contents W.failures out.new) (seen E.contents E.failures err.old) (seen E.contents E.failures err.new) (seen_if J.contents J.failures journal.old) (seen_if J.contents J.failures journal.new) result }
     ensures follows { Follows (alone_of rules (texts_of work.files.items) work.goal work.allowance) work.steps (T.told watch.old) (T.told watch.new) }
 {
@@ -69,7 +69,7 @@ pub fn run_alone<T: Watch, W: Sink, E: Sink, J: Sink>(
                     let told = write_journal(alloc, &world, journal);
                     // This is called for the fact that it proves: some reading fits the names.
                     world.shows_names(0);
-                    Outcome {
+                    RunResult {
                         ending,
                         journal: told,
                     }
@@ -82,10 +82,10 @@ pub fn run_alone<T: Watch, W: Sink, E: Sink, J: Sink>(
 }
 
 /// Memory was refused before anything was done.
-fn no_memory() -> Outcome
+fn no_memory() -> RunResult
     ensures { result ≡ record { ending = Err stop.Memory; journal = Err stop.Memory } }
 {
-    Outcome {
+    RunResult {
         ending: Err(Stop::Memory),
         journal: Err(Stop::Memory),
     }

@@ -1,6 +1,6 @@
 // What is done for each task.
 
-use crate::alone::{Outcome, run_alone};
+use crate::alone::{RunResult, run_alone};
 use crate::asked::{Asked, Task, USAGE};
 use crate::fault::{BAD, Fault};
 use crate::files::{journal_file, read_each};
@@ -106,7 +106,7 @@ fn run_goal(
         allowance: asked.allowance,
         steps: asked.steps,
     };
-    let Outcome {
+    let RunResult {
         ending,
         journal: told,
     } = run_alone(

@@ -7,3 +7,4 @@ pub mod Writes
 pub mod Checks
 pub mod JournalPages
 pub mod Followed
+pub mod Unbooked

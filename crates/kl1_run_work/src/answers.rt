@@ -10,7 +10,7 @@ use crate::asked::ask;
 use crate::ending::Ending;
 use crate::reports::{Reported, reported_by};
 use crate::wanted::Wanted;
-use kl1_command::Host;
+use kl1_command::UnbookedHost;
 use kl1_model::Condition;
 use kl1_user_events::{Query, Reply, ShoenNo};
 use std::alloc::{AllocError, Global};
@@ -50,7 +50,11 @@ fn shown_in(alloc: Global, reply: Reply) -> Vec<u8>
 }
 
 /// A shoen's goal as started, with what is bound now, as a reply shows it.
-fn shown_text<H: Host>(alloc: Global, host: &mut H, shoen: ShoenNo) -> Result<Vec<u8>, AllocError>
+fn shown_text<H: UnbookedHost>(
+    alloc: Global,
+    host: &mut H,
+    shoen: ShoenNo,
+) -> Result<Vec<u8>, AllocError>
     ensures text { IfOk result (λ text. (f : H.Reading) → H.fits host.new f → text.items ≡ shown_text (H.kept f host.new).state shoen.0) }
     ensures same { (f : H.Reading) → H.fits host.new f → H.kept f host.new ≡ H.kept f host.old }
     ensures before { (f : H.Reading) → H.fits host.new f → H.fits host.old f }
@@ -61,7 +65,7 @@ fn shown_text<H: Host>(alloc: Global, host: &mut H, shoen: ShoenNo) -> Result<Ve
 }
 
 /// That goal whole, or as a reply shows it.
-fn value_text<H: Host>(
+fn value_text<H: UnbookedHost>(
     alloc: Global,
     host: &mut H,
     shoen: ShoenNo,
@@ -82,7 +86,7 @@ fn value_text<H: Host>(
 }
 
 /// Its line.
-fn value_line<H: Host>(
+fn value_line<H: UnbookedHost>(
     alloc: Global,
     host: &mut H,
     shoen: ShoenNo,
@@ -149,7 +153,11 @@ fn ending_in(is_quiet: bool, raised: bool, reply: &Reply) -> Ending
 }
 
 /// How a shoen stands, by whether there were exceptions.
-fn ending_of<H: Host>(host: &mut H, shoen: ShoenNo, raised: bool) -> Result<Ending, AllocError>
+fn ending_of<H: UnbookedHost>(
+    host: &mut H,
+    shoen: ShoenNo,
+    raised: bool,
+) -> Result<Ending, AllocError>
     ensures ending { IfOk result (λ ending. (f : H.Reading) → H.fits host.new f → ending ≡ ending_of (H.kept f host.new).state shoen.0 raised) }
     ensures same { (f : H.Reading) → H.fits host.new f → H.kept f host.new ≡ H.kept f host.old }
     ensures before { (f : H.Reading) → H.fits host.new f → H.fits host.old f }
@@ -161,7 +169,7 @@ fn ending_of<H: Host>(host: &mut H, shoen: ShoenNo, raised: bool) -> Result<Endi
 }
 
 /// What is told of a shoen, as it is wanted. Nothing changes.
-pub fn answers_of<H: Host>(
+pub fn answers_of<H: UnbookedHost>(
     alloc: Global,
     host: &mut H,
     shoen: ShoenNo,

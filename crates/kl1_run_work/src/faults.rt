@@ -4,7 +4,7 @@ ghost use Rattle.std.specs.Prelude.{◌≡◌, ◌++◌, length, take, OnOk, OnE
 ghost use Rattle.kl1_user_events.specs.Views.{refusal_of};
 ghost use Rattle.kl1_run_work.specs.Faults.{line_of, words_of, fault_line};
 
-use itoa::Buffer;
+use kl1_lines::put_decimal;
 use kl1_user_events::Refusal;
 use std::alloc::AllocError;
 
@@ -66,10 +66,9 @@ fn put_each(out: &mut Vec<u8>, name: &[u8], refusal: Refusal) -> Result<(), Allo
     ensures ok { OnOk result (out.new.items ≡ out.old.items ++ fault_line name.now (refusal_of refusal)) }
     ensures kept { take (length out.old.items) out.new.items ≡ out.old.items }
 {
-    let mut buffer = Buffer::new();
     out.extend_from_slice(name)?;
     out.extend_from_slice(b":")?;
-    out.extend_from_slice(buffer.format(line_of(refusal)).as_bytes())?;
+    put_decimal(out, line_of(refusal))?;
     out.extend_from_slice(b": ")?;
     out.extend_from_slice(words_of(refusal))?;
     out.extend_from_slice(b"\n")

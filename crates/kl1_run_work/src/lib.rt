@@ -24,7 +24,7 @@ pub use checked::{fault_in, put_checked};
 pub use ending::Ending;
 pub use faults::{put_fault, words_of};
 pub use journal::put_journal;
-pub use kl1_command::Host;
+pub use kl1_command::{Host, UnbookedHost};
 pub use kl1_lines::{DeviceFailed, FailureCounter, Sink};
 pub use kl1_model::limits::{MOST_ALLOWANCE, MOST_SOURCE_BYTES, MOST_STEPS};
 pub use kl1_read::{ReadFault, read_goal};

@@ -7,9 +7,10 @@ ghost use Rattle.kl1_user_events.specs.Views.{refusal_of, reply_of};
 ghost use Rattle.kl1_command.specs.Performing.{refusal_in};
 ghost use Rattle.kl1_run_work.specs.Works.{texts_of, loaded_from, IsLoaded};
 
+use crate::asked::apply;
 use crate::source_file::SourceFile;
 use crate::stop::Stop;
-use kl1_command::Host;
+use kl1_command::UnbookedHost;
 use kl1_user_events::{Event, Refusal, Reply};
 use std::alloc::{AllocError, Global};
 
@@ -35,21 +36,25 @@ pub(crate) fn refusal_in(reply: &Reply) -> Option<Refusal>
 }
 
 /// Loads a source, or answers why it is refused.
-fn load<H: Host>(alloc: Global, host: &mut H, text: &[u8]) -> Result<Option<Refusal>, AllocError>
+fn load<H: UnbookedHost>(
+    alloc: Global,
+    host: &mut H,
+    text: &[u8],
+) -> Result<Option<Refusal>, AllocError>
     ensures kept { IfOk result (λ refused. (f : H.Reading) → H.fits host.new f → (done (H.kept f host.old) (model.load text.now)).kept ≡ H.kept f host.new) }
     ensures refused { IfOk result (λ refused. (f : H.Reading) → H.fits host.new f → refusal_in (done (H.kept f host.old) (model.load text.now)).reply ≡ option_map refusal_of refused) }
     ensures before { (f : H.Reading) → H.fits host.new f → H.fits host.old f }
     ensures beside { H.beside host.new ≡ H.beside host.old }
 {
     let source = Vec::from_slice(alloc, text)?;
-    match host.apply(&Event::Load { source }) {
+    match apply(host, &Event::Load { source }) {
         Ok(reply) => Ok(refusal_in(&reply)),
         Err(error) => Err(error),
     }
 }
 
 /// Loads the sources in order, until one is refused.
-pub(crate) fn load_each<H: Host>(
+pub(crate) fn load_each<H: UnbookedHost>(
     alloc: Global,
     host: &mut H,
     files: &[SourceFile],

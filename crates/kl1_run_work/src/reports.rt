@@ -7,7 +7,7 @@ ghost use Rattle.kl1_user_events.specs.Views.{reply_of};
 ghost use Rattle.kl1_run_work.specs.Answers.{listed_in, is_exception, reports_in, report_lines, exception_lines};
 
 use crate::asked::ask;
-use kl1_command::Host;
+use kl1_command::UnbookedHost;
 use kl1_model::limits::MOST_LISTED;
 use kl1_user_events::{Listed, Query, Reply, ShoenNo};
 use std::alloc::{AllocError, Global};
@@ -78,7 +78,7 @@ fn put_page(texts: &[Vec<u8>], reported: &mut Reported) -> Result<(), AllocError
 }
 
 /// The reports of a shoen from one on, the first being 1: at most 64.
-fn page_from<H: Host>(
+fn page_from<H: UnbookedHost>(
     alloc: Global,
     host: &mut H,
     shoen: ShoenNo,
@@ -96,7 +96,7 @@ fn page_from<H: Host>(
 }
 
 /// The lines of a shoen's reports, and of the exceptions among them.
-pub(crate) fn reported_by<H: Host>(
+pub(crate) fn reported_by<H: UnbookedHost>(
     alloc: Global,
     host: &mut H,
     shoen: ShoenNo,

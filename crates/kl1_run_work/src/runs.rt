@@ -8,7 +8,7 @@ ghost use Rattle.kl1_run_work.specs.Watching.{progress_in, Follows};
 
 use crate::asked::ask;
 use crate::watch::Watch;
-use kl1_command::{Command, Host, Performed, perform};
+use kl1_command::{Command, Performed, UnbookedHost, perform};
 use kl1_user_events::{Query, Reply, ShoenNo};
 use std::alloc::AllocError;
 
@@ -16,7 +16,7 @@ use std::alloc::AllocError;
 const SLICE: u64 = 4_096;
 
 /// Does first steps, at most `steps`. After an `Err` some of them may be done.
-fn run_slice<H: Host>(host: &mut H, steps: u64) -> Result<(), AllocError>
+fn run_slice<H: UnbookedHost>(host: &mut H, steps: u64) -> Result<(), AllocError>
     ensures does { OnOk result ((f : H.Reading) → H.fits host.new f → (run_from steps 0 (H.kept f host.old)).kept ≡ H.kept f host.new) }
     ensures before { (f : H.Reading) → H.fits host.new f → H.fits host.old f }
     ensures beside { H.beside host.new ≡ H.beside host.old }
@@ -50,7 +50,7 @@ fn progress_in(reply: &Reply) -> Option<(u64, u64)>
 }
 
 /// Tells what the shoen was charged, and how many goals are alive in it and below it, if that is due.
-fn tell_progress<H: Host, T: Watch>(
+fn tell_progress<H: UnbookedHost, T: Watch>(
     host: &mut H,
     shoen: ShoenNo,
     watch: &mut T,
@@ -74,7 +74,7 @@ fn tell_progress<H: Host, T: Watch>(
 }
 
 /// Does first steps, one after another, at most `steps` and until none can step. After an `Err` some of them may be done.
-pub(crate) fn run_watched<H: Host, T: Watch>(
+pub(crate) fn run_watched<H: UnbookedHost, T: Watch>(
     host: &mut H,
     shoen: ShoenNo,
     steps: u64,

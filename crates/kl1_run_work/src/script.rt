@@ -6,7 +6,7 @@ ghost use Rattle.kl1_run_work.specs.Scripts.{load_line, load_lines, goal_lines, 
 ghost use Rattle.kl1_run_work.specs.Works.{texts_of};
 
 use crate::source_file::SourceFile;
-use itoa::Buffer;
+use kl1_lines::put_decimal;
 use kl1_term::{Term, put_whole};
 use std::alloc::{AllocError, Global};
 
@@ -46,9 +46,8 @@ fn put_loads(files: &[SourceFile], out: &mut Vec<u8>) -> Result<(), AllocError>
 fn put_load(text: &[u8], out: &mut Vec<u8>) -> Result<(), AllocError>
     ensures { OnOk result (out.new.items ≡ out.old.items ++ load_line text.now) }
 {
-    let mut buffer = Buffer::new();
     out.extend_from_slice(b"me load ")?;
-    out.extend_from_slice(buffer.format(text.len()).as_bytes())?;
+    put_decimal(out, text.len() as u64)?;
     out.extend_from_slice(b"\n")?;
     out.extend_from_slice(text)?;
     out.extend_from_slice(b"\n")
@@ -64,9 +63,8 @@ fn put_goal(
 ) -> Result<(), AllocError>
     ensures { OnOk result (out.new.items ≡ out.old.items ++ goal_lines goal.now allowance steps) }
 {
-    let mut buffer = Buffer::new();
     out.extend_from_slice(b"me start ")?;
-    out.extend_from_slice(buffer.format(allowance).as_bytes())?;
+    put_decimal(out, allowance)?;
     out.extend_from_slice(b" 0 4095 ")?;
     put_whole(alloc, out, goal)?;
     put_run(steps, out)
@@ -76,9 +74,8 @@ fn put_goal(
 fn put_run(steps: u64, out: &mut Vec<u8>) -> Result<(), AllocError>
     ensures { OnOk result (out.new.items ≡ out.old.items ++ run_lines steps) }
 {
-    let mut buffer = Buffer::new();
     out.extend_from_slice(b"\nme run ")?;
-    out.extend_from_slice(buffer.format(steps).as_bytes())?;
+    put_decimal(out, steps)?;
     out.extend_from_slice(b"\n")
 }
 

@@ -14,7 +14,7 @@ use crate::stop::Stop;
 use crate::wanted::Wanted;
 use crate::watch::Watch;
 use crate::works::{Work, do_work};
-use kl1_command::Host;
+use kl1_command::UnbookedHost;
 use kl1_lines::{DeviceFailed, Sink, finish, write_all};
 use std::alloc::Global;
 
@@ -34,7 +34,7 @@ fn write_value<W: Sink>(answers: &Answers, wanted: Wanted, out: &mut W) -> Resul
 
 /// Does the work, and writes what is told of the goal's shoen: its value, whole if that is wanted, and its reports if they
 /// are wanted, to the first stream, and its exceptions to the second.
-pub fn run<H: Host, T: Watch, W: Sink, E: Sink>(
+pub fn run<H: UnbookedHost, T: Watch, W: Sink, E: Sink>(
     alloc: Global,
     host: &mut H,
     work: Work,

@@ -7,9 +7,10 @@ ghost use Rattle.kl1_model_server.specs.Journal.{done};
 ghost use Rattle.kl1_user_events.specs.Views.{reply_of};
 ghost use Rattle.kl1_run_work.specs.Works.{opened_in, IsStarted};
 
+use crate::asked::apply;
 use crate::loads::refusal_in;
 use crate::stop::Stop;
-use kl1_command::Host;
+use kl1_command::UnbookedHost;
 use kl1_model::limits::MOST_PRIORITY;
 use kl1_term::Term;
 use kl1_user_events::{Event, Refusal, Reply, ShoenNo};
@@ -36,7 +37,11 @@ fn opened_in(reply: &Reply) -> Option<ShoenNo>
 }
 
 /// Starts a goal with an allowance and all priorities, and answers the number of its shoen.
-pub(crate) fn start<H: Host>(host: &mut H, goal: Term, allowance: u64) -> Result<ShoenNo, Stop>
+pub(crate) fn start<H: UnbookedHost>(
+    host: &mut H,
+    goal: Term,
+    allowance: u64,
+) -> Result<ShoenNo, Stop>
     ensures does { (f : H.Reading) → H.fits host.new f → IsStarted (done (H.kept f host.old) (model.start allowance 0 MOST_PRIORITY goal)) result (H.kept f host.new) }
     ensures before { (f : H.Reading) → H.fits host.new f → H.fits host.old f }
     ensures beside { H.beside host.new ≡ H.beside host.old }
@@ -47,7 +52,7 @@ pub(crate) fn start<H: Host>(host: &mut H, goal: Term, allowance: u64) -> Result
         high: MOST_PRIORITY,
         goal,
     };
-    match host.apply(&event) {
+    match apply(host, &event) {
         Ok(reply) => match opened_in(&reply) {
             Some(shoen) => Ok(shoen),
             None => Err(Stop::Goal(refusal_in(&reply).unwrap_or(Refusal::Syntax))),

@@ -13,7 +13,7 @@ use crate::source_file::SourceFile;
 use crate::starts::start;
 use crate::stop::Stop;
 use crate::watch::Watch;
-use kl1_command::Host;
+use kl1_command::UnbookedHost;
 use kl1_term::Term;
 use kl1_user_events::ShoenNo;
 use std::alloc::Global;
@@ -33,7 +33,7 @@ pub struct Work {
 
 /// Loads the sources in order, starts the goal with all priorities, and does first steps until none can step or all are done.
 /// Answers the number of the goal's shoen.
-pub fn do_work<H: Host, T: Watch>(
+pub fn do_work<H: UnbookedHost, T: Watch>(
     alloc: Global,
     host: &mut H,
     work: Work,
@@ -57,7 +57,7 @@ pub fn do_work<H: Host, T: Watch>(
 }
 
 /// Starts a goal with an allowance and all priorities, and does first steps until none can step or all are done.
-fn start_and_run<H: Host, T: Watch>(
+fn start_and_run<H: UnbookedHost, T: Watch>(
     host: &mut H,
     goal: Term,
     allowance: u64,

@@ -8,8 +8,7 @@ use Rattle.kl1_model_server.specs.Journal.{Entry, entry_step}
 use Rattle.kl1_model_server.specs.JournalText.{entry_in}
 use Rattle.kl1_model_server.specs.Replay.{written_entries, written_fault}
 use Rattle.kl1_model_server.proofs.ReplayReplies.{written_step, written_entry}
-use Rattle.kl1_script.specs.Fronts.{if_accepted, accepted_in, first_entries}
-use Rattle.kl1_script.specs.Steps.{told_of}
+use Rattle.kl1_script.specs.Replays.{if_accepted, accepted_in}
 
 not_refused : (v : Bool) (y x : Transition) → (if v then None else Some y) ≡ Some x → v ≡ false
 not_refused true y x e = cc
@@ -42,15 +41,6 @@ entry_fault next k s (Some e) h = rw (refused (is_refused (entry_step s e).reply
 -- a line that is no entry's, or whose entry is refused
 pub one_fault : (k n : ℕ) (s : State) (line : List ℕ) (lines : List (List ℕ)) (rest : List ℕ) → accepted_in s line ≡ None → written_entries k n s (line ∷ lines) rest ≡ written_fault k
 one_fault k n s line lines rest h = entry_fault (λ after. written_entries (suc k) (suc n) after lines rest) k s (entry_in line) h
-
--- so what is told of an entry is the front of what is written
-pub told_front : (k n : ℕ) (s : State) (line : List ℕ) (lines : List (List ℕ)) (rest : List ℕ) (o : Option Transition) → accepted_in s line ≡ o → (others : List ℕ) × (told_of o ++ others ≡ written_entries k n s (line ∷ lines) rest)
-told_front k n s line lines rest None h = (written_entries k n s (line ∷ lines) rest, refl)
-told_front k n s line lines rest (Some x) h = (written_entries (suc k) (suc n) x.state lines rest, sym (one_accepted k n s line lines rest x h))
-
--- the entry is one of the first
-pub one_first : (m : ℕ) (s : State) (line : List ℕ) (lines : List (List ℕ)) (x : Transition) → accepted_in s line ≡ Some x → first_entries (suc m) s (line ∷ lines) ≡ written_lines (reply_lines x.reply) ++ first_entries m x.state lines
-one_first m s line lines x h = rw h refl
 
 -- a line that is no entry's
 pub no_entry : (s : State) (line : List ℕ) (found : Option Entry) → found ≡ entry_in line → found ≡ None → accepted_in s line ≡ None

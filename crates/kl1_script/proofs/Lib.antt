@@ -1,9 +1,9 @@
-pub mod Names
+pub mod AccountNames
 pub mod Others
 pub mod Worlds
-pub mod Progress
 pub mod Endings
+pub mod RecordReplies
 pub mod NewNames
 pub mod LinesOfNames
 pub mod Accepted
-pub mod ReplayEndings
+pub mod EntryReplies

@@ -1,18 +1,18 @@
 -- How the lines of names go on, and end.
 use Rattle.std.proofs.Common.{◌≡◌, ℕ, zero, suc, ◌+◌, Bool, true, false, List, [], ◌∷◌, ◌++◌, Option, Some, None, refl, ap, ◌∙◌, if◌then◌else◌}
 use Rattle.kl1_model.specs.declared.rules.Rules.{Rules}
-use Rattle.kl1_model_server.specs.JournalText.{Lines, Heading, name_in, is_new_name, heading_in, lines_of}
+use Rattle.kl1_model_server.specs.JournalText.{Lines, name_in, is_new_name}
 use Rattle.kl1_model_server.specs.Replay.{written_names, written_fault}
 use Rattle.kl1_model_server.proofs.ReplayReplies.{written_name}
 use Rattle.kl1_journal_entries.specs.Reading.{with_line}
-use Rattle.kl1_script.specs.Fronts.{first_name, first_names, first_after, first_lines, front_of}
+use Rattle.kl1_script.specs.Replays.{name_replies}
 use Rattle.kl1_script.specs.Names.{GoesOn, EndsAt}
 
 -- no line is read yet
 pub goes_none : (count more j : ℕ) (names : List (List ℕ)) (ls : Lines) → more ≡ count → j ≡ 2 → names ≡ [] → GoesOn count 2 [] ls more j names ls
 goes_none count more j names ls e two none = record {
   written = λ rules sessions. rw (e, two, none) refl;
-  first = λ n rules sessions. rw (e, none) refl;
+  replies = λ rules sessions. rw (e, none) refl;
 }
 
 -- a line with a name that may follow
@@ -35,14 +35,14 @@ old_written less j rules sessions names t line ls named old =
 pub goes_more : (count : ℕ) (text : Lines) (more less j after : ℕ) (names others : List (List ℕ)) (t line : List ℕ) (ls rest : Lines) → GoesOn count 2 [] text more j names ls → more ≡ suc less → after ≡ suc j → others ≡ names ++ t ∷ [] → ls ≡ with_line line rest → name_in line ≡ Some t → is_new_name names t ≡ true → GoesOn count 2 [] text less after others rest
 goes_more count text more less j after names others t line ls rest g some next added is named new = record {
   written = λ rules sessions. g.written rules sessions ∙ rw (some, next, added, is) (name_written less j rules sessions names t line rest named new);
-  first = λ n rules sessions. g.first n rules sessions ∙ rw (some, added, is, named, new) refl;
+  replies = λ rules sessions. g.replies rules sessions ∙ rw (some, added, is, named, new) refl;
 }
 
 -- all lines are read
 pub goes_all : (count : ℕ) (text : Lines) (more j : ℕ) (names : List (List ℕ)) (rest : Lines) → GoesOn count 2 [] text more j names rest → more ≡ 0 → j ≡ 2 + count → GoesOn count 2 [] text 0 (2 + count) names rest
 goes_all count text more j names rest g none last = record {
   written = λ rules sessions. g.written rules sessions ∙ rw (none, last) refl;
-  first = λ n rules sessions. g.first n rules sessions ∙ rw none refl;
+  replies = λ rules sessions. g.replies rules sessions ∙ rw none refl;
 }
 
 -- there is no line more
@@ -56,28 +56,3 @@ ends_nameless count text more less j line names bytes ls rest g some same is nam
 -- a line has a name that may not follow
 pub ends_old : (count : ℕ) (text : Lines) (more less j line : ℕ) (names : List (List ℕ)) (t bytes : List ℕ) (ls rest : Lines) → GoesOn count 2 [] text more j names ls → more ≡ suc less → line ≡ j → ls ≡ with_line bytes rest → name_in bytes ≡ Some t → is_new_name names t ≡ false → EndsAt count text line
 ends_old count text more less j line names t bytes ls rest g some same is named old = λ rules sessions. g.written rules sessions ∙ rw (some, same, is) (old_written less j rules sessions names t bytes rest named old)
-
-either_none : (v : Bool) (xs : List ℕ) → xs ≡ [] → (if v then xs else []) ≡ []
-either_none true xs e = e
-either_none false xs e = refl
-
-no_name : (next : List (List ℕ) → List ℕ) (names : List (List ℕ)) (o : Option (List ℕ)) → ((more : List (List ℕ)) → next more ≡ []) → first_name next names o ≡ []
-no_name next names None h = refl
-no_name next names (Some t) h = either_none (is_new_name names t) (next (names ++ t ∷ [])) (h (names ++ t ∷ []))
-
--- for no entry nothing is written
-pub no_first : (count : ℕ) (rules : Rules) (sessions : ℕ) (names lines : List (List ℕ)) → first_names 0 count rules sessions names lines ≡ []
-no_first zero rules sessions names lines = refl
-no_first (suc count) rules sessions names [] = refl
-no_first (suc count) rules sessions names (line ∷ lines) = no_name (λ more. first_names 0 count rules sessions more lines) names (name_in line) (λ more. no_first count rules sessions more lines)
-
-no_after : (h : Option Heading) (lines : List (List ℕ)) → first_after 0 h lines ≡ []
-no_after None lines = refl
-no_after (Some h) lines = no_first h.names h.rules h.sessions [] lines
-
-no_lines : (lines : List (List ℕ)) → first_lines 0 lines ≡ []
-no_lines [] = refl
-no_lines (line ∷ lines) = no_after (heading_in line) lines
-
-pub no_front : (text : List ℕ) → front_of 0 text ≡ []
-no_front text = no_lines (lines_of text).whole

@@ -1,7 +1,6 @@
 pub mod Accounts
 pub mod Alone
 pub mod Scripts
-pub mod Fronts
 pub mod Replays
 pub mod Steps
 pub mod Names

@@ -4,14 +4,14 @@ use Rattle.kl1_model.specs.declared.rules.Rules.{Rules}
 use Rattle.kl1_model_server.specs.JournalText.{Lines, lines_of}
 use Rattle.kl1_model_server.specs.Replay.{written_names, written_fault}
 use Rattle.kl1_user.specs.Accounts.{IsNameList}
-use Rattle.kl1_script.specs.Fronts.{first_names}
+use Rattle.kl1_script.specs.Replays.{name_replies}
 use Rattle.kl1_script.specs.declared.names.Named.{Named}
 use Rattle.kl1_script.specs.declared.names.Named.TheVariants as named
 
 -- after names, `count` lines of names from line k on go on as `more` lines of names from line j on after others
 pub record GoesOn (count k : ℕ) (names : List (List ℕ)) (ls : Lines) (more j : ℕ) (others : List (List ℕ)) (rest : Lines) : Type 0 where
   pub written : (rules : Rules) (sessions : ℕ) → written_names count k rules sessions names ls.whole ls.rest ≡ written_names more j rules sessions others rest.whole rest.rest
-  pub first : (n : ℕ) (rules : Rules) (sessions : ℕ) → first_names n count rules sessions names ls.whole ≡ first_names n more rules sessions others rest.whole
+  pub replies : (rules : Rules) (sessions : ℕ) → name_replies count rules sessions names ls.whole ≡ name_replies more rules sessions others rest.whole
 
 -- `count` lines of names end in the fault of a line
 abbrev pub EndsAt : ℕ → Lines → ℕ → Type 0

@@ -1,65 +1,67 @@
--- What a replay's run reads and writes.
-use Rattle.std.specs.Prelude.{◌≡◌, ℕ, ◌<◌, List, ◌++◌, Ok, Err}
-use Rattle.std.specs.declared.option.Option.{Option}
-use Rattle.std.specs.declared.result.Result.{Result}
-use Rattle.std.specs.Io.KnownBytes.{Appends}
-use Rattle.kl1_model_server.specs.Replay.{replay_output}
-use Rattle.kl1_lines.specs.Devices.{IsLeft, IsWhole, AppendsFront, PassesOn}
-use Rattle.kl1_lines.specs.declared.script_fault.ScriptFault.{ScriptFault}
-use Rattle.kl1_lines.specs.declared.script_fault.ScriptFault.TheVariants as faults
-use Rattle.kl1_script.specs.Fronts.{front_of}
+-- What is written for the text of a journal, entry by entry.
+use Rattle.std.specs.Prelude.{ℕ, zero, suc, if◌then◌else◌, List, [], ◌∷◌, ◌++◌, Option, Some, None, option_and_then}
+use Rattle.kl1_model.specs.declared.rules.Rules.{Rules}
+use Rattle.kl1_model.specs.State.{State, fresh_with}
+use Rattle.kl1_model.specs.Event.{Transition, is_refused}
+use Rattle.kl1_model_server.specs.Command.{reply_lines, written_lines}
+use Rattle.kl1_model_server.specs.Journal.{entry_step}
+use Rattle.kl1_model_server.specs.JournalText.{Heading, Lines, entry_in, name_in, is_new_name, heading_in, lines_of}
+use Rattle.kl1_model_server.specs.Replay.{replay_name, written_fault, written_rest}
+use Rattle.kl1_lines.specs.Replies.{Written}
 
--- a text was read to its end, and what is written for its replay was written, and nothing else
-pub record Answered (read left : Option (List ℕ)) (old new : Option (List ℕ)) : Type 0 where
-  pub text : List ℕ
-  pub whole : IsWhole read left text
-  pub written : Appends old new (replay_output text)
+-- what became of an event or an entry, if it is accepted
+abbrev pub if_accepted : Transition → Option Transition
+if_accepted x = if is_refused x.reply then None else Some x
 
--- of a text that was to be read, the replies to its first entries were written, and nothing else
-pub record StopsBefore (read : Option (List ℕ)) (old new : Option (List ℕ)) : Type 0 where
-  pub text : List ℕ
-  pub left : IsLeft read text
-  pub count : ℕ
-  pub written : Appends old new (front_of count text)
+-- what became of the entry of a line, if it is one and is accepted
+abbrev pub accepted_in : State → List ℕ → Option Transition
+accepted_in s line = option_and_then (λ e. if_accepted (entry_step s e)) (entry_in line)
 
--- of a text that was to be read, what is written for its replay was written up to some place
-pub record BreaksOff (read : Option (List ℕ)) (old new : Option (List ℕ)) : Type 0 where
-  pub text : List ℕ
-  pub left : IsLeft read text
-  pub written : AppendsFront old new (replay_output text)
+-- the reply to an entry, with those to the entries after it; nothing if it isn't accepted
+abbrev pub reply_then : (State → List (List ℕ)) → Option Transition → List (List ℕ)
+reply_then next None = [] ∷ []
+reply_then next (Some x) = written_lines (reply_lines x.reply) ∷ next x.state
 
--- how a text that was read ends, if `all` is what is written for it, and `front n` what is written for its first n entries: all is
--- written, and no call failed; or memory was refused after some entries; or a write failed
-abbrev pub Ends : {T : Type 0} → Option (List ℕ) → Option (List ℕ) → ℕ → ℕ → List ℕ → (ℕ → List ℕ) → Result T ScriptFault → Type 0
-Ends old new f g all front (Ok x) = Appends old new all × (g ≡ f)
-Ends old new f g all front (Err faults.Memory) = ((n : ℕ) × Appends old new (front n)) × (g ≡ f)
-Ends old new f g all front (Err faults.Write) = AppendsFront old new all × (f < g)
-Ends old new f g all front (Err faults.Read) = ⊥
-Ends old new f g all front (Err faults.TooLong) = ⊥
+-- the reply to the entry of each line, up to the first that isn't accepted, to which there is none
+abbrev pub entry_replies : State → List (List ℕ) → List (List ℕ)
+entry_replies s [] = []
+entry_replies s (line ∷ lines) = reply_then (λ after. entry_replies after lines) (accepted_in s line)
 
--- how the last bytes are written: all of them, and no call failed; or a write failed
-abbrev pub Finishes : {T : Type 0} → Option (List ℕ) → Option (List ℕ) → ℕ → ℕ → List ℕ → Result T ScriptFault → Type 0
-Finishes old new f g bytes (Ok x) = Appends old new bytes × (g ≡ f)
-Finishes old new f g bytes (Err faults.Memory) = ⊥
-Finishes old new f g bytes (Err faults.Write) = AppendsFront old new bytes × (f < g)
-Finishes old new f g bytes (Err faults.Read) = ⊥
-Finishes old new f g bytes (Err faults.TooLong) = ⊥
+-- what ends the replay after an entry; the fault of line k if that isn't accepted
+abbrev pub end_then : ℕ → (State → List ℕ) → Option Transition → List ℕ
+end_then k next None = written_fault k
+end_then k next (Some x) = next x.state
 
--- how a replay ends whose memory was refused: these bytes were written, or a write failed
-abbrev pub Stops : Option (List ℕ) → Option (List ℕ) → ℕ → ℕ → List ℕ → ScriptFault → Type 0
-Stops old new f g bytes faults.Memory = Appends old new bytes × (g ≡ f)
-Stops old new f g bytes faults.Write = AppendsFront old new bytes × (f < g)
-Stops old new f g bytes faults.Read = ⊥
-Stops old new f g bytes faults.TooLong = ⊥
+-- what ends the replay of lines from line k on, and of the bytes after them, after n entries that led to this account
+abbrev pub entry_end : ℕ → ℕ → State → List (List ℕ) → List ℕ → List ℕ
+entry_end k n s [] rest = written_rest k n rest
+entry_end k n s (line ∷ lines) rest = end_then k (λ after. entry_end (suc k) (suc n) after lines rest) (accepted_in s line)
 
--- why more bytes were not written after those that wait: memory was refused, and those that wait were written; or a write failed
-abbrev pub Fails : Option (List ℕ) → Option (List ℕ) → ℕ → ℕ → List ℕ → List ℕ → ScriptFault → Type 0
-Fails old new f g waiting more faults.Memory = Appends old new waiting × (g ≡ f)
-Fails old new f g waiting more faults.Write = AppendsFront old new (waiting ++ more) × (f < g)
-Fails old new f g waiting more faults.Read = ⊥
-Fails old new f g waiting more faults.TooLong = ⊥
+-- what is written for lines from line k on, after n entries that led to this account
+abbrev pub written_on : ℕ → ℕ → State → Lines → Written
+written_on k n s ls = record { each = entry_replies s ls.whole; last = entry_end k n s ls.whole ls.rest }
 
--- more bytes were put after those that wait, and of all these some were passed on, and the others wait; or that failed
-abbrev pub Passes : {T : Type 0} → Option (List ℕ) → Option (List ℕ) → ℕ → ℕ → List ℕ → List ℕ → List ℕ → Result T ScriptFault → Type 0
-Passes old new f g waiting more left (Ok x) = PassesOn old new (waiting ++ more) left × (g ≡ f)
-Passes old new f g waiting more left (Err fault) = Fails old new f g waiting more fault
+-- how it goes on after a line, if that has a name that may follow the names before it
+abbrev pub after_name : (List (List ℕ) → List (List ℕ)) → List (List ℕ) → Option (List ℕ) → List (List ℕ)
+after_name next names None = []
+after_name next names (Some t) = if is_new_name names t then next (names ++ t ∷ []) else []
+
+-- the replies to the entries after `count` lines of names
+abbrev pub name_replies : ℕ → Rules → ℕ → List (List ℕ) → List (List ℕ) → List (List ℕ)
+name_replies zero rules sessions names lines = entry_replies (fresh_with rules replay_name names sessions) lines
+name_replies (suc count) rules sessions names [] = []
+name_replies (suc count) rules sessions names (line ∷ lines) = after_name (λ more. name_replies count rules sessions more lines) names (name_in line)
+
+-- the replies to the entries of lines after the first, by what that says
+abbrev pub heading_replies : Option Heading → List (List ℕ) → List (List ℕ)
+heading_replies None lines = []
+heading_replies (Some h) lines = name_replies h.names h.rules h.sessions [] lines
+
+-- the replies to the entries of the lines of a journal
+abbrev pub line_replies : List (List ℕ) → List (List ℕ)
+line_replies [] = []
+line_replies (line ∷ lines) = heading_replies (heading_in line) lines
+
+-- the reply to each entry of a journal's text
+abbrev pub replay_replies : List ℕ → List (List ℕ)
+replay_replies text = line_replies (lines_of text).whole

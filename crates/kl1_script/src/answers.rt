@@ -36,6 +36,7 @@ pub(crate) fn put_record<A: AtomSource + Drop, C: CodeSource + Drop>(
     ensures alone { OnOk result ((before : List Asked) → AreAlone accounts.now world.old.0 before → AreAlone accounts.now world.new.0 (before ++ record { name = found.entry.name.now; request = request_of found.entry.request } ∷ [])) }
     ensures reply { OnOk result ((before : List Asked) → AreAlone accounts.now world.old.0 before → out.new.items ≡ out.old.items ++ written_for accounts.now before (record { name = found.entry.name.now; request = request_of found.entry.request })) }
     ensures err { OnErr result (out.new.items ≡ out.old.items) }
+    ensures many { length world.new.0 ≡ length world.old.0 }
 {
     let Some(account) = place_in(accounts, found.name) else {
         return out.extend_from_slice(b"! account\n");

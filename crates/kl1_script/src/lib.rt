@@ -1,13 +1,14 @@
-//! Scripts: what their records do to accounts, and the bytes that are written for them.
+//! Scripts and replays of journals: what their records do to accounts, and the bytes that are written for them.
 #![tactic(auto)]
 
 mod accounts;
 mod answers;
-mod entries;
-mod finishing;
+mod last_lines;
 mod names;
+mod replay_replies;
 mod replayed;
 mod replays;
+mod script_replies;
 mod scripts;
 
 pub use accounts::accounts_in;
@@ -15,5 +16,5 @@ pub use kl1_command::{
     Command, Parsed, Performed, command_in, parse, perform, put_lines, put_reply,
 };
 pub use kl1_lines::{DeviceFailed, FailureCounter, Request, ScriptFault, Sink, Source};
-pub use replays::{replay_over, run_replay};
-pub use scripts::{answer_over, run_script};
+pub use replays::{replay_over, run_replay, run_replay_over};
+pub use scripts::{answer_over, run_script, run_script_over};

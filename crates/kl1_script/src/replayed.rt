@@ -4,10 +4,13 @@ ghost use Rattle.std.specs.Prelude.{◌≡◌, ◌≤◌, [], length, IfOk, OnEr
 ghost use Rattle.kl1_model.specs.declared.limits.TheConstants.{MOST_NAMES};
 ghost use Rattle.kl1_model.specs.State.{fresh_with};
 ghost use Rattle.kl1_model.specs.Step.{step};
+ghost use Rattle.kl1_model_server.specs.Journal.{runs, first_step, entry_step};
 ghost use Rattle.kl1_model_server.specs.Replay.{replay_name};
 ghost use Rattle.kl1_atoms.specs.Names.{AreNames};
 ghost use Rattle.kl1_user_events.specs.Views.{event_of, reply_of};
 ghost use Rattle.kl1_user.specs.Accounts.{Reading, Fits, IsNameList, state_of};
+ghost use Rattle.kl1_script.specs.Replays.{if_accepted};
+ghost use Rattle.kl1_script.specs.Steps.{Went};
 
 use kl1_atoms::AtomSource;
 use kl1_codes::CodeSource;

@@ -1,91 +1,98 @@
 // The replay of a journal, from the bytes of its text to what is written for it.
 
-ghost use Rattle.std.specs.Prelude.{◌≡◌, ◌+◌, ◌<◌, ◌≤◌, ℕ, List, [], length, OnOk, IsErrOf};
-ghost use Rattle.std.specs.Io.KnownBytes.{Consumes};
+ghost use Rattle.std.specs.Prelude.{◌≡◌, ◌+◌, ◌≤◌, [], length};
 ghost use Rattle.kl1_model.specs.declared.limits.TheConstants.{MOST_NAMES, MOST_SCRIPT_BYTES};
 ghost use Rattle.kl1_model.specs.State.{fresh_with};
 ghost use Rattle.kl1_model_server.specs.JournalText.{lines_of};
-ghost use Rattle.kl1_model_server.specs.Replay.{replay_name, replay_output, written_entries, written_names};
+ghost use Rattle.kl1_model_server.specs.Replay.{replay_name, replay_output, written_entries, written_fault, written_names};
 ghost use Rattle.kl1_user.specs.Accounts.{IsNameList};
 ghost use Rattle.kl1_lines.specs.Devices.{ReadsFew};
-ghost use Rattle.kl1_lines.specs.declared.script_fault.ScriptFault.TheVariants as faults;
-ghost use Rattle.kl1_script.specs.Fronts.{first_entries, first_names, front_of};
-ghost use Rattle.kl1_script.specs.Replays.{Answered, BreaksOff, Ends, StopsBefore};
+ghost use Rattle.kl1_lines.specs.Replies.{Ends, Finishes};
+ghost use Rattle.kl1_lines.specs.Runs.{Runs, streams};
+ghost use Rattle.kl1_script.specs.Replays.{entry_replies, name_replies, replay_replies};
 
-use crate::entries::answer_entries;
-use crate::finishing::finish_fault;
+use crate::last_lines::fault_line;
 use crate::names::{Named, names_in};
+use crate::replay_replies::ReplayReplies;
 use crate::replayed::Replayed;
 use kl1_atoms::{AtomSource, AtomTable, SharedAtoms};
 use kl1_codes::{CodeSource, CodeTable, SharedCodes};
 use kl1_journal_entries::{Heading, heading_of, next_line};
-use kl1_lines::{ScriptFault, Sink, Source, read_all};
+use kl1_lines::{ScriptFault, Sink, Source, answer_all, finish_with, read_all};
 use kl1_text::AtomText;
 use kl1_user::Rules;
 use std::alloc::Global;
 use std::sync::Wait;
 
-/// Replays a journal: reads all of its text, and writes the replies to its entries. It may wait when a code is put in.
+/// Replays a journal: reads all of its text, and writes the replies to its entries. It may wait only when a code is put into the table
+/// of codes that it makes: `run_replay_over` does all the rest.
 pub fn run_replay<H: Wait, R: Source, W: Sink>(
     rt: &H,
     alloc: Global,
     source: &mut R,
     sink: &mut W,
 ) -> Result<(), ScriptFault>
-    ensures ok { OnOk result (Answered (R.remaining source.old) (R.remaining source.new) (W.contents sink.old) (W.contents sink.new)) }
-    ensures memory { IsErrOf result faults.Memory → StopsBefore (R.remaining source.old) (W.contents sink.old) (W.contents sink.new) }
-    ensures write { IsErrOf result faults.Write → BreaksOff (R.remaining source.old) (W.contents sink.old) (W.contents sink.new) }
-    ensures read { IsErrOf result faults.Read → W.contents sink.new ≡ W.contents sink.old }
-    ensures too_long { IsErrOf result faults.TooLong → W.contents sink.new ≡ W.contents sink.old }
-    ensures read_many { IsErrOf result faults.TooLong → (bytes : List ℕ) × (length bytes ≡ MOST_SCRIPT_BYTES + 1) × Consumes (R.remaining source.old) (R.remaining source.new) bytes }
-    ensures read_failed { IsErrOf result faults.Read → R.failures source.old < R.failures source.new }
-    ensures read_kept { (IsErrOf result faults.Read → ⊥) → R.failures source.new ≡ R.failures source.old }
-    ensures write_failed { IsErrOf result faults.Write → W.failures sink.old < W.failures sink.new }
-    ensures write_kept { (IsErrOf result faults.Write → ⊥) → W.failures sink.new ≡ W.failures sink.old }
+    ensures runs { Runs replay_output replay_replies (streams R.remaining R.failures W.contents W.failures source.old sink.old) (streams R.remaining R.failures W.contents W.failures source.new sink.new) result }
+    ensures few { ReadsFew (R.remaining source.old) (R.remaining source.new) (MOST_SCRIPT_BYTES + 1) }
+{
+    match CodeTable::new(alloc) {
+        Ok(table) => run_replay_over(alloc, SharedCodes { table: &table, rt }, source, sink),
+        Err(_) => Err(ScriptFault::Memory),
+    }
+}
+
+/// Like `run_replay`, over any source of codes.
+pub fn run_replay_over<C: CodeSource + Drop, R: Source, W: Sink>(
+    alloc: Global,
+    codes: C,
+    source: &mut R,
+    sink: &mut W,
+) -> Result<(), ScriptFault>
+    ensures runs { Runs replay_output replay_replies (streams R.remaining R.failures W.contents W.failures source.old sink.old) (streams R.remaining R.failures W.contents W.failures source.new sink.new) result }
     ensures few { ReadsFew (R.remaining source.old) (R.remaining source.new) (MOST_SCRIPT_BYTES + 1) }
 {
     match read_all(alloc, source) {
-        Ok(text) => answer(rt, alloc, text.as_slice(), sink),
+        Ok(text) => answer(alloc, codes, text.as_slice(), sink),
         Err(fault) => Err(fault),
     }
 }
 
 /// Writes what is written for the text of a journal.
-fn answer<H: Wait, W: Sink>(
-    rt: &H,
+fn answer<C: CodeSource + Drop, W: Sink>(
     alloc: Global,
+    codes: C,
     text: &[u8],
     sink: &mut W,
 ) -> Result<(), ScriptFault>
     requires { length text.now ≤ MOST_SCRIPT_BYTES }
-    ensures { Ends (W.contents sink.old) (W.contents sink.new) (W.failures sink.old) (W.failures sink.new) (replay_output text.now) (λ n. front_of n text.now) result }
+    ensures { Ends (W.contents sink.old) (W.contents sink.new) (W.failures sink.old) (W.failures sink.new) (replay_output text.now) (replay_replies text.now) result }
 {
     let Some((line, rest)) = next_line(text) else {
-        return finish_fault(sink, b"", 1);
+        return finish_fault(sink, 1);
     };
     match heading_of(line) {
-        None => finish_fault(sink, b"", 1),
-        Some(heading) => answer_headed(rt, alloc, heading, rest, sink),
+        None => finish_fault(sink, 1),
+        Some(heading) => answer_headed(alloc, codes, heading, rest, sink),
     }
 }
 
 /// Writes what is written for the text after a journal's first line, by what that says.
-fn answer_headed<H: Wait, W: Sink>(
-    rt: &H,
+fn answer_headed<C: CodeSource + Drop, W: Sink>(
     alloc: Global,
+    codes: C,
     heading: Heading,
     text: &[u8],
     sink: &mut W,
 ) -> Result<(), ScriptFault>
     requires names { heading.names ≤ MOST_NAMES }
     requires small { length text.now ≤ MOST_SCRIPT_BYTES }
-    ensures { Ends (W.contents sink.old) (W.contents sink.new) (W.failures sink.old) (W.failures sink.new) (written_names heading.names 2 heading.rules heading.sessions [] (lines_of text.now).whole (lines_of text.now).rest) (λ n. first_names n heading.names heading.rules heading.sessions [] (lines_of text.now).whole) result }
+    ensures { Ends (W.contents sink.old) (W.contents sink.new) (W.failures sink.old) (W.failures sink.new) (written_names heading.names 2 heading.rules heading.sessions [] (lines_of text.now).whole (lines_of text.now).rest) (name_replies heading.names heading.rules heading.sessions [] (lines_of text.now).whole) result }
 {
     match names_in(alloc, heading.names, text) {
         Ok(Named::All { names, rest }) => {
             answer_shared(
-                rt,
                 alloc,
+                codes,
                 heading.rules,
                 heading.sessions,
                 names.as_slice(),
@@ -93,15 +100,15 @@ fn answer_headed<H: Wait, W: Sink>(
                 sink,
             )
         }
-        Ok(Named::Fault { line }) => finish_fault(sink, b"", line),
+        Ok(Named::Fault { line }) => finish_fault(sink, line),
         Err(_) => Err(ScriptFault::Memory),
     }
 }
 
-/// Writes what is written for the entries whose lines a text has, over a table of names and a table of codes that are made for one account.
-fn answer_shared<H: Wait, W: Sink>(
-    rt: &H,
+/// Writes what is written for the entries whose lines a text has, over a table of names that is made for one account.
+fn answer_shared<C: CodeSource + Drop, W: Sink>(
     alloc: Global,
+    codes: C,
     rules: Rules,
     sessions: u64,
     texts: &[AtomText],
@@ -111,11 +118,8 @@ fn answer_shared<H: Wait, W: Sink>(
     requires list { IsNameList texts.now }
     requires few { length texts.now ≤ MOST_NAMES }
     requires small { length text.now ≤ MOST_SCRIPT_BYTES }
-    ensures { Ends (W.contents sink.old) (W.contents sink.new) (W.failures sink.old) (W.failures sink.new) (written_entries (2 + length texts.now) 0 (fresh_with rules replay_name texts.now sessions) (lines_of text.now).whole (lines_of text.now).rest) (λ n. first_entries n (fresh_with rules replay_name texts.now sessions) (lines_of text.now).whole) result }
+    ensures { Ends (W.contents sink.old) (W.contents sink.new) (W.failures sink.old) (W.failures sink.new) (written_entries (2 + length texts.now) 0 (fresh_with rules replay_name texts.now sessions) (lines_of text.now).whole (lines_of text.now).rest) (entry_replies (fresh_with rules replay_name texts.now sessions) (lines_of text.now).whole) result }
 {
-    let Ok(codes) = CodeTable::new(alloc) else {
-        return Err(ScriptFault::Memory);
-    };
     match AtomTable::new(alloc, 1) {
         Ok((table, mut seats)) => {
             let seat = seats.swap_remove(0);
@@ -123,7 +127,7 @@ fn answer_shared<H: Wait, W: Sink>(
                 alloc,
                 SharedAtoms { table: &table },
                 seat,
-                SharedCodes { table: &codes, rt },
+                codes,
                 rules,
                 sessions,
                 texts,
@@ -153,14 +157,27 @@ pub fn replay_over<A: AtomSource + Drop, C: CodeSource + Drop, W: Sink>(
     requires list { IsNameList texts.now }
     requires few { length texts.now ≤ MOST_NAMES }
     requires small { length text.now ≤ MOST_SCRIPT_BYTES }
-    ensures { Ends (W.contents sink.old) (W.contents sink.new) (W.failures sink.old) (W.failures sink.new) (written_entries (2 + length texts.now) 0 (fresh_with rules replay_name texts.now sessions) (lines_of text.now).whole (lines_of text.now).rest) (λ n. first_entries n (fresh_with rules replay_name texts.now sessions) (lines_of text.now).whole) result }
+    ensures { Ends (W.contents sink.old) (W.contents sink.new) (W.failures sink.old) (W.failures sink.new) (written_entries (2 + length texts.now) 0 (fresh_with rules replay_name texts.now sessions) (lines_of text.now).whole (lines_of text.now).rest) (entry_replies (fresh_with rules replay_name texts.now sessions) (lines_of text.now).whole) result }
 {
-    let first = texts.len() as u64 + 2;
+    let line = texts.len() as u64 + 2;
     match Replayed::new(alloc, rules, sessions, texts, names, seat, codes) {
-        Ok(mut replayed) => {
-            let mut out = Vec::new(alloc);
-            answer_entries(alloc, &mut replayed, first, text, &mut out, sink)
+        Ok(replayed) => {
+            let mut replies = ReplayReplies {
+                alloc,
+                replayed,
+                line,
+                entries: 0,
+                rest: text,
+            };
+            answer_all(alloc, &mut replies, sink)
         }
         Err(_) => Err(ScriptFault::Memory),
     }
+}
+
+/// Writes the line of a fault in the line of this number, before which no entry stands.
+fn finish_fault<W: Sink>(sink: &mut W, line: u64) -> Result<(), ScriptFault>
+    ensures { Finishes (W.contents sink.old) (W.contents sink.new) (W.failures sink.old) (W.failures sink.new) (written_fault line) result }
+{
+    finish_with(sink, b"", fault_line(line).as_slice())
 }

@@ -10,7 +10,7 @@ fn main(rt: HostRuntime) -> ExitCode {
     let mut err = FailureCounter::new(rt.stderr());
     ExitCode::from(match words_in(&rt) {
         Ok(words) => run_server(&rt, rt.alloc(), words.as_slice(), &mut out, &mut err),
-        Err(halt) => stop(halt, &mut err),
+        Err(error) => stop(error, &mut err),
     })
 }
 

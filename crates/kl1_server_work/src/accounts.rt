@@ -4,7 +4,7 @@ ghost use Rattle.std.specs.Prelude.{◌≡◌, ◌<◌, ◌≤◌, length, IfOk,
 ghost use Rattle.kl1_model.specs.declared.limits.TheConstants.{MOST_ACCOUNTS};
 ghost use Rattle.kl1_session.specs.Views.{entries_view};
 ghost use Rattle.kl1_server_work.specs.Files.{NamesAccounts, NamesNone};
-ghost use Rattle.kl1_server_work.specs.declared.startup_error.StartupError.TheVariants as halts;
+ghost use Rattle.kl1_server_work.specs.declared.startup_error.StartupError.TheVariants as errors;
 
 use crate::startup_error::StartupError;
 use kl1_lines::{ScriptFault, Source, read_all};
@@ -14,7 +14,7 @@ use std::alloc::Global;
 /// The accounts with their keys that a file names, which is read to its end.
 pub fn read_accounts<S: Source>(alloc: Global, source: &mut S) -> Result<Vec<Key>, StartupError>
     ensures ok { IfOk result (λ keys. NamesAccounts (S.remaining source.old) (entries_view keys.items)) }
-    ensures bad { IsErrOf result halts.Accounts → S.failures source.new ≡ S.failures source.old → NamesNone (S.remaining source.old) }
+    ensures bad { IsErrOf result errors.Accounts → S.failures source.new ≡ S.failures source.old → NamesNone (S.remaining source.old) }
     ensures some { IfOk result (λ keys. 1 ≤ length keys.items) }
     ensures few { IfOk result (λ keys. length keys.items ≤ MOST_ACCOUNTS) }
 {

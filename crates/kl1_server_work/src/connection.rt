@@ -1,17 +1,25 @@
 // One connection.
 
-ghost use Rattle.std.specs.Prelude.{◌≤◌, length};
+ghost use Rattle.std.specs.Prelude.{◌≤◌, List, [], length};
+ghost use Rattle.kl1_session.specs.Views.{entries_view};
+ghost use Rattle.kl1_session.specs.Conversations.{Done};
+ghost use Rattle.kl1_session.specs.Connections.{Serves};
+ghost use Rattle.kl1_server_work.specs.declared.connection.TheConstants.{PIECE};
 
 use crate::pool_handler::PoolHandler;
 use kl1_lines::{FailureCounter, Sink, Source};
 use kl1_pool::{Pool, PoolIds, Share};
-use kl1_session::{Disconnect, Key};
+use kl1_session::{Disconnect, History, Key};
 use std::alloc::Global;
 use std::net::TcpStream;
 use std::sync::Wait;
+use std::time::Duration;
 
 /// The bytes of one read. They bound what one connection may have read and not yet answered.
-const PIECE: usize = 4_096;
+pub(crate) const PIECE: usize = 4_096;
+
+/// How long a connection may be silent, in seconds: after that its read fails, and its session is closed.
+const MOST_SILENT_SECONDS: u64 = 3_600;
 
 /// Serves one connection, of the accounts of a pool with these keys.
 pub fn serve<'t, S: Source, T: Sink, R: Wait, K: PoolIds>(
@@ -24,10 +32,16 @@ pub fn serve<'t, S: Source, T: Sink, R: Wait, K: PoolIds>(
     share: &mut Share<K>,
 ) -> Disconnect
     requires { length keys.now ≤ K.accounts }
+    ensures { (done : List Done) × Serves (entries_view keys.now) PIECE result (S.remaining source.old) (S.remaining source.new) (T.contents sink.old) (T.contents sink.new) [] done }
 {
-    let mut counter = PoolHandler { rt, pool, share };
+    let mut handler = PoolHandler {
+        rt,
+        pool,
+        share,
+        history: History::new(),
+    };
     let mut buffer = [0u8; PIECE];
-    kl1_session::serve(alloc, source, sink, &mut counter, keys, &mut buffer)
+    kl1_session::serve(alloc, source, sink, &mut handler, keys, &mut buffer)
 }
 
 /// Serves one connection over a socket, and gives the share back.
@@ -42,8 +56,9 @@ pub(crate) fn serve_stream<'t, R: Wait, K: PoolIds>(
     requires { length keys.now ≤ K.accounts }
 {
     let mut share = share;
-    // Replies go out at once. A socket that can't do this serves all the same.
+    // Replies go out at once, and a peer that is gone holds no session for good. A socket that can't do this serves all the same.
     let _ = stream.set_nodelay(true);
+    let _ = stream.set_read_timeout(Some(Duration::from_secs(MOST_SILENT_SECONDS)));
     let mut source = FailureCounter::new(&stream);
     let mut sink = FailureCounter::new(&stream);
     let _ = serve(rt, alloc, &mut source, &mut sink, pool, keys, &mut share);

@@ -60,7 +60,7 @@ where
 {
     match served_by(rt, alloc, words) {
         Ok((accepted, totals)) => tell(alloc, accepted, &totals, out, err),
-        Err(halt) => stop(halt, err),
+        Err(error) => stop(error, err),
     }
 }
 
@@ -85,7 +85,7 @@ fn tell<O: Sink, E: Sink>(
 }
 
 /// Tells why the server doesn't serve, and answers the program's status.
-pub fn stop<E: Sink>(halt: StartupError, err: &mut E) -> u8 {
-    let _ = finish(err, halt.line());
-    halt.status()
+pub fn stop<E: Sink>(error: StartupError, err: &mut E) -> u8 {
+    let _ = finish(err, error.line());
+    error.status()
 }

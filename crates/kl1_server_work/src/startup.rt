@@ -27,11 +27,11 @@ pub struct Startup<'a> {
 }
 
 /// Why a call of the system failed: for want of memory, or else as this says.
-fn halt_of(error: io::Error, halt: StartupError) -> StartupError {
+fn startup_error_of(error: io::Error, otherwise: StartupError) -> StartupError {
     if error.kind() == io::ErrorKind::OutOfMemory {
         StartupError::Memory
     } else {
-        halt
+        otherwise
     }
 }
 
@@ -42,7 +42,7 @@ fn accounts_in<R: Files>(rt: &R, alloc: Global, name: &str) -> Result<Vec<Key>, 
 {
     match File::open(rt, name) {
         Ok(file) => read_accounts(alloc, &mut FailureCounter::new(file)),
-        Err(error) => Err(halt_of(error, StartupError::Accounts)),
+        Err(error) => Err(startup_error_of(error, StartupError::Accounts)),
     }
 }
 
@@ -64,6 +64,6 @@ where
             keys,
             listener,
         }),
-        Err(error) => Err(halt_of(error, StartupError::Listen)),
+        Err(error) => Err(startup_error_of(error, StartupError::Listen)),
     }
 }

@@ -1,9 +1,9 @@
 // The words of the server.
 
-ghost use Rattle.std.specs.Prelude.{◌≡◌, ◌≤◌};
+ghost use Rattle.std.specs.Prelude.{◌≡◌, ◌≤◌, option_map};
 ghost use Rattle.std.specs.List.{list_all};
 ghost use Rattle.kl1_model.specs.Token.{is_digit};
-ghost use Rattle.kl1_server_work.specs.Counts.{count_in};
+ghost use Rattle.kl1_server_work.specs.Counts.{asked, asked_by, count_in};
 ghost use Rattle.kl1_server_work.specs.declared.words.TheConstants.{MOST_ACCEPT, MOST_WORKERS};
 
 use crate::startup_error::StartupError;
@@ -70,7 +70,7 @@ fn command<'a>(alloc: Global) -> Result<Command<'a>, AllocError> {
 }
 
 /// What a refusal of words is for the server.
-fn halt_of(error: Error) -> StartupError {
+fn startup_error_of(error: Error) -> StartupError {
     if error.kind() == ErrorKind::OutOfMemory {
         StartupError::Memory
     } else {
@@ -87,7 +87,7 @@ fn matches_of<'a>(alloc: Global, words: &'a [String]) -> Result<ArgMatches<'a>, 
 pub fn words_in<'a>(alloc: Global, words: &'a [String]) -> Result<Words<'a>, StartupError> {
     let matches = match matches_of(alloc, words) {
         Ok(matches) => matches,
-        Err(error) => return Err(halt_of(error)),
+        Err(error) => return Err(startup_error_of(error)),
     };
     let (Some(file), Some(address), Some(workers), Some(accept)) = (
         matches.get_str("FILE"),
@@ -97,16 +97,26 @@ pub fn words_in<'a>(alloc: Global, words: &'a [String]) -> Result<Words<'a>, Sta
     ) else {
         return Err(StartupError::Usage);
     };
+    match words_of(file, address, workers, accept) {
+        Some(words) => Ok(words),
+        None => Err(StartupError::Usage),
+    }
+}
+
+/// What the words FILE, ADDRESS, WORKERS and ACCEPT ask for; `None` if one of the last two is no number that it may be.
+fn words_of<'a>(file: &'a str, address: &'a str, workers: &str, accept: &str) -> Option<Words<'a>>
+    ensures { option_map (λ w. asked w.file.now w.address.now w.workers w.accept) result ≡ asked_by file.now address.now workers.now accept.now }
+{
     match (
         count_in(MOST_WORKERS, workers.as_bytes()),
         count_in(MOST_ACCEPT, accept.as_bytes()),
     ) {
-        (Some(workers), Some(accept)) => Ok(Words {
+        (Some(workers), Some(accept)) => Some(Words {
             file,
             address,
             workers,
             accept,
         }),
-        _ => Err(StartupError::Usage),
+        _ => None,
     }
 }

@@ -13,7 +13,7 @@ pub data Action : Type 0 where
   refuse_login : Action
   log_in : ℕ → Action
   log_out : ℕ → Action
-  perform : ℕ → Action
+  perform : ℕ → Command → Action
 
 -- a login of one who isn't logged in, by the account that was found
 abbrev pub entering : Option ℕ → Action
@@ -24,7 +24,7 @@ entering (Some n) = log_in n
 abbrev pub doing : ℕ → Command → Action
 doing n (does event.login) = refuse_login
 doing n (does event.logout) = log_out n
-doing n c = perform n
+doing n c = perform n c
 
 -- what becomes of an input of `visitor`, who is logged in to the account with that number, or to none
 abbrev pub action_of : List Entry → Option ℕ → Input → Action

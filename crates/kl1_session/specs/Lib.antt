@@ -7,3 +7,6 @@ pub mod Views
 pub mod Doors
 pub mod ActionViews
 pub mod Replies
+pub mod Conversations
+pub mod Connections
+pub mod Histories

@@ -15,7 +15,7 @@ use kl1_user_events::{Event, Refusal};
 
 /// What becomes of an input.
 #[derive(Clone, Copy)]
-pub enum Action {
+pub enum Action<'a> {
     /// It is refused for this reason.
     Refuse(Refusal),
     /// It is refused as a login, or since nobody is logged in.
@@ -24,12 +24,12 @@ pub enum Action {
     LogIn(usize),
     /// The session of the account of this number ends.
     LogOut(usize),
-    /// The command is done to the account of this number.
-    Perform(usize),
+    /// This command is done to the account of this number.
+    Perform(usize, &'a Command),
 }
 
 /// What becomes of an input of one who isn't logged in, or who is, to the account of the number `visitor`, from 0.
-pub fn action_of(keys: &[Key], visitor: Option<usize>, input: &Input) -> Action
+pub fn action_of<'a>(keys: &[Key], visitor: Option<usize>, input: &'a Input) -> Action<'a>
     ensures value { action_view result ≡ action_of (entries_view keys.now) visitor (input_view input.now) }
     ensures within { IsVisitor (length keys.now) visitor → IsOfOne (length keys.now) result }
 {
@@ -48,13 +48,13 @@ pub fn action_of(keys: &[Key], visitor: Option<usize>, input: &Input) -> Action
 }
 
 /// What becomes of a command of one who is logged in to the account of this number.
-fn action_by(number: usize, command: &Command) -> Action
+fn action_by(number: usize, command: &Command) -> Action<'_>
     ensures value { action_view result ≡ doing number (command_view command.now) }
     ensures within { (n : ℕ) → number < n → IsOfOne n result }
 {
     match command {
         Command::Does(Event::Login) => Action::RefuseLogin,
         Command::Does(Event::Logout) => Action::LogOut(number),
-        _ => Action::Perform(number),
+        _ => Action::Perform(number, command),
     }
 }

@@ -1,16 +1,24 @@
 // One connection.
 
-ghost use Rattle.std.specs.Prelude.{◌≡◌, ◌<◌, ◌≤◌, ℕ, [], length, OnOk, OnErr};
+ghost use Rattle.std.specs.Prelude.{◌≡◌, ◌<◌, ◌≤◌, ℕ, [], ◌∷◌, length, map, OnOk, OnErr, IsErr, Ok};
 ghost use Rattle.std.specs.Io.KnownBytes.{Appends};
-ghost use Rattle.kl1_lines.specs.Devices.{AppendsFront};
+ghost use Rattle.kl1_lines.specs.Devices.{AppendsFront, PassesOn};
+ghost use Rattle.kl1_model_server.specs.Inputs.{inputs};
+ghost use Rattle.kl1_command.specs.Commands.{command_view};
+ghost use Rattle.kl1_session.specs.Asking.{input_view};
+ghost use Rattle.kl1_session.specs.Views.{entries_view};
+ghost use Rattle.kl1_session.specs.Doors.{action_of, log_in, log_out, perform};
 ghost use Rattle.kl1_session.specs.ActionViews.{IsVisitor};
+ghost use Rattle.kl1_session.specs.Connections.{Serves, Connects, GoesOrEnds, Talks, Tells, Takes, fresh, standing};
 
 use crate::action::{Action, action_of};
-use crate::command_handler::{CommandHandler, put_performed};
+use crate::command_handler::{
+    CommandHandler, is_bye, is_welcome, put_login_refused, put_performed,
+};
 use crate::input::Input;
 use crate::key::Key;
 use crate::session::Session;
-use kl1_command::{Command, Performed, put_reply};
+use kl1_command::{Command, put_reply};
 use kl1_lines::{DeviceFailed, Sink, Source, finish, pass_on};
 use kl1_user_events::{Event, Reply};
 use std::alloc::{AllocError, Global};
@@ -33,10 +41,8 @@ enum Answered {
     All,
     /// Up to a logout.
     Bye,
-    /// Up to one for whose reply memory was refused.
-    Memory,
-    /// Up to one after which a write failed.
-    Write,
+    /// Up to one at which a write failed, or for whose reply memory was refused.
+    Fault,
 }
 
 /// Who is connected.
@@ -58,14 +64,15 @@ pub fn serve<S: Source, T: Sink, D: CommandHandler>(
     buffer: &mut [u8],
 ) -> Disconnect
     requires { length keys.now ≤ D.accounts handler.old }
-    ensures { D.accounts handler.new ≡ D.accounts handler.old }
+    ensures accounts { D.accounts handler.new ≡ D.accounts handler.old }
+    ensures serves { Serves (entries_view keys.now) (length buffer.old) result (S.remaining source.old) (S.remaining source.new) (T.contents sink.old) (T.contents sink.new) (D.done handler.old) (D.done handler.new) }
 {
-    let mut visitor = ConnectionState {
+    let mut state = ConnectionState {
         account: None,
         replies: Vec::new(alloc),
     };
-    let served = converse(alloc, source, sink, handler, keys, buffer, &mut visitor);
-    if let Some(account) = visitor.account {
+    let served = converse(alloc, source, sink, handler, keys, buffer, &mut state);
+    if let Some(account) = state.account {
         let _ = handler.act(account, &Command::Does(Event::Logout));
     }
     served
@@ -79,53 +86,83 @@ fn converse<S: Source, T: Sink, D: CommandHandler>(
     handler: &mut D,
     keys: &[Key],
     buffer: &mut [u8],
-    visitor: &mut ConnectionState,
+    state: &mut ConnectionState,
 ) -> Disconnect
     requires handler { length keys.now ≤ D.accounts handler.old }
-    requires visitor { IsVisitor (length keys.now) visitor.old.account }
+    requires fresh { (state.old.account ≡ None) × (state.old.replies.items ≡ []) }
     ensures handler { D.accounts handler.new ≡ D.accounts handler.old }
-    ensures visitor { IsVisitor (length keys.now) visitor.new.account }
+    ensures visitor { IsVisitor (length keys.now) state.new.account }
+    ensures talk { Connects (entries_view keys.now) (length buffer.old) result [] (S.remaining source.old) (S.remaining source.new) (standing (T.contents sink.old) (D.done handler.old) state.old) (standing (T.contents sink.new) (D.done handler.new) state.new) }
 {
     let mut session = Session::new(alloc);
     for _ in 0..u64::MAX {
-        let Ok(count) = source.read(buffer) else {
-            return Disconnect::Fault;
-        };
-        if count == 0 {
-            return Disconnect::Ended;
-        }
-        let Ok(inputs) = session.feed(&buffer[..count]) else {
-            return Disconnect::Fault;
-        };
-        if let Some(served) = answer_piece(sink, handler, keys, inputs.as_slice(), visitor) {
+        let ended = serve_piece(source, sink, handler, keys, buffer, &mut session, state);
+        if let Some(served) = ended {
             return served;
         }
     }
-    Disconnect::Ended
+    Disconnect::Fault
 }
 
-/// Answers the inputs of a piece and writes the replies; how the connection ended, if it did.
+/// Reads a piece, answers its inputs and writes the replies; answers how the connection ended, if it did.
+fn serve_piece<S: Source, T: Sink, D: CommandHandler>(
+    source: &mut S,
+    sink: &mut T,
+    handler: &mut D,
+    keys: &[Key],
+    buffer: &mut [u8],
+    session: &mut Session,
+    state: &mut ConnectionState,
+) -> Option<Disconnect>
+    requires handler { length keys.now ≤ D.accounts handler.old }
+    requires visitor { IsVisitor (length keys.now) state.old.account }
+    requires empty { state.old.replies.items ≡ [] }
+    requires quiet { inputs session.old ≡ [] }
+    ensures handler { D.accounts handler.new ≡ D.accounts handler.old }
+    ensures visitor { IsVisitor (length keys.now) state.new.account }
+    ensures room { length buffer.new ≡ length buffer.old }
+    ensures talk { GoesOrEnds (entries_view keys.now) (length buffer.old) result session.old session.new (S.remaining source.old) (S.remaining source.new) (standing (T.contents sink.old) (D.done handler.old) state.old) (standing (T.contents sink.new) (D.done handler.new) state.new) }
+{
+    let Ok(count) = source.read(buffer) else {
+        return Some(Disconnect::Fault);
+    };
+    if count == 0 {
+        return Some(Disconnect::Ended);
+    }
+    let Ok(inputs) = session.feed(&buffer[..count]) else {
+        return Some(Disconnect::Fault);
+    };
+    match answer_piece(sink, handler, keys, inputs.as_slice(), state) {
+        Answered::All => None,
+        Answered::Bye => Some(Disconnect::Bye),
+        Answered::Fault => Some(Disconnect::Fault),
+    }
+}
+
+/// Answers the inputs of a piece, and writes all replies.
 fn answer_piece<T: Sink, D: CommandHandler>(
     sink: &mut T,
     handler: &mut D,
     keys: &[Key],
     inputs: &[Input],
-    visitor: &mut ConnectionState,
-) -> Option<Disconnect>
+    state: &mut ConnectionState,
+) -> Answered
     requires handler { length keys.now ≤ D.accounts handler.old }
-    requires visitor { IsVisitor (length keys.now) visitor.old.account }
+    requires visitor { IsVisitor (length keys.now) state.old.account }
     ensures handler { D.accounts handler.new ≡ D.accounts handler.old }
-    ensures visitor { IsVisitor (length keys.now) visitor.new.account }
+    ensures visitor { IsVisitor (length keys.now) state.new.account }
+    ensures talk { Tells (entries_view keys.now) (map input_view inputs.now) result (standing (T.contents sink.old) (D.done handler.old) state.old) (standing (T.contents sink.new) (D.done handler.new) state.new) }
 {
-    let answered = answer_all(sink, handler, keys, inputs, visitor);
-    if let Answered::Write = answered {
-        return Some(Disconnect::Fault);
-    }
-    // What was done is told, also if the connection ends.
-    match (answered, send(sink, &mut visitor.replies)) {
-        (Answered::All, Ok(())) => None,
-        (Answered::Bye, Ok(())) => Some(Disconnect::Bye),
-        _ => Some(Disconnect::Fault),
+    match answer_all(sink, handler, keys, inputs, state) {
+        Answered::All => match send(sink, &mut state.replies) {
+            Ok(()) => Answered::All,
+            Err(_) => Answered::Fault,
+        },
+        Answered::Bye => match send(sink, &mut state.replies) {
+            Ok(()) => Answered::Bye,
+            Err(_) => Answered::Fault,
+        },
+        Answered::Fault => Answered::Fault,
     }
 }
 
@@ -135,29 +172,69 @@ fn answer_all<T: Sink, D: CommandHandler>(
     handler: &mut D,
     keys: &[Key],
     inputs: &[Input],
-    visitor: &mut ConnectionState,
+    state: &mut ConnectionState,
 ) -> Answered
     requires handler { length keys.now ≤ D.accounts handler.old }
-    requires visitor { IsVisitor (length keys.now) visitor.old.account }
+    requires visitor { IsVisitor (length keys.now) state.old.account }
     ensures handler { D.accounts handler.new ≡ D.accounts handler.old }
-    ensures visitor { IsVisitor (length keys.now) visitor.new.account }
+    ensures visitor { IsVisitor (length keys.now) state.new.account }
+    ensures talk { Talks (entries_view keys.now) (map input_view inputs.now) result (standing (T.contents sink.old) (D.done handler.old) state.old) (standing (T.contents sink.new) (D.done handler.new) state.new) }
 {
     for input in inputs {
-        // No reply that is known waits for a long command.
-        if is_run(input) && send(sink, &mut visitor.replies).is_err() {
-            return Answered::Write;
-        }
-        match answer(handler, keys, input, visitor) {
-            Ok(false) => {
-                if pass_on(sink, &mut visitor.replies).is_err() {
-                    return Answered::Write;
-                }
-            }
-            Ok(true) => return Answered::Bye,
-            Err(_) => return Answered::Memory,
+        match answer_next(sink, handler, keys, input, state) {
+            Answered::All => {}
+            Answered::Bye => return Answered::Bye,
+            Answered::Fault => return Answered::Fault,
         }
     }
     Answered::All
+}
+
+/// Answers one input, and writes the replies if they are many, or if the input may take long. What was done before is told, also if
+/// memory is refused.
+fn answer_next<T: Sink, D: CommandHandler>(
+    sink: &mut T,
+    handler: &mut D,
+    keys: &[Key],
+    input: &Input,
+    state: &mut ConnectionState,
+) -> Answered
+    requires handler { length keys.now ≤ D.accounts handler.old }
+    requires visitor { IsVisitor (length keys.now) state.old.account }
+    ensures handler { D.accounts handler.new ≡ D.accounts handler.old }
+    ensures visitor { IsVisitor (length keys.now) state.new.account }
+    ensures talk { Talks (entries_view keys.now) (input_view input.now ∷ []) result (standing (T.contents sink.old) (D.done handler.old) state.old) (standing (T.contents sink.new) (D.done handler.new) state.new) }
+{
+    if send_before(sink, input, &mut state.replies).is_err() {
+        return Answered::Fault;
+    }
+    match answer(handler, keys, input, state) {
+        Ok(true) => Answered::Bye,
+        Ok(false) => match pass_on(sink, &mut state.replies) {
+            Ok(()) => Answered::All,
+            Err(_) => Answered::Fault,
+        },
+        Err(_) => {
+            let _ = send(sink, &mut state.replies);
+            Answered::Fault
+        }
+    }
+}
+
+/// Writes the replies that wait if the next input asks for a run, so that no reply that is known waits for a long command.
+fn send_before<T: Sink>(
+    sink: &mut T,
+    input: &Input,
+    replies: &mut Vec<u8>,
+) -> Result<(), DeviceFailed>
+    ensures sent { OnOk result (PassesOn (T.contents sink.old) (T.contents sink.new) replies.old.items replies.new.items) }
+    ensures front { OnErr result (AppendsFront (T.contents sink.old) (T.contents sink.new) replies.old.items) }
+{
+    if is_run(input) {
+        send(sink, replies)
+    } else {
+        Ok(())
+    }
 }
 
 /// Whether an input asks for a run.
@@ -179,48 +256,72 @@ fn send<T: Sink>(sink: &mut T, replies: &mut Vec<u8>) -> Result<(), DeviceFailed
     written
 }
 
-/// Answers one input, and tells whether it was a logout that was done.
+/// Answers one input, and tells whether it was a logout that was done. After an `Err` the reply isn't put.
 fn answer<D: CommandHandler>(
     handler: &mut D,
     keys: &[Key],
     input: &Input,
-    visitor: &mut ConnectionState,
+    state: &mut ConnectionState,
 ) -> Result<bool, AllocError>
     requires handler { length keys.now ≤ D.accounts handler.old }
-    requires visitor { IsVisitor (length keys.now) visitor.old.account }
+    requires visitor { IsVisitor (length keys.now) state.old.account }
     ensures handler { D.accounts handler.new ≡ D.accounts handler.old }
-    ensures visitor { IsVisitor (length keys.now) visitor.new.account }
+    ensures visitor { IsVisitor (length keys.now) state.new.account }
+    ensures takes { Takes (action_of (entries_view keys.now) state.old.account (input_view input.now)) result (D.done handler.old) (D.done handler.new) state.old state.new }
 {
-    match action_of(keys, visitor.account, input) {
-        Action::Refuse(refusal) => put_reply(&mut visitor.replies, &Reply::Refused(refusal))?,
-        Action::RefuseLogin => visitor.replies.extend_from_slice(b"- 11 login\n")?,
-        Action::LogIn(account) => log_in(handler, account, visitor)?,
-        Action::LogOut(account) => return log_out(handler, account, visitor),
-        Action::Perform(account) => {
-            if let Input::Command(command) = input {
-                let performed = handler.act(account, command);
-                put_performed(&mut visitor.replies, &performed)?;
-            }
-        }
+    match action_of(keys, state.account, input) {
+        Action::Refuse(refusal) => told_as(
+            put_reply(&mut state.replies, &Reply::Refused(refusal)),
+            false,
+        ),
+        Action::RefuseLogin => told_as(put_login_refused(&mut state.replies), false),
+        Action::LogIn(account) => log_in(handler, account, state),
+        Action::LogOut(account) => log_out(handler, account, state),
+        Action::Perform(account, command) => perform(handler, account, command, state),
     }
-    Ok(false)
+}
+
+/// This, if the text was put.
+fn told_as(put: Result<(), AllocError>, is_last: bool) -> Result<bool, AllocError>
+    ensures ok { OnOk put (result ≡ Ok is_last) }
+    ensures err { OnErr put (IsErr result) }
+{
+    put?;
+    Ok(is_last)
+}
+
+/// Does a command to an account, and puts what is told.
+fn perform<D: CommandHandler>(
+    handler: &mut D,
+    account: usize,
+    command: &Command,
+    state: &mut ConnectionState,
+) -> Result<bool, AllocError>
+    requires { account < D.accounts handler.old }
+    ensures handler { D.accounts handler.new ≡ D.accounts handler.old }
+    ensures visitor { state.new.account ≡ state.old.account }
+    ensures takes { Takes (perform account (command_view command.now)) result (D.done handler.old) (D.done handler.new) state.old state.new }
+{
+    let performed = handler.act(account, command);
+    told_as(put_performed(&mut state.replies, &performed), false)
 }
 
 /// Opens a session of an account. If that is refused, the visitor stays out.
 fn log_in<D: CommandHandler>(
     handler: &mut D,
     account: usize,
-    visitor: &mut ConnectionState,
-) -> Result<(), AllocError>
+    state: &mut ConnectionState,
+) -> Result<bool, AllocError>
     requires { account < D.accounts handler.old }
     ensures handler { D.accounts handler.new ≡ D.accounts handler.old }
-    ensures visitor { (n : ℕ) → account < n → IsVisitor n visitor.old.account → IsVisitor n visitor.new.account }
+    ensures visitor { (n : ℕ) → account < n → IsVisitor n state.old.account → IsVisitor n state.new.account }
+    ensures takes { Takes (log_in account) result (D.done handler.old) (D.done handler.new) state.old state.new }
 {
-    let performed = handler.act(account, &Command::Does(Event::Login));
-    if let Performed::Whole(Reply::Welcome(_)) = &performed {
-        visitor.account = Some(account);
+    let answer = handler.act(account, &Command::Does(Event::Login));
+    if is_welcome(&answer) {
+        state.account = Some(account);
     }
-    put_performed(&mut visitor.replies, &performed)
+    told_as(put_performed(&mut state.replies, &answer), false)
 }
 
 /// Closes the session of an account, and tells whether that was done. The visitor is out before the reply is put, so that no session
@@ -228,17 +329,17 @@ fn log_in<D: CommandHandler>(
 fn log_out<D: CommandHandler>(
     handler: &mut D,
     account: usize,
-    visitor: &mut ConnectionState,
+    state: &mut ConnectionState,
 ) -> Result<bool, AllocError>
     requires { account < D.accounts handler.old }
     ensures handler { D.accounts handler.new ≡ D.accounts handler.old }
-    ensures visitor { (n : ℕ) → IsVisitor n visitor.old.account → IsVisitor n visitor.new.account }
+    ensures visitor { (n : ℕ) → IsVisitor n state.old.account → IsVisitor n state.new.account }
+    ensures takes { Takes (log_out account) result (D.done handler.old) (D.done handler.new) state.old state.new }
 {
-    let performed = handler.act(account, &Command::Does(Event::Logout));
-    let is_done = matches!(&performed, Performed::Whole(Reply::Bye));
+    let answer = handler.act(account, &Command::Does(Event::Logout));
+    let is_done = is_bye(&answer);
     if is_done {
-        visitor.account = None;
+        state.account = None;
     }
-    put_performed(&mut visitor.replies, &performed)?;
-    Ok(is_done)
+    told_as(put_performed(&mut state.replies, &answer), is_done)
 }

@@ -1,4 +1,4 @@
-//! What a session is asked, from the bytes that come in, in whatever pieces.
+//! A connection: what its bytes ask for, in whatever pieces they come; who is let in; and what is done and told.
 #![tactic(auto)]
 
 ghost use Rattle.kl1_model_server.specs.laws.InputLaws.{CutsAnywhere, CutsInPieces, InputsCutAnywhere};
@@ -9,6 +9,7 @@ mod connection;
 mod ended;
 mod file;
 mod found;
+mod history;
 mod input;
 mod key;
 pub mod limits;
@@ -21,6 +22,7 @@ pub use command_handler::CommandHandler;
 pub use connection::{Disconnect, serve};
 pub use file::read_keys;
 pub use found::{find, is_same_key};
+pub use history::History;
 pub use input::Input;
 pub use key::Key;
 pub use session::Session;

@@ -183,13 +183,13 @@ took_no_book all v names book = record {
 }
 
 -- an element at a place, in the words of the tables
-there : {X : Type 0} (xs : List X) (i : ℕ) (x : X) → slice_get xs i ≡ Some x → get_elem? xs i ≡ some x
+pub there : {X : Type 0} (xs : List X) (i : ℕ) (x : X) → slice_get xs i ≡ Some x → get_elem? xs i ≡ some x
 there [] i x e = cc
 there (y ∷ xs) zero x e = ap some (let f : y ≡ x = cc in f)
 there (y ∷ xs) (suc i) x e = there xs i x e
 
 -- a sum that isn't 0 has an element that isn't 0
-found : {X : Type 0} (f : X → ℕ) (xs : List X) → 0 < sum_by f xs → (i : ℕ) × (x : X) × (slice_get xs i ≡ Some x) × (0 < f x)
+pub found : {X : Type 0} (f : X → ℕ) (xs : List X) → 0 < sum_by f xs → (i : ℕ) × (x : X) × (slice_get xs i ≡ Some x) × (0 < f x)
 found f [] more = absurd (omega arith)
 found f (x ∷ xs) more = elim (lt_or_le 0 (f x)) [
   | inl here ↦ (0, x, refl, here)

@@ -4,3 +4,4 @@ pub mod Steps
 pub mod Making
 pub mod Raising
 pub mod Adding
+pub mod AddingUp

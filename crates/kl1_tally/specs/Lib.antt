@@ -6,3 +6,4 @@ pub mod Plays
 pub mod Seats
 pub mod Keeping
 pub mod Totals
+pub mod Laws

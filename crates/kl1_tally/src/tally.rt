@@ -11,7 +11,7 @@ use crate::book_seat::BookSeat;
 use crate::law::{Joined, Law, Parted, RaiseEvent, RaiseStep, Sizes};
 use crate::share_seat::ShareSeat;
 use crate::view::View;
-use atomic_table::{Badge, Seat, Table};
+use atomic_table::{Badge, Seat, Shared, Table};
 use std::alloc::{AllocError, Global};
 use std::marker::Model;
 use std::mem;
@@ -36,6 +36,14 @@ impl Model for Tally {
 }
 
 impl Tally {
+    /// The words of the tally. Whoever has them can do what keeps their rule, of which `seats_add_up` speaks, and nothing else.
+    pub fn words(&self) -> &Shared<(), View, Sizes, Law>
+        ensures of { result.now.table_id ≡ self.now.id }
+        ensures sizes { (result.now.key.accounts ≡ self.now.accounts) × (result.now.key.shares ≡ self.now.shares) }
+    {
+        &self.table.shared
+    }
+
     /// Makes two seats one.
     pub(crate) fn join(&self, seat: &mut Seat<(), View>, other: Seat<(), View>)
         requires of { seat.old.table_id ≡ self.now.id }

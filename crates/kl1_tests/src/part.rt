@@ -13,9 +13,9 @@ pub enum Part {
     /// A store with names that are texts.
     Texts,
     /// Names, terms, texts and code, by what is asked of them.
-    Read(kl1_tests_read::Kind),
+    Read(kl1_tests_engine::Kind),
     /// Clauses on goals, by what is asked of them.
-    Match(kl1_tests_read::MatchKind),
+    Match(kl1_tests_engine::MatchKind),
     /// A tree of shoens.
     Tree,
     /// An account that keeps to these rules.
@@ -33,69 +33,81 @@ pub enum Part {
     /// Scripts and what they are made of, by what is asked of them.
     Script(script::Kind),
     /// Sessions, files of accounts and conversations, by what is asked of them.
-    Session(kl1_tests_session::Kind),
+    Session(kl1_tests_account::SessionKind),
 }
 
 /// The parts by the two words that name them at the front of a heading.
 const PARTS: [(&[u8], Part); 66] = [
     (b"store numbers ", Part::Numbers),
     (b"store texts ", Part::Texts),
-    (b"read name ", Part::Read(kl1_tests_read::Kind::Name)),
-    (b"read place ", Part::Read(kl1_tests_read::Kind::Place)),
-    (b"read built_in ", Part::Read(kl1_tests_read::Kind::BuiltIn)),
-    (b"read text_is ", Part::Read(kl1_tests_read::Kind::TextIs)),
+    (b"read name ", Part::Read(kl1_tests_engine::Kind::Name)),
+    (b"read place ", Part::Read(kl1_tests_engine::Kind::Place)),
+    (
+        b"read built_in ",
+        Part::Read(kl1_tests_engine::Kind::BuiltIn),
+    ),
+    (b"read text_is ", Part::Read(kl1_tests_engine::Kind::TextIs)),
     (
         b"read number_is ",
-        Part::Read(kl1_tests_read::Kind::NumberIs),
+        Part::Read(kl1_tests_engine::Kind::NumberIs),
     ),
-    (b"read integer ", Part::Read(kl1_tests_read::Kind::Integer)),
-    (b"read print ", Part::Read(kl1_tests_read::Kind::Print)),
-    (b"read put ", Part::Read(kl1_tests_read::Kind::Put)),
-    (b"read copy ", Part::Read(kl1_tests_read::Kind::Copy)),
+    (
+        b"read integer ",
+        Part::Read(kl1_tests_engine::Kind::Integer),
+    ),
+    (b"read print ", Part::Read(kl1_tests_engine::Kind::Print)),
+    (b"read put ", Part::Read(kl1_tests_engine::Kind::Put)),
+    (b"read copy ", Part::Read(kl1_tests_engine::Kind::Copy)),
     (
         b"read variables ",
-        Part::Read(kl1_tests_read::Kind::Variables),
+        Part::Read(kl1_tests_engine::Kind::Variables),
     ),
-    (b"read depth ", Part::Read(kl1_tests_read::Kind::Depth)),
-    (b"read of_nodes ", Part::Read(kl1_tests_read::Kind::OfNodes)),
-    (b"read nodes ", Part::Read(kl1_tests_read::Kind::Nodes)),
-    (b"read goal ", Part::Read(kl1_tests_read::Kind::Goal)),
-    (b"read module ", Part::Read(kl1_tests_read::Kind::Module)),
-    (b"read items ", Part::Read(kl1_tests_read::Kind::Items)),
-    (b"read clauses ", Part::Read(kl1_tests_read::Kind::Clauses)),
-    (b"read code ", Part::Read(kl1_tests_read::Kind::Code)),
+    (b"read depth ", Part::Read(kl1_tests_engine::Kind::Depth)),
+    (
+        b"read of_nodes ",
+        Part::Read(kl1_tests_engine::Kind::OfNodes),
+    ),
+    (b"read nodes ", Part::Read(kl1_tests_engine::Kind::Nodes)),
+    (b"read goal ", Part::Read(kl1_tests_engine::Kind::Goal)),
+    (b"read module ", Part::Read(kl1_tests_engine::Kind::Module)),
+    (b"read items ", Part::Read(kl1_tests_engine::Kind::Items)),
+    (
+        b"read clauses ",
+        Part::Read(kl1_tests_engine::Kind::Clauses),
+    ),
+    (b"read code ", Part::Read(kl1_tests_engine::Kind::Code)),
     (
         b"read predicate ",
-        Part::Read(kl1_tests_read::Kind::Predicate),
+        Part::Read(kl1_tests_engine::Kind::Predicate),
     ),
-    (b"read sizes ", Part::Read(kl1_tests_read::Kind::Sizes)),
+    (b"read sizes ", Part::Read(kl1_tests_engine::Kind::Sizes)),
     (
         b"read verdict ",
-        Part::Match(kl1_tests_read::MatchKind::Verdict),
+        Part::Match(kl1_tests_engine::MatchKind::Verdict),
     ),
     (
         b"read bound ",
-        Part::Match(kl1_tests_read::MatchKind::Bound),
+        Part::Match(kl1_tests_engine::MatchKind::Bound),
     ),
     (
         b"read places ",
-        Part::Match(kl1_tests_read::MatchKind::Places),
+        Part::Match(kl1_tests_engine::MatchKind::Places),
     ),
     (
         b"read moves ",
-        Part::Match(kl1_tests_read::MatchKind::Moves(Rules::Three)),
+        Part::Match(kl1_tests_engine::MatchKind::Moves(Rules::Three)),
     ),
     (
         b"read second_moves ",
-        Part::Match(kl1_tests_read::MatchKind::Moves(Rules::Two)),
+        Part::Match(kl1_tests_engine::MatchKind::Moves(Rules::Two)),
     ),
     (
         b"read first_moves ",
-        Part::Match(kl1_tests_read::MatchKind::Moves(Rules::One)),
+        Part::Match(kl1_tests_engine::MatchKind::Moves(Rules::One)),
     ),
     (
         b"read built ",
-        Part::Match(kl1_tests_read::MatchKind::Built),
+        Part::Match(kl1_tests_engine::MatchKind::Built),
     ),
     (b"shoen tree ", Part::Tree),
     (b"user one ", Part::One(Rules::One)),
@@ -129,31 +141,31 @@ const PARTS: [(&[u8], Part); 66] = [
     (b"script run ", Part::Script(script::Kind::Run)),
     (
         b"session stream ",
-        Part::Session(kl1_tests_session::Kind::Stream),
+        Part::Session(kl1_tests_account::SessionKind::Stream),
     ),
     (
         b"session file ",
-        Part::Session(kl1_tests_session::Kind::File),
+        Part::Session(kl1_tests_account::SessionKind::File),
     ),
     (
         b"session talk ",
-        Part::Session(kl1_tests_session::Kind::Talk),
+        Part::Session(kl1_tests_account::SessionKind::Talk),
     ),
     (
         b"session faults ",
-        Part::Session(kl1_tests_session::Kind::Faults),
+        Part::Session(kl1_tests_account::SessionKind::Faults),
     ),
     (
         b"session first ",
-        Part::Session(kl1_tests_session::Kind::First),
+        Part::Session(kl1_tests_account::SessionKind::First),
     ),
     (
         b"session client ",
-        Part::Session(kl1_tests_session::Kind::Client),
+        Part::Session(kl1_tests_account::SessionKind::Client),
     ),
     (
         b"session pages ",
-        Part::Session(kl1_tests_session::Kind::Pages),
+        Part::Session(kl1_tests_account::SessionKind::Pages),
     ),
 ];
 

@@ -2,9 +2,9 @@
 
 use crate::part::{Part, part_of};
 use crate::{command, script};
+use kl1_tests_account::Accounts;
+use kl1_tests_engine::Stores;
 use kl1_tests_rows::Tried;
-use kl1_tests_store::Stores;
-use kl1_tests_user::Accounts;
 use std::alloc::Global;
 use std::sync::Wait;
 
@@ -47,19 +47,21 @@ impl<H: Wait> Tried for Parts<'_, H> {
         match self.part {
             Part::Unknown => false,
             Part::Numbers | Part::Texts => self.stores.is_right(act, wanted),
-            Part::Read(kind) => kl1_tests_read::is_right(self.alloc, kind, act, wanted),
-            Part::Match(kind) => kl1_tests_read::is_match_right(self.alloc, kind, act, wanted),
+            Part::Read(kind) => kl1_tests_engine::is_right(self.alloc, kind, act, wanted),
+            Part::Match(kind) => kl1_tests_engine::is_match_right(self.alloc, kind, act, wanted),
             Part::Tree => kl1_tests_goals::is_tree_right(self.alloc, act, wanted),
             Part::One(_) => self.accounts.is_right(self.alloc, act, wanted),
             Part::Again(_) => self.accounts.is_right_again(self.alloc, act, wanted),
-            Part::Published => kl1_tests_user::is_published(self.alloc, act, wanted),
+            Part::Published => kl1_tests_account::is_published(self.alloc, act, wanted),
             Part::World(rules, calls) => {
-                kl1_tests_user::is_world_right(self.alloc, rules, calls, act, wanted)
+                kl1_tests_account::is_world_right(self.alloc, rules, calls, act, wanted)
             }
-            Part::Journal => kl1_tests_user::is_journal(self.alloc, act, wanted),
+            Part::Journal => kl1_tests_account::is_journal(self.alloc, act, wanted),
             Part::Command(kind) => command::is_right(self.alloc, kind, act, wanted),
             Part::Script(kind) => script::is_right(self.rt, self.alloc, kind, act, wanted),
-            Part::Session(kind) => kl1_tests_session::is_right(self.alloc, kind, act, wanted),
+            Part::Session(kind) => kl1_tests_account::is_session_right(
+                self.alloc, kind, act, wanted,
+            ),
         }
     }
 }

@@ -1,13 +1,16 @@
-//! Tries rows and a check on accounts under locks, with threads that command them and workers; and measures workers.
+//! Tries rows and checks on accounts under locks, with threads that command them and workers, and on the server; and measures workers.
 #![tactic(auto)]
 
 mod noted;
+mod pool;
+mod server;
 
 use crate::noted::{Noted, Row};
-use kl1_tests_pool::{is_right, put_checks, put_idle, put_times};
+use crate::pool::{is_right, put_idle, put_times};
 use kl1_tests_rows::{Text, put_check, put_report};
 use std::io;
 use std::io::{Error, ErrorKind, Read, Write};
+use std::net::{Net, TcpListener, TcpStream};
 use std::rt::Clock;
 use std::sync::Wait;
 use std::thread::Threads;
@@ -23,8 +26,11 @@ fn put_rows<R: Threads + Wait + Clock + Sync>(rt: &R, out: &mut Text, rows: &[Ro
     }
 }
 
-/// Tries the rows of a text, and after them the check if the text ends with the heading of checks.
-fn put_tried<R: Threads + Wait + Clock + Sync>(rt: &R, out: &mut Text, text: &[u8]) {
+/// Tries the rows of a text, and after them the checks if the text ends with the heading of checks.
+fn put_tried<R>(rt: &R, out: &mut Text, text: &[u8])
+where
+    R: Net<Listener = TcpListener, Stream = TcpStream> + Threads + Wait + Clock + Sync,
+{
     let mut noted = Noted::new(out.alloc);
     // What this report says of rows that are only noted is of no use.
     let mut report = Text::new(out.alloc);
@@ -35,7 +41,8 @@ fn put_tried<R: Threads + Wait + Clock + Sync>(rt: &R, out: &mut Text, text: &[u
     }
     put_rows(rt, out, noted.rows.as_slice());
     if text.ends_with(CHECKS) {
-        put_checks(rt, out);
+        pool::put_checks(rt, out);
+        server::put_checks(rt, out);
     }
 }
 

@@ -1,4 +1,4 @@
-pub mod Lodgings
+pub mod Seated
 pub mod Steps
 pub mod Runs
 pub mod Makes

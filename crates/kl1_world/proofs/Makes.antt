@@ -11,7 +11,7 @@ use Rattle.kl1_model_server.specs.Journal.{fresh_kept}
 use Rattle.kl1_journal.specs.Keeping.{Reading, Held, kept_of}
 use Rattle.kl1_world.specs.Seating.{AreSeated, AreNewSeats}
 use Rattle.kl1_world.specs.Worlds.{account_in}
-use Rattle.kl1_world.proofs.Lodgings.{accounts_of}
+use Rattle.kl1_world.proofs.Seated.{accounts_of}
 
 -- seats that are left, of which the first stands at this place
 abbrev pub AreSeatsFrom : {T S : Type 0} → (T → S → Type 0) → (S → ℕ × ℕ) → (S → List Known) → T → ℕ → List S → Type 0
@@ -39,9 +39,9 @@ push_last (z ∷ zs) x y zero less e = absurd (omega (arith, less))
 push_last (z ∷ zs) x y (suc k) less e = let h = push_last zs x y k (omega (arith, less)) e in (ap suc h.0, h.1)
 
 -- one account more, with the next seat
-pub lodged_more : {T S : Type 0} (is_of : T → S → Type 0) (place : S → ℕ × ℕ) (has : ℕ × ℕ → Type 0) (names : T) (xs : List (S × Held)) (x : S × Held) →
+pub seated_more : {T S : Type 0} (is_of : T → S → Type 0) (place : S → ℕ × ℕ) (has : ℕ × ℕ → Type 0) (names : T) (xs : List (S × Held)) (x : S × Held) →
     AreSeated is_of place has names xs → is_of names x.0 → (place x.0).1 ≡ length xs → ArePlaced has x.1.0.modules → AreSeated is_of place has names (xs ++ x ∷ [])
-lodged_more is_of place has names xs x h of at placed k y e = elim (cases_lt k (length xs)) [
+seated_more is_of place has names xs x h of at placed k y e = elim (cases_lt k (length xs)) [
   | inl less ↦ h k y (sym (push_front xs x k less) ∙ e)
   | inr more ↦
       let last = push_last xs x y k more e in
@@ -69,8 +69,8 @@ fresh_more rules us a names h is u f less = elim (cases_lt u (length us)) [
 ]
 
 -- no account is made yet
-pub lodged_none : {T S : Type 0} (is_of : T → S → Type 0) (place : S → ℕ × ℕ) (has : ℕ × ℕ → Type 0) (names : T) (xs : List (S × Held)) → xs ≡ [] → AreSeated is_of place has names xs
-lodged_none {T} {S} is_of place has names xs none = subst (λ (zs : List (S × Held)). AreSeated is_of place has names zs) (sym none) (λ k x e. absurd (none-some x e))
+pub seated_none : {T S : Type 0} (is_of : T → S → Type 0) (place : S → ℕ × ℕ) (has : ℕ × ℕ → Type 0) (names : T) (xs : List (S × Held)) → xs ≡ [] → AreSeated is_of place has names xs
+seated_none {T} {S} is_of place has names xs none = subst (λ (zs : List (S × Held)). AreSeated is_of place has names zs) (sym none) (λ k x e. absurd (none-some x e))
 
 pub fresh_none : {S : Type 0} (rules : Rules) (xs : List (S × Held)) (names : List (List ℕ)) → xs ≡ [] → AreFreshSo rules (accounts_of xs) names
 fresh_none {S} rules xs names none = subst (λ (zs : List (S × Held)). AreFreshSo rules (accounts_of zs) names) (sym none) (λ u f less. absurd (omega (arith, less)))

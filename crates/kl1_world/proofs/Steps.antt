@@ -8,7 +8,7 @@ use Rattle.kl1_command.specs.declared.performed.Performed.TheVariants as perform
 use Rattle.kl1_command.specs.Performing.{IsUntouched}
 use Rattle.kl1_journal.specs.Keeping.{Held, nobody}
 use Rattle.kl1_world.specs.Worlds.{account_in, all_but}
-use Rattle.kl1_world.proofs.Lodgings.{all_but_same}
+use Rattle.kl1_world.proofs.Seated.{all_but_same}
 
 -- of two accounts under other names
 pub moved : (P : Held → Held → Type 0) (a b old new : Held) → a ≡ old → b ≡ new → P a b → P old new

@@ -18,7 +18,7 @@ ghost use Rattle.kl1_world.specs.Worlds.{account_in, events_of, AreOf, AreFresh,
 use crate::stopped::Stopped;
 use kl1_atoms::AtomSource;
 use kl1_codes::CodeSource;
-use kl1_command::{Command, Host, Performed, perform};
+use kl1_command::{Command, Host, Performed, UnbookedHost, perform};
 use kl1_journal::{AccountName, JournaledAccount, Rules};
 use kl1_user_events::{ClauseNo, Event, GoalNo, Listed, Refusal, Reply, ShoenNo};
 use std::alloc::{AllocError, Global};
@@ -165,12 +165,14 @@ impl<A: AtomSource + Drop, C: CodeSource + Drop> World<A, C> {
         Ok(())
     }
 
-    /// Does events of accounts, each with its account's number from 0, in order, and gives their replies: each account's replies, its
-    /// state and its journal are those that its own events alone make of it.
+    /// Does events of accounts, each with its account's number from 0, in order, and gives their replies, one for each event: each
+    /// account's replies, its state and its journal are those that its own events alone make of it.
     pub fn run(&mut self, events: &[(usize, Event)]) -> Result<Vec<Reply>, Stopped>
         requires { AreOf (length self.old.0) events.now }
         ensures all { IfOk result (λ replies. IsRun self.old.0 self.new.0 (events_of events.now) replies.items) }
+        ensures count { IfOk result (λ replies. length replies.items ≡ length events.now) }
         ensures stopped { IfErr result (λ s. (s.done < length events.now) × IsRun self.old.0 self.new.0 (events_of (take s.done events.now)) s.replies.items) }
+        ensures stopped_count { IfErr result (λ s. length s.replies.items ≡ s.done) }
         ensures many { length self.new.0 ≡ length self.old.0 }
     {
         let mut replies = Vec::new(self.alloc);
@@ -184,8 +186,9 @@ impl<A: AtomSource + Drop, C: CodeSource + Drop> World<A, C> {
         Ok(replies)
     }
 
-    /// Tells a caller's proof that an account is the replay of its journal for each reading of its names, and that its names are one to
-    /// one with their numbers, so that there is such a reading. It does nothing.
+    /// Tells a caller's proof that an account is the replay of its journal for each reading of its names, that the journal's entries are
+    /// all accepted if it is replayed, that it has a text, which reads back, and that its names are one to one with their numbers, so
+    /// that there is such a reading. It does nothing.
     pub fn shows_names(&self, account: usize)
         requires { account < length self.now.0 }
         ensures names { AreNames (account_in self.now.0 account).0.names }
@@ -219,7 +222,7 @@ impl<A: AtomSource + Drop, C: CodeSource + Drop> World<A, C> {
 }
 
 impl<A: AtomSource + Drop, C: CodeSource + Drop> Host for World<A, C> {
-    ghost use Rattle.std.specs.Prelude.{List, ℕ};
+    ghost use Rattle.std.specs.Prelude.{List, ℕ, None, refl};
     ghost use Rattle.kl1_journal.specs.Keeping.{Reading as NameReading, Fits};
     ghost use Rattle.kl1_journal.specs.Keeping.{Held, kept_of};
     ghost use Rattle.kl1_world.specs.Worlds.{account_in, all_but};
@@ -234,16 +237,16 @@ impl<A: AtomSource + Drop, C: CodeSource + Drop> Host for World<A, C> {
 
     ghost beside = { λ w. (all_but w.1 w.0, w.1) };
 
+    ghost room = { λ w. None };
+
+    ghost counted = { λ before told after. Unit {0} };
+
     fn apply(&mut self, event: &Event) -> Result<Reply, AllocError> {
         self.apply_at(self.at, event)
     }
 
     fn reduce(&mut self, goal: GoalNo, clause: ClauseNo) -> Result<Option<Refusal>, AllocError> {
         self.reduce_at(self.at, goal, clause)
-    }
-
-    fn whole_value(&mut self, shoen: ShoenNo) -> Result<Option<Vec<u8>>, AllocError> {
-        self.whole_value_at(self.at, shoen)
     }
 
     fn journal(&self, from: u64, count: u64) -> Result<Listed, AllocError> {
@@ -253,4 +256,24 @@ impl<A: AtomSource + Drop, C: CodeSource + Drop> Host for World<A, C> {
     fn pick(&self) -> Option<(GoalNo, ClauseNo)> {
         self.pick_at(self.at)
     }
+
+    fn room(&self) -> Option<u64> {
+        None
+    }
+
+    ghost none_counted = { λ w. tt };
+
+    ghost counted_on = { λ a b c n m first then. tt };
+
+    ghost room_left = { λ a b told counted. refl };
+}
+
+impl<A: AtomSource + Drop, C: CodeSource + Drop> UnbookedHost for World<A, C> {
+    ghost use Rattle.std.specs.Prelude.{refl};
+
+    fn whole_value(&mut self, shoen: ShoenNo) -> Result<Option<Vec<u8>>, AllocError> {
+        self.whole_value_at(self.at, shoen)
+    }
+
+    ghost unbooked = { λ w. refl };
 }

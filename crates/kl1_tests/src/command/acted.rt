@@ -1,12 +1,12 @@
 // What commands do to an account.
 
-ghost use Rattle.std.specs.Prelude.{◌≡◌, ℕ, [], OnErr};
+ghost use Rattle.std.specs.Prelude.{◌≡◌, ℕ, [], None, OnErr, refl};
 ghost use Rattle.kl1_model.specs.declared.rules.Rules.TheVariants.{One};
 ghost use Rattle.kl1_model_server.specs.Journal.{fresh_kept};
 
 use kl1_command::{Host, Parsed, Performed, parse, perform, put_reply};
 use kl1_tests_rows::{Text, cut};
-use kl1_user_events::{ClauseNo, Event, GoalNo, Listed, Refusal, Reply, ShoenNo};
+use kl1_user_events::{ClauseNo, Event, GoalNo, Listed, Refusal, Reply};
 use std::alloc::{AllocError, Global};
 
 /// What stands in the place of an account: it does as each letter says. By `d` it does what it is asked for, by `r` it refuses
@@ -44,6 +44,10 @@ impl Host for Letters<'_> {
 
     ghost beside = { λ h. 0 };
 
+    ghost room = { λ h. None };
+
+    ghost counted = { λ before told after. Unit {0} };
+
     fn apply(&mut self, event: &Event) -> Result<Reply, AllocError> {
         let is_done = self.is_next_done()?;
         Ok(reply_by(is_done, event))
@@ -54,10 +58,6 @@ impl Host for Letters<'_> {
             return Ok(None);
         }
         Ok(Some(Refusal::Journal))
-    }
-
-    fn whole_value(&mut self, _shoen: ShoenNo) -> Result<Option<Vec<u8>>, AllocError> {
-        Ok(None)
     }
 
     fn journal(&self, from: u64, count: u64) -> Result<Listed, AllocError> {
@@ -82,6 +82,16 @@ impl Host for Letters<'_> {
             _ => None,
         }
     }
+
+    fn room(&self) -> Option<u64> {
+        None
+    }
+
+    ghost none_counted = { λ h. tt };
+
+    ghost counted_on = { λ a b c n m first then. tt };
+
+    ghost room_left = { λ a b told counted. refl };
 }
 
 /// The reply to an event that is done or refused.

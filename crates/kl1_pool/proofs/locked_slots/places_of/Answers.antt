@@ -3,6 +3,7 @@ use Rattle.std.proofs.lemmas.List.Elements.{All-pop}
 use Rattle.kl1_pool_tickets.specs.Parts.{IsNewBook}
 use Rattle.kl1_pool.specs.Parts.{IsFreshSeat}
 use Rattle.kl1_pool.proofs.Seating.{but_last}
+use Rattle.kl1_pool.proofs.Naming.{named_last}
 use Rattle.kl1_pool.proofs.locked_slots.places_of.Goals as goal
 
 pub loop-book-preserved : goal.loop-book-preserved
@@ -13,8 +14,13 @@ loop-book-preserved g c =
     record {
       seats = but_last (IsFreshSeat g.C.Fresh.table g.C.Fresh.seats) c.loop-book.seats.items c.last_of-seat.new.list.items c.last_of-seat.result c.last_of-seat.ensures c.loop-book.invariant.seats;
       books = (All-pop (IsNewBook g.C.Fresh.tally) c.loop-book.books.items c.pop.new.self.items c.pop.result c.pop.ensures.items c.loop-book.invariant.books).0;
+      named = (named_last g.C.Fresh.names c.loop-book.books.items c.pop.new.self.items c.in-Some.book c.loop-book.names.items c.last_of-name.new.list.items c.last_of-name.result c.in-Some.ensures.items c.last_of-name.ensures c.loop-book.invariant.named).0;
       names = omega (arith, books, names, c.loop-book.invariant.names);
       as_many = omega (arith, books, seats, c.loop-book.invariant.as_many);
       count = search rules;
       room = search rules;
     }
+
+pub fresh-requires-clause-name : goal.fresh-requires-clause-name
+fresh-requires-clause-name g c =
+    (named_last g.C.Fresh.names c.loop-book.books.items c.pop.new.self.items c.in-Some.book c.loop-book.names.items c.last_of-name.new.list.items c.last_of-name.result c.in-Some.ensures.items c.last_of-name.ensures c.loop-book.invariant.named).1

@@ -2,7 +2,7 @@ use Rattle.std.proofs.Common.{◌≡◌, true, false, refl, sym, codes, bytes_eq
 use Rattle.kl1_model.specs.Line.{word_in, behind_word_in, is_blank_line, words_of}
 use Rattle.kl1_model_server.specs.Script.{are_distinct}
 use Rattle.kl1_script.specs.Accounts.{named}
-use Rattle.kl1_script.proofs.Names.{no_accounts, accounts_none, accounts_some}
+use Rattle.kl1_script.proofs.AccountNames.{no_accounts, accounts_none, accounts_some}
 use Rattle.kl1_script.proofs.accounts.accounts_in.Goals as goal
 
 pub returns-then-not-is_same : goal.returns-then-not-is_same

@@ -2,7 +2,7 @@ use Rattle.std.proofs.Common.{◌≡◌, false, true, arith, sym}
 use Rattle.std.proofs.lemmas.Grind.{common_steps}
 use Rattle.kl1_model.specs.Line.{is_blank_line, word_in, words_of}
 use Rattle.kl1_model.specs.AccountName.{is_account_name}
-use Rattle.kl1_script.proofs.Names.{one_more, all_more, no_name, too_many, names_alone}
+use Rattle.kl1_script.proofs.AccountNames.{one_more, all_more, no_name, too_many, names_alone}
 use Rattle.kl1_script.proofs.accounts.names_in.Goals as goal
 
 pub returns-in_default : goal.returns-in_default

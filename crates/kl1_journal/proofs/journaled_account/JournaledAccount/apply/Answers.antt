@@ -9,7 +9,7 @@ use Rattle.kl1_journal.specs.Changes.{IsChange, SessionsFit, changed}
 use Rattle.kl1_journal.specs.Keeping.{kept_of}
 use Rattle.kl1_user.specs.Readings.{reading_of, fits_before, grows_as}
 use Rattle.kl1_journal.proofs.Keeps.{done_change, kept_change, fits_change}
-use Rattle.kl1_journal.proofs.journaled_account.Kept.apply.Goals as goal
+use Rattle.kl1_journal.proofs.journaled_account.JournaledAccount.apply.Goals as goal
 
 pub note-requires-clause-sessions : goal.note-requires-clause-sessions
 note-requires-clause-sessions g c =

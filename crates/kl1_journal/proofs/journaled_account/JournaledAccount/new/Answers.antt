@@ -4,7 +4,7 @@ use Rattle.kl1_model_server.specs.Journal.{Journal, Kept, fresh_kept}
 use Rattle.kl1_user.specs.Accounts.{Reading}
 use Rattle.kl1_journal.specs.Keeping.{kept_of}
 use Rattle.kl1_journal.proofs.Keeps.{kept_fresh, fresh_names}
-use Rattle.kl1_journal.proofs.journaled_account.Kept.new.Goals as goal
+use Rattle.kl1_journal.proofs.journaled_account.JournaledAccount.new.Goals as goal
 
 pub invariant_of-result : goal.invariant_of-result
 invariant_of-result g c =

@@ -10,7 +10,7 @@ use Rattle.kl1_user_events.specs.Views.{reduced_or}
 use Rattle.kl1_journal.specs.Keeping.{kept_of}
 use Rattle.kl1_user.specs.Readings.{reading_of, fits_before, grows_as}
 use Rattle.kl1_journal.proofs.Keeps.{done_step, kept_step}
-use Rattle.kl1_journal.proofs.journaled_account.Kept.reduce.Goals as goal
+use Rattle.kl1_journal.proofs.journaled_account.JournaledAccount.reduce.Goals as goal
 
 pub invariant_of-self-2 : goal.invariant_of-self-2
 invariant_of-self-2 g c =

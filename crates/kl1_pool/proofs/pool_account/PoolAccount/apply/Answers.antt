@@ -1,11 +1,11 @@
-use Rattle.std.proofs.Common.{◌≡◌, ap, subst}
+use Rattle.std.proofs.Common.{◌≡◌, ◌∙◌, ap, subst}
 use Rattle.kl1_model_server.specs.Journal.{done}
 use Rattle.kl1_user_events.specs.Views.{event_of, reply_of}
 use Rattle.kl1_tally.specs.declared.amounts.TheConstants.{MOST_ACCOUNTS}
 use Rattle.kl1_journal.specs.Keeping.{Held, kept_of}
-use Rattle.kl1_pool.specs.Cells.{StandsIn, PoolAccountValue}
-use Rattle.kl1_pool.specs.Counted.{events_by, steps_by}
-use Rattle.kl1_pool.proofs.Cells.{held_counts, kept_counts, of_tally, within, placed_in}
+use Rattle.kl1_pool.specs.PoolAccounts.{StandsIn, PoolAccountValue}
+use Rattle.kl1_command.specs.Told.{events_by, steps_by}
+use Rattle.kl1_pool.proofs.PoolAccounts.{held_counts, kept_counts, of_tally, within, placed_in, held_stays, named_still}
 use Rattle.kl1_pool.proofs.pool_account.PoolAccount.apply.Goals as goal
 
 pub count-requires-clause-one : goal.count-requires-clause-one
@@ -23,12 +23,15 @@ invariant_of-self-2 g c =
     let old = c.self.inside.kept.1 in
     let new = c.apply.new.self.1 in
     let r = reply_of c.in_ok-reply.reply in
-    let counts = held_counts p b old new (event_of c.args.event.now) r c.shows_replay.ensures.names c.in_ok-reply.ensures.step c.self.invariant.4 (c.is_full.ensures.room c.if-is_full.false) in (
+    let counts = held_counts p b old new (event_of c.args.event.now) r c.shows_replay.ensures.names c.in_ok-reply.ensures.step c.self.invariant.4 (c.is_full.ensures.room c.if-is_full.false) in
+    let stays = held_stays old new (event_of c.args.event.now) r c.shows_replay.ensures.names c.in_ok-reply.ensures.step in (
       c.apply.ensures.of,
       placed_in c.args.codes.now.table.now g.K.PoolIds.codes (StandsIn c.apply.new.codes.table.now) new.0.modules c.requires.codes c.apply.ensures.same c.apply.ensures.placed,
       of_tally g.K.TicketIds.tally b c.count.new.book (events_by r) (steps_by r) c.count.ensures.book c.self.invariant.2,
       within MOST_ACCOUNTS b c.count.new.book (events_by r) (steps_by r) c.count.ensures.book c.self.invariant.3,
       kept_counts p c.past_after-self-inside.result b c.count.new.book old.1 new.1 r c.self.invariant.4 counts.0 c.past_after-self-inside.ensures c.count.ensures.book,
+      stays.0 ∙ c.self.invariant.5,
+      named_still g.K.PoolIds.names b c.count.new.book (events_by r) (steps_by r) old.0.own_name new.0.own_name c.count.ensures.book stays.1 c.self.invariant.6,
     )
 
 pub returns-clause-step : goal.returns-clause-step

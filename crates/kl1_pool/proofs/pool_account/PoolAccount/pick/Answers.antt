@@ -3,7 +3,7 @@ use Rattle.std.specs.Prelude.{option_map}
 use Rattle.kl1_model.specs.Choice.{first}
 use Rattle.kl1_user_events.specs.Views.{chosen_of}
 use Rattle.kl1_journal.specs.Keeping.{Fits, Held, kept_of}
-use Rattle.kl1_pool.specs.Cells.{PoolAccountValue}
+use Rattle.kl1_pool.specs.PoolAccounts.{PoolAccountValue}
 use Rattle.kl1_pool.proofs.pool_account.PoolAccount.pick.Goals as goal
 
 pub returns : goal.returns

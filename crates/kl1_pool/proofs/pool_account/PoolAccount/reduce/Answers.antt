@@ -1,12 +1,12 @@
-use Rattle.std.proofs.Common.{ap, sym, subst, ◌<◌, ◌^◌, List}
+use Rattle.std.proofs.Common.{ap, sym, subst, ◌∙◌, ◌<◌, ◌^◌, List}
 use Rattle.kl1_model.specs.Event.{reduce as reduce_event}
 use Rattle.kl1_codes_modules.specs.Numbered.{Numbered, ArePlaced}
 use Rattle.kl1_user_events.specs.Views.{reduced_or}
 use Rattle.kl1_tally.specs.declared.amounts.TheConstants.{MOST_ACCOUNTS}
 use Rattle.kl1_tally.specs.Seats.{Book}
-use Rattle.kl1_pool.specs.Cells.{StandsIn, PoolAccountValue}
-use Rattle.kl1_pool.specs.Counted.{events_by, steps_by}
-use Rattle.kl1_pool.proofs.Cells.{held_counts, kept_counts, of_tally, within, step_ended}
+use Rattle.kl1_pool.specs.PoolAccounts.{StandsIn, PoolAccountValue}
+use Rattle.kl1_command.specs.Told.{events_by, steps_by}
+use Rattle.kl1_pool.proofs.PoolAccounts.{held_counts, kept_counts, of_tally, within, step_ended, held_stays, named_still}
 use Rattle.kl1_pool.proofs.pool_account.PoolAccount.reduce.Goals as goal
 
 pub invariant_of-self-2 : goal.invariant_of-self-2
@@ -17,10 +17,13 @@ invariant_of-self-2 g c =
     let new = c.reduce.new.self.1 in
     let r = reduced_or c.in_ok-refused.refused in
     let room = subst (λ (x : Book). x.events < 2 ^ 63) (sym (ap (λ (x : PoolAccountValue). x.book) c.self.view_is)) c.requires.room in
-    let counts = held_counts p b old new (reduce_event c.args.goal.0 c.args.clause.0) r c.shows_replay.ensures.names c.in_ok-refused.ensures.step c.self.invariant.4 (λ entry. room) in (
+    let counts = held_counts p b old new (reduce_event c.args.goal.0 c.args.clause.0) r c.shows_replay.ensures.names c.in_ok-refused.ensures.step c.self.invariant.4 (λ entry. room) in
+    let stays = held_stays old new (reduce_event c.args.goal.0 c.args.clause.0) r c.shows_replay.ensures.names c.in_ok-refused.ensures.step in (
       c.reduce.ensures.of,
       subst (λ (ms : List Numbered). ArePlaced (StandsIn g.K.PoolIds.codes) ms) (sym c.reduce.ensures.modules) c.self.invariant.1,
       of_tally g.K.TicketIds.tally b c.count_step.new.book (events_by r) (steps_by r) c.count_step.ensures.book c.self.invariant.2,
       within MOST_ACCOUNTS b c.count_step.new.book (events_by r) (steps_by r) c.count_step.ensures.book c.self.invariant.3,
       kept_counts p p b c.count_step.new.book old.1 new.1 r c.self.invariant.4 counts.0 (sym (step_ended p b c.in_ok-refused.refused)) c.count_step.ensures.book,
+      stays.0 ∙ c.self.invariant.5,
+      named_still g.K.PoolIds.names b c.count_step.new.book (events_by r) (steps_by r) old.0.own_name new.0.own_name c.count_step.ensures.book stays.1 c.self.invariant.6,
     )

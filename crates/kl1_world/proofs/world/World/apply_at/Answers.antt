@@ -5,7 +5,7 @@ use Rattle.kl1_user_events.specs.Views.{event_of, reply_of}
 use Rattle.kl1_journal.specs.Keeping.{Reading, Fits}
 use Rattle.kl1_journal.specs.Keeping.{Held, kept_of}
 use Rattle.kl1_world.specs.Worlds.{account_in}
-use Rattle.kl1_world.proofs.Lodgings.{accounts_of, as_many, stands, account_at, lodged_set, changed_at, changed_all, changed_none}
+use Rattle.kl1_world.proofs.Seated.{accounts_of, as_many, stands, account_at, seated_set, changed_at, changed_all, changed_none}
 use Rattle.kl1_world.proofs.Steps.{moved, on_err, still_within}
 use Rattle.kl1_world.proofs.world.World.apply_at.Goals as goal
 
@@ -38,7 +38,7 @@ invariant_of-self g c =
     let less = as_many xs c.args.self.now.0 n view c.requires in
     let at = stands xs n x less c.index_mut-kept.ensures.value in
     let y = c.apply.new.self in (
-      lodged_set g.A.AtomSource.is_of g.A.AtomSource.place (g.C.CodeSource.has c.self.inside.code_source) (g.C.CodeSource.has c.apply.new.codes) c.self.inside.names c.apply.new.names xs n x y
+      seated_set g.A.AtomSource.is_of g.A.AtomSource.place (g.C.CodeSource.has c.self.inside.code_source) (g.C.CodeSource.has c.apply.new.codes) c.self.inside.names c.apply.new.names xs n x y
           c.self.invariant.0 at c.apply.ensures.of c.apply.ensures.place c.apply.ensures.others c.apply.ensures.placed c.apply.ensures.same,
       still_within xs n c.self.inside.at y c.self.invariant.1,
     )

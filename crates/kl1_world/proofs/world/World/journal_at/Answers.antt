@@ -3,7 +3,7 @@ use Rattle.std.specs.Prelude.{IfOk}
 use Rattle.kl1_model_server.specs.JournalText.{page_of}
 use Rattle.kl1_journal.specs.Keeping.{Held}
 use Rattle.kl1_world.specs.Worlds.{account_in}
-use Rattle.kl1_world.proofs.Lodgings.{accounts_of, as_many, stands, account_at}
+use Rattle.kl1_world.proofs.Seated.{accounts_of, as_many, stands, account_at}
 use Rattle.kl1_world.proofs.world.World.journal_at.Goals as goal
 
 pub returns : goal.returns

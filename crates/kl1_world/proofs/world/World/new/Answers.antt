@@ -3,7 +3,7 @@ use Rattle.std.specs.Prelude.{slice_get}
 use Rattle.std.proofs.lemmas.List.{length-append, length-map}
 use Rattle.kl1_codes_modules.specs.Numbered.{ArePlaced}
 use Rattle.kl1_world.specs.Seating.{AreSeated}
-use Rattle.kl1_world.proofs.Makes.{AreSeatsFrom, seats_left, seats_all, lodged_none, lodged_more, fresh_none, fresh_next, same_within}
+use Rattle.kl1_world.proofs.Makes.{AreSeatsFrom, seats_left, seats_all, seated_none, seated_more, fresh_none, fresh_next, same_within}
 use Rattle.kl1_world.proofs.world.World.new.Goals as goal
 
 pub loop-seat-init : goal.loop-seat-init
@@ -13,7 +13,7 @@ loop-seat-init g c =
     let few : length c.new-kept.result.items ≡ 0 = ap (λ xs. length xs) none in
     let many : length c.into_iter-seat-iterator.result.rest.items ≡ length c.args.seats.items = ap (λ xs. length xs) rest in
     record {
-      lodged = lodged_none g.A.AtomSource.is_of g.A.AtomSource.place (g.C.CodeSource.has c.args.code_source) c.args.names c.new-kept.result.items none;
+      seated = seated_none g.A.AtomSource.is_of g.A.AtomSource.place (g.C.CodeSource.has c.args.code_source) c.args.names c.new-kept.result.items none;
       fresh = fresh_none c.args.rules c.new-kept.result.items c.args.accounts.now none;
       rest = seats_all g.A.AtomSource.is_of g.A.AtomSource.place g.A.AtomSource.knows c.args.names (length c.new-kept.result.items) c.args.seats.items c.into_iter-seat-iterator.result.rest.items few rest c.requires.seats;
       count = omega (arith, few, many, c.requires.count);
@@ -35,8 +35,8 @@ loop-seat-preserved g c =
     let place : c.len.result ≡ length xs = (let o = c.loop-seat.kept.ok in let e = c.len.ensures in omega (arith, o, e)) in
     let name_is : c.index-accounts-len.result ≡ get_or c.args.accounts.now (length xs) [] = c.index-accounts-len.is ∙ ap (λ n. get_or c.args.accounts.now n c.index-accounts-len.result) place ∙ same_within c.args.accounts.now (length xs) c.index-accounts-len.result [] within in
     record {
-      lodged = subst (λ ys. AreSeated g.A.AtomSource.is_of g.A.AtomSource.place has c.args.names ys) (sym items)
-          (lodged_more g.A.AtomSource.is_of g.A.AtomSource.place has c.args.names xs x c.loop-seat.invariant.lodged
+      seated = subst (λ ys. AreSeated g.A.AtomSource.is_of g.A.AtomSource.place has c.args.names ys) (sym items)
+          (seated_more g.A.AtomSource.is_of g.A.AtomSource.place has c.args.names xs x c.loop-seat.invariant.seated
           (subst (g.A.AtomSource.is_of c.args.names) (sym c.in_ok-new.ensures.seat) first.0)
           (ap (λ s. (g.A.AtomSource.place s).1) c.in_ok-new.ensures.seat ∙ first.1 ∙ omega arith)
           (subst (ArePlaced has) (sym c.in_ok-new.ensures.modules) tt));

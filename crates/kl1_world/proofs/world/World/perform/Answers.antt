@@ -4,7 +4,7 @@ use Rattle.kl1_command.specs.Performing.{Performs, IsUntouched}
 use Rattle.kl1_journal.specs.Keeping.{Reading, Fits}
 use Rattle.kl1_journal.specs.Keeping.{Held, kept_of}
 use Rattle.kl1_world.specs.Worlds.{account_in, all_but}
-use Rattle.kl1_world.proofs.Lodgings.{accounts_of}
+use Rattle.kl1_world.proofs.Seated.{accounts_of}
 use Rattle.kl1_world.proofs.Steps.{untouched_first, as_many_but, same_but}
 use Rattle.kl1_world.proofs.world.World.perform.Goals as goal
 

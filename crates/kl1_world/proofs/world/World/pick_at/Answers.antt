@@ -5,7 +5,7 @@ use Rattle.kl1_user_events.specs.Views.{chosen_of}
 use Rattle.kl1_journal.specs.Keeping.{Reading, Fits}
 use Rattle.kl1_journal.specs.Keeping.{Held, kept_of}
 use Rattle.kl1_world.specs.Worlds.{account_in}
-use Rattle.kl1_world.proofs.Lodgings.{accounts_of, as_many, stands, account_at}
+use Rattle.kl1_world.proofs.Seated.{accounts_of, as_many, stands, account_at}
 use Rattle.kl1_world.proofs.world.World.pick_at.Goals as goal
 
 pub returns : goal.returns

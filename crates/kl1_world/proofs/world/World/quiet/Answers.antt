@@ -3,7 +3,7 @@ use Rattle.kl1_model.specs.Choice.{quiet}
 use Rattle.kl1_journal.specs.Keeping.{Reading, Fits}
 use Rattle.kl1_journal.specs.Keeping.{Held, kept_of}
 use Rattle.kl1_world.specs.Worlds.{account_in}
-use Rattle.kl1_world.proofs.Lodgings.{accounts_of, as_many, stands, account_at}
+use Rattle.kl1_world.proofs.Seated.{accounts_of, as_many, stands, account_at}
 use Rattle.kl1_world.proofs.world.World.quiet.Goals as goal
 
 pub returns : goal.returns

@@ -7,7 +7,7 @@ use Rattle.kl1_codes_modules.specs.Numbered.{ArePlaced}
 use Rattle.kl1_journal.specs.Keeping.{Reading, Fits}
 use Rattle.kl1_journal.specs.Keeping.{Held, kept_of}
 use Rattle.kl1_world.specs.Worlds.{account_in}
-use Rattle.kl1_world.proofs.Lodgings.{accounts_of, as_many, stands, account_at, lodged_set, changed_at, changed_all, changed_none}
+use Rattle.kl1_world.proofs.Seated.{accounts_of, as_many, stands, account_at, seated_set, changed_at, changed_all, changed_none}
 use Rattle.kl1_world.proofs.Steps.{moved, on_err, still_within}
 use Rattle.kl1_world.proofs.world.World.reduce_at.Goals as goal
 
@@ -41,7 +41,7 @@ invariant_of-self g c =
     let at = stands xs n x less c.index_mut-kept.ensures.value in
     let y = c.reduce.new.self in
     let has = g.C.CodeSource.has c.self.inside.code_source in (
-      lodged_set g.A.AtomSource.is_of g.A.AtomSource.place has has c.self.inside.names c.reduce.new.names xs n x y
+      seated_set g.A.AtomSource.is_of g.A.AtomSource.place has has c.self.inside.names c.reduce.new.names xs n x y
           c.self.invariant.0 at c.reduce.ensures.of c.reduce.ensures.place c.reduce.ensures.others (subst (ArePlaced has) (sym c.reduce.ensures.modules) (c.self.invariant.0 n x at).2) (λ p. (λ h. h, λ h. h)),
       still_within xs n c.self.inside.at y c.self.invariant.1,
     )

@@ -2,7 +2,7 @@ use Rattle.std.proofs.Common.{◌≡◌, ap, sym, ◌∙◌, subst}
 use Rattle.kl1_atoms.specs.Names.{AreNames}
 use Rattle.kl1_journal.specs.Keeping.{Held, IsKept}
 use Rattle.kl1_world.specs.Worlds.{account_in}
-use Rattle.kl1_world.proofs.Lodgings.{accounts_of, as_many, stands, account_at}
+use Rattle.kl1_world.proofs.Seated.{accounts_of, as_many, stands, account_at}
 use Rattle.kl1_world.proofs.world.World.shows_names.Goals as goal
 
 pub returns-clause-names : goal.returns-clause-names

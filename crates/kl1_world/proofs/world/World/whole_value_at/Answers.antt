@@ -4,7 +4,7 @@ use Rattle.kl1_user_events.specs.Whole.{whole_value}
 use Rattle.kl1_codes_modules.specs.Numbered.{ArePlaced}
 use Rattle.kl1_journal.specs.Keeping.{Reading, Fits}
 use Rattle.kl1_journal.specs.Keeping.{Held, kept_of}
-use Rattle.kl1_world.proofs.Lodgings.{accounts_of, as_many, stands, lodged_set, changed_at, changed_none}
+use Rattle.kl1_world.proofs.Seated.{accounts_of, as_many, stands, seated_set, changed_at, changed_none}
 use Rattle.kl1_world.proofs.Steps.{still_within}
 use Rattle.kl1_world.proofs.world.World.whole_value_at.Goals as goal
 
@@ -18,7 +18,7 @@ invariant_of-self g c =
     let at = stands xs n x less c.index_mut-kept.ensures.value in
     let y = c.whole_value.new.self in
     let has = g.C.CodeSource.has c.self.inside.code_source in (
-      lodged_set g.A.AtomSource.is_of g.A.AtomSource.place has has c.self.inside.names c.whole_value.new.names xs n x y
+      seated_set g.A.AtomSource.is_of g.A.AtomSource.place has has c.self.inside.names c.whole_value.new.names xs n x y
           c.self.invariant.0 at c.whole_value.ensures.of c.whole_value.ensures.place c.whole_value.ensures.others (subst (λ (h : Held). ArePlaced has h.0.modules) (sym c.whole_value.ensures.same) (c.self.invariant.0 n x at).2) (λ p. (λ h. h, λ h. h)),
       still_within xs n c.self.inside.at y c.self.invariant.1,
     )

@@ -1,0 +1,6 @@
+pub mod Comings
+pub mod Lines
+pub mod Exchanged
+pub mod Paged
+pub mod Said
+pub mod Turns

@@ -1,0 +1,168 @@
+-- What is said for one line of the user.
+use Rattle.std.proofs.Common.{◌≡◌, ℕ, ◌+◌, ◌<◌, ◌≤◌, Bool, true, false, not, ◌&&◌, nat_lt, nat_le, zero, suc, max, List, [], ◌∷◌, ◌++◌, length, map, refl, ap, sym, ◌∙◌, subst, inl, inr, add_assoc, arith}
+use Rattle.std.specs.Prelude.{Some}
+use Rattle.std.specs.declared.option.Option.{Option}
+use Rattle.std.proofs.lemmas.List.{append-nil, map-append}
+use Rattle.std.proofs.lemmas.Bool.{le-leb, lt-leb, lt-ltb}
+use Rattle.kl1_model_server.specs.Command.{written_line, written_lines}
+use Rattle.kl1_client_talk.specs.declared.request.Page.{Page}
+use Rattle.std.specs.Str.{IsTrimAscii}
+use Rattle.kl1_client_talk.specs.declared.turn_end.TurnEnd.TheVariants as end
+use Rattle.kl1_client_talk.specs.UserCommand.{Wanted, load}
+use Rattle.kl1_client_talk.specs.Request.{page_line, status_line, load_of}
+use Rattle.kl1_client_talk.specs.Reply.{is_refusal, count_in, is_over}
+use Rattle.kl1_client_talk.specs.Exchanges.{Exchange, Exchanges, Wire, Screen, Asks, Hears, Shows, ShowsLines, ShowsOne, Says, screen}
+use Rattle.kl1_client_talk.specs.declared.reply_writer.ReplyWriter.{ReplyWriter}
+use Rattle.kl1_client_talk.specs.Conversation.{Listing, ShowsListing, AsksOne, AsksList, AsksPages, Waits, page_exchanges, page_lines, is_full_page, most_of, status_exchange, TakesTurn}
+use Rattle.kl1_client_talk.proofs.Exchanged.{hears_none, one_exchange, exchanges_both, no_exchange, shows_one, shows_lines_both, shows_none, all_both}
+use Rattle.kl1_client_talk.proofs.Paged.{PagesSoFar, WaitsSoFar, count_of, page_more, count_both, lines_both}
+
+pub one_said : (a b : Wire) (s t : Screen) (request line : List ℕ) → ShowsOne a b s t request line → Says a b s t (AsksOne request)
+one_said a b s t request line h = record {
+  exchanges = record { request = request; reply = line ∷ [] } ∷ [];
+  lines = line ∷ [];
+  holds = record { line = line; asked = refl; shown_is = refl };
+  made = one_exchange a b b request line [] h.asks (hears_none b);
+  shows = shows_one s t line h.shows;
+}
+
+pub list_said : (a b c : Wire) (s t : Screen) (request first : List ℕ) → Asks a b request first → ShowsListing b c s t first → Says a c s t (AsksList request)
+list_said a b c s t request first asks h = record {
+  exchanges = record { request = request; reply = first ∷ h.lines } ∷ [];
+  lines = first ∷ h.lines;
+  holds = record { reply = record { first = first; lines = h.lines }; is_listing = h.is_listing; asked = refl; shown_is = refl };
+  made = one_exchange a b c request first h.lines asks h.hears;
+  shows = h.shows;
+}
+
+pub shown_as : (s t : Screen) (told line : List ℕ) → told ≡ line → Shows s t (written_line told) → Shows s t (written_line line)
+shown_as s t told line e h = let P : List ℕ → Type 0 = λ x. Shows s t (written_line x) in subst P e h
+
+-- a refusal lists nothing
+pub refusal_listed : (a : Wire) (s t : Screen) (first : List ℕ) → is_refusal first ≡ true → Shows s t (written_line first) → ShowsListing a a s t first
+refusal_listed a s t first e h = record { lines = []; is_listing = inl (e, refl); hears = hears_none a; shows = shows_one s t first h }
+
+pub lines_listed : (a b : Wire) (s t u : Screen) (first : List ℕ) (count : ℕ) → is_refusal first ≡ false → count_in first ≡ Some count → Shows s t (written_line first) → (lines : List (List ℕ)) × ShowsLines a b t u lines × (length lines ≡ count) → ShowsListing a b s u first
+lines_listed a b s t u first count e c h (lines, more, n) = record {
+  lines = lines;
+  is_listing = inr (e, c ∙ ap Some (sym n));
+  hears = more.hears;
+  shows = shows_lines_both s t u (first ∷ []) lines (shows_one s t first h) more.shows;
+}
+
+-- ---- waiting
+
+pub wait_begins : (shoen : ℕ) (a : Wire) → WaitsSoFar shoen a a
+wait_begins shoen a = record { replies = []; made = no_exchange a; none_over = refl }
+
+status_more : (shoen : ℕ) (a b c : Wire) (replies : List (List ℕ)) (line : List ℕ) → Exchanges a b (map (status_exchange shoen) replies) → Asks b c (status_line shoen) line → Exchanges a c (map (status_exchange shoen) (replies ++ line ∷ []))
+status_more shoen a b c replies line made asks =
+    let P : List Exchange → Type 0 = λ es. Exchanges a c es in
+    subst P (sym (map-append (status_exchange shoen) replies (line ∷ []))) (exchanges_both a b c (map (status_exchange shoen) replies) (status_exchange shoen line ∷ []) made (one_exchange b c c (status_line shoen) line [] asks (hears_none c)))
+
+pub wait_goes_on : (shoen : ℕ) (a b c : Wire) (line : List ℕ) → WaitsSoFar shoen a b → Asks b c (status_line shoen) line → is_over line ≡ false → WaitsSoFar shoen a c
+wait_goes_on shoen a b c line w asks e = record {
+  replies = w.replies ++ line ∷ [];
+  made = status_more shoen a b c w.replies line w.made asks;
+  none_over = all_both (λ l. not (is_over l)) w.replies (line ∷ []) w.none_over (rw e refl);
+}
+
+pub wait_ends : (shoen : ℕ) (a b c : Wire) (s t : Screen) (line : List ℕ) → WaitsSoFar shoen a b → Asks b c (status_line shoen) line → is_over line ≡ true → Shows s t (written_line line) → Says a c s t (Waits shoen)
+wait_ends shoen a b c s t line w asks e h = record {
+  exchanges = map (status_exchange shoen) (w.replies ++ line ∷ []);
+  lines = line ∷ [];
+  holds = record { before = w.replies; last = line; asked = refl; none_over = w.none_over; over = e; shown_is = refl };
+  made = status_more shoen a b c w.replies line w.made asks;
+  shows = shows_one s t line h;
+}
+
+-- the same from a writer of replies that is as it was
+pub wait_said : {O : Type 0} (contents : O → Option (List ℕ)) (v w : ReplyWriter O) (shoen : ℕ) (a b c : Wire) (t : Screen) (line : List ℕ) → w ≡ v → WaitsSoFar shoen a b → Asks b c (status_line shoen) line → is_over line ≡ true → Shows (screen contents w) t (written_line line) → Says a c (screen contents v) t (Waits shoen)
+wait_said {O} contents v w shoen a b c t line e so_far asks over h =
+    let Q : ReplyWriter O → Type 0 = λ x. Says a c (screen contents x) t (Waits shoen) in
+    subst Q e (wait_ends shoen a b c (screen contents w) t line so_far asks over h)
+
+-- ---- pages
+
+pub pages_begin : (p : Page) (from : ℕ) (a : Wire) (s : Screen) → PagesSoFar p from from a a s s
+pages_begin p from a s = record { full = []; made = no_exchange a; shows = shows_none s; are_full = refl; next_is = omega arith }
+
+page_made : (p : Page) (from next : ℕ) (a b c d : Wire) (s t : Screen) (l : Listing) (g : PagesSoFar p from next a b s t) → Asks b c (page_line p next) l.first → Hears c d l.lines → Exchanges a d (page_exchanges p from (g.full ++ l ∷ []))
+page_made p from next a b c d s t l g asks hears =
+    let P : List Exchange → Type 0 = λ es. Exchanges a d es in
+    let Q : ℕ → Type 0 = λ n. Asks b c (page_line p n) l.first in
+    subst P (sym (page_more p from g.full l)) (exchanges_both a b d (page_exchanges p from g.full) (record { request = page_line p (from + count_of g.full); reply = l.first ∷ l.lines } ∷ []) g.made (one_exchange b c d (page_line p (from + count_of g.full)) l.first l.lines (subst Q g.next_is asks) hears))
+
+-- a full page more, after which the next one begins
+pub page_full : (p : Page) (from next after count : ℕ) (a b c d : Wire) (s t u : Screen) (first : List ℕ) (lines : List (List ℕ)) → PagesSoFar p from next a b s t → Asks b c (page_line p next) first → is_refusal first ≡ false → ShowsLines c d t u lines → length lines ≡ count → max (most_of p) 1 ≤ count → after ≡ next + count → PagesSoFar p from after a d s u
+page_full p from next after count a b c d s t u first lines g asks e h n most next_is =
+    let l : Listing = record { first = first; lines = lines } in
+    let P : List (List ℕ) → Type 0 = λ x. Shows s u (written_lines x) in
+    let many : most_of p ≤ length lines = omega (arith, most, n) in
+    let any : 0 < length lines = omega (arith, most, n) in
+    record {
+      full = g.full ++ l ∷ [];
+      made = page_made p from next a b c d s t l g asks h.hears;
+      shows = subst P (ap (λ x. page_lines g.full ++ x) (sym (append-nil lines)) ∙ sym (lines_both g.full (l ∷ []))) (shows_lines_both s t u (page_lines g.full) lines g.shows h.shows);
+      are_full = all_both (is_full_page (most_of p)) g.full (l ∷ []) g.are_full (rw (e, le-leb (most_of p) (length lines) many, lt-ltb 0 (length lines) any) refl);
+      next_is = next_is ∙ ap (λ m. m + count) g.next_is ∙ add_assoc from (count_of g.full) count ∙ ap (λ m. from + (count_of g.full + m)) (sym n) ∙ ap (λ m. from + m) (sym (count_both g.full l));
+    }
+
+-- the last reply is a refusal
+pub pages_refused : (p : Page) (from next : ℕ) (a b c : Wire) (s t u : Screen) (first : List ℕ) → PagesSoFar p from next a b s t → Asks b c (page_line p next) first → is_refusal first ≡ true → Shows t u (written_line first) → Says a c s u (AsksPages p from)
+pages_refused p from next a b c s t u first g asks e h =
+    let l : Listing = record { first = first; lines = [] } in
+    record {
+      exchanges = page_exchanges p from (g.full ++ l ∷ []);
+      lines = page_lines g.full ++ first ∷ [];
+      holds = record { full = g.full; last = l; end = first ∷ []; asked = refl; are_full = g.are_full; is_last = (inl (e, refl), rw e refl, rw e refl); shown_is = refl };
+      made = page_made p from next a b c c s t l g asks (hears_none c);
+      shows = shows_lines_both s t u (page_lines g.full) (first ∷ []) g.shows (shows_one t u first h);
+    }
+
+and_false : (b : Bool) → (b && false) ≡ false
+and_false true = refl
+and_false false = refl
+
+not_full : (most n : ℕ) → n < max most 1 → (nat_le most n && nat_lt 0 n) ≡ false
+not_full most zero h = and_false (nat_le most 0)
+not_full most (suc n) h = rw (lt-leb most (suc n) (omega (arith, h))) refl
+
+-- the last reply is a page that isn't full
+pub pages_end : (p : Page) (from next count : ℕ) (a b c d : Wire) (s t u : Screen) (first : List ℕ) (lines : List (List ℕ)) → PagesSoFar p from next a b s t → Asks b c (page_line p next) first → is_refusal first ≡ false → count_in first ≡ Some count → ShowsLines c d t u lines → length lines ≡ count → count < max (most_of p) 1 → Says a d s u (AsksPages p from)
+pages_end p from next count a b c d s t u first lines g asks e counted h n short =
+    let l : Listing = record { first = first; lines = lines } in
+    let P : ℕ → Type 0 = λ m. m < max (most_of p) 1 in
+    record {
+      exchanges = page_exchanges p from (g.full ++ l ∷ []);
+      lines = page_lines g.full ++ lines;
+      holds = record { full = g.full; last = l; end = lines; asked = refl; are_full = g.are_full; is_last = (inr (e, counted ∙ ap Some (sym n)), rw e (not_full (most_of p) (length lines) (subst P (sym n) short)), rw e refl); shown_is = refl };
+      made = page_made p from next a b c d s t l g asks h.hears;
+      shows = shows_lines_both s t u (page_lines g.full) lines g.shows h.shows;
+    }
+
+-- ---- turns
+
+-- what is said for a turn of which this holds besides
+pub says_more : (a b : Wire) (s t : Screen) (P Q : List Exchange → List (List ℕ) → Type 0) → ((es : List Exchange) (lines : List (List ℕ)) → P es lines → Q es lines) → Says a b s t P → Says a b s t Q
+says_more a b s t P Q f h = record { exchanges = h.exchanges; lines = h.lines; holds = f h.exchanges h.lines h.holds; made = h.made; shows = h.shows }
+
+pub load_said : (IsFile : List ℕ → List ℕ → Type 0) (joined : Bool) (a b : Wire) (s t : Screen) (text name source sent line : List ℕ) → IsTrimAscii text name → IsFile name source → sent ≡ source → ShowsOne a b s t (load_of sent) line → Says a b s t (TakesTurn IsFile joined [] (load text) end.GoesOn)
+load_said IsFile joined a b s t text name source sent line trimmed is e h =
+    let P : List ℕ → Type 0 = λ x. ShowsOne a b s t (load_of x) line in
+    says_more a b s t (AsksOne (load_of source)) (TakesTurn IsFile joined [] (load text) end.GoesOn) (λ es lines one. (record { name = name; source = source; trimmed = trimmed; asks = inl (is, one) }, rw one.asked refl)) (one_said a b s t (load_of source) line (subst P e h))
+
+pub load_lacks : (IsFile : List ℕ → List ℕ → Type 0) (joined : Bool) (a : Wire) (s : Screen) (text name : List ℕ) → IsTrimAscii text name → Says a a s s (TakesTurn IsFile joined [] (load text) end.LacksFile)
+load_lacks IsFile joined a s text name trimmed = record {
+  exchanges = [];
+  lines = [];
+  holds = (record { name = name; source = []; trimmed = trimmed; asks = inr (refl, refl) }, refl);
+  made = no_exchange a;
+  shows = shows_none s;
+}
+
+-- a turn for a line that wants this
+pub turn_said : (IsFile : List ℕ → List ℕ → Type 0) (joined : Bool) (line : List ℕ) (wanted is : Wanted) (a b : Wire) (s t : Screen) (P : List Exchange → List (List ℕ) → Type 0) → is ≡ wanted → ((es : List Exchange) (lines : List (List ℕ)) → P es lines → TakesTurn IsFile joined line is end.GoesOn es lines) → Says a b s t P → Says a b s t (TakesTurn IsFile joined line wanted end.GoesOn)
+turn_said IsFile joined line wanted is a b s t P e f h =
+    let Q : Wanted → Type 0 = λ w. Says a b s t (TakesTurn IsFile joined line w end.GoesOn) in
+    subst Q e (says_more a b s t P (TakesTurn IsFile joined line is end.GoesOn) f h)

@@ -1,0 +1,24 @@
+-- What the first lines of replies tell.
+use Rattle.std.specs.Prelude.{ℕ, nat_eq, List, Bool, Option, None, bytes_eq, codes, ◌||◌, if◌then◌else◌}
+use Rattle.std.specs.List.{starts_with}
+use Rattle.kl1_model.specs.Line.{word_in, behind_word_in, only_number}
+
+-- a reply is a refusal if its first word is a minus sign
+abbrev pub is_refusal : List ℕ → Bool
+is_refusal line = bytes_eq (word_in line) (codes "-")
+
+-- the number after a plus sign, if it is all that is there
+abbrev pub count_in : List ℕ → Option ℕ
+count_in line = if bytes_eq (word_in line) (codes "+") then only_number (behind_word_in line) else None
+
+-- the second word tells that the shoen has ended
+abbrev pub has_ended : List ℕ → Bool
+has_ended line = bytes_eq (word_in (behind_word_in line)) (codes "terminated") || bytes_eq (word_in (behind_word_in line)) (codes "aborted")
+
+-- a wait is over: the question for the status is refused, or the shoen has ended
+abbrev pub is_over : List ℕ → Bool
+is_over line = is_refusal line || has_ended line
+
+-- the reply to a logout is a farewell
+abbrev pub is_bye : List ℕ → Bool
+is_bye line = starts_with nat_eq line (codes "+ bye")

@@ -1,0 +1,37 @@
+// How a turn of a talk ends.
+
+ghost use Rattle.std.specs.Prelude.{◌≡◌, ◌||◌};
+ghost use Rattle.kl1_client_talk.specs.Conversation.{lacks_file, is_over_at};
+
+/// How a turn of a talk ends, in which one line of the user is answered.
+#[derive(Clone, Copy)]
+pub enum TurnEnd {
+    /// The talk goes on.
+    GoesOn,
+    /// The talk goes on, and a file could not be loaded.
+    LacksFile,
+    /// The talk is over.
+    Over,
+}
+
+impl TurnEnd {
+    /// Whether the talk is over.
+    pub(crate) fn is_over(self) -> bool
+        ensures { result ≡ is_over_at self }
+    {
+        match self {
+            TurnEnd::Over => true,
+            TurnEnd::GoesOn | TurnEnd::LacksFile => false,
+        }
+    }
+
+    /// Whether a file could not be loaded in this turn or, as `before` tells, in an earlier one.
+    pub(crate) fn lacks_file(self, before: bool) -> bool
+        ensures { result ≡ (before || lacks_file self) }
+    {
+        match self {
+            TurnEnd::LacksFile => true,
+            TurnEnd::GoesOn | TurnEnd::Over => before,
+        }
+    }
+}

@@ -1,0 +1,32 @@
+-- Answers, and what commands leave.
+use Rattle.std.proofs.Common.{◌≡◌, ℕ, List, Some, ap}
+use Rattle.std.specs.Prelude.{Option}
+use Rattle.kl1_model.specs.declared.rules.Rules.{Rules}
+use Rattle.kl1_model_server.specs.Command.{Command}
+use Rattle.kl1_atoms.specs.Names.{AreNames}
+use Rattle.kl1_journal.specs.Keeping.{Reading, Fits, Held, kept_of, IsKept}
+use Rattle.kl1_user.specs.Readings.{reading_of, reading_fits}
+use Rattle.kl1_command.specs.declared.performed.Performed.{Performed}
+use Rattle.kl1_command.specs.declared.performed.Performed.TheVariants as performed
+use Rattle.kl1_command.specs.Performing.{IsUntouched}
+use Rattle.kl1_command.specs.Room.{PerformsWithin}
+use Rattle.kl1_pool.specs.Answers.{IsGivenBySome, IsGiven}
+
+-- what is untouched is so in each part
+pub untouched_part : {A B : Type 0} (f : A → B) (p : Performed) (a b : A) → IsUntouched p a b → IsUntouched p (f a) (f b)
+untouched_part f (performed.Whole reply) a b h = tt
+untouched_part f (performed.Short n) a b h = tt
+untouched_part f performed.Memory a b h = ap f h
+
+by_some : (rules : Rules) (name : Option (List ℕ)) (c : Command) (p : Performed) → IsGivenBySome rules name c p → IsGiven rules name c p
+by_some rules name c (performed.Whole reply) h = h
+by_some rules name c (performed.Short n) h = h
+by_some rules name c performed.Memory h = tt
+
+-- the answer of an account to a command
+pub given : (rules : Rules) (name : Option (List ℕ)) (room : ℕ) (old new : Held) (c : Command) (p : Performed) → IsKept old → old.0.rules ≡ rules → name ≡ Some old.0.own_name → AreNames new.0.names → ((f : Reading) → Fits new.0.names f → Fits old.0.names f) → ((f : Reading) → Fits new.0.names f → PerformsWithin (Some room) (kept_of f old) c p (kept_of f new)) →
+    IsGiven rules name c p
+given rules name room old new c p kept keeps called names before does =
+    let f = reading_of new.0.names in
+    let fits = reading_fits new.0.names names in
+    by_some rules name c p (room, kept_of f old, kept_of f new, record { replay = (kept.replay f (before f fits)).is; keeps_to = keeps; called = called }, does f fits)

@@ -1,0 +1,173 @@
+// Commands to an account of a pool, and the answers to them.
+
+ghost use Rattle.std.specs.Prelude.{◌≡◌, ◌≢◌, Some, slice_get};
+ghost use Rattle.kl1_command.specs.Commands.{command_view};
+ghost use Rattle.kl1_command.specs.Performing.{IsUntouched};
+ghost use Rattle.kl1_command.specs.Told.{told_in, told_steps};
+ghost use Rattle.kl1_command.specs.Room.{PerformsWithin};
+ghost use Rattle.kl1_journal.specs.Keeping.{Reading, Fits, kept_of};
+ghost use Rattle.kl1_pool.specs.Counted.{room_in};
+ghost use Rattle.kl1_pool.specs.PoolAccounts.{HasCounted};
+ghost use Rattle.kl1_pool.specs.Answers.{IsGiven};
+
+use crate::account_host::AccountHost;
+use crate::pool_account::PoolAccount;
+use crate::pool_ids::PoolIds;
+use crate::shared_tables::SharedTables;
+use kl1_command::{Command, Performed};
+use kl1_pool_tickets::{PoolShared, Share};
+use std::marker::{Model, PhantomData};
+use std::snapshot::Snapshot;
+use std::sync::Wait;
+
+/// The answer to a command to an account of the pool that K names. Nothing makes one but a command that was done, or an account that
+/// isn't the one that was asked for. Contracts see for which account and for which command it is.
+#[derive(Drop)]
+pub struct Answer<K: PoolIds> {
+    performed: Performed,
+    account: Snapshot<usize>,
+    command: Snapshot<Command>,
+    of: PhantomData<K>,
+}
+
+impl<K: PoolIds> Model for Answer<K> {
+    ghost use Rattle.std.specs.Prelude.{slice_get};
+    ghost use Rattle.std.specs.Coded.{codes};
+    ghost use Rattle.kl1_model.specs.code.TermCode.{term_code};
+    ghost use Rattle.kl1_command.specs.Commands.{command_view};
+    ghost use Rattle.kl1_pool.specs.Answers.{AnswerValue, IsGiven};
+
+    ghost Value = { AnswerValue };
+
+    ghost coded = { Prim.hlevel (codes, term_code) };
+
+    ghost view = { λ a. record { account = a.account.value; command = command_view a.command.value; performed = a.performed } };
+
+    ghost invariant = { λ a. IsGiven K.rules (slice_get K.names a.account.value) (command_view a.command.value) a.performed };
+}
+
+impl<K: PoolIds> Answer<K> {
+    /// The answer if the account of another number was found in the place of the one that was asked for. Nothing is done.
+    pub(crate) fn misplaced<'t, R: Wait>(
+        found: &PoolAccount<'t, R, K>,
+        account: usize,
+        command: &Command,
+    ) -> Answer<K>
+        requires { found.now.book.account ≢ account }
+        ensures account { result.account ≡ account }
+        ensures command { result.command ≡ command_view command.now }
+        ensures told { told_in result.performed ≡ told_steps 0 }
+    {
+        let _found = found.account();
+        Answer {
+            performed: Performed::Memory,
+            account: Snapshot::of(&account),
+            command: Snapshot::of(command),
+            of: PhantomData,
+        }
+    }
+
+    /// Tells a caller's proof that some account of the rules and of the name that K names gives this answer to this command, unless
+    /// memory was refused. It does nothing.
+    pub fn shows_given(&self)
+        ensures { IsGiven K.rules (slice_get K.names self.now.account) self.now.command self.now.performed }
+    {
+        let _performed = &self.performed;
+    }
+
+    /// What became of the command.
+    pub fn performed(&self) -> &Performed
+        ensures { result.now ≡ self.now.performed }
+    {
+        &self.performed
+    }
+
+    /// What became of the command; and, for contracts alone, to which account it was done and which one it was.
+    pub fn into_parts(self) -> (Performed, Snapshot<usize>, Snapshot<Command>)
+        ensures performed { result.0 ≡ self.performed }
+        ensures account { result.1.value ≡ self.account }
+        ensures command { command_view result.2.value ≡ self.command }
+    {
+        let Answer {
+            performed,
+            account,
+            command,
+            of: _,
+        } = self;
+        (performed, account, command)
+    }
+
+    /// What became of the command.
+    pub fn into_performed(self) -> Performed
+        ensures { result ≡ self.performed }
+    {
+        let Answer {
+            performed,
+            account: _,
+            command: _,
+            of: _,
+        } = self;
+        performed
+    }
+}
+
+impl<'t, R: Wait, K: PoolIds> PoolAccount<'t, R, K> {
+    /// What a command does to the account and its journal, and the answer. The book and `share` get what the answer tells: one event
+    /// for a load, a start, a message and an answer, one event and one step for a reduction, and both for each step of a run. An
+    /// accepted reset adds the journal that it ends to what was counted before. A run ends when the book tells `MOST_EVENTS`, as if
+    /// the next step was refused by a full journal, and so is what would be an entry.
+    pub fn perform(
+        &mut self,
+        rt: &'t R,
+        common: &PoolShared<K>,
+        tables: &SharedTables<'t, K>,
+        share: &mut Share<K>,
+        command: &Command,
+    ) -> Answer<K>
+        ensures does { (f : Reading) → Fits self.new.held.0.names f → PerformsWithin (Some (room_in self.old.book)) (kept_of f self.old.held) (command_view command.now) result.performed (kept_of f self.new.held) }
+        ensures memory { IsUntouched result.performed self.old self.new × IsUntouched result.performed share.old share.new }
+        ensures counted { HasCounted self.old share.old (told_in result.performed) self.new share.new }
+        ensures account { result.account ≡ self.old.book.account }
+        ensures command { result.command ≡ command_view command.now }
+        ensures out { self.new.is_out ≡ self.old.is_out }
+        ensures before { (f : Reading) → Fits self.new.held.0.names f → Fits self.old.held.0.names f }
+    {
+        let account = self.account();
+        // This and the next one are called for the facts that they prove: the account that answers is the replay of its journal, and some
+        // reading fits the names.
+        self.shows_counts();
+        let performed = self.performed(rt, common, tables, share, command);
+        self.shows_counts();
+        Answer {
+            performed,
+            account: Snapshot::of(&account),
+            command: Snapshot::of(command),
+            of: PhantomData,
+        }
+    }
+
+    /// What became of a command that was done.
+    fn performed(
+        &mut self,
+        rt: &'t R,
+        common: &PoolShared<K>,
+        tables: &SharedTables<'t, K>,
+        share: &mut Share<K>,
+        command: &Command,
+    ) -> Performed
+        ensures does { (f : Reading) → Fits self.new.held.0.names f → PerformsWithin (Some (room_in self.old.book)) (kept_of f self.old.held) (command_view command.now) result (kept_of f self.new.held) }
+        ensures memory { IsUntouched result self.old self.new × IsUntouched result share.old share.new }
+        ensures counted { HasCounted self.old share.old (told_in result) self.new share.new }
+        ensures out { self.new.is_out ≡ self.old.is_out }
+        ensures before { (f : Reading) → Fits self.new.held.0.names f → Fits self.old.held.0.names f }
+    {
+        let mut host = AccountHost {
+            account: self,
+            share,
+            common,
+            tables,
+            rt,
+        };
+        kl1_command::perform(&mut host, command)
+    }
+}

@@ -1,0 +1,78 @@
+// Turns of an account of a pool.
+
+ghost use Rattle.std.specs.Prelude.{◌≡◌, ◌≤◌, min};
+ghost use Rattle.kl1_command.specs.Told.{told_steps};
+ghost use Rattle.kl1_command.specs.Stepping.{IsEnd, RunsOn};
+ghost use Rattle.kl1_pool_tickets.specs.declared.serving.TheConstants.{MOST_STEPS};
+ghost use Rattle.kl1_journal.specs.Keeping.{Reading, Fits, kept_of};
+ghost use Rattle.kl1_pool.specs.Counted.{room_in};
+ghost use Rattle.kl1_pool.specs.PoolAccounts.{HasCounted};
+ghost use Rattle.kl1_pool.specs.Stepping.{AreFirstSteps, goes_on};
+
+use crate::account_host::AccountHost;
+use crate::pool_account::PoolAccount;
+use crate::pool_ids::PoolIds;
+use crate::shared_tables::SharedTables;
+use kl1_command::{Steps, run_steps};
+use kl1_pool_tickets::{MOST_STEPS, PoolShared, Share};
+use std::sync::Wait;
+
+/// What a turn did: how many steps, with what became of the last one that was tried; and whether all were done and a goal can still
+/// step.
+#[derive(Clone, Copy)]
+pub struct Turn {
+    pub steps: Steps,
+    pub again: bool,
+}
+
+impl<'t, R: Wait, K: PoolIds> PoolAccount<'t, R, K> {
+    /// First steps until `MOST_STEPS` are done, none can step, or one is refused, also for want of memory. Each is an event and a step
+    /// in the book and in `share`. No more are done than the book can tell.
+    pub fn turn(
+        &mut self,
+        rt: &'t R,
+        common: &PoolShared<K>,
+        tables: &SharedTables<'t, K>,
+        share: &mut Share<K>,
+    ) -> Turn
+        ensures few { result.steps.done ≤ MOST_STEPS }
+        ensures steps { (f : Reading) → Fits self.new.held.0.names f → AreFirstSteps (kept_of f self.old.held) result.steps.done (kept_of f self.new.held) }
+        ensures last { (f : Reading) → Fits self.new.held.0.names f → IsEnd (min MOST_STEPS (room_in self.old.book)) result.steps.done result.steps.last (kept_of f self.new.held) }
+        ensures again { (f : Reading) → Fits self.new.held.0.names f → result.again ≡ goes_on MOST_STEPS result.steps.done (kept_of f self.new.held) }
+        ensures counted { HasCounted self.old share.old (told_steps result.steps.done) self.new share.new }
+        ensures out { self.new.is_out ≡ self.old.is_out }
+        ensures before { (f : Reading) → Fits self.new.held.0.names f → Fits self.old.held.0.names f }
+    {
+        let most = MOST_STEPS.min(self.room());
+        let steps = self.first_steps(rt, common, tables, share, most);
+        let again = steps.done == MOST_STEPS && !self.quiet();
+        Turn { steps, again }
+    }
+
+    /// First steps until `most` are done, none can step, or one is refused.
+    fn first_steps(
+        &mut self,
+        rt: &'t R,
+        common: &PoolShared<K>,
+        tables: &SharedTables<'t, K>,
+        share: &mut Share<K>,
+        most: u64,
+    ) -> Steps
+        requires { most ≤ room_in self.old.book }
+        ensures few { result.done ≤ most }
+        ensures goes { (f : Reading) → Fits self.new.held.0.names f → RunsOn (kept_of f self.old.held) result.done (kept_of f self.new.held) }
+        ensures last { (f : Reading) → Fits self.new.held.0.names f → IsEnd most result.done result.last (kept_of f self.new.held) }
+        ensures counted { HasCounted self.old share.old (told_steps result.done) self.new share.new }
+        ensures out { self.new.is_out ≡ self.old.is_out }
+        ensures before { (f : Reading) → Fits self.new.held.0.names f → Fits self.old.held.0.names f }
+    {
+        let mut host = AccountHost {
+            account: self,
+            share,
+            common,
+            tables,
+            rt,
+        };
+        run_steps(&mut host, most)
+    }
+}

@@ -1,0 +1,18 @@
+use Rattle.std.proofs.Common.{refl}
+use Rattle.kl1_model_server.specs.Script.{output}
+use Rattle.kl1_lines.specs.Runs.{streams}
+use Rattle.kl1_lines.proofs.RunLaws.{runs_unread, runs_whole}
+use Rattle.kl1_script.specs.Scripts.{script_replies}
+use Rattle.kl1_script.proofs.scripts.run_script_over.Goals as goal
+
+pub returns-in-Ok-clause-runs : goal.returns-in-Ok-clause-runs
+returns-in-Ok-clause-runs g c =
+    let old = streams g.R.Source.remaining g.R.Source.failures g.W.Sink.contents g.W.Sink.failures c.args.source.now c.args.sink.now in
+    let new = streams g.R.Source.remaining g.R.Source.failures g.W.Sink.contents g.W.Sink.failures c.read_all.new.source c.answer.new.sink in
+    runs_whole c.answer.result output script_replies c.in-Ok.script.items old new c.in-Ok.ensures.ok (c.in-Ok.ensures.not_read (λ e. cc)) (rw c.as_slice.ensures.value at c.answer.ensures)
+
+pub returns-in-Err-clause-runs : goal.returns-in-Err-clause-runs
+returns-in-Err-clause-runs g c =
+    let old = streams g.R.Source.remaining g.R.Source.failures g.W.Sink.contents g.W.Sink.failures c.args.source.now c.args.sink.now in
+    let new = streams g.R.Source.remaining g.R.Source.failures g.W.Sink.contents g.W.Sink.failures c.read_all.new.source c.args.sink.now in
+    runs_unread (Unit {0}) _ c.in-Err.fault output script_replies old new refl refl c.in-Err.ensures.read c.in-Err.ensures.not_read c.in-Err.ensures.too_long c.in-Err.ensures.not_write

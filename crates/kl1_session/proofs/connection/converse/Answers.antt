@@ -1,0 +1,56 @@
+use Rattle.std.proofs.Common.{◌++◌, [], List, ℕ, length, Some, None, ap, sym, ◌∙◌, subst, refl}
+use Rattle.std.specs.declared.option.Option.{Option}
+use Rattle.kl1_model_server.specs.Inputs.{inputs}
+use Rattle.kl1_session.specs.ActionViews.{IsVisitor}
+use Rattle.kl1_session.specs.Views.{entries_view}
+use Rattle.kl1_session.specs.Connections.{Standing, GoesOn, Connects, standing}
+use Rattle.kl1_session.proofs.Connections.{starts, more_pieces, gives_up, nothing_asked, rest_is_quiet}
+use Rattle.kl1_session.proofs.connection.converse.Goals as goal
+
+pub loop-init : goal.loop-init
+loop-init g c =
+    let s : Standing = standing (g.T.Sink.contents c.args.sink.now) (g.D.CommandHandler.done c.args.handler.now) c.args.state.now in
+    let read = g.S.Source.remaining c.args.source.now in
+    let P : List ℕ → Type 0 = λ k. GoesOn (entries_view c.args.keys.now) [] k read read s s in
+    let Q : Option ℕ → Type 0 = λ v. IsVisitor (length c.args.keys.now) v in
+    record {
+      handler = refl;
+      visitor = subst Q (sym c.requires.fresh.0) tt;
+      room = refl;
+      quiet = ap (λ x. inputs x) c.new-session.ensures ∙ nothing_asked;
+      talk = subst P (sym c.new-session.ensures) (starts (entries_view c.args.keys.now) read s c.requires.fresh.1);
+    }
+
+pub returns-in-Some-clause-talk : goal.returns-in-Some-clause-talk
+returns-in-Some-clause-talk g c =
+    let done = g.D.CommandHandler.done in
+    let contents = g.T.Sink.contents in
+    let remaining = g.S.Source.remaining in
+    let s : Standing = standing (contents c.args.sink.now) (done c.args.handler.now) c.args.state.now in
+    let t : Standing = standing (contents c.loop.sink) (done c.loop.handler) c.loop.state in
+    let u : Standing = standing (contents c.serve_piece-ended.new.sink) (done c.serve_piece-ended.new.handler) c.serve_piece-ended.new.state in
+    let P : ℕ → Type 0 = λ n. Connects (entries_view c.args.keys.now) n c.in-Some.served c.loop.session (remaining c.loop.source) (remaining c.serve_piece-ended.new.source) t u in
+    more_pieces (entries_view c.args.keys.now) (length c.args.buffer.now) (Some c.in-Some.served) [] c.loop.session c.serve_piece-ended.new.session (remaining c.args.source.now) (remaining c.loop.source) (remaining c.serve_piece-ended.new.source) s t u c.loop.invariant.talk (subst P c.loop.invariant.room c.in-Some.ensures.talk)
+
+pub loop-preserved : goal.loop-preserved
+loop-preserved g c =
+    let done = g.D.CommandHandler.done in
+    let contents = g.T.Sink.contents in
+    let remaining = g.S.Source.remaining in
+    let s : Standing = standing (contents c.args.sink.now) (done c.args.handler.now) c.args.state.now in
+    let t : Standing = standing (contents c.loop.sink) (done c.loop.handler) c.loop.state in
+    let u : Standing = standing (contents c.serve_piece-ended.new.sink) (done c.serve_piece-ended.new.handler) c.serve_piece-ended.new.state in
+    let k : GoesOn (entries_view c.args.keys.now) [] c.serve_piece-ended.new.session (remaining c.args.source.now) (remaining c.serve_piece-ended.new.source) s u = more_pieces (entries_view c.args.keys.now) (length c.args.buffer.now) None [] c.loop.session c.serve_piece-ended.new.session (remaining c.args.source.now) (remaining c.loop.source) (remaining c.serve_piece-ended.new.source) s t u c.loop.invariant.talk c.in_default.ensures.talk in
+    record {
+      handler = c.in_default.ensures.handler ∙ c.loop.invariant.handler;
+      visitor = c.in_default.ensures.visitor;
+      room = c.in_default.ensures.room ∙ c.loop.invariant.room;
+      quiet = ap (λ x. inputs x) k.rest ∙ rest_is_quiet ([] ++ k.bytes);
+      talk = k;
+    }
+
+pub returns-clause-talk : goal.returns-clause-talk
+returns-clause-talk g c =
+    let s : Standing = standing (g.T.Sink.contents c.args.sink.now) (g.D.CommandHandler.done c.args.handler.now) c.args.state.now in
+    let t : Standing = standing (g.T.Sink.contents c.loop.sink) (g.D.CommandHandler.done c.loop.handler) c.loop.state in
+    gives_up (entries_view c.args.keys.now) (length c.args.buffer.now) [] c.loop.session (g.S.Source.remaining c.args.source.now) (g.S.Source.remaining c.loop.source) s t c.loop.invariant.talk

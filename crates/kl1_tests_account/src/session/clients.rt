@@ -1,0 +1,79 @@
+// Clients over streams in memory.
+
+ghost use Rattle.std.specs.Prelude.{◌≡◌, None};
+
+use crate::session::streams::Pieces;
+use kl1_client_talk::{Caller, Connection, Fault, LineReader, ReplyWriter, status_of, talk};
+use kl1_lines::{FailureCounter, is_same};
+use kl1_tests_rows::{Text, cut};
+use std::alloc::Global;
+
+/// Who gives the commands: a file has its own name for its bytes, and there is no file `absent`.
+#[derive(Drop)]
+struct Script<'a> {
+    lines: LineReader<FailureCounter<&'a [u8]>>,
+}
+
+impl Caller for Script<'_> {
+    ghost remaining = { λ s. None };
+
+    ghost is_file = { λ name bytes. bytes ≡ name };
+
+    fn next(&mut self, line: &mut Vec<u8>) -> Result<bool, Fault> {
+        self.lines.next(line, Fault::Commands)
+    }
+
+    fn file(&mut self, name: &[u8], source: &mut Vec<u8>) -> Result<bool, Fault> {
+        source.clear();
+        source.extend_from_slice(name)?;
+        Ok(!is_same(name, b"absent"))
+    }
+
+    fn pause(&mut self, _looks: u64) {}
+}
+
+/// The status of a client with these commands, to whom these replies come in pieces of at most `size` bytes; a bar, what it sends, a
+/// bar and what it shows.
+fn talk_of(alloc: Global, commands: &[u8], replies: &[u8], size: usize, is_paged: bool) -> Text {
+    let mut sent = Vec::new(alloc);
+    let mut shown = Vec::new(alloc);
+    let mut caller = Script {
+        lines: LineReader::new(alloc, FailureCounter::new(commands)),
+    };
+    let source = FailureCounter::new(Pieces {
+        bytes: replies,
+        size,
+    });
+    let status = {
+        let mut connection = Connection::new(alloc, source, FailureCounter::new(&mut sent));
+        let mut replies = ReplyWriter::new(alloc, FailureCounter::new(&mut shown), is_paged);
+        status_of(talk(
+            alloc,
+            &mut connection,
+            &mut replies,
+            &mut caller,
+            b"alice",
+            b"k1",
+        ))
+    };
+    let mut text = Text::new(alloc);
+    text.put_number(u64::from(status));
+    text.put(b"|");
+    text.put(sent.as_slice());
+    text.put(b"|");
+    text.put(shown.as_slice());
+    text
+}
+
+/// Whether a client for whose commands, before a bar, these replies come, in pieces of each size, ends with a status, sends and
+/// shows as is wanted.
+pub fn is_client(alloc: Global, act: &[u8], wanted: &[u8], is_paged: bool) -> bool {
+    let (commands, replies) = cut(act, b'|');
+    for size in 1..64usize {
+        let text = talk_of(alloc, commands, replies, size, is_paged);
+        if text.has_failed || text.bytes.as_slice() != wanted {
+            return false;
+        }
+    }
+    true
+}
