@@ -18,6 +18,7 @@ pub mod Drafted
 pub mod PutIn
 pub mod Steps
 pub mod StartLines
+pub mod PrintLengths
 pub mod Beyond
 pub mod Opened
 pub mod Streaming

@@ -12,6 +12,7 @@ mod exchanging;
 mod installing;
 mod judging;
 mod limits;
+mod line_length;
 mod loading;
 mod looking;
 mod looking_beside;
