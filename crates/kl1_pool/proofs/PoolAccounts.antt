@@ -3,6 +3,7 @@ use Rattle.std.proofs.Common.{◌≡◌, ℕ, ◌<◌, false, List, ap, sym, ◌
 use Rattle.std.specs.Prelude.{◌↔◌, Option, Some, None, slice_get}
 use Rattle.kl1_model.specs.Event as model
 use Rattle.kl1_model_server.specs.Journal.{Journal, Done, done}
+use Rattle.kl1_model_server.specs.laws.HistoryLaws.{EndsInRun}
 use Rattle.kl1_model_server.proofs.Replays.{names_stay, rules_stay}
 use Rattle.kl1_atoms.specs.Names.{AreNames}
 use Rattle.kl1_codes_modules.specs.Numbered.{Numbered, ArePlaced}
@@ -21,12 +22,12 @@ use Rattle.kl1_pool.specs.PoolAccounts.{StandsIn}
 use Rattle.kl1_pool.proofs.Tells.{done_counts, ended_is}
 
 -- what a book is to tell after an event
-pub held_counts : (p : TotalsBeforeReset) (b : Book) (old new : Held) (e : model.Event) (reply : model.Reply) → AreNames new.0.names → ((f : Reading) → Fits new.0.names f → done (kept_of f old) e ≡ record { kept = kept_of f new; reply = reply }) → IsCounted p old.1 b → HasRoom b e →
+pub held_counts : (p : TotalsBeforeReset) (b : Book) (old new : Held) (e : model.Event) (reply : model.Reply) → AreNames new.0.names → ((f : Reading) → Fits new.0.names f → done (kept_of f old) e ≡ record { kept = kept_of f new; reply = reply }) → EndsInRun old.1.entries old.0.run → IsCounted p old.1 b → HasRoom b e →
     IsCounted (past_by p old.1 reply) new.1 (with_more b (events_by reply) (steps_by reply)) × (is_run reply ≡ false)
-held_counts p b old new e reply names is counted room =
+held_counts p b old new e reply names is ends counted room =
     let f = reading_of new.0.names in
     let d : Done = record { kept = kept_of f new; reply = reply } in
-    done_counts p b (kept_of f old) e d (is f (reading_fits new.0.names names)) counted room
+    done_counts p b (kept_of f old) e d (is f (reading_fits new.0.names names)) ends counted room
 
 -- so by what was counted
 pub kept_counts : (p q : TotalsBeforeReset) (b c : Book) (j k : Journal) (reply : model.Reply) → IsCounted p j b → IsCounted (past_by p j reply) k (with_more b (events_by reply) (steps_by reply)) → q ≡ ended p b reply → c ≡ with_more b (events_by reply) (steps_by reply) → IsCounted q k c
