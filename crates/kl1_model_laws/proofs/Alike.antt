@@ -1,9 +1,9 @@
 -- What reports, replacements and changes of a shoen's streams leave as it is, and what a goal in the place of another does.
 use Rattle.std.proofs.Common.{◌≡◌, ℕ, suc, ◌+◌, ◌==◌, ◌||◌, not, ◌&&◌, Bool, true, false, if◌then◌else◌, List, [], ◌∷◌, ◌++◌, refl, sym, ap, ap₂, ◌∙◌}
-use Rattle.std.specs.Prelude.{nat_lt, map, Option, Some, None, option_map, unwrap_or}
+use Rattle.std.specs.Prelude.{map, Option, Some, None, option_map, unwrap_or}
 use Rattle.std.specs.List.{list_any}
 use Rattle.kl1_model.specs.declared.life.Life.{Life}
-use Rattle.kl1_model.specs.Term.{Term, variable, integer, atom, structure, Replacement, occurs}
+use Rattle.kl1_model.specs.Term.{Term, variable, integer, atom, structure, Replacement}
 use Rattle.kl1_model.specs.Meaning.{nil, cell, highest}
 use Rattle.kl1_model.specs.State.{Task, monitor, reduces, substitutes, Goal, Shoen, State, has_substitutes, shoen_at, replace_in_task, replace_in_goal, replace_in_shoen, replace_in_state, replace_all, change_shoen, is_monitor, is_living, names_of, with_names}
 use Rattle.kl1_model.specs.Report.{broken_at, has_made_last, report_tail, reported_on, reported_at, report, is_reported, report_each, closed_at, close, exception, exception_with, failure, exhaustion, started_report, exhausted_report, stopped_report, resumed_report}

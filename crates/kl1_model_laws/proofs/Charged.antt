@@ -1,13 +1,13 @@
 -- No shoen is charged more than its allowance.
-use Rattle.std.proofs.Common.{◌≡◌, ◌≤◌, ◌<◌, ℕ, zero, suc, ◌+◌, ◌==◌, ◌||◌, not, ◌&&◌, Bool, true, false, if◌then◌else◌, List, [], ◌∷◌, refl, sym, ap, ap₂, ◌∙◌, subst, arith}
-use Rattle.std.specs.Prelude.{nat_le, nat_lt, min, map, length, get_or, count_by, cond, Option, Some, None}
+use Rattle.std.proofs.Common.{◌≡◌, ◌≤◌, ◌<◌, ℕ, zero, suc, ◌+◌, ◌==◌, not, ◌&&◌, Bool, true, false, if◌then◌else◌, List, [], ◌∷◌, refl, sym, ap, ap₂, ◌∙◌, subst, arith}
+use Rattle.std.specs.Prelude.{map, length, get_or, count_by, cond, Option, Some, None}
 use Rattle.std.specs.List.{AllByRecursion}
-use Rattle.std.proofs.lemmas.Bool.{true≢false, eq-eqb, ne_eqb, or_from, ltb-true}
+use Rattle.std.proofs.lemmas.Bool.{true≢false, eq-eqb, ne_eqb, or_from}
 use Rattle.std.proofs.lemmas.List.Sums.{sum_by-cons, count_by-le-length}
 use Rattle.kl1_model.specs.declared.life.Life.TheVariants.{Terminated, Aborted}
 use Rattle.kl1_model.specs.declared.message.Message.{Message}
 use Rattle.kl1_model.specs.declared.message.Message.TheVariants.{Stop, Start, Abort, Allow}
-use Rattle.kl1_model.specs.Term.{Term, variable, integer, atom, structure, Replacement, occurs}
+use Rattle.kl1_model.specs.Term.{Term, variable, integer, atom, structure, Replacement}
 use Rattle.kl1_model.specs.Meaning.{nil, cell}
 use Rattle.kl1_model.specs.Unify.{mgu}
 use Rattle.kl1_model.specs.Module.{is_among}
@@ -29,8 +29,7 @@ use Rattle.kl1_model_laws.specs.Reached.{reached}
 use Rattle.kl1_model_laws.specs.AllowanceLaws.{NoneIsChargedMore}
 use Rattle.kl1_model_laws.proofs.Allowances.{found_number, enabled_has_allowance}
 use Rattle.kl1_model_laws.proofs.Reaching.{Keeping, holds_reached}
-use Rattle.kl1_model_laws.proofs.Alike.{Node, nodes_of, Alike, begun, begun_shoen, alike_start, alike_sent, alike_answered}
-use Rattle.kl1_model_laws.proofs.Modules.{move_has, reading_has}
+use Rattle.kl1_model_laws.proofs.Alike.{Node, nodes_of, Alike, begun, begun_shoen, alike_sent, alike_answered}
 use Rattle.kl1_model_laws.proofs.Each.{all_map, all_append, all_weaker, found_shoen}
 
 -- charges are within the allowances of shoens

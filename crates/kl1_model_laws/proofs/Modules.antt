@@ -1,8 +1,7 @@
 -- Modules of an account stay, and each that is loaded was read; what a goal does makes no entry by itself.
 use Rattle.std.proofs.Common.{◌≡◌, ℕ, not, Bool, true, false, if◌then◌else◌, List, [], ◌∷◌, ◌++◌, refl, sym, ◌∙◌, subst}
-use Rattle.std.specs.Prelude.{nat_le, filter, length, bytes_eq, Option, Some}
+use Rattle.std.specs.Prelude.{filter, bytes_eq, Option, Some}
 use Rattle.std.specs.List.{AllByRecursion}
-use Rattle.kl1_model.specs.declared.limits.TheConstants.{MOST_NAMES}
 use Rattle.kl1_model.specs.declared.message.Message.{Message}
 use Rattle.kl1_model.specs.declared.message.Message.TheVariants.{Stop, Start, Abort, Allow}
 use Rattle.kl1_model.specs.Term.{Term, atom, count_of}

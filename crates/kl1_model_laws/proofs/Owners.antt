@@ -1,6 +1,6 @@
 -- What goals, reports and shoens have no control tail of the console, and effects that keep that.
 use Rattle.std.proofs.Common.{◌≡◌, ◌≤◌, ◌<◌, ℕ, suc, ◌==◌, ◌||◌, not, ◌&&◌, Bool, true, false, if◌then◌else◌, List, [], ◌∷◌, ◌++◌, refl, sym, ap, ap₂, ◌∙◌, subst, arith}
-use Rattle.std.specs.Prelude.{nat_lt, map, filter, codes, Option, Some, None, option_map}
+use Rattle.std.specs.Prelude.{map, filter, codes, Option, Some, None, option_map}
 use Rattle.std.specs.List.{AllByRecursion}
 use Rattle.std.proofs.lemmas.Bool.{eqb-true, ne_eqb}
 use Rattle.kl1_model.specs.declared.life.Life.TheVariants.{Terminated, Aborted}

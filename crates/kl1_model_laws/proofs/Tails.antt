@@ -4,7 +4,7 @@ use Rattle.std.specs.Prelude.{nat_le, map, length, Option, Some, None, option_ma
 use Rattle.std.specs.List.{AllByRecursion}
 use Rattle.std.proofs.lemmas.Bool.{and_parts, eqb-true, eqb-false, eq-eqb, ne_eqb, leb-false}
 use Rattle.std.proofs.Math.Nat.{le-max_left, le-max_right}
-use Rattle.kl1_model.specs.declared.limits.TheConstants.{MOST_NAMES, MOST_LINE_BYTES}
+use Rattle.kl1_model.specs.declared.limits.TheConstants.{MOST_LINE_BYTES}
 use Rattle.kl1_model.specs.declared.message.Message.{Message}
 use Rattle.kl1_model.specs.Term.{Term, variable, atom, terms_of, replace, Replacement, substituted}
 use Rattle.kl1_model.specs.Meaning.{nil, cell, highest, highest_in, is_numbered, is_writable}

@@ -1,5 +1,5 @@
 -- Rows of the fourth rules: their limits, and runs in journals.
-use Rattle.std.specs.Prelude.{◌≡◌, codes, ℕ, List, [], ◌∷◌, Some, None}
+use Rattle.std.specs.Prelude.{◌≡◌, codes, ℕ, [], ◌∷◌, Some, None}
 use Rattle.kl1_model.specs.declared.rules.Rules.TheVariants.{Three, Four}
 use Rattle.kl1_model.specs.State.{State, fresh, fresh_with}
 use Rattle.kl1_model.specs.Event.{load, start, reduce, reset, opened, reduced, refused, step_refused, limit_passed, journal_full}
