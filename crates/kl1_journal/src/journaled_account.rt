@@ -7,7 +7,7 @@ ghost use Rattle.kl1_model_server.specs.Journal.{fresh_kept, done};
 ghost use Rattle.kl1_model_server.specs.JournalText.{page_of};
 ghost use Rattle.kl1_model_server.specs.laws.TextLaws.{AreNames as MayBeNames};
 ghost use Rattle.kl1_atoms.specs.Names.{AreNames};
-ghost use Rattle.kl1_codes_modules.specs.Numbered.{ArePlaced};
+ghost use Rattle.kl1_codes.specs.Numbered.{ArePlaced};
 ghost use Rattle.kl1_user.specs.Accounts.{Reading, Fits};
 ghost use Rattle.kl1_user.specs.Accounts.{texts_of};
 ghost use Rattle.kl1_user_events.specs.Views.{event_of, is_logout, reply_of, reduced_or, chosen_of};
@@ -36,7 +36,7 @@ pub struct JournaledAccount<A: AtomSource, C: CodeSource> {
 impl<A: AtomSource, C: CodeSource> Model for JournaledAccount<A, C> {
     ghost use Rattle.std.specs.Prelude.{◌≡◌};
     ghost use Rattle.std.specs.Coded.{codes};
-    ghost use Rattle.kl1_codes_modules.specs.Numbered.{numbered_code};
+    ghost use Rattle.kl1_codes.specs.Numbered.{numbered_code};
     ghost use Rattle.kl1_atoms.specs.Names.{AreNames};
     ghost use Rattle.kl1_user.specs.Accounts.{Account};
     ghost use Rattle.kl1_model_server.specs.Journal.{Journal as Entered};

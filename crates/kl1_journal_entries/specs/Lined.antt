@@ -1,5 +1,5 @@
 -- Entries that have lines, and journals with room for more of them.
-use Rattle.std.specs.Prelude.{ℕ, zero, suc, ◌+◌, ◌*◌, nat_le, ◌&&◌, Bool, if◌then◌else◌, length, Option, Some, None, is_some, option_and_then}
+use Rattle.std.specs.Prelude.{ℕ, zero, suc, ◌+◌, ◌*◌, nat_le, ◌&&◌, Bool, if◌then◌else◌, length, Option, Some, None, option_and_then}
 use Rattle.kl1_model.specs.Goal.{is_goal}
 use Rattle.kl1_model.specs.Meaning.{is_writable, is_numbered}
 use Rattle.kl1_model.specs.Event.{Event, load, start, control, reduce, read, login, logout, reset, answer, is_number}
@@ -29,10 +29,6 @@ entry_of login = None
 entry_of logout = None
 entry_of reset = None
 entry_of (answer n report t) = Some (answers n report t)
-
--- whether an event is an entry of a journal, if it is accepted
-abbrev pub is_entry : Event → Bool
-is_entry e = is_some (entry_of e)
 
 -- an entry, if it is lined
 abbrev pub if_lined : Entry → Option Entry

@@ -5,9 +5,9 @@ ghost use Rattle.kl1_model.specs.Print.{print};
 ghost use Rattle.kl1_model.specs.Event.{is_number};
 ghost use Rattle.kl1_model.specs.declared.limits.TheConstants.{MOST_LINE_BYTES};
 ghost use Rattle.kl1_model.specs.Sending.{may_send};
-ghost use Rattle.kl1_model_server.specs.Journal.{loads, starts, sends, steps, answers, runs};
+ghost use Rattle.kl1_model_server.specs.Journal.{is_entry, loads, starts, sends, steps, answers, runs};
 ghost use Rattle.kl1_user_events.specs.Views.{event_of};
-ghost use Rattle.kl1_journal_entries.specs.Lined.{is_entry, is_lined, if_lined, lined_entry};
+ghost use Rattle.kl1_journal_entries.specs.Lined.{is_lined, if_lined, lined_entry};
 ghost use Rattle.kl1_journal_entries.specs.Reading.{is_line_of};
 
 use crate::entry::{shown_at, shown_whole};

@@ -1,5 +1,5 @@
 -- The journal of an account, and what it says of the account.
-use Rattle.std.specs.Prelude.{ℕ, zero, suc, if◌then◌else◌, List, [], ◌∷◌, ◌++◌, fold, Option, Some, None}
+use Rattle.std.specs.Prelude.{ℕ, zero, suc, Bool, true, false, if◌then◌else◌, List, [], ◌∷◌, ◌++◌, fold, Option, Some, None}
 use Rattle.kl1_model.specs.declared.message.Message.{Message}
 use Rattle.kl1_model.specs.declared.rules.Rules.{Rules}
 use Rattle.kl1_model.specs.Term.{Term}
@@ -17,6 +17,15 @@ pub data Entry : Type 0 where
   steps : ℕ → ℕ → Entry
   answers : ℕ → ℕ → Term → Entry
   runs : ℕ → Entry
+
+-- whether an event is an entry of a journal, if it is accepted
+abbrev pub is_entry : Event → Bool
+is_entry (load text) = true
+is_entry (start allowance low high t) = true
+is_entry (control n m) = true
+is_entry (answer n report t) = true
+is_entry (reduce goal clause) = true
+is_entry _ = false
 
 -- the reduction that was chosen, and the reply; refused if there is none
 abbrev pub chosen_step : State → Option Chosen → Transition

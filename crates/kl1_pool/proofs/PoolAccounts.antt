@@ -6,8 +6,8 @@ use Rattle.kl1_model_server.specs.Journal.{Journal, Done, done}
 use Rattle.kl1_model_server.specs.laws.HistoryLaws.{EndsInRun}
 use Rattle.kl1_model_server.proofs.Replays.{names_stay, rules_stay}
 use Rattle.kl1_atoms.specs.Names.{AreNames}
-use Rattle.kl1_codes_modules.specs.Numbered.{Numbered, ArePlaced}
-use Rattle.kl1_codes_modules.proofs.Placing.{placed_still}
+use Rattle.kl1_codes.specs.Numbered.{Numbered, ArePlaced}
+use Rattle.kl1_codes.proofs.Placing.{placed_still}
 use Rattle.atomic_table.specs.Seated.{TableId}
 use Rattle.boxcar.specs.Table.{Shelves}
 use Rattle.kl1_tally.specs.Seats.{Book}

@@ -1,10 +1,9 @@
 -- What a book tells of a journal and of those before it, and how much more it can tell.
 use Rattle.std.specs.Prelude.{◌≡◌, ℕ, suc, ◌+◌, ◌-◌, ◌<◌, ◌≤◌, ◌^◌, Bool, true, false, List, [], ◌∷◌}
 use Rattle.kl1_model.specs.Event as model
-use Rattle.kl1_model_server.specs.Journal.{Entry, loads, starts, sends, steps, answers, runs, Journal}
+use Rattle.kl1_model_server.specs.Journal.{is_entry, Entry, loads, starts, sends, steps, answers, runs, Journal}
 use Rattle.kl1_tally.specs.Seats.{Book}
 use Rattle.kl1_command.specs.Told.{ends_journal}
-use Rattle.kl1_command.specs.Room.{is_entry}
 use Rattle.kl1_pool.specs.declared.totals_before_reset.TotalsBeforeReset.{TotalsBeforeReset}
 
 -- how many events some entries are: one each, but a run is one for each of its reductions

@@ -3,17 +3,16 @@
 ghost use Rattle.std.specs.Prelude.{◌≡◌, ◌<◌, ◌≤◌, ◌^◌, ◌&&◌, if◌then◌else◌, [], Some, slice_get, IfOk, IsOk, IsTrue, OnErr, true, false, not, option_map};
 ghost use Rattle.kl1_model.specs.Event.{reduce as reduce_event, refused, journal_full};
 ghost use Rattle.kl1_model.specs.Choice.{first, quiet};
-ghost use Rattle.kl1_model_server.specs.Journal.{done};
+ghost use Rattle.kl1_model_server.specs.Journal.{done, is_entry};
 ghost use Rattle.kl1_model_server.specs.JournalText.{page_of};
 ghost use Rattle.kl1_atoms.specs.Names.{AreNames};
 ghost use Rattle.kl1_atoms.specs.Seats.{face_in, IsSharedSeat};
-ghost use Rattle.kl1_codes_modules.specs.Numbered.{ArePlaced};
+ghost use Rattle.kl1_codes.specs.Numbered.{ArePlaced};
 ghost use Rattle.kl1_user_events.specs.Views.{event_of, is_logout, reply_of, reduced_or, chosen_of};
 ghost use Rattle.kl1_pool_tickets.specs.Counts.{Moved};
 ghost use Rattle.kl1_pool_tickets.specs.Parts.{IsNewBook};
 ghost use Rattle.kl1_journal.specs.Keeping.{Reading, Fits, kept_of, IsKept};
 ghost use Rattle.kl1_command.specs.Told.{events_by, steps_by};
-ghost use Rattle.kl1_command.specs.Room.{is_entry};
 ghost use Rattle.kl1_pool.specs.PoolAccounts.{StandsIn};
 ghost use Rattle.kl1_pool.specs.Counted.{no_past, with_more, IsCounted, past_by, room_in, HasRoom};
 
@@ -46,7 +45,7 @@ impl<'t, R: Wait, K: PoolIds> Model for PoolAccount<'t, R, K> {
     ghost use Rattle.std.specs.Coded.{codes};
     ghost use Rattle.kl1_tally.specs.declared.amounts.TheConstants.{MOST_ACCOUNTS};
     ghost use Rattle.kl1_atoms.specs.Seats.{face_in, IsSharedSeat};
-    ghost use Rattle.kl1_codes_modules.specs.Numbered.{numbered_code, ArePlaced};
+    ghost use Rattle.kl1_codes.specs.Numbered.{numbered_code, ArePlaced};
     ghost use Rattle.kl1_journal_entries.specs.Codes.{journal_code};
     ghost use Rattle.kl1_pool.specs.PoolAccounts.{PoolAccountValue, StandsIn};
     ghost use Rattle.kl1_pool.specs.Counted.{IsCounted};

@@ -31,7 +31,7 @@ pub(crate) struct Replayed<A: AtomSource + Drop, C: CodeSource + Drop> {
 
 impl<A: AtomSource + Drop, C: CodeSource + Drop> Model for Replayed<A, C> {
     ghost use Rattle.std.specs.Coded.{codes};
-    ghost use Rattle.kl1_codes_modules.specs.Numbered.{numbered_code, ArePlaced};
+    ghost use Rattle.kl1_codes.specs.Numbered.{numbered_code, ArePlaced};
     ghost use Rattle.kl1_user.specs.Accounts.{Account as Kept};
 
     ghost Value = { Kept };

@@ -6,7 +6,7 @@ ghost use Rattle.kl1_model.specs.State.{fresh, fresh_with};
 ghost use Rattle.kl1_model.specs.Event.{reduce as reduce_event, read};
 ghost use Rattle.kl1_model.specs.Step.{step};
 ghost use Rattle.kl1_model.specs.Choice.{first, quiet};
-ghost use Rattle.kl1_codes_modules.specs.Numbered.{ArePlaced};
+ghost use Rattle.kl1_codes.specs.Numbered.{ArePlaced};
 ghost use Rattle.kl1_user_effects.specs.Fitting.{Reading, Fits};
 ghost use Rattle.kl1_user_effects.specs.Account.{state_of, texts_of};
 ghost use Rattle.kl1_user_effects.specs.Naming.{IsNameList, Keeps};
@@ -33,7 +33,7 @@ pub struct UserState<A: AtomSource, C: CodeSource> {
 
 impl<A: AtomSource, C: CodeSource> Model for UserState<A, C> {
     ghost use Rattle.std.specs.Coded.{codes};
-    ghost use Rattle.kl1_codes_modules.specs.Numbered.{numbered_code};
+    ghost use Rattle.kl1_codes.specs.Numbered.{numbered_code};
     ghost use Rattle.kl1_atoms.specs.Names.{AreNames};
     ghost use Rattle.kl1_user_effects.specs.Account.{Account as Kept};
 

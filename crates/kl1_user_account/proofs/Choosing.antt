@@ -25,8 +25,8 @@ use Rattle.kl1_shoen_paths.specs.declared.shoen.Shoen.{Shoen}
 use Rattle.kl1_shoen.specs.Shoens.{shoen_in}
 use Rattle.kl1_shoen.proofs.Meaning.{Has, enabled_is}
 use Rattle.kl1_goals.specs.Readies.{Ready, goes_first, stands, ready_by, ready_of, better, first_from, chosen as chosen_pair}
-use Rattle.kl1_codes_modules.specs.Finding.{contents}
-use Rattle.kl1_codes_modules.specs.Shelves.{Program}
+use Rattle.kl1_codes.specs.Finding.{contents}
+use Rattle.kl1_codes.specs.Shelves.{Program}
 use Rattle.kl1_user_effects.specs.Fitting.{Reading, Fits}
 use Rattle.kl1_user_effects.specs.Account.{Account, program_of, Means, meaning, aim_with, goal_with, task_with, shoen_with, state_of}
 use Rattle.kl1_user_effects.specs.Settled.{front_with, control_with, control_clause, monitor_clause, task_clause, IsSettled, AreSettled, IsEnabled, AreEnabled}

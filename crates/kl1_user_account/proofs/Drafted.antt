@@ -22,8 +22,8 @@ use Rattle.kl1_goals_moves.specs.Moves.{IsMove, MovesAs, MoveIn}
 use Rattle.kl1_goals_moves.specs.Substitutes.{move_by_clause, substitute_move_of, SubstituteMoves}
 use Rattle.kl1_goals.specs.declared.task.Task.{Task}
 use Rattle.kl1_goals.specs.declared.task.Task.TheVariants.{Reduces, Substitutes}
-use Rattle.kl1_codes_modules.specs.Finding.{contents}
-use Rattle.kl1_codes_modules.specs.Shelves.{Program}
+use Rattle.kl1_codes.specs.Finding.{contents}
+use Rattle.kl1_codes.specs.Shelves.{Program}
 use Rattle.kl1_user_effects.specs.Fitting.{Reading, built, reading_of, reading_fits}
 use Rattle.kl1_user_effects.specs.Account.{meaning, task_with, aim, whole}
 use Rattle.kl1_user_account.specs.Reducing.{move_or_go, move_at, task_move, move_of_task, IsMade, IsToMake}

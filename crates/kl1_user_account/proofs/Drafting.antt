@@ -19,8 +19,8 @@ use Rattle.kl1_goals_moves.specs.declared.kind.Kind.{Kind}
 use Rattle.kl1_goals_moves.specs.Kinds.{IsKind}
 use Rattle.kl1_goals_moves.specs.Moves.{HasPredicate}
 use Rattle.kl1_goals_moves.specs.Standing.{StandsAs}
-use Rattle.kl1_codes_modules.specs.Finding.{contents}
-use Rattle.kl1_codes_modules.specs.Shelves.{Program}
+use Rattle.kl1_codes.specs.Finding.{contents}
+use Rattle.kl1_codes.specs.Shelves.{Program}
 use Rattle.kl1_user_effects.specs.Fitting.{Reading, built}
 use Rattle.kl1_user_effects.specs.Account.{meaning}
 use Rattle.kl1_user_effects.specs.Works.{Knows}

@@ -30,8 +30,8 @@ use Rattle.kl1_goals.specs.declared.task.Task.TheVariants.{Monitor}
 use Rattle.kl1_goals.specs.declared.goal.Goal.{Goal}
 use Rattle.kl1_goals.specs.Lists.{has_number, is_other}
 use Rattle.kl1_shoen.specs.Shoens.{Tree}
-use Rattle.kl1_codes_modules.specs.Numbered.{Numbered}
-use Rattle.kl1_codes_modules.specs.Finding.{contents}
+use Rattle.kl1_codes.specs.Numbered.{Numbered}
+use Rattle.kl1_codes.specs.Finding.{contents}
 use Rattle.kl1_user_effects.specs.declared.draft.Draft.{Draft}
 use Rattle.kl1_user_effects.specs.declared.draft.Spelled.{Spelled}
 use Rattle.kl1_user_effects.specs.Fitting.{Reading, Fits}

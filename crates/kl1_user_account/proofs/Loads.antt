@@ -27,11 +27,11 @@ use Rattle.kl1_goals.specs.Lists.{stood_by}
 use Rattle.kl1_goals.specs.Tables.{Tabled}
 use Rattle.kl1_shoen_paths.specs.declared.shoen.Shoen.{Shoen}
 use Rattle.kl1_shoen.specs.Shoens.{shoen_in}
-use Rattle.kl1_codes_modules.specs.Numbered.{Numbered, own_names, number_of, IsRead, AreRead}
-use Rattle.kl1_codes_modules.specs.Finding.{contents, is_numbered, TellsModule}
-use Rattle.kl1_codes_modules.specs.Shelves.{with_last}
-use Rattle.kl1_codes_modules.proofs.Names.{number_reads}
-use Rattle.kl1_codes_modules.proofs.Shelving.{tells}
+use Rattle.kl1_codes.specs.Numbered.{Numbered, own_names, number_of, IsRead, AreRead}
+use Rattle.kl1_codes.specs.Finding.{contents, is_numbered, TellsModule}
+use Rattle.kl1_codes.specs.Shelves.{with_last}
+use Rattle.kl1_codes.proofs.Names.{number_reads}
+use Rattle.kl1_codes.proofs.Shelving.{tells}
 use Rattle.kl1_store_hooks.specs.Hanging.{HangsOnEach}
 use Rattle.kl1_user_effects.specs.declared.draft.Change.{Change}
 use Rattle.kl1_user_account.specs.declared.loading.Loading.{Loading}

@@ -27,7 +27,7 @@ use Rattle.kl1_shoen_paths.specs.declared.shoen.Origin.{Origin}
 use Rattle.kl1_shoen_paths.specs.declared.shoen.Shoen.{Shoen}
 use Rattle.kl1_shoen.specs.Shoens.{Tree, parents_in, path_in, is_blocking_at, is_enabled_at}
 use Rattle.kl1_shoen_paths.specs.Paths as shoens
-use Rattle.kl1_codes_modules.specs.Shelves.{Program}
+use Rattle.kl1_codes.specs.Shelves.{Program}
 use Rattle.kl1_user_events.specs.declared.refusal.Refusal.{Refusal}
 use Rattle.kl1_user_events.specs.Views.{refusal_of}
 use Rattle.kl1_user_effects.specs.declared.draft.Draft.{Draft}

@@ -23,7 +23,7 @@ use Rattle.kl1_clause.specs.NameList.{with_texts}
 use Rattle.kl1_match.specs.Variables.{with_variables}
 use Rattle.kl1_match.specs.GoalCells.{AreGoalVariables}
 use Rattle.kl1_match.proofs.Places.{kept_with}
-use Rattle.kl1_codes_modules.specs.Finding.{contents}
+use Rattle.kl1_codes.specs.Finding.{contents}
 use Rattle.kl1_shoen_paths.specs.declared.shoen.Shoen.{Shoen}
 use Rattle.kl1_shoen.specs.Shoens.{AreNumbered, is_enabled_at}
 use Rattle.kl1_user_account.specs.declared.counted.Counted.{Counted}

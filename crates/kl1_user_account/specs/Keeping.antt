@@ -3,7 +3,7 @@ use Rattle.std.specs.Prelude.{◌≡◌, ℕ, ◌<◌, ◌≤◌, List, length}
 use Rattle.std.specs.List.{AllByRecursion}
 use Rattle.kl1_model.specs.Rules.{limits_of}
 use Rattle.kl1_store.specs.Hooks.{Hook}
-use Rattle.kl1_codes_modules.specs.Numbered.{AreRead}
+use Rattle.kl1_codes.specs.Numbered.{AreRead}
 use Rattle.kl1_user_effects.specs.Fitting.{Reading, Fits}
 use Rattle.kl1_user_effects.specs.Account.{Account, program_of, state_of}
 use Rattle.kl1_user_effects.specs.Kept.{AreGoalsIn, AreOwned, AreUpTo, AreShoensIn}

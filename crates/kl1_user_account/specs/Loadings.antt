@@ -14,9 +14,9 @@ use Rattle.kl1_store.specs.Held.{Held}
 use Rattle.kl1_clause.specs.NameList.{with_texts}
 use Rattle.kl1_goals.specs.declared.goal.Goal.{Goal}
 use Rattle.kl1_shoen_paths.specs.declared.shoen.Shoen.{Shoen}
-use Rattle.kl1_codes_modules.specs.Numbered.{Numbered, own_names, number_of}
-use Rattle.kl1_codes_modules.specs.Finding.{contents, is_numbered}
-use Rattle.kl1_codes_modules.specs.Shelves.{Program, with_last}
+use Rattle.kl1_codes.specs.Numbered.{Numbered, own_names, number_of}
+use Rattle.kl1_codes.specs.Finding.{contents, is_numbered}
+use Rattle.kl1_codes.specs.Shelves.{Program, with_last}
 use Rattle.kl1_user_effects.specs.declared.draft.Change.{Change}
 use Rattle.kl1_user_account.specs.declared.loading.Loading.{Loading}
 use Rattle.kl1_user_account.specs.declared.loading.Loading.TheVariants.{Refused, Drafted}

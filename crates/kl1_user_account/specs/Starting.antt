@@ -33,9 +33,9 @@ use Rattle.kl1_goals.specs.declared.task.Task.TheVariants.{Monitor, Reduces}
 use Rattle.kl1_goals.specs.declared.goal.Goal.{Goal}
 use Rattle.kl1_shoen_paths.specs.declared.shoen.Shoen.{Shoen}
 use Rattle.kl1_shoen.specs.Shoens.{is_enabled_at}
-use Rattle.kl1_codes_modules.specs.Numbered.{AreRead}
-use Rattle.kl1_codes_modules.specs.Shelves.{Program}
-use Rattle.kl1_codes_modules.specs.Finding.{contents}
+use Rattle.kl1_codes.specs.Numbered.{AreRead}
+use Rattle.kl1_codes.specs.Shelves.{Program}
+use Rattle.kl1_codes.specs.Finding.{contents}
 use Rattle.kl1_user_events.specs.Views.{refusal_of}
 use Rattle.kl1_user_account.specs.declared.counted.Counted.{Counted}
 use Rattle.kl1_user_account.specs.declared.startable.Starting.{Starting}

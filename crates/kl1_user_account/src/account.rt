@@ -12,7 +12,7 @@ ghost use Rattle.kl1_user_effects.specs.Account.{state_of, texts_of};
 ghost use Rattle.kl1_user_effects.specs.Naming.{Keeps};
 ghost use Rattle.kl1_user_account.specs.Starting.{HasNames};
 ghost use Rattle.kl1_user_events.specs.Views.{reply_of, reduced_or, chosen_of};
-ghost use Rattle.kl1_codes_modules.specs.Numbered.{ArePlaced};
+ghost use Rattle.kl1_codes.specs.Numbered.{ArePlaced};
 ghost use Rattle.kl1_user_events.specs.Whole.{whole_value};
 
 use crate::account_name::AccountName;
@@ -32,8 +32,7 @@ use crate::startable::{Starting, code_of};
 use crate::starting::{next_goals, next_number, place, prepare_start};
 use kl1_atoms::AtomSource;
 use kl1_clause::structures_of;
-use kl1_codes::CodeSource;
-use kl1_codes_modules::{CodedModule, CodedModules, Modules};
+use kl1_codes::{CodeSource, CodedModule, CodedModules, Modules};
 use kl1_goals::{GoalTable, Rules};
 use kl1_goals_moves::Trial;
 use kl1_match::Scratch;
@@ -76,7 +75,7 @@ pub struct Account<C: CodeSource> {
 
 impl<C: CodeSource> Model for Account<C> {
     ghost use Rattle.std.specs.Coded.{codes};
-    ghost use Rattle.kl1_codes_modules.specs.Numbered.{numbered_code};
+    ghost use Rattle.kl1_codes.specs.Numbered.{numbered_code};
     ghost use Rattle.kl1_user_effects.specs.Account.{Account as Kept};
 
     ghost Value = { Kept };

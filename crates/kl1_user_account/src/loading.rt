@@ -5,8 +5,8 @@ ghost use Rattle.kl1_model.specs.declared.limits.TheConstants.{MOST_SOURCE_BYTES
 ghost use Rattle.kl1_model.specs.Module.{read_module, good};
 ghost use Rattle.kl1_atoms.specs.Names.{AreNames};
 ghost use Rattle.kl1_store.specs.Hooks.{HasGrown};
-ghost use Rattle.kl1_codes_modules.specs.Numbered.{AreRead, ArePlaced, own_names, number_of};
-ghost use Rattle.kl1_codes_modules.specs.Finding.{is_numbered};
+ghost use Rattle.kl1_codes.specs.Numbered.{AreRead, ArePlaced, own_names, number_of};
+ghost use Rattle.kl1_codes.specs.Finding.{is_numbered};
 ghost use Rattle.kl1_user_effects.specs.Fitting.{Reading, Fits};
 ghost use Rattle.kl1_user_effects.specs.Kept.{AreGoalsIn, AreShoensIn};
 ghost use Rattle.kl1_user_effects.specs.Naming.{AreSmall, ReadsDraft};
@@ -15,8 +15,7 @@ ghost use Rattle.kl1_user_account.specs.Loadings.{DraftsAs, LoadsAs, StandsIn, S
 
 use crate::looking_beside::look_at_all;
 use kl1_clause::{Code, CodeFault};
-use kl1_codes::CodeSource;
-use kl1_codes_modules::{CodedModule, CodedModules, Loaded, Modules, number_by};
+use kl1_codes::{CodeSource, CodedModule, CodedModules, Loaded, Modules, number_by};
 use kl1_goals::{GoalTable, Rules};
 use kl1_goals_moves::Trial;
 use kl1_model::limits::{MOST_MODULES, MOST_SOURCE_BYTES};

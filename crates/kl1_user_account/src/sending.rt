@@ -17,8 +17,7 @@ ghost use Rattle.kl1_user_account.specs.Sending.{AreAlike, Allows, Refuses, Puts
 use crate::installing::begin_draft;
 use crate::limits::is_number;
 use crate::looking::{predicate_of, wake_told};
-use kl1_codes::CodeSource;
-use kl1_codes_modules::CodedModules;
+use kl1_codes::{CodeSource, CodedModules};
 use kl1_goals::{GoalTable, Rules};
 use kl1_goals_moves::{Kind, Trial};
 use kl1_model::{Limits, Message};

@@ -30,7 +30,7 @@ use Rattle.kl1_clause.specs.declared.predicate.Predicate.{Predicate}
 use Rattle.kl1_match.specs.declared.place.Place.{Place}
 use Rattle.kl1_goals_moves.specs.Moves.{IsCandidate}
 use Rattle.kl1_goals_moves.specs.Bodies.{IsBody}
-use Rattle.kl1_codes_modules.specs.Numbered.{Numbered}
+use Rattle.kl1_codes.specs.Numbered.{Numbered}
 use Rattle.kl1_user_effects.specs.declared.draft.Draft.{Draft}
 use Rattle.kl1_text.specs.Reading.{Reads}
 use Rattle.kl1_user_effects.specs.Fitting.{Reading, built}

@@ -19,7 +19,7 @@ use Rattle.kl1_stream.specs.declared.told.Told.TheVariants.{Dropped, Broken, Sen
 use Rattle.kl1_stream.specs.Reports.{Breaks, ToldAs}
 use Rattle.kl1_shoen_paths.specs.declared.shoen.Shoen.{Shoen}
 use Rattle.kl1_shoen.specs.Shoens.{has_number, changed}
-use Rattle.kl1_codes_modules.specs.Numbered.{Numbered}
+use Rattle.kl1_codes.specs.Numbered.{Numbered}
 use Rattle.kl1_user_effects.specs.Fitting.{Reading, built}
 use Rattle.kl1_user_effects.specs.Account.{Means, meaning, shoen_with, state_with}
 use Rattle.kl1_user_effects.specs.Kept.{AreOwned, IsShoenIn}

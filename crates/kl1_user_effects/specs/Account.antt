@@ -16,9 +16,9 @@ use Rattle.kl1_goals.specs.declared.task.Task.TheVariants.{Monitor, Reduces, Sub
 use Rattle.kl1_goals.specs.declared.goal.Goal.{Goal}
 use Rattle.kl1_shoen_paths.specs.declared.shoen.Origin.{Origin}
 use Rattle.kl1_shoen_paths.specs.declared.shoen.Shoen.{Shoen}
-use Rattle.kl1_codes_modules.specs.Numbered.{Numbered}
-use Rattle.kl1_codes_modules.specs.Finding.{contents}
-use Rattle.kl1_codes_modules.specs.Shelves.{Program}
+use Rattle.kl1_codes.specs.Numbered.{Numbered}
+use Rattle.kl1_codes.specs.Finding.{contents}
+use Rattle.kl1_codes.specs.Shelves.{Program}
 use Rattle.kl1_user_effects.specs.Fitting.{Reading}
 
 -- what an account keeps: its own name; its rules; what its cells are; its goals and its shoens; for each reduction that was charged, the number

@@ -1,5 +1,5 @@
 use Rattle.std.proofs.Common.{◌∙◌, refl, arith}
-use Rattle.kl1_codes_modules.specs.Numbered.{Numbered}
+use Rattle.kl1_codes.specs.Numbered.{Numbered}
 use Rattle.kl1_user_account.proofs.Loads.{tells_name, is_free, crowds_is, draft_exists, draft_crowds, draft_limit, draft_full, draft_loads}
 use Rattle.kl1_user_account.proofs.loading.refusal_of.Goals as goal
 

@@ -4,7 +4,7 @@ use Rattle.kl1_model.specs.Reduction.{moves}
 use Rattle.kl1_text.specs.declared.cell_name.CellName.{CellName}
 use Rattle.kl1_goals_moves.specs.declared.moves.Move.{Move}
 use Rattle.kl1_goals_moves.specs.Moves.{MovesAs, MoveIn, taken_places}
-use Rattle.kl1_codes_modules.specs.Finding.{contents}
+use Rattle.kl1_codes.specs.Finding.{contents}
 use Rattle.kl1_user_effects.specs.Account.{Account, aim}
 use Rattle.kl1_user_account.specs.Reducing.{with_program, move_at}
 use Rattle.kl1_user_account.proofs.Steps.{steps_not, steps_full, goal_does}

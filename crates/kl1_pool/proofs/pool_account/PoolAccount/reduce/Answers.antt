@@ -1,6 +1,6 @@
 use Rattle.std.proofs.Common.{ap, sym, subst, ◌∙◌, ◌<◌, ◌^◌, List}
 use Rattle.kl1_model.specs.Event.{reduce as reduce_event}
-use Rattle.kl1_codes_modules.specs.Numbered.{Numbered, ArePlaced}
+use Rattle.kl1_codes.specs.Numbered.{Numbered, ArePlaced}
 use Rattle.kl1_user_events.specs.Views.{reduced_or}
 use Rattle.kl1_tally.specs.declared.amounts.TheConstants.{MOST_ACCOUNTS}
 use Rattle.kl1_tally.specs.Seats.{Book}

@@ -5,8 +5,8 @@ use Rattle.kl1_atoms.specs.Names.{AreNames}
 use Rattle.kl1_user_effects.specs.Account.{Account}
 use Rattle.kl1_text.specs.declared.cell_name.CellName.{CellName}
 use Rattle.kl1_goals.specs.Tables.{Tabled}
-use Rattle.kl1_codes_modules.specs.Numbered.{Numbered, ArePlaced}
-use Rattle.kl1_codes_modules.proofs.Placing.{placed_still, placed_more}
+use Rattle.kl1_codes.specs.Numbered.{Numbered, ArePlaced}
+use Rattle.kl1_codes.proofs.Placing.{placed_still, placed_more}
 use Rattle.kl1_user_account.specs.Accounts.{kept_in}
 use Rattle.kl1_user_account.proofs.Loads.{ready, ready_new, put_is, put_kept, put_steps, refused_load, stands_at}
 use Rattle.kl1_user_account.proofs.account.Account.load.Goals as goal
