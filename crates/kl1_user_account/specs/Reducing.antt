@@ -9,6 +9,7 @@ use Rattle.kl1_model.specs.Module.{Module}
 use Rattle.kl1_model.specs.Reduction as model
 use Rattle.kl1_model.specs.Reduction.{goes, moved, heard}
 use Rattle.kl1_model.specs.code.Waits.{move_by}
+use Rattle.kl1_model.specs.Rules.{limits_of}
 use Rattle.kl1_model.specs.Event.{reduce, reduced, refuse, is_number, is_full, needs_entry, run_after, with_reduction}
 use Rattle.kl1_model.specs.Step.{step}
 use Rattle.kl1_text.specs.declared.cell_name.CellName.{CellName}
@@ -36,6 +37,7 @@ use Rattle.kl1_user_events.specs.declared.refusal.Refusal.{Refusal}
 use Rattle.kl1_user_events.specs.Views.{refusal_of}
 use Rattle.kl1_user_effects.specs.declared.draft.Draft.{Draft}
 use Rattle.kl1_atoms.specs.declared.known.Known.{Known}
+use Rattle.kl1_atoms.specs.Names.{AreNames}
 use Rattle.kl1_user_effects.specs.Fitting.{Reading, Fits}
 use Rattle.kl1_user_effects.specs.Account.{Account, meaning, task_with, state_of, aim, whole}
 use Rattle.kl1_user_effects.specs.Works.{Knows}
@@ -179,6 +181,10 @@ account_at own h goals t program known last variables nodes reports entries = re
   sessions = own.1;
 }
 
+-- a journal may have this many entries, by these rules
+abbrev pub MayHave : Rules → ℕ × ℕ → Type 0
+MayHave rules entries = entries.0 ≤ (limits_of rules).entries
+
 -- an account comes to this one by a reduction, and all that always holds of it holds
 pub record ReducesTo (a b : Account) (n c : ℕ) (hooks : List Hook) (known : ℕ) : Type 0 where
   pub step : (f : Reading) → Fits b.names f → step (state_of f a) (reduce n c) ≡ record { state = state_of f b; reply = reduced }
@@ -196,7 +202,8 @@ pub record IsReduced (a : Account) (n c : ℕ) (new : Kept CellName) (u : Tree C
   pub name : IsNewName a.names d.name
   pub spelled : IsSpelledIn d.spelled new.held
   pub has : HasName d.spelled d.name
-  pub reduces : (in_run : Bool) (more : List Known) (last : Held CellName) → IsNotedSo a n c in_run → IsPublished a.names more d new.held last → ReducesTo a (named_in in_run a last u d more) n c new.hooks (length u.shoens)
+  pub charged : length u.work ≤ suc (length a.work)
+  pub reduces : (in_run : Bool) (more : List Known) (last : Held CellName) → AreNames a.names → IsNotedSo a n c in_run → IsPublished a.names more d new.held last → ReducesTo a (named_in in_run a last u d more) n c new.hooks (length u.shoens)
 
 -- a reduction of an account is refused for a reason, and nothing has changed
 pub record IsRefused (a : Account) (n c : ℕ) (old new : Kept CellName) (t u : Tree CellName) (r : Refusal) : Type 0 where
