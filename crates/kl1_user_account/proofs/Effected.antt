@@ -169,8 +169,8 @@ does_effect a hooks known n c g full x p places text made mid t u start d kept i
     record {
       inside = turned.inside;
       step =
-          steps_on f a n c g (moves (aim f a.held x) (m f)) is kept.enabled (task_does f a c g x (Some (m f)) makes.task (makes.some f own)) (λ r j. room r j ∙ makes.room) own
-          ∙ ap (λ b. let y : Transition = record { state = change (without_goal g.number (with_reduction b (state_of f a))); reply = reduced } in y) (noted f own)
+          steps_on f a n c g (moves (aim f a.held x) (m f)) is kept.enabled (task_does f a c g x (Some (m f)) makes.task (makes.some f own)) (λ r j. room r j ∙ makes.room) (own, published.named.fits f fits)
+          ∙ ap (λ b. let y : Transition = record { state = change (without_goal g.number (with_reduction b (state_of f a))); reply = reduced } in y) (noted f (own, published.named.fits f fits))
           ∙ ap (λ (z : State). let y : Transition = record { state = z; reply = reduced } in y)
           (ap change (begun_state f in_run a g.number t start shoens work begun) ∙ turned.states f knows s);
     }
@@ -190,8 +190,8 @@ heard_effect a hooks known n c g full k mid t u start d kept is task hears room 
     let comes : C mid = record {
       inside = turned.inside;
       step =
-          hears a n is task kept.enabled room f knows
-          ∙ ap (λ b. let y : Transition = record { state = change (with_reduction b (state_of f a)); reply = reduced } in y) (noted f knows)
+          hears a n is task kept.enabled room f (knows, published.named.fits f fits)
+          ∙ ap (λ b. let y : Transition = record { state = change (with_reduction b (state_of f a)); reply = reduced } in y) (noted f (knows, published.named.fits f fits))
           ∙ ap (λ (z : State). let y : Transition = record { state = z; reply = reduced } in y) (ap change (begun_whole f in_run a t start kept.first shoens work begun) ∙ turned.states f knows s);
     } in
     subst C (sym same) comes

@@ -1,12 +1,13 @@
 -- A reduction that is drafted is put in place.
-use Rattle.std.proofs.Common.{◌≡◌, ℕ, suc, ◌+◌, ◌*◌, ◌^◌, ◌<◌, ◌≤◌, ◌==◌, not, ◌||◌, Bool, true, false, arith, List, length, nat_lt, if◌then◌else◌, Option, Some, None, refl, sym, ap, ◌∙◌, subst}
+use Rattle.std.proofs.Common.{◌≡◌, ℕ, suc, ◌+◌, ◌*◌, ◌^◌, ◌<◌, ◌≤◌, ◌==◌, not, ◌&&◌, ◌||◌, Bool, true, false, arith, List, length, nat_lt, if◌then◌else◌, Option, Some, None, refl, sym, ap, ◌∙◌, subst}
 use Rattle.std.proofs.lemmas.Bool.{ltb-true, ltb-false}
 use Rattle.kl1_model.specs.declared.limits.TheConstants.{MOST_RUN}
 use Rattle.kl1_model.specs.declared.rules.Rules.{Rules}
 use Rattle.kl1_model.specs.declared.rules.Rules.TheVariants.{One, Two, Three, Four}
 use Rattle.kl1_model.specs.Rules.{limits_of}
 use Rattle.kl1_model.specs.State.{State}
-use Rattle.kl1_model.specs.Event.{reduce, reduced, refuse, run_after, Transition}
+use Rattle.kl1_model.specs.Event.{reduce, reduced, refuse, is_full, needs_entry, run_after, Transition}
+use Rattle.kl1_model.specs.Choice.{is_in_run}
 use Rattle.kl1_model.specs.Step.{step}
 use Rattle.kl1_text.specs.declared.cell_name.CellName.{CellName}
 use Rattle.kl1_atoms.specs.declared.known.Known.{Known}
@@ -132,7 +133,7 @@ pub refused_step : (a b z : Account) (n c : ℕ) (old new : Kept CellName) (t u 
 refused_step a b z n c old new t u r hooks known view back k i f fits =
     let fit : Fits a.names f = subst (λ (w : Account). Fits w.names f) back fits in
     sym (ap (λ (w : Account). step (state_of f w) (reduce n c)) view)
-    ∙ i.steps f (knows_of a hooks known k f fit)
+    ∙ i.steps f (knows_of a hooks known k f fit, fit)
     ∙ ap (λ (w : Account). refuse (state_of f w) (refusal_of r)) (sym back)
 
 -- a draft has begun with what it has
@@ -192,3 +193,13 @@ counts_reduction true work after entries run le w = by run (nat_lt run MOST_RUN)
 -- counts that are the same
 pub counts_as : (work entries now run last : ℕ) → now ≡ entries → last ≡ run → CountsWork work entries run → CountsWork work now last
 counts_as work entries now run last e r w = subst (λ n. CountsWork work n last) (sym e) (subst (λ n. CountsWork work entries n) (sym r) w)
+
+-- ---- whether a reduction is noted in a run, as was found of an account
+
+pub noted_for : (a b : Account) (n c : ℕ) (in_run : Bool) → a ≡ b → ((f : Reading) → Fits b.names f → in_run ≡ is_in_run (state_of f b) n c) → IsNotedSo a n c in_run
+noted_for a b n c in_run view runs = subst (λ (z : Account). IsNotedSo z n c in_run) (sym view) (λ f suits. sym (runs f suits.1))
+
+-- whether it needs an entry for which there is no room
+pub full_for : (a b : Account) (n c : ℕ) (in_run full : Bool) → a ≡ b → ((f : Reading) → Fits b.names f → in_run ≡ is_in_run (state_of f b) n c) → ((f : Reading) → full ≡ (needs_entry in_run (state_of f b) && is_full (state_of f b))) → IsFullFor a n c full
+full_for a b n c in_run full view runs is =
+    subst (λ (z : Account). IsFullFor z n c full) (sym view) (λ f suits. ap (λ w. needs_entry w (state_of f b) && is_full (state_of f b)) (sym (runs f suits.1)) ∙ sym (is f))

@@ -24,7 +24,7 @@ use Rattle.kl1_user_effects.specs.declared.draft.Spelled.{Spelled}
 use Rattle.kl1_user_effects.specs.Fitting.{Reading, Fits, reading_of, reading_fits}
 use Rattle.kl1_user_effects.specs.Account.{Account, program_of, meaning, goal_with, state_of, texts_of}
 use Rattle.kl1_user_effects.specs.Kept.{AreGoalsIn, AreOwned, AreUpTo, AreShoensIn}
-use Rattle.kl1_user_effects.specs.Works.{Knows, worked}
+use Rattle.kl1_user_effects.specs.Works.{worked}
 use Rattle.kl1_user_effects.specs.Drafts.{goals_left, names_with, made_of}
 use Rattle.kl1_user_effects.specs.Installing.{IsBegun, goals_after}
 use Rattle.kl1_user_effects.specs.Settled.{AreSettled}
@@ -35,7 +35,7 @@ use Rattle.kl1_user_account.specs.Finishing.{SameFlags, Finishes}
 use Rattle.kl1_user_effects.specs.Leaving.{Leaves}
 use Rattle.kl1_user_effects.specs.Calling.{IsNewName, spare}
 use Rattle.kl1_user_steps.specs.Spelling.{IsSpelledIn, IsSparedIn, HasName, Respells, ReadsNew, IsPublished, IsPublishedBy}
-use Rattle.kl1_user_account.specs.Reducing.{IsNotedSo, IsFullFor, needs_one, named_in, IsReduced}
+use Rattle.kl1_user_account.specs.Reducing.{Suits, IsNotedSo, IsFullFor, needs_one, named_in, IsReduced}
 use Rattle.kl1_user_account.proofs.Effected.{IsEffect}
 use Rattle.kl1_user_effects.proofs.States.{goals_grown}
 use Rattle.kl1_user_account.proofs.Restood.{each_is}
@@ -262,8 +262,8 @@ module _ (a : Account) (n c : ℕ) (old mid new : Kept CellName) (t u : Tree Cel
 
       no_room : (needs_one in_run a && not (nat_lt a.entries (limits_of a.rules).entries)) ≡ false
       no_room =
-          let knows : Knows a.modules f = record { reads = fits.reads; rows = d.kept.rows f fits } in
-          ap (λ b. needs_entry b (state_of f a) && is_full (state_of f a)) (sym (noted f knows)) ∙ d.room f knows
+          let suits : Suits a f = (record { reads = fits.reads; rows = d.kept.rows f fits }, fits) in
+          ap (λ b. needs_entry b (state_of f a) && is_full (state_of f a)) (sym (noted f suits)) ∙ d.room f suits
 
       by : (needs is_less : Bool) → nat_lt a.entries (limits_of a.rules).entries ≡ is_less → (needs && not is_less) ≡ false → (if needs then suc a.entries else a.entries) ≤ (limits_of a.rules).entries
       by true true e r = ltb-true a.entries (limits_of a.rules).entries e

@@ -30,10 +30,9 @@ use Rattle.kl1_shoen_paths.specs.declared.shoen.Shoen.{Shoen}
 use Rattle.kl1_shoen.specs.Shoens.{shoen_in}
 use Rattle.kl1_codes.specs.Finding.{contents}
 use Rattle.kl1_user_effects.specs.Fitting.{Reading}
-use Rattle.kl1_user_effects.specs.Works.{Knows}
 use Rattle.kl1_user_effects.specs.Account.{Account, Means, meaning, task_with, goal_with, shoen_with, state_of, aim, aim_with}
 use Rattle.kl1_user_effects.specs.Settled.{IsEnabled, AreEnabled}
-use Rattle.kl1_user_account.specs.Reducing.{IsSteppable, IsFullFor, is_read, IsTaskFor, task_move}
+use Rattle.kl1_user_account.specs.Reducing.{Suits, IsSteppable, IsFullFor, is_read, IsTaskFor, task_move}
 use Rattle.kl1_user_effects.proofs.States.{found_in}
 use Rattle.kl1_user_account.proofs.Choosing.{enabled_read}
 
@@ -99,7 +98,7 @@ pub steps_not : (f : Reading) (a : Account) (n c : ℕ) (g : Goal CellName) → 
 steps_not f a n c g is all e = steps_to f a n c g is all ∙ ap (reduced_by (state_of f a) (is_in_run (state_of f a) n c) (goal_with (meaning f a.held) g)) e
 
 -- an action is refused if it needs an entry and the journal is full
-pub steps_full : (f : Reading) (a : Account) (n c : ℕ) (g : Goal CellName) (x : reduction.Action) → IsSteppable a.goals n c g → AreEnabled a.shoens a.work a.goals → task_action (state_of f a) g.shoen (task_with (meaning f a.held) g.task) c ≡ Some x → IsFullFor a n c true → Knows a.modules f →
+pub steps_full : (f : Reading) (a : Account) (n c : ℕ) (g : Goal CellName) (x : reduction.Action) → IsSteppable a.goals n c g → AreEnabled a.shoens a.work a.goals → task_action (state_of f a) g.shoen (task_with (meaning f a.held) g.task) c ≡ Some x → IsFullFor a n c true → Suits a f →
     step (state_of f a) (reduce n c) ≡ refuse (state_of f a) journal_full
 steps_full f a n c g x is all e full knows =
     let s = state_of f a in
@@ -109,7 +108,7 @@ steps_full f a n c g x is all e full knows =
     ∙ ap (λ b. if b then refuse s journal_full else record { state = acted k x (with_reduction in_run s); reply = reduced }) (full f knows)
 
 -- an action is done if there is room in the journal
-pub steps_on : (f : Reading) (a : Account) (n c : ℕ) (g : Goal CellName) (x : reduction.Action) → IsSteppable a.goals n c g → AreEnabled a.shoens a.work a.goals → task_action (state_of f a) g.shoen (task_with (meaning f a.held) g.task) c ≡ Some x → IsFullFor a n c false → Knows a.modules f →
+pub steps_on : (f : Reading) (a : Account) (n c : ℕ) (g : Goal CellName) (x : reduction.Action) → IsSteppable a.goals n c g → AreEnabled a.shoens a.work a.goals → task_action (state_of f a) g.shoen (task_with (meaning f a.held) g.task) c ≡ Some x → IsFullFor a n c false → Suits a f →
     step (state_of f a) (reduce n c) ≡ record { state = acted (goal_with (meaning f a.held) g) x (with_reduction (is_in_run (state_of f a) n c) (state_of f a)); reply = reduced }
 steps_on f a n c g x is all e room knows =
     let s = state_of f a in

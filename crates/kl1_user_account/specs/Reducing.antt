@@ -47,9 +47,13 @@ use Rattle.kl1_user_account.specs.Keeping.{IsKept}
 use Rattle.kl1_user_effects.specs.Calling.{IsNewName}
 use Rattle.kl1_user_steps.specs.Spelling.{IsSpelledIn, HasName, IsPublished}
 
--- a reduction of an account is refused, for each reading that knows its modules
+-- a reading knows the modules of an account, and fits its names
+abbrev pub Suits : Account → Reading → Type 0
+Suits a f = Knows a.modules f × Fits a.names f
+
+-- a reduction of an account is refused, for each reading that suits it
 abbrev pub Refuses : Account → ℕ → ℕ → Refusal → Type 0
-Refuses a n c r = (f : Reading) → Knows a.modules f → step (state_of f a) (reduce n c) ≡ refuse (state_of f a) (refusal_of r)
+Refuses a n c r = (f : Reading) → Suits a f → step (state_of f a) (reduce n c) ≡ refuse (state_of f a) (refusal_of r)
 
 -- a reduction is refused of each account with these goals
 abbrev pub RefusesAmong : List (Goal CellName) → ℕ → ℕ → Refusal → Type 0
@@ -71,11 +75,11 @@ is_read (BreaksOff x) = true
 
 -- whether the reduction of goal `n` by clause `c` is noted in a run
 abbrev pub IsNotedSo : Account → ℕ → ℕ → Bool → Type 0
-IsNotedSo a n c in_run = (f : Reading) → Knows a.modules f → is_in_run (state_of f a) n c ≡ in_run
+IsNotedSo a n c in_run = (f : Reading) → Suits a f → is_in_run (state_of f a) n c ≡ in_run
 
 -- whether that reduction needs an entry for which the journal has no room
 abbrev pub IsFullFor : Account → ℕ → ℕ → Bool → Type 0
-IsFullFor a n c full = (f : Reading) → Knows a.modules f → (needs_entry (is_in_run (state_of f a) n c) (state_of f a) && is_full (state_of f a)) ≡ full
+IsFullFor a n c full = (f : Reading) → Suits a f → (needs_entry (is_in_run (state_of f a) n c) (state_of f a) && is_full (state_of f a)) ≡ full
 
 -- an account with the cells of a store and these shoens
 abbrev pub with_tree : Account → Held CellName → List (Shoen CellName) → Account
@@ -89,7 +93,7 @@ NotHeard h shoens full g c r =
 -- a monitor, which may step, reads this by clause `c`, and terminations come after it
 abbrev pub HeardAs : Held CellName → List (Shoen CellName) → Bool → Goal CellName → ℕ → Control CellName → Type 0
 HeardAs h shoens full g c control =
-    (a : Account) (n : ℕ) → IsSteppable a.goals n c g → g.task ≡ Monitor → AreEnabled shoens a.work a.goals → IsFullFor (with_tree a h shoens) n c full → (f : Reading) → Knows a.modules f →
+    (a : Account) (n : ℕ) → IsSteppable a.goals n c g → g.task ≡ Monitor → AreEnabled shoens a.work a.goals → IsFullFor (with_tree a h shoens) n c full → (f : Reading) → Suits a f →
     let s = state_of f (with_tree a h shoens) in
     step s (reduce n c) ≡ record { state = settle g.shoen (heard g.shoen (control_as f h control) (with_reduction (is_in_run s n c) s)); reply = reduced }
 
