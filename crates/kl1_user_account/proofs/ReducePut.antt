@@ -1,6 +1,7 @@
 -- A reduction that is drafted is put in place.
 use Rattle.std.proofs.Common.{◌≡◌, ℕ, suc, ◌+◌, ◌*◌, ◌^◌, ◌<◌, ◌≤◌, ◌==◌, not, ◌&&◌, ◌||◌, Bool, true, false, arith, List, length, nat_lt, if◌then◌else◌, Option, Some, None, refl, sym, ap, ◌∙◌, subst}
-use Rattle.std.proofs.lemmas.Bool.{ltb-true, ltb-false}
+use Rattle.std.specs.Prelude.{nat_le}
+use Rattle.std.proofs.lemmas.Bool.{ltb-true, ltb-false, lt-leb, le-leb}
 use Rattle.kl1_model.specs.declared.limits.TheConstants.{MOST_RUN}
 use Rattle.kl1_model.specs.declared.rules.Rules.{Rules}
 use Rattle.kl1_model.specs.declared.limits.Limits.{Limits}
@@ -202,3 +203,11 @@ noted_for a b n c in_run view runs = subst (λ (z : Account). IsNotedSo z n c in
 pub full_for : (a b : Account) (n c : ℕ) (in_run full : Bool) → a ≡ b → ((f : Reading) → Fits b.names f → in_run ≡ is_in_run (state_of f b) n c) → ((f : Reading) → full ≡ (needs_entry in_run (state_of f b) && is_full (state_of f b))) → IsFullFor a n c full
 full_for a b n c in_run full view runs is =
     subst (λ (z : Account). IsFullFor z n c full) (sym view) (λ f suits. ap (λ w. needs_entry w (state_of f b) && is_full (state_of f b)) (sym (runs f suits.1)) ∙ sym (is f))
+
+-- of two numbers one isn't less just if the other is at most as great
+pub not_less : (most n : ℕ) → nat_le most n ≡ not (nat_lt n most)
+not_less most n = by (nat_lt n most) refl
+  where
+    by : (b : Bool) → nat_lt n most ≡ b → nat_le most n ≡ not b
+    by true e = lt-leb most n (ltb-true n most e)
+    by false e = le-leb most n (ltb-false n most e)
