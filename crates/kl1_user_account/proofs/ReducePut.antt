@@ -1,9 +1,12 @@
 -- A reduction that is drafted is put in place.
 use Rattle.std.proofs.Common.{◌≡◌, ℕ, suc, ◌+◌, ◌*◌, ◌^◌, ◌<◌, ◌≤◌, ◌==◌, not, ◌&&◌, ◌||◌, Bool, true, false, arith, List, length, nat_lt, if◌then◌else◌, Option, Some, None, refl, sym, ap, ◌∙◌, subst}
-use Rattle.std.proofs.lemmas.Bool.{ltb-true, ltb-false}
+use Rattle.std.specs.Prelude.{nat_le}
+use Rattle.std.proofs.lemmas.Bool.{ltb-true, ltb-false, lt-leb, le-leb}
 use Rattle.kl1_model.specs.declared.limits.TheConstants.{MOST_RUN}
 use Rattle.kl1_model.specs.declared.rules.Rules.{Rules}
-use Rattle.kl1_model.specs.declared.rules.Rules.TheVariants.{One, Two, Three, Four}
+use Rattle.kl1_model.specs.declared.limits.Limits.{Limits}
+use Rattle.kl1_model.specs.laws.LimitLaws.{AreLow}
+use Rattle.kl1_model.proofs.LimitFacts.{limits_are_low}
 use Rattle.kl1_model.specs.Rules.{limits_of}
 use Rattle.kl1_model.specs.State.{State}
 use Rattle.kl1_model.specs.Event.{reduce, reduced, refuse, is_full, needs_entry, run_after, Transition}
@@ -157,20 +160,17 @@ begun_same n rules last variables nodes reports d b = record {
 
 -- ---- how a journal counts reductions
 
--- no rules let a journal have more than 2 ^ 24 entries
-pub few_entries : (rules : Rules) → (limits_of rules).entries ≤ 16777216
-few_entries One = omega arith
-few_entries Two = omega arith
-few_entries Three = omega arith
-few_entries Four = omega arith
+-- limits of whichever rules are low
+pub low_limits : (rules : Rules) (most : Limits) → most ≡ limits_of rules → AreLow most
+low_limits rules most e = subst (λ (l : Limits). AreLow l) (sym e) (limits_are_low rules)
 
 -- so fewer than 2 ^ 63 reductions are charged
 pub few_charged : (rules : Rules) (work entries run : ℕ) → entries ≤ (limits_of rules).entries → CountsWork work entries run → work + 1 < 2 ^ 63
-few_charged rules work entries run most w = let few = few_entries rules in let all = w.all in omega (arith, most, few, all)
+few_charged rules work entries run most w = let few = (limits_are_low rules).entries in let all = w.all in omega (arith, most, few, all)
 
 -- and a count of entries has room for one more
 pub few_more : (rules : Rules) (entries : ℕ) → entries ≤ (limits_of rules).entries → entries < 2 ^ 63
-few_more rules entries most = let few = few_entries rules in omega (arith, most, few)
+few_more rules entries most = let few = (limits_are_low rules).entries in omega (arith, most, few)
 
 -- one entry more is counted, which is no run
 pub counts_entry : (work entries run : ℕ) → CountsWork work entries run → CountsWork work (suc entries) 0
@@ -203,3 +203,11 @@ noted_for a b n c in_run view runs = subst (λ (z : Account). IsNotedSo z n c in
 pub full_for : (a b : Account) (n c : ℕ) (in_run full : Bool) → a ≡ b → ((f : Reading) → Fits b.names f → in_run ≡ is_in_run (state_of f b) n c) → ((f : Reading) → full ≡ (needs_entry in_run (state_of f b) && is_full (state_of f b))) → IsFullFor a n c full
 full_for a b n c in_run full view runs is =
     subst (λ (z : Account). IsFullFor z n c full) (sym view) (λ f suits. ap (λ w. needs_entry w (state_of f b) && is_full (state_of f b)) (sym (runs f suits.1)) ∙ sym (is f))
+
+-- of two numbers one isn't less just if the other is at most as great
+pub not_less : (most n : ℕ) → nat_le most n ≡ not (nat_lt n most)
+not_less most n = by (nat_lt n most) refl
+  where
+    by : (b : Bool) → nat_lt n most ≡ b → nat_le most n ≡ not b
+    by true e = lt-leb most n (ltb-true n most e)
+    by false e = le-leb most n (ltb-false n most e)

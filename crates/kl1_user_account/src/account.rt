@@ -167,7 +167,10 @@ impl<C: CodeSource> Account<C> {
     fn has_no_room(&self, in_run: bool) -> bool
         ensures { (f : Reading) → result ≡ (needs_entry in_run (state_of f self.now) && is_full (state_of f self.now)) }
     {
-        needs_entry(in_run, self.run) && self.is_full()
+        if !needs_entry(in_run, self.run) {
+            return false;
+        }
+        self.is_full()
     }
 
     /// Reduces goal `number` by the clause numbered `clause`, or says why it is refused.

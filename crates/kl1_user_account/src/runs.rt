@@ -5,12 +5,25 @@ ghost use Rattle.kl1_model.specs.Event.{run_after};
 
 use kl1_model::limits::MOST_RUN;
 
-/// Whether a reduction needs one entry more, if the last run has `run` reductions, or is none, which is 0: it is in no run, or in a
-/// new one.
+/// How many reductions the last run has after one more, if it had `run`, or if `run` is 0 and there was no run; after the longest a
+/// new one begins.
+fn run_after(run: u32) -> u32
+    ensures { result ≡ run_after run }
+{
+    if run as u64 >= MOST_RUN {
+        return 1;
+    }
+    run + 1
+}
+
+/// Whether a reduction needs one entry more: it is in no run, or in a new one.
 pub(crate) fn needs_entry(in_run: bool, run: u32) -> bool
     ensures { result ≡ (not in_run || run_after run == 1) }
 {
-    !in_run || run == 0 || run as u64 >= MOST_RUN
+    if !in_run {
+        return true;
+    }
+    run_after(run) == 1
 }
 
 /// Counts an entry that is no run.
@@ -23,24 +36,20 @@ pub(crate) fn note_entry(entries: &mut u64, run: &mut u32)
     *run = 0;
 }
 
-/// How many reductions the last run has after one more; after the longest run a new one begins.
-fn run_after(run: u32) -> u32
-    ensures { result ≡ run_after run }
-{
-    if run as u64 >= MOST_RUN {
-        return 1;
-    }
-    run + 1
-}
-
 /// Counts a reduction, in a run or as an entry.
 pub(crate) fn note_reduction(entries: &mut u64, run: &mut u32, in_run: bool)
     requires { entries.old < 2 ^ 63 }
     ensures entries { entries.new ≡ (if not in_run || run_after run.old == 1 then suc entries.old else entries.old) }
     ensures run { run.new ≡ (if in_run then run_after run.old else 0) }
 {
-    if needs_entry(in_run, *run) {
-        *entries += 1;
+    if !in_run {
+        note_entry(entries, run);
+        return;
     }
-    *run = if in_run { run_after(*run) } else { 0 };
+    let after = run_after(*run);
+    *run = after;
+    if after != 1 {
+        return;
+    }
+    *entries += 1;
 }
