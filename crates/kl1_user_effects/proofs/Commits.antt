@@ -10,7 +10,7 @@ use Rattle.kl1_model.specs.Match.{Candidate}
 use Rattle.kl1_model.specs.Instance.{body_instance, body_priorities, fresh_variables}
 use Rattle.kl1_model.specs.Nodes.{goals_nodes}
 use Rattle.kl1_model.specs.State as model
-use Rattle.kl1_model.specs.State.{State, limits_of, shoen_at, without_goal}
+use Rattle.kl1_model.specs.State.{State, limits_of, shoen_at}
 use Rattle.kl1_model.specs.code.Steps.{clipped, priority_of}
 use Rattle.kl1_model.specs.Reduction.{goals_from, has_room_for, commits, or_exhaustion, committed, raised, moved}
 use Rattle.kl1_model.specs.Report.{exhaustion}

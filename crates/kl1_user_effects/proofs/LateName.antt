@@ -1,6 +1,6 @@
 -- A variable becomes a name before what comes after a goal's effects, or after that: it makes no difference.
 use Rattle.std.proofs.Common.{◌≡◌, ℕ, suc, ◌≤◌, ◌==◌, ◌||◌, not, ◌&&◌, Bool, true, false, if◌then◌else◌, List, [], ◌∷◌, refl, sym, ap, ap₂, ◌∙◌, arith, eqb-true}
-use Rattle.std.specs.Prelude.{nat_lt, map, filter, codes, count_by, Option, Some, None, option_map, unwrap_or}
+use Rattle.std.specs.Prelude.{map, filter, codes, count_by, Option, Some, None, option_map, unwrap_or}
 use Rattle.std.specs.List.{list_any}
 use Rattle.std.proofs.lemmas.Bool.{ne_eqb}
 use Rattle.kl1_model.specs.declared.life.Life.TheVariants.{Terminated}

@@ -5,9 +5,8 @@ use Rattle.kl1_model.specs.declared.rules.Rules.{Rules}
 use Rattle.kl1_model.specs.Term.{Term, variable, integer, atom, structure, occurs}
 use Rattle.kl1_model.specs.State as model
 use Rattle.kl1_model.specs.State.{State}
-use Rattle.kl1_model.specs.Report.{report, reported_at, broken_at, is_reported}
+use Rattle.kl1_model.specs.Report.{report, reported_at, is_reported}
 use Rattle.kl1_model.specs.code.Steps.{report_of, is_reported_at, is_reported_of}
-use Rattle.kl1_text.specs.Reading.{Reads}
 use Rattle.kl1_text.specs.declared.cell_name.CellName.{CellName}
 use Rattle.kl1_store.specs.declared.cell.Cell.{Cell}
 use Rattle.kl1_store.specs.Held.{Held}
@@ -24,7 +23,7 @@ use Rattle.kl1_user_effects.specs.Works.{Made, worked, IsMadeIn, Knows, Turns}
 use Rattle.kl1_user_effects.specs.Drafts.{made_of}
 use Rattle.kl1_user_effects.specs.Reports.{IsTold, unheard, IsDropped}
 use Rattle.kl1_user_effects.proofs.States.{found_in, shoens_changed}
-use Rattle.kl1_user_effects.proofs.Works.{read_as, finds, changes, changed_made, torn, last_made, broken_by}
+use Rattle.kl1_user_effects.proofs.Works.{read_as, changes, changed_made, torn, last_made, broken_by}
 
 -- ---- whether a report is made
 

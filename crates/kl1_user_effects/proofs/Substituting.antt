@@ -1,7 +1,6 @@
 -- Exceptions: with a report alone, and with a substitute in the place of the goal.
 use Rattle.std.proofs.Common.{◌≡◌, ℕ, suc, ◌+◌, ◌-◌, ◌<◌, ◌≤◌, ◌==◌, not, ◌&&◌, ◌||◌, Bool, true, false, if◌then◌else◌, List, [], ◌∷◌, ◌++◌, length, map, take, refl, sym, ap, ◌∙◌, subst, arith}
 use Rattle.std.specs.Prelude.{find, Option, Some, None, is_some, option_map}
-use Rattle.std.specs.List.{AllByRecursion}
 use Rattle.std.proofs.lemmas.Bool.{ne_eqb}
 use Rattle.std.proofs.lemmas.List.{map-append, take_all}
 use Rattle.kl1_model.specs.declared.built_in.BuiltIn.{BuiltIn}
@@ -25,9 +24,9 @@ use Rattle.kl1_store.specs.Hooks.{Kept, point_of, HasGrown}
 use Rattle.kl1_store.specs.Sound.{Bound, IsFormed, Grown}
 use Rattle.kl1_store.proofs.Terms.{term_of-variable, term_of-unbound}
 use Rattle.kl1_store.proofs.Grows.{Grown-variable, Grown-trans}
-use Rattle.kl1_stream.specs.Exceptions.{IsException, IsExceptionWith}
+use Rattle.kl1_stream.specs.Exceptions.{IsExceptionWith}
 use Rattle.kl1_goals.specs.declared.task.Task.{Task}
-use Rattle.kl1_goals.specs.declared.task.Task.TheVariants.{Reduces, Substitutes}
+use Rattle.kl1_goals.specs.declared.task.Task.TheVariants.{Substitutes}
 use Rattle.kl1_goals.specs.declared.goal.Goal.{Goal}
 use Rattle.kl1_goals.specs.Lists.{is_monitor_task}
 use Rattle.kl1_shoen_paths.specs.declared.shoen.Shoen.{Shoen}
@@ -35,7 +34,7 @@ use Rattle.kl1_shoen.specs.Shoens.{Tree, has_number}
 use Rattle.kl1_codes.specs.Numbered.{Numbered}
 use Rattle.kl1_user_effects.specs.declared.draft.Draft.{Draft}
 use Rattle.kl1_user_effects.specs.Fitting.{Reading, built}
-use Rattle.kl1_user_effects.specs.Account.{Means, meaning, aim, task_with, goal_with, shoen_with, with_kept}
+use Rattle.kl1_user_effects.specs.Account.{meaning, aim, task_with, goal_with, shoen_with}
 use Rattle.kl1_user_effects.specs.Wholes.{IsWhole}
 use Rattle.kl1_user_effects.specs.Kept.{IsTaskIn, IsOwned, AreShoensIn}
 use Rattle.kl1_user_effects.specs.Drafts.{goals_left, made_of, DraftsAll, HasBegun, one_for}

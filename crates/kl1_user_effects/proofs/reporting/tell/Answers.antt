@@ -25,7 +25,7 @@ append_report-requires-clause-tail c =
 
 pub returns-in-Dropped-clause-ok : goal.returns-in-Dropped-clause-ok
 returns-in-Dropped-clause-ok c =
-    drafts_dropped c.args.store.now.held c.append_report.new.store.held c.args.shoens.now c.args.draft.now c.args.number c.in-Some.shoen c.args.message c.in_ok-append_report.ensures.grown (sym c.lend.ensures.value ∙ (sym c.copied.ensures ∙ c.in-Some.is)) (rw c.limits.ensures.value at (rw c.in-Dropped.is at c.in_ok-append_report.ensures.told))
+    drafts_dropped c.args.store.now.held c.append_report.new.store.held c.args.shoens.now c.args.draft.now c.args.number c.in-Some.shoen c.args.message c.in_ok-append_report.ensures.grown (sym c.lend.ensures.value ∙ (sym c.copied.ensures ∙ c.in-Some.is)) (rw c.in-Dropped.is at c.in_ok-append_report.ensures.told)
 
 pub returns-in_ok-break_stream-in-Broken-clause-ok : goal.returns-in_ok-break_stream-in-Broken-clause-ok
 returns-in_ok-break_stream-in-Broken-clause-ok c =
