@@ -136,8 +136,7 @@ invariant_of-self-2 g c =
     refl may (rw c.over.ensures at c.in-Ok.ensures.ok) c.draft_answer-drafted.ensures.grown.held c.names.ensures.value c.names.ensures.names c.draft_answer-drafted.ensures.names c.publish.ensures.texts c.publish.ensures.row c.publish.ensures.fits one c.publish.ensures.small c.begin_draft.ensures c.draft_answer-drafted.ensures.rest vs ns in
     let held = c.exchange.ensures.held ∙ ap₂ (λ (xs ys : List CellName). held_exchanged xs ys new.held) c.as_slice.ensures.value c.as_slice-2.ensures.value in
     let goals = c.install.ensures.goals ∙ draft_leaves a (u.variables + c.highest.result) (u.nodes + c.structures_of.result) c.begin_draft.new.draft d c.begin_draft.ensures c.draft_answer-drafted.ensures.rest c.self.invariant.0.first in
-    let w = counts_entry (length u.shoens.work) u.entries u.run c.self.invariant.1 in
-    (
+    let w = counts_entry (length u.shoens.work) u.entries u.run c.self.invariant.1 in (
       answer_kept a u.store.hooks c.exchange.new.store.hooks u.goals.shoens c.install.new.goals.shoens c.args.number c.args.report c.in-Coded.variable c.args.goal.now c.in-Coded.code c.counted-counted.result spares numbers more old new d c.exchange.new.store.held c.install.new.goals.goals d.variables d.nodes c.note_entry.new.entries c.note_entry.new.run c.self.invariant.0 p at refl held goals refl refl c.note_entry.ensures.entries c.note_entry.ensures.run c.exchange.ensures.hooks c.install.ensures.count,
       counts_as (length u.shoens.work) (suc u.entries) c.note_entry.new.entries 0 c.note_entry.new.run c.note_entry.ensures.entries c.note_entry.ensures.run w,
     )

@@ -86,8 +86,7 @@ invariant_of-self-2 g c =
     let r = ready a c.is_full.result c.args.source.now c.in_ok-refusal.field-0 d hooks c.prepare.new.changes.items changes c.prepare.new.names.names names c.code.result.now c.names.result.now c.publish.new.row.items row
     (full_of a c.args.self.now c.is_full.result c.self.view_is c.is_full.ensures) c.in_ok-refusal.ensures.loads c.in-Drafted.is (rw c.over.ensures at c.in_ok-row.ensures.settles) c.as_slice-2.ensures.value c.prepare.ensures.names c.names.ensures.value c.code.ensures p.texts p.row c.as_slice.ensures.value p.small p.fits in
     let e = put_is a d row names changes c.prepare.new.store.held c.self.inside.goals c.install_module.new.goals c.prepare.new.modules.loaded c.install_module.new.modules.loaded c.note_entry.new.entries c.note_entry.new.run c.prepare.ensures.held refl c.install_module.ensures.goals c.prepare.ensures.modules c.install_module.ensures.modules c.note_entry.ensures.entries c.note_entry.ensures.run in
-    let w = counts_entry (length c.self.inside.shoens.work) c.self.inside.entries c.self.inside.run c.self.invariant.1 in
-    (
+    let w = counts_entry (length c.self.inside.shoens.work) c.self.inside.entries c.self.inside.run c.self.invariant.1 in (
       put_kept a _ c.args.source.now d c.self.inside.store.hooks hooks c.self.inside.goals.shoens c.install_module.new.goals.shoens changes names row c.self.invariant.0 r e (ap (λ (t : Tabled CellName). t.shoens) c.install_module.ensures.goals),
       counts_as (length c.self.inside.shoens.work) (suc c.self.inside.entries) c.note_entry.new.entries 0 c.note_entry.new.run c.note_entry.ensures.entries c.note_entry.ensures.run w,
     )

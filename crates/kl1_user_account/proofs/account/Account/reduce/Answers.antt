@@ -35,8 +35,7 @@ invariant_of-self-in-Some g c =
     (full_for a c.args.self.now c.args.number c.args.clause c.is_in_run.result c.has_no_room.result c.self.view_is c.is_in_run.ensures c.has_no_room.ensures) (rw (c.over.ensures, b.last_is, b.variables_are, b.nodes_are, b.reports_are) at c.in-Ok.ensures.ok) in
     let r = refused_of a c.args.number c.args.clause u.store k t v table d c.in-Ok.refused c.in-Some.refusal c.in-Some.is came in
     let back = as_before a c.args.number c.args.clause u.store k t v c.in-Some.refusal table.goals c.draft_named-drafted.new.names.names r refl (ap (λ (x : Tree CellName). x.shoens) c.begin.ensures) (ap (λ (x : Tree CellName). x.work) c.begin.ensures) c.draft_named-drafted.ensures.goals c.draft_named-drafted.ensures.names in
-    let work = ap length (ap (λ (x : Tree CellName). x.work) r.tree ∙ ap (λ (x : Tree CellName). x.work) c.begin.ensures) in
-    (
+    let work = ap length (ap (λ (x : Tree CellName). x.work) r.tree ∙ ap (λ (x : Tree CellName). x.work) c.begin.ensures) in (
       still_kept a _ u.store.hooks k.hooks u.goals.shoens table.shoens back r.hooks c.draft_named-drafted.ensures.shoens c.self.invariant.0,
       subst (λ n. CountsWork n u.entries u.run) (sym work) c.self.invariant.1,
     )
@@ -144,8 +143,7 @@ invariant_of-self-2 g c =
     let names : AreNames a.names = (let N : List Known → Type 0 = λ ks. AreNames ks in subst N (c.requires.knows ∙ ap (λ (z : Account). z.names) (sym c.self.view_is)) (g.met.A.AtomSource.one_to_one c.args.names.now c.args.seat.now c.requires.of)) in
     let opens : Bool = nat_lt c.shoens.result c.len.result in
     let is : opens ≡ nat_lt table.shoens (length v.shoens) = ap₂ (λ (m n : ℕ). nat_lt m n) c.shoens.ensures.shoens c.len.ensures.value in
-    let w = counts_reduction c.is_in_run.result (length u.shoens.work) (length v.work) u.entries u.run r.charged c.self.invariant.1 in
-    (
+    let w = counts_reduction c.is_in_run.result (length u.shoens.work) (length v.work) u.entries u.run r.charged c.self.invariant.1 in (
       put_kept a c.args.number c.args.clause k v table d c.publish_drafted.new.known.names c.publish_drafted.new.store.held c.install.new.goals.goals c.is_in_run.result c.note_reduction.new.entries c.note_reduction.new.run r names noted p c.draft_named-drafted.ensures.goals c.install.ensures.goals c.note_reduction.ensures.entries c.note_reduction.ensures.run
           c.publish_drafted.new.store.hooks c.install.new.goals.shoens opens c.publish_drafted.ensures.hooks is c.install.ensures.count,
       counts_as (length v.work) _ c.note_reduction.new.entries _ c.note_reduction.new.run c.note_reduction.ensures.entries c.note_reduction.ensures.run w,

@@ -17,10 +17,9 @@ invariant_of-self-2 g c =
     let d = c.draft_message-drafted.new.draft in
     let s = sent_of (program_of (kept_in u)) u.store k u.goals.goals t v u.rules u.variables u.nodes u.entries c.args.number c.args.message d c.in-Ok.refused c.in_default.is (rw (c.in-Ok.is, c.over.ensures) at c.draft_message-drafted.ensures.ok) in
     let work = ap length (s.work ∙ ap (λ (x : Tree CellName). x.work) c.begin.ensures) in
-    let w = counts_entry (length u.shoens.work) u.entries u.run c.self.invariant.1 in
-    (
+    let w = counts_entry (length u.shoens.work) u.entries u.run c.self.invariant.1 in (
       sent_kept (kept_in u) u.store k t v u.goals.shoens c.install.new.goals.shoens c.args.number c.args.message d c.install.new.goals.goals c.note_entry.new.entries c.note_entry.new.run c.self.invariant.0 refl
-      (ap (λ (x : Tree CellName). x.shoens) c.begin.ensures) (ap (λ (x : Tree CellName). x.work) c.begin.ensures) s c.draft_message-drafted.ensures.grown.held c.install.ensures.goals c.note_entry.ensures.entries c.note_entry.ensures.run c.install.ensures.count,
+          (ap (λ (x : Tree CellName). x.shoens) c.begin.ensures) (ap (λ (x : Tree CellName). x.work) c.begin.ensures) s c.draft_message-drafted.ensures.grown.held c.install.ensures.goals c.note_entry.ensures.entries c.note_entry.ensures.run c.install.ensures.count,
       subst (λ n. CountsWork n c.note_entry.new.entries c.note_entry.new.run) (sym work) (counts_as (length u.shoens.work) (suc u.entries) c.note_entry.new.entries 0 c.note_entry.new.run c.note_entry.ensures.entries c.note_entry.ensures.run w),
     )
 

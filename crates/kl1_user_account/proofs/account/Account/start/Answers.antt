@@ -110,8 +110,7 @@ invariant_of-self-2 g c =
     let same : c.self.inside.entries ≡ c.counted-counted.result.entries = (at (λ x. [])).entries_are in
     let most = ap (λ (m : Limits). m.entries) (at (λ x. [])).most_are in
     let work = ap length (c.place.ensures.work ∙ c.prepare_start.ensures.work) in
-    let w = counts_entry (length u.shoens.work) u.entries u.run c.self.invariant.1 in
-    (
+    let w = counts_entry (length u.shoens.work) u.entries u.run c.self.invariant.1 in (
       started_kept a b c.prepare_start.new.store.held texts row c.publish.new.row.items c.highest-variables.result cells awaited c.in_ok-opening.opening c.args.allowance c.args.low c.args.high goal_term u.store.hooks c.place.new.store.hooks u.goals.shoens c.place.new.goals.shoens c.self.invariant.0 c.len.ensures.numbered c.len.ensures.lower (may_low c.args.allowance c.args.low c.args.high goal_term may.may) (may_high c.args.allowance c.args.low c.args.high goal_term may.may) s once c.publish.ensures.small (omega (arith, full, same, most)) hung (c.place.ensures.known ∙ ap suc c.prepare_start.ensures.known),
       subst (λ n. CountsWork n c.note_entry.new.entries c.note_entry.new.run) (sym work) (counts_as (length u.shoens.work) (suc u.entries) c.note_entry.new.entries 0 c.note_entry.new.run c.note_entry.ensures.entries c.note_entry.ensures.run w),
     )
