@@ -132,8 +132,8 @@ least b [] = b
 least b (g ∷ gs) = least (if goes_before g b then g else b) gs
 
 -- whether none goes before
-abbrev is_first : List model.Goal → model.Goal → Bool
-is_first gs x = not (list_any (λ h. goes_before h x) gs)
+abbrev is_first_among : List model.Goal → model.Goal → Bool
+is_first_among gs x = not (list_any (λ h. goes_before h x) gs)
 
 find_same : (p q : model.Goal → Bool) → ((x : model.Goal) → p x ≡ q x) → (gs : List model.Goal) → find p gs ≡ find q gs
 find_same p q e [] = refl
@@ -171,20 +171,20 @@ not_first true v y w e f h = absurd (false≢true (sym e))
 not_first false true y w e f h = ap not (or_right y w (f refl))
 not_first false false y w e f h = absurd (false≢true (sym h))
 
-first_is_least : (b : model.Goal) (gs : List model.Goal) → find (is_first (b ∷ gs)) (b ∷ gs) ≡ Some (least b gs)
+first_is_least : (b : model.Goal) (gs : List model.Goal) → find (is_first_among (b ∷ gs)) (b ∷ gs) ≡ Some (least b gs)
 first_is_least b [] = ap (λ c. if not (c || false) then Some b else None) (irreflexive b)
 first_is_least b (g ∷ gs) = by_case (cases_Bool (goes_before g b)) (first_is_least g gs) (first_is_least b gs)
   where
-    by_case : (goes_before g b ≡ true) ⊎ (goes_before g b ≡ false) → find (is_first (g ∷ gs)) (g ∷ gs) ≡ Some (least g gs) → find (is_first (b ∷ gs)) (b ∷ gs) ≡ Some (least b gs) →
-        find (is_first (b ∷ g ∷ gs)) (b ∷ g ∷ gs) ≡ Some (least b (g ∷ gs))
+    by_case : (goes_before g b ≡ true) ⊎ (goes_before g b ≡ false) → find (is_first_among (g ∷ gs)) (g ∷ gs) ≡ Some (least g gs) → find (is_first_among (b ∷ gs)) (b ∷ gs) ≡ Some (least b gs) →
+        find (is_first_among (b ∷ g ∷ gs)) (b ∷ g ∷ gs) ≡ Some (least b (g ∷ gs))
     by_case (inl t) on_g on_b =
-        dropped (goes_before b b) b (find (is_first (b ∷ g ∷ gs)) (g ∷ gs)) (goes_before g b) (list_any (λ h. goes_before h b) gs) t
-        ∙ find_same (is_first (b ∷ g ∷ gs)) (is_first (g ∷ gs)) (λ x. implied (goes_before b x) (goes_before g x) (list_any (λ h. goes_before h x) gs) (before_on g b x t)) (g ∷ gs)
+        dropped (goes_before b b) b (find (is_first_among (b ∷ g ∷ gs)) (g ∷ gs)) (goes_before g b) (list_any (λ h. goes_before h b) gs) t
+        ∙ find_same (is_first_among (b ∷ g ∷ gs)) (is_first_among (g ∷ gs)) (λ x. implied (goes_before b x) (goes_before g x) (list_any (λ h. goes_before h x) gs) (before_on g b x t)) (g ∷ gs)
         ∙ on_g
         ∙ ap (λ c. Some (least (if c then g else b) gs)) (sym t)
     by_case (inr f) on_g on_b =
-        find_same (is_first (b ∷ g ∷ gs)) (is_first (b ∷ gs)) (λ x. implied_later (goes_before b x) (goes_before g x) (list_any (λ h. goes_before h x) gs) (before_over g b x f)) (b ∷ g ∷ gs)
-        ∙ skipped b g (is_first (b ∷ gs) b) (is_first (b ∷ gs) g) (find (is_first (b ∷ gs)) gs)
+        find_same (is_first_among (b ∷ g ∷ gs)) (is_first_among (b ∷ gs)) (λ x. implied_later (goes_before b x) (goes_before g x) (list_any (λ h. goes_before h x) gs) (before_over g b x f)) (b ∷ g ∷ gs)
+        ∙ skipped b g (is_first_among (b ∷ gs) b) (is_first_among (b ∷ gs) g) (find (is_first_among (b ∷ gs)) gs)
         (not_first (goes_before b b) (list_any (λ h. goes_before h b) gs) (goes_before b g) (list_any (λ h. goes_before h g) gs) (irreflexive b) (any_goes b g f gs))
         ∙ on_b
         ∙ ap (λ c. Some (least (if c then g else b) gs)) (sym f)
