@@ -183,7 +183,7 @@ counts_reduction true work after entries run le w = by run (nat_lt run MOST_RUN)
   where
     by : (n : ℕ) (b : Bool) → nat_lt n MOST_RUN ≡ b → CountsWork work entries n → CountsWork after (if (if b then suc n else 1) == 1 then suc entries else entries) (if b then suc n else 1)
     by n false e v = let all = v.all in record { longest = omega arith; all = omega (arith, le, all); last = λ lt. omega (arith, le, all) }
-    by 0 true e v = let all = v.all in record { longest = omega arith; all = omega (arith, le, all); last = λ lt. omega (arith, le, all) }
+    by zero true e v = let all = v.all in record { longest = omega arith; all = omega (arith, le, all); last = λ lt. omega (arith, le, all) }
     by (suc n) true e v =
         let all = v.all in
         let more = v.last (omega arith) in
