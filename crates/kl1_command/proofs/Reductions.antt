@@ -48,9 +48,14 @@ pub after_by : (most n : ℕ) (s : Kept) → Done → Done
 after_by most n s x = if is_refused x.reply then said s (if n == 0 then x.reply else model.ran n) else run_from most (suc n) x.kept
 
 -- the first goal was reduced
-pub done_first : (s after : Kept) (c : Chosen) → Some c ≡ first s.state → done s (reduce c.goal c.clause) ≡ record { kept = after; reply = model.reduced } → (most n : ℕ) → run_from (suc most) n s ≡ run_from most (suc n) after
+done_first : (s after : Kept) (c : Chosen) → Some c ≡ first s.state → done s (reduce c.goal c.clause) ≡ record { kept = after; reply = model.reduced } → (most n : ℕ) → run_from (suc most) n s ≡ run_from most (suc n) after
 unfolding after_by
 done_first s after c found is most n = ap (run_by most n s) (sym found) ∙ ap (after_by most n s) is
+
+-- so by what a reduction answers
+pub done_as : (s after : Kept) (c : Chosen) (o : Option refusal.Refusal) → o ≡ None → Some c ≡ first s.state → done s (reduce c.goal c.clause) ≡ record { kept = after; reply = reduced_or o } → (most n : ℕ) → run_from (suc most) n s ≡ run_from most (suc n) after
+done_as s after c o e found is =
+    done_first s after c found (subst (λ (x : Option refusal.Refusal). done s (reduce c.goal c.clause) ≡ record { kept = after; reply = reduced_or x }) e is)
 
 -- the reduction of the first goal was refused, for this reason
 refused_first : (s after : Kept) (c : Chosen) (r : model.Refusal) → Some c ≡ first s.state → done s (reduce c.goal c.clause) ≡ record { kept = after; reply = model.refused r } → ((left n : ℕ) → run_from (suc left) n s ≡ stopped_by s n r) × (after ≡ s)

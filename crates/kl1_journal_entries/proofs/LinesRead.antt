@@ -1,6 +1,6 @@
 -- The entry whose line a line is.
 use Rattle.std.proofs.Common.{◌≡◌, ℕ, suc, ◌<◌, ◌≤◌, ◌+◌, ◌*◌, ◌==◌, ◌&&◌, ◌⊎◌, inl, inr, Bool, true, false, if◌then◌else◌, List, [], ◌∷◌, length, codes, bytes_eq, refl, sym, ap, subst, ◌∙◌, arith}
-use Rattle.std.specs.Prelude.{nat_le, nat_lt, Option, Some, None, option_map, option_and_then}
+use Rattle.std.specs.Prelude.{nat_le, nat_lt, Option, Some, None, is_some, option_map, option_and_then}
 use Rattle.std.specs.List.{list_all}
 use Rattle.std.proofs.lemmas.Bool.{and_from, and_parts, le-leb}
 use Rattle.std.proofs.lemmas.Option.{option_and_then_some, same_Some}
@@ -225,3 +225,10 @@ not_found line (Some e) p few is q other =
 -- the word of a run
 pub run_word : (w rest : List ℕ) → bytes_eq w (codes "run") ≡ true → option_and_then run_of (number_in rest) ≡ entry_by w rest
 run_word w rest is = subst (λ (v : List ℕ). option_and_then run_of (number_in rest) ≡ entry_by v rest) (sym ((bytes_eq-Decides w (codes "run")).0 is)) refl
+
+-- what is found as an entry is some if the entry is
+pub some_as : {X : Type 0} (h : X → Option Entry) (o : Option X) (p : Option Entry) → option_map h o ≡ option_map (λ (e : Entry). let x : Option Entry = Some e in x) p → is_some o ≡ is_some p
+some_as h None None e = refl
+some_as h None (Some d) e = absurd (let f : ⊥ = cc in f)
+some_as h (Some x) None e = absurd (let f : ⊥ = cc in f)
+some_as h (Some x) (Some d) e = refl

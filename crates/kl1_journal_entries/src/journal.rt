@@ -116,15 +116,12 @@ impl Journal {
     {
         if run == 0 {
             self.put(step_for(goal, clause));
-            return;
-        }
-        let slot = PackedEntry::Run(run);
-        if run == 1 || self.slots.is_empty() {
-            self.slots.push_reserved(slot);
-            return;
-        }
-        if let Some(last) = self.slots.last_mut() {
-            *last = slot;
+        } else if run == 1 {
+            self.slots.push_reserved(PackedEntry::Run(1));
+        } else {
+            // The run as it was stands last.
+            self.slots.pop();
+            self.slots.push_reserved(PackedEntry::Run(run));
         }
     }
 

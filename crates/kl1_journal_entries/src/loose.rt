@@ -196,11 +196,11 @@ fn event_by(alloc: Global, word: &[u8], rest: &[u8]) -> Result<Option<Event>, Al
     Ok(message_in(word, rest))
 }
 
-/// What a line may say.
-pub(crate) fn parse_entry(alloc: Global, line: &[u8]) -> Result<Option<Deed>, AllocError>
-    ensures { IfOk result (λ e. option_and_then deed_in e ≡ entry_by (before_space line.now) (behind_space line.now)) }
+/// What a line may say, by its first word and what is after that.
+#[tactic(auto, using(crate::proofs::LinesRead::run_word))]
+fn deed_by(alloc: Global, word: &[u8], rest: &[u8]) -> Result<Option<Deed>, AllocError>
+    ensures { IfOk result (λ e. option_and_then deed_in e ≡ entry_by word.now rest.now) }
 {
-    let (word, rest) = split_name(line);
     if is_same(word, b"run") {
         return Ok(run_in(rest));
     }
@@ -208,4 +208,12 @@ pub(crate) fn parse_entry(alloc: Global, line: &[u8]) -> Result<Option<Deed>, Al
         None => Ok(None),
         Some(event) => Ok(Some(Deed::Event(event))),
     }
+}
+
+/// What a line may say.
+pub(crate) fn parse_entry(alloc: Global, line: &[u8]) -> Result<Option<Deed>, AllocError>
+    ensures { IfOk result (λ e. option_and_then deed_in e ≡ entry_by (before_space line.now) (behind_space line.now)) }
+{
+    let (word, rest) = split_name(line);
+    deed_by(alloc, word, rest)
 }

@@ -1,6 +1,6 @@
 // The reader of a journal's text.
 
-ghost use Rattle.std.specs.Prelude.{◌≡◌, ◌≤◌, [], Some, IfOk, bytes_eq, option_map, option_and_then};
+ghost use Rattle.std.specs.Prelude.{◌≡◌, ◌≤◌, [], Some, IfOk, bytes_eq, option_map, option_and_then, is_some};
 ghost use Rattle.std.specs.List.{list_any};
 ghost use Rattle.kl1_model.specs.declared.limits.TheConstants.{MOST_SESSIONS, MOST_NAMES};
 ghost use Rattle.kl1_model.specs.Text.{is_built_in};
@@ -57,7 +57,8 @@ fn found_in(alloc: Global, line: &[u8]) -> Result<Option<Found>, AllocError>
 
 /// What the entry asks for whose line this is, if there is one. A line that isn't written as the journal's own is none.
 pub fn entry_of(alloc: Global, line: &[u8]) -> Result<Option<Deed>, AllocError>
-    ensures { IfOk result (λ deed. option_and_then deed_in deed ≡ entry_in line.now) }
+    ensures deed { IfOk result (λ deed. option_and_then deed_in deed ≡ entry_in line.now) }
+    ensures some { IfOk result (λ deed. is_some deed ≡ is_some (entry_in line.now)) }
 {
     match found_in(alloc, line)? {
         None => Ok(None),
