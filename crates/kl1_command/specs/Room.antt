@@ -1,5 +1,5 @@
 -- What commands do to an account whose book can tell only so many entries more.
-use Rattle.std.specs.Prelude.{◌≡◌, ℕ, zero, suc, ◌-◌, ◌≤◌, min, Bool, true, false, if◌then◌else◌, Option, Some, None}
+use Rattle.std.specs.Prelude.{◌≡◌, ℕ, zero, suc, ◌-◌, ◌≤◌, min, if◌then◌else◌, Option, Some, None}
 use Rattle.kl1_model.specs.Event as model
 use Rattle.kl1_model.specs.Choice.{Chosen, first}
 use Rattle.kl1_model_server.specs.Journal.{is_entry, Kept, Done, done}

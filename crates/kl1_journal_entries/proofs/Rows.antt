@@ -3,7 +3,8 @@ use Rattle.std.proofs.Common.{◌≡◌, ℕ, zero, suc, ◌-◌, ◌<◌, List,
 use Rattle.std.specs.Prelude.{slice_get, Some}
 use Rattle.std.specs.List.{AllByRecursion}
 use Rattle.std.proofs.lemmas.List.{map-append, length-append}
-use Rattle.kl1_model_server.specs.Journal.{Entry, runs, without_last}
+use Rattle.kl1_model_server.specs.Journal.{Entry, runs, Journal, without_last}
+use Rattle.kl1_journal_entries.specs.Lined.{with_reduction}
 use Rattle.kl1_journal_entries.specs.Slots.{entry_of_whole, kept_at, entry_at, IsPlace, IsSound}
 use Rattle.kl1_journal_entries.specs.declared.packed_entry.PackedEntry.{PackedEntry}
 use Rattle.kl1_journal_entries.specs.declared.packed_entry.PackedEntry.TheVariants as slot
@@ -93,3 +94,9 @@ all_fewer P (x ∷ xs) (suc n) all = (all.0, all_fewer P xs n all.1)
 -- the row with a run in place of the last
 pub run_last : (ws : List LongEntry) (ss : List PackedEntry) (k n : ℕ) → n ≡ length ss - 1 → map (entry_at ws) (take n ss ++ slot.Run k ∷ []) ≡ without_last (map (entry_at ws) ss) ++ runs k ∷ []
 run_last ws ss k n is = map-append (entry_at ws) (take n ss) (slot.Run k ∷ []) ∙ ap (λ (es : List Entry). es ++ runs k ∷ []) (row_without_last ws ss n is)
+
+-- a run that has two reductions at least takes the place of the last entry
+pub run_goes_on : (j : Journal) (goal clause run : ℕ) → 1 < run → record j { entries = without_last j.entries ++ runs run ∷ [] } ≡ with_reduction j goal clause run
+run_goes_on j goal clause zero more = absurd (omega (arith, more))
+run_goes_on j goal clause (suc zero) more = absurd (omega (arith, more))
+run_goes_on j goal clause (suc (suc n)) more = refl

@@ -15,14 +15,11 @@ returns-in_default-clause-deed c = sym (none_here c)
 pub returns-in_default-clause-entry : goal.returns-in_default-clause-entry
 returns-in_default-clause-entry c = ap (option_map (λ (e : Entry). Some e)) (sym (none_here c))
 
-not_here : (c : goal.Joined-deed-3) → entry_in c.args.line.now ≡ None
-not_here c = not_found c.args.line.now (deed_in c.in-Some.deed) c.in_ok-prepared.prepared c.if-line-gt-MOST_LINE_BYTES.false (ap (option_and_then deed_in) (sym c.in-Some.is) ∙ c.in_ok-deed.ensures) c.in_ok-prepared.ensures (sym c.in_ok-is_canonical.ensures ∙ c.if-not-branch.true)
-
 pub returns-then-not-branch-clause-deed : goal.returns-then-not-branch-clause-deed
-returns-then-not-branch-clause-deed c = sym (not_here c)
+returns-then-not-branch-clause-deed c = sym (not_found c.args.line.now (deed_in c.in-Some.deed) c.in_ok-prepared.prepared c.if-line-gt-MOST_LINE_BYTES.false (ap (option_and_then deed_in) (sym c.in-Some.is) ∙ c.in_ok-deed.ensures) c.in_ok-prepared.ensures (sym c.in_ok-is_canonical.ensures ∙ c.if-not-branch.true))
 
 pub returns-then-not-branch-clause-entry : goal.returns-then-not-branch-clause-entry
-returns-then-not-branch-clause-entry c = ap (option_map (λ (e : Entry). Some e)) (sym (not_here c))
+returns-then-not-branch-clause-entry c = ap (option_map (λ (e : Entry). Some e)) (sym (not_found c.args.line.now (deed_in c.in-Some.deed) c.in_ok-prepared.prepared c.if-line-gt-MOST_LINE_BYTES.false (ap (option_and_then deed_in) (sym c.in-Some.is) ∙ c.in_ok-deed.ensures) c.in_ok-prepared.ensures (sym c.in_ok-is_canonical.ensures ∙ c.if-not-branch.true)))
 
 pub returns-clause-deed : goal.returns-clause-deed
 returns-clause-deed c = (found c.args.line.now (deed_in c.in-Some.deed) c.in_ok-prepared.prepared c.if-line-gt-MOST_LINE_BYTES.false (ap (option_and_then deed_in) (sym c.in-Some.is) ∙ c.in_ok-deed.ensures) c.in_ok-prepared.ensures (sym c.in_ok-is_canonical.ensures ∙ c.if-not-branch.false)).deed
