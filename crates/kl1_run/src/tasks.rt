@@ -113,14 +113,7 @@ fn run_goal(
     let RunResult {
         ending,
         journal: told,
-    } = run_alone(
-        alloc,
-        lone,
-        &mut progress,
-        &mut out,
-        &mut err,
-        &mut journal,
-    );
+    } = run_alone(alloc, lone, &mut progress, &mut out, &mut err, &mut journal);
     progress.clear();
     let status = match ending {
         Ok(ending) => tell_ending(rt, ending)?,

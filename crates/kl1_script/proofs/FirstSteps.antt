@@ -1,5 +1,5 @@
 -- First steps of a replay, and runs of them.
-use Rattle.std.proofs.Common.{◌≡◌, ◌×◌, ⊥, ⊤, tt, ℕ, zero, suc, ◌+◌, ◌-◌, ◌<◌, Bool, true, false, if◌then◌else◌, Option, Some, None, is_none, ap, sym, ◌∙◌, refl, subst, List, [], arith}
+use Rattle.std.proofs.Common.{◌≡◌, ℕ, zero, suc, ◌+◌, ◌-◌, ◌<◌, Bool, true, false, if◌then◌else◌, Option, Some, None, is_none, ap, sym, ◌∙◌, refl, subst, List, [], arith}
 use Rattle.kl1_model.specs.State.{State, has_runs}
 use Rattle.kl1_model.specs.Event.{Event, Refusal, syntax, step_refused, load, start, control, reduce, read, login, logout, reset, answer, Reply, ran, Transition, refuse, is_refused}
 use Rattle.kl1_model.specs.Choice.{Chosen, first}
@@ -43,10 +43,13 @@ chosen_stays s None h = refl
 chosen_stays s (Some c) h = refusals_change_nothing s (reduce c.goal c.clause) h
 
 -- how a run of one step more ends, by that step
-abbrev one_more : ℕ → Transition → Transition
-one_more n x = record { state = x.state; reply = if is_refused x.reply then x.reply else ran (suc n) }
+abbrev moved : State → Reply → Transition
+moved s r = record { state = s; reply = r }
 
-more_by : (n : ℕ) (x : Transition) (b : Bool) → b ≡ false → record { state = x.state; reply = if b then x.reply else ran (suc n) } ≡ record { state = x.state; reply = ran (suc n) }
+abbrev one_more : ℕ → Transition → Transition
+one_more n x = moved x.state (if is_refused x.reply then x.reply else ran (suc n))
+
+more_by : (n : ℕ) (x : Transition) (b : Bool) → b ≡ false → moved x.state (if b then x.reply else ran (suc n)) ≡ moved x.state (ran (suc n))
 more_by n x true e = cc
 more_by n x false e = refl
 
@@ -55,10 +58,9 @@ pub steps_on : (n m : ℕ) (s mid after : State) → m ≡ suc n → first_steps
 steps_on n m s mid after sum so went =
     let x = first_step mid in
     let one = went_true (is_refused x.reply) x after went in
-    let Same : Transition → Type 0 = λ y. first_steps (suc n) s ≡ y in
-    let goes : first_steps (suc n) s ≡ record { state = x.state; reply = ran (suc n) } = ap (λ (y : Transition). one_more n (first_step y.state)) so ∙ more_by n x (is_refused x.reply) one.0 in
+    let goes : first_steps (suc n) s ≡ moved x.state (ran (suc n)) = ap (λ (y : Transition). one_more n (first_step y.state)) so ∙ more_by n x (is_refused x.reply) one.0 in
     let P : ℕ → Type 0 = λ k. first_steps k s ≡ record { state = after; reply = ran k } in
-    subst P (sym sum) (goes ∙ ap (λ (t : State). let y : Transition = record { state = t; reply = ran (suc n) } in y) (sym one.1))
+    subst P (sym sum) (goes ∙ ap (λ (t : State). moved t (ran (suc n))) (sym one.1))
 
 -- after a step that is refused a run does nothing
 stays_on : (k n : ℕ) (s : State) → is_refused (first_step (first_steps n s).state).reply ≡ true → (first_steps (k + n) s).state ≡ (first_steps n s).state
@@ -88,11 +90,10 @@ pub run_stops : (all n : ℕ) (s mid after last : State) → n < all → has_run
 run_stops all n s mid after last few has so went =
     let stopped : is_refused (first_step mid).reply ≡ true = went_false (is_refused (first_step mid).reply) (first_step mid) after went in
     let there : is_refused (first_step (first_steps n s).state).reply ≡ true = ap (λ (x : Transition). is_refused (first_step x.state).reply) so ∙ stopped in
-    let k = all - suc n in
-    let sum : suc (k + n) ≡ all = omega arith in
+    let sum : suc (all - suc n + n) ≡ all = omega (arith, few) in
     let P : ℕ → Type 0 = λ m. is_refused (first_steps m s).reply ≡ true in
     let Q : Transition → Type 0 = λ x. Went false (if_accepted x) last in
-    subst Q (sym (run_of s all has)) (none_by (is_refused (first_steps all s).reply) (first_steps all s) last (subst P sum (refused_on k n s there)))
+    subst Q (sym (run_of s all has)) (none_by (is_refused (first_steps all s).reply) (first_steps all s) last (subst P sum (refused_on (all - suc n) n s there)))
   where
     run_of : (s : State) (n : ℕ) → has_runs s.rules ≡ true → entry_step s (runs n) ≡ first_steps n s
     run_of s n h = ap (λ c. if c then first_steps n s else refuse s syntax) h
