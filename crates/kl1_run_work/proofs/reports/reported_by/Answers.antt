@@ -1,6 +1,7 @@
-use Rattle.std.proofs.Common.{◌≡◌, ◌+◌, ◌*◌, take, ◌∙◌, sym, subst, arith}
+use Rattle.std.proofs.Common.{◌≡◌, ◌+◌, ◌*◌, take, ◌∙◌, ap, sym, subst, arith}
 use Rattle.std.specs.Prelude.{filter}
-use Rattle.kl1_model.specs.declared.limits.TheConstants.{MOST_LISTED, MOST_REPORTS}
+use Rattle.kl1_model.specs.declared.limits.TheConstants.{MOST_LISTED}
+use Rattle.kl1_run_work.specs.declared.reports.TheConstants.{MOST_PAGES}
 use Rattle.kl1_model_server.specs.Journal.{Kept}
 use Rattle.kl1_model_server.specs.Command.{written_lines}
 use Rattle.kl1_run_work.specs.Answers.{is_exception, reports_in}
@@ -28,10 +29,12 @@ loop-page-preserved g c =
 
 pub returns-clause-reports : goal.returns-clause-reports
 returns-clause-reports g c = λ f fits.
-    let all : 64 * c.loop-page.page ≡ MOST_REPORTS = omega arith in
-    lines_all (g.H.Host.kept f c.loop-page.host).state c.args.shoen.0 (64 * c.loop-page.page) c.loop-page.reported.reports.items all (c.loop-page.invariant.reports f fits)
+    let all : 64 * c.loop-page.page ≡ MOST_LISTED * MOST_PAGES = omega arith in
+    let s = (g.H.Host.kept f c.loop-page.host).state in
+    lines_all s c.args.shoen.0 (64 * c.loop-page.page) c.loop-page.reported.reports.items (c.loop-page.invariant.reports f fits) (ap (λ k. take k (reports_in s c.args.shoen.0)) all)
 
 pub returns-clause-exceptions : goal.returns-clause-exceptions
 returns-clause-exceptions g c = λ f fits.
-    let all : 64 * c.loop-page.page ≡ MOST_REPORTS = omega arith in
-    exceptions_all (g.H.Host.kept f c.loop-page.host).state c.args.shoen.0 (64 * c.loop-page.page) c.loop-page.reported.exceptions.items all (c.loop-page.invariant.exceptions f fits)
+    let all : 64 * c.loop-page.page ≡ MOST_LISTED * MOST_PAGES = omega arith in
+    let s = (g.H.Host.kept f c.loop-page.host).state in
+    exceptions_all s c.args.shoen.0 (64 * c.loop-page.page) c.loop-page.reported.exceptions.items (c.loop-page.invariant.exceptions f fits) (ap (λ k. take k (reports_in s c.args.shoen.0)) all)
