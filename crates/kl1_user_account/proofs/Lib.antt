@@ -22,6 +22,7 @@ pub mod PrintLengths
 pub mod Beyond
 pub mod Opened
 pub mod Streaming
+pub mod Begun
 pub mod TwoGoals
 pub mod StartHooks
 pub mod NamesOnce

@@ -9,6 +9,7 @@ use Rattle.kl1_model.specs.Module.{Module}
 use Rattle.kl1_model.specs.Reduction as model
 use Rattle.kl1_model.specs.Reduction.{goes, moved, heard}
 use Rattle.kl1_model.specs.code.Waits.{move_by}
+use Rattle.kl1_model.specs.Rules.{limits_of}
 use Rattle.kl1_model.specs.Event.{reduce, reduced, refuse, is_number, is_full, needs_entry, run_after, with_reduction}
 use Rattle.kl1_model.specs.Step.{step}
 use Rattle.kl1_text.specs.declared.cell_name.CellName.{CellName}
@@ -36,6 +37,7 @@ use Rattle.kl1_user_events.specs.declared.refusal.Refusal.{Refusal}
 use Rattle.kl1_user_events.specs.Views.{refusal_of}
 use Rattle.kl1_user_effects.specs.declared.draft.Draft.{Draft}
 use Rattle.kl1_atoms.specs.declared.known.Known.{Known}
+use Rattle.kl1_atoms.specs.Names.{AreNames}
 use Rattle.kl1_user_effects.specs.Fitting.{Reading, Fits}
 use Rattle.kl1_user_effects.specs.Account.{Account, meaning, task_with, state_of, aim, whole}
 use Rattle.kl1_user_effects.specs.Works.{Knows}
@@ -45,9 +47,13 @@ use Rattle.kl1_user_account.specs.Keeping.{IsKept}
 use Rattle.kl1_user_effects.specs.Calling.{IsNewName}
 use Rattle.kl1_user_steps.specs.Spelling.{IsSpelledIn, HasName, IsPublished}
 
--- a reduction of an account is refused, for each reading that knows its modules
+-- a reading knows the modules of an account, and fits its names
+abbrev pub Suits : Account → Reading → Type 0
+Suits a f = Knows a.modules f × Fits a.names f
+
+-- a reduction of an account is refused, for each reading that suits it
 abbrev pub Refuses : Account → ℕ → ℕ → Refusal → Type 0
-Refuses a n c r = (f : Reading) → Knows a.modules f → step (state_of f a) (reduce n c) ≡ refuse (state_of f a) (refusal_of r)
+Refuses a n c r = (f : Reading) → Suits a f → step (state_of f a) (reduce n c) ≡ refuse (state_of f a) (refusal_of r)
 
 -- a reduction is refused of each account with these goals
 abbrev pub RefusesAmong : List (Goal CellName) → ℕ → ℕ → Refusal → Type 0
@@ -69,11 +75,11 @@ is_read (BreaksOff x) = true
 
 -- whether the reduction of goal `n` by clause `c` is noted in a run
 abbrev pub IsNotedSo : Account → ℕ → ℕ → Bool → Type 0
-IsNotedSo a n c in_run = (f : Reading) → Knows a.modules f → is_in_run (state_of f a) n c ≡ in_run
+IsNotedSo a n c in_run = (f : Reading) → Suits a f → is_in_run (state_of f a) n c ≡ in_run
 
 -- whether that reduction needs an entry for which the journal has no room
 abbrev pub IsFullFor : Account → ℕ → ℕ → Bool → Type 0
-IsFullFor a n c full = (f : Reading) → Knows a.modules f → (needs_entry (is_in_run (state_of f a) n c) (state_of f a) && is_full (state_of f a)) ≡ full
+IsFullFor a n c full = (f : Reading) → Suits a f → (needs_entry (is_in_run (state_of f a) n c) (state_of f a) && is_full (state_of f a)) ≡ full
 
 -- an account with the cells of a store and these shoens
 abbrev pub with_tree : Account → Held CellName → List (Shoen CellName) → Account
@@ -87,7 +93,7 @@ NotHeard h shoens full g c r =
 -- a monitor, which may step, reads this by clause `c`, and terminations come after it
 abbrev pub HeardAs : Held CellName → List (Shoen CellName) → Bool → Goal CellName → ℕ → Control CellName → Type 0
 HeardAs h shoens full g c control =
-    (a : Account) (n : ℕ) → IsSteppable a.goals n c g → g.task ≡ Monitor → AreEnabled shoens a.work a.goals → IsFullFor (with_tree a h shoens) n c full → (f : Reading) → Knows a.modules f →
+    (a : Account) (n : ℕ) → IsSteppable a.goals n c g → g.task ≡ Monitor → AreEnabled shoens a.work a.goals → IsFullFor (with_tree a h shoens) n c full → (f : Reading) → Suits a f →
     let s = state_of f (with_tree a h shoens) in
     step s (reduce n c) ≡ record { state = settle g.shoen (heard g.shoen (control_as f h control) (with_reduction (is_in_run s n c) s)); reply = reduced }
 
@@ -179,6 +185,10 @@ account_at own h goals t program known last variables nodes reports entries = re
   sessions = own.1;
 }
 
+-- a journal may have this many entries, by these rules
+abbrev pub MayHave : Rules → ℕ × ℕ → Type 0
+MayHave rules entries = entries.0 ≤ (limits_of rules).entries
+
 -- an account comes to this one by a reduction, and all that always holds of it holds
 pub record ReducesTo (a b : Account) (n c : ℕ) (hooks : List Hook) (known : ℕ) : Type 0 where
   pub step : (f : Reading) → Fits b.names f → step (state_of f a) (reduce n c) ≡ record { state = state_of f b; reply = reduced }
@@ -196,7 +206,8 @@ pub record IsReduced (a : Account) (n c : ℕ) (new : Kept CellName) (u : Tree C
   pub name : IsNewName a.names d.name
   pub spelled : IsSpelledIn d.spelled new.held
   pub has : HasName d.spelled d.name
-  pub reduces : (in_run : Bool) (more : List Known) (last : Held CellName) → IsNotedSo a n c in_run → IsPublished a.names more d new.held last → ReducesTo a (named_in in_run a last u d more) n c new.hooks (length u.shoens)
+  pub charged : length u.work ≤ suc (length a.work)
+  pub reduces : (in_run : Bool) (more : List Known) (last : Held CellName) → AreNames a.names → IsNotedSo a n c in_run → IsPublished a.names more d new.held last → ReducesTo a (named_in in_run a last u d more) n c new.hooks (length u.shoens)
 
 -- a reduction of an account is refused for a reason, and nothing has changed
 pub record IsRefused (a : Account) (n c : ℕ) (old new : Kept CellName) (t u : Tree CellName) (r : Refusal) : Type 0 where

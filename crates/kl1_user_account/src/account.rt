@@ -3,10 +3,10 @@
 mod beginning;
 mod sessions;
 
-ghost use Rattle.std.specs.Prelude.{◌≡◌, ◌↔◌, ℕ, suc, if◌then◌else◌, [], IfOk, OnErr, option_map};
+ghost use Rattle.std.specs.Prelude.{◌≡◌, ◌↔◌, ◌&&◌, ℕ, [], IfOk, OnErr, option_map};
 ghost use Rattle.kl1_model.specs.Step.{step};
 ghost use Rattle.kl1_model.specs.Choice.{first, is_in_run, quiet};
-ghost use Rattle.kl1_model.specs.Event.{load as load_event, start as start_event, answer as answer_event, control, reduce, read, value, status, reports, modules as modules_query, is_full, needs_entry, run_after};
+ghost use Rattle.kl1_model.specs.Event.{load as load_event, start as start_event, answer as answer_event, control, reduce, read, value, status, reports, modules as modules_query, is_full, needs_entry};
 ghost use Rattle.kl1_user_effects.specs.Fitting.{Reading, Fits};
 ghost use Rattle.kl1_user_effects.specs.Account.{state_of, texts_of};
 ghost use Rattle.kl1_user_effects.specs.Naming.{Keeps};
@@ -27,6 +27,7 @@ use crate::loading::{Loading, draft_module, install_module, prepare};
 use crate::naming::publish_drafted;
 use crate::printing::print_cell;
 use crate::reducing::draft_named;
+use crate::runs::{needs_entry, note_entry, note_reduction};
 use crate::sending::draft_message;
 use crate::startable::{Starting, code_of};
 use crate::starting::{next_goals, next_number, place, prepare_start};
@@ -37,7 +38,7 @@ use kl1_goals::{GoalTable, Rules};
 use kl1_goals_moves::Trial;
 use kl1_match::Scratch;
 use kl1_model::Message;
-use kl1_model::limits::{MOST_PRINTED_BYTES, MOST_RUN};
+use kl1_model::limits::MOST_PRINTED_BYTES;
 use kl1_shoen::ShoenTree;
 use kl1_store::Store;
 use kl1_term::Term;
@@ -149,14 +150,6 @@ impl<C: CodeSource> Account<C> {
         self.rules.limits().entries <= self.entries
     }
 
-    /// Counts an entry of the journal that is no run.
-    fn note_entry(&mut self)
-        ensures { self.new ≡ record self.old { entries = suc self.old.entries; run = 0 } }
-    {
-        self.entries += 1;
-        self.run = 0;
-    }
-
     /// Whether the reduction of goal `number` by this clause is noted in a run: it is the first, by rules with runs.
     fn is_in_run(&self, number: u64, clause: u64) -> bool
         ensures { (f : Reading) → Fits self.now.names f → result ≡ is_in_run (state_of f self.now) number clause }
@@ -170,25 +163,14 @@ impl<C: CodeSource> Account<C> {
         }
     }
 
-    /// Whether a reduction needs one entry more: it is in no run, or in a new one.
-    fn needs_entry(&self, in_run: bool) -> bool
-        ensures { (f : Reading) → result ≡ needs_entry in_run (state_of f self.now) }
+    /// Whether a reduction, which is noted in a run or not, needs an entry for which the journal has no room.
+    fn has_no_room(&self, in_run: bool) -> bool
+        ensures { (f : Reading) → result ≡ (needs_entry in_run (state_of f self.now) && is_full (state_of f self.now)) }
     {
-        !in_run || self.run == 0 || self.run as u64 >= MOST_RUN
-    }
-
-    /// Counts a reduction in the journal, in a run or as an entry.
-    fn note_reduction(&mut self, in_run: bool, needs_entry: bool)
-        ensures { self.new ≡ record self.old { entries = if needs_entry then suc self.old.entries else self.old.entries; run = if in_run then run_after self.old.run else 0 } }
-    {
-        if needs_entry {
-            self.entries += 1;
+        if !needs_entry(in_run, self.run) {
+            return false;
         }
-        self.run = match (in_run, needs_entry) {
-            (false, _) => 0,
-            (true, true) => 1,
-            (true, false) => self.run + 1,
-        };
+        self.is_full()
     }
 
     /// Reduces goal `number` by the clause numbered `clause`, or says why it is refused.
@@ -210,8 +192,7 @@ impl<C: CodeSource> Account<C> {
         ensures modules { self.new.modules ≡ self.old.modules }
     {
         let in_run = self.is_in_run(number, clause);
-        let needs_entry = self.needs_entry(in_run);
-        let is_full = needs_entry && self.is_full();
+        let is_full = self.has_no_room(in_run);
         let mark = self.store.mark();
         // Only for the proof: the goals are in order of number.
         let _ordered = self.goals.shoens();
@@ -264,7 +245,7 @@ impl<C: CodeSource> Account<C> {
         self.variables = self.draft.variables;
         self.nodes = self.draft.nodes;
         self.reports = self.draft.reports;
-        self.note_reduction(in_run, needs_entry);
+        note_reduction(&mut self.entries, &mut self.run, in_run);
         Ok(None)
     }
 
@@ -310,7 +291,7 @@ impl<C: CodeSource> Account<C> {
         install(&mut self.goals, &self.draft, false);
         self.variables = self.draft.variables;
         self.nodes = self.draft.nodes;
-        self.note_entry();
+        note_entry(&mut self.entries, &mut self.run);
         Ok(Reply::Sent)
     }
 
@@ -373,7 +354,7 @@ impl<C: CodeSource> Account<C> {
             row.as_slice(),
             self.draft.changes.as_slice(),
         );
-        self.note_entry();
+        note_entry(&mut self.entries, &mut self.run);
         Ok(Reply::Loaded(name))
     }
 
@@ -443,7 +424,7 @@ impl<C: CodeSource> Account<C> {
         self.variables += variables + 2;
         self.nodes += code.nodes();
         self.reports = opening.streams.made;
-        self.note_entry();
+        note_entry(&mut self.entries, &mut self.run);
         Ok(Reply::Opened(ShoenNo(shoen)))
     }
 
@@ -530,7 +511,7 @@ impl<C: CodeSource> Account<C> {
         install(&mut self.goals, &self.draft, false);
         self.variables = self.draft.variables;
         self.nodes = self.draft.nodes;
-        self.note_entry();
+        note_entry(&mut self.entries, &mut self.run);
         Ok(Reply::Sent)
     }
 

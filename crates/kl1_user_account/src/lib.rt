@@ -21,6 +21,7 @@ mod opening;
 mod placing;
 mod printing;
 mod reducing;
+mod runs;
 mod sending;
 mod startable;
 mod starting;

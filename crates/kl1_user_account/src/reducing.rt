@@ -1,6 +1,6 @@
 // Reductions that are drafted.
 
-ghost use Rattle.std.specs.Prelude.{◌≡◌, false, ◌<◌, ◌≤◌, ℕ, List, Some, None, IfOk, IfErr, OnOk, vec_capacity};
+ghost use Rattle.std.specs.Prelude.{◌≡◌, false, ◌+◌, ◌<◌, ◌≤◌, ◌^◌, ℕ, List, length, Some, None, IfOk, IfErr, OnOk, vec_capacity};
 ghost use Rattle.kl1_model.specs.declared.limits.TheConstants.{MONITOR_PRIORITY};
 ghost use Rattle.kl1_clause.specs.Predicates.{AreSome};
 ghost use Rattle.kl1_goals_moves.specs.Kinds.{IsKind, KindIn};
@@ -17,7 +17,7 @@ ghost use Rattle.kl1_user_effects.specs.Account.{aim};
 ghost use Rattle.kl1_user_effects.specs.Kept.{AreShoensIn};
 ghost use Rattle.kl1_user_effects.specs.Works.{Knows};
 ghost use Rattle.kl1_user_account.specs.Looking.{Serves};
-ghost use Rattle.kl1_user_account.specs.Reducing.{HasRow, IsFullFor, RefusesAmong, IsSteppable, is_read, NotHeard, HeardAs, NotMade, IsMade, IsToMake, account_at, IsReduced, ReducesAs};
+ghost use Rattle.kl1_user_account.specs.Reducing.{HasRow, MayHave, IsFullFor, RefusesAmong, IsSteppable, is_read, NotHeard, HeardAs, NotMade, IsMade, IsToMake, account_at, IsReduced, ReducesAs};
 ghost use Rattle.kl1_user_account.specs.Keeping.{IsKept};
 ghost use Rattle.kl1_user_effects.specs.Drafts.{CanGoBack};
 ghost use Rattle.kl1_user_effects.specs.Installing.{IsBegun};
@@ -154,8 +154,8 @@ fn draft_reading<C: CodeSource>(
     requires steppable { IsSteppable goals.old.goals goal.number clause goal }
     requires monitor { goal.task ≡ Monitor }
     requires begun { IsBegun 0 modules.now.rules draft.old.last_goal draft.old.variables draft.old.nodes draft.old.reports draft.old }
-    requires kept { (own : List ℕ × ℕ) (entries : ℕ × ℕ) → IsKept (account_at own store.old.held goals.old.goals shoens.old modules.now names.now.names draft.old.last_goal draft.old.variables draft.old.nodes draft.old.reports entries) store.old.hooks goals.old.shoens }
-    ensures ok { IfOk result (λ refused. (own : List ℕ × ℕ) (entries : ℕ × ℕ) → IsFullFor (account_at own store.old.held goals.old.goals shoens.old modules.now names.now.names draft.old.last_goal draft.old.variables draft.old.nodes draft.old.reports entries) goal.number clause is_full → ReducesAs (account_at own store.old.held goals.old.goals shoens.old modules.now names.now.names draft.old.last_goal draft.old.variables draft.old.nodes draft.old.reports entries) goal.number clause store.old store.new shoens.old shoens.new goals.new draft.new refused) }
+    requires kept { (own : List ℕ × ℕ) (entries : ℕ × ℕ) → MayHave modules.now.rules entries → IsKept (account_at own store.old.held goals.old.goals shoens.old modules.now names.now.names draft.old.last_goal draft.old.variables draft.old.nodes draft.old.reports entries) store.old.hooks goals.old.shoens }
+    ensures ok { IfOk result (λ refused. (own : List ℕ × ℕ) (entries : ℕ × ℕ) → MayHave modules.now.rules entries → IsFullFor (account_at own store.old.held goals.old.goals shoens.old modules.now names.now.names draft.old.last_goal draft.old.variables draft.old.nodes draft.old.reports entries) goal.number clause is_full → ReducesAs (account_at own store.old.held goals.old.goals shoens.old modules.now names.now.names draft.old.last_goal draft.old.variables draft.old.nodes draft.old.reports entries) goal.number clause store.old store.new shoens.old shoens.new goals.new draft.new refused) }
     ensures back { CanGoBack shoens.old shoens.new }
     ensures grown { HasGrown store.old store.new }
     ensures goals { goals.new.goals ≡ goals.old.goals }
@@ -214,13 +214,14 @@ fn draft_made<C: CodeSource>(
     requires steppable { IsSteppable goals.old.goals goal.number clause goal }
     requires level { goal.priority ≤ MONITOR_PRIORITY }
     requires begun { IsBegun 0 modules.now.rules draft.old.last_goal draft.old.variables draft.old.nodes draft.old.reports draft.old }
-    requires kept { (own : List ℕ × ℕ) (entries : ℕ × ℕ) → IsKept (account_at own store.old.held goals.old.goals shoens.old modules.now names.old.names draft.old.last_goal draft.old.variables draft.old.nodes draft.old.reports entries) store.old.hooks goals.old.shoens }
+    requires kept { (own : List ℕ × ℕ) (entries : ℕ × ℕ) → MayHave modules.now.rules entries → IsKept (account_at own store.old.held goals.old.goals shoens.old modules.now names.old.names draft.old.last_goal draft.old.variables draft.old.nodes draft.old.reports entries) store.old.hooks goals.old.shoens }
+    requires few { length shoens.old.work + 1 < 2 ^ 63 }
     requires cell { IsIn store.old.held cell.cell }
     requires some { AreSome predicate.names.now predicate.clauses.now }
     requires serves { Serves modules.now.loaded kind predicate }
     requires makes { IsToMake store.old.held modules.now is_full goal.task cell clause predicate (taken_places trial.old) trial.old.text made }
     requires inside { MoveIn store.old.held predicate (taken_places trial.old) trial.old.text (Some made) }
-    ensures ok { OnOk result ((own : List ℕ × ℕ) (entries : ℕ × ℕ) → IsReduced (account_at own store.old.held goals.old.goals shoens.old modules.now names.old.names draft.old.last_goal draft.old.variables draft.old.nodes draft.old.reports entries) goal.number clause store.new shoens.new goals.new draft.new) }
+    ensures ok { OnOk result ((own : List ℕ × ℕ) (entries : ℕ × ℕ) → MayHave modules.now.rules entries → IsFullFor (account_at own store.old.held goals.old.goals shoens.old modules.now names.old.names draft.old.last_goal draft.old.variables draft.old.nodes draft.old.reports entries) goal.number clause is_full → IsReduced (account_at own store.old.held goals.old.goals shoens.old modules.now names.old.names draft.old.last_goal draft.old.variables draft.old.nodes draft.old.reports entries) goal.number clause store.new shoens.new goals.new draft.new) }
     ensures back { CanGoBack shoens.old shoens.new }
     ensures grown { HasGrown store.old store.new }
     ensures goals { goals.new.goals ≡ goals.old.goals }
@@ -263,8 +264,9 @@ fn draft_substitute<C: CodeSource>(
     requires substitutes { goal.task ≡ Substitutes term }
     requires level { goal.priority ≤ MONITOR_PRIORITY }
     requires begun { IsBegun 0 modules.now.rules draft.old.last_goal draft.old.variables draft.old.nodes draft.old.reports draft.old }
-    requires kept { (own : List ℕ × ℕ) (entries : ℕ × ℕ) → IsKept (account_at own store.old.held goals.old.goals shoens.old modules.now names.old.names draft.old.last_goal draft.old.variables draft.old.nodes draft.old.reports entries) store.old.hooks goals.old.shoens }
-    ensures ok { IfOk result (λ refused. (own : List ℕ × ℕ) (entries : ℕ × ℕ) → IsFullFor (account_at own store.old.held goals.old.goals shoens.old modules.now names.old.names draft.old.last_goal draft.old.variables draft.old.nodes draft.old.reports entries) goal.number clause is_full → ReducesAs (account_at own store.old.held goals.old.goals shoens.old modules.now names.old.names draft.old.last_goal draft.old.variables draft.old.nodes draft.old.reports entries) goal.number clause store.old store.new shoens.old shoens.new goals.new draft.new refused) }
+    requires kept { (own : List ℕ × ℕ) (entries : ℕ × ℕ) → MayHave modules.now.rules entries → IsKept (account_at own store.old.held goals.old.goals shoens.old modules.now names.old.names draft.old.last_goal draft.old.variables draft.old.nodes draft.old.reports entries) store.old.hooks goals.old.shoens }
+    requires few { length shoens.old.work + 1 < 2 ^ 63 }
+    ensures ok { IfOk result (λ refused. (own : List ℕ × ℕ) (entries : ℕ × ℕ) → MayHave modules.now.rules entries → IsFullFor (account_at own store.old.held goals.old.goals shoens.old modules.now names.old.names draft.old.last_goal draft.old.variables draft.old.nodes draft.old.reports entries) goal.number clause is_full → ReducesAs (account_at own store.old.held goals.old.goals shoens.old modules.now names.old.names draft.old.last_goal draft.old.variables draft.old.nodes draft.old.reports entries) goal.number clause store.old store.new shoens.old shoens.new goals.new draft.new refused) }
     ensures back { CanGoBack shoens.old shoens.new }
     ensures grown { HasGrown store.old store.new }
     ensures goals { goals.new.goals ≡ goals.old.goals }
@@ -324,8 +326,9 @@ fn draft_move<C: CodeSource>(
     requires reduces { goal.task ≡ Reduces cell }
     requires level { goal.priority ≤ MONITOR_PRIORITY }
     requires begun { IsBegun 0 modules.now.rules draft.old.last_goal draft.old.variables draft.old.nodes draft.old.reports draft.old }
-    requires kept { (own : List ℕ × ℕ) (entries : ℕ × ℕ) → IsKept (account_at own store.old.held goals.old.goals shoens.old modules.now names.old.names draft.old.last_goal draft.old.variables draft.old.nodes draft.old.reports entries) store.old.hooks goals.old.shoens }
-    ensures ok { IfOk result (λ refused. (own : List ℕ × ℕ) (entries : ℕ × ℕ) → IsFullFor (account_at own store.old.held goals.old.goals shoens.old modules.now names.old.names draft.old.last_goal draft.old.variables draft.old.nodes draft.old.reports entries) goal.number clause is_full → ReducesAs (account_at own store.old.held goals.old.goals shoens.old modules.now names.old.names draft.old.last_goal draft.old.variables draft.old.nodes draft.old.reports entries) goal.number clause store.old store.new shoens.old shoens.new goals.new draft.new refused) }
+    requires kept { (own : List ℕ × ℕ) (entries : ℕ × ℕ) → MayHave modules.now.rules entries → IsKept (account_at own store.old.held goals.old.goals shoens.old modules.now names.old.names draft.old.last_goal draft.old.variables draft.old.nodes draft.old.reports entries) store.old.hooks goals.old.shoens }
+    requires few { length shoens.old.work + 1 < 2 ^ 63 }
+    ensures ok { IfOk result (λ refused. (own : List ℕ × ℕ) (entries : ℕ × ℕ) → MayHave modules.now.rules entries → IsFullFor (account_at own store.old.held goals.old.goals shoens.old modules.now names.old.names draft.old.last_goal draft.old.variables draft.old.nodes draft.old.reports entries) goal.number clause is_full → ReducesAs (account_at own store.old.held goals.old.goals shoens.old modules.now names.old.names draft.old.last_goal draft.old.variables draft.old.nodes draft.old.reports entries) goal.number clause store.old store.new shoens.old shoens.new goals.new draft.new refused) }
     ensures back { CanGoBack shoens.old shoens.new }
     ensures grown { HasGrown store.old store.new }
     ensures goals { goals.new.goals ≡ goals.old.goals }
@@ -365,8 +368,9 @@ fn draft_reduction<C: CodeSource>(
     clause: u64,
 ) -> Result<Option<Refusal>, AllocError>
     requires begun { IsBegun 0 modules.now.rules draft.old.last_goal draft.old.variables draft.old.nodes draft.old.reports draft.old }
-    requires kept { (own : List ℕ × ℕ) (entries : ℕ × ℕ) → IsKept (account_at own store.old.held goals.old.goals shoens.old modules.now names.old.names draft.old.last_goal draft.old.variables draft.old.nodes draft.old.reports entries) store.old.hooks goals.old.shoens }
-    ensures ok { IfOk result (λ refused. (own : List ℕ × ℕ) (entries : ℕ × ℕ) → IsFullFor (account_at own store.old.held goals.old.goals shoens.old modules.now names.old.names draft.old.last_goal draft.old.variables draft.old.nodes draft.old.reports entries) number clause is_full → ReducesAs (account_at own store.old.held goals.old.goals shoens.old modules.now names.old.names draft.old.last_goal draft.old.variables draft.old.nodes draft.old.reports entries) number clause store.old store.new shoens.old shoens.new goals.new draft.new refused) }
+    requires kept { (own : List ℕ × ℕ) (entries : ℕ × ℕ) → MayHave modules.now.rules entries → IsKept (account_at own store.old.held goals.old.goals shoens.old modules.now names.old.names draft.old.last_goal draft.old.variables draft.old.nodes draft.old.reports entries) store.old.hooks goals.old.shoens }
+    requires few { length shoens.old.work + 1 < 2 ^ 63 }
+    ensures ok { IfOk result (λ refused. (own : List ℕ × ℕ) (entries : ℕ × ℕ) → MayHave modules.now.rules entries → IsFullFor (account_at own store.old.held goals.old.goals shoens.old modules.now names.old.names draft.old.last_goal draft.old.variables draft.old.nodes draft.old.reports entries) number clause is_full → ReducesAs (account_at own store.old.held goals.old.goals shoens.old modules.now names.old.names draft.old.last_goal draft.old.variables draft.old.nodes draft.old.reports entries) number clause store.old store.new shoens.old shoens.new goals.new draft.new refused) }
     ensures back { CanGoBack shoens.old shoens.new }
     ensures grown { HasGrown store.old store.new }
     ensures goals { goals.new.goals ≡ goals.old.goals }
@@ -419,8 +423,9 @@ pub(crate) fn draft_named<C: CodeSource>(
     clause: u64,
 ) -> Result<Option<Refusal>, AllocError>
     requires begun { IsBegun 0 modules.now.rules draft.old.last_goal draft.old.variables draft.old.nodes draft.old.reports draft.old }
-    requires kept { (own : List ℕ × ℕ) (entries : ℕ × ℕ) → IsKept (account_at own store.old.held goals.old.goals shoens.old modules.now names.old.names draft.old.last_goal draft.old.variables draft.old.nodes draft.old.reports entries) store.old.hooks goals.old.shoens }
-    ensures ok { IfOk result (λ refused. (own : List ℕ × ℕ) (entries : ℕ × ℕ) → IsFullFor (account_at own store.old.held goals.old.goals shoens.old modules.now names.old.names draft.old.last_goal draft.old.variables draft.old.nodes draft.old.reports entries) number clause is_full → ReducesAs (account_at own store.old.held goals.old.goals shoens.old modules.now names.old.names draft.old.last_goal draft.old.variables draft.old.nodes draft.old.reports entries) number clause store.old store.new shoens.old shoens.new goals.new draft.new refused) }
+    requires kept { (own : List ℕ × ℕ) (entries : ℕ × ℕ) → MayHave modules.now.rules entries → IsKept (account_at own store.old.held goals.old.goals shoens.old modules.now names.old.names draft.old.last_goal draft.old.variables draft.old.nodes draft.old.reports entries) store.old.hooks goals.old.shoens }
+    requires few { length shoens.old.work + 1 < 2 ^ 63 }
+    ensures ok { IfOk result (λ refused. (own : List ℕ × ℕ) (entries : ℕ × ℕ) → MayHave modules.now.rules entries → IsFullFor (account_at own store.old.held goals.old.goals shoens.old modules.now names.old.names draft.old.last_goal draft.old.variables draft.old.nodes draft.old.reports entries) number clause is_full → ReducesAs (account_at own store.old.held goals.old.goals shoens.old modules.now names.old.names draft.old.last_goal draft.old.variables draft.old.nodes draft.old.reports entries) number clause store.old store.new shoens.old shoens.new goals.new draft.new refused) }
     ensures back { CanGoBack shoens.old shoens.new }
     ensures grown { HasGrown store.old store.new }
     ensures goals { goals.new.goals ≡ goals.old.goals }

@@ -14,6 +14,7 @@ ghost use Rattle.kl1_user_effects.specs.Drafts.{CanGoBack};
 ghost use Rattle.kl1_user_account.specs.Looking.{WakesTold};
 ghost use Rattle.kl1_user_account.specs.Sending.{AreAlike, Allows, Refuses, PutsOn, SendsAs};
 
+use crate::counted::is_within;
 use crate::installing::begin_draft;
 use crate::limits::is_number;
 use crate::looking::{predicate_of, wake_told};
@@ -82,7 +83,7 @@ fn origin_for(
     if most.variables <= variables {
         return Err(Refusal::Limit);
     }
-    if most.nodes < nodes || most.nodes - nodes < nodes_of(message) {
+    if !is_within(nodes, nodes_of(message), most.nodes) {
         return Err(Refusal::Limit);
     }
     if most.entries <= entries {

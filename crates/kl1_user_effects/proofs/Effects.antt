@@ -1,6 +1,6 @@
 -- What messages to a shoen make of drafts.
 use Rattle.std.proofs.Common.{◌≡◌, ℕ, zero, suc, ◌+◌, ◌-◌, ◌<◌, not, ◌&&◌, true, false, if◌then◌else◌, Bool, List, [], ◌∷◌, ◌++◌, length, map, get_or, refl, sym, ap, ap₂, ◌∙◌, subst, arith}
-use Rattle.std.specs.Prelude.{min, filter, find, Option, Some, option_map}
+use Rattle.std.specs.Prelude.{filter, find, Option, Some, option_map}
 use Rattle.std.specs.List.{AllByRecursion}
 use Rattle.kl1_model.specs.declared.life.Life.TheVariants.{Aborted}
 use Rattle.kl1_model.specs.Module.{is_among}

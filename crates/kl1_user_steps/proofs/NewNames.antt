@@ -1,5 +1,5 @@
 -- A goal's move, or a name that is new and comes of it.
-use Rattle.std.proofs.Common.{◌≡◌, ℕ, suc, ◌<◌, ◌-◌, Bool, true, false, if◌then◌else◌, List, [], ◌∷◌, length, refl, sym, ap, ◌∙◌, subst, arith, ℤ}
+use Rattle.std.proofs.Common.{◌≡◌, ℕ, suc, ◌<◌, ◌-◌, not, Bool, true, false, if◌then◌else◌, List, [], ◌∷◌, length, refl, sym, ap, ◌∙◌, subst, arith, ℤ}
 use Rattle.std.specs.Prelude.{Option, None, Some, option_map, is_some, nat_le, IsTrue, bytes_eq}
 use Rattle.std.proofs.lemmas.Slice.Eq.{bytes_eq-Decides}
 use Rattle.kl1_model.specs.declared.limits.TheConstants.{MOST_NAMES}
@@ -140,7 +140,7 @@ variable_solved v text = refl
 becomes : (goal : Goal CellName) (t : Means) (x b : Term) (v : ℕ) (text : List ℕ) (s : State) → nat_le (length (with_name s.names text)) MOST_NAMES ≡ true → b ≡ variable v →
     moved (goal_with t goal) x (names text b) s ≡ replace_in_state v (atom text) (with_text text s)
 becomes goal t x b v text s keeps is =
-    ap (λ c. or_exhaustion c (goal_with t goal) x (named_by (goal_with t goal) x text b s) s) keeps
+    ap (λ c. or_exhaustion (not (not c)) (goal_with t goal) x (named_by (goal_with t goal) x text b s) s) keeps
     ∙ ap (λ (r : Term). unified (goal_with t goal) x (mgu (equation r (atom text))) (with_text text s)) is
     ∙ ap (λ o. unified (goal_with t goal) x o (with_text text s)) (variable_solved v text)
 
