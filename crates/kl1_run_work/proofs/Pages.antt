@@ -1,9 +1,9 @@
 -- Reports that are listed page by page.
 use Rattle.std.proofs.Common.{◌≡◌, ℕ, ◌+◌, ◌-◌, ◌*◌, ◌<◌, ◌≤◌, length, nat_le, ◌&&◌, Bool, true, false, if◌then◌else◌, List, [], ◌∷◌, ◌++◌, take, drop, Option, Some, None, ap, sym, subst, ◌∙◌, append_assoc, refl, arith}
-use Rattle.std.specs.Prelude.{filter}
+use Rattle.std.specs.Prelude.{filter, map}
 use Rattle.std.proofs.Math.Seq.{take-add, take-nil, drop-nil}
 use Rattle.std.proofs.lemmas.Bool.{le-leb, lt-ltb}
-use Rattle.std.proofs.lemmas.List.{take-map, drop-map, take_all, length-take, length-drop}
+use Rattle.std.proofs.lemmas.List.{take-map, drop-map, take_all, length-take, length-drop, length-map}
 use Rattle.std.proofs.lemmas.List.Elements.{filter-append}
 use Rattle.kl1_model.specs.declared.limits.TheConstants.{MOST_LISTED, NUMBER_LIMIT}
 use Rattle.kl1_model.specs.Print.{cut_print}
@@ -60,6 +60,11 @@ short_page texts page done next most is few sum within =
     let short : length (take MOST_LISTED (drop done texts)) < MOST_LISTED = subst (λ p. length p < MOST_LISTED) is few in
     let all = few_texts texts done short in
     take_all next texts (omega (arith, all, sum)) ∙ sym (take_all most texts (omega (arith, all, sum, within)))
+
+-- a list of texts that is short, if another list of them is
+pub short_items : {A : Type 0} (text : A → List ℕ) (xs ys : List A) (texts : List (List ℕ)) → map text xs ≡ texts → map text ys ≡ texts → length ys < MOST_LISTED → length (map text xs) < MOST_LISTED
+short_items text xs ys texts e d few =
+    subst (λ (p : List (List ℕ)). length p < MOST_LISTED) (d ∙ sym e) (omega (arith, few, length-map text ys))
 
 -- the lines of the texts up to there are those of all reports
 pub lines_all : (s : State) (n next : ℕ) (lines : List ℕ) → lines ≡ written_lines (take next (reports_in s n)) → take next (reports_in s n) ≡ take (MOST_LISTED * MOST_PAGES) (reports_in s n) → lines ≡ report_lines s n

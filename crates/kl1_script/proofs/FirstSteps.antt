@@ -64,9 +64,12 @@ steps_on n m s mid after sum so went =
 
 -- after a step that is refused a run does nothing
 stays_on : (k n : ℕ) (s : State) → is_refused (first_step (first_steps n s).state).reply ≡ true → (first_steps (k + n) s).state ≡ (first_steps n s).state
-stays_on zero n s h = refl
+stays_on zero n s h =
+    let none : zero + n ≡ n = omega arith in
+    ap (λ m. (first_steps m s).state) none
 stays_on (suc k) n s h =
-    ap (λ t. (first_step t).state) (stays_on k n s h) ∙ chosen_stays (first_steps n s).state (first (first_steps n s).state) h
+    let sum : suc k + n ≡ suc (k + n) = omega arith in
+    ap (λ m. (first_steps m s).state) sum ∙ ap (λ (t : State). (first_step t).state) (stays_on k n s h) ∙ chosen_stays (first_steps n s).state (first (first_steps n s).state) h
 
 refused_by : (n : ℕ) (x : Transition) → is_refused x.reply ≡ true → is_refused (one_more n x).reply ≡ true
 refused_by n x h = go (is_refused x.reply) h h
