@@ -64,7 +64,7 @@ short_page texts page done next most is few sum within =
 -- a list of texts that is short, if another list of them is
 pub short_items : {A : Type 0} (text : A → List ℕ) (xs ys : List A) (texts : List (List ℕ)) → map text xs ≡ texts → map text ys ≡ texts → length ys < MOST_LISTED → length (map text xs) < MOST_LISTED
 short_items text xs ys texts e d few =
-    subst (λ (p : List (List ℕ)). length p < MOST_LISTED) (d ∙ sym e) (omega (arith, few, length-map text ys))
+    subst (λ (p : List (List ℕ)). length p < MOST_LISTED) (d ∙ sym e) (omega (arith, few, length-map ys text))
 
 -- the lines of the texts up to there are those of all reports
 pub lines_all : (s : State) (n next : ℕ) (lines : List ℕ) → lines ≡ written_lines (take next (reports_in s n)) → take next (reports_in s n) ≡ take (MOST_LISTED * MOST_PAGES) (reports_in s n) → lines ≡ report_lines s n
