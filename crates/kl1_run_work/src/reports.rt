@@ -84,7 +84,7 @@ fn page_from<H: UnbookedHost>(
     shoen: ShoenNo,
     done: u64,
 ) -> Result<Listed, AllocError>
-    requires few { done < 65536 }
+    requires few { done < 16777216 }
     ensures page { IfOk result (λ page. (f : H.Reading) → H.fits host.new f → page ≡ take MOST_LISTED (drop done (reports_in (H.kept f host.new).state shoen.0))) }
     ensures same { (f : H.Reading) → H.fits host.new f → H.kept f host.new ≡ H.kept f host.old }
     ensures before { (f : H.Reading) → H.fits host.new f → H.fits host.old f }

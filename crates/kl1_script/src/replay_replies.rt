@@ -54,7 +54,8 @@ fn put_run<A: AtomSource + Drop, C: CodeSource + Drop>(
     ensures before { (f : Reading) → Fits replayed.new.names f → Fits replayed.old.names f }
     ensures err { OnErr result (out.new.items ≡ out.old.items) }
 {
-    if !replayed.run(reductions)? {
+    let accepted = replayed.run(reductions)?;
+    if !accepted {
         return Ok(false);
     }
     put_reply(out, &Reply::Ran(reductions))?;

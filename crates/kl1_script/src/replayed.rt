@@ -121,7 +121,8 @@ impl<A: AtomSource + Drop, C: CodeSource + Drop> Replayed<A, C> {
         }
         let mut left = reductions;
         while left > 0 {
-            if !self.step()? {
+            let accepted = self.step()?;
+            if !accepted {
                 return Ok(false);
             }
             left -= 1;
