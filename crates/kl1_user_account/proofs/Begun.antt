@@ -1,5 +1,5 @@
 -- What always holds holds of an account in which nothing has happened.
-use Rattle.std.proofs.Common.{◌≡◌, ℕ, ◌<◌, List, length, refl, sym, subst, arith}
+use Rattle.std.proofs.Common.{◌≡◌, ℕ, List, refl, sym, subst, arith}
 use Rattle.kl1_store.specs.Hooks.{Hook}
 use Rattle.kl1_user_effects.specs.Account.{Account}
 use Rattle.kl1_user_effects.specs.Naming.{AreSmall}

@@ -1,5 +1,5 @@
 -- The step of a reduction is what its effects make of the account.
-use Rattle.std.proofs.Common.{◌≡◌, ℕ, Bool, false, ◌∷◌, List, [], ◌++◌, Option, Some, None, map, length, refl, sym, ap, ◌∙◌, subst}
+use Rattle.std.proofs.Common.{◌≡◌, ℕ, Bool, ◌∷◌, List, [], ◌++◌, Option, Some, None, map, length, refl, sym, ap, ◌∙◌, subst}
 use Rattle.std.specs.Prelude.{find}
 use Rattle.std.specs.List.{AllByRecursion}
 use Rattle.kl1_model.specs.Term.{Term, atom}

@@ -11,7 +11,7 @@ use Rattle.kl1_model.specs.State as model
 use Rattle.kl1_model.specs.State.{State, limits_of, shoen_at, change_shoen, replace_in_state, is_living}
 use Rattle.kl1_model.specs.Event.{control, sent, syntax, no_shoen, shoen_ended, limit_passed, journal_full, refuse, is_full, with_entry, Transition, is_number}
 use Rattle.kl1_model.specs.code.Steps as model_sending
-use Rattle.kl1_model.specs.Sending.{is_message, may_send, has_room_to_send, with_control_tail, sent_on, send_to}
+use Rattle.kl1_model.specs.Sending.{is_message, has_room_to_send, with_control_tail, sent_on, send_to}
 use Rattle.kl1_model.specs.code.Steps.{send_by}
 use Rattle.kl1_model.specs.Step.{step}
 use Rattle.kl1_text.specs.declared.cell_name.CellName.{CellName}

@@ -1,7 +1,7 @@
 -- A reduction that is drafted is put in place.
-use Rattle.std.proofs.Common.{◌≡◌, ℕ, suc, ◌+◌, ◌*◌, ◌^◌, ◌<◌, ◌≤◌, ◌==◌, not, ◌&&◌, ◌||◌, Bool, true, false, arith, List, length, nat_lt, if◌then◌else◌, Option, Some, None, refl, sym, ap, ◌∙◌, subst}
+use Rattle.std.proofs.Common.{◌≡◌, ℕ, zero, suc, ◌+◌, ◌^◌, ◌<◌, ◌≤◌, ◌==◌, not, ◌&&◌, ◌||◌, Bool, true, false, arith, List, length, nat_lt, if◌then◌else◌, Option, Some, None, refl, sym, ap, ◌∙◌, subst}
 use Rattle.std.specs.Prelude.{nat_le}
-use Rattle.std.proofs.lemmas.Bool.{ltb-true, ltb-false, lt-leb, le-leb}
+use Rattle.std.proofs.lemmas.Bool.{ltb-true, ltb-false, lt-leb, le-leb, ne_eqb}
 use Rattle.kl1_model.specs.declared.limits.TheConstants.{MOST_RUN}
 use Rattle.kl1_model.specs.declared.rules.Rules.{Rules}
 use Rattle.kl1_model.specs.declared.limits.Limits.{Limits}
@@ -24,6 +24,7 @@ use Rattle.kl1_user_events.specs.declared.refusal.Refusal.{Refusal}
 use Rattle.kl1_user_events.specs.Views.{reduced_or, refusal_of}
 use Rattle.kl1_user_effects.specs.declared.draft.Draft.{Draft}
 use Rattle.kl1_user_effects.specs.Fitting.{Reading, Fits}
+use Rattle.kl1_codes.specs.Shelves.{Program}
 use Rattle.kl1_user_effects.specs.Account.{Account, program_of, state_of}
 use Rattle.kl1_user_effects.specs.Works.{Knows}
 use Rattle.kl1_user_effects.specs.Installing.{IsBegun, IsFitting, goals_after}
@@ -68,6 +69,14 @@ pub comes_of : (a : Account) (t : Tree CellName) (n c : ℕ) (full : Bool) (old 
 comes_of a t n c full old new u table d p shoens work may room came =
     let is = at_is a (a.own_name, a.sessions) (a.entries, a.run) t shoens work in
     subst (λ (z : Account). ReducesAs z n c old new t u table d p) is (came (a.own_name, a.sessions) (a.entries, a.run) may (subst (λ (z : Account). IsFullFor z n c full) (sym is) room))
+
+-- the same of a program and counts that are the account's
+pub comes_by : (a : Account) (t : Tree CellName) (n c : ℕ) (full : Bool) (old new : Kept CellName) (u : Tree CellName) (table : Tabled CellName) (d : Draft) (r : Option Refusal) (p : Program) (last variables nodes reports : ℕ) →
+    p ≡ program_of a → last ≡ a.last_goal → variables ≡ a.variables → nodes ≡ a.nodes → reports ≡ a.reports → t.shoens ≡ a.shoens → t.work ≡ a.work → MayHave a.rules (a.entries, a.run) → IsFullFor a n c full →
+    ((own : List ℕ × ℕ) (entries : ℕ × ℕ) → MayHave p.rules entries → IsFullFor (account_at own a.held a.goals t p a.names last variables nodes reports entries) n c full →
+    ReducesAs (account_at own a.held a.goals t p a.names last variables nodes reports entries) n c old new t u table d r) → ReducesAs a n c old new t u table d r
+comes_by a t n c full old new u table d r p last variables nodes reports is last_is variables_are nodes_are reports_are shoens work may room came =
+    comes_of a t n c full old new u table d r shoens work may room (rw (is, last_is, variables_are, nodes_are, reports_are) at came)
 
 pub reduced_of : (a : Account) (n c : ℕ) (old new : Kept CellName) (t u : Tree CellName) (table : Tabled CellName) (d : Draft) (p : Option Refusal) → p ≡ None → ReducesAs a n c old new t u table d p → IsReduced a n c new u table d
 reduced_of a n c old new t u table d p is came = subst (λ (z : Option Refusal). ReducesAs a n c old new t u table d z) is came
@@ -183,12 +192,13 @@ counts_reduction true work after entries run le w = by run (nat_lt run MOST_RUN)
   where
     by : (n : ℕ) (b : Bool) → nat_lt n MOST_RUN ≡ b → CountsWork work entries n → CountsWork after (if (if b then suc n else 1) == 1 then suc entries else entries) (if b then suc n else 1)
     by n false e v = let all = v.all in record { longest = omega arith; all = omega (arith, le, all); last = λ lt. omega (arith, le, all) }
-    by 0 true e v = let all = v.all in record { longest = omega arith; all = omega (arith, le, all); last = λ lt. omega (arith, le, all) }
+    by zero true e v = let all = v.all in record { longest = omega arith; all = omega (arith, le, all); last = λ lt. omega (arith, le, all) }
     by (suc n) true e v =
         let all = v.all in
         let more = v.last (omega arith) in
         let lt = ltb-true (suc n) MOST_RUN e in
-        record { longest = omega (arith, lt); all = omega (arith, le, more, lt); last = λ l. omega (arith, le, more) }
+        subst (λ b. CountsWork after (if b then suc entries else entries) (suc (suc n))) (sym (ne_eqb (suc (suc n)) 1 (λ e. omega (arith, e))))
+        (record { longest = omega (arith, lt); all = omega (arith, le, more, lt); last = λ l. omega (arith, le, more) })
 
 -- counts that are the same
 pub counts_as : (work entries now run last : ℕ) → now ≡ entries → last ≡ run → CountsWork work entries run → CountsWork work now last

@@ -1,5 +1,5 @@
 -- The step of a reduction, of an account as it is kept.
-use Rattle.std.proofs.Common.{◌≡◌, true, false, not, if◌then◌else◌, ℕ, ◌<◌, ◌≤◌, ◌==◌, ◌&&◌, Bool, List, [], ◌∷◌, map, refl, sym, ap, ◌∙◌, subst}
+use Rattle.std.proofs.Common.{◌≡◌, true, false, not, if◌then◌else◌, ℕ, ◌==◌, ◌&&◌, Bool, List, [], ◌∷◌, map, refl, sym, ap, ◌∙◌, subst}
 use Rattle.std.specs.Prelude.{Some, None, Option, option_map, find}
 use Rattle.std.specs.List.{AllByRecursion}
 use Rattle.std.proofs.lemmas.Bool.{eq-eqb, ne_eqb}
@@ -8,7 +8,7 @@ use Rattle.kl1_model.specs.Look.{goal_look}
 use Rattle.kl1_model.specs.Control as model_control
 use Rattle.kl1_model.specs.State as model
 use Rattle.kl1_model.specs.State.{State, goal_at, shoen_at, without_goal}
-use Rattle.kl1_model.specs.Event.{reduce, refuse, syntax, step_refused, journal_full, reduced, is_number, is_full, needs_entry, with_reduction}
+use Rattle.kl1_model.specs.Event.{reduce, refuse, syntax, step_refused, journal_full, reduced, is_number, with_reduction}
 use Rattle.kl1_model.specs.Choice.{is_in_run}
 use Rattle.kl1_model.specs.Step.{step}
 use Rattle.kl1_model.specs.Reduction as reduction

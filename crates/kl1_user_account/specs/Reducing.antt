@@ -1,5 +1,5 @@
 -- Reductions: which are refused, and what an account is after a draft is put in place.
-use Rattle.std.specs.Prelude.{◌≡◌, ℕ, suc, ◌+◌, ◌<◌, ◌≤◌, ◌==◌, [], not, ◌&&◌, ◌||◌, nat_lt, if◌then◌else◌, Bool, true, false, List, length, find, Option, Some, None}
+use Rattle.std.specs.Prelude.{◌≡◌, ℕ, suc, ◌+◌, ◌≤◌, ◌==◌, [], not, ◌&&◌, ◌||◌, nat_lt, if◌then◌else◌, Bool, true, false, List, length, find, Option, Some, None}
 use Rattle.kl1_model.specs.declared.rules.Rules.{Rules}
 use Rattle.kl1_model.specs.Choice.{is_in_run}
 use Rattle.kl1_model.specs.Ending.{settle}

@@ -1,4 +1,3 @@
-use Rattle.std.proofs.Common.{◌++◌, ◌∷◌, []}
 use Rattle.std.proofs.lemmas.Result.{on_ok_weaker}
 use Rattle.kl1_goals.specs.Lists.{has_number}
 use Rattle.kl1_store_hooks.proofs.Hooked.{grown_among}

@@ -18,5 +18,6 @@ returns-then-first-number g c = λ f fits.
 
 pub returns-else-first-number : goal.returns-else-first-number
 returns-else-first-number g c = λ f fits.
-    sym (ap (λ b. b && c.in-Some.by == c.args.clause) (ne_eqb c.in-Some.first c.args.number c.if-first-number.false))
+    ne_eqb c.in-Some.first c.args.number c.if-first-number.false
+    ∙ sym (ap (λ b. b && c.in-Some.by == c.args.clause) (ne_eqb c.in-Some.first c.args.number c.if-first-number.false))
     ∙ in_run_as f (kept_in c.self.inside) c.args.self.now c.self.inside.store.hooks c.args.number c.args.clause (Some (c.in-Some.first, c.in-Some.by)) c.self.view_is (sym c.has_runs.ensures ∙ c.if-not-has_runs.false) c.self.invariant.0.settled c.self.invariant.0.enabled c.in-Some.ensures fits
