@@ -1,7 +1,7 @@
 -- First steps of a replay, and runs of them.
-use Rattle.std.proofs.Common.{◌≡◌, ℕ, zero, suc, ◌+◌, ◌-◌, ◌<◌, Bool, true, false, if◌then◌else◌, Option, Some, None, is_none, ap, sym, ◌∙◌, refl, subst, List, [], arith}
+use Rattle.std.proofs.Common.{◌≡◌, ℕ, zero, suc, ◌+◌, ◌-◌, ◌<◌, Bool, true, false, if◌then◌else◌, Option, Some, None, is_none, ap, sym, ◌∙◌, refl, subst, [], arith}
 use Rattle.kl1_model.specs.State.{State, has_runs}
-use Rattle.kl1_model.specs.Event.{Event, Refusal, syntax, step_refused, load, start, control, reduce, read, login, logout, reset, answer, Reply, ran, Transition, refuse, is_refused}
+use Rattle.kl1_model.specs.Event.{Event, syntax, load, start, control, reduce, read, login, logout, reset, answer, Reply, ran, Transition, refuse, is_refused}
 use Rattle.kl1_model.specs.Choice.{Chosen, first}
 use Rattle.kl1_model.specs.Step.{step}
 use Rattle.kl1_model.proofs.TreeSteps.{refusals_change_nothing}
