@@ -22,8 +22,8 @@ returns-in_ok-refused-in-Some-clause-step g c =
     let picks = subst P c.self.view_is c.in-Some.ensures.picks in
     let steps = subst Q c.self.view_is c.in_ok-refused.ensures.step in
     λ f fits.
-        let before = fits_before c.args.self.now.names c.reduce.new.self.names f (grows_as (g.A.AtomSource.knows c.self.inside.seat) (g.A.AtomSource.knows c.reduce.new.seat) c.args.self.now.names c.reduce.new.self.names (c.self.invariant.1 ∙ ap (λ (a : Account). a.names) c.self.view_is) c.reduce.ensures.knows c.reduce.ensures.keeps.grows) fits in
-        one_steps (state_of f c.args.self.now) (state_of f c.reduce.new.self) chosen c.in_ok-refused.refused (picks f before) (steps f fits)
+    let before = fits_before c.args.self.now.names c.reduce.new.self.names f (grows_as (g.A.AtomSource.knows c.self.inside.seat) (g.A.AtomSource.knows c.reduce.new.seat) c.args.self.now.names c.reduce.new.self.names (c.self.invariant.1 ∙ ap (λ (a : Account). a.names) c.self.view_is) c.reduce.ensures.knows c.reduce.ensures.keeps.grows) fits in
+    one_steps (state_of f c.args.self.now) (state_of f c.reduce.new.self) chosen c.in_ok-refused.refused (picks f before) (steps f fits)
 
 pub returns-in_ok-refused-in-Some-clause-before : goal.returns-in_ok-refused-in-Some-clause-before
 returns-in_ok-refused-in-Some-clause-before g c = λ f fits.
