@@ -35,17 +35,17 @@ by_choice P false x y h k = k
 
 -- what isn't refused holds, and what is refused does
 by_unless : (P : Transition → Type 0) (s : State) (rs : List (Bool × model.Refusal)) (x : Transition) → ((r : model.Refusal) → P (refuse s r)) → P x → P (model.unless s rs x)
-by_unless P s [] x no h = h
-by_unless P s (r ∷ rs) x no h = by_choice P r.0 (refuse s r.1) (unless s rs x) (no r.1) (by_unless P s rs x no h)
+by_unless P s [] x refuses h = h
+by_unless P s (r ∷ rs) x refuses h = by_choice P r.0 (refuse s r.1) (unless s rs x) (refuses r.1) (by_unless P s rs x refuses h)
 
 -- events among more entries
 events_more : (es fs : List Entry) → events_in (es ++ fs) ≡ events_in es + events_in fs
 events_more [] fs = let e : events_in fs ≡ 0 + events_in fs = omega arith in e
-events_more (loads text ∷ es) fs = ap suc (events_more es fs)
-events_more (starts allowance low high t ∷ es) fs = ap suc (events_more es fs)
-events_more (sends n m ∷ es) fs = ap suc (events_more es fs)
-events_more (answers n report t ∷ es) fs = ap suc (events_more es fs)
-events_more (steps goal clause ∷ es) fs = ap suc (events_more es fs)
+events_more (loads text ∷ es) fs = let h = events_more es fs in let e : suc (events_in (es ++ fs)) ≡ suc (events_in es) + events_in fs = omega (arith, h) in e
+events_more (starts allowance low high t ∷ es) fs = let h = events_more es fs in let e : suc (events_in (es ++ fs)) ≡ suc (events_in es) + events_in fs = omega (arith, h) in e
+events_more (sends n m ∷ es) fs = let h = events_more es fs in let e : suc (events_in (es ++ fs)) ≡ suc (events_in es) + events_in fs = omega (arith, h) in e
+events_more (answers n report t ∷ es) fs = let h = events_more es fs in let e : suc (events_in (es ++ fs)) ≡ suc (events_in es) + events_in fs = omega (arith, h) in e
+events_more (steps goal clause ∷ es) fs = let h = events_more es fs in let e : suc (events_in (es ++ fs)) ≡ suc (events_in es) + events_in fs = omega (arith, h) in e
 events_more (runs n ∷ es) fs = let h = events_more es fs in let e : n + events_in (es ++ fs) ≡ n + events_in es + events_in fs = omega (arith, h) in e
 
 -- reductions among more entries
@@ -55,7 +55,7 @@ reduces_more (loads text ∷ es) fs = reduces_more es fs
 reduces_more (starts allowance low high t ∷ es) fs = reduces_more es fs
 reduces_more (sends n m ∷ es) fs = reduces_more es fs
 reduces_more (answers n report t ∷ es) fs = reduces_more es fs
-reduces_more (steps goal clause ∷ es) fs = ap suc (reduces_more es fs)
+reduces_more (steps goal clause ∷ es) fs = let h = reduces_more es fs in let e : suc (reduces_in (es ++ fs)) ≡ suc (reduces_in es) + reduces_in fs = omega (arith, h) in e
 reduces_more (runs n ∷ es) fs = let h = reduces_more es fs in let e : n + reduces_in (es ++ fs) ≡ n + reduces_in es + reduces_in fs = omega (arith, h) in e
 
 -- a book tells what it did and what the reply to an event adds, which is no run's
