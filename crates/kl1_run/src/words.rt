@@ -24,8 +24,8 @@ fn number<'a>(alloc: Global, name: &'a str, help: &'a str) -> Arg<'a> {
         .help(help)
 }
 
-/// The words that the program knows.
-fn command<'a>(alloc: Global) -> Result<Command<'a>, AllocError> {
+/// A command that knows the options that take a number too.
+fn with_numbers<'a>(alloc: Global, command: Command<'a>) -> Result<Command<'a>, AllocError> {
     let steps = number(alloc, "steps", "Do at most N reductions");
     let allowance = number(
         alloc,
@@ -37,6 +37,11 @@ fn command<'a>(alloc: Global) -> Result<Command<'a>, AllocError> {
         .action(ArgAction::Set)
         .value_parser(value_parser!(u64).range(3..=4))
         .help("Keep to the rules of version N, 3 or 4; 4 has the greater limits");
+    command.arg(steps)?.arg(allowance)?.arg(rules)
+}
+
+/// The words that the program knows.
+fn command<'a>(alloc: Global) -> Result<Command<'a>, AllocError> {
     let reports = flag(alloc, "reports", "Tell the goal's reports too");
     let whole = flag(
         alloc,
@@ -64,12 +69,10 @@ fn command<'a>(alloc: Global) -> Result<Command<'a>, AllocError> {
         .action(ArgAction::Append)
         .num_args(1..)
         .help("Files with modules, and then a goal");
-    Command::new(alloc, "kl1_run")
+    let command = Command::new(alloc, "kl1_run")
         .about("Loads modules from files, and runs a goal")
-        .override_usage(USAGE)
-        .arg(steps)?
-        .arg(allowance)?
-        .arg(rules)?
+        .override_usage(USAGE);
+    with_numbers(alloc, command)?
         .arg(reports)?
         .arg(whole)?
         .arg(journal)?

@@ -18,12 +18,12 @@ pub returns-in_ok-refused-in-Some-clause-step : goal.returns-in_ok-refused-in-So
 returns-in_ok-refused-in-Some-clause-step g c =
     let chosen : Chosen = record { goal = c.in-Some.goal.0; clause = c.in-Some.clause.0 } in
     let P : Account → Type 0 = λ a. (f : Reading) → Fits a.names f → Some chosen ≡ first (state_of f a) in
-    let Q : Account → Type 0 = λ a. (f : Reading) → Fits c.reduce.new.self.names f → step (state_of f a) (reduce chosen.goal chosen.clause) ≡ record { state = state_of f c.reduce.new.self; reply = reduced_or c.in_ok-refused.refused } in
+    let Q : Account → Type 0 = λ a. (f : Reading) → Fits c.reduce.new.self.names f → step (state_of f a) (reduce chosen.goal chosen.clause) ≡ record { state = state_of f c.reduce.new.self; reply = reduced_or c.in_ok-refused-in-Some.refused } in
     let picks = subst P c.self.view_is c.in-Some.ensures.picks in
-    let steps = subst Q c.self.view_is c.in_ok-refused.ensures.step in
+    let steps = subst Q c.self.view_is c.in_ok-refused-in-Some.ensures.step in
     λ f fits.
     let before = fits_before c.args.self.now.names c.reduce.new.self.names f (grows_as (g.A.AtomSource.knows c.self.inside.seat) (g.A.AtomSource.knows c.reduce.new.seat) c.args.self.now.names c.reduce.new.self.names (c.self.invariant.1 ∙ ap (λ (a : Account). a.names) c.self.view_is) c.reduce.ensures.knows c.reduce.ensures.keeps.grows) fits in
-    one_steps (state_of f c.args.self.now) (state_of f c.reduce.new.self) chosen c.in_ok-refused.refused (picks f before) (steps f fits)
+    one_steps (state_of f c.args.self.now) (state_of f c.reduce.new.self) chosen c.in_ok-refused-in-Some.refused (picks f before) (steps f fits)
 
 pub returns-in_ok-refused-in-Some-clause-before : goal.returns-in_ok-refused-in-Some-clause-before
 returns-in_ok-refused-in-Some-clause-before g c = λ f fits.
