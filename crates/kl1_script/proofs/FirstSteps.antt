@@ -1,5 +1,5 @@
 -- First steps of a replay, and runs of them.
-use Rattle.std.proofs.Common.{◌≡◌, ℕ, zero, suc, ◌+◌, ◌-◌, ◌<◌, Bool, true, false, if◌then◌else◌, Option, Some, None, is_none, ap, sym, ◌∙◌, refl, subst, [], arith}
+use Rattle.std.proofs.Common.{◌≡◌, ℕ, zero, suc, ◌+◌, ◌-◌, ◌<◌, Bool, true, false, if◌then◌else◌, Option, Some, None, is_some, is_none, not, ap, sym, ◌∙◌, refl, subst, [], arith}
 use Rattle.kl1_model.specs.State.{State, has_runs}
 use Rattle.kl1_model.specs.Event.{Event, syntax, load, start, control, reduce, read, login, logout, reset, answer, Reply, ran, Transition, refuse, is_refused}
 use Rattle.kl1_model.specs.Choice.{Chosen, first}
@@ -28,6 +28,13 @@ pub one_steps : (s after : State) (c : Chosen) (r : Option refusal.Refusal) → 
 one_steps s after c r found is =
     let P : Transition → Type 0 = λ x. Went (is_none r) (if_accepted x) after in
     subst P (sym (ap (chosen_step s) (sym found) ∙ is)) (went_by after r)
+
+-- whether there is none, by what is told of it
+pub told_none : (r : Option refusal.Refusal) (b : Bool) → is_some r ≡ not b → is_none r ≡ b
+told_none None true e = refl
+told_none None false e = sym e
+told_none (Some r) true e = sym e
+told_none (Some r) false e = refl
 
 went_true : (b : Bool) (x : Transition) (after : State) → Went true (if b then None else Some x) after → (b ≡ false) × (after ≡ x.state)
 went_true true x after h = absurd h
