@@ -2,11 +2,15 @@
 
 _kl1_run() {
     local word=${COMP_WORDS[COMP_CWORD]} before=${COMP_WORDS[COMP_CWORD - 1]}
-    local options="--steps --allowance --reports --whole --journal --check --script --help"
+    local options="--steps --allowance --rules --reports --whole --journal --check --script --help"
     COMPREPLY=()
     case $before in
     --steps | --allowance)
         # A number.
+        return
+        ;;
+    --rules)
+        mapfile -t COMPREPLY < <(compgen -W "3 4" -- "$word")
         return
         ;;
     --journal)

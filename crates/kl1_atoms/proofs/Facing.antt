@@ -110,7 +110,7 @@ not_known n ws f t i d sound fits free way others = none_of (number_in f.knows t
       none_of (Some m) never = absurd (never m refl)
 
 -- accounts of one table agree
-agreed : (n : ℕ) (ws : List ℕ) (f g : Face) → Sound n ws → Fits n ws f → Fits n ws g → Agreed f.knows g.knows
+pub agreed : (n : ℕ) (ws : List ℕ) (f g : Face) → Sound n ws → Fits n ws f → Fits n ws g → Agreed f.knows g.knows
 agreed n ws f g sound fits its = λ t l m e d. (is_table n ws sound).one_number t l m (fits.known.by_text t l e) (its.known.by_text t m d)
 
 each_agrees : (n : ℕ) (ws : List ℕ) (f : Face) (fs : List Face) → Sound n ws → Fits n ws f → ((k : ℕ) (g : Face) → get_elem? fs k ≡ some g → Fits n ws g) → EachAgrees f.knows fs

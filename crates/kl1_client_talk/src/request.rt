@@ -1,10 +1,10 @@
 // What is asked of a server.
 
-ghost use Rattle.std.specs.Prelude.{◌≡◌, ◌++◌, ◌∷◌, [], decimal, OnOk};
+ghost use Rattle.std.specs.Prelude.{◌≡◌, ◌++◌, ◌∷◌, [], OnOk};
 ghost use Rattle.kl1_client_talk.specs.Request.{load_of, page_line, status_line, login_line, text_of};
 ghost use Rattle.kl1_model_server.specs.Command.{written_line};
 
-use itoa::Buffer;
+use kl1_lines::put_decimal;
 use std::alloc::AllocError;
 
 /// Reports of a shoen, or lines of the journal, that are asked for one page after another.
@@ -53,20 +53,12 @@ fn put_line(out: &mut Vec<u8>, line: &[u8]) -> Result<(), AllocError>
     Ok(())
 }
 
-/// Puts a number after the bytes.
-fn put_number(out: &mut Vec<u8>, number: u64) -> Result<(), AllocError>
-    ensures { OnOk result (out.new.items ≡ out.old.items ++ decimal number) }
-{
-    let mut buffer = Buffer::new();
-    out.extend_from_slice(buffer.format(number).as_bytes())
-}
-
 /// Puts the load of a source after the bytes: its line, the source and a line's end.
 fn put_load(out: &mut Vec<u8>, source: &[u8]) -> Result<(), AllocError>
     ensures { OnOk result (out.new.items ≡ out.old.items ++ load_of source.now) }
 {
     out.extend_from_slice(b"load ")?;
-    put_number(out, source.len() as u64)?;
+    put_decimal(out, source.len() as u64)?;
     out.push(b'\n')?;
     put_line(out, source)
 }
@@ -80,9 +72,9 @@ fn put_page(out: &mut Vec<u8>, page: Page, from: u64) -> Result<(), AllocError>
         Page::Journal { count } => (b"journal ", from, count),
     };
     out.extend_from_slice(word)?;
-    put_number(out, first)?;
+    put_decimal(out, first)?;
     out.push(b' ')?;
-    put_number(out, second)?;
+    put_decimal(out, second)?;
     out.push(b'\n')?;
     Ok(())
 }
@@ -92,7 +84,7 @@ fn put_status(out: &mut Vec<u8>, shoen: u64) -> Result<(), AllocError>
     ensures { OnOk result (out.new.items ≡ out.old.items ++ status_line shoen) }
 {
     out.extend_from_slice(b"status ")?;
-    put_number(out, shoen)?;
+    put_decimal(out, shoen)?;
     out.push(b'\n')?;
     Ok(())
 }

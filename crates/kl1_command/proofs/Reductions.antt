@@ -1,17 +1,17 @@
 -- What becomes of the first goal that can step.
-use Rattle.std.proofs.Common.{◌≡◌, ℕ, Bool, true, false, if◌then◌else◌, Option, Some, None, ap, sym, ◌∙◌, subst, refl}
+use Rattle.std.proofs.Common.{◌≡◌, ℕ, suc, ◌==◌, Bool, true, false, if◌then◌else◌, Option, Some, None, ap, sym, ◌∙◌, subst, refl}
 use Rattle.kl1_model.specs.State.{State}
 use Rattle.kl1_model.specs.Event as model
-use Rattle.kl1_model.specs.Event.{reduce}
+use Rattle.kl1_model.specs.Event.{reduce, is_refused}
 use Rattle.kl1_model.specs.Step.{step}
-use Rattle.kl1_model.specs.laws.TreeLaws.{is_refused}
 use Rattle.kl1_model.proofs.TreeSteps.{refusals_change_nothing}
 use Rattle.kl1_model_server.specs.Journal.{Journal, with_event, Kept, Done, done}
 use Rattle.kl1_model.specs.Choice.{Chosen, first}
-use Rattle.kl1_model_server.specs.Command.{Going, run_choice, run_on, stopped_by}
+use Rattle.kl1_model_server.specs.Command.{said, run_from}
 use Rattle.kl1_user_events.specs.Views.{refusal_of, reduced_or}
 use Rattle.kl1_user_events.specs.declared.refusal.Refusal as refusal
-use Rattle.kl1_command.specs.Performing.{refusal_in}
+use Rattle.kl1_command.specs.Performing.{refusal_in, stopped_by}
+use Rattle.kl1_command.proofs.Runs.{run_by}
 
 none_is : (X : Type 0) (r : model.Refusal) → None ≡ Some r → X
 none_is X r e = cc
@@ -43,12 +43,27 @@ refused_stays k e r is =
     ap (λ (s : State). let z : Kept = record { state = s; journal = (done k e).kept.journal } in z) (refusals_change_nothing k.state e refused)
     ∙ ap (λ (j : Journal). let z : Kept = record { state = k.state; journal = j } in z) (left_by k.journal e (step k.state e).state (is_refused (step k.state e).reply) refused)
 
--- the reduction of the first goal was refused, for this reason
-refused_first : (s after : Kept) (c : Chosen) (r : model.Refusal) → Some c ≡ first s.state → done s (reduce c.goal c.clause) ≡ record { kept = after; reply = model.refused r } → ((next : Going) (n : ℕ) → run_choice next s n (first s.state) ≡ stopped_by s n r) × (after ≡ s)
-refused_first s after c r found is =
-    (λ next n. ap (run_choice next s n) (sym found) ∙ ap (λ (x : Done). run_on next s n x.kept x.reply) is, sym (ap (λ (x : Done). x.kept) is) ∙ refused_stays s (reduce c.goal c.clause) r (ap (λ (x : Done). refusal_in x.reply) is))
+-- how a run goes on after the reply to its first step
+pub after_by : (most n : ℕ) (s : Kept) → Done → Done
+after_by most n s x = if is_refused x.reply then said s (if n == 0 then x.reply else model.ran n) else run_from most (suc n) x.kept
+
+-- the first goal was reduced
+done_first : (s after : Kept) (c : Chosen) → Some c ≡ first s.state → done s (reduce c.goal c.clause) ≡ record { kept = after; reply = model.reduced } → (most n : ℕ) → run_from (suc most) n s ≡ run_from most (suc n) after
+unfolding after_by
+done_first s after c found is most n = ap (run_by most n s) (sym found) ∙ ap (after_by most n s) is
 
 -- so by what a reduction answers
-pub refused_as : (s after : Kept) (c : Chosen) (o : Option refusal.Refusal) (r : refusal.Refusal) → o ≡ Some r → Some c ≡ first s.state → done s (reduce c.goal c.clause) ≡ record { kept = after; reply = reduced_or o } → ((next : Going) (n : ℕ) → run_choice next s n (first s.state) ≡ stopped_by s n (refusal_of r)) × (after ≡ s)
+pub done_as : (s after : Kept) (c : Chosen) (o : Option refusal.Refusal) → o ≡ None → Some c ≡ first s.state → done s (reduce c.goal c.clause) ≡ record { kept = after; reply = reduced_or o } → (most n : ℕ) → run_from (suc most) n s ≡ run_from most (suc n) after
+done_as s after c o e found is =
+    done_first s after c found (subst (λ (x : Option refusal.Refusal). done s (reduce c.goal c.clause) ≡ record { kept = after; reply = reduced_or x }) e is)
+
+-- the reduction of the first goal was refused, for this reason
+refused_first : (s after : Kept) (c : Chosen) (r : model.Refusal) → Some c ≡ first s.state → done s (reduce c.goal c.clause) ≡ record { kept = after; reply = model.refused r } → ((left n : ℕ) → run_from (suc left) n s ≡ stopped_by s n r) × (after ≡ s)
+unfolding after_by
+refused_first s after c r found is =
+    (λ most n. ap (run_by most n s) (sym found) ∙ ap (after_by most n s) is, sym (ap (λ (x : Done). x.kept) is) ∙ refused_stays s (reduce c.goal c.clause) r (ap (λ (x : Done). refusal_in x.reply) is))
+
+-- so by what a reduction answers
+pub refused_as : (s after : Kept) (c : Chosen) (o : Option refusal.Refusal) (r : refusal.Refusal) → o ≡ Some r → Some c ≡ first s.state → done s (reduce c.goal c.clause) ≡ record { kept = after; reply = reduced_or o } → ((left n : ℕ) → run_from (suc left) n s ≡ stopped_by s n (refusal_of r)) × (after ≡ s)
 refused_as s after c o r e found is =
     refused_first s after c (refusal_of r) found (subst (λ (x : Option refusal.Refusal). done s (reduce c.goal c.clause) ≡ record { kept = after; reply = reduced_or x }) e is)

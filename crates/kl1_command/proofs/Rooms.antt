@@ -3,7 +3,7 @@ use Rattle.std.proofs.Common.{◌≡◌, ℕ, zero, suc, ◌-◌, ◌<◌, ◌�
 use Rattle.std.specs.Prelude.{Option, Some, None}
 use Rattle.kl1_model.specs.Event as model
 use Rattle.kl1_model.specs.Choice.{Chosen, first}
-use Rattle.kl1_model_server.specs.Journal.{Kept, done}
+use Rattle.kl1_model_server.specs.Journal.{is_entry, Kept, done}
 use Rattle.kl1_model_server.specs.JournalText.{page_of}
 use Rattle.kl1_model_server.specs.Command.{Command, does, run, shows, said}
 use Rattle.kl1_user_events.specs.Views.{reply_of}
@@ -11,7 +11,7 @@ use Rattle.kl1_user_events.specs.declared.reply.Reply.{Reply}
 use Rattle.kl1_command.specs.declared.performed.Performed.{Performed}
 use Rattle.kl1_command.specs.declared.performed.Performed.TheVariants as performed
 use Rattle.kl1_command.specs.Performing.{Performs}
-use Rattle.kl1_command.specs.Room.{HasRoomFor, less, is_entry, done_in_vain, done_within, run_in_vain, act_in_vain, PerformsInVain, PerformsWithin}
+use Rattle.kl1_command.specs.Room.{HasRoomFor, less, done_in_vain, done_within, run_in_vain, act_in_vain, PerformsInVain, PerformsWithin}
 
 -- an event, by the room
 pub does_within : (room : Option ℕ) (s after : Kept) (e : model.Event) (reply : Reply) → done_within room s e ≡ record { kept = after; reply = reply_of reply } → PerformsWithin room s (does e) (performed.Whole reply) after

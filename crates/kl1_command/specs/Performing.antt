@@ -1,8 +1,8 @@
 -- What a command did to an account.
-use Rattle.std.specs.Prelude.{◌≡◌, ℕ, ◌<◌, Option, Some, None}
+use Rattle.std.specs.Prelude.{◌≡◌, ℕ, ◌<◌, ◌==◌, if◌then◌else◌, Option, Some, None}
 use Rattle.kl1_model.specs.Event as model
-use Rattle.kl1_model_server.specs.Journal.{Kept}
-use Rattle.kl1_model_server.specs.Command.{Command, does, run, shows, run_from, act}
+use Rattle.kl1_model_server.specs.Journal.{Kept, Done}
+use Rattle.kl1_model_server.specs.Command.{Command, does, run, shows, said, run_from, act}
 use Rattle.kl1_user_events.specs.Views.{reply_of}
 use Rattle.kl1_command.specs.declared.performed.Performed.{Performed}
 use Rattle.kl1_command.specs.declared.performed.Performed.TheVariants as performed
@@ -34,6 +34,10 @@ abbrev pub Performs : Kept → Command → Performed → Kept → Type 0
 Performs s c (performed.Whole reply) after = act s c ≡ record { kept = after; reply = reply_of reply }
 Performs s c (performed.Short n) after = StopsShort s c n after
 Performs s c performed.Memory after = after ≡ s
+
+-- a run that a refusal stops, after n steps that are done
+abbrev pub stopped_by : Kept → ℕ → model.Refusal → Done
+stopped_by s n r = said s (if n == 0 then model.refused r else model.ran n)
 
 -- if memory was refused at once, a host is as it was
 abbrev pub IsUntouched : {H : Type 0} → Performed → H → H → Type 0

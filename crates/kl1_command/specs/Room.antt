@@ -1,8 +1,8 @@
 -- What commands do to an account whose book can tell only so many entries more.
-use Rattle.std.specs.Prelude.{◌≡◌, ℕ, zero, suc, ◌-◌, ◌≤◌, min, Bool, true, false, if◌then◌else◌, Option, Some, None}
+use Rattle.std.specs.Prelude.{◌≡◌, ℕ, zero, suc, ◌-◌, ◌≤◌, min, if◌then◌else◌, Option, Some, None}
 use Rattle.kl1_model.specs.Event as model
 use Rattle.kl1_model.specs.Choice.{Chosen, first}
-use Rattle.kl1_model_server.specs.Journal.{Kept, Done, done}
+use Rattle.kl1_model_server.specs.Journal.{is_entry, Kept, Done, done}
 use Rattle.kl1_model_server.specs.Command.{Command, does, run, shows, said, act}
 use Rattle.kl1_user_events.specs.Views.{reply_of}
 use Rattle.kl1_command.specs.declared.performed.Performed.{Performed}
@@ -18,15 +18,6 @@ HasRoomFor n (Some room) = n ≤ room
 abbrev pub less : Option ℕ → ℕ → Option ℕ
 less None n = None
 less (Some room) n = Some (room - n)
-
--- whether an event is an entry of a journal if it is accepted
-abbrev pub is_entry : model.Event → Bool
-is_entry (model.load text) = true
-is_entry (model.start allowance low high t) = true
-is_entry (model.control n m) = true
-is_entry (model.answer n report t) = true
-is_entry (model.reduce goal clause) = true
-is_entry _ = false
 
 -- what an event does if the book has no room: what would be an entry is refused, as by a full journal
 abbrev pub done_in_vain : Kept → model.Event → Done

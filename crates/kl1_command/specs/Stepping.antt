@@ -2,7 +2,8 @@
 use Rattle.std.specs.Prelude.{◌≡◌, ℕ, suc, ◌+◌, ◌<◌, None}
 use Rattle.kl1_model.specs.Choice.{first}
 use Rattle.kl1_model_server.specs.Journal.{Kept}
-use Rattle.kl1_model_server.specs.Command.{Going, run_choice, run_from, stopped_by}
+use Rattle.kl1_model_server.specs.Command.{run_from}
+use Rattle.kl1_command.specs.Performing.{stopped_by}
 use Rattle.kl1_user_events.specs.Views.{refusal_of}
 use Rattle.kl1_command.specs.declared.first_step.FirstStep.{FirstStep}
 use Rattle.kl1_command.specs.declared.first_step.FirstStep.TheVariants as first_step
@@ -12,8 +13,8 @@ use Rattle.kl1_command.specs.declared.performed.Performed.TheVariants as perform
 -- what became of the first goal that can step: how each run goes on after it
 abbrev pub IsFirstStep : Kept → FirstStep → Kept → Type 0
 IsFirstStep s first_step.Quiet after = (first s.state ≡ None) × (after ≡ s)
-IsFirstStep s first_step.Done after = (next : Going) (n : ℕ) → run_choice next s n (first s.state) ≡ next (suc n) after
-IsFirstStep s (first_step.Refused r) after = ((next : Going) (n : ℕ) → run_choice next s n (first s.state) ≡ stopped_by s n (refusal_of r)) × (after ≡ s)
+IsFirstStep s first_step.Done after = (most n : ℕ) → run_from (suc most) n s ≡ run_from most (suc n) after
+IsFirstStep s (first_step.Refused r) after = ((left n : ℕ) → run_from (suc left) n s ≡ stopped_by s n (refusal_of r)) × (after ≡ s)
 IsFirstStep s first_step.Memory after = after ≡ s
 
 -- how many steps it is
@@ -36,7 +37,7 @@ RunsOn s n after = (m : ℕ) → run_from (n + m) 0 s ≡ run_from m n after
 abbrev pub IsEnd : ℕ → ℕ → FirstStep → Kept → Type 0
 IsEnd most n first_step.Done after = n ≡ most
 IsEnd most n first_step.Quiet after = (n < most) × (first after.state ≡ None)
-IsEnd most n (first_step.Refused r) after = (n < most) × ((next : Going) (k : ℕ) → run_choice next after k (first after.state) ≡ stopped_by after k (refusal_of r))
+IsEnd most n (first_step.Refused r) after = (n < most) × ((left k : ℕ) → run_from (suc left) k after ≡ stopped_by after k (refusal_of r))
 IsEnd most n first_step.Memory after = n < most
 
 -- the outcome that memory was refused

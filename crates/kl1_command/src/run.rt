@@ -1,10 +1,10 @@
 // Runs, and the answers to them.
 
 ghost use Rattle.std.specs.Prelude.{◌≡◌, ℕ, ◌<◌};
-ghost use Rattle.kl1_model_server.specs.Command.{run as run_command, stopped_by};
+ghost use Rattle.kl1_model_server.specs.Command.{run as run_command};
 ghost use Rattle.kl1_model_server.specs.Journal.{Kept};
 ghost use Rattle.kl1_user_events.specs.Views.{refusal_of, reply_of};
-ghost use Rattle.kl1_command.specs.Performing.{IsUntouched, Performs};
+ghost use Rattle.kl1_command.specs.Performing.{IsUntouched, Performs, stopped_by};
 ghost use Rattle.kl1_command.specs.Told.{told_by, told_in, told_steps};
 ghost use Rattle.kl1_command.specs.Room.{act_in_vain, PerformsWithin};
 ghost use Rattle.kl1_command.specs.Stepping.{RunsOn, IsEnd, IsNoneFor, no_memory};

@@ -4,10 +4,9 @@ use Rattle.std.specs.Prelude.{Option, Some, None, is_some}
 use Rattle.kl1_model.specs.declared.rules.Rules.{Rules}
 use Rattle.kl1_model.specs.State.{State}
 use Rattle.kl1_model.specs.Event as model
-use Rattle.kl1_model.specs.Event.{Transition}
+use Rattle.kl1_model.specs.Event.{Transition, is_refused}
 use Rattle.kl1_model.specs.Step.{step}
-use Rattle.kl1_model.specs.laws.TreeLaws.{is_refused}
-use Rattle.kl1_model_server.specs.Journal.{Journal, steps, noted, Done, fresh_kept, done}
+use Rattle.kl1_model_server.specs.Journal.{Journal, stepped, noted, Done, fresh_kept, done}
 use Rattle.kl1_model_server.specs.laws.ReplayLaws.{IsReplayable}
 use Rattle.kl1_model_server.specs.laws.TextLaws as texts
 use Rattle.kl1_model_server.proofs.ReplayReplies.{fresh_is_replayable, replayable_stays}
@@ -19,7 +18,7 @@ use Rattle.kl1_atoms.specs.Names.{AreNames}
 use Rattle.kl1_atoms.specs.Knowing.{are_names}
 use Rattle.kl1_user.specs.Accounts.{Reading, Fits}
 use Rattle.kl1_user.specs.Accounts.{Account, state_of, texts_of}
-use Rattle.kl1_journal_entries.specs.Lined.{if_lined, with_prepared}
+use Rattle.kl1_journal_entries.specs.Lined.{with_reduction}
 use Rattle.kl1_journal_entries.proofs.Accepted.{accepted_entries}
 use Rattle.kl1_user_events.specs.declared.refusal.Refusal.{Refusal}
 use Rattle.kl1_user_events.specs.Views.{reduced_or}
@@ -27,7 +26,7 @@ use Rattle.kl1_journal.specs.declared.change.Change.{Change}
 use Rattle.kl1_journal.specs.Changes.{IsChange, SessionsFit, changed}
 use Rattle.kl1_journal.specs.Keeping.{kept_of, IsReplayed}
 use Rattle.kl1_user.specs.Readings.{reading_of, reading_fits}
-use Rattle.kl1_journal.proofs.Changing.{noted_is, sessions_fit}
+use Rattle.kl1_journal.proofs.Changing.{reduction_is, noted_is, sessions_fit}
 
 -- an event did this to an account, for each reading of the names that it uses then
 abbrev pub Does : Account → model.Event → Account → model.Reply → Type 0
@@ -42,10 +41,10 @@ done_by f old new j k e reply is noted_as =
 
 -- the change of an event was noted
 pub done_change : (f : Reading) (old new : Account) (j k : Journal) (e : model.Event) (reply : model.Reply) (c : Change) → IsReplayable (kept_of f (old, j)) → step (state_of f old) e ≡ record { state = state_of f new; reply = reply } → IsChange (texts_of old.names) j e c →
-    k ≡ (if is_refused reply then j else changed j c reply) → done (kept_of f (old, j)) e ≡ record { kept = kept_of f (new, k); reply = reply }
+    k ≡ (if is_refused reply then j else changed j c new.run reply) → done (kept_of f (old, j)) e ≡ record { kept = kept_of f (new, k); reply = reply }
 done_change f old new j k e reply c was is h k_is =
     done_by f old new j k e reply is
-    (noted_is (state_of f old) (texts_of old.names) j e c h refl was.is.rules was.is.sessions ∙ ap (λ (x : Transition). if is_refused x.reply then j else changed j c x.reply) is ∙ sym k_is)
+    (noted_is (state_of f old) (texts_of old.names) j e c new.run h refl was.is.rules was.is.sessions (sym (ap (λ (x : Transition). x.state.run) is)) ∙ ap (λ (x : Transition). if is_refused x.reply then j else changed j c new.run x.reply) is ∙ sym k_is)
 
 -- an account is the replay of its journal after an event
 kept_by : (old new : Account) (j k : Journal) (e : model.Event) (reply : model.Reply) → IsReplayed (old, j) → AreNames new.names → Does old e new reply → ((f : Reading) → Fits new.names f → Fits old.names f) →
@@ -59,7 +58,7 @@ kept_by old new j k e reply was names does before is = record {
 
 -- so by its change
 pub kept_change : (old new : Account) (j k : Journal) (e : model.Event) (reply : model.Reply) (c : Change) → IsReplayed (old, j) → AreNames new.names → Does old e new reply → ((f : Reading) → Fits new.names f → Fits old.names f) → IsChange (texts_of old.names) j e c →
-    k ≡ (if is_refused reply then j else changed j c reply) → IsReplayed (new, k)
+    k ≡ (if is_refused reply then j else changed j c new.run reply) → IsReplayed (new, k)
 kept_change old new j k e reply c was names does before h k_is =
     kept_by old new j k e reply was names does before (λ f fits. done_change f old new j k e reply c (was.replay f (before f fits)) (does f fits) h k_is)
 
@@ -70,20 +69,21 @@ fits_change old new j e reply c was names does before h =
     let fits = reading_fits new.names names in
     subst (SessionsFit j c) (ap (λ (x : Transition). x.reply) (does f fits)) (sessions_fit (state_of f old) (texts_of old.names) j e c h (was.replay f (before f fits)).is.sessions)
 
-step_noted : (s : State) (j k : Journal) (goal clause : ℕ) (o : Option Refusal) → (step s (model.reduce goal clause)).reply ≡ reduced_or o → k ≡ (if is_some o then j else with_prepared j (if_lined (steps goal clause))) → noted j (model.reduce goal clause) (step s (model.reduce goal clause)) ≡ k
-step_noted s j k goal clause None told is =
-    ap (λ (r : model.Reply). if is_refused r then j else with_prepared j (Some (steps goal clause))) told
-    ∙ ap (with_prepared j) (sym (accepted_entries s (model.reduce goal clause) (ap is_refused told))) ∙ sym is
-step_noted s j k goal clause (Some r) told is = ap (λ (x : model.Reply). if is_refused x then j else with_prepared j (Some (steps goal clause))) told ∙ sym is
+step_noted : (s : State) (j k : Journal) (goal clause run : ℕ) (o : Option Refusal) → (step s (model.reduce goal clause)).reply ≡ reduced_or o → run ≡ (step s (model.reduce goal clause)).state.run → k ≡ (if is_some o then j else with_reduction j goal clause run) → noted j (model.reduce goal clause) (step s (model.reduce goal clause)) ≡ k
+step_noted s j k goal clause run None told ran is =
+    ap (λ (r : model.Reply). if is_refused r then j else stepped j goal clause (step s (model.reduce goal clause)).state.run) told
+    ∙ ap (stepped j goal clause) (sym ran)
+    ∙ reduction_is j goal clause run (accepted_entries s (model.reduce goal clause) (ap is_refused told)) ∙ sym is
+step_noted s j k goal clause run (Some r) told ran is = ap (λ (x : model.Reply). if is_refused x then j else stepped j goal clause (step s (model.reduce goal clause)).state.run) told ∙ sym is
 
 -- a reduction was noted
 pub done_step : (f : Reading) (old new : Account) (j k : Journal) (goal clause : ℕ) (o : Option Refusal) → step (state_of f old) (model.reduce goal clause) ≡ record { state = state_of f new; reply = reduced_or o } →
-    k ≡ (if is_some o then j else with_prepared j (if_lined (steps goal clause))) → done (kept_of f (old, j)) (model.reduce goal clause) ≡ record { kept = kept_of f (new, k); reply = reduced_or o }
+    k ≡ (if is_some o then j else with_reduction j goal clause new.run) → done (kept_of f (old, j)) (model.reduce goal clause) ≡ record { kept = kept_of f (new, k); reply = reduced_or o }
 done_step f old new j k goal clause o is k_is =
-    done_by f old new j k (model.reduce goal clause) (reduced_or o) is (step_noted (state_of f old) j k goal clause o (ap (λ (x : Transition). x.reply) is) k_is)
+    done_by f old new j k (model.reduce goal clause) (reduced_or o) is (step_noted (state_of f old) j k goal clause new.run o (ap (λ (x : Transition). x.reply) is) (sym (ap (λ (x : Transition). x.state.run) is)) k_is)
 
 pub kept_step : (old new : Account) (j k : Journal) (goal clause : ℕ) (o : Option Refusal) → IsReplayed (old, j) → AreNames new.names → Does old (model.reduce goal clause) new (reduced_or o) → ((f : Reading) → Fits new.names f → Fits old.names f) →
-    k ≡ (if is_some o then j else with_prepared j (if_lined (steps goal clause))) → IsReplayed (new, k)
+    k ≡ (if is_some o then j else with_reduction j goal clause new.run) → IsReplayed (new, k)
 kept_step old new j k goal clause o was names does before k_is =
     kept_by old new j k (model.reduce goal clause) (reduced_or o) was names does before (λ f fits. done_step f old new j k goal clause o (does f fits) k_is)
 

@@ -1,14 +1,14 @@
 // What an event changes in a journal.
 
 ghost use Rattle.std.specs.Prelude.{◌≡◌, ◌<◌, ℕ, List, is_some, if◌then◌else◌, IfOk, IsOk, IsTrue};
-ghost use Rattle.kl1_model.specs.laws.TreeLaws.{is_refused};
+ghost use Rattle.kl1_model.specs.Event.{is_refused};
 ghost use Rattle.kl1_user_events.specs.Views.{event_of, is_logout, reply_of};
 ghost use Rattle.kl1_model_server.specs.laws.TextLaws.{AreNames};
-ghost use Rattle.kl1_model_server.specs.Journal.{new_journal, steps};
-ghost use Rattle.kl1_journal_entries.specs.Lined.{is_entry, if_lined, with_prepared};
-ghost use Rattle.kl1_journal.specs.Changes.{IsChange, HasRoom, SessionsFit, ReplyFits, changed, sessions_after};
+ghost use Rattle.kl1_model_server.specs.Journal.{new_journal};
+ghost use Rattle.kl1_journal_entries.specs.Lined.{with_reduction};
+ghost use Rattle.kl1_journal.specs.Changes.{IsChange, IsEntered, HasRoom, SessionsFit, ReplyFits, changed, sessions_after};
 
-use kl1_journal_entries::{Journal, PendingEntry, entry_for, is_entry, step_for};
+use kl1_journal_entries::{Journal, PendingEntry, entry_for};
 use kl1_text::AtomText;
 use kl1_user_events::{ClauseNo, Event, GoalNo, Refusal, Reply};
 use std::alloc::{AllocError, Global};
@@ -20,6 +20,8 @@ pub(crate) enum Change {
     Nothing,
     /// This entry comes after the others, if there is one: of an event whose line can't be read back, which is refused, there is none.
     Entry(PendingEntry),
+    /// A reduction is noted, in a run or as an entry.
+    Reduction { goal: GoalNo, clause: ClauseNo },
     /// The number of open sessions is what the reply tells.
     Sessions,
     /// The journal begins anew as this one.
@@ -40,14 +42,22 @@ pub(crate) fn prepare(
     ensures room { IfOk result (λ change. HasRoom journal.new change) }
     ensures logout { IsTrue (is_logout event.now) → IsOk result }
 {
-    if is_entry(event) {
-        return entered(alloc, journal, event);
-    }
     match event {
         Event::Login => Ok(Change::Sessions),
         Event::Logout => Ok(Change::Sessions),
         Event::Reset => Ok(Change::Anew(anew(alloc, journal, names)?)),
-        _ => Ok(Change::Nothing),
+        Event::Read(_query) => Ok(Change::Nothing),
+        Event::Reduce { goal, clause } => {
+            journal.reserve()?;
+            Ok(Change::Reduction {
+                goal: *goal,
+                clause: *clause,
+            })
+        }
+        Event::Load { .. } => entered(alloc, journal, event),
+        Event::Start { .. } => entered(alloc, journal, event),
+        Event::Control { .. } => entered(alloc, journal, event),
+        Event::Answer { .. } => entered(alloc, journal, event),
     }
 }
 
@@ -63,7 +73,7 @@ fn anew(alloc: Global, journal: &Journal, names: &[AtomText]) -> Result<Journal,
 
 /// The entry of an event, with room for it.
 fn entered(alloc: Global, journal: &mut Journal, event: &Event) -> Result<Change, AllocError>
-    requires { IsTrue (is_entry (event_of event.now)) }
+    requires { IsEntered (event_of event.now) }
     ensures same { journal.new.journal ≡ journal.old.journal }
     ensures change { IfOk result (λ change. (names : List (List ℕ)) → IsChange names journal.old.journal (event_of event.now) change) }
     ensures room { IfOk result (λ change. HasRoom journal.new change) }
@@ -73,11 +83,11 @@ fn entered(alloc: Global, journal: &mut Journal, event: &Event) -> Result<Change
     Ok(Change::Entry(entry))
 }
 
-/// Changes a journal after a reply, unless that is a refusal.
-pub(crate) fn note(journal: &mut Journal, change: Change, reply: &Reply)
+/// Changes a journal after a reply, unless that is a refusal. `run` is how many reductions the account's last run has now, or 0.
+pub(crate) fn note(journal: &mut Journal, change: Change, run: u32, reply: &Reply)
     requires room { HasRoom journal.old change }
     requires sessions { SessionsFit journal.old.journal change (reply_of reply.now) }
-    ensures { journal.new.journal ≡ (if is_refused (reply_of reply.now) then journal.old.journal else changed journal.old.journal change (reply_of reply.now)) }
+    ensures { journal.new.journal ≡ (if is_refused (reply_of reply.now) then journal.old.journal else changed journal.old.journal change run (reply_of reply.now)) }
 {
     if is_refusal(reply) {
         return;
@@ -85,23 +95,25 @@ pub(crate) fn note(journal: &mut Journal, change: Change, reply: &Reply)
     match change {
         Change::Nothing => {}
         Change::Entry(entry) => journal.put(entry),
+        Change::Reduction { goal, clause } => journal.put_reduction(goal.0, clause.0, run),
         Change::Sessions => note_sessions(journal, reply),
         Change::Anew(new) => *journal = new,
     }
 }
 
-/// Puts the entry of a reduction after the others, unless it was refused.
+/// Notes a reduction, unless it was refused. `run` is how many reductions the account's last run has now, or 0.
 pub(crate) fn note_step(
     journal: &mut Journal,
     goal: GoalNo,
     clause: ClauseNo,
+    run: u32,
     refused: &Option<Refusal>,
 )
     requires { 0 < journal.old.room }
-    ensures { journal.new.journal ≡ (if is_some refused.now then journal.old.journal else with_prepared journal.old.journal (if_lined (steps goal.0 clause.0))) }
+    ensures { journal.new.journal ≡ (if is_some refused.now then journal.old.journal else with_reduction journal.old.journal goal.0 clause.0 run) }
 {
     if refused.is_none() {
-        journal.put(step_for(goal.0, clause.0));
+        journal.put_reduction(goal.0, clause.0, run);
     }
 }
 

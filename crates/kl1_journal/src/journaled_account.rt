@@ -7,7 +7,7 @@ ghost use Rattle.kl1_model_server.specs.Journal.{fresh_kept, done};
 ghost use Rattle.kl1_model_server.specs.JournalText.{page_of};
 ghost use Rattle.kl1_model_server.specs.laws.TextLaws.{AreNames as MayBeNames};
 ghost use Rattle.kl1_atoms.specs.Names.{AreNames};
-ghost use Rattle.kl1_codes_modules.specs.Numbered.{ArePlaced};
+ghost use Rattle.kl1_codes.specs.Numbered.{ArePlaced};
 ghost use Rattle.kl1_user.specs.Accounts.{Reading, Fits};
 ghost use Rattle.kl1_user.specs.Accounts.{texts_of};
 ghost use Rattle.kl1_user_events.specs.Views.{event_of, is_logout, reply_of, reduced_or, chosen_of};
@@ -36,7 +36,7 @@ pub struct JournaledAccount<A: AtomSource, C: CodeSource> {
 impl<A: AtomSource, C: CodeSource> Model for JournaledAccount<A, C> {
     ghost use Rattle.std.specs.Prelude.{◌≡◌};
     ghost use Rattle.std.specs.Coded.{codes};
-    ghost use Rattle.kl1_codes_modules.specs.Numbered.{numbered_code};
+    ghost use Rattle.kl1_codes.specs.Numbered.{numbered_code};
     ghost use Rattle.kl1_atoms.specs.Names.{AreNames};
     ghost use Rattle.kl1_user.specs.Accounts.{Account};
     ghost use Rattle.kl1_model_server.specs.Journal.{Journal as Entered};
@@ -111,7 +111,7 @@ impl<A: AtomSource, C: CodeSource> JournaledAccount<A, C> {
     {
         let change = prepare(self.alloc, &mut self.journal, self.user.name_texts(), event)?;
         let reply = self.user.apply(names, &mut self.seat, codes, event)?;
-        note(&mut self.journal, change, &reply);
+        note(&mut self.journal, change, self.user.run(), &reply);
         Ok(reply)
     }
 
@@ -138,7 +138,7 @@ impl<A: AtomSource, C: CodeSource> JournaledAccount<A, C> {
         let refused = self
             .user
             .reduce(names, &mut self.seat, codes, goal, clause)?;
-        note_step(&mut self.journal, goal, clause, &refused);
+        note_step(&mut self.journal, goal, clause, self.user.run(), &refused);
         Ok(refused)
     }
 

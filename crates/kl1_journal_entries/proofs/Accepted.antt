@@ -1,22 +1,22 @@
 -- The entry of each event that an account accepts has a line.
-use Rattle.std.proofs.Common.{◌≡◌, ℕ, suc, ◌≤◌, ◌+◌, ◌*◌, ◌&&◌, Bool, true, false, if◌then◌else◌, length, refl, arith}
-use Rattle.std.specs.Prelude.{nat_le, Some}
+use Rattle.std.proofs.Common.{◌≡◌, ℕ, ◌≤◌, ◌+◌, ◌*◌, ◌&&◌, Bool, true, false, if◌then◌else◌, length, refl, arith}
+use Rattle.std.specs.Prelude.{nat_le}
 use Rattle.std.proofs.lemmas.Bool.{and_from, and_parts, lt-ltb, le-leb, leb-true}
 use Rattle.kl1_model.specs.declared.limits.TheConstants.{NUMBER_LIMIT, MOST_PRIORITY, MOST_SOURCE_BYTES, MOST_LINE_BYTES}
 use Rattle.kl1_model.specs.Term.{Term}
 use Rattle.kl1_model.specs.Goal.{is_goal}
 use Rattle.kl1_model.specs.Meaning.{is_writable, is_numbered}
-use Rattle.kl1_model.specs.State.{State, shoen_at, goal_at, has_substitutes, names_of, with_names}
-use Rattle.kl1_model.specs.Event.{Event, load, start, control, reduce, read, login, logout, reset, answer, syntax, opened, Transition, refuse, is_number, is_range, with_entry, recorded, named, limited}
+use Rattle.kl1_model.specs.State.{State, shoen_at, goal_at, has_substitutes}
+use Rattle.kl1_model.specs.Event.{Event, load, start, control, reduce, read, login, logout, reset, answer, syntax, Transition, refuse, is_number, is_range, is_refused}
 use Rattle.kl1_model.specs.Module.{read_module}
-use Rattle.kl1_model.specs.Opening.{start_line, may_start, has_room_to_start, start_goal}
+use Rattle.kl1_model.specs.Opening.{start_line, may_start}
+use Rattle.kl1_model.specs.Choice.{is_in_run}
 use Rattle.kl1_model.specs.Reduction.{reduce_goal}
 use Rattle.kl1_model.specs.Sending.{may_send, send_to}
 use Rattle.kl1_model.specs.Answering.{answer_line, may_answer, answer_to}
-use Rattle.kl1_model.specs.Step.{load_module, step}
-use Rattle.kl1_model.specs.laws.TreeLaws.{is_refused}
-use Rattle.kl1_model_server.specs.Journal.{Entry, loads, starts, sends, steps, answers, Journal, with_event}
-use Rattle.kl1_journal_entries.specs.Lined.{is_lined, entry_of, lined_entry, with_prepared}
+use Rattle.kl1_model.specs.Step.{load_module, start_by, step}
+use Rattle.kl1_model_server.specs.Journal.{loads, starts, sends, steps, answers}
+use Rattle.kl1_journal_entries.specs.Lined.{is_lined, entry_of, lined_entry}
 use Rattle.kl1_journal_entries.proofs.Sound.{if_true}
 
 -- a test that an accepted event has passed
@@ -60,10 +60,9 @@ accepted_entries s (load text) h =
     let few = leb-true (length text) MOST_SOURCE_BYTES (passed (nat_le (length text) MOST_SOURCE_BYTES) (load_module s (read_module text)) s h) in
     if_true (is_lined (loads text)) (loads text) (le-leb (5 + 2 * length text) MOST_LINE_BYTES (omega (arith, few)))
 accepted_entries s (start allowance low high t) h =
-    let after = named s (with_names s.names (names_of t)) (limited s (has_room_to_start s t) (recorded s (record { state = with_entry (start_goal s allowance low high t); reply = opened (suc s.last_shoen) }))) in
-    if_true (is_lined (starts allowance low high t)) (starts allowance low high t) (may_lined allowance low high t (passed (may_start allowance low high t) after s h))
+    if_true (is_lined (starts allowance low high t)) (starts allowance low high t) (may_lined allowance low high t (passed (may_start allowance low high t) (start_by s allowance low high t) s h))
 accepted_entries s (control n m) h = if_true (may_send n m) (sends n m) (passed (may_send n m) (send_to s n m (shoen_at n s.shoens)) s h)
-accepted_entries s (reduce goal clause) h = if_true (is_number goal && is_number clause) (steps goal clause) (passed (is_number goal && is_number clause) (reduce_goal s clause (goal_at goal s.goals)) s h)
+accepted_entries s (reduce goal clause) h = if_true (is_number goal && is_number clause) (steps goal clause) (passed (is_number goal && is_number clause) (reduce_goal s (is_in_run s goal clause) clause (goal_at goal s.goals)) s h)
 accepted_entries s (answer n report t) h =
     let both = and_parts (has_substitutes s.rules) (may_answer n report t) (passed (has_substitutes s.rules && may_answer n report t) (answer_to s report t (shoen_at n s.shoens)) s h) in
     if_true (is_lined (answers n report t)) (answers n report t) (answer_lined n report t both.1)
@@ -71,15 +70,3 @@ accepted_entries s (read q) h = refl
 accepted_entries s login h = refl
 accepted_entries s logout h = refl
 accepted_entries s reset h = refl
-
--- a journal after an accepted event that is an entry, or a query
-pub with_event_entry : (j : Journal) (e : Event) (s : State) (n : Entry) → entry_of e ≡ Some n → with_event j e s ≡ with_prepared j (entry_of e)
-with_event_entry j (load text) s n h = refl
-with_event_entry j (start allowance low high t) s n h = refl
-with_event_entry j (control k m) s n h = refl
-with_event_entry j (reduce goal clause) s n h = refl
-with_event_entry j (answer k report t) s n h = refl
-with_event_entry j (read q) s n h = refl
-with_event_entry j login s n h = cc
-with_event_entry j logout s n h = cc
-with_event_entry j reset s n h = cc

@@ -1,6 +1,6 @@
 -- The entry whose line a line is.
 use Rattle.std.proofs.Common.{◌≡◌, ℕ, suc, ◌<◌, ◌≤◌, ◌+◌, ◌*◌, ◌==◌, ◌&&◌, ◌⊎◌, inl, inr, Bool, true, false, if◌then◌else◌, List, [], ◌∷◌, length, codes, bytes_eq, refl, sym, ap, subst, ◌∙◌, arith}
-use Rattle.std.specs.Prelude.{nat_le, nat_lt, Option, Some, None, option_map, option_and_then}
+use Rattle.std.specs.Prelude.{nat_le, nat_lt, Option, Some, None, is_some, option_map, option_and_then}
 use Rattle.std.specs.List.{list_all}
 use Rattle.std.proofs.lemmas.Bool.{and_from, and_parts, le-leb}
 use Rattle.std.proofs.lemmas.Option.{option_and_then_some, same_Some}
@@ -13,16 +13,16 @@ use Rattle.kl1_model.specs.Goal.{is_goal}
 use Rattle.kl1_model.specs.Meaning.{highest, is_writable, is_numbered}
 use Rattle.kl1_model.specs.Token.{is_digit, number_of}
 use Rattle.kl1_model.specs.Line.{before_space, behind_space, number_in}
-use Rattle.kl1_model.specs.Event.{Event, is_number}
+use Rattle.kl1_model.specs.Event.{is_number}
 use Rattle.kl1_model.specs.Module.{read_goal}
 use Rattle.kl1_model.specs.Opening.{start_line}
 use Rattle.kl1_model.specs.Sending.{may_send}
 use Rattle.kl1_model.specs.Answering.{answer_line}
-use Rattle.kl1_model_server.specs.Journal.{Entry, loads, starts, sends, steps, answers, event_in}
-use Rattle.kl1_model_server.specs.JournalText.{is_hex_digit, hex_bytes, load_in, of_two, if_read, start_in, answer_in, entry_by, entry_line, entry_in}
+use Rattle.kl1_model_server.specs.Journal.{Entry, loads, starts, sends, steps, answers, runs}
+use Rattle.kl1_model_server.specs.JournalText.{is_hex_digit, hex_bytes, load_in, of_two, if_good, start_in, answer_in, run_of, entry_by, entry_line, entry_in}
 use Rattle.kl1_model_server.proofs.ReadStrict.{goals_read_are_printable}
-use Rattle.kl1_model_server.proofs.TextEntries.{length_hex, is_read, if_line}
-use Rattle.kl1_journal_entries.specs.Lined.{is_lined, if_lined, lined_entry}
+use Rattle.kl1_model_server.proofs.TextEntries.{length_hex, is_read}
+use Rattle.kl1_journal_entries.specs.Lined.{is_lined, if_lined}
 use Rattle.kl1_journal_entries.specs.Reading.{is_line_of}
 use Rattle.kl1_journal_entries.proofs.Sound.{if_true}
 
@@ -94,10 +94,10 @@ start_lined rest e h small few =
     let c = behind_space b in
     let text = behind_space c in
     let less : length text < NUMBER_LIMIT = omega (arith, small, behind_short rest, behind_short b, behind_short c) in
-    option_and_then_some (λ a. option_and_then (λ low. option_and_then (λ high. option_map (starts a low high) (if_read (read_goal text))) (number_in (before_space c))) (number_in (before_space b))) (number_in (before_space rest)) e h
-    (λ a first m. option_and_then_some (λ low. option_and_then (λ high. option_map (starts a low high) (if_read (read_goal text))) (number_in (before_space c))) (number_in (before_space b)) e m
-    (λ low second n. option_and_then_some (λ high. option_map (starts a low high) (if_read (read_goal text))) (number_in (before_space c)) e n
-    (λ high third o. map_some (starts a low high) (if_read (read_goal text)) e o
+    option_and_then_some (λ a. option_and_then (λ low. option_and_then (λ high. option_map (starts a low high) (if_good (read_goal text))) (number_in (before_space c))) (number_in (before_space b))) (number_in (before_space rest)) e h
+    (λ a first m. option_and_then_some (λ low. option_and_then (λ high. option_map (starts a low high) (if_good (read_goal text))) (number_in (before_space c))) (number_in (before_space b)) e m
+    (λ low second n. option_and_then_some (λ high. option_map (starts a low high) (if_good (read_goal text))) (number_in (before_space c)) e n
+    (λ high third o. map_some (starts a low high) (if_good (read_goal text)) e o
     (λ t read is.
     let facts = goals_read_are_printable text t less (is_read (read_goal text) t read) in
     ap is_lined (sym is) ∙ start_from a low high t (number_read (before_space rest) a first) (number_read (before_space b) low second) (number_read (before_space c) high third) facts.1 facts.0 (subst (λ (d : Entry). length (entry_line d) ≤ MOST_LINE_BYTES) (sym is) few)))))
@@ -116,9 +116,9 @@ answer_lined rest e h small few =
     let b = behind_space rest in
     let text = behind_space b in
     let less : length text < NUMBER_LIMIT = omega (arith, small, behind_short rest, behind_short b) in
-    option_and_then_some (λ n. option_and_then (λ report. option_map (answers n report) (if_read (read_goal text))) (number_in (before_space b))) (number_in (before_space rest)) e h
-    (λ n first m. option_and_then_some (λ report. option_map (answers n report) (if_read (read_goal text))) (number_in (before_space b)) e m
-    (λ report second o. map_some (answers n report) (if_read (read_goal text)) e o
+    option_and_then_some (λ n. option_and_then (λ report. option_map (answers n report) (if_good (read_goal text))) (number_in (before_space b))) (number_in (before_space rest)) e h
+    (λ n first m. option_and_then_some (λ report. option_map (answers n report) (if_good (read_goal text))) (number_in (before_space b)) e m
+    (λ report second o. map_some (answers n report) (if_good (read_goal text)) e o
     (λ t read is.
     let facts = goals_read_are_printable text t less (is_read (read_goal text) t read) in
     ap is_lined (sym is) ∙ answer_from n report t (number_read (before_space rest) n first) (number_read (before_space b) report second) facts.1 facts.0 (subst (λ (d : Entry). length (entry_line d) ≤ MOST_LINE_BYTES) (sym is) few))))
@@ -128,6 +128,13 @@ sent_lined m n h = h
 
 with_true : (b : Bool) → b ≡ true → b && true ≡ true
 with_true b h = and_from b true h refl
+
+run_by : (b : Bool) (n : ℕ) (e : Entry) → nat_le 1 n ≡ b → is_number n ≡ true → (if b then Some (runs n) else None) ≡ Some e → is_lined e ≡ true
+run_by true n e least number h = ap is_lined (sym (same_Some (runs n) e h)) ∙ and_from (nat_le 1 n) (is_number n) least number
+run_by false n e least number h = absurd (let f : ⊥ = cc in f)
+
+run_lined : (rest : List ℕ) (e : Entry) → option_and_then run_of (number_in rest) ≡ Some e → is_lined e ≡ true
+run_lined rest e h = option_and_then_some run_of (number_in rest) e h (λ n first is. run_by (nat_le 1 n) n e refl (number_read rest n first) is)
 
 -- what is read by the first word of a line is lined, if its own line isn't too long
 by_word : (w rest : List ℕ) (e : Entry) → entry_by w rest ≡ Some e → length rest < NUMBER_LIMIT → length (entry_line e) ≤ MOST_LINE_BYTES → is_lined e ≡ true
@@ -148,7 +155,10 @@ by_word w rest e h small few =
                   | inl p ↦ one_lined (λ n. sends n Abort) (λ n x. with_true (is_number n) x) rest e p
                   | inr h7 ↦ elim (either (bytes_eq w (codes "allow")) _ _ e h7) [
                     | inl p ↦ two_lined (λ n k. sends n (Allow k)) (λ a b x y. and_from (is_number a) (is_number b) x y) rest e p
-                    | inr q ↦ absurd (let f : ⊥ = cc in f)
+                    | inr h8 ↦ elim (either (bytes_eq w (codes "run")) _ _ e h8) [
+                      | inl p ↦ run_lined rest e p
+                      | inr q ↦ absurd (let f : ⊥ = cc in f)
+                    ]
                   ]
                 ]
               ]
@@ -160,10 +170,14 @@ by_word w rest e h small few =
 
 -- ---- what is found
 
--- an entry that is found by its event and what is prepared of it
-pub record IsFound (line : List ℕ) (v : Event) (p : Option Entry) : Type 0 where
-  pub event : Some v ≡ option_map event_in (entry_in line)
+-- an entry that is found by what it asks for and what is prepared of it
+pub record IsFound (line : List ℕ) (d p : Option Entry) : Type 0 where
+  pub deed : d ≡ entry_in line
   pub entry : Some p ≡ option_map (λ e. Some e) (entry_in line)
+
+-- an entry, if this is its line
+abbrev if_line : List ℕ → Entry → Option Entry
+if_line line e = if bytes_eq (entry_line e) line then Some e else None
 
 short_in : (b : Bool) (o : Option Entry) → b ≡ true → (if b then o else None) ≡ o
 short_in true o h = refl
@@ -172,20 +186,9 @@ short_in false o h = cc
 in_short : (line : List ℕ) → length line ≤ MOST_LINE_BYTES → entry_in line ≡ option_and_then (if_line line) (entry_by (before_space line) (behind_space line))
 in_short line few = short_in (nat_le (length line) MOST_LINE_BYTES) (option_and_then (if_line line) (entry_by (before_space line) (behind_space line))) (le-leb (length line) MOST_LINE_BYTES few)
 
-none_map : (o : Option Entry) → None ≡ option_map event_in o → o ≡ None
-none_map None h = refl
-none_map (Some e) h = absurd (let f : ⊥ = cc in f)
-
 -- no entry is read of a line that has none by its first word
-pub none_found : (line : List ℕ) → length line ≤ MOST_LINE_BYTES → None ≡ option_map event_in (entry_by (before_space line) (behind_space line)) → entry_in line ≡ None
-none_found line few h = in_short line few ∙ ap (option_and_then (if_line line)) (none_map (entry_by (before_space line) (behind_space line)) h)
-
-same_entry : (e : Entry) → lined_entry (event_in e) ≡ if_lined e
-same_entry (loads text) = refl
-same_entry (starts a l h t) = refl
-same_entry (sends n m) = refl
-same_entry (steps g c) = refl
-same_entry (answers n report t) = refl
+pub none_found : (line : List ℕ) → length line ≤ MOST_LINE_BYTES → None ≡ entry_by (before_space line) (behind_space line) → entry_in line ≡ None
+none_found line few h = in_short line few ∙ ap (option_and_then (if_line line)) (sym h)
 
 -- what is known of an entry by its line
 record Known (line : List ℕ) (e : Entry) (p : Option Entry) : Type 0 where
@@ -202,29 +205,30 @@ unknown_by x false line e p lined same needs is h = same
 unknown_by true true line e p lined same needs is h = absurd (let f : ⊥ = (let g : is_line_of (Some e) line ≡ false = ap (λ o. is_line_of o line) (sym is) ∙ h in cc) in f)
 unknown_by false true line e p lined same needs is h = absurd (let f : ⊥ = (let g = needs refl in cc) in f)
 
-entry_known : (line : List ℕ) (o : Option Entry) (v : Event) (p : Option Entry) → o ≡ entry_by (before_space line) (behind_space line) → length line ≤ MOST_LINE_BYTES → Some v ≡ option_map event_in o → p ≡ lined_entry v → is_line_of p line ≡ true → IsFound line v p
-entry_known line None v p is few h q same = absurd (let f : ⊥ = cc in f)
-entry_known line (Some e) v p is few h q same =
-    let event : v ≡ event_in e = same_Some v (event_in e) h in
-    let prepared : p ≡ if_lined e = q ∙ ap lined_entry event ∙ same_entry e in
-    let known = known_by (is_lined e) (bytes_eq (entry_line e) line) line e p refl refl prepared same in
-    let read : entry_in line ≡ Some e = in_short line few ∙ ap (option_and_then (if_line line)) (sym is) ∙ if_true (bytes_eq (entry_line e) line) e known.same in
-    record { event = ap (λ (w : Event). Some w) event ∙ ap (option_map event_in) (sym read); entry = ap (λ (w : Option Entry). Some w) known.entry ∙ ap (option_map (λ (d : Entry). Some d)) (sym read) }
-
 -- an entry whose line this is
-pub found : (line : List ℕ) (v : Event) (p : Option Entry) → length line ≤ MOST_LINE_BYTES → Some v ≡ option_map event_in (entry_by (before_space line) (behind_space line)) → p ≡ lined_entry v → is_line_of p line ≡ true → IsFound line v p
-found line v p few h q same = entry_known line (entry_by (before_space line) (behind_space line)) v p refl few h q same
-
-entry_unknown : (line : List ℕ) (o : Option Entry) (v : Event) (p : Option Entry) → o ≡ entry_by (before_space line) (behind_space line) → length line ≤ MOST_LINE_BYTES → Some v ≡ option_map event_in o → p ≡ lined_entry v → is_line_of p line ≡ false → entry_in line ≡ None
-entry_unknown line None v p is few h q other = absurd (let f : ⊥ = cc in f)
-entry_unknown line (Some e) v p is few h q other =
-    let event : v ≡ event_in e = same_Some v (event_in e) h in
-    let prepared : p ≡ if_lined e = q ∙ ap lined_entry event ∙ same_entry e in
-    let small : length (behind_space line) < NUMBER_LIMIT = omega (arith, few, behind_short line) in
-    let needs : bytes_eq (entry_line e) line ≡ true → is_lined e ≡ true = λ same. by_word (before_space line) (behind_space line) e (sym is) small (subst (λ (bs : List ℕ). length bs ≤ MOST_LINE_BYTES) (sym ((bytes_eq-Decides (entry_line e) line).0 same)) few) in
-    let differs = unknown_by (is_lined e) (bytes_eq (entry_line e) line) line e p refl refl needs prepared other in
-    in_short line few ∙ ap (option_and_then (if_line line)) (sym is) ∙ if_false (bytes_eq (entry_line e) line) e differs
+pub found : (line : List ℕ) (d p : Option Entry) → length line ≤ MOST_LINE_BYTES → d ≡ entry_by (before_space line) (behind_space line) → p ≡ option_and_then if_lined d → is_line_of p line ≡ true → IsFound line d p
+found line None p few is q same = absurd (let f : ⊥ = (let g : is_line_of None line ≡ true = ap (λ o. is_line_of o line) (sym q) ∙ same in cc) in f)
+found line (Some e) p few is q same =
+    let known = known_by (is_lined e) (bytes_eq (entry_line e) line) line e p refl refl q same in
+    let read : entry_in line ≡ Some e = in_short line few ∙ ap (option_and_then (if_line line)) (sym is) ∙ if_true (bytes_eq (entry_line e) line) e known.same in
+    record { deed = sym read; entry = ap (λ (w : Option Entry). Some w) known.entry ∙ ap (option_map (λ (d : Entry). Some d)) (sym read) }
 
 -- a line that isn't that of its entry
-pub not_found : (line : List ℕ) (v : Event) (p : Option Entry) → length line ≤ MOST_LINE_BYTES → Some v ≡ option_map event_in (entry_by (before_space line) (behind_space line)) → p ≡ lined_entry v → is_line_of p line ≡ false → entry_in line ≡ None
-not_found line v p few h q other = entry_unknown line (entry_by (before_space line) (behind_space line)) v p refl few h q other
+pub not_found : (line : List ℕ) (d p : Option Entry) → length line ≤ MOST_LINE_BYTES → d ≡ entry_by (before_space line) (behind_space line) → p ≡ option_and_then if_lined d → is_line_of p line ≡ false → entry_in line ≡ None
+not_found line None p few is q other = in_short line few ∙ ap (option_and_then (if_line line)) (sym is)
+not_found line (Some e) p few is q other =
+    let small : length (behind_space line) < NUMBER_LIMIT = omega (arith, few, behind_short line) in
+    let needs : bytes_eq (entry_line e) line ≡ true → is_lined e ≡ true = λ same. by_word (before_space line) (behind_space line) e (sym is) small (subst (λ (bs : List ℕ). length bs ≤ MOST_LINE_BYTES) (sym ((bytes_eq-Decides (entry_line e) line).0 same)) few) in
+    let differs = unknown_by (is_lined e) (bytes_eq (entry_line e) line) line e p refl refl needs q other in
+    in_short line few ∙ ap (option_and_then (if_line line)) (sym is) ∙ if_false (bytes_eq (entry_line e) line) e differs
+
+-- the word of a run
+pub run_word : (w rest : List ℕ) → bytes_eq w (codes "run") ≡ true → option_and_then run_of (number_in rest) ≡ entry_by w rest
+run_word w rest is = subst (λ (v : List ℕ). option_and_then run_of (number_in rest) ≡ entry_by v rest) (sym ((bytes_eq-Decides w (codes "run")).0 is)) refl
+
+-- what is found as an entry is some if the entry is
+pub some_as : {X : Type 0} (h : X → Option Entry) (o : Option X) (p : Option Entry) → option_map h o ≡ option_map (λ (e : Entry). let x : Option Entry = Some e in x) p → is_some o ≡ is_some p
+some_as h None None e = refl
+some_as h None (Some d) e = absurd (let f : ⊥ = cc in f)
+some_as h (Some x) None e = absurd (let f : ⊥ = cc in f)
+some_as h (Some x) (Some d) e = refl

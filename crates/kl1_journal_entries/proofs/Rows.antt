@@ -1,9 +1,10 @@
 -- Rows of journals.
-use Rattle.std.proofs.Common.{◌≡◌, ℕ, zero, suc, ◌<◌, List, [], ◌∷◌, ◌++◌, map, length, refl, ap, ap₂, ◌∙◌, arith}
+use Rattle.std.proofs.Common.{◌≡◌, ℕ, zero, suc, ◌-◌, ◌<◌, List, [], ◌∷◌, ◌++◌, map, take, length, refl, ap, ap₂, ◌∙◌, arith}
 use Rattle.std.specs.Prelude.{slice_get, Some}
 use Rattle.std.specs.List.{AllByRecursion}
 use Rattle.std.proofs.lemmas.List.{map-append, length-append}
-use Rattle.kl1_model_server.specs.Journal.{Entry}
+use Rattle.kl1_model_server.specs.Journal.{Entry, runs, Journal, without_last}
+use Rattle.kl1_journal_entries.specs.Lined.{with_reduction}
 use Rattle.kl1_journal_entries.specs.Slots.{entry_of_whole, kept_at, entry_at, IsPlace, IsSound}
 use Rattle.kl1_journal_entries.specs.declared.packed_entry.PackedEntry.{PackedEntry}
 use Rattle.kl1_journal_entries.specs.declared.packed_entry.PackedEntry.TheVariants as slot
@@ -24,6 +25,7 @@ place_stays ws w (slot.Step g c) here = refl
 place_stays ws w (slot.Stop n) here = refl
 place_stays ws w (slot.Resume n) here = refl
 place_stays ws w (slot.Abort n) here = refl
+place_stays ws w (slot.Run n) here = refl
 place_stays ws w (slot.Kept k) here = ap kept_at (get_front ws w k here)
 
 -- and what stands in the row
@@ -42,6 +44,7 @@ short_place ws (slot.Step g c) here = refl
 short_place ws (slot.Stop n) here = refl
 short_place ws (slot.Resume n) here = refl
 short_place ws (slot.Abort n) here = refl
+short_place ws (slot.Run n) here = refl
 short_place ws (slot.Kept k) here = absurd (omega (arith, here))
 
 -- and stays a place if more is kept whole
@@ -50,6 +53,7 @@ place_more n m (slot.Step g c) less here = here
 place_more n m (slot.Stop k) less here = here
 place_more n m (slot.Resume k) less here = here
 place_more n m (slot.Abort k) less here = here
+place_more n m (slot.Run k) less here = here
 place_more n m (slot.Kept k) less here = omega (arith, less, here)
 
 pub places_more : (n : ℕ) (ss : List PackedEntry) → AllByRecursion (IsPlace n) ss → AllByRecursion (IsPlace (suc n)) ss
@@ -71,3 +75,28 @@ places_put ws us w ss ts k wholes slots place here =
 -- and what holds of what is kept whole
 pub sound_put : (ws us : List LongEntry) (w : LongEntry) → us ≡ ws ++ w ∷ [] → AllByRecursion IsSound ws → IsSound w → AllByRecursion IsSound us
 sound_put ws us w is sound one = rw is (all_more IsSound ws w sound one)
+
+-- all but the last place are all but the last entry
+pub row_without_last : (ws : List LongEntry) (ss : List PackedEntry) (n : ℕ) → n ≡ length ss - 1 → map (entry_at ws) (take n ss) ≡ without_last (map (entry_at ws) ss)
+row_without_last ws [] zero is = refl
+row_without_last ws [] (suc n) is = refl
+row_without_last ws (s ∷ []) zero is = refl
+row_without_last ws (s ∷ []) (suc n) is = absurd (omega (arith, is))
+row_without_last ws (s ∷ t ∷ ts) zero is = absurd (omega (arith, is))
+row_without_last ws (s ∷ t ∷ ts) (suc n) is = ap (λ (es : List Entry). entry_at ws s ∷ es) (row_without_last ws (t ∷ ts) n (omega (arith, is)))
+
+-- what holds of each holds with fewer
+pub all_fewer : {X : Type 0} (P : X → Type 0) (xs : List X) (n : ℕ) → AllByRecursion P xs → AllByRecursion P (take n xs)
+all_fewer P xs zero all = tt
+all_fewer P [] (suc n) all = tt
+all_fewer P (x ∷ xs) (suc n) all = (all.0, all_fewer P xs n all.1)
+
+-- the row with a run in place of the last
+pub run_last : (ws : List LongEntry) (ss : List PackedEntry) (k n : ℕ) → n ≡ length ss - 1 → map (entry_at ws) (take n ss ++ slot.Run k ∷ []) ≡ without_last (map (entry_at ws) ss) ++ runs k ∷ []
+run_last ws ss k n is = map-append (entry_at ws) (take n ss) (slot.Run k ∷ []) ∙ ap (λ (es : List Entry). es ++ runs k ∷ []) (row_without_last ws ss n is)
+
+-- a run that has two reductions at least takes the place of the last entry
+pub run_goes_on : (j : Journal) (goal clause run : ℕ) → 1 < run → record j { entries = without_last j.entries ++ runs run ∷ [] } ≡ with_reduction j goal clause run
+run_goes_on j goal clause zero more = absurd (omega (arith, more))
+run_goes_on j goal clause (suc zero) more = absurd (omega (arith, more))
+run_goes_on j goal clause (suc (suc n)) more = refl

@@ -42,6 +42,7 @@ slot_line ws (slot.Step g c) here sound = (omega (arith, here), omega (arith, he
 slot_line ws (slot.Stop n) here sound = small_number n here
 slot_line ws (slot.Resume n) here sound = small_number n here
 slot_line ws (slot.Abort n) here sound = small_number n here
+slot_line ws (slot.Run n) here sound = (here.0, omega (arith, here.1))
 slot_line ws (slot.Kept k) here sound = kept_line ws k here sound
 
 -- each entry of a journal has a line

@@ -6,7 +6,7 @@ use Rattle.std.proofs.lemmas.Bool.{and_from, and_parts}
 use Rattle.std.proofs.lemmas.Option.{same_Some}
 use Rattle.kl1_model.specs.declared.rules.Rules.{Rules}
 use Rattle.kl1_model.specs.Text.{is_text}
-use Rattle.kl1_model_server.specs.Journal.{Entry, Journal, new_journal, with_entry}
+use Rattle.kl1_model_server.specs.Journal.{Entry, Journal, new_journal, entered}
 use Rattle.kl1_model_server.specs.JournalText.{Lines, lines_of, entry_in, name_in, is_new_name, entries_in, journal_after}
 use Rattle.kl1_model_server.specs.laws.TextLaws.{are_new_names}
 use Rattle.kl1_model_server.proofs.TextNames.{strict_lines_are_names}
@@ -27,7 +27,7 @@ none_entry (Some e) h = absurd (let f : ⊥ = cc in f)
 pub no_entry : (j : Journal) (text line after : List ℕ) → lines_of text ≡ with_line line (lines_of after) → None ≡ option_map (λ (e : Entry). let x : Option Entry = Some e in x) (entry_in line) → read_text j text ≡ None
 no_entry j text line after is h =
     ap (λ (ls : Lines). if length ls.rest == 0 then read_on j ls.whole else None) is
-    ∙ ap (λ (o : Option Entry). if length (lines_of after).rest == 0 then option_and_then (λ e. read_on (with_entry j e) (lines_of after).whole) o else None) (none_entry (entry_in line) h)
+    ∙ ap (λ (o : Option Entry). if length (lines_of after).rest == 0 then option_and_then (λ e. read_on (entered j e) (lines_of after).whole) o else None) (none_entry (entry_in line) h)
     ∙ neither (length (lines_of after).rest == 0)
 
 entry_put : (j k : Journal) (text line after : List ℕ) (o p : Option Entry) → entry_in line ≡ o → lines_of text ≡ with_line line (lines_of after) → Some p ≡ option_map (λ (e : Entry). let x : Option Entry = Some e in x) o → k ≡ with_prepared j p → read_text k after ≡ read_text j text
@@ -35,7 +35,7 @@ entry_put j k text line after None p read is h put = absurd (let f : ⊥ = cc in
 entry_put j k text line after (Some e) p read is h put =
     ap (λ (i : Journal). read_text i after) (put ∙ ap (with_prepared j) (same_Some p (Some e) h))
     ∙ sym (ap (λ (ls : Lines). if length ls.rest == 0 then read_on j ls.whole else None) is
-    ∙ ap (λ (o : Option Entry). if length (lines_of after).rest == 0 then option_and_then (λ e. read_on (with_entry j e) (lines_of after).whole) o else None) read)
+    ∙ ap (λ (o : Option Entry). if length (lines_of after).rest == 0 then option_and_then (λ e. read_on (entered j e) (lines_of after).whole) o else None) read)
 
 -- a line of an entry, which is put
 pub entry_more : (j k : Journal) (text line after : List ℕ) (p : Option Entry) → lines_of text ≡ with_line line (lines_of after) → Some p ≡ option_map (λ (e : Entry). let x : Option Entry = Some e in x) (entry_in line) → k ≡ with_prepared j p → read_text k after ≡ read_text j text
@@ -111,7 +111,7 @@ after_none rules sessions names lines = refl
 joined : Journal → List Entry → Journal
 joined j es = record j { entries = j.entries ++ es }
 
-on_by : (j : Journal) (o : Option Entry) (w : Entry → Option Journal) (x : Option (List Entry)) → ((e : Entry) → w e ≡ option_map (joined (with_entry j e)) x) →
+on_by : (j : Journal) (o : Option Entry) (w : Entry → Option Journal) (x : Option (List Entry)) → ((e : Entry) → w e ≡ option_map (joined (entered j e)) x) →
     option_and_then w o ≡ option_map (joined j) (option_and_then (λ e. option_map (λ es. e ∷ es) x) o)
 unfolding joined
 on_by j None w x is = refl
@@ -121,7 +121,7 @@ on_by j (Some e) w (Some es) is = is e ∙ ap (λ (ds : List Entry). let r : Opt
 on_read : (j : Journal) (lines : List (List ℕ)) → read_on j lines ≡ option_map (joined j) (entries_in lines)
 unfolding joined
 on_read j [] = ap (λ (ds : List Entry). let r : Option Journal = Some (record j { entries = ds }) in r) (sym (append-nil j.entries))
-on_read j (line ∷ lines) = on_by j (entry_in line) (λ e. read_on (with_entry j e) lines) (entries_in lines) (λ e. on_read (with_entry j e) lines)
+on_read j (line ∷ lines) = on_by j (entry_in line) (λ e. read_on (entered j e) lines) (entries_in lines) (λ e. on_read (entered j e) lines)
 
 same_from : (rules : Rules) (sessions : ℕ) (names : List (List ℕ)) (x : Option (List Entry)) → option_map (joined (new_journal rules names sessions)) x ≡ option_map (journal_from rules sessions names) x
 unfolding journal_from joined

@@ -5,10 +5,10 @@ use Rattle.std.specs.Coded.{Coded, code_by, coded×, coded⊎, coded_list, coded
 use Rattle.kl1_model.specs.declared.message.Message.{Message}
 use Rattle.kl1_model.specs.declared.message.Message.TheVariants.{Stop, Start, Abort, Allow}
 use Rattle.kl1_model.specs.declared.rules.Rules.{Rules}
-use Rattle.kl1_model.specs.declared.rules.Rules.TheVariants.{One, Two, Three}
+use Rattle.kl1_model.specs.declared.rules.Rules.TheVariants.{One, Two, Three, Four}
 use Rattle.kl1_model.specs.Term.{Term}
 use Rattle.kl1_model.specs.code.TermCode.{term_code}
-use Rattle.kl1_model_server.specs.Journal.{Entry, loads, starts, sends, steps, answers, Journal}
+use Rattle.kl1_model_server.specs.Journal.{Entry, loads, starts, sends, steps, answers, runs, Journal}
 use Rattle.kl1_journal_entries.specs.Lined.{Rows}
 
 -- a message as the number of `allow`, or a number for each other
@@ -41,9 +41,11 @@ abbrev pub rules_number : Rules → ℕ
 rules_number One = 1
 rules_number Two = 2
 rules_number Three = 3
+rules_number Four = 4
 
 -- the rules with a number
 abbrev pub rules_from : ℕ → Rules
+rules_from (suc (suc (suc (suc n)))) = Four
 rules_from (suc (suc (suc n))) = Three
 rules_from (suc (suc n)) = Two
 rules_from n = One
@@ -53,6 +55,7 @@ pub rules_same : (r : Rules) → rules_from (rules_number r) ≡ r
 rules_same One = refl
 rules_same Two = refl
 rules_same Three = refl
+rules_same Four = refl
 
 -- rules are stored as their number
 abbrev pub rules_code : Coded Rules
@@ -60,7 +63,7 @@ rules_code = code_by ℕ coded_ℕ rules_number rules_from rules_same
 
 -- the parts of an entry
 abbrev pub Parts : Type 0
-Parts = (List ℕ ⊎ ((ℕ × (ℕ × (ℕ × Term))) ⊎ (ℕ × (ℕ × Term)))) ⊎ ((ℕ × Message) ⊎ (ℕ × ℕ))
+Parts = (List ℕ ⊎ ((ℕ × (ℕ × (ℕ × Term))) ⊎ (ℕ × (ℕ × Term)))) ⊎ ((ℕ × Message) ⊎ ((ℕ × ℕ) ⊎ ℕ))
 
 -- an entry as its parts
 abbrev pub parts_of : Entry → Parts
@@ -68,7 +71,8 @@ parts_of (loads text) = inl (inl text)
 parts_of (starts a l h t) = inl (inr (inl (a, (l, (h, t)))))
 parts_of (answers n r t) = inl (inr (inr (n, (r, t))))
 parts_of (sends n m) = inr (inl (n, m))
-parts_of (steps g c) = inr (inr (g, c))
+parts_of (steps g c) = inr (inr (inl (g, c)))
+parts_of (runs n) = inr (inr (inr n))
 
 -- the entry of these parts
 abbrev pub entry_of_parts : Parts → Entry
@@ -76,7 +80,8 @@ entry_of_parts (inl (inl text)) = loads text
 entry_of_parts (inl (inr (inl p))) = starts p.0 p.1.0 p.1.1.0 p.1.1.1
 entry_of_parts (inl (inr (inr p))) = answers p.0 p.1.0 p.1.1
 entry_of_parts (inr (inl p)) = sends p.0 p.1
-entry_of_parts (inr (inr p)) = steps p.0 p.1
+entry_of_parts (inr (inr (inl p))) = steps p.0 p.1
+entry_of_parts (inr (inr (inr n))) = runs n
 
 -- an entry is that of its parts
 pub parts_same : (e : Entry) → entry_of_parts (parts_of e) ≡ e
@@ -85,10 +90,11 @@ parts_same (starts a l h t) = refl
 parts_same (answers n r t) = refl
 parts_same (sends n m) = refl
 parts_same (steps g c) = refl
+parts_same (runs n) = refl
 
 -- an entry is stored as its parts
 abbrev pub entry_code : Coded Entry
-entry_code = code_by Parts (coded⊎ (coded⊎ (coded_list coded_ℕ) (coded⊎ (coded× coded_ℕ (coded× coded_ℕ (coded× coded_ℕ term_code))) (coded× coded_ℕ (coded× coded_ℕ term_code)))) (coded⊎ (coded× coded_ℕ message_code) (coded× coded_ℕ coded_ℕ))) parts_of entry_of_parts parts_same
+entry_code = code_by Parts (coded⊎ (coded⊎ (coded_list coded_ℕ) (coded⊎ (coded× coded_ℕ (coded× coded_ℕ (coded× coded_ℕ term_code))) (coded× coded_ℕ (coded× coded_ℕ term_code)))) (coded⊎ (coded× coded_ℕ message_code) (coded⊎ (coded× coded_ℕ coded_ℕ) coded_ℕ))) parts_of entry_of_parts parts_same
 
 -- a journal is stored as its rules, sessions, names and entries
 abbrev pub journal_code : Coded Journal

@@ -1,15 +1,22 @@
 -- What was read so far of the text of a journal.
-use Rattle.std.specs.Prelude.{Option}
-use Rattle.kl1_model.specs.Event as model
-use Rattle.kl1_model_server.specs.Journal.{Entry, Journal}
+use Rattle.std.specs.Prelude.{Option, Some}
+use Rattle.kl1_model_server.specs.Journal.{Entry, runs, Journal}
 use Rattle.kl1_user_events.specs.Views.{event_of}
+use Rattle.kl1_journal_entries.specs.declared.deed.Deed.{Deed}
+use Rattle.kl1_journal_entries.specs.declared.deed.Deed.TheVariants as deed
+use Rattle.kl1_journal_entries.specs.Lined.{entry_of}
 use Rattle.kl1_journal_entries.specs.declared.reader.Found.{Found}
 use Rattle.kl1_journal_entries.specs.declared.reader.Begun.{Begun}
 use Rattle.kl1_journal_entries.specs.Reading.{read_text}
 
--- the event that was found
-abbrev pub found_event : Found → model.Event
-found_event f = event_of f.event
+-- the entry that asks for this, if there is one
+abbrev pub deed_in : Deed → Option Entry
+deed_in (deed.Event e) = entry_of (event_of e)
+deed_in (deed.Run n) = Some (runs n)
+
+-- the entry that asks for what was found, if there is one
+abbrev pub found_deed : Found → Option Entry
+found_deed f = deed_in f.deed
 
 -- the entry that was found
 abbrev pub found_entry : Found → Option Entry

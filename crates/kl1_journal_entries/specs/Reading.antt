@@ -3,7 +3,7 @@ use Rattle.std.specs.Prelude.{ℕ, ◌∷◌, [], List, Bool, false, if◌then�
 use Rattle.kl1_model.specs.declared.message.Message.TheVariants.{Stop, Start, Abort, Allow}
 use Rattle.kl1_model.specs.declared.rules.Rules.{Rules}
 use Rattle.kl1_model.specs.Line.{before_space, behind_space, number_in}
-use Rattle.kl1_model_server.specs.Journal.{Entry, sends, Journal, with_entry}
+use Rattle.kl1_model_server.specs.Journal.{Entry, sends, Journal, entered}
 use Rattle.kl1_model_server.specs.JournalText as model
 use Rattle.kl1_model_server.specs.JournalText.{Lines, of_two, entry_line, entry_in, lines_of, journal_after}
 use Rattle.kl1_journal_entries.specs.declared.heading.Heading.{Heading}
@@ -37,7 +37,7 @@ is_line_of (Some e) line = bytes_eq (entry_line e) line
 -- a journal with the entries of lines after its own, if each is an entry's
 abbrev pub read_on : Journal → List (List ℕ) → Option Journal
 read_on j [] = Some j
-read_on j (line ∷ lines) = option_and_then (λ e. read_on (with_entry j e) lines) (entry_in line)
+read_on j (line ∷ lines) = option_and_then (λ e. read_on (entered j e) lines) (entry_in line)
 
 -- the journal that this one is after the entries whose lines a text is, if it is
 abbrev pub read_text : Journal → List ℕ → Option Journal

@@ -12,6 +12,7 @@ entry_shown (entry.Load source) = model.loads source.now
 entry_shown (entry.Start allowance low high goal) = model.starts allowance low high (goal_in goal.now)
 entry_shown (entry.Control n m) = model.sends n.0 m
 entry_shown (entry.Reduce goal clause) = model.steps goal.0 clause.0
+entry_shown (entry.Run n) = model.runs n
 entry_shown (entry.Answer n report goal) = model.answers n.0 report (goal_in goal.now)
 
 -- the text that a start and an answer have is the print of their goal
@@ -20,4 +21,5 @@ HasPrint (entry.Load source) = Unit {0}
 HasPrint (entry.Start allowance low high goal) = print (goal_in goal.now) ≡ goal.now
 HasPrint (entry.Control n m) = Unit {0}
 HasPrint (entry.Reduce goal clause) = Unit {0}
+HasPrint (entry.Run n) = Unit {0}
 HasPrint (entry.Answer n report goal) = print (goal_in goal.now) ≡ goal.now

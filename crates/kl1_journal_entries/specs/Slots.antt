@@ -6,7 +6,7 @@ use Rattle.kl1_model.specs.declared.message.Message.TheVariants.{Stop, Start, Ab
 use Rattle.kl1_model.specs.Term.{Term, atom}
 use Rattle.kl1_model.specs.Print.{print}
 use Rattle.kl1_model.specs.Module.{Reading, good, bad, read_goal}
-use Rattle.kl1_model_server.specs.Journal.{Entry, loads, starts, sends, steps, answers}
+use Rattle.kl1_model_server.specs.Journal.{Entry, loads, starts, sends, steps, answers, runs}
 use Rattle.kl1_model_server.specs.laws.TextLaws.{HasLine, AreNames}
 use Rattle.kl1_journal_entries.specs.declared.packed_entry.PackedEntry.{PackedEntry}
 use Rattle.kl1_journal_entries.specs.declared.packed_entry.PackedEntry.TheVariants as slot
@@ -30,6 +30,7 @@ entry_of_whole (whole.Load source) = loads source.items
 entry_of_whole (whole.Start allowance low high goal) = starts allowance low high (goal_in goal.items)
 entry_of_whole (whole.Control n m) = sends n m
 entry_of_whole (whole.Step goal clause) = steps goal clause
+entry_of_whole (whole.Run n) = runs n
 entry_of_whole (whole.Answer n report goal) = answers n report (goal_in goal.items)
 
 -- the entry that is kept at a place
@@ -43,6 +44,7 @@ entry_at wholes (slot.Step goal clause) = steps goal clause
 entry_at wholes (slot.Stop n) = sends n Stop
 entry_at wholes (slot.Resume n) = sends n Start
 entry_at wholes (slot.Abort n) = sends n Abort
+entry_at wholes (slot.Run n) = runs n
 entry_at wholes (slot.Kept n) = kept_at (slice_get wholes n)
 
 -- a place in the row has numbers of 32 bits, or is the number of one of n entries that are kept whole
@@ -51,6 +53,7 @@ IsPlace n (slot.Step goal clause) = (goal < 2 ^ 32) × (clause < 2 ^ 32)
 IsPlace n (slot.Stop k) = k < 2 ^ 32
 IsPlace n (slot.Resume k) = k < 2 ^ 32
 IsPlace n (slot.Abort k) = k < 2 ^ 32
+IsPlace n (slot.Run k) = (1 ≤ k) × (k < 2 ^ 32)
 IsPlace n (slot.Kept k) = k < n
 
 -- the text that is kept of a start and an answer is the print of their goal
@@ -59,6 +62,7 @@ IsPrinted (whole.Load source) = Unit {0}
 IsPrinted (whole.Start allowance low high goal) = print (goal_in goal.items) ≡ goal.items
 IsPrinted (whole.Control n m) = Unit {0}
 IsPrinted (whole.Step goal clause) = Unit {0}
+IsPrinted (whole.Run n) = Unit {0}
 IsPrinted (whole.Answer n report goal) = print (goal_in goal.items) ≡ goal.items
 
 -- what is kept whole has a line, and of a goal it has the print

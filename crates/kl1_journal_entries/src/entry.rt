@@ -33,6 +33,8 @@ pub enum Entry<'a> {
         goal: GoalNo,
         clause: ClauseNo,
     },
+    /// First reductions, one after another: how many.
+    Run(u64),
     /// A goal, which is given as its print, as the answer to a report of a shoen, the first being 1.
     Answer {
         shoen: ShoenNo,
@@ -67,6 +69,7 @@ pub(crate) fn shown_whole(whole: &LongEntry) -> Entry<'_>
             goal: GoalNo(*goal),
             clause: ClauseNo(*clause),
         },
+        LongEntry::Run(reductions) => Entry::Run(*reductions),
         LongEntry::Answer {
             shoen,
             report,
@@ -105,6 +108,7 @@ pub(crate) fn shown_at<'a>(wholes: &'a [LongEntry], slot: PackedEntry) -> Entry<
         PackedEntry::Stop(shoen) => sent(shoen, Message::Stop),
         PackedEntry::Resume(shoen) => sent(shoen, Message::Start),
         PackedEntry::Abort(shoen) => sent(shoen, Message::Abort),
+        PackedEntry::Run(reductions) => Entry::Run(u64::from(reductions)),
         PackedEntry::Kept(place) => shown_whole(&wholes[place as usize]),
     }
 }

@@ -2,7 +2,7 @@
 
 ghost use Rattle.std.specs.Prelude.{◌≡◌, ◌+◌, ◌≤◌, ◌++◌, length, bytes_eq, option_map, IfSome};
 ghost use Rattle.kl1_model.specs.declared.limits.TheConstants.{MOST_SESSIONS, MOST_NAMES};
-ghost use Rattle.kl1_model_server.specs.JournalText.{version, first_line, rules_of, heading_in};
+ghost use Rattle.kl1_model_server.specs.JournalText.{version, heading_line, rules_of, heading_in};
 ghost use Rattle.kl1_text.specs.declared.short_bytes.TheConstants.{MOST_SHORT_BYTES};
 ghost use Rattle.kl1_journal_entries.specs.Reading.{heading_view};
 
@@ -29,6 +29,7 @@ pub(crate) fn version(rules: Rules) -> &'static [u8]
         Rules::One => b"1",
         Rules::Two => b"2",
         Rules::Three => b"3",
+        Rules::Four => b"4",
     }
 }
 
@@ -44,6 +45,9 @@ fn rules_of(word: &[u8]) -> Option<Rules>
     }
     if is_same(word, version(Rules::Three)) {
         return Some(Rules::Three);
+    }
+    if is_same(word, version(Rules::Four)) {
+        return Some(Rules::Four);
     }
     None
 }
@@ -62,7 +66,7 @@ fn put_short(out: &mut ShortBytes, bytes: &[u8])
 
 /// Whether a line is the first line of a journal of these rules with this number of open sessions and of names.
 fn is_first_line(line: &[u8], rules: Rules, sessions: u64, names: u64) -> bool
-    ensures { result ≡ bytes_eq (first_line rules sessions names) line.now }
+    ensures { result ≡ bytes_eq (heading_line rules sessions names) line.now }
 {
     let mut first = ShortBytes::new();
     put_short(&mut first, b"journal ");

@@ -4,11 +4,11 @@ ghost use Rattle.std.specs.Prelude.{◌≡◌, ◌<◌, ◌≤◌, [], IfOk, OnO
 ghost use Rattle.kl1_model.specs.declared.limits.TheConstants.{MOST_SESSIONS};
 ghost use Rattle.kl1_model_server.specs.Journal.{new_journal};
 ghost use Rattle.kl1_model_server.specs.laws.TextLaws.{AreNames, IsWritten};
-ghost use Rattle.kl1_journal_entries.specs.Lined.{with_prepared};
+ghost use Rattle.kl1_journal_entries.specs.Lined.{with_prepared, with_reduction};
 
 use crate::long_entry::LongEntry;
 use crate::packed_entry::PackedEntry;
-use crate::pending_entry::{EntryForm, PendingEntry};
+use crate::pending_entry::{EntryForm, PendingEntry, step_for};
 use kl1_model::Rules;
 use kl1_text::AtomText;
 use std::alloc::{AllocError, Global};
@@ -105,6 +105,23 @@ impl Journal {
                 self.wholes.push_reserved(whole);
                 self.slots.push_reserved(PackedEntry::Kept(place));
             }
+        }
+    }
+
+    /// Puts a reduction after the entries, or into the last of them, which is a run then: `run` is how many reductions the last run has
+    /// with it, or 0 if it is in no run. It takes no memory.
+    pub fn put_reduction(&mut self, goal: u64, clause: u64, run: u32)
+        requires { 0 < self.old.room }
+        ensures { self.new.journal ≡ with_reduction self.old.journal goal clause run }
+    {
+        if run == 0 {
+            self.put(step_for(goal, clause));
+        } else if run == 1 {
+            self.slots.push_reserved(PackedEntry::Run(1));
+        } else {
+            // The run as it was stands last.
+            self.slots.pop();
+            self.slots.push_reserved(PackedEntry::Run(run));
         }
     }
 

@@ -2,7 +2,7 @@
 
 ghost use Rattle.std.specs.Prelude.{◌≡◌, ◌<◌, ◌+◌, ◌*◌, ◌/◌, ◌%◌, ◌++◌, ◌∷◌, [], codes, decimal, bytes_eq, IfOk, OnOk};
 ghost use Rattle.kl1_model_server.specs.Journal.{sends};
-ghost use Rattle.kl1_model_server.specs.JournalText.{hex_digit, hex_text, message_line, name_line, first_line, entry_line};
+ghost use Rattle.kl1_model_server.specs.JournalText.{hex_digit, hex_text, message_line, name_line, heading_line, entry_line};
 ghost use Rattle.kl1_journal_entries.specs.Shown.{entry_shown, HasPrint};
 
 use crate::entry::Entry;
@@ -124,6 +124,10 @@ pub(crate) fn put_entry(out: &mut Vec<u8>, entry: Entry<'_>) -> Result<(), Alloc
             out.extend_from_slice(b"reduce ")?;
             put_two(out, goal.0, clause.0)
         }
+        Entry::Run(reductions) => {
+            out.extend_from_slice(b"run ")?;
+            put_number(out, reductions)
+        }
         Entry::Answer {
             shoen,
             report,
@@ -185,7 +189,7 @@ pub(crate) fn put_first(
     sessions: u64,
     names: u64,
 ) -> Result<(), AllocError>
-    ensures { OnOk result (out.new.items ≡ out.old.items ++ first_line rules sessions names) }
+    ensures { OnOk result (out.new.items ≡ out.old.items ++ heading_line rules sessions names) }
 {
     out.extend_from_slice(b"journal ")?;
     out.extend_from_slice(version(rules))?;

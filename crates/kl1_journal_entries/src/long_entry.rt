@@ -23,6 +23,8 @@ pub(crate) enum LongEntry {
         goal: u64,
         clause: u64,
     },
+    /// How many reductions the run has.
+    Run(u64),
     Answer {
         shoen: u64,
         report: u64,

@@ -1,13 +1,16 @@
 // Entries as their lines may be read.
 
-ghost use Rattle.std.specs.Prelude.{◌≡◌, ◌<◌, Some, option_map, IfOk, IsTrue};
+ghost use Rattle.std.specs.Prelude.{◌≡◌, ◌<◌, false, Some, option_map, option_and_then, bytes_eq, codes, IfOk, IsTrue};
 ghost use Rattle.std.specs.List.{list_all};
 ghost use Rattle.kl1_model.specs.Line.{before_space, behind_space, number_in};
-ghost use Rattle.kl1_model_server.specs.Journal.{event_in, sends, steps};
-ghost use Rattle.kl1_model_server.specs.JournalText.{is_hex_digit, hex_value, hex_bytes, load_in, of_two, start_in, answer_in, entry_by};
+ghost use Rattle.kl1_model_server.specs.Journal.{sends, steps};
+ghost use Rattle.kl1_model_server.specs.JournalText.{is_hex_digit, hex_value, hex_bytes, load_in, of_two, start_in, answer_in, run_of, entry_by};
 ghost use Rattle.kl1_user_events.specs.Views.{event_of};
 ghost use Rattle.kl1_journal_entries.specs.Reading.{two_in, message_by};
+ghost use Rattle.kl1_journal_entries.specs.Lined.{entry_of};
+ghost use Rattle.kl1_journal_entries.specs.Found.{deed_in};
 
+use crate::deed::Deed;
 use kl1_lines::{is_same, number_in, split_name};
 use kl1_model::Message;
 use kl1_read::{ReadFault, read_goal};
@@ -53,7 +56,7 @@ fn hex_bytes(alloc: Global, digits: &[u8]) -> Result<Vec<u8>, AllocError>
 
 /// A load of the source whose hexadecimal digits these are.
 fn load_in(alloc: Global, rest: &[u8]) -> Result<Option<Event>, AllocError>
-    ensures { IfOk result (λ e. option_map event_of e ≡ option_map event_in (load_in rest.now)) }
+    ensures { IfOk result (λ e. option_and_then entry_of (option_map event_of e) ≡ (load_in rest.now)) }
 {
     if !are_hex_digits(rest) {
         return Ok(None);
@@ -64,7 +67,7 @@ fn load_in(alloc: Global, rest: &[u8]) -> Result<Option<Event>, AllocError>
 
 /// A start of three numbers and a goal.
 fn start_in(alloc: Global, rest: &[u8]) -> Result<Option<Event>, AllocError>
-    ensures { IfOk result (λ e. option_map event_of e ≡ option_map event_in (start_in rest.now)) }
+    ensures { IfOk result (λ e. option_and_then entry_of (option_map event_of e) ≡ (start_in rest.now)) }
 {
     let (first, rest) = split_name(rest);
     let Some(allowance) = number_in(first) else {
@@ -92,7 +95,7 @@ fn start_in(alloc: Global, rest: &[u8]) -> Result<Option<Event>, AllocError>
 
 /// An answer of two numbers and a goal.
 fn answer_in(alloc: Global, rest: &[u8]) -> Result<Option<Event>, AllocError>
-    ensures { IfOk result (λ e. option_map event_of e ≡ option_map event_in (answer_in rest.now)) }
+    ensures { IfOk result (λ e. option_and_then entry_of (option_map event_of e) ≡ (answer_in rest.now)) }
 {
     let (first, rest) = split_name(rest);
     let Some(shoen) = number_in(first) else {
@@ -123,7 +126,7 @@ fn two_in(rest: &[u8]) -> Option<(u64, u64)>
 
 /// A reduction of two numbers.
 fn reduce_in(rest: &[u8]) -> Option<Event>
-    ensures { option_map event_of result ≡ option_map event_in (of_two steps rest.now) }
+    ensures { option_and_then entry_of (option_map event_of result) ≡ (of_two steps rest.now) }
 {
     let (goal, clause) = two_in(rest)?;
     Some(Event::Reduce {
@@ -134,7 +137,7 @@ fn reduce_in(rest: &[u8]) -> Option<Event>
 
 /// A message to a shoen.
 fn sent(shoen: u64, message: Message) -> Option<Event>
-    ensures { option_map event_of result ≡ option_map event_in (Some (sends shoen message)) }
+    ensures { option_and_then entry_of (option_map event_of result) ≡ (Some (sends shoen message)) }
 {
     Some(Event::Control {
         shoen: ShoenNo(shoen),
@@ -144,7 +147,7 @@ fn sent(shoen: u64, message: Message) -> Option<Event>
 
 /// The message that a line may be, by its first word and what is after that.
 fn message_in(word: &[u8], rest: &[u8]) -> Option<Event>
-    ensures { option_map event_of result ≡ option_map event_in (message_by word.now rest.now) }
+    ensures { option_and_then entry_of (option_map event_of result) ≡ (message_by word.now rest.now) }
 {
     if is_same(word, b"stop") {
         return sent(number_in(rest)?, Message::Stop);
@@ -162,9 +165,21 @@ fn message_in(word: &[u8], rest: &[u8]) -> Option<Event>
     None
 }
 
-/// The event that a line may be, by its first word and what is after that.
+/// A run of this number of reductions, which is at least 1.
+fn run_in(rest: &[u8]) -> Option<Deed>
+    ensures { option_and_then deed_in result ≡ option_and_then run_of (number_in rest.now) }
+{
+    let reductions = number_in(rest)?;
+    if reductions == 0 {
+        return None;
+    }
+    Some(Deed::Run(reductions))
+}
+
+/// The event that a line may be, by its first word and what is after that, if it is no run.
 fn event_by(alloc: Global, word: &[u8], rest: &[u8]) -> Result<Option<Event>, AllocError>
-    ensures { IfOk result (λ e. option_map event_of e ≡ option_map event_in (entry_by word.now rest.now)) }
+    requires { bytes_eq word.now (codes "run") ≡ false }
+    ensures { IfOk result (λ e. option_and_then entry_of (option_map event_of e) ≡ entry_by word.now rest.now) }
 {
     if is_same(word, b"reduce") {
         return Ok(reduce_in(rest));
@@ -181,10 +196,24 @@ fn event_by(alloc: Global, word: &[u8], rest: &[u8]) -> Result<Option<Event>, Al
     Ok(message_in(word, rest))
 }
 
-/// The event that a line may be.
-pub(crate) fn parse_entry(alloc: Global, line: &[u8]) -> Result<Option<Event>, AllocError>
-    ensures { IfOk result (λ e. option_map event_of e ≡ option_map event_in (entry_by (before_space line.now) (behind_space line.now))) }
+/// What a line may say, by its first word and what is after that.
+#[tactic(auto, using(crate::proofs::LinesRead::run_word))]
+fn deed_by(alloc: Global, word: &[u8], rest: &[u8]) -> Result<Option<Deed>, AllocError>
+    ensures { IfOk result (λ e. option_and_then deed_in e ≡ entry_by word.now rest.now) }
+{
+    if is_same(word, b"run") {
+        return Ok(run_in(rest));
+    }
+    match event_by(alloc, word, rest)? {
+        None => Ok(None),
+        Some(event) => Ok(Some(Deed::Event(event))),
+    }
+}
+
+/// What a line may say.
+pub(crate) fn parse_entry(alloc: Global, line: &[u8]) -> Result<Option<Deed>, AllocError>
+    ensures { IfOk result (λ e. option_and_then deed_in e ≡ entry_by (before_space line.now) (behind_space line.now)) }
 {
     let (word, rest) = split_name(line);
-    event_by(alloc, word, rest)
+    deed_by(alloc, word, rest)
 }

@@ -5,9 +5,9 @@ ghost use Rattle.kl1_model.specs.Print.{print};
 ghost use Rattle.kl1_model.specs.Event.{is_number};
 ghost use Rattle.kl1_model.specs.declared.limits.TheConstants.{MOST_LINE_BYTES};
 ghost use Rattle.kl1_model.specs.Sending.{may_send};
-ghost use Rattle.kl1_model_server.specs.Journal.{loads, starts, sends, steps, answers};
+ghost use Rattle.kl1_model_server.specs.Journal.{is_entry, loads, starts, sends, steps, answers, runs};
 ghost use Rattle.kl1_user_events.specs.Views.{event_of};
-ghost use Rattle.kl1_journal_entries.specs.Lined.{is_entry, is_lined, if_lined, lined_entry};
+ghost use Rattle.kl1_journal_entries.specs.Lined.{is_lined, if_lined, lined_entry};
 ghost use Rattle.kl1_journal_entries.specs.Reading.{is_line_of};
 
 use crate::entry::{shown_at, shown_whole};
@@ -246,6 +246,20 @@ pub fn step_for(goal: u64, clause: u64) -> PendingEntry
             clause: short_clause,
         }),
         _ => EntryForm::Long(LongEntry::Step { goal, clause }),
+    };
+    PendingEntry { form }
+}
+
+/// A run of reductions: in the row if how many they are has 32 bits.
+pub(crate) fn run_for(reductions: u64) -> PendingEntry
+    ensures { result ≡ if_lined (runs reductions) }
+{
+    if reductions == 0 || !is_number(reductions) {
+        return nothing();
+    }
+    let form = match u32::try_from(reductions) {
+        Ok(short) => EntryForm::Short(PackedEntry::Run(short)),
+        Err(_) => EntryForm::Long(LongEntry::Run(reductions)),
     };
     PendingEntry { form }
 }

@@ -1,58 +1,68 @@
 // The reader of a journal's text.
 
-ghost use Rattle.std.specs.Prelude.{◌≡◌, ◌≤◌, [], Some, IfOk, bytes_eq, option_map, option_and_then};
+ghost use Rattle.std.specs.Prelude.{◌≡◌, ◌≤◌, [], Some, IfOk, bytes_eq, option_map, option_and_then, is_some};
 ghost use Rattle.std.specs.List.{list_any};
 ghost use Rattle.kl1_model.specs.declared.limits.TheConstants.{MOST_SESSIONS, MOST_NAMES};
 ghost use Rattle.kl1_model.specs.Text.{is_built_in};
-ghost use Rattle.kl1_model_server.specs.Journal.{event_in};
 ghost use Rattle.kl1_model_server.specs.JournalText.{is_new_name, entry_in, journal_in};
-ghost use Rattle.kl1_user_events.specs.Views.{event_of};
+ghost use Rattle.kl1_journal_entries.specs.Lined.{if_lined};
 ghost use Rattle.kl1_journal_entries.specs.Reading.{read_text, read_after};
-ghost use Rattle.kl1_journal_entries.specs.Found.{found_event, found_entry, begun_at};
+ghost use Rattle.kl1_journal_entries.specs.Found.{deed_in, found_deed, found_entry, begun_at};
 
+use crate::deed::Deed;
 use crate::heading::{Heading, heading_of};
 use crate::journal::Journal;
 use crate::loose::parse_entry;
 use crate::name::name_of;
-use crate::pending_entry::{PendingEntry, entry_for};
+use crate::pending_entry::{PendingEntry, entry_for, run_for};
 use crate::text::next_line;
 use kl1_model::limits::MOST_LINE_BYTES;
 use kl1_text::AtomText;
-use kl1_user_events::Event;
 use std::alloc::{AllocError, Global};
 
 /// An entry that was read from its line.
 #[derive(Drop)]
 pub(crate) struct Found {
-    event: Event,
+    deed: Deed,
     prepared: PendingEntry,
+}
+
+/// The entry that asks for this, if there is one and it has a line that reads back.
+fn prepared_for(alloc: Global, deed: &Deed) -> Result<PendingEntry, AllocError>
+    ensures { IfOk result (λ entry. entry ≡ option_and_then if_lined (deed_in deed.now)) }
+{
+    match deed {
+        Deed::Event(event) => entry_for(alloc, event),
+        Deed::Run(reductions) => Ok(run_for(*reductions)),
+    }
 }
 
 /// The entry whose line this is, if there is one.
 fn found_in(alloc: Global, line: &[u8]) -> Result<Option<Found>, AllocError>
-    ensures event { IfOk result (λ found. option_map found_event found ≡ option_map event_in (entry_in line.now)) }
+    ensures deed { IfOk result (λ found. option_and_then found_deed found ≡ entry_in line.now) }
     ensures entry { IfOk result (λ found. option_map found_entry found ≡ option_map (λ e. Some e) (entry_in line.now)) }
 {
     if line.len() > MOST_LINE_BYTES {
         return Ok(None);
     }
-    let Some(event) = parse_entry(alloc, line)? else {
+    let Some(deed) = parse_entry(alloc, line)? else {
         return Ok(None);
     };
-    let prepared = entry_for(alloc, &event)?;
+    let prepared = prepared_for(alloc, &deed)?;
     if !prepared.is_canonical(alloc, line)? {
         return Ok(None);
     }
-    Ok(Some(Found { event, prepared }))
+    Ok(Some(Found { deed, prepared }))
 }
 
-/// The event of the entry whose line this is, if there is one. A line that isn't written as the journal's own is none.
-pub fn entry_of(alloc: Global, line: &[u8]) -> Result<Option<Event>, AllocError>
-    ensures { IfOk result (λ event. option_map event_of event ≡ option_map event_in (entry_in line.now)) }
+/// What the entry asks for whose line this is, if there is one. A line that isn't written as the journal's own is none.
+pub fn entry_of(alloc: Global, line: &[u8]) -> Result<Option<Deed>, AllocError>
+    ensures deed { IfOk result (λ deed. option_and_then deed_in deed ≡ entry_in line.now) }
+    ensures some { IfOk result (λ deed. is_some deed ≡ is_some (entry_in line.now)) }
 {
     match found_in(alloc, line)? {
         None => Ok(None),
-        Some(Found { event, .. }) => Ok(Some(event)),
+        Some(Found { deed, .. }) => Ok(Some(deed)),
     }
 }
 

@@ -21,7 +21,7 @@ right_on o a wrong next = refl
 
 -- an operation goes on with its left operand, and what that comes to with the right one
 left_on : (o : Operator) (s : Found Scanned) (right : ℕ → Found Scanned) (next : Number → ℕ → Found Number) → going_on (with_left o s right) next ≡ going_on s (λ x left. going_on (right left) (λ y more. next (applied o x y) more))
-left_on o (found a) right next = right_on o a.expression (right a.left) next
+left_on o (found a) right next = right_on o a.expression (right a.operators_left) next
 left_on o (awaits v) right next = refl
 left_on o wrong right next = refl
 
@@ -93,7 +93,7 @@ same_rights_with before now p o i e is = ap rights_of (e ∙ ap (λ q. now ++ q 
 
 -- an integer goes to the operations that wait
 pub number_on : {A : Type 0} (term : A → Term) (s : Found Scanned) (left : ℕ) (ps : List (Pending A)) (i j : ℤ) (e came : Found Number) →
-    j ≡ i → s ≡ found (record { expression = number i; left = left }) → after term ps (Value j) left ≡ came → going_on s (after term ps) ≡ e → came ≡ e
+    j ≡ i → s ≡ found (record { expression = number i; operators_left = left }) → after term ps (Value j) left ≡ came → going_on s (after term ps) ≡ e → came ≡ e
 number_on term s left ps i j e came same is comes value = sym comes ∙ ap (λ z. after term ps (Value z) left) same ∙ ap (λ q. going_on q (after term ps)) (sym is) ∙ value
 
 -- an operation goes on with its left operand

@@ -9,7 +9,7 @@ use Rattle.kl1_model.specs.Found.{Found, found, awaits, wrong}
 -- what is found in a part, if there may be this many operators, variables have these numbers, and these terms stand there
 abbrev pub part_scan : {V A : Type 0} → (V → ℕ) → (A → Term) → ℕ → Part V A → Found Scanned
 part_scan number_of term n (Variable v) = awaits (number_of v)
-part_scan number_of term n (Integer i) = found (record { expression = number i; left = n })
+part_scan number_of term n (Integer i) = found (record { expression = number i; operators_left = n })
 part_scan number_of term zero (Operation o a b) = wrong
 part_scan number_of term (suc n) (Operation o a b) = with_left o (scan n (term a)) (λ left. scan left (term b))
 part_scan number_of term n Other = wrong

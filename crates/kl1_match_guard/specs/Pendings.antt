@@ -15,7 +15,7 @@ use Rattle.kl1_model.specs.Found.{Found, found, awaits, wrong}
 
 -- what a scan comes to, if what it finds goes further on as a number, with the operators that there might still have been
 abbrev pub going_on : Found Scanned → (Number → ℕ → Found Number) → Found Number
-going_on (found a) next = next (compute a.expression) a.left
+going_on (found a) next = next (compute a.expression) a.operators_left
 going_on (awaits v) next = awaits v
 going_on wrong next = wrong
 

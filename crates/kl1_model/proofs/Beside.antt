@@ -131,7 +131,7 @@ right_moved last o e (awaits v) = refl
 right_moved last o e wrong = refl
 
 left_moved : (last : ℕ) (o : Operator) (x : Found Scanned) (right other : ℕ → Found Scanned) → ((m : ℕ) → other m ≡ scan_moved last (right m)) → with_left o (scan_moved last x) other ≡ scan_moved last (with_left o x right)
-left_moved last o (found e) right other f = ap (with_right o e.expression) (f e.left) ∙ right_moved last o e.expression (right e.left)
+left_moved last o (found e) right other f = ap (with_right o e.expression) (f e.operators_left) ∙ right_moved last o e.expression (right e.operators_left)
 left_moved last o (awaits v) right other f = refl
 left_moved last o wrong right other f = refl
 

@@ -6,7 +6,7 @@ use Rattle.std.proofs.lemmas.Slice.Eq.{bytes_eq-Decides}
 use Rattle.std.specs.Prelude.{bytes_eq}
 use Rattle.std.specs.Ordering.{int_eq}
 use Rattle.kl1_model.specs.Term.{Term, variable, integer, atom, structure, Terms, none, more}
-use Rattle.kl1_model.specs.Unify.{Equation, argument_equations, goes_on, mgu}
+use Rattle.kl1_model.specs.Unify.{Equation, argument_equations, remains, mgu}
 use Rattle.kl1_model.specs.laws.UnifyLaws.{equate, EqualSidesAreDropped}
 use Rattle.kl1_model.proofs.TermFacts.{same_term-true}
 use Rattle.kl1_model.proofs.UnifyRule.{stepped}
@@ -14,9 +14,9 @@ use Rattle.kl1_model.proofs.UnifySteps.{arguments_decide}
 
 mutual
   dropped : (t : Term) (es : List Equation) → mgu (equate t t ∷ es) ≡ mgu es
-  dropped (variable n) es = stepped (variable n) (variable n) es (goes_on es) (cond-true (n == n) _ _ (eq-eqb n n refl))
-  dropped (integer i) es = stepped (integer i) (integer i) es (goes_on es) (cond-true (int_eq i i) _ _ ((Decides-int_eq i i).1 refl))
-  dropped (atom a) es = stepped (atom a) (atom a) es (goes_on es) (cond-true (bytes_eq a a) _ _ ((bytes_eq-Decides a a).1 refl))
+  dropped (variable n) es = stepped (variable n) (variable n) es (remains es) (cond-true (n == n) _ _ (eq-eqb n n refl))
+  dropped (integer i) es = stepped (integer i) (integer i) es (remains es) (cond-true (int_eq i i) _ _ ((Decides-int_eq i i).1 refl))
+  dropped (atom a) es = stepped (atom a) (atom a) es (remains es) (cond-true (bytes_eq a a) _ _ ((bytes_eq-Decides a a).1 refl))
   dropped (structure f ts) es = arguments_decide f ts ts es refl ∙ each_dropped ts es
 
   each_dropped : (ts : Terms) (es : List Equation) → mgu (argument_equations ts ts es) ≡ mgu es

@@ -3,8 +3,8 @@ use Rattle.std.specs.Prelude.{◌≡◌, ℕ, ◌==◌, Bool, true, false, if◌
 use Rattle.std.proofs.Common.{refl}
 use Rattle.kl1_model.specs.declared.limits.TheConstants.{MOST_VARIABLE_BYTES}
 use Rattle.kl1_model.specs.Name.{is_small_letter}
-use Rattle.kl1_model.specs.Token.{variable_token, minus_token, is_variable_start, is_digit, is_blank, word_of, behind_word, digits_of, behind_digits, number_of, quoted_from, behind_comment, sign_at, Front, line_end, blank, token, first_is, bounded, name_front, digits_front, dot_front, front_of}
-use Rattle.kl1_model.specs.code.Fronts.{quoted_front, comment_front, sign_front}
+use Rattle.kl1_model.specs.Token.{variable_token, minus_token, is_variable_start, is_digit, is_blank, word_of, behind_word, digits_of, behind_digits, number_of, behind_comment, sign_at, Front, line_end, blank, token, first_is, bounded, name_front, digits_front, dot_front, front_of}
+use Rattle.kl1_model.specs.code.Fronts.{quoted_front, comment_front, sign_front, quoted_from}
 
 -- what a byte begins
 pub data Start : Type 0 where

@@ -6,8 +6,8 @@ use Rattle.kl1_model.specs.declared.sign.Sign.{Sign}
 use Rattle.kl1_model.specs.declared.sign.Sign.TheVariants.{Neck}
 use Rattle.kl1_model.specs.Text.{is_name_byte}
 use Rattle.kl1_model.specs.Name.{is_word_byte}
-use Rattle.kl1_model.specs.Token.{Token, Front, finished, broken, line_end, blank, token, is_digit, is_source_byte, behind_word, behind_digits, quoted_from, behind_comment, dot_front, sign_at, spelling_of, front_of, Tokens, tokens_by, tokens_within}
-use Rattle.kl1_model.specs.code.Fronts.{quoted_front, comment_front, sign_front}
+use Rattle.kl1_model.specs.Token.{Token, Front, finished, broken, line_end, blank, token, is_digit, is_source_byte, behind_word, behind_digits, behind_comment, dot_front, sign_at, spelling_of, front_of, Tokens, tokens_by, tokens_within}
+use Rattle.kl1_model.specs.code.Fronts.{quoted_front, comment_front, sign_front, quoted_from}
 use Rattle.kl1_model.specs.laws.ReadLaws.{tokens_at, LeavesLess}
 use Rattle.kl1_model.proofs.LexStarts.{Start, ends_line, blanks, comments, names, variables, numbers, quotes, dots, subtracts, signs_or_nothing, start_of, front_by, front_starts}
 

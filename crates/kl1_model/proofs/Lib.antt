@@ -38,6 +38,7 @@ pub mod OpenSections
 pub mod TermStays
 pub mod ReadClauses
 pub mod ControlStays
+pub mod LimitFacts
 pub mod TreeKeeps
 pub mod TreeGrows
 pub mod TreeSteps

@@ -37,15 +37,15 @@ record Finds (t : Term) (most : ℕ) (e : ArithmeticExpression) (left : ℕ) : T
 same_scanned : (x y : Scanned) → found x ≡ found y → x ≡ y
 same_scanned x y e = cc
 
-found_parts : {a b : ArithmeticExpression} {m n : ℕ} → ◌≡◌ {A = Found Scanned} (found (record { expression = a; left = m })) (found (record { expression = b; left = n })) → (a ≡ b) × (m ≡ n)
+found_parts : {a b : ArithmeticExpression} {m n : ℕ} → ◌≡◌ {A = Found Scanned} (found (record { expression = a; operators_left = m })) (found (record { expression = b; operators_left = n })) → (a ≡ b) × (m ≡ n)
 found_parts {a} {b} {m} {n} e =
-    let same : ◌≡◌ {A = Scanned} (record { expression = a; left = m }) (record { expression = b; left = n }) = same_scanned (record { expression = a; left = m }) (record { expression = b; left = n }) e in
-    (ap (λ (x : Scanned). x.expression) same, ap (λ (x : Scanned). x.left) same)
+    let same : ◌≡◌ {A = Scanned} (record { expression = a; operators_left = m }) (record { expression = b; operators_left = n }) = same_scanned (record { expression = a; operators_left = m }) (record { expression = b; operators_left = n }) e in
+    (ap (λ (x : Scanned). x.expression) same, ap (λ (x : Scanned). x.operators_left) same)
 
-by_right : (o : Operator) (t u : Term) (most m left : ℕ) (a e : ArithmeticExpression) (y : Found Scanned) → Finds t most a m → with_right o a y ≡ found (record { expression = e; left = left }) → ((b : ArithmeticExpression) (n : ℕ) → y ≡ found (record { expression = b; left = n }) → Finds u m b n) → Finds (structure (operator_name o) (more t (more u none))) (suc most) e left
+by_right : (o : Operator) (t u : Term) (most m left : ℕ) (a e : ArithmeticExpression) (y : Found Scanned) → Finds t most a m → with_right o a y ≡ found (record { expression = e; operators_left = left }) → ((b : ArithmeticExpression) (n : ℕ) → y ≡ found (record { expression = b; operators_left = n }) → Finds u m b n) → Finds (structure (operator_name o) (more t (more u none))) (suc most) e left
 by_right o t u most m left a e (found z) first h k =
     let p = found_parts h in
-    let second = k z.expression z.left refl in
+    let second = k z.expression z.operators_left refl in
     let one = first.counts in
     let two = second.counts in
     rw (← p.0) (rw (← p.1) (record {
@@ -55,19 +55,19 @@ by_right o t u most m left a e (found z) first h k =
 by_right o t u most m left a e (awaits v) first h k = absurd (cc)
 by_right o t u most m left a e wrong first h k = absurd (cc)
 
-by_left : (o : Operator) (t u : Term) (most left : ℕ) (e : ArithmeticExpression) (x : Found Scanned) → with_left o x (λ m. scan m u) ≡ found (record { expression = e; left = left }) → ((a : ArithmeticExpression) (m : ℕ) → x ≡ found (record { expression = a; left = m }) → Finds t most a m) → ((m : ℕ) (b : ArithmeticExpression) (n : ℕ) → scan m u ≡ found (record { expression = b; left = n }) → Finds u m b n) → Finds (structure (operator_name o) (more t (more u none))) (suc most) e left
-by_left o t u most left e (found z) h f g = by_right o t u most z.left left z.expression e (scan z.left u) (f z.expression z.left refl) h (g z.left)
+by_left : (o : Operator) (t u : Term) (most left : ℕ) (e : ArithmeticExpression) (x : Found Scanned) → with_left o x (λ m. scan m u) ≡ found (record { expression = e; operators_left = left }) → ((a : ArithmeticExpression) (m : ℕ) → x ≡ found (record { expression = a; operators_left = m }) → Finds t most a m) → ((m : ℕ) (b : ArithmeticExpression) (n : ℕ) → scan m u ≡ found (record { expression = b; operators_left = n }) → Finds u m b n) → Finds (structure (operator_name o) (more t (more u none))) (suc most) e left
+by_left o t u most left e (found z) h f g = by_right o t u most z.operators_left left z.expression e (scan z.operators_left u) (f z.expression z.operators_left refl) h (g z.operators_left)
 by_left o t u most left e (awaits v) h f g = absurd (cc)
 by_left o t u most left e wrong h f g = absurd (cc)
 
 mutual
-  scan_finds : (most : ℕ) (t : Term) (e : ArithmeticExpression) (left : ℕ) → scan most t ≡ found (record { expression = e; left = left }) → Finds t most e left
+  scan_finds : (most : ℕ) (t : Term) (e : ArithmeticExpression) (left : ℕ) → scan most t ≡ found (record { expression = e; operators_left = left }) → Finds t most e left
   scan_finds most (variable v) e left h = absurd (cc)
   scan_finds most (integer i) e left h = let p = found_parts h in rw (← p.0) (rw (← p.1) (record { writes = refl; counts = omega arith }))
   scan_finds most (atom a) e left h = absurd (cc)
   scan_finds most (structure f ts) e left h = operation_finds (operator_named f) f refl most ts e left h
 
-  operation_finds : (x : Option Operator) (f : List ℕ) → operator_named f ≡ x → (most : ℕ) (ts : Terms) (e : ArithmeticExpression) (left : ℕ) → scan_operation x most ts ≡ found (record { expression = e; left = left }) → Finds (structure f ts) most e left
+  operation_finds : (x : Option Operator) (f : List ℕ) → operator_named f ≡ x → (most : ℕ) (ts : Terms) (e : ArithmeticExpression) (left : ℕ) → scan_operation x most ts ≡ found (record { expression = e; operators_left = left }) → Finds (structure f ts) most e left
   operation_finds None f is most ts e left h = absurd (cc)
   operation_finds (Some o) f is zero ts e left h = absurd (cc)
   operation_finds (Some o) f is (suc most) none e left h = absurd (cc)
@@ -79,8 +79,8 @@ mutual
 
 -- ---- and back
 
-written : (e : ArithmeticExpression) (most left : ℕ) → most ≡ operators_of e + left → scan most (formula_term e) ≡ found (record { expression = e; left = left })
-written (number i) most left h = let same : most ≡ left = omega (arith, h) in ap (λ n. found (record { expression = number i; left = n })) same
+written : (e : ArithmeticExpression) (most left : ℕ) → most ≡ operators_of e + left → scan most (formula_term e) ≡ found (record { expression = e; operators_left = left })
+written (number i) most left h = let same : most ≡ left = omega (arith, h) in ap (λ n. found (record { expression = number i; operators_left = n })) same
 written (operation o a b) most left h =
     let less : most ≡ suc (operators_of a + (operators_of b + left)) = omega (arith, h) in
     ap (λ n. scan n (formula_term (operation o a b))) less

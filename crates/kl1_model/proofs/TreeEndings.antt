@@ -1,17 +1,16 @@
 -- How shoens end: whose lives change, and whose goals go.
 use Rattle.std.proofs.Common.{◌≡◌, ℕ, suc, ◌==◌, ◌||◌, not, ◌&&◌, Bool, true, false, if◌then◌else◌, List, [], ◌∷◌, refl, sym, ap, ap₂, ◌∙◌}
-use Rattle.std.specs.Prelude.{nat_lt, map, Option, Some, None}
+use Rattle.std.specs.Prelude.{map, Option, Some, None}
 use Rattle.std.specs.List.{AllByRecursion}
 use Rattle.std.proofs.lemmas.Bool.{and_parts}
-use Rattle.kl1_model.specs.declared.limits.TheConstants.{MOST_REPORTS}
 use Rattle.kl1_model.specs.declared.life.Life.{Life}
 use Rattle.kl1_model.specs.declared.life.Life.TheVariants.{Terminated, Aborted}
-use Rattle.kl1_model.specs.Term.{Term, variable, integer, atom, structure, occurs}
+use Rattle.kl1_model.specs.Term.{Term, variable, integer, atom, structure}
 use Rattle.kl1_model.specs.Meaning.{nil, cell}
 use Rattle.kl1_model.specs.Module.{is_among}
 use Rattle.kl1_model.specs.State.{Task, monitor, reduces, substitutes, Goal, Shoen, State, shoen_at, replace_in_task, replace_in_goal, replace_in_shoen, replace_in_state, change_shoen, is_monitor, is_living}
 use Rattle.kl1_model.specs.Tree.{path, is_on_path}
-use Rattle.kl1_model.specs.Report.{broken_at, reported_at, report, report_each, closed_at, close, exhausted_report, terminated_report, aborted_report}
+use Rattle.kl1_model.specs.Report.{broken_at, has_made_last, report_tail, reported_on, reported_at, report, report_each, closed_at, close, exhausted_report, terminated_report, aborted_report}
 use Rattle.kl1_model.specs.Ending.{has_goal, has_living_child, lives, ends_now, without_monitor, ended_at, terminate, terminate_each, ending_of, settle, has_reached, newly_exhausted, after_reduction, ended_below, abort}
 use Rattle.kl1_model.specs.code.Steps.{report_of, close_of, aborted_below}
 use Rattle.kl1_model.specs.laws.TreeLaws.{lives_of, numbers_of, AbortEndsAllBelow, AbortRemovesAllBelow, TerminationsEnd, TerminationsEndAlone, EndingHaveNoGoals, ReachedGoOn}
@@ -88,17 +87,17 @@ leaves_replace v t s = record { marks = replaced_marks v t s.shoens; goals = rep
 leaves_broken : (n : ℕ) (s : State) → Leaves s (broken_at n s)
 leaves_broken n s = leaves_change n (λ h. record h { is_broken = true }) s (λ h. refl)
 
-reported_leaves : (n : ℕ) (m t : Term) (s : State) → Leaves s (reported_at n m t s)
-reported_leaves n m (variable v) s =
+told_leaves : (n : ℕ) (m : Term) (o : Option ℕ) (s : State) → Leaves s (reported_on n m o s)
+told_leaves n m None s = leaves_broken n s
+told_leaves n m (Some v) s =
     let next = suc s.last_variable in
     let bound = record (replace_in_state v (cell m (variable next)) s) { last_variable = next; reports = suc s.reports } in
     let k = leaves_replace v (cell m (variable next)) s in
     let b : Leaves s bound = record { marks = k.marks; goals = k.goals; posts = k.posts } in
-    leaves_if (occurs v m || not (nat_lt s.reports MOST_REPORTS)) s (broken_at n s) (change_shoen n (λ h. record h { tail = variable next }) bound) (leaves_broken n s)
-    (leaves_both s bound (change_shoen n (λ h. record h { tail = variable next }) bound) b (leaves_change n (λ h. record h { tail = variable next }) bound (λ h. refl)))
-reported_leaves n m (integer i) s = leaves_broken n s
-reported_leaves n m (atom a) s = leaves_broken n s
-reported_leaves n m (structure f ts) s = leaves_broken n s
+    leaves_both s bound (change_shoen n (λ h. record h { tail = variable next }) bound) b (leaves_change n (λ h. record h { tail = variable next }) bound (λ h. refl))
+
+reported_leaves : (n : ℕ) (m t : Term) (s : State) → Leaves s (reported_at n m t s)
+reported_leaves n m t s = told_leaves n m (report_tail (has_made_last s) m t) s
 
 report_of_leaves : (o : Option Shoen) (n : ℕ) (m : Term) (s : State) → Leaves s (report_of o n m s)
 report_of_leaves None n m s = leaves_same s

@@ -1,13 +1,12 @@
 -- Each event leaves the shoens of an account a tree, and charges just the path of the goal that it reduces.
 use Rattle.std.proofs.Common.{not, ◌||◌, ◌≡◌, ◌≤◌, ◌<◌, ℕ, zero, suc, ◌+◌, ◌==◌, Bool, true, false, if◌then◌else◌, List, [], ◌∷◌, ◌++◌, refl, sym, ap, ap₂, ◌∙◌, subst, arith}
-use Rattle.std.specs.Prelude.{◌&&◌, nat_le, length, get_or, count_by, cond, Option, Some, None}
+use Rattle.std.specs.Prelude.{◌&&◌, length, get_or, count_by, cond, Option, Some, None}
 use Rattle.std.specs.List.{AllByRecursion, list_any}
 use Rattle.std.proofs.Math.Bool.{or-true}
 use Rattle.std.proofs.lemmas.Bool.{false≢true, eqb-true}
 use Rattle.std.proofs.lemmas.List.{get_or_append_left, append-nil}
 use Rattle.std.proofs.lemmas.List.Sums.{sum_by-cons}
 use Rattle.std.proofs.lemmas.Option.{none-some, same_Some}
-use Rattle.kl1_model.specs.declared.limits.TheConstants.{MOST_NAMES}
 use Rattle.kl1_model.specs.Term.{Term, variable, atom, Replacement}
 use Rattle.kl1_model.specs.Unify.{mgu}
 use Rattle.kl1_model.specs.Module.{is_among}
@@ -15,7 +14,7 @@ use Rattle.kl1_model.specs.Match.{Candidate}
 use Rattle.kl1_model.specs.State.{Task, reduces, substitutes, Goal, Shoen, State, has_substitutes, shoen_at, goal_at, without_goal, with_name}
 use Rattle.kl1_model.specs.Tree.{parents_of, path_within, path, is_on_path, charged_of, charge, is_blocking_at}
 use Rattle.kl1_model.specs.Control.{Control}
-use Rattle.kl1_model.specs.Event.{with_entry}
+use Rattle.kl1_model.specs.Event.{are_too_many, with_entry, with_reduction}
 use Rattle.kl1_model.specs.Report.{report, is_reported, exception, exception_with, failure, exhaustion, started_report, exhausted_report}
 use Rattle.kl1_model.specs.Ending.{settle, after_reduction}
 use Rattle.kl1_model.specs.Opening.{with_shoen, open_shoen, has_room_for_child, child_shoen, open_child}
@@ -250,7 +249,7 @@ move_follows g t (unifies a b) s = unified_follows g t (mgu (equation a b)) s s 
 move_follows g t (names text a) s =
     let u = record s { names = with_name s.names text } in
     let k : Keeps s u = record { parents = refl; work = refl; last = refl; owners = λ n w. w; numbered = λ n w. w } in
-    follows_or (nat_le (length (with_name s.names text)) MOST_NAMES) g t s (unified g t (mgu (equation a (atom text))) u) (unified_follows g t (mgu (equation a (atom text))) s u k)
+    follows_or (not (are_too_many (with_name s.names text))) g t s (unified g t (mgu (equation a (atom text))) u) (unified_follows g t (mgu (equation a (atom text))) s u k)
 move_follows g t (opens o) s =
     follows_or (has_room_for_child s g.shoen) g t s (open_child s g.shoen o) (opening_follows g.shoen (child_shoen s g.shoen o) o.goal s refl (λ few. few))
 move_follows g t goes s = follows_kept g.shoen s s (keeps_same s)
@@ -282,6 +281,9 @@ charged_kept s t a k = ap₂ (λ ps ws. count_by (λ w. is_among a (path_within 
 
 pub with_entry_keeps : (s : State) → Keeps s (with_entry s)
 with_entry_keeps s = record { parents = refl; work = refl; last = refl; owners = λ n a. a; numbered = λ n a. a }
+
+pub with_reduction_keeps : (in_run : Bool) (s : State) → Keeps s (with_reduction in_run s)
+with_reduction_keeps in_run s = record { parents = refl; work = refl; last = refl; owners = λ n a. a; numbered = λ n a. a }
 
 found_case : (c : Bool) (n : ℕ) (g h : Goal) (o : Option Goal) → (if c then Some g else o) ≡ Some h → g.shoen ≤ n → (o ≡ Some h → h.shoen ≤ n) → h.shoen ≤ n
 found_case true n g h o e few f = subst (λ (k : Goal). k.shoen ≤ n) (same_Some g h e) few

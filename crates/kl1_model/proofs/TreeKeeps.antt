@@ -1,17 +1,16 @@
 -- What effects keep of the tree of shoens and of charges.
-use Rattle.std.proofs.Common.{◌≡◌, ◌≤◌, ℕ, suc, ◌==◌, ◌||◌, not, ◌&&◌, Bool, true, false, if◌then◌else◌, List, [], ◌∷◌, refl, sym, ap, ap₂, ◌∙◌, subst}
-use Rattle.std.specs.Prelude.{nat_lt, map, filter, length, get_or, Option, Some, None}
+use Rattle.std.proofs.Common.{◌≡◌, ◌≤◌, ℕ, suc, ◌==◌, not, ◌&&◌, Bool, true, false, if◌then◌else◌, List, [], ◌∷◌, refl, sym, ap, ap₂, ◌∙◌, subst}
+use Rattle.std.specs.Prelude.{map, filter, length, get_or, Option, Some, None}
 use Rattle.std.specs.List.{AllByRecursion}
-use Rattle.kl1_model.specs.declared.limits.TheConstants.{MOST_REPORTS}
 use Rattle.kl1_model.specs.declared.life.Life.TheVariants.{Terminated, Aborted}
 use Rattle.kl1_model.specs.declared.message.Message.{Message}
 use Rattle.kl1_model.specs.declared.message.Message.TheVariants.{Stop, Start, Abort, Allow}
-use Rattle.kl1_model.specs.Term.{Term, variable, integer, atom, structure, Replacement, occurs}
+use Rattle.kl1_model.specs.Term.{Term, variable, integer, atom, structure, Replacement}
 use Rattle.kl1_model.specs.Meaning.{nil, cell}
 use Rattle.kl1_model.specs.State.{Goal, Shoen, State, shoen_at, replace_in_goal, replace_in_shoen, replace_in_state, replace_all, change_shoen, is_living}
 use Rattle.kl1_model.specs.Tree.{parents_of, path, is_on_path}
 use Rattle.kl1_model.specs.Control.{Control, awaits_message, tells, tells_other, ends, breaks_off}
-use Rattle.kl1_model.specs.Report.{broken_at, reported_at, report, report_each, closed_at, close, exception, illegal_input, exhausted_report, terminated_report, aborted_report, stopped_report, resumed_report}
+use Rattle.kl1_model.specs.Report.{broken_at, has_made_last, report_tail, reported_on, reported_at, report, report_each, closed_at, close, exception, illegal_input, exhausted_report, terminated_report, aborted_report, stopped_report, resumed_report}
 use Rattle.kl1_model.specs.Ending.{without_monitor, ended_at, terminate, terminate_each, ending_of, settle, newly_exhausted, after_reduction, ended_below, abort}
 use Rattle.kl1_model.specs.Reduction.{obeyed, with_control, heard}
 use Rattle.kl1_model.specs.code.Steps.{report_of, close_of, aborted_below, stopped_of, resumed_of, allowed_more}
@@ -98,17 +97,17 @@ keeps_all (r ∷ rs) s = keeps_both s (replace_in_state r.number r.by s) (replac
 pub keeps_broken : (n : ℕ) (s : State) → Keeps s (broken_at n s)
 keeps_broken n s = keeps_change n (λ h. record h { is_broken = true }) s (λ h. refl) (λ h. refl)
 
-reported_keeps : (n : ℕ) (m t : Term) (s : State) → Keeps s (reported_at n m t s)
-reported_keeps n m (variable v) s =
+told_keeps : (n : ℕ) (m : Term) (o : Option ℕ) (s : State) → Keeps s (reported_on n m o s)
+told_keeps n m None s = keeps_broken n s
+told_keeps n m (Some v) s =
     let next = suc s.last_variable in
     let bound = record (replace_in_state v (cell m (variable next)) s) { last_variable = next; reports = suc s.reports } in
     let k = keeps_replace v (cell m (variable next)) s in
     let b : Keeps s bound = record { parents = k.parents; work = k.work; last = k.last; owners = k.owners; numbered = k.numbered } in
-    keeps_if (occurs v m || not (nat_lt s.reports MOST_REPORTS)) s (broken_at n s) (change_shoen n (λ h. record h { tail = variable next }) bound) (keeps_broken n s)
-    (keeps_both s bound (change_shoen n (λ h. record h { tail = variable next }) bound) b (keeps_change n (λ h. record h { tail = variable next }) bound (λ h. refl) (λ h. refl)))
-reported_keeps n m (integer i) s = keeps_broken n s
-reported_keeps n m (atom a) s = keeps_broken n s
-reported_keeps n m (structure f ts) s = keeps_broken n s
+    keeps_both s bound (change_shoen n (λ h. record h { tail = variable next }) bound) b (keeps_change n (λ h. record h { tail = variable next }) bound (λ h. refl) (λ h. refl))
+
+reported_keeps : (n : ℕ) (m t : Term) (s : State) → Keeps s (reported_at n m t s)
+reported_keeps n m t s = told_keeps n m (report_tail (has_made_last s) m t) s
 
 report_of_keeps : (o : Option Shoen) (n : ℕ) (m : Term) (s : State) → Keeps s (report_of o n m s)
 report_of_keeps None n m s = keeps_same s

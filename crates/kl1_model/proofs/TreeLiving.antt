@@ -1,10 +1,10 @@
 -- Each event leaves goals and monitors to living shoens alone.
-use Rattle.std.proofs.Common.{◌≡◌, ◌≤◌, ℕ, suc, ◌+◌, ◌-◌, ◌==◌, ◌&&◌, Bool, true, false, if◌then◌else◌, List, [], ◌∷◌, ◌++◌, refl, ap, ◌∙◌, subst, arith}
+use Rattle.std.proofs.Common.{◌≡◌, ◌≤◌, ℕ, suc, ◌+◌, ◌-◌, ◌==◌, not, ◌&&◌, Bool, true, false, if◌then◌else◌, List, [], ◌∷◌, ◌++◌, refl, ap, ◌∙◌, subst, arith}
 use Rattle.std.specs.Prelude.{nat_lt, nat_le, length, Option, Some, None, is_some}
 use Rattle.std.specs.List.{AllByRecursion}
 use Rattle.std.proofs.lemmas.Bool.{false≢true, eq-eqb, ne_eqb}
 use Rattle.std.proofs.lemmas.Option.{none-some, same_Some}
-use Rattle.kl1_model.specs.declared.limits.TheConstants.{MOST_NAMES, MOST_MODULES, MOST_SESSIONS, MOST_SOURCE_BYTES, MOST_ENTRIES}
+use Rattle.kl1_model.specs.declared.limits.TheConstants.{MOST_MODULES, MOST_SESSIONS, MOST_SOURCE_BYTES}
 use Rattle.kl1_model.specs.declared.message.Message.{Message}
 use Rattle.kl1_model.specs.declared.message.Message.TheVariants.{Stop, Start, Abort, Allow}
 use Rattle.kl1_model.specs.Term.{Term, variable, integer, atom, structure, Replacement}
@@ -16,19 +16,20 @@ use Rattle.kl1_model.specs.Match.{Candidate, module_of}
 use Rattle.kl1_model.specs.State.{Task, reduces, substitutes, Goal, Origin, Shoen, State, has_substitutes, goal_at, shoen_at, names_of, names_of_module, with_name, with_names, replace_in_state, replace_all, change_shoen, without_goal, is_living}
 use Rattle.kl1_model.specs.Tree.{parents_of, charge}
 use Rattle.kl1_model.specs.Control.{Control, awaits_message, tells, tells_other, ends, breaks_off, message_term, message_nodes}
-use Rattle.kl1_model.specs.Event.{exists, shoen_ended, syntax, too_many_names, limit_passed, journal_full, sessions_refused, Query, value, status, reports, modules, is_quiet, Event, load, start, control, reduce, read, login, logout, reset, answer, loaded, opened, sent, reduced, welcome, bye, Transition, refuse, is_number, with_entry, recorded, named, limited}
+use Rattle.kl1_model.specs.Event.{Refusal, exists, shoen_ended, syntax, too_many_names, limit_passed, journal_full, sessions_refused, Query, value, status, reports, modules, is_quiet, Event, load, start, control, reduce, read, login, logout, reset, answer, loaded, opened, sent, reduced, welcome, bye, Transition, refuse, is_number, unless, are_too_many, is_full, needs_entry, with_entry, with_reduction}
 use Rattle.kl1_model.specs.Report.{report, is_reported, exception, exception_with, failure, illegal_input, exhaustion, started_report, exhausted_report, stopped_report, resumed_report}
 use Rattle.kl1_model.specs.Ending.{without_monitor}
 use Rattle.kl1_model.specs.Opening.{may_start, has_room_to_start, with_shoen, open_shoen, with_next_variables, started_shoen, start_goal, has_room_for_child, child_shoen, open_child}
 use Rattle.kl1_model.specs.Reduction.{Move, commits, raises, unifies, names, opens, goes, gives_way, Action, moves, reads, action_of, goals_from, has_room_for, committed, replaced_by, substituted_by, raised, unified, equation, or_exhaustion, moved, obeyed, with_control, heard, acted, reduce_goal}
-use Rattle.kl1_model.specs.Sending.{may_send, has_room_to_send, with_control_tail, sent_on, send_to}
+use Rattle.kl1_model.specs.Sending.{may_send, has_room_to_send, send_living, with_control_tail, sent_on, send_to}
 use Rattle.kl1_model.specs.Asking.{origin_at, reply_to}
-use Rattle.kl1_model.specs.Answering.{may_answer, has_room_to_answer, unanswered_at, answered, answer_by, answer_to}
-use Rattle.kl1_model.specs.Step.{load_module, step}
+use Rattle.kl1_model.specs.Answering.{may_answer, has_room_to_answer, answer_living, unanswered_at, answered, answer_by, answer_to}
+use Rattle.kl1_model.specs.Choice.{is_in_run}
+use Rattle.kl1_model.specs.Step.{load_module, start_by, step}
 use Rattle.kl1_model.specs.code.Steps.{opening_goals, stopped_of, resumed_of, allowed_more, reduced_by, send_by, value_of, status_of, reports_of, answer_in, with_module}
 use Rattle.kl1_model.specs.laws.TreeLaws.{AreNumbered, IsTree, FreshIsOfLiving, EndedHaveNoGoals}
 use Rattle.kl1_model.proofs.TreeKeeps.{Keeps, kept_tree, keeps_fewer}
-use Rattle.kl1_model.proofs.TreeGrows.{found_within}
+use Rattle.kl1_model.proofs.TreeGrows.{with_reduction_keeps, found_within}
 use Rattle.kl1_model.proofs.TreeEndings.{marks_of, Post, posts_of, Leaves, leaves_same, leaves_both, leaves_if, leaves_change, leaves_replace, leaves_report}
 use Rattle.kl1_model.proofs.TreeLives.{lives_in, Posted, IsPosted, to_posted, from_posted, posted_left, fewer_posts, settle_posted, settle_charged_posted, abort_posted}
 
@@ -160,7 +161,7 @@ moved_posted g t (raises kind) s l tree a = raised_posted g kind t s l a
 moved_posted g t (unifies x y) s l tree a = unified_posted g t (mgu (equation x y)) s l a
 moved_posted g t (names text x) s l tree a =
     let u = record s { names = with_name s.names text } in
-    posted_or (nat_le (length (with_name s.names text)) MOST_NAMES) g t (unified g t (mgu (equation x (atom text))) u) s (unified_posted g t (mgu (equation x (atom text))) u l a) l a
+    posted_or (not (are_too_many (with_name s.names text))) g t (unified g t (mgu (equation x (atom text))) u) s (unified_posted g t (mgu (equation x (atom text))) u l a) l a
 moved_posted g t (opens o) s l tree a =
     posted_or (has_room_for_child s g.shoen) g t (open_child s g.shoen o) s (open_posted (child_shoen s g.shoen o) o.goal s refl refl tree a) l a
 moved_posted g t goes s l tree a = a
@@ -185,6 +186,10 @@ posts_if : (c : Bool) (x y : Transition) → Posts x → Posts y → Posts (if c
 posts_if true x y p q = p
 posts_if false x y p q = q
 
+posts_unless : (s : State) (rs : List (Bool × Refusal)) (x : Transition) → IsPosted s → Posts x → Posts (unless s rs x)
+posts_unless s [] x a p = p
+posts_unless s (r ∷ rs) x a p = posts_if r.0 (refuse s r.1) (unless s rs x) a (posts_unless s rs x a p)
+
 owner_case : (c : Bool) (P : ℕ → Type 0) (g h : Goal) (o : Option Goal) → (if c then Some g else o) ≡ Some h → P g.shoen → (o ≡ Some h → P h.shoen) → P h.shoen
 owner_case true P g h o e p f = subst (λ (k : Goal). P k.shoen) (same_Some g h e) p
 owner_case false P g h o e p f = f e
@@ -193,26 +198,24 @@ owner_lives : (ms : ℕ → Type 0) (n : ℕ) (gs : List Goal) (h : Goal) → go
 owner_lives P n [] h e a = absurd (none-some h e)
 owner_lives P n (g ∷ gs) h e a = owner_case (g.number == n) P g h (goal_at n gs) e a.0 (λ f. owner_lives P n gs h f a.1)
 
-reduced_posts : (s : State) (g : Goal) (o : Option Action) → lives_in (marks_of s.shoens) g.shoen ≡ true → g.shoen ≤ s.last_shoen → IsTree s → IsPosted s → Posts (reduced_by s g o)
-reduced_posts s g None l few tree a = a
-reduced_posts s g (Some x) l few tree a =
-    let k : Keeps s (with_entry s) = record { parents = refl; work = refl; last = refl; owners = λ n b. b; numbered = λ n b. b } in
-    posts_if (nat_lt s.entries MOST_ENTRIES) (record { state = acted g x (with_entry s); reply = reduced }) (refuse s journal_full) (acted_posted g x (with_entry s) l few (kept_tree s (with_entry s) k tree) a) a
+reduced_posts : (s : State) (in_run : Bool) (g : Goal) (o : Option Action) → lives_in (marks_of s.shoens) g.shoen ≡ true → g.shoen ≤ s.last_shoen → IsTree s → IsPosted s → Posts (reduced_by s in_run g o)
+reduced_posts s in_run g None l few tree a = a
+reduced_posts s in_run g (Some x) l few tree a =
+    let u = with_reduction in_run s in
+    posts_unless s ((needs_entry in_run s && is_full s, journal_full) ∷ []) (record { state = acted g x u; reply = reduced }) a (acted_posted g x u l few (kept_tree s u (with_reduction_keeps in_run s) tree) a)
 
-goal_posts : (s : State) (goal clause : ℕ) (o : Option Goal) → goal_at goal s.goals ≡ o → IsTree s → IsPosted s → Posts (reduce_goal s clause o)
-goal_posts s goal clause None e tree a = a
-goal_posts s goal clause (Some g) e tree a =
-    reduced_posts s g (action_of s g clause) (owner_lives (λ n. lives_in (marks_of s.shoens) n ≡ true) goal s.goals g e a) (found_within s.last_shoen goal s.goals g e tree.owners) tree a
+goal_posts : (s : State) (in_run : Bool) (goal clause : ℕ) (o : Option Goal) → goal_at goal s.goals ≡ o → IsTree s → IsPosted s → Posts (reduce_goal s in_run clause o)
+goal_posts s in_run goal clause None e tree a = a
+goal_posts s in_run goal clause (Some g) e tree a =
+    reduced_posts s in_run g (action_of s g clause) (owner_lives (λ n. lives_in (marks_of s.shoens) n ≡ true) goal s.goals g e a) (found_within s.last_shoen goal s.goals g e tree.owners) tree a
 
 load_posts : (s : State) (r : Reading Module) → IsPosted s → Posts (load_module s r)
 load_posts s (bad line) a = a
 load_posts s (good m) a =
-    let x : Transition = record { state = with_entry (with_module s m); reply = loaded m.name } in
-    let b = recorded s x in
-    let c = limited s (nat_lt (length s.modules) MOST_MODULES) b in
-    posts_if (is_some (module_of s.modules m.name)) (refuse s exists) (named s (with_names s.names (names_of_module m)) c) a
-    (posts_if (nat_le (length (with_names s.names (names_of_module m))) MOST_NAMES) c (refuse s too_many_names)
-    (posts_if (nat_lt (length s.modules) MOST_MODULES) b (refuse s limit_passed) (posts_if (nat_lt s.entries MOST_ENTRIES) x (refuse s journal_full) a a) a) a)
+    posts_unless s
+    ((is_some (module_of s.modules m.name), exists) ∷ (are_too_many (with_names s.names (names_of_module m)), too_many_names)
+    ∷ (not (nat_lt (length s.modules) MOST_MODULES), limit_passed) ∷ (is_full s, journal_full) ∷ [])
+    (record { state = with_entry (with_module s m); reply = loaded m.name }) a a
 
 started_posted : (s : State) (allowance low high : ℕ) (t : Term) → IsTree s → IsPosted s → IsPosted (start_goal s allowance low high t)
 started_posted s allowance low high t tree a =
@@ -225,12 +228,10 @@ started_posted s allowance low high t tree a =
 
 start_posts : (s : State) (allowance low high : ℕ) (t : Term) → IsTree s → IsPosted s → Posts (step s (start allowance low high t))
 start_posts s allowance low high t tree a =
-    let x : Transition = record { state = with_entry (start_goal s allowance low high t); reply = opened (suc s.last_shoen) } in
-    let b = recorded s x in
-    let c = limited s (has_room_to_start s t) b in
-    posts_if (may_start allowance low high t) (named s (with_names s.names (names_of t)) c) (refuse s syntax)
-    (posts_if (nat_le (length (with_names s.names (names_of t))) MOST_NAMES) c (refuse s too_many_names)
-    (posts_if (has_room_to_start s t) b (refuse s limit_passed) (posts_if (nat_lt s.entries MOST_ENTRIES) x (refuse s journal_full) (started_posted s allowance low high t tree a) a) a) a) a
+    posts_if (may_start allowance low high t) (start_by s allowance low high t) (refuse s syntax)
+    (posts_unless s
+    ((are_too_many (with_names s.names (names_of t)), too_many_names) ∷ (not (has_room_to_start s t), limit_passed) ∷ (is_full s, journal_full) ∷ [])
+    (record { state = with_entry (start_goal s allowance low high t); reply = opened (suc s.last_shoen) }) a (started_posted s allowance low high t tree a)) a
 
 sent_leaves : (n : ℕ) (m : Message) (t : Term) (s : State) → Leaves s (sent_on n m t s)
 sent_leaves n m (variable v) s =
@@ -247,10 +248,9 @@ sent_leaves n m (structure f ts) s = leaves_same s
 send_by_posts : (s : State) (n : ℕ) (m : Message) (h : Shoen) (o : Option Origin) → IsPosted s → Posts (send_by s n m h o)
 send_by_posts s n m h None a = a
 send_by_posts s n m h (Some o) a =
-    let x : Transition = record { state = with_entry (sent_on n m o.control s); reply = sent } in
-    let b = recorded s x in
-    posts_if (is_living h.life) (limited s (has_room_to_send s m) b) (refuse s shoen_ended)
-    (posts_if (has_room_to_send s m) b (refuse s limit_passed) (posts_if (nat_lt s.entries MOST_ENTRIES) x (refuse s journal_full) (posted_left s (sent_on n m o.control s) (sent_leaves n m o.control s) a) a) a) a
+    posts_if (is_living h.life) (send_living s n m o) (refuse s shoen_ended)
+    (posts_unless s ((not (has_room_to_send s m), limit_passed) ∷ (is_full s, journal_full) ∷ [])
+    (record { state = with_entry (sent_on n m o.control s); reply = sent }) a (posted_left s (sent_on n m o.control s) (sent_leaves n m o.control s) a)) a
 
 send_posts : (s : State) (n : ℕ) (m : Message) (o : Option Shoen) → IsPosted s → Posts (send_to s n m o)
 send_posts s n m None a = a
@@ -287,12 +287,10 @@ answer_by_posts s t (Some v) a = posted_left s (answered v t s) (answered_leaves
 answer_in_posts : (s : State) (report : ℕ) (t : Term) (h : Shoen) (o : Option Origin) → IsPosted s → Posts (answer_in s report t h o)
 answer_in_posts s report t h None a = a
 answer_in_posts s report t h (Some o) a =
-    let x = answer_by s t (unanswered_at o.reports report) in
-    let b = recorded s x in
-    let c = limited s (has_room_to_answer s t) b in
-    posts_if (is_living h.life) (named s (with_names s.names (names_of t)) c) (refuse s shoen_ended)
-    (posts_if (nat_le (length (with_names s.names (names_of t))) MOST_NAMES) c (refuse s too_many_names)
-    (posts_if (has_room_to_answer s t) b (refuse s limit_passed) (posts_if (nat_lt s.entries MOST_ENTRIES) x (refuse s journal_full) (answer_by_posts s t (unanswered_at o.reports report) a) a) a) a) a
+    posts_if (is_living h.life) (answer_living s report t o) (refuse s shoen_ended)
+    (posts_unless s
+    ((are_too_many (with_names s.names (names_of t)), too_many_names) ∷ (not (has_room_to_answer s t), limit_passed) ∷ (is_full s, journal_full) ∷ [])
+    (answer_by s t (unanswered_at o.reports report)) a (answer_by_posts s t (unanswered_at o.reports report) a)) a
 
 answer_to_posts : (s : State) (report : ℕ) (t : Term) (o : Option Shoen) → IsPosted s → Posts (answer_to s report t o)
 answer_to_posts s report t None a = a
@@ -302,7 +300,7 @@ step_posts : (s : State) (e : Event) → IsTree s → IsPosted s → Posts (step
 step_posts s (load text) tree a = posts_if (nat_le (length text) MOST_SOURCE_BYTES) (load_module s (read_module text)) (refuse s syntax) (load_posts s (read_module text) a) a
 step_posts s (start allowance low high t) tree a = start_posts s allowance low high t tree a
 step_posts s (control n m) tree a = posts_if (may_send n m) (send_to s n m (shoen_at n s.shoens)) (refuse s syntax) (send_posts s n m (shoen_at n s.shoens) a) a
-step_posts s (reduce goal clause) tree a = posts_if (is_number goal && is_number clause) (reduce_goal s clause (goal_at goal s.goals)) (refuse s syntax) (goal_posts s goal clause (goal_at goal s.goals) refl tree a) a
+step_posts s (reduce goal clause) tree a = posts_if (is_number goal && is_number clause) (reduce_goal s (is_in_run s goal clause) clause (goal_at goal s.goals)) (refuse s syntax) (goal_posts s (is_in_run s goal clause) goal clause (goal_at goal s.goals) refl tree a) a
 step_posts s (read q) tree a = query_posts s q a
 step_posts s login tree a = posts_if (nat_lt s.sessions MOST_SESSIONS) (record { state = record s { sessions = suc s.sessions }; reply = welcome s.own_name }) (refuse s sessions_refused) a a
 step_posts s logout tree a = posts_if (nat_lt 0 s.sessions) (record { state = record s { sessions = s.sessions - 1 }; reply = bye }) (refuse s sessions_refused) a a

@@ -1,10 +1,10 @@
 -- What each event does to the tree of shoens and to charges, and that a refused event changes nothing.
-use Rattle.std.proofs.Common.{◌≡◌, ◌≤◌, ℕ, suc, ◌+◌, ◌-◌, ◌==◌, ◌&&◌, Bool, true, false, if◌then◌else◌, List, refl, sym, ap, ◌∙◌, subst, arith}
+use Rattle.std.proofs.Common.{◌≡◌, ◌≤◌, ℕ, suc, ◌+◌, ◌-◌, ◌==◌, ◌&&◌, Bool, true, false, if◌then◌else◌, not, List, [], ◌∷◌, refl, sym, ap, ◌∙◌, subst, arith}
 use Rattle.std.proofs.lemmas.Bool.{false≢true}
 use Rattle.std.specs.Prelude.{nat_lt, nat_le, length, Option, Some, None, option_map, is_some}
 use Rattle.std.proofs.lemmas.Option.{none-some, same_Some}
 use Rattle.kl1_model.specs.declared.message.Message.{Message}
-use Rattle.kl1_model.specs.declared.limits.TheConstants.{MOST_MODULES, MOST_SESSIONS, MOST_SOURCE_BYTES, MOST_NAMES, MOST_ENTRIES}
+use Rattle.kl1_model.specs.declared.limits.TheConstants.{MOST_MODULES, MOST_SESSIONS, MOST_SOURCE_BYTES}
 use Rattle.kl1_model.specs.Term.{Term, variable, integer, atom, structure}
 use Rattle.kl1_model.specs.Meaning.{cell, highest}
 use Rattle.kl1_model.specs.Nodes.{goal_nodes}
@@ -14,17 +14,18 @@ use Rattle.kl1_model.specs.Look.{goal_look}
 use Rattle.kl1_model.specs.State.{Task, monitor, reduces, substitutes, Goal, Origin, Shoen, State, has_substitutes, fresh_with, goal_at, shoen_at, names_of, names_of_module, with_names, replace_in_state, change_shoen, is_monitor, is_living}
 use Rattle.kl1_model.specs.Tree.{is_on_path, charged_of, is_enabled}
 use Rattle.kl1_model.specs.Control.{Control, awaits_message, tells, tells_other, ends, breaks_off, control_of, message_term, message_nodes}
-use Rattle.kl1_model.specs.Event.{Refusal, syntax, source, exists, no_shoen, shoen_ended, step_refused, too_many_names, limit_passed, journal_full, sessions_refused, answer_refused, Query, value, status, reports, modules, is_quiet, load, start, control, reduce, read, login, logout, reset, answer, Reply, loaded, opened, sent, reduced, welcome, bye, Transition, refuse, is_number, with_entry, recorded, named, limited}
+use Rattle.kl1_model.specs.Event.{Refusal, syntax, source, exists, no_shoen, shoen_ended, step_refused, too_many_names, limit_passed, journal_full, sessions_refused, answer_refused, Query, value, status, reports, modules, is_quiet, load, start, control, reduce, read, login, logout, reset, answer, Reply, loaded, opened, sent, reduced, welcome, bye, Transition, refuse, is_number, unless, are_too_many, is_full, needs_entry, with_entry, with_reduction, is_refused}
 use Rattle.kl1_model.specs.Reduction.{Move, Action, moves, reads, term_move, read_action, task_action, action_of, acted, reduce_goal}
 use Rattle.kl1_model.specs.Opening.{may_start, has_room_to_start, with_next_variables, started_shoen, start_goal}
-use Rattle.kl1_model.specs.Sending.{may_send, has_room_to_send, with_control_tail, sent_on, send_to}
+use Rattle.kl1_model.specs.Sending.{may_send, has_room_to_send, send_living, with_control_tail, sent_on, send_to}
 use Rattle.kl1_model.specs.Asking.{origin_at, reply_to}
-use Rattle.kl1_model.specs.Answering.{may_answer, has_room_to_answer, unanswered_at, answered, answer_by, answer_to}
-use Rattle.kl1_model.specs.Step.{load_module, step}
+use Rattle.kl1_model.specs.Answering.{may_answer, has_room_to_answer, answer_living, unanswered_at, answered, answer_by, answer_to}
+use Rattle.kl1_model.specs.Choice.{is_in_run}
+use Rattle.kl1_model.specs.Step.{load_module, start_by, step}
 use Rattle.kl1_model.specs.code.Steps.{substitute_move, monitor_action, reduced_by, send_by, value_of, status_of, reports_of, answer_in, with_module, log_in, log_out}
-use Rattle.kl1_model.specs.laws.TreeLaws.{IsTree, FreshIsTree, TreesStay, ReductionsCharge, MonitorsChargeNobody, OthersChargeNobody, is_refused, RefusalsChangeNothing}
+use Rattle.kl1_model.specs.laws.TreeLaws.{IsTree, FreshIsTree, TreesStay, ReductionsCharge, MonitorsChargeNobody, OthersChargeNobody, RefusalsChangeNothing}
 use Rattle.kl1_model.proofs.TreeKeeps.{Keeps, keeps_same, keeps_both, kept_tree, keeps_change, keeps_replace}
-use Rattle.kl1_model.proofs.TreeGrows.{Follows, follows_kept, follows_then, opening_follows, acted_move, acted_reading, charged_among, charged_kept, with_entry_keeps, found_within}
+use Rattle.kl1_model.proofs.TreeGrows.{Follows, follows_kept, follows_then, opening_follows, acted_move, acted_reading, charged_among, charged_kept, with_entry_keeps, with_reduction_keeps, found_within}
 
 pub fresh_is_tree : FreshIsTree
 fresh_is_tree rules name = record { numbered = tt; lower = λ k. omega arith; count = refl; owners = tt; worked = tt }
@@ -49,6 +50,10 @@ comes_if false s x y p q = q
 comes_or : (c : Bool) (s : State) (x : Transition) (r : Refusal) → Comes s x → Comes s (if c then x else refuse s r)
 comes_or c s x r p = comes_if c s x (refuse s r) p (comes_refused s r)
 
+comes_unless : (s : State) (rs : List (Bool × Refusal)) (x : Transition) → Comes s x → Comes s (unless s rs x)
+comes_unless s [] x p = p
+comes_unless s (r ∷ rs) x p = comes_if r.0 s (refuse s r.1) (unless s rs x) (comes_refused s r.1) (comes_unless s rs x p)
+
 comes_loaded : (s : State) (m : Module) → Comes s (record { state = with_entry (with_module s m); reply = loaded m.name })
 comes_loaded s m = record {
   follows = follows_kept 0 s (with_entry (with_module s m)) (record { parents = refl; work = refl; last = refl; owners = λ n a. a; numbered = λ n a. a });
@@ -58,14 +63,10 @@ comes_loaded s m = record {
 comes_load : (s : State) (r : Reading Module) → Comes s (load_module s r)
 comes_load s (bad line) = comes_refused s (source line)
 comes_load s (good m) =
-    let x : Transition = record { state = with_entry (with_module s m); reply = loaded m.name } in
-    let a = recorded s x in
-    let b = limited s (nat_lt (length s.modules) MOST_MODULES) a in
-    let c = named s (with_names s.names (names_of_module m)) b in
-    comes_if (is_some (module_of s.modules m.name)) s (refuse s exists) c (comes_refused s exists)
-    (comes_or (nat_le (length (with_names s.names (names_of_module m))) MOST_NAMES) s b too_many_names
-    (comes_or (nat_lt (length s.modules) MOST_MODULES) s a limit_passed
-    (comes_or (nat_lt s.entries MOST_ENTRIES) s x journal_full (comes_loaded s m))))
+    comes_unless s
+    ((is_some (module_of s.modules m.name), exists) ∷ (are_too_many (with_names s.names (names_of_module m)), too_many_names)
+    ∷ (not (nat_lt (length s.modules) MOST_MODULES), limit_passed) ∷ (is_full s, journal_full) ∷ [])
+    (record { state = with_entry (with_module s m); reply = loaded m.name }) (comes_loaded s m)
 
 start_follows : (s : State) (allowance low high : ℕ) (t : Term) → Follows 0 s (start_goal s allowance low high t)
 start_follows s allowance low high t =
@@ -85,14 +86,10 @@ comes_started s allowance low high t = record {
 
 comes_start : (s : State) (allowance low high : ℕ) (t : Term) → Comes s (step s (start allowance low high t))
 comes_start s allowance low high t =
-    let x : Transition = record { state = with_entry (start_goal s allowance low high t); reply = opened (suc s.last_shoen) } in
-    let a = recorded s x in
-    let b = limited s (has_room_to_start s t) a in
-    let c = named s (with_names s.names (names_of t)) b in
-    comes_or (may_start allowance low high t) s c syntax
-    (comes_or (nat_le (length (with_names s.names (names_of t))) MOST_NAMES) s b too_many_names
-    (comes_or (has_room_to_start s t) s a limit_passed
-    (comes_or (nat_lt s.entries MOST_ENTRIES) s x journal_full (comes_started s allowance low high t))))
+    comes_or (may_start allowance low high t) s (start_by s allowance low high t) syntax
+    (comes_unless s
+    ((are_too_many (with_names s.names (names_of t)), too_many_names) ∷ (not (has_room_to_start s t), limit_passed) ∷ (is_full s, journal_full) ∷ [])
+    (record { state = with_entry (start_goal s allowance low high t); reply = opened (suc s.last_shoen) }) (comes_started s allowance low high t))
 
 sent_keeps : (n : ℕ) (m : Message) (t : Term) (s : State) → Keeps s (sent_on n m t s)
 sent_keeps n m (variable v) s =
@@ -115,10 +112,9 @@ comes_sent s n m t = record {
 comes_send_by : (s : State) (n : ℕ) (m : Message) (h : Shoen) (o : Option Origin) → Comes s (send_by s n m h o)
 comes_send_by s n m h None = comes_refused s no_shoen
 comes_send_by s n m h (Some o) =
-    let x : Transition = record { state = with_entry (sent_on n m o.control s); reply = sent } in
-    let a = recorded s x in
-    comes_or (is_living h.life) s (limited s (has_room_to_send s m) a) shoen_ended
-    (comes_or (has_room_to_send s m) s a limit_passed (comes_or (nat_lt s.entries MOST_ENTRIES) s x journal_full (comes_sent s n m o.control)))
+    comes_or (is_living h.life) s (send_living s n m o) shoen_ended
+    (comes_unless s ((not (has_room_to_send s m), limit_passed) ∷ (is_full s, journal_full) ∷ [])
+    (record { state = with_entry (sent_on n m o.control s); reply = sent }) (comes_sent s n m o.control))
 
 comes_send : (s : State) (n : ℕ) (m : Message) (o : Option Shoen) → Comes s (send_to s n m o)
 comes_send s n m None = comes_refused s no_shoen
@@ -158,13 +154,10 @@ comes_answer_by s t (Some v) = record {
 comes_answer_in : (s : State) (report : ℕ) (t : Term) (h : Shoen) (o : Option Origin) → Comes s (answer_in s report t h o)
 comes_answer_in s report t h None = comes_refused s no_shoen
 comes_answer_in s report t h (Some o) =
-    let x = answer_by s t (unanswered_at o.reports report) in
-    let a = recorded s x in
-    let b = limited s (has_room_to_answer s t) a in
-    comes_or (is_living h.life) s (named s (with_names s.names (names_of t)) b) shoen_ended
-    (comes_or (nat_le (length (with_names s.names (names_of t))) MOST_NAMES) s b too_many_names
-    (comes_or (has_room_to_answer s t) s a limit_passed
-    (comes_or (nat_lt s.entries MOST_ENTRIES) s x journal_full (comes_answer_by s t (unanswered_at o.reports report)))))
+    comes_or (is_living h.life) s (answer_living s report t o) shoen_ended
+    (comes_unless s
+    ((are_too_many (with_names s.names (names_of t)), too_many_names) ∷ (not (has_room_to_answer s t), limit_passed) ∷ (is_full s, journal_full) ∷ [])
+    (answer_by s t (unanswered_at o.reports report)) (comes_answer_by s t (unanswered_at o.reports report)))
 
 comes_answer_to : (s : State) (report : ℕ) (t : Term) (o : Option Shoen) → Comes s (answer_to s report t o)
 comes_answer_to s report t None = comes_refused s no_shoen
@@ -188,6 +181,10 @@ reduces_refused s g r = record { tree = λ tree few. tree; kept = λ e. refl; ch
 reduces_or : (c : Bool) (s : State) (g : Goal) (x : Transition) (r : Refusal) → Reduces s g x → Reduces s g (if c then x else refuse s r)
 reduces_or true s g x r p = p
 reduces_or false s g x r p = reduces_refused s g r
+
+reduces_unless : (c : Bool) (s : State) (g : Goal) (x : Transition) (r : Refusal) → Reduces s g x → Reduces s g (if c then refuse s r else x)
+reduces_unless true s g x r p = reduces_refused s g r
+reduces_unless false s g x r p = p
 
 abbrev is_reading : Action → Bool
 is_reading (moves t m) = false
@@ -227,22 +224,24 @@ task_reads s n monitor clause c e h = false≢true (sym h)
 task_reads s n (reduces u) clause c e h = no_reading c (term_move s.rules s.modules u clause (call_of u)) u e
 task_reads s n (substitutes u) clause c e h = no_reading c (substitute_move (goal_look u)) u (some_if (clause == 0) (option_map (moves u) (substitute_move (goal_look u))) (reads c) e)
 
-reduces_by : (s : State) (g : Goal) (clause : ℕ) (o : Option Action) → action_of s g clause ≡ o → Reduces s g (reduced_by s g o)
-reduces_by s g clause None e = reduces_refused s g step_refused
-reduces_by s g clause (Some (moves t m)) e =
-    let x : Transition = record { state = acted g (moves t m) (with_entry s); reply = reduced } in
-    let k = with_entry_keeps s in
-    reduces_or (nat_lt s.entries MOST_ENTRIES) s g x journal_full (record {
-      tree = λ tree few. (acted_move g t m (with_entry s) few (kept_tree s (with_entry s) k tree)).0;
+reduces_by : (s : State) (in_run : Bool) (g : Goal) (clause : ℕ) (o : Option Action) → action_of s g clause ≡ o → Reduces s g (reduced_by s in_run g o)
+reduces_by s in_run g clause None e = reduces_refused s g step_refused
+reduces_by s in_run g clause (Some (moves t m)) e =
+    let u = with_reduction in_run s in
+    let x : Transition = record { state = acted g (moves t m) u; reply = reduced } in
+    let k = with_reduction_keeps in_run s in
+    reduces_unless (needs_entry in_run s && is_full s) s g x journal_full (record {
+      tree = λ tree few. (acted_move g t m u few (kept_tree s u k tree)).0;
       kept = λ r. absurd (false≢true r);
-      charges = λ tree few h r a. (acted_move g t m (with_entry s) few (kept_tree s (with_entry s) k tree)).1 a;
+      charges = λ tree few h r a. (acted_move g t m u few (kept_tree s u k tree)).1 a;
       spares = λ h a. absurd (task_moves s g.shoen g.task clause t m (some_if (is_enabled s g) (task_action s g.shoen g.task clause) (moves t m) e) h);
     })
-reduces_by s g clause (Some (reads c)) e =
-    let t = acted g (reads c) (with_entry s) in
+reduces_by s in_run g clause (Some (reads c)) e =
+    let u = with_reduction in_run s in
+    let t = acted g (reads c) u in
     let x : Transition = record { state = t; reply = reduced } in
-    let k = keeps_both s (with_entry s) t (with_entry_keeps s) (acted_reading g c (with_entry s)) in
-    reduces_or (nat_lt s.entries MOST_ENTRIES) s g x journal_full (record {
+    let k = keeps_both s u t (with_reduction_keeps in_run s) (acted_reading g c u) in
+    reduces_unless (needs_entry in_run s && is_full s) s g x journal_full (record {
       tree = λ tree few. kept_tree s t k tree;
       kept = λ r. absurd (false≢true r);
       charges = λ tree few h r a. absurd (task_reads s g.shoen g.task clause c (some_if (is_enabled s g) (task_action s g.shoen g.task clause) (reads c) e) h);
@@ -252,8 +251,9 @@ reduces_by s g clause (Some (reads c)) e =
 -- a reduction of a goal that may be there
 reduces_goal : (s : State) (goal clause : ℕ) (g : Goal) → goal_at goal s.goals ≡ Some g → Reduces s g (step s (reduce goal clause))
 reduces_goal s goal clause g e =
-    subst (λ o. Reduces s g (if is_number goal && is_number clause then reduce_goal s clause o else refuse s syntax)) (sym e)
-    (reduces_or (is_number goal && is_number clause) s g (reduced_by s g (action_of s g clause)) syntax (reduces_by s g clause (action_of s g clause) refl))
+    let r = is_in_run s goal clause in
+    subst (λ o. Reduces s g (if is_number goal && is_number clause then reduce_goal s r clause o else refuse s syntax)) (sym e)
+    (reduces_or (is_number goal && is_number clause) s g (reduced_by s r g (action_of s g clause)) syntax (reduces_by s r g clause (action_of s g clause) refl))
 
 pub reductions_charge : ReductionsCharge
 reductions_charge s goal clause g tree e h r a = (reduces_goal s goal clause g e).charges tree (found_within s.last_shoen goal s.goals g e tree.owners) h r a
@@ -264,7 +264,7 @@ monitors_charge_nobody s goal clause g tree e h a = (reduces_goal s goal clause 
 -- if no goal has the number, the event is refused
 no_goal : (s : State) (goal clause : ℕ) → goal_at goal s.goals ≡ None → (step s (reduce goal clause)).state ≡ s
 no_goal s goal clause e =
-    ap (λ o. (if is_number goal && is_number clause then reduce_goal s clause o else refuse s syntax).state) e ∙ both_refused (is_number goal && is_number clause)
+    ap (λ o. (if is_number goal && is_number clause then reduce_goal s (is_in_run s goal clause) clause o else refuse s syntax).state) e ∙ both_refused (is_number goal && is_number clause)
   where
     both_refused : (c : Bool) → (if c then refuse s step_refused else refuse s syntax).state ≡ s
     both_refused true = refl

@@ -6,7 +6,7 @@ use Rattle.std.proofs.lemmas.Slice.Eq.{bytes_eq-Decides}
 use Rattle.std.specs.Prelude.{bytes_eq}
 use Rattle.std.specs.Ordering.{int_eq}
 use Rattle.kl1_model.specs.Term.{Term, variable, integer, atom, structure, Terms, count_of, occurs, occurs_in, substituted, each_substituted}
-use Rattle.kl1_model.specs.Unify.{Equation, argument_equations, Front, goes_on, fails, binds, front}
+use Rattle.kl1_model.specs.Unify.{Equation, argument_equations, Transformed, remains, conflicts, eliminates, transformed}
 use Rattle.kl1_model.specs.laws.UnifyLaws.{IsLower}
 use Rattle.kl1_model.proofs.Substitutions.{no_cycle, count-each_substituted}
 
@@ -30,23 +30,23 @@ clash-structures f g ts us h s e =
     false≢true (sym h ∙ and_from (bytes_eq f g) (count_of ts == count_of us) ((bytes_eq-Decides f g).1 p) (eq-eqb (count_of ts) (count_of us) n))
 
 -- what holds of two sides and what they lead to, if it holds in each case
-pub front_cases : (es : List Equation) (Q : Term → Term → Front → Type 0) → ((t : Term) → Q t t (goes_on es)) → ((f : List ℕ) (ts us : Terms) → count_of ts ≡ count_of us → Q (structure f ts) (structure f us) (goes_on (argument_equations ts us es))) → ((v : ℕ) (t : Term) → occurs v t ≡ false → IsLower v t → Q (variable v) t (binds v t es)) → ((v : ℕ) (t : Term) → occurs v t ≡ false → IsLower v t → Q t (variable v) (binds v t es)) → ((a b : Term) → Clash a b → Q a b fails) → (a b : Term) → Q a b (front a b es)
+pub front_cases : (es : List Equation) (Q : Term → Term → Transformed → Type 0) → ((t : Term) → Q t t (remains es)) → ((f : List ℕ) (ts us : Terms) → count_of ts ≡ count_of us → Q (structure f ts) (structure f us) (remains (argument_equations ts us es))) → ((v : ℕ) (t : Term) → occurs v t ≡ false → IsLower v t → Q (variable v) t (eliminates v t es)) → ((v : ℕ) (t : Term) → occurs v t ≡ false → IsLower v t → Q t (variable v) (eliminates v t es)) → ((a b : Term) → Clash a b → Q a b conflicts) → (a b : Term) → Q a b (transformed a b es)
 front_cases es Q same inner left right clash (variable v) (variable w) =
-    cond_both (v == w) (goes_on es) (cond (nat_lt v w) (binds w (variable v) es) (binds v (variable w) es)) (Q (variable v) (variable w)) (λ e. subst (λ x. Q (variable v) (variable x) (goes_on es)) (eqb-true v w e) (same (variable v))) (λ e. cond_both (nat_lt v w) (binds w (variable v) es) (binds v (variable w) es) (Q (variable v) (variable w)) (λ l. right w (variable v) (ne_eqb w v (λ q. eqb-false v w e (sym q))) (ltb-true v w l)) (λ l. left v (variable w) e (let p = ltb-false v w l in let q = eqb-false v w e in omega arith)))
+    cond_both (v == w) (remains es) (cond (nat_lt v w) (eliminates w (variable v) es) (eliminates v (variable w) es)) (Q (variable v) (variable w)) (λ e. subst (λ x. Q (variable v) (variable x) (remains es)) (eqb-true v w e) (same (variable v))) (λ e. cond_both (nat_lt v w) (eliminates w (variable v) es) (eliminates v (variable w) es) (Q (variable v) (variable w)) (λ l. right w (variable v) (ne_eqb w v (λ q. eqb-false v w e (sym q))) (ltb-true v w l)) (λ l. left v (variable w) e (let p = ltb-false v w l in let q = eqb-false v w e in omega arith)))
 front_cases es Q same inner left right clash (variable v) (integer i) = left v (integer i) refl tt
 front_cases es Q same inner left right clash (variable v) (atom a) = left v (atom a) refl tt
 front_cases es Q same inner left right clash (variable v) (structure f ts) =
-    cond_both (occurs_in v ts) fails (binds v (structure f ts) es) (Q (variable v) (structure f ts)) (λ h. clash (variable v) (structure f ts) (λ s e. no_cycle s v f ts h e)) (λ h. left v (structure f ts) h tt)
+    cond_both (occurs_in v ts) conflicts (eliminates v (structure f ts) es) (Q (variable v) (structure f ts)) (λ h. clash (variable v) (structure f ts) (λ s e. no_cycle s v f ts h e)) (λ h. left v (structure f ts) h tt)
 front_cases es Q same inner left right clash (integer i) (variable v) = right v (integer i) refl tt
 front_cases es Q same inner left right clash (atom a) (variable v) = right v (atom a) refl tt
 front_cases es Q same inner left right clash (structure f ts) (variable v) =
-    cond_both (occurs_in v ts) fails (binds v (structure f ts) es) (Q (structure f ts) (variable v)) (λ h. clash (structure f ts) (variable v) (λ s e. no_cycle s v f ts h (sym e))) (λ h. right v (structure f ts) h tt)
+    cond_both (occurs_in v ts) conflicts (eliminates v (structure f ts) es) (Q (structure f ts) (variable v)) (λ h. clash (structure f ts) (variable v) (λ s e. no_cycle s v f ts h (sym e))) (λ h. right v (structure f ts) h tt)
 front_cases es Q same inner left right clash (integer i) (integer j) =
-    cond_both (int_eq i j) (goes_on es) fails (Q (integer i) (integer j)) (λ e. subst (λ x. Q (integer i) (integer x) (goes_on es)) ((Decides-int_eq i j).0 e) (same (integer i))) (λ e. clash (integer i) (integer j) (clash-integers i j e))
+    cond_both (int_eq i j) (remains es) conflicts (Q (integer i) (integer j)) (λ e. subst (λ x. Q (integer i) (integer x) (remains es)) ((Decides-int_eq i j).0 e) (same (integer i))) (λ e. clash (integer i) (integer j) (clash-integers i j e))
 front_cases es Q same inner left right clash (atom a) (atom b) =
-    cond_both (bytes_eq a b) (goes_on es) fails (Q (atom a) (atom b)) (λ e. subst (λ x. Q (atom a) (atom x) (goes_on es)) ((bytes_eq-Decides a b).0 e) (same (atom a))) (λ e. clash (atom a) (atom b) (clash-atoms a b e))
+    cond_both (bytes_eq a b) (remains es) conflicts (Q (atom a) (atom b)) (λ e. subst (λ x. Q (atom a) (atom x) (remains es)) ((bytes_eq-Decides a b).0 e) (same (atom a))) (λ e. clash (atom a) (atom b) (clash-atoms a b e))
 front_cases es Q same inner left right clash (structure f ts) (structure g us) =
-    cond_both (bytes_eq f g && count_of ts == count_of us) (goes_on (argument_equations ts us es)) fails (Q (structure f ts) (structure g us)) (λ e. let p = and_parts (bytes_eq f g) (count_of ts == count_of us) e in subst (λ x. Q (structure f ts) (structure x us) (goes_on (argument_equations ts us es))) ((bytes_eq-Decides f g).0 p.0) (inner f ts us (eqb-true (count_of ts) (count_of us) p.1))) (λ e. clash (structure f ts) (structure g us) (clash-structures f g ts us e))
+    cond_both (bytes_eq f g && count_of ts == count_of us) (remains (argument_equations ts us es)) conflicts (Q (structure f ts) (structure g us)) (λ e. let p = and_parts (bytes_eq f g) (count_of ts == count_of us) e in subst (λ x. Q (structure f ts) (structure x us) (remains (argument_equations ts us es))) ((bytes_eq-Decides f g).0 p.0) (inner f ts us (eqb-true (count_of ts) (count_of us) p.1))) (λ e. clash (structure f ts) (structure g us) (clash-structures f g ts us e))
 front_cases es Q same inner left right clash (integer i) (atom a) = clash (integer i) (atom a) (λ s e. cc)
 front_cases es Q same inner left right clash (integer i) (structure f ts) = clash (integer i) (structure f ts) (λ s e. cc)
 front_cases es Q same inner left right clash (atom a) (integer i) = clash (atom a) (integer i) (λ s e. cc)

@@ -2,7 +2,7 @@
 use Rattle.std.proofs.Common.{◌≡◌, ℕ, zero, suc, ◌+◌, ◌<◌, ◌≤◌, ◌||◌, Bool, true, false, List, [], ◌∷◌, Option, Some, option_map, refl, sym, ◌∙◌, ap, arith, eq-eqb, le_refl, ⊎_elim}
 use Rattle.std.proofs.lemmas.Bool.{or_parts, or_from, or_left, or_right, cases_eq, cases_lt}
 use Rattle.kl1_model.specs.Term.{Term, variable, structure, Terms, more, size, sizes, occurs, Replacement}
-use Rattle.kl1_model.specs.Unify.{Equation, Front, argument_equations, front, replace_in_all, equations_size, mgu_within, highest_among, mgu}
+use Rattle.kl1_model.specs.Unify.{Equation, Transformed, argument_equations, transformed, replace_in_all, equations_size, mgu_within, highest_among, mgu}
 use Rattle.kl1_model.specs.code.Unifying.{after}
 use Rattle.kl1_model.specs.laws.UnifyLaws.{equate, NumberedTo, AllNumberedTo, FrontNumberedTo, FrontDecides, FrontKeepsNumbers, HighestIsABound, mgu_to, AnyBoundServes, NothingIsSolved}
 use Rattle.kl1_model.proofs.UnifyFront.{front_cases}
@@ -141,7 +141,7 @@ loses_right last v t es o h = loses_bound last v t (equate t (variable v) ∷ es
 -- ---- fuel that is enough
 
 -- what is done after the front equation is the same if it is on equations that shrink, and on such as lose a variable
-after_agrees : (last : ℕ) (e : Equation) (es : List Equation) (same same' next next' : List Equation → Option (List Replacement)) → AllNumberedTo last (e ∷ es) → ((to : List Equation) → Shrinks last (e ∷ es) to → same to ≡ same' to) → ((to : List Equation) → Loses last (e ∷ es) to → next to ≡ next' to) → after same next (front e.left e.right es) ≡ after same' next' (front e.left e.right es)
+after_agrees : (last : ℕ) (e : Equation) (es : List Equation) (same same' next next' : List Equation → Option (List Replacement)) → AllNumberedTo last (e ∷ es) → ((to : List Equation) → Shrinks last (e ∷ es) to → same to ≡ same' to) → ((to : List Equation) → Loses last (e ∷ es) to → next to ≡ next' to) → after same next (transformed e.left e.right es) ≡ after same' next' (transformed e.left e.right es)
 after_agrees last e es same same' next next' h shrinks loses =
     front_cases es (λ a b r. AllNumberedTo last (equate a b ∷ es) → ((to : List Equation) → Shrinks last (equate a b ∷ es) to → same to ≡ same' to) → ((to : List Equation) → Loses last (equate a b ∷ es) to → next to ≡ next' to) → after same next r ≡ after same' next' r)
     (λ t h s l. s es (shrinks_same last t es h))
@@ -173,7 +173,7 @@ pub nothing_solved : NothingIsSolved
 nothing_solved = nothing_solved_to 0
 
 -- equations are solved by what their front equation leads to, by one bound on the numbers
-pub front_decides_to : (last : ℕ) (e : Equation) (es : List Equation) → AllNumberedTo last (e ∷ es) → mgu_to last (e ∷ es) ≡ after (mgu_to last) (mgu_to last) (front e.left e.right es)
+pub front_decides_to : (last : ℕ) (e : Equation) (es : List Equation) → AllNumberedTo last (e ∷ es) → mgu_to last (e ∷ es) ≡ after (mgu_to last) (mgu_to last) (transformed e.left e.right es)
 unfolding mgu_within
 front_decides_to last e es h =
     let most = variables_most last (e ∷ es) in
@@ -211,7 +211,7 @@ front_decides e es =
     ∙ after_agrees last e es (mgu_to last) mgu (mgu_to last) mgu h (λ to s. any_bound_serves last to s.numbered) (λ to s. any_bound_serves last to s.numbered)
 
 -- a step, if it is known what the front equation leads to
-pub stepped : (t u : Term) (es : List Equation) (to : Front) → front t u es ≡ to → mgu (equate t u ∷ es) ≡ after mgu mgu to
+pub stepped : (t u : Term) (es : List Equation) (to : Transformed) → transformed t u es ≡ to → mgu (equate t u ∷ es) ≡ after mgu mgu to
 stepped t u es to e = front_decides (equate t u) es ∙ ap (after mgu mgu) e
 
 -- what the front equation leads to brings in no higher numbers

@@ -146,7 +146,7 @@ right_up_to most o e (awaits v) a = a
 right_up_to most o e wrong a = tt
 
 left_up_to : (most : ℕ) (o : Operator) (x : Found Scanned) (right : ℕ → Found Scanned) → ScanUpTo most x → ((m : ℕ) → ScanUpTo most (right m)) → ScanUpTo most (with_left o x right)
-left_up_to most o (found e) right a f = right_up_to most o e.expression (right e.left) (f e.left)
+left_up_to most o (found e) right a f = right_up_to most o e.expression (right e.operators_left) (f e.operators_left)
 left_up_to most o (awaits v) right a f = a
 left_up_to most o wrong right a f = tt
 

@@ -197,7 +197,7 @@ right_above last o e (awaits v) a = a
 right_above last o e wrong a = tt
 
 left_above : (last : ℕ) (o : Operator) (x : Found Scanned) (right : ℕ → Found Scanned) → ScanAbove last x → ((m : ℕ) → ScanAbove last (right m)) → ScanAbove last (with_left o x right)
-left_above last o (found e) right a f = right_above last o e.expression (right e.left) (f e.left)
+left_above last o (found e) right a f = right_above last o e.expression (right e.operators_left) (f e.operators_left)
 left_above last o (awaits v) right a f = a
 left_above last o wrong right a f = tt
 

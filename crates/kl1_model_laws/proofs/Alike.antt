@@ -1,13 +1,12 @@
 -- What reports, replacements and changes of a shoen's streams leave as it is, and what a goal in the place of another does.
 use Rattle.std.proofs.Common.{◌≡◌, ℕ, suc, ◌+◌, ◌==◌, ◌||◌, not, ◌&&◌, Bool, true, false, if◌then◌else◌, List, [], ◌∷◌, ◌++◌, refl, sym, ap, ap₂, ◌∙◌}
-use Rattle.std.specs.Prelude.{nat_lt, map, Option, Some, None, option_map, unwrap_or}
+use Rattle.std.specs.Prelude.{map, Option, Some, None, option_map, unwrap_or}
 use Rattle.std.specs.List.{list_any}
-use Rattle.kl1_model.specs.declared.limits.TheConstants.{MOST_REPORTS}
 use Rattle.kl1_model.specs.declared.life.Life.{Life}
-use Rattle.kl1_model.specs.Term.{Term, variable, integer, atom, structure, Replacement, occurs}
+use Rattle.kl1_model.specs.Term.{Term, variable, integer, atom, structure, Replacement}
 use Rattle.kl1_model.specs.Meaning.{nil, cell, highest}
 use Rattle.kl1_model.specs.State.{Task, monitor, reduces, substitutes, Goal, Shoen, State, has_substitutes, shoen_at, replace_in_task, replace_in_goal, replace_in_shoen, replace_in_state, replace_all, change_shoen, is_monitor, is_living, names_of, with_names}
-use Rattle.kl1_model.specs.Report.{broken_at, reported_at, report, is_reported, report_each, closed_at, close, exception, exception_with, failure, exhaustion, started_report, exhausted_report, stopped_report, resumed_report}
+use Rattle.kl1_model.specs.Report.{broken_at, has_made_last, report_tail, reported_on, reported_at, report, is_reported, report_each, closed_at, close, exception, exception_with, failure, exhaustion, started_report, exhausted_report, stopped_report, resumed_report}
 use Rattle.kl1_model.specs.Ending.{has_goal, has_living_child, lives, ends_now}
 use Rattle.kl1_model.specs.Nodes.{goal_nodes}
 use Rattle.kl1_model.specs.Control.{message_term, message_nodes}
@@ -42,20 +41,20 @@ duty_of g = record { number = g.number; shoen = g.shoen; is_monitor = is_monitor
 abbrev pub duties_of : List Goal → List Duty
 duties_of gs = map duty_of gs
 
--- an effect leaves the nodes of shoens, the duties of goals, the modules, charged reductions, the last number of a goal and how many entries there are
+-- an effect leaves the nodes of shoens, the duties of goals, the modules, charged reductions, the last number of a goal and the rules
 pub record Alike (s t : State) : Type 0 where
   pub nodes : nodes_of t.shoens ≡ nodes_of s.shoens
   pub duties : duties_of t.goals ≡ duties_of s.goals
   pub modules : t.modules ≡ s.modules
   pub last : t.last_goal ≡ s.last_goal
-  pub entries : t.entries ≡ s.entries
+  pub rules : t.rules ≡ s.rules
   pub work : t.work ≡ s.work
 
 pub alike_same : (s : State) → Alike s s
-alike_same s = record { nodes = refl; duties = refl; modules = refl; last = refl; entries = refl; work = refl }
+alike_same s = record { nodes = refl; duties = refl; modules = refl; last = refl; rules = refl; work = refl }
 
 pub alike_both : (s t u : State) → Alike s t → Alike t u → Alike s u
-alike_both s t u p q = record { nodes = q.nodes ∙ p.nodes; duties = q.duties ∙ p.duties; modules = q.modules ∙ p.modules; last = q.last ∙ p.last; entries = q.entries ∙ p.entries; work = q.work ∙ p.work }
+alike_both s t u p q = record { nodes = q.nodes ∙ p.nodes; duties = q.duties ∙ p.duties; modules = q.modules ∙ p.modules; last = q.last ∙ p.last; rules = q.rules ∙ p.rules; work = q.work ∙ p.work }
 
 pub alike_if : (c : Bool) (s t u : State) → Alike s t → Alike s u → Alike s (if c then t else u)
 alike_if true s t u p q = p
@@ -83,10 +82,10 @@ replaced_duties v t [] = refl
 replaced_duties v t (g ∷ gs) = ap₂ (λ (b : Bool) (ds : List Duty). (record { number = g.number; shoen = g.shoen; is_monitor = b }) ∷ ds) (task_kept v t g.task) (replaced_duties v t gs)
 
 pub alike_change : (n : ℕ) (f : Shoen → Shoen) (s : State) → ((h : Shoen) → node_of (f h) ≡ node_of h) → Alike s (change_shoen n f s)
-alike_change n f s e = record { nodes = changed_nodes n f e s.shoens; duties = refl; modules = refl; last = refl; entries = refl; work = refl }
+alike_change n f s e = record { nodes = changed_nodes n f e s.shoens; duties = refl; modules = refl; last = refl; rules = refl; work = refl }
 
 pub alike_replace : (v : ℕ) (t : Term) (s : State) → Alike s (replace_in_state v t s)
-alike_replace v t s = record { nodes = replaced_nodes v t s.shoens; duties = replaced_duties v t s.goals; modules = refl; last = refl; entries = refl; work = refl }
+alike_replace v t s = record { nodes = replaced_nodes v t s.shoens; duties = replaced_duties v t s.goals; modules = refl; last = refl; rules = refl; work = refl }
 
 pub alike_all : (rs : List Replacement) (s : State) → Alike s (replace_all rs s)
 alike_all [] s = alike_same s
@@ -95,17 +94,17 @@ alike_all (r ∷ rs) s = alike_both s (replace_in_state r.number r.by s) (replac
 alike_broken : (n : ℕ) (s : State) → Alike s (broken_at n s)
 alike_broken n s = alike_change n (λ h. record h { is_broken = true }) s (λ h. refl)
 
-reported_alike : (n : ℕ) (m t : Term) (s : State) → Alike s (reported_at n m t s)
-reported_alike n m (variable v) s =
+told_alike : (n : ℕ) (m : Term) (o : Option ℕ) (s : State) → Alike s (reported_on n m o s)
+told_alike n m None s = alike_broken n s
+told_alike n m (Some v) s =
     let next = suc s.last_variable in
     let bound = record (replace_in_state v (cell m (variable next)) s) { last_variable = next; reports = suc s.reports } in
     let k = alike_replace v (cell m (variable next)) s in
-    let b : Alike s bound = record { nodes = k.nodes; duties = k.duties; modules = refl; last = refl; entries = refl; work = refl } in
-    alike_if (occurs v m || not (nat_lt s.reports MOST_REPORTS)) s (broken_at n s) (change_shoen n (λ h. record h { tail = variable next }) bound) (alike_broken n s)
-    (alike_both s bound (change_shoen n (λ h. record h { tail = variable next }) bound) b (alike_change n (λ h. record h { tail = variable next }) bound (λ h. refl)))
-reported_alike n m (integer i) s = alike_broken n s
-reported_alike n m (atom a) s = alike_broken n s
-reported_alike n m (structure f ts) s = alike_broken n s
+    let b : Alike s bound = record { nodes = k.nodes; duties = k.duties; modules = refl; last = refl; rules = refl; work = refl } in
+    alike_both s bound (change_shoen n (λ h. record h { tail = variable next }) bound) b (alike_change n (λ h. record h { tail = variable next }) bound (λ h. refl))
+
+reported_alike : (n : ℕ) (m t : Term) (s : State) → Alike s (reported_at n m t s)
+reported_alike n m t s = told_alike n m (report_tail (has_made_last s) m t) s
 
 report_of_alike : (o : Option Shoen) (n : ℕ) (m : Term) (s : State) → Alike s (report_of o n m s)
 report_of_alike None n m s = alike_same s
@@ -174,7 +173,7 @@ alike_sent n m (variable v) s =
     let by = cell (message_term m) (variable next) in
     let u = record (replace_in_state v by s) { last_variable = next; variables = suc s.variables; nodes = s.nodes + message_nodes m } in
     let k = alike_replace v by s in
-    let b : Alike s u = record { nodes = k.nodes; duties = k.duties; modules = refl; last = refl; entries = refl; work = refl } in
+    let b : Alike s u = record { nodes = k.nodes; duties = k.duties; modules = refl; last = refl; rules = refl; work = refl } in
     alike_both s u (change_shoen n (with_control_tail (variable next)) u) b (alike_change n (with_control_tail (variable next)) u (λ h. refl))
 alike_sent n m (integer i) s = alike_same s
 alike_sent n m (atom a) s = alike_same s
@@ -182,7 +181,7 @@ alike_sent n m (structure f ts) s = alike_same s
 
 pub alike_answered : (v : ℕ) (t : Term) (s : State) → Alike s (answered v t s)
 alike_answered v t s =
-    let k = alike_replace v (with_next_variables s.last_variable t) s in record { nodes = k.nodes; duties = k.duties; modules = refl; last = refl; entries = refl; work = refl }
+    let k = alike_replace v (with_next_variables s.last_variable t) s in record { nodes = k.nodes; duties = k.duties; modules = refl; last = refl; rules = refl; work = refl }
 
 -- ---- a goal in the place of another
 
@@ -196,7 +195,7 @@ pub record Placed (n : ℕ) (s t : State) : Type 0 where
   pub duties : duties_of t.goals ≡ duties_of s.goals ++ next_duty s.last_goal n ∷ []
   pub modules : t.modules ≡ s.modules
   pub last : t.last_goal ≡ suc s.last_goal
-  pub entries : t.entries ≡ s.entries
+  pub rules : t.rules ≡ s.rules
   pub work : t.work ≡ s.work
 
 pub duties_append : (gs hs : List Goal) → duties_of (gs ++ hs) ≡ duties_of gs ++ duties_of hs
@@ -211,7 +210,7 @@ placed_after g task s t plain k = record {
       ∙ ap₂ (λ (ds : List Duty) (last : ℕ). ds ++ next_duty last g.shoen ∷ []) k.duties k.last;
   modules = k.modules;
   last = ap suc k.last;
-  entries = k.entries;
+  rules = k.rules;
   work = k.work;
 }
 
@@ -220,7 +219,7 @@ placed_substitute g kind t s =
     let new = suc s.last_variable in
     let told = exception_with kind t (variable new) in
     let u = record s { last_variable = new } in
-    let b : Alike s u = record { nodes = refl; duties = refl; modules = refl; last = refl; entries = refl; work = refl } in
+    let b : Alike s u = record { nodes = refl; duties = refl; modules = refl; last = refl; rules = refl; work = refl } in
     placed_after g (substitutes (variable new)) s (report g.shoen told u) refl (alike_both s u (report g.shoen told u) b (alike_report g.shoen told u))
 
 -- a fact holds after whatever leaves nodes and duties, and after that and a goal in the place of this one

@@ -5,11 +5,11 @@ use Rattle.std.proofs.lemmas.Bool.{false≢true, eqb-true, leb-false}
 use Rattle.std.proofs.lemmas.Option.{none-some, same_Some}
 use Rattle.kl1_model.specs.State.{Goal, Shoen, State, goal_at, shoen_at, is_monitor, is_living}
 use Rattle.kl1_model.specs.Tree.{is_on_path, charged_of, is_enabled, is_enabled_in, is_blocking, is_blocking_at, is_exhausted}
-use Rattle.kl1_model.specs.Event.{reduce, reduced, Transition, refuse, syntax, is_number}
+use Rattle.kl1_model.specs.Event.{reduce, reduced, Transition, refuse, syntax, is_number, is_refused}
 use Rattle.kl1_model.specs.Reduction.{task_action, reduce_goal}
 use Rattle.kl1_model.specs.code.Steps.{reduced_by}
 use Rattle.kl1_model.specs.Step.{step}
-use Rattle.kl1_model.specs.laws.TreeLaws.{is_refused}
+use Rattle.kl1_model.specs.Choice.{is_in_run}
 use Rattle.kl1_model.proofs.TreeGrows.{held_back_below}
 use Rattle.kl1_model.proofs.TreeSteps.{reductions_charge}
 use Rattle.kl1_model_laws.specs.AllowanceLaws.{ReductionsHaveAllowance, ReductionsStayWithin}
@@ -24,9 +24,9 @@ found_number n (k ∷ hs) h e = by_first (k.number == n) refl e (found_number n 
     by_first false same e go = go e
 
 -- a goal that isn't enabled isn't reduced
-not_reduced : (s : State) (g : Goal) (clause : ℕ) (b : Bool) → (reduced_by s g (if b then task_action s g.shoen g.task clause else None)).reply ≡ reduced → b ≡ true
-not_reduced s g clause true e = refl
-not_reduced s g clause false e = absurd (false≢true (sym (ap is_refused e)))
+not_reduced : (s : State) (r : Bool) (g : Goal) (clause : ℕ) (b : Bool) → (reduced_by s r g (if b then task_action s g.shoen g.task clause else None)).reply ≡ reduced → b ≡ true
+not_reduced s r g clause true e = refl
+not_reduced s r g clause false e = absurd (false≢true (sym (ap is_refused e)))
 
 asked : (c : Bool) (x : Transition) (s : State) → (if c then x else refuse s syntax).reply ≡ reduced → x.reply ≡ reduced
 asked true x s e = e
@@ -34,8 +34,9 @@ asked false x s e = absurd (false≢true (sym (ap is_refused e)))
 
 enabled_where_reduced : (s : State) (goal clause : ℕ) (g : Goal) → goal_at goal s.goals ≡ Some g → (step s (reduce goal clause)).reply ≡ reduced → is_enabled s g ≡ true
 enabled_where_reduced s goal clause g there e =
-    not_reduced s g clause (is_enabled s g)
-    (subst (λ (o : Option Goal). (reduce_goal s clause o).reply ≡ reduced) there (asked (is_number goal && is_number clause) (reduce_goal s clause (goal_at goal s.goals)) s e))
+    let r = is_in_run s goal clause in
+    not_reduced s r g clause (is_enabled s g)
+    (subst (λ (o : Option Goal). (reduce_goal s r clause o).reply ≡ reduced) there (asked (is_number goal && is_number clause) (reduce_goal s r clause (goal_at goal s.goals)) s e))
 
 or_right : (a b : Bool) → a ≡ false → a || b ≡ true → b ≡ true
 or_right true b h e = absurd (false≢true (sym h))

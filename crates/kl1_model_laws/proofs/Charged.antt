@@ -1,37 +1,35 @@
 -- No shoen is charged more than its allowance.
-use Rattle.std.proofs.Common.{◌≡◌, ◌≤◌, ◌<◌, ℕ, zero, suc, ◌+◌, ◌==◌, ◌||◌, not, ◌&&◌, Bool, true, false, if◌then◌else◌, List, [], ◌∷◌, refl, sym, ap, ap₂, ◌∙◌, subst, arith}
-use Rattle.std.specs.Prelude.{nat_le, nat_lt, min, map, length, get_or, count_by, cond, Option, Some, None}
+use Rattle.std.proofs.Common.{◌≡◌, ◌≤◌, ◌<◌, ℕ, zero, suc, ◌+◌, ◌==◌, not, ◌&&◌, Bool, true, false, if◌then◌else◌, List, [], ◌∷◌, refl, sym, ap, ap₂, ◌∙◌, subst, arith}
+use Rattle.std.specs.Prelude.{map, length, get_or, count_by, cond, Option, Some, None}
 use Rattle.std.specs.List.{AllByRecursion}
-use Rattle.std.proofs.lemmas.Bool.{true≢false, eq-eqb, ne_eqb, or_from, ltb-true}
+use Rattle.std.proofs.lemmas.Bool.{true≢false, eq-eqb, ne_eqb, or_from}
 use Rattle.std.proofs.lemmas.List.Sums.{sum_by-cons, count_by-le-length}
-use Rattle.kl1_model.specs.declared.limits.TheConstants.{MOST_REPORTS, MOST_NAMES, MOST_ENTRIES, MOST_ALLOWANCE}
 use Rattle.kl1_model.specs.declared.life.Life.TheVariants.{Terminated, Aborted}
 use Rattle.kl1_model.specs.declared.message.Message.{Message}
 use Rattle.kl1_model.specs.declared.message.Message.TheVariants.{Stop, Start, Abort, Allow}
-use Rattle.kl1_model.specs.Term.{Term, variable, integer, atom, structure, Replacement, occurs}
+use Rattle.kl1_model.specs.Term.{Term, variable, integer, atom, structure, Replacement}
 use Rattle.kl1_model.specs.Meaning.{nil, cell}
 use Rattle.kl1_model.specs.Unify.{mgu}
 use Rattle.kl1_model.specs.Module.{is_among}
 use Rattle.kl1_model.specs.Control.{Control, awaits_message, tells, tells_other, ends, breaks_off}
 use Rattle.kl1_model.specs.State.{Goal, Shoen, State, has_substitutes, shoen_at, replace_in_shoen, replace_in_state, replace_all, change_shoen, without_goal, with_name, is_monitor, is_living}
 use Rattle.kl1_model.specs.Tree.{parents_of, path_within, path, is_on_path, charged_of, charge, is_enabled}
-use Rattle.kl1_model.specs.Event.{with_entry}
-use Rattle.kl1_model.specs.Report.{broken_at, reported_at, report, is_reported, report_each, closed_at, close, exception, exception_with, failure, illegal_input, exhaustion, started_report, exhausted_report, stopped_report, resumed_report, terminated_report, aborted_report}
+use Rattle.kl1_model.specs.Event.{are_too_many, with_entry, with_reduction}
+use Rattle.kl1_model.specs.Report.{broken_at, has_made_last, report_tail, reported_on, reported_at, report, is_reported, report_each, closed_at, close, exception, exception_with, failure, illegal_input, exhaustion, started_report, exhausted_report, stopped_report, resumed_report, terminated_report, aborted_report}
 use Rattle.kl1_model.specs.Ending.{ended_at, ending_of, without_monitor, terminate, terminate_each, settle, newly_exhausted, after_reduction, ended_below, abort}
 use Rattle.kl1_model.specs.Opening.{with_shoen, open_shoen, with_next_variables, start_goal, has_room_for_child, child_shoen, open_child}
-use Rattle.kl1_model.specs.Reduction.{Move, commits, raises, unifies, names, opens, goes, gives_way, moves, reads, has_room_for, committed, substituted_by, raised, unified, equation, or_exhaustion, moved, obeyed, with_control, heard, acted}
+use Rattle.kl1_model.specs.Reduction.{Move, commits, raises, unifies, names, opens, goes, gives_way, moves, reads, has_room_for, committed, substituted_by, raised, unified, equation, or_exhaustion, moved, obeyed, with_control, grown, heard, acted}
 use Rattle.kl1_model.specs.code.Steps.{report_of, close_of, aborted_below, stopped_of, resumed_of, allowed_more, named_by}
 use Rattle.kl1_model.specs.Answering.{answered}
 use Rattle.kl1_model.specs.Sending.{with_control_tail, sent_on}
 use Rattle.kl1_model.specs.laws.TreeLaws.{AreNumbered, ParentsAreLower, IsTree}
 use Rattle.kl1_model.proofs.TreeKeeps.{kept_tree}
-use Rattle.kl1_model.proofs.TreeGrows.{opening_follows, acted_move, acted_reading, charged_among, charged_kept, with_entry_keeps, found_within}
+use Rattle.kl1_model.proofs.TreeGrows.{opening_follows, acted_move, acted_reading, charged_among, charged_kept, with_reduction_keeps, found_within}
 use Rattle.kl1_model_laws.specs.Reached.{reached}
 use Rattle.kl1_model_laws.specs.AllowanceLaws.{NoneIsChargedMore}
 use Rattle.kl1_model_laws.proofs.Allowances.{found_number, enabled_has_allowance}
 use Rattle.kl1_model_laws.proofs.Reaching.{Keeping, holds_reached}
-use Rattle.kl1_model_laws.proofs.Alike.{Node, nodes_of, Alike, begun, begun_shoen, alike_start, alike_sent, alike_answered}
-use Rattle.kl1_model_laws.proofs.Modules.{move_has, reading_has}
+use Rattle.kl1_model_laws.proofs.Alike.{Node, nodes_of, Alike, begun, begun_shoen, alike_sent, alike_answered}
 use Rattle.kl1_model_laws.proofs.Each.{all_map, all_append, all_weaker, found_shoen}
 
 -- charges are within the allowances of shoens
@@ -68,15 +66,15 @@ cap_all b (r ∷ rs) s a = cap_all b rs (replace_in_state r.number r.by s) (repl
 cap_broken : (b : ℕ → ℕ) (n : ℕ) (s : State) → Cap b s → Cap b (broken_at n s)
 cap_broken b n s a = changed b n (λ h. record h { is_broken = true }) s (λ h p. p) a
 
-reported : (b : ℕ → ℕ) (n : ℕ) (m t : Term) (s : State) → Cap b s → Cap b (reported_at n m t s)
-reported b n m (variable v) s a =
+told : (b : ℕ → ℕ) (n : ℕ) (m : Term) (o : Option ℕ) (s : State) → Cap b s → Cap b (reported_on n m o s)
+told b n m None s a = cap_broken b n s a
+told b n m (Some v) s a =
     let next = suc s.last_variable in
     let bound = record (replace_in_state v (cell m (variable next)) s) { last_variable = next; reports = suc s.reports } in
-    cap_if (occurs v m || not (nat_lt s.reports MOST_REPORTS)) b (broken_at n s) (change_shoen n (λ h. record h { tail = variable next }) bound) (cap_broken b n s a)
-    (changed b n (λ h. record h { tail = variable next }) bound (λ h p. p) (replaced b v (cell m (variable next)) s a))
-reported b n m (integer i) s a = cap_broken b n s a
-reported b n m (atom c) s a = cap_broken b n s a
-reported b n m (structure f ts) s a = cap_broken b n s a
+    changed b n (λ h. record h { tail = variable next }) bound (λ h p. p) (replaced b v (cell m (variable next)) s a)
+
+reported : (b : ℕ → ℕ) (n : ℕ) (m t : Term) (s : State) → Cap b s → Cap b (reported_at n m t s)
+reported b n m t s a = told b n m (report_tail (has_made_last s) m t) s a
 
 cap_report_of : (b : ℕ → ℕ) (o : Option Shoen) (n : ℕ) (m : Term) (s : State) → Cap b s → Cap b (report_of o n m s)
 cap_report_of b None n m s a = a
@@ -139,24 +137,24 @@ cap_resumed b (Some h) n s a =
     let t = change_shoen n (λ h. record h { is_stopped = false }) s in
     cap_if h.is_stopped b (report n resumed_report t) s (cap_report b n resumed_report t (changed b n (λ h. record h { is_stopped = false }) s (λ h p. p) a)) a
 
-at_least : (x a extra most : ℕ) → x ≤ a → x ≤ most → x ≤ min (a + extra) most
-at_least x a extra most e f = omega (arith, e, f)
+at_least : (x a extra : ℕ) → x ≤ a → x ≤ grown a extra
+at_least x a extra e = omega (arith, e)
 
-cap_obeyed : (b : ℕ → ℕ) → ((n : ℕ) → b n ≤ MOST_ALLOWANCE) → (n : ℕ) (m : Message) (s : State) → Cap b s → Cap b (obeyed n m s)
-cap_obeyed b most n Stop s a = cap_stopped b (shoen_at n s.shoens) n s a
-cap_obeyed b most n Start s a = cap_resumed b (shoen_at n s.shoens) n s a
-cap_obeyed b most n Abort s a = cap_abort b n s a
-cap_obeyed b most n (Allow extra) s a = changed b n (allowed_more extra) s (λ h p. at_least (b h.number) h.allowance extra MOST_ALLOWANCE p (most h.number)) a
+cap_obeyed : (b : ℕ → ℕ) (n : ℕ) (m : Message) (s : State) → Cap b s → Cap b (obeyed n m s)
+cap_obeyed b n Stop s a = cap_stopped b (shoen_at n s.shoens) n s a
+cap_obeyed b n Start s a = cap_resumed b (shoen_at n s.shoens) n s a
+cap_obeyed b n Abort s a = cap_abort b n s a
+cap_obeyed b n (Allow extra) s a = changed b n (allowed_more extra) s (λ h p. at_least (b h.number) h.allowance extra p) a
 
 cap_rest : (b : ℕ → ℕ) (n : ℕ) (rest : Term) (s : State) → Cap b s → Cap b (with_control n rest s)
 cap_rest b n rest s a = changed b n (λ h. record h { control = rest }) s (λ h p. p) a
 
-cap_heard : (b : ℕ → ℕ) → ((n : ℕ) → b n ≤ MOST_ALLOWANCE) → (n : ℕ) (c : Control) (s : State) → Cap b s → Cap b (heard n c s)
-cap_heard b most n (awaits_message v) s a = a
-cap_heard b most n (tells m rest) s a = cap_obeyed b most n m (with_control n rest s) (cap_rest b n rest s a)
-cap_heard b most n (tells_other m rest) s a = cap_report b n (exception illegal_input m) (with_control n rest s) (cap_rest b n rest s a)
-cap_heard b most n ends s a = a
-cap_heard b most n (breaks_off t) s a = cap_report b n (exception illegal_input t) (without_monitor n s) a
+cap_heard : (b : ℕ → ℕ) (n : ℕ) (c : Control) (s : State) → Cap b s → Cap b (heard n c s)
+cap_heard b n (awaits_message v) s a = a
+cap_heard b n (tells m rest) s a = cap_obeyed b n m (with_control n rest s) (cap_rest b n rest s a)
+cap_heard b n (tells_other m rest) s a = cap_report b n (exception illegal_input m) (with_control n rest s) (cap_rest b n rest s a)
+cap_heard b n ends s a = a
+cap_heard b n (breaks_off t) s a = cap_report b n (exception illegal_input t) (without_monitor n s) a
 
 -- a substitute leaves the shoens as the report does
 cap_raised : (b : ℕ → ℕ) (g : Goal) (kind : List ℕ) (t : Term) (s : State) → Cap b s → Cap b (raised g kind t s)
@@ -189,7 +187,7 @@ cap_moved b g t (raises kind) s e a = cap_raised b g kind t s a
 cap_moved b g t (unifies x y) s e a = cap_unified b g t (mgu (equation x y)) s a
 cap_moved b g t (names text x) s e a =
     let u = record s { names = with_name s.names text } in
-    cap_or (nat_le (length (with_name s.names text)) MOST_NAMES) b g t (named_by g t text x s) s (cap_unified b g t (mgu (equation x (atom text))) u a) a
+    cap_or (not (are_too_many (with_name s.names text))) b g t (named_by g t text x s) s (cap_unified b g t (mgu (equation x (atom text))) u a) a
 cap_moved b g t (opens o) s e a = cap_or (has_room_for_child s g.shoen) b g t (open_child s g.shoen o) s (cap_open b (child_shoen s g.shoen o) o.goal s e a) a
 cap_moved b g t goes s e a = a
 cap_moved b g t gives_way s e a = a
@@ -247,11 +245,9 @@ all_found b (k ∷ hs) a = (
 
 -- ---- events
 
--- charges are within allowances, and there is an entry for each charged reduction
+-- charges are within allowances
 record IsWithin (s : State) : Type 0 where
   capped : Cap (charged_of s) s
-  worked : length s.work ≤ s.entries
-  entries : s.entries ≤ MOST_ENTRIES
 
 -- what a shoen is charged with one reduction more of a goal
 abbrev charged_more : State → Goal → ℕ → ℕ
@@ -276,64 +272,38 @@ new_free s g tree few =
     new_case (is_on_path s.shoens (suc s.last_shoen) g.shoen) (charged_of s (suc s.last_shoen)) (above_path (parents_of s.shoens) tree.lower g.shoen g.shoen (suc s.last_shoen) (omega (arith, few)))
     (not_charged s (suc s.last_shoen) tree (omega arith))
 
-entries_fit : MOST_ENTRIES ≤ MOST_ALLOWANCE
-entries_fit = omega arith
-
-moving_within : (s : State) (n : ℕ) (g : Goal) (t : Term) (m : Move) → IsTree s → g.shoen ≤ s.last_shoen → is_monitor g.task ≡ false → is_enabled s g ≡ true → nat_lt s.entries MOST_ENTRIES ≡ true → IsWithin s → IsWithin (acted g (moves t m) (with_entry s))
-moving_within s n g t m tree few plain on free w =
-    let e = with_entry s in
-    let entered = kept_tree s e (with_entry_keeps s) tree in
+moving_within : (s : State) (r : Bool) (g : Goal) (t : Term) (m : Move) → IsTree s → g.shoen ≤ s.last_shoen → is_monitor g.task ≡ false → is_enabled s g ≡ true → IsWithin s → IsWithin (acted g (moves t m) (with_reduction r s))
+moving_within s r g t m tree few plain on w =
+    let e = with_reduction r s in
+    let entered = kept_tree s e (with_reduction_keeps r s) tree in
     let worked = charge g.shoen (without_goal g.number e) in
     let end = acted g (moves t m) e in
     let charges = (acted_move g t m e few entered).1 in
-    let has = move_has g t m e in
-    let room = ltb-true s.entries MOST_ENTRIES free in
-    let same : end.entries ≡ suc s.entries = has.entries in
-    let work : length end.work ≡ suc (length s.work) = ap length has.work in
-    let before = w.worked in
     let capped = cap_settle_charged (charged_more s g) g.shoen (moved g t m worked) (cap_moved (charged_more s g) g t m worked (new_free s g tree few) (capped_more s g tree plain on w.capped)) in
     record {
       capped = all_weaker (λ h. charged_more s g h.number ≤ h.allowance) (λ h. charged_of end h.number ≤ h.allowance) (λ h p. let x = charges h.number in omega (arith, x, p)) end.shoens capped;
-      worked = omega (arith, same, work, before);
-      entries = omega (arith, same, room);
     }
 
-reading_within : (s : State) (g : Goal) (c : Control) → nat_lt s.entries MOST_ENTRIES ≡ true → IsWithin s → IsWithin (acted g (reads c) (with_entry s))
-reading_within s g c free w =
-    let e = with_entry s in
+reading_within : (s : State) (r : Bool) (g : Goal) (c : Control) → IsWithin s → IsWithin (acted g (reads c) (with_reduction r s))
+reading_within s r g c w =
+    let e = with_reduction r s in
     let end = acted g (reads c) e in
     let keeps = acted_reading g c e in
-    let has = reading_has g c e in
-    let room = ltb-true s.entries MOST_ENTRIES free in
-    let same : end.entries ≡ suc s.entries = has.entries in
-    let work : length end.work ≡ length s.work = ap length has.work in
-    let before = w.worked in
-    let fit = entries_fit in
-    let low = w.entries in
-    let capped = cap_settle (charged_of s) g.shoen (heard g.shoen c e) (cap_heard (charged_of s) (λ n. let x = charged_most s n in omega (arith, x, before, low, fit)) g.shoen c e w.capped) in
+    let capped = cap_settle (charged_of s) g.shoen (heard g.shoen c e) (cap_heard (charged_of s) g.shoen c e w.capped) in
     record {
       capped = all_weaker (λ h. charged_of s h.number ≤ h.allowance) (λ h. charged_of end h.number ≤ h.allowance) (λ h p. let x = charged_kept e end h.number keeps in omega (arith, x, p)) end.shoens capped;
-      worked = omega (arith, same, work, before);
-      entries = omega (arith, same, room);
     }
 
-start_within : (s : State) (allowance low high : ℕ) (t : Term) → IsTree s → nat_lt s.entries MOST_ENTRIES ≡ true → IsWithin s → IsWithin (with_entry (start_goal s allowance low high t))
-start_within s allowance low high t tree free w =
+start_within : (s : State) (allowance low high : ℕ) (t : Term) → IsTree s → IsWithin s → IsWithin (with_entry (start_goal s allowance low high t))
+start_within s allowance low high t tree w =
     let h = begun_shoen s allowance low high t in
     let goal = with_next_variables s.last_variable t in
     let u = begun s t in
     let end = start_goal s allowance low high t in
     let follows = opening_follows 0 h goal u refl (λ few. few) in
-    let alike = alike_start s allowance low high t in
-    let room = ltb-true s.entries MOST_ENTRIES free in
-    let same : end.entries ≡ s.entries = alike.entries in
-    let work : length end.work ≡ length s.work = ap length alike.work in
-    let before = w.worked in
     let capped = cap_open (charged_of s) h goal u (not_charged s h.number tree (omega arith)) w.capped in
     record {
       capped = all_weaker (λ k. charged_of s k.number ≤ k.allowance) (λ k. charged_of end k.number ≤ k.allowance) (λ k p. let x = charged_among s end follows.more k.number tree follows.parents follows.work in omega (arith, x, p)) end.shoens capped;
-      worked = omega (arith, same, work, before);
-      entries = omega (arith, same, room);
     }
 
 cap_sent : (b : ℕ → ℕ) (n : ℕ) (m : Message) (t : Term) (s : State) → Cap b s → Cap b (sent_on n m t s)
@@ -344,43 +314,33 @@ cap_sent b n m (integer i) s a = a
 cap_sent b n m (atom c) s a = a
 cap_sent b n m (structure f ts) s a = a
 
-sent_within : (s : State) (n : ℕ) (m : Message) (t : Term) → nat_lt s.entries MOST_ENTRIES ≡ true → IsWithin s → IsWithin (with_entry (sent_on n m t s))
-sent_within s n m t free w =
+sent_within : (s : State) (n : ℕ) (m : Message) (t : Term) → IsWithin s → IsWithin (with_entry (sent_on n m t s))
+sent_within s n m t w =
     let end = sent_on n m t s in
     let alike = alike_sent n m t s in
-    let room = ltb-true s.entries MOST_ENTRIES free in
-    let same : end.entries ≡ s.entries = alike.entries in
-    let work : length end.work ≡ length s.work = ap length alike.work in
-    let before = w.worked in
     record {
       capped = all_weaker (λ k. charged_of s k.number ≤ k.allowance) (λ k. charged_of end k.number ≤ k.allowance) (λ k p. let x = charged_alike s end k.number alike in omega (arith, x, p)) end.shoens (cap_sent (charged_of s) n m t s w.capped);
-      worked = omega (arith, same, work, before);
-      entries = omega (arith, same, room);
     }
 
-answered_within : (s : State) (v : ℕ) (t : Term) → nat_lt s.entries MOST_ENTRIES ≡ true → IsWithin s → IsWithin (with_entry (answered v t s))
-answered_within s v t free w =
+answered_within : (s : State) (v : ℕ) (t : Term) → IsWithin s → IsWithin (with_entry (answered v t s))
+answered_within s v t w =
     let end = answered v t s in
     let alike = alike_answered v t s in
-    let room = ltb-true s.entries MOST_ENTRIES free in
-    let before = w.worked in
     record {
       capped = all_weaker (λ k. charged_of s k.number ≤ k.allowance) (λ k. charged_of end k.number ≤ k.allowance) (λ k p. let x = charged_alike s end k.number alike in omega (arith, x, p)) end.shoens (replaced (charged_of s) v (with_next_variables s.last_variable t) s w.capped);
-      worked = omega (arith, before);
-      entries = omega (arith, room);
     }
 
 keeping : Keeping IsWithin
 keeping = record {
-  fresh = λ rules name names sessions. record { capped = tt; worked = omega arith; entries = omega arith };
-  seats = λ s n w. record { capped = w.capped; worked = w.worked; entries = w.entries };
-  loads = λ s source m is free w. let room = ltb-true s.entries MOST_ENTRIES free in let before = w.worked in record { capped = w.capped; worked = omega (arith, before); entries = omega (arith, room) };
-  starts = λ s allowance low high t tree may room free w. start_within s allowance low high t tree free w;
-  sends = λ s n m h o tree there is free w. sent_within s n m o.control free w;
-  moving = λ s n clause g t m tree there task is enabled free w. moving_within s n g t m tree (found_within s.last_shoen n s.goals g there tree.owners) (ap is_monitor task) enabled free w;
-  substituting = λ s n g t m tree there task is enabled free w. moving_within s n g t m tree (found_within s.last_shoen n s.goals g there tree.owners) (ap is_monitor task) enabled free w;
-  answers = λ s n number v t h o tree there origin may room is free w. answered_within s v t free w;
-  reading = λ s n g h c tree there found is free w. reading_within s g c free w;
+  fresh = λ rules name names sessions. record { capped = tt };
+  seats = λ s n w. record { capped = w.capped };
+  loads = λ s source m is w. record { capped = w.capped };
+  starts = λ s allowance low high t tree may room w. start_within s allowance low high t tree w;
+  sends = λ s n m h o tree there is w. sent_within s n m o.control w;
+  moving = λ s r n clause g t m tree there task is enabled w. moving_within s r g t m tree (found_within s.last_shoen n s.goals g there tree.owners) (ap is_monitor task) enabled w;
+  substituting = λ s r n g t m tree there task is enabled w. moving_within s r g t m tree (found_within s.last_shoen n s.goals g there tree.owners) (ap is_monitor task) enabled w;
+  answers = λ s n number v t h o tree there origin may room is w. answered_within s v t w;
+  reading = λ s r n g h c tree there found is w. reading_within s r g c w;
 }
 
 pub none_is_charged_more : NoneIsChargedMore

@@ -5,7 +5,6 @@ use Rattle.std.proofs.lemmas.Bool.{and_parts, eqb-true, leb-true, ltb-true}
 use Rattle.std.proofs.lemmas.List.Sums.{sum_by-cons}
 use Rattle.std.proofs.lemmas.Option.{none-some, same_Some}
 use Rattle.kl1_model.specs.declared.rules.Rules.{Rules}
-use Rattle.kl1_model.specs.declared.limits.TheConstants.{MOST_GOALS, MOST_VARIABLES, MOST_NODES, MOST_SHOENS, MOST_NAMES}
 use Rattle.kl1_model.specs.Term.{Term, atom, substituted}
 use Rattle.kl1_model.specs.Meaning.{highest}
 use Rattle.kl1_model.specs.Nodes.{goal_nodes, goals_nodes}
@@ -13,19 +12,21 @@ use Rattle.kl1_model.specs.Module.{BodyGoal, goals_of}
 use Rattle.kl1_model.specs.Match.{Candidate}
 use Rattle.kl1_model.specs.Unify.{mgu}
 use Rattle.kl1_model.specs.Instance.{body_variable, body_instance, body_priorities, fresh_variables}
-use Rattle.kl1_model.specs.State.{reduces, Goal, Shoen, State, goal_at, shoen_at, with_name, without_goal, is_monitor}
+use Rattle.kl1_model.specs.State.{fresh, limits_of, reduces, Goal, Shoen, State, goal_at, shoen_at, with_name, without_goal, is_monitor}
 use Rattle.kl1_model.specs.Tree.{charge, goals_alive}
-use Rattle.kl1_model.specs.Event.{Event, with_entry}
+use Rattle.kl1_model.specs.Event.{Event, are_too_many, with_reduction}
 use Rattle.kl1_model.specs.Opening.{with_shoen, with_next_variables, start_goal, has_room_to_start, has_room_for_child, child_shoen, open_child}
+use Rattle.kl1_model.specs.Step.{step}
 use Rattle.kl1_model.specs.code.Steps.{opening_goals, priority_of, named_by}
 use Rattle.kl1_model.specs.Reduction.{Move, commits, raises, unifies, names, opens, goes, gives_way, moves, goals_from, has_room_for, committed, replaced_by, equation, moved, heard, acted}
 use Rattle.kl1_model.specs.Answering.{answered}
 use Rattle.kl1_model.specs.Sending.{sent_on}
-use Rattle.kl1_model_laws.specs.Reached.{reached}
+use Rattle.kl1_model_server.proofs.Replays.{rules_stay}
+use Rattle.kl1_model_laws.specs.Reached.{after, reached}
 use Rattle.kl1_model_laws.specs.GoalLaws.{GoalsAreFew}
 use Rattle.kl1_model_laws.proofs.Reaching.{Keeping, holds_reached}
 use Rattle.kl1_model_laws.proofs.Alike.{Duty, duty_of, duties_of, duties_append, next_duty, Lasts, placed_after, by_raised, by_unified, by_limit, alike_same, alike_open, begun, begun_shoen, alike_start, alike_sent, alike_answered}
-use Rattle.kl1_model_laws.proofs.Duties.{Of, of_alike, of_placed, filtered, of_gone, of_settle, of_settle_charged, of_heard}
+use Rattle.kl1_model_laws.proofs.Duties.{most_of, Of, of_alike, of_placed, filtered, of_gone, of_settle, of_settle_charged, of_heard}
 
 -- how many goals are no monitors, by their duties
 abbrev pub alive_in : List Duty → ℕ
@@ -88,13 +89,13 @@ rises_more b (d ∷ ds) es last top r q = (r.0, rises_more d.number ds es last t
 
 -- ---- both
 
--- goals have rising numbers, and those alive are few
-pub record AreCounted (ds : List Duty) (last : ℕ) : Type 0 where
-  pub few : alive_in ds ≤ MOST_GOALS
+-- goals have rising numbers, and at most this number of them are alive
+pub record AreCounted (most : ℕ) (ds : List Duty) (last : ℕ) : Type 0 where
+  pub few : alive_in ds ≤ most
   pub rising : Rises 0 ds last
 
-pub counted_fewer : (p : Duty → Bool) (ds : List Duty) (last : ℕ) → AreCounted ds last → AreCounted (filter p ds) last
-counted_fewer p ds last a = record { few = let b = alive_fewer p ds in let c = a.few in omega (arith, b, c); rising = rises_fewer p 0 ds last a.rising }
+pub counted_fewer : (p : Duty → Bool) (most : ℕ) (ds : List Duty) (last : ℕ) → AreCounted most ds last → AreCounted most (filter p ds) last
+counted_fewer p most ds last a = record { few = let b = alive_fewer p ds in let c = a.few in omega (arith, b, c); rising = rises_fewer p 0 ds last a.rising }
 
 -- ---- a goal that is removed counts no more
 
@@ -154,20 +155,21 @@ commit_counted g k s room counted =
     let body = body_instance k.clause k.places s.last_variable in
     let ps = map (priority_of (shoen_at g.shoen s.shoens) g.priority) (body_priorities k.clause) in
     let new = goals_from s.last_goal g.shoen ps body in
-    let parts = and_parts (nat_le (goals_alive s + length k.clause.body) MOST_GOALS && nat_le (s.variables + fresh_variables k.clause) MOST_VARIABLES) (nat_le (s.nodes + goals_nodes (goals_of k.clause.body)) MOST_NODES) room in
-    let fit = leb-true (goals_alive s + length k.clause.body) MOST_GOALS (and_parts (nat_le (goals_alive s + length k.clause.body) MOST_GOALS) (nat_le (s.variables + fresh_variables k.clause) MOST_VARIABLES) parts.0).0 in
+    let most = limits_of s.rules in
+    let parts = and_parts (nat_le (goals_alive s + length k.clause.body) most.goals && nat_le (s.variables + fresh_variables k.clause) most.variables) (nat_le (s.nodes + goals_nodes (goals_of k.clause.body)) most.nodes) room in
+    let fit = leb-true (goals_alive s + length k.clause.body) most.goals (and_parts (nat_le (goals_alive s + length k.clause.body) most.goals) (nat_le (s.variables + fresh_variables k.clause) most.variables) parts.0).0 in
     let here = alive_is s in
     let a = alive_append (duties_of s.goals) (duties_of new) in
     let b = alive_most (duties_of new) in
     let c = from_most s.last_goal g.shoen ps body in
     let d = mapped_length (substituted (body_variable k.clause k.places s.last_variable)) (goals_of k.clause.body) in
     let e = mapped_length (λ (b : BodyGoal). b.goal) k.clause.body in
-    subst (λ ds. AreCounted ds (s.last_goal + length body)) (sym (duties_append s.goals new)) (record {
+    subst (λ ds. AreCounted (most_of s) ds (s.last_goal + length body)) (sym (duties_append s.goals new)) (record {
       few = omega (arith, fit, here, a, b, c, d, e);
       rising = rises_more 0 (duties_of s.goals) (duties_of new) s.last_goal (s.last_goal + length body) counted.rising (from_rises s.last_goal g.shoen ps body);
     })
 
-open_counted : (h : Shoen) (goal : Term) (s : State) → alive_in (duties_of s.goals) + 1 ≤ MOST_GOALS → Of AreCounted s → Of AreCounted (with_shoen h goal s)
+open_counted : (h : Shoen) (goal : Term) (s : State) → alive_in (duties_of s.goals) + 1 ≤ most_of s → Of AreCounted s → Of AreCounted (with_shoen h goal s)
 open_counted h goal s room counted =
     let new = opening_goals s.last_goal h goal in
     let a = alive_append (duties_of s.goals) (duties_of new) in
@@ -175,13 +177,13 @@ open_counted h goal s room counted =
     let first : s.last_goal < suc s.last_goal = omega arith in
     let next : suc s.last_goal < suc (suc s.last_goal) = omega arith in
     let top : suc (suc s.last_goal) ≤ suc (suc s.last_goal) = omega arith in
-    subst (λ ds. AreCounted ds (suc (suc s.last_goal))) (sym (duties_append s.goals new)) (record {
+    subst (λ ds. AreCounted (most_of s) ds (suc (suc s.last_goal))) (sym (duties_append s.goals new)) (record {
       few = omega (arith, room, a, one);
       rising = rises_more 0 (duties_of s.goals) (duties_of new) s.last_goal (suc (suc s.last_goal)) counted.rising (first, (next, top));
     })
 
-placed_counted : (n last : ℕ) (ds : List Duty) → alive_in ds + 1 ≤ MOST_GOALS → AreCounted ds last → AreCounted (ds ++ next_duty last n ∷ []) (suc last)
-placed_counted n last ds room counted =
+placed_counted : (most n last : ℕ) (ds : List Duty) → alive_in ds + 1 ≤ most → AreCounted most ds last → AreCounted most (ds ++ next_duty last n ∷ []) (suc last)
+placed_counted most n last ds room counted =
     let a = alive_append ds (next_duty last n ∷ []) in
     let one : alive_in (next_duty last n ∷ []) ≤ 1 = alive_most (next_duty last n ∷ []) in
     let next : last < suc last = omega arith in
@@ -189,19 +191,19 @@ placed_counted n last ds room counted =
     record { few = omega (arith, room, a, one); rising = rises_more 0 ds (next_duty last n ∷ []) last (suc last) counted.rising (next, top) }
 
 -- a goal in the place of one that was removed counts as that did
-lasts_counted : (g : Goal) (s : State) → alive_in (duties_of s.goals) + 1 ≤ MOST_GOALS → Of AreCounted s → Lasts (Of AreCounted) g s
+lasts_counted : (g : Goal) (s : State) → alive_in (duties_of s.goals) + 1 ≤ most_of s → Of AreCounted s → Lasts (Of AreCounted) g s
 lasts_counted g s room a = record {
   alike = λ t k. of_alike AreCounted s t k a;
-  placed = λ t k. of_placed AreCounted g.shoen s t k (placed_counted g.shoen s.last_goal (duties_of s.goals) room a);
+  placed = λ t k. of_placed AreCounted g.shoen s t k (placed_counted (most_of s) g.shoen s.last_goal (duties_of s.goals) room a);
 }
 
-moved_counted : (g : Goal) (t : Term) (m : Move) (s : State) → alive_in (duties_of s.goals) + 1 ≤ MOST_GOALS → Of AreCounted s → Of AreCounted (moved g t m s)
+moved_counted : (g : Goal) (t : Term) (m : Move) (s : State) → alive_in (duties_of s.goals) + 1 ≤ most_of s → Of AreCounted s → Of AreCounted (moved g t m s)
 moved_counted g t (commits k) s e a = by_limit (Of AreCounted) (has_room_for s k.clause) g t (committed g k s) s (λ room. commit_counted g k s room a) (lasts_counted g s e a)
 moved_counted g t (raises kind) s e a = by_raised (Of AreCounted) g kind t s (lasts_counted g s e a)
 moved_counted g t (unifies x y) s e a = by_unified (Of AreCounted) g t (mgu (equation x y)) s (lasts_counted g s e a)
 moved_counted g t (names text x) s e a =
     let u = record s { names = with_name s.names text } in
-    by_limit (Of AreCounted) (nat_le (length (with_name s.names text)) MOST_NAMES) g t (named_by g t text x s) s
+    by_limit (Of AreCounted) (not (are_too_many (with_name s.names text))) g t (named_by g t text x s) s
     (λ _. by_unified (Of AreCounted) g t (mgu (equation x (atom text))) u (lasts_counted g u e a)) (lasts_counted g s e a)
 moved_counted g t (opens o) s e a =
     let h = child_shoen s g.shoen o in
@@ -217,37 +219,50 @@ acted_counted g t m s there plain a =
     let c = filtered (λ d. not (d.number == g.number)) s.goals in
     let d = a.few in
     of_settle_charged AreCounted counted_fewer g.shoen (moved g t m worked) (moved_counted g t m worked
-    (subst (λ ds. alive_in ds + 1 ≤ MOST_GOALS) (sym c) (omega (arith, b, d))) (of_gone AreCounted counted_fewer g.number s a))
+    (subst (λ ds. alive_in ds + 1 ≤ most_of s) (sym c) (omega (arith, b, d))) (of_gone AreCounted counted_fewer g.number s a))
 
 pub start_counted : (s : State) (allowance low high : ℕ) (t : Term) → has_room_to_start s t ≡ true → Of AreCounted s → Of AreCounted (start_goal s allowance low high t)
 start_counted s allowance low high t room a =
     let h = begun_shoen s allowance low high t in
     let goal = with_next_variables s.last_variable t in
-    let x = and_parts (nat_lt (goals_alive s) MOST_GOALS && nat_le (s.variables + suc (suc (highest t))) MOST_VARIABLES && nat_le (s.nodes + goal_nodes t) MOST_NODES) (nat_lt s.last_shoen MOST_SHOENS) room in
-    let y = and_parts (nat_lt (goals_alive s) MOST_GOALS && nat_le (s.variables + suc (suc (highest t))) MOST_VARIABLES) (nat_le (s.nodes + goal_nodes t) MOST_NODES) x.0 in
-    let z = and_parts (nat_lt (goals_alive s) MOST_GOALS) (nat_le (s.variables + suc (suc (highest t))) MOST_VARIABLES) y.0 in
-    let few = ltb-true (goals_alive s) MOST_GOALS z.0 in
+    let most = limits_of s.rules in
+    let x = and_parts (nat_lt (goals_alive s) most.goals && nat_le (s.variables + suc (suc (highest t))) most.variables && nat_le (s.nodes + goal_nodes t) most.nodes) (nat_lt s.last_shoen most.shoens) room in
+    let y = and_parts (nat_lt (goals_alive s) most.goals && nat_le (s.variables + suc (suc (highest t))) most.variables) (nat_le (s.nodes + goal_nodes t) most.nodes) x.0 in
+    let z = and_parts (nat_lt (goals_alive s) most.goals) (nat_le (s.variables + suc (suc (highest t))) most.variables) y.0 in
+    let few = ltb-true (goals_alive s) most.goals z.0 in
     let here = alive_is s in
     of_alike AreCounted (with_shoen h goal (begun s t)) (start_goal s allowance low high t) (alike_start s allowance low high t) (open_counted h goal (begun s t) (omega (arith, few, here)) a)
 
-pub fresh_counted : AreCounted [] 0
-fresh_counted = record { few = omega arith; rising = omega arith }
+pub fresh_counted : (most : ℕ) → AreCounted most [] 0
+fresh_counted most = record { few = omega arith; rising = omega arith }
 
 keeping : Keeping (Of AreCounted)
 keeping = record {
-  fresh = λ rules name names sessions. fresh_counted;
+  fresh = λ rules name names sessions. fresh_counted (limits_of rules).goals;
   seats = λ s n a. a;
-  loads = λ s source m is free a. a;
-  starts = λ s allowance low high t tree may room free a. start_counted s allowance low high t room a;
-  sends = λ s n m h o tree there is free a. of_alike AreCounted s (sent_on n m o.control s) (alike_sent n m o.control s) a;
-  moving = λ s n clause g t m tree there task is enabled free a. acted_counted g t m (with_entry s) (found_goal n s.goals g there) (ap is_monitor task) a;
-  substituting = λ s n g t m tree there task is enabled free a. acted_counted g t m (with_entry s) (found_goal n s.goals g there) (ap is_monitor task) a;
-  answers = λ s n number v t h o tree there origin may room is free a. of_alike AreCounted s (answered v t s) (alike_answered v t s) a;
-  reading = λ s n g h c tree there found is free a. of_settle AreCounted counted_fewer g.shoen (heard g.shoen c (with_entry s)) (of_heard AreCounted counted_fewer g.shoen c (with_entry s) a);
+  loads = λ s source m is a. a;
+  starts = λ s allowance low high t tree may room a. start_counted s allowance low high t room a;
+  sends = λ s n m h o tree there is a. of_alike AreCounted s (sent_on n m o.control s) (alike_sent n m o.control s) a;
+  moving = λ s r n clause g t m tree there task is enabled a. acted_counted g t m (with_reduction r s) (found_goal n s.goals g there) (ap is_monitor task) a;
+  substituting = λ s r n g t m tree there task is enabled a. acted_counted g t m (with_reduction r s) (found_goal n s.goals g there) (ap is_monitor task) a;
+  answers = λ s n number v t h o tree there origin may room is a. of_alike AreCounted s (answered v t s) (alike_answered v t s) a;
+  reading = λ s r n g h c tree there found is a. of_settle AreCounted counted_fewer g.shoen (heard g.shoen c (with_reduction r s)) (of_heard AreCounted counted_fewer g.shoen c (with_reduction r s) a);
 }
 
 pub goals_are_counted : (rules : Rules) (name : List ℕ) (es : List Event) → Of AreCounted (reached rules name es)
 goals_are_counted rules name es = holds_reached (Of AreCounted) keeping rules name es
 
+rules_alike : (s : State) (e : Event) → most_of (step s e).state ≡ most_of s
+rules_alike s e = ap (λ (r : Rules). (limits_of r).goals) (rules_stay s e)
+
+most_after : (s : State) (es : List Event) → most_of (after s es) ≡ most_of s
+most_after s [] = refl
+most_after s (e ∷ es) = most_after (step s e).state es ∙ rules_alike s e
+
 pub goals_are_few : GoalsAreFew
-goals_are_few rules name es = let a = goals_are_counted rules name es in let b = a.few in let c = alive_is (reached rules name es) in omega (arith, b, c)
+goals_are_few rules name es =
+    let a = goals_are_counted rules name es in
+    let b = a.few in
+    let c = alive_is (reached rules name es) in
+    let d = most_after (fresh rules name) es in
+    omega (arith, b, c, d)

@@ -1,20 +1,19 @@
 -- Each living shoen has a goal or a living child.
 use Rattle.std.proofs.Common.{◌≡◌, ◌≤◌, inl, inr, ℕ, zero, suc, ◌==◌, ◌||◌, not, ◌&&◌, Bool, true, false, if◌then◌else◌, List, [], ◌∷◌, ◌++◌, refl, sym, ap, ◌∙◌, subst, arith}
-use Rattle.std.specs.Prelude.{nat_le, filter, length, Option, Some, None}
+use Rattle.std.specs.Prelude.{filter, Option, Some, None}
 use Rattle.std.specs.List.{AllByRecursion}
 use Rattle.std.proofs.Math.Bool.{or-true}
 use Rattle.std.proofs.lemmas.Bool.{false≢true, eqb-true, eqb-false, eq-eqb, ne_eqb, cases_eq}
 use Rattle.std.proofs.lemmas.Option.{none-some, same_Some}
-use Rattle.kl1_model.specs.declared.limits.TheConstants.{MOST_NAMES}
 use Rattle.kl1_model.specs.declared.message.Message.TheVariants.{Stop, Start, Abort, Allow}
 use Rattle.kl1_model.specs.Term.{Term, variable, atom, Replacement}
 use Rattle.kl1_model.specs.Unify.{mgu}
 use Rattle.kl1_model.specs.Module.{is_among}
 use Rattle.kl1_model.specs.Match.{Candidate}
 use Rattle.kl1_model.specs.Control.{Control, awaits_message, tells, tells_other, ends, breaks_off}
-use Rattle.kl1_model.specs.State.{Task, reduces, substitutes, Goal, Shoen, State, has_substitutes, goal_at, shoen_at, replace_all, with_name, without_goal, is_monitor, is_living}
+use Rattle.kl1_model.specs.State.{limits_of, Task, reduces, substitutes, Goal, Shoen, State, has_substitutes, goal_at, shoen_at, replace_all, with_name, without_goal, is_monitor, is_living}
 use Rattle.kl1_model.specs.Tree.{parents_of, path_within, is_on_path, charge}
-use Rattle.kl1_model.specs.Event.{with_entry}
+use Rattle.kl1_model.specs.Event.{are_too_many, with_reduction}
 use Rattle.kl1_model.specs.Report.{report, is_reported, exception, exception_with, failure, illegal_input, exhaustion}
 use Rattle.kl1_model.specs.Ending.{has_goal, has_living_child, lives, ends_now, without_monitor, settle}
 use Rattle.kl1_model.specs.Opening.{with_shoen, with_next_variables, start_goal, has_room_to_start, has_room_for_child, child_shoen, open_child}
@@ -24,7 +23,7 @@ use Rattle.kl1_model.specs.Answering.{answered}
 use Rattle.kl1_model.specs.Sending.{sent_on}
 use Rattle.kl1_model.specs.laws.TreeLaws.{AreWithin, IsTree}
 use Rattle.kl1_model.proofs.TreeKeeps.{Keeps, keeps_same, keeps_both, kept_tree, keeps_change, keeps_all, keeps_report, keeps_fewer, keeps_abort, keeps_heard}
-use Rattle.kl1_model.proofs.TreeGrows.{opening_follows, found_within, with_entry_keeps}
+use Rattle.kl1_model.proofs.TreeGrows.{opening_follows, found_within, with_reduction_keeps}
 use Rattle.kl1_model_laws.specs.Reached.{reached}
 use Rattle.kl1_model_laws.specs.EndingLaws.{LivingHaveGoals}
 use Rattle.kl1_model_laws.proofs.Reaching.{Keeping, holds_reached}
@@ -162,7 +161,7 @@ moved_idle g t (raises kind) s idle = by_raised (IdleBut g.shoen) g kind t s (la
 moved_idle g t (unifies x y) s idle = by_unified (IdleBut g.shoen) g t (mgu (equation x y)) s (lasts_idle g s idle)
 moved_idle g t (names text x) s idle =
     let u = record s { names = with_name s.names text } in
-    by_limit (IdleBut g.shoen) (nat_le (length (with_name s.names text)) MOST_NAMES) g t (named_by g t text x s) s
+    by_limit (IdleBut g.shoen) (not (are_too_many (with_name s.names text))) g t (named_by g t text x s) s
     (λ _. by_unified (IdleBut g.shoen) g t (mgu (equation x (atom text))) u (lasts_idle g u idle)) (lasts_idle g s idle)
 moved_idle g t (opens o) s idle =
     let h = child_shoen s g.shoen o in
@@ -218,7 +217,7 @@ moved_tree g t (unifies x y) s few tree = tree_unified g t (mgu (equation x y)) 
 moved_tree g t (names text x) s few tree =
     let u = record s { names = with_name s.names text } in
     let k : Keeps s u = record { parents = refl; work = refl; last = refl; owners = λ n w. w; numbered = λ n w. w } in
-    tree_or (nat_le (length (with_name s.names text)) MOST_NAMES) g t (named_by g t text x s) s few (tree_unified g t (mgu (equation x (atom text))) u few (kept_tree s u k tree)) tree
+    tree_or (not (are_too_many (with_name s.names text))) g t (named_by g t text x s) s few (tree_unified g t (mgu (equation x (atom text))) u few (kept_tree s u k tree)) tree
 moved_tree g t (opens o) s few tree = tree_or (has_room_for_child s g.shoen) g t (open_child s g.shoen o) s few ((opening_follows g.shoen (child_shoen s g.shoen o) o.goal s refl (λ few. few)).tree few tree) tree
 moved_tree g t goes s few tree = tree
 moved_tree g t gives_way s few tree = tree_replaced g (reduces t) s s few (keeps_same s) tree
@@ -286,31 +285,31 @@ start_busy s allowance low high t room b =
       idle = idle_alike (with_shoen h goal (begun s t)) (start_goal s allowance low high t) (alike_start s allowance low high t) (λ m. open_idle h goal (begun s t) m (λ _. b.idle m));
     }
 
-acted_busy : (s : State) (n : ℕ) (g : Goal) (t : Term) (m : Move) → IsTree s → goal_at n s.goals ≡ Some g → is_monitor g.task ≡ false → IsBusy s → IsBusy (acted g (moves t m) (with_entry s))
-acted_busy s n g t m tree there plain b =
+acted_busy : (s : State) (r : Bool) (n : ℕ) (g : Goal) (t : Term) (m : Move) → IsTree s → goal_at n s.goals ≡ Some g → is_monitor g.task ≡ false → IsBusy s → IsBusy (acted g (moves t m) (with_reduction r s))
+acted_busy s r n g t m tree there plain b =
     let own = found_goal n s.goals g there in
     let few = found_within s.last_shoen n s.goals g there tree.owners in
-    let entered = kept_tree s (with_entry s) (with_entry_keeps s) tree in record {
-      counted = acted_counted g t m (with_entry s) own plain b.counted;
-      idle = acted_idle g t m (with_entry s) own few entered b.counted b.idle;
+    let entered = kept_tree s (with_reduction r s) (with_reduction_keeps r s) tree in record {
+      counted = acted_counted g t m (with_reduction r s) own plain b.counted;
+      idle = acted_idle g t m (with_reduction r s) own few entered b.counted b.idle;
     }
 
 keeping : Keeping IsBusy
 keeping = record {
-  fresh = λ rules name names sessions. record { counted = fresh_counted; idle = λ m. refl };
+  fresh = λ rules name names sessions. record { counted = fresh_counted (limits_of rules).goals; idle = λ m. refl };
   seats = λ s n b. record { counted = b.counted; idle = b.idle };
-  loads = λ s source m is free b. record { counted = b.counted; idle = b.idle };
-  starts = λ s allowance low high t tree may room free b. let d = start_busy s allowance low high t room b in record { counted = d.counted; idle = d.idle };
-  sends = λ s n m h o tree there is free b.
+  loads = λ s source m is b. record { counted = b.counted; idle = b.idle };
+  starts = λ s allowance low high t tree may room b. let d = start_busy s allowance low high t room b in record { counted = d.counted; idle = d.idle };
+  sends = λ s n m h o tree there is b.
       let k = alike_sent n m o.control s in record { counted = of_alike AreCounted s (sent_on n m o.control s) k b.counted; idle = idle_alike s (sent_on n m o.control s) k b.idle };
-  moving = λ s n clause g t m tree there task is enabled free b. acted_busy s n g t m tree there (ap is_monitor task) b;
-  substituting = λ s n g t m tree there task is enabled free b. acted_busy s n g t m tree there (ap is_monitor task) b;
-  answers = λ s n number v t h o tree there origin may room is free b.
+  moving = λ s r n clause g t m tree there task is enabled b. acted_busy s r n g t m tree there (ap is_monitor task) b;
+  substituting = λ s r n g t m tree there task is enabled b. acted_busy s r n g t m tree there (ap is_monitor task) b;
+  answers = λ s n number v t h o tree there origin may room is b.
       let k = alike_answered v t s in record { counted = of_alike AreCounted s (answered v t s) k b.counted; idle = idle_alike s (answered v t s) k b.idle };
-  reading = λ s n g h c tree there found is free b.
-      let entered = kept_tree s (with_entry s) (with_entry_keeps s) tree in record {
-        counted = of_settle AreCounted counted_fewer g.shoen (heard g.shoen c (with_entry s)) (of_heard AreCounted counted_fewer g.shoen c (with_entry s) b.counted);
-        idle = read_idle g.shoen c (with_entry s) entered b.idle;
+  reading = λ s r n g h c tree there found is b.
+      let entered = kept_tree s (with_reduction r s) (with_reduction_keeps r s) tree in record {
+        counted = of_settle AreCounted counted_fewer g.shoen (heard g.shoen c (with_reduction r s)) (of_heard AreCounted counted_fewer g.shoen c (with_reduction r s) b.counted);
+        idle = read_idle g.shoen c (with_reduction r s) entered b.idle;
       };
 }
 

@@ -7,6 +7,7 @@ pub mod UnifyDerivation
 pub mod UnifyFails
 pub mod AccountRowProofs
 pub mod HistoryRowProofs
+pub mod RunRowProofs
 pub mod GuardRowProofs
 pub mod ShoenRowProofs
 pub mod SubstituteRowProofs

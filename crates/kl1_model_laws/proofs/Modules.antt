@@ -1,8 +1,7 @@
 -- Modules of an account stay, and each that is loaded was read; what a goal does makes no entry by itself.
-use Rattle.std.proofs.Common.{◌≡◌, ℕ, Bool, true, false, if◌then◌else◌, List, [], ◌∷◌, ◌++◌, refl, sym, ◌∙◌, subst}
-use Rattle.std.specs.Prelude.{nat_le, filter, length, bytes_eq, Option, Some}
+use Rattle.std.proofs.Common.{◌≡◌, ℕ, not, Bool, true, false, if◌then◌else◌, List, [], ◌∷◌, ◌++◌, refl, sym, ◌∙◌, subst}
+use Rattle.std.specs.Prelude.{filter, bytes_eq, Option, Some}
 use Rattle.std.specs.List.{AllByRecursion}
-use Rattle.kl1_model.specs.declared.limits.TheConstants.{MOST_NAMES}
 use Rattle.kl1_model.specs.declared.message.Message.{Message}
 use Rattle.kl1_model.specs.declared.message.Message.TheVariants.{Stop, Start, Abort, Allow}
 use Rattle.kl1_model.specs.Term.{Term, atom, count_of}
@@ -13,7 +12,7 @@ use Rattle.kl1_model.specs.Unify.{mgu}
 use Rattle.kl1_model.specs.Control.{Control, awaits_message, tells, tells_other, ends, breaks_off}
 use Rattle.kl1_model.specs.State.{Goal, State, shoen_at, with_name, without_goal}
 use Rattle.kl1_model.specs.Tree.{path, charge}
-use Rattle.kl1_model.specs.Event.{with_entry}
+use Rattle.kl1_model.specs.Event.{are_too_many, with_reduction}
 use Rattle.kl1_model.specs.Report.{report_each, exception, illegal_input, exhausted_report, terminated_report, aborted_report}
 use Rattle.kl1_model.specs.Ending.{ended_at, ending_of, without_monitor, terminate, terminate_each, newly_exhausted, ended_below, settle, after_reduction}
 use Rattle.kl1_model.specs.Opening.{start_goal, has_room_for_child, child_shoen, open_child}
@@ -29,24 +28,24 @@ use Rattle.kl1_model_laws.proofs.SectionOrder.{sections_are_in_order}
 use Rattle.kl1_model_laws.proofs.Reaching.{Keeping, holds_reached}
 use Rattle.kl1_model_laws.proofs.Alike.{Alike, alike_report, alike_report_each, alike_closing, alike_stopped, alike_resumed, Lasts, by_raised, by_unified, by_limit, alike_open, alike_start, alike_sent}
 
--- an effect leaves the modules, charged reductions, and how many entries there are
+-- an effect leaves the modules, charged reductions, and the rules
 pub record Has (s t : State) : Type 0 where
   pub modules : t.modules ≡ s.modules
-  pub entries : t.entries ≡ s.entries
+  pub rules : t.rules ≡ s.rules
   pub work : t.work ≡ s.work
 
 has_same : (s : State) → Has s s
-has_same s = record { modules = refl; entries = refl; work = refl }
+has_same s = record { modules = refl; rules = refl; work = refl }
 
 has_both : (s t u : State) → Has s t → Has t u → Has s u
-has_both s t u p q = record { modules = q.modules ∙ p.modules; entries = q.entries ∙ p.entries; work = q.work ∙ p.work }
+has_both s t u p q = record { modules = q.modules ∙ p.modules; rules = q.rules ∙ p.rules; work = q.work ∙ p.work }
 
 has_alike : (s t : State) → Alike s t → Has s t
-has_alike s t k = record { modules = k.modules; entries = k.entries; work = k.work }
+has_alike s t k = record { modules = k.modules; rules = k.rules; work = k.work }
 
 terminate_has : (k : ℕ) (s : State) → Has s (terminate k s)
 terminate_has k s =
-    let a = alike_closing k terminated_report (without_monitor k (ended_at k s)) in record { modules = a.modules; entries = a.entries; work = a.work }
+    let a = alike_closing k terminated_report (without_monitor k (ended_at k s)) in record { modules = a.modules; rules = a.rules; work = a.work }
 
 terminate_each_has : (ks : List ℕ) (s : State) → Has s (terminate_each ks s)
 terminate_each_has [] s = has_same s
@@ -55,36 +54,36 @@ terminate_each_has (k ∷ ks) s = has_both s (terminate k s) (terminate_each ks 
 obeyed_has : (k : ℕ) (m : Message) (s : State) → Has s (obeyed k m s)
 obeyed_has k Stop s = has_alike s (obeyed k Stop s) (alike_stopped (shoen_at k s.shoens) k s)
 obeyed_has k Start s = has_alike s (obeyed k Start s) (alike_resumed (shoen_at k s.shoens) k s)
-obeyed_has k Abort s = let a = alike_closing k aborted_report (ended_below k s) in record { modules = a.modules; entries = a.entries; work = a.work }
-obeyed_has k (Allow extra) s = record { modules = refl; entries = refl; work = refl }
+obeyed_has k Abort s = let a = alike_closing k aborted_report (ended_below k s) in record { modules = a.modules; rules = a.rules; work = a.work }
+obeyed_has k (Allow extra) s = record { modules = refl; rules = refl; work = refl }
 
 heard_has : (k : ℕ) (c : Control) (s : State) → Has s (heard k c s)
 heard_has k (awaits_message v) s = has_same s
-heard_has k (tells m rest) s = let a = obeyed_has k m (with_control k rest s) in record { modules = a.modules; entries = a.entries; work = a.work }
-heard_has k (tells_other m rest) s = let a = alike_report k (exception illegal_input m) (with_control k rest s) in record { modules = a.modules; entries = a.entries; work = a.work }
-heard_has k ends s = record { modules = refl; entries = refl; work = refl }
-heard_has k (breaks_off t) s = let a = alike_report k (exception illegal_input t) (without_monitor k s) in record { modules = a.modules; entries = a.entries; work = a.work }
+heard_has k (tells m rest) s = let a = obeyed_has k m (with_control k rest s) in record { modules = a.modules; rules = a.rules; work = a.work }
+heard_has k (tells_other m rest) s = let a = alike_report k (exception illegal_input m) (with_control k rest s) in record { modules = a.modules; rules = a.rules; work = a.work }
+heard_has k ends s = record { modules = refl; rules = refl; work = refl }
+heard_has k (breaks_off t) s = let a = alike_report k (exception illegal_input t) (without_monitor k s) in record { modules = a.modules; rules = a.rules; work = a.work }
 
 -- an effect that follows one, and puts a goal in the place of another or none
 lasts_has : (g : Goal) (s t : State) → Has s t → Lasts (Has s) g t
 lasts_has g s t p = record {
   alike = λ u k. has_both s t u p (has_alike t u k);
-  placed = λ u k. has_both s t u p (record { modules = k.modules; entries = k.entries; work = k.work });
+  placed = λ u k. has_both s t u p (record { modules = k.modules; rules = k.rules; work = k.work });
 }
 
 moved_has : (g : Goal) (t : Term) (m : Move) (s : State) → Has s (moved g t m s)
-moved_has g t (commits k) s = by_limit (Has s) (has_room_for s k.clause) g t (committed g k s) s (λ _. record { modules = refl; entries = refl; work = refl }) (lasts_has g s s (has_same s))
+moved_has g t (commits k) s = by_limit (Has s) (has_room_for s k.clause) g t (committed g k s) s (λ _. record { modules = refl; rules = refl; work = refl }) (lasts_has g s s (has_same s))
 moved_has g t (raises kind) s = by_raised (Has s) g kind t s (lasts_has g s s (has_same s))
 moved_has g t (unifies a b) s = by_unified (Has s) g t (mgu (equation a b)) s (lasts_has g s s (has_same s))
 moved_has g t (names text a) s =
     let u = record s { names = with_name s.names text } in
-    by_limit (Has s) (nat_le (length (with_name s.names text)) MOST_NAMES) g t (named_by g t text a s) s
-    (λ _. by_unified (Has s) g t (mgu (equation a (atom text))) u (lasts_has g s u (record { modules = refl; entries = refl; work = refl }))) (lasts_has g s s (has_same s))
+    by_limit (Has s) (not (are_too_many (with_name s.names text))) g t (named_by g t text a s) s
+    (λ _. by_unified (Has s) g t (mgu (equation a (atom text))) u (lasts_has g s u (record { modules = refl; rules = refl; work = refl }))) (lasts_has g s s (has_same s))
 moved_has g t (opens o) s =
     let b = alike_open (child_shoen s g.shoen o) o.goal s in
-    by_limit (Has s) (has_room_for_child s g.shoen) g t (open_child s g.shoen o) s (λ _. record { modules = b.modules; entries = b.entries; work = b.work }) (lasts_has g s s (has_same s))
+    by_limit (Has s) (has_room_for_child s g.shoen) g t (open_child s g.shoen o) s (λ _. record { modules = b.modules; rules = b.rules; work = b.work }) (lasts_has g s s (has_same s))
 moved_has g t goes s = has_same s
-moved_has g t gives_way s = record { modules = refl; entries = refl; work = refl }
+moved_has g t gives_way s = record { modules = refl; rules = refl; work = refl }
 
 settle_charged_has : (k : ℕ) (s : State) → Has s (after_reduction k s)
 settle_charged_has k s =
@@ -125,13 +124,13 @@ keeping : Keeping AreOrdered
 keeping = record {
   fresh = λ rules name names sessions. tt;
   seats = λ s n a. a;
-  loads = λ s source m e free a. one_more s.modules m a (λ name count. sections_are_in_order source name count m e);
-  starts = λ s allowance low high t tree may room free a. by_modules s (start_goal s allowance low high t) (alike_start s allowance low high t).modules a;
-  sends = λ s n m h o tree there e free a. by_modules s (sent_on n m o.control s) (alike_sent n m o.control s).modules a;
-  moving = λ s n clause g t m tree there task e enabled free a. by_modules s (acted g (moves t m) (with_entry s)) (move_has g t m (with_entry s)).modules a;
-  substituting = λ s n g t m tree there task e enabled free a. by_modules s (acted g (moves t m) (with_entry s)) (move_has g t m (with_entry s)).modules a;
-  answers = λ s n number v t h o tree there origin may room e free a. a;
-  reading = λ s n g h c tree there found e free a. by_modules s (acted g (reads c) (with_entry s)) (reading_has g c (with_entry s)).modules a;
+  loads = λ s source m e a. one_more s.modules m a (λ name count. sections_are_in_order source name count m e);
+  starts = λ s allowance low high t tree may room a. by_modules s (start_goal s allowance low high t) (alike_start s allowance low high t).modules a;
+  sends = λ s n m h o tree there e a. by_modules s (sent_on n m o.control s) (alike_sent n m o.control s).modules a;
+  moving = λ s r n clause g t m tree there task e enabled a. by_modules s (acted g (moves t m) (with_reduction r s)) (move_has g t m (with_reduction r s)).modules a;
+  substituting = λ s r n g t m tree there task e enabled a. by_modules s (acted g (moves t m) (with_reduction r s)) (move_has g t m (with_reduction r s)).modules a;
+  answers = λ s n number v t h o tree there origin may room e a. a;
+  reading = λ s r n g h c tree there found e a. by_modules s (acted g (reads c) (with_reduction r s)) (reading_has g c (with_reduction r s)).modules a;
 }
 
 found_case : (c : Bool) (m : Module) (o : Option Module) (call : Call) → IsOrdered m → are_in_order (clauses_in o call) ≡ true → are_in_order (clauses_in (if c then Some m else o) call) ≡ true

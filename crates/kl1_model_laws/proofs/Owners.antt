@@ -1,9 +1,8 @@
 -- What goals, reports and shoens have no control tail of the console, and effects that keep that.
 use Rattle.std.proofs.Common.{◌≡◌, ◌≤◌, ◌<◌, ℕ, suc, ◌==◌, ◌||◌, not, ◌&&◌, Bool, true, false, if◌then◌else◌, List, [], ◌∷◌, ◌++◌, refl, sym, ap, ap₂, ◌∙◌, subst, arith}
-use Rattle.std.specs.Prelude.{nat_lt, map, filter, codes, Option, Some, None, option_map}
+use Rattle.std.specs.Prelude.{map, filter, codes, Option, Some, None, option_map}
 use Rattle.std.specs.List.{AllByRecursion}
 use Rattle.std.proofs.lemmas.Bool.{eqb-true, ne_eqb}
-use Rattle.kl1_model.specs.declared.limits.TheConstants.{MOST_REPORTS}
 use Rattle.kl1_model.specs.declared.life.Life.TheVariants.{Terminated, Aborted}
 use Rattle.kl1_model.specs.declared.message.Message.{Message}
 use Rattle.kl1_model.specs.declared.message.Message.TheVariants.{Stop, Start, Abort, Allow}
@@ -13,7 +12,7 @@ use Rattle.kl1_model.specs.Control.{message_term, Control, awaits_message, tells
 use Rattle.kl1_model.proofs.ControlStays.{control_by}
 use Rattle.kl1_model.specs.State.{Task, monitor, reduces, substitutes, Goal, Origin, Shoen, State, is_monitor, shoen_at, replace_in_task, replace_in_goal, replace_in_origin, replace_in_shoen, replace_in_state, replace_all, change_shoen, is_living}
 use Rattle.kl1_model.specs.Tree.{path, is_on_path}
-use Rattle.kl1_model.specs.Report.{broken_at, reported_at, report, report_each, closed_at, close, exception, illegal_input, exhausted_report, stopped_report, resumed_report}
+use Rattle.kl1_model.specs.Report.{broken_at, has_made_last, report_tail, reported_on, reported_at, report, report_each, closed_at, close, exception, illegal_input, exhausted_report, stopped_report, resumed_report}
 use Rattle.kl1_model.specs.Ending.{ended_at, ending_of, without_monitor, terminate, terminate_each, settle, newly_exhausted, after_reduction, ended_below, abort}
 use Rattle.kl1_model.specs.Reduction.{obeyed, with_control, heard}
 use Rattle.kl1_model.specs.code.Steps.{report_of, close_of, aborted_below, stopped_of, resumed_of, allowed_more}
@@ -169,16 +168,19 @@ pub own_if : (b : Bool) (c : ℕ → ℕ) (s t : State) → Of c s → Of c t �
 own_if true c s t p q = p
 own_if false c s t p q = q
 
-reported : (c : ℕ → ℕ) (n : ℕ) (m t : Term) (s : State) → IsFree c s.last_variable m → IsFree c s.last_variable t → Of c s → Of c (reported_at n m t s)
-reported c n m (variable v) s f g a =
+told : (x : Bool) (c : ℕ → ℕ) (n v : ℕ) (m : Term) (s : State) → IsFree c s.last_variable m → IsFree c s.last_variable (variable v) → Of c s → Of c (reported_on n m (if x then None else Some v) s)
+told true c n v m s f g a = own_broken c n s a
+told false c n v m s f g a =
     let next = suc s.last_variable in
     let new : IsFree c next (variable next) = (a.above next (omega arith), omega arith) in
     let by = cell m (variable next) in
     let whole : IsFree c next by = (term_raised c s.last_variable next m (omega arith) f, (new, tt)) in
     let bound = record (replace_in_state v by s) { last_variable = next; reports = suc s.reports } in
     let b : Of c bound = own_replace c next v by s.goals s.shoens g.0 whole (own_higher c s.last_variable next s.goals s.shoens (omega arith) a) in
-    own_if (occurs v m || not (nat_lt s.reports MOST_REPORTS)) c (broken_at n s) (change_shoen n (λ h. record h { tail = variable next }) bound) (own_broken c n s a)
-    (changed c n (λ h. record h { tail = variable next }) bound (λ h p. record { tail = new; control = p.control }) b)
+    changed c n (λ h. record h { tail = variable next }) bound (λ h p. record { tail = new; control = p.control }) b
+
+reported : (c : ℕ → ℕ) (n : ℕ) (m t : Term) (s : State) → IsFree c s.last_variable m → IsFree c s.last_variable t → Of c s → Of c (reported_at n m t s)
+reported c n m (variable v) s f g a = told (occurs v m || has_made_last s) c n v m s f g a
 reported c n m (integer i) s f g a = own_broken c n s a
 reported c n m (atom b) s f g a = own_broken c n s a
 reported c n m (structure k ts) s f g a = own_broken c n s a
@@ -194,14 +196,12 @@ last_if : (b : Bool) (n : ℕ) (s t : State) → n ≤ s.last_variable → n ≤
 last_if true n s t e f = e
 last_if false n s t e f = f
 
+told_last : (n : ℕ) (m : Term) (o : Option ℕ) (s : State) → s.last_variable ≤ (reported_on n m o s).last_variable
+told_last n m None s = omega arith
+told_last n m (Some v) s = omega arith
+
 reported_last : (n : ℕ) (m t : Term) (s : State) → s.last_variable ≤ (reported_at n m t s).last_variable
-reported_last n m (variable v) s =
-    let next = suc s.last_variable in
-    let bound = record (replace_in_state v (cell m (variable next)) s) { last_variable = next; reports = suc s.reports } in
-    last_if (occurs v m || not (nat_lt s.reports MOST_REPORTS)) s.last_variable (broken_at n s) (change_shoen n (λ h. record h { tail = variable next }) bound) (omega arith) (omega arith)
-reported_last n m (integer i) s = omega arith
-reported_last n m (atom b) s = omega arith
-reported_last n m (structure k ts) s = omega arith
+reported_last n m t s = told_last n m (report_tail (has_made_last s) m t) s
 
 last_found : (o : Option Shoen) (n : ℕ) (m : Term) (s : State) → s.last_variable ≤ (report_of o n m s).last_variable
 last_found None n m s = omega arith

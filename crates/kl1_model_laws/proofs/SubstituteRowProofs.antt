@@ -171,10 +171,10 @@ heading_line_of_version_3_row : heading_in (codes "journal 3 4 1024") ≡ Some (
 unfolding digits tokens_within expression_at parted_by grouped_by mgu_within path_within
 heading_line_of_version_3_row = refl
 
-heading_line_of_version_4_row : heading_in (codes "journal 4 0 0") ≡ None
+heading_line_of_version_5_row : heading_in (codes "journal 5 0 0") ≡ None
 unfolding digits tokens_within expression_at parted_by grouped_by mgu_within path_within
-heading_line_of_version_4_row = refl
+heading_line_of_version_5_row = refl
 
 -- all of them
 pub substitute_rows_hold : SubstituteRowsHold
-substitute_rows_hold = record { stream_after_a_failure = stream_after_a_failure_row; goals_after_a_failure = goals_after_a_failure_row; numbers_after_a_failure = numbers_after_a_failure_row; sum_that_overflows = sum_that_overflows_row; commit_past_the_last_goal = commit_past_the_last_goal_row; report_of_a_crowd = report_of_a_crowd_row; last_report = last_report_row; no_report = no_report_row; life_without_a_report = life_without_a_report_row; answer_is_sent = answer_is_sent_row; numbers_after_an_answer = numbers_after_an_answer_row; counts_of_an_answer = counts_of_an_answer_row; answer_of_the_last_variable = answer_of_the_last_variable_row; answer_past_the_last_variable = answer_past_the_last_variable_row; answer_of_the_last_structure = answer_of_the_last_structure_row; answer_past_the_last_structure = answer_past_the_last_structure_row; answer_of_the_last_name = answer_of_the_last_name_row; answer_past_the_last_name = answer_past_the_last_name_row; answer_of_a_known_name = answer_of_a_known_name_row; answer_of_the_last_entry = answer_of_the_last_entry_row; answer_past_the_last_entry = answer_past_the_last_entry_row; answer_in_a_crowd = answer_in_a_crowd_row; no_shoen_before_names = no_shoen_before_names_row; names_before_limits = names_before_limits_row; limits_before_the_journal = limits_before_the_journal_row; journal_before_the_report = journal_before_the_report_row; answer_to_no_report = answer_to_no_report_row; answer_to_another_report = answer_to_another_report_row; answer_to_an_answered_report = answer_to_an_answered_report_row; answer_to_report_0 = answer_to_report_0_row; answer_of_variables_not_in_order = answer_of_variables_not_in_order_row; answer_by_the_first_rules = answer_by_the_first_rules_row; answer_to_an_ended_shoen = answer_to_an_ended_shoen_row; goals_after_an_abort = goals_after_an_abort_row; answer_line = answer_line_row; answer_line_in_another_spelling = answer_line_in_another_spelling_row; heading_line = heading_line_row; heading_line_of_version_3 = heading_line_of_version_3_row; heading_line_of_version_4 = heading_line_of_version_4_row }
+substitute_rows_hold = record { stream_after_a_failure = stream_after_a_failure_row; goals_after_a_failure = goals_after_a_failure_row; numbers_after_a_failure = numbers_after_a_failure_row; sum_that_overflows = sum_that_overflows_row; commit_past_the_last_goal = commit_past_the_last_goal_row; report_of_a_crowd = report_of_a_crowd_row; last_report = last_report_row; no_report = no_report_row; life_without_a_report = life_without_a_report_row; answer_is_sent = answer_is_sent_row; numbers_after_an_answer = numbers_after_an_answer_row; counts_of_an_answer = counts_of_an_answer_row; answer_of_the_last_variable = answer_of_the_last_variable_row; answer_past_the_last_variable = answer_past_the_last_variable_row; answer_of_the_last_structure = answer_of_the_last_structure_row; answer_past_the_last_structure = answer_past_the_last_structure_row; answer_of_the_last_name = answer_of_the_last_name_row; answer_past_the_last_name = answer_past_the_last_name_row; answer_of_a_known_name = answer_of_a_known_name_row; answer_of_the_last_entry = answer_of_the_last_entry_row; answer_past_the_last_entry = answer_past_the_last_entry_row; answer_in_a_crowd = answer_in_a_crowd_row; no_shoen_before_names = no_shoen_before_names_row; names_before_limits = names_before_limits_row; limits_before_the_journal = limits_before_the_journal_row; journal_before_the_report = journal_before_the_report_row; answer_to_no_report = answer_to_no_report_row; answer_to_another_report = answer_to_another_report_row; answer_to_an_answered_report = answer_to_an_answered_report_row; answer_to_report_0 = answer_to_report_0_row; answer_of_variables_not_in_order = answer_of_variables_not_in_order_row; answer_by_the_first_rules = answer_by_the_first_rules_row; answer_to_an_ended_shoen = answer_to_an_ended_shoen_row; goals_after_an_abort = goals_after_an_abort_row; answer_line = answer_line_row; answer_line_in_another_spelling = answer_line_in_another_spelling_row; heading_line = heading_line_row; heading_line_of_version_3 = heading_line_of_version_3_row; heading_line_of_version_5 = heading_line_of_version_5_row }

@@ -4,7 +4,7 @@ use Rattle.std.specs.Prelude.{nat_le, map, length, Option, Some, None, option_ma
 use Rattle.std.specs.List.{AllByRecursion}
 use Rattle.std.proofs.lemmas.Bool.{and_parts, eqb-true, eqb-false, eq-eqb, ne_eqb, leb-false}
 use Rattle.std.proofs.Math.Nat.{le-max_left, le-max_right}
-use Rattle.kl1_model.specs.declared.limits.TheConstants.{MOST_NAMES, MOST_LINE_BYTES}
+use Rattle.kl1_model.specs.declared.limits.TheConstants.{MOST_LINE_BYTES}
 use Rattle.kl1_model.specs.declared.message.Message.{Message}
 use Rattle.kl1_model.specs.Term.{Term, variable, atom, terms_of, replace, Replacement, substituted}
 use Rattle.kl1_model.specs.Meaning.{nil, cell, highest, highest_in, is_numbered, is_writable}
@@ -17,7 +17,7 @@ use Rattle.kl1_model.specs.Look.{goal_look}
 use Rattle.kl1_model.specs.Control.{message_term, Control, control_of}
 use Rattle.kl1_model.specs.State.{Task, monitor, reduces, substitutes, Goal, Origin, Shoen, State, has_substitutes, goal_at, shoen_at, replace_in_task, replace_in_goal, replace_in_origin, replace_in_shoen, without_goal, with_name}
 use Rattle.kl1_model.specs.Tree.{charge}
-use Rattle.kl1_model.specs.Event.{is_number, is_range, with_entry}
+use Rattle.kl1_model.specs.Event.{is_number, is_range, are_too_many, with_entry, with_reduction}
 use Rattle.kl1_model.specs.Report.{report, is_reported, exception, exception_with, failure, exhaustion, started_report, exhausted_report}
 use Rattle.kl1_model.specs.Opening.{start_line, may_start, with_shoen, open_shoen, with_next_variables, start_goal, has_room_for_child, child_shoen, open_child}
 use Rattle.kl1_model.specs.Reduction.{Move, commits, raises, unifies, names, opens, goes, gives_way, moves, reads, goals_from, has_room_for, committed, replaced_by, substituted_by, raised, unified, equation, or_exhaustion, moved, heard, acted, term_move}
@@ -26,7 +26,7 @@ use Rattle.kl1_model.specs.Sending.{with_control_tail, sent_on}
 use Rattle.kl1_model.specs.code.Steps.{opening_goals, substitute_move, origin_with, priority_of, named_by}
 use Rattle.kl1_model.specs.laws.TreeLaws.{IsTree}
 use Rattle.kl1_model.proofs.TreeKeeps.{kept_tree}
-use Rattle.kl1_model.proofs.TreeGrows.{with_entry_keeps}
+use Rattle.kl1_model.proofs.TreeGrows.{with_reduction_keeps}
 use Rattle.kl1_model_laws.specs.Reached.{reached}
 use Rattle.kl1_model_laws.specs.ControlLaws.{is_unbound, messages_then, ControlTailsAreUnbound, ControlStreamsAreMessages}
 use Rattle.kl1_model_laws.proofs.Allowances.{found_number}
@@ -124,7 +124,7 @@ own_moved c g t (unifies x y) s f h a = own_unified c g t x y (mgu (equation x y
 own_moved c g t (names text x) s f h a =
     let u = record s { names = with_name s.names text } in
     let b : Of c u = record { goals = a.goals; shoens = a.shoens; above = a.above } in
-    own_or (nat_le (length (with_name s.names text)) MOST_NAMES) c g t (named_by g t text x s) s f (own_unified c g t x (atom text) (mgu (equation x (atom text))) u refl f h tt b) a
+    own_or (not (are_too_many (with_name s.names text))) c g t (named_by g t text x s) s f (own_unified c g t x (atom text) (mgu (equation x (atom text))) u refl f h tt b) a
 own_moved c g t (opens o) s f h a =
     own_or (has_room_for_child s g.shoen) c g t (open_child s g.shoen o) s f (own_open c (child_shoen s g.shoen o) o.goal s (record { tail = h.2; control = h.1 }) h.0 a) a
 own_moved c g t goes s f h a = a
@@ -342,30 +342,30 @@ own_answered s n report v t h o there e may is p =
 
 -- ---- events
 
-own_acts : (c : ℕ → ℕ) (g : Goal) (t : Term) (m : Move) (s : State) → IsFree c s.last_variable t → InMove (Free c s.last_variable) m → Of c s → Tails (acted g (moves t m) (with_entry s))
-own_acts c g t m s f h a = (c, own_acted c g t m (with_entry s) f h (record { goals = a.goals; shoens = a.shoens; above = a.above }))
+own_acts : (r : Bool) (c : ℕ → ℕ) (g : Goal) (t : Term) (m : Move) (s : State) → IsFree c s.last_variable t → InMove (Free c s.last_variable) m → Of c s → Tails (acted g (moves t m) (with_reduction r s))
+own_acts r c g t m s f h a = (c, own_acted c g t m (with_reduction r s) f h (record { goals = a.goals; shoens = a.shoens; above = a.above }))
 
-own_moving : (s : State) (n clause : ℕ) (g : Goal) (t : Term) (m : Move) → goal_at n s.goals ≡ Some g → g.task ≡ reduces t → term_move s.rules s.modules t clause (call_of t) ≡ Some m → Tails s → Tails (acted g (moves t m) (with_entry s))
-own_moving s n clause g t m there task e p =
+own_moving : (s : State) (r : Bool) (n clause : ℕ) (g : Goal) (t : Term) (m : Move) → goal_at n s.goals ≡ Some g → g.task ≡ reduces t → term_move s.rules s.modules t clause (call_of t) ≡ Some m → Tails s → Tails (acted g (moves t m) (with_reduction r s))
+own_moving s r n clause g t m there task e p =
     let c = p.0 in
     let a = p.1 in
     let free : IsFree c s.last_variable t = subst (TaskFree c s.last_variable) task (the_goal (λ g. TaskFree c s.last_variable g.task) n s.goals g there a.goals) in
-    own_acts c g t m s free (in_move (Free c s.last_variable) s.rules s.modules t clause m free e) a
+    own_acts r c g t m s free (in_move (Free c s.last_variable) s.rules s.modules t clause m free e) a
 
-own_substituting : (s : State) (n : ℕ) (g : Goal) (t : Term) (m : Move) → goal_at n s.goals ≡ Some g → g.task ≡ substitutes t → substitute_move (goal_look t) ≡ Some m → Tails s → Tails (acted g (moves t m) (with_entry s))
-own_substituting s n g t m there task e p =
+own_substituting : (s : State) (r : Bool) (n : ℕ) (g : Goal) (t : Term) (m : Move) → goal_at n s.goals ≡ Some g → g.task ≡ substitutes t → substitute_move (goal_look t) ≡ Some m → Tails s → Tails (acted g (moves t m) (with_reduction r s))
+own_substituting s r n g t m there task e p =
     let c = p.0 in
     let a = p.1 in
     let free : IsFree c s.last_variable t = subst (TaskFree c s.last_variable) task (the_goal (λ g. TaskFree c s.last_variable g.task) n s.goals g there a.goals) in
-    own_acts c g t m s free (in_substitute (Free c s.last_variable) (goal_look t) m e) a
+    own_acts r c g t m s free (in_substitute (Free c s.last_variable) (goal_look t) m e) a
 
-own_reading : (s : State) (g : Goal) (h : Shoen) (x : Control) → IsTree s → shoen_at g.shoen s.shoens ≡ Some h → control_of h.control ≡ x → Tails s → Tails (acted g (reads x) (with_entry s))
-own_reading s g h x tree there e p =
+own_reading : (s : State) (r : Bool) (g : Goal) (h : Shoen) (x : Control) → IsTree s → shoen_at g.shoen s.shoens ≡ Some h → control_of h.control ≡ x → Tails s → Tails (acted g (reads x) (with_reduction r s))
+own_reading s r g h x tree there e p =
     let c = p.0 in
     let a = p.1 in
-    let t = with_entry s in
+    let t = with_reduction r s in
     let b : Of c t = record { goals = a.goals; shoens = a.shoens; above = a.above } in
-    let k = kept_tree s t (with_entry_keeps s) tree in
+    let k = kept_tree s t (with_reduction_keeps r s) tree in
     (c, own_settle c g.shoen (heard g.shoen x t) (subst (λ y. Of c (heard g.shoen y t)) e (own_heard c g.shoen h t k there b)))
 
 entered : (s : State) → Tails s → Tails (with_entry s)
@@ -375,13 +375,13 @@ keeping : Keeping Tails
 keeping = record {
   fresh = λ rules name names sessions. (λ v. 0, record { goals = tt; shoens = tt; above = λ v e. refl });
   seats = λ s n p. let a = p.1 in (p.0, record { goals = a.goals; shoens = a.shoens; above = a.above });
-  loads = λ s source m is free p. let a = p.1 in (p.0, record { goals = a.goals; shoens = a.shoens; above = a.above });
-  starts = λ s allowance low high t tree may room free p. entered (start_goal s allowance low high t) (own_start s allowance low high t may p);
-  sends = λ s n m h o tree there is free p. entered (sent_on n m o.control s) (own_sent s n m h o tree there is p);
-  moving = λ s n clause g t m tree there task is enabled free p. own_moving s n clause g t m there task is p;
-  substituting = λ s n g t m tree there task is enabled free p. own_substituting s n g t m there task is p;
-  answers = λ s n number v t h o tree there origin may room is free p. entered (answered v t s) (own_answered s n number v t h o there origin may is p);
-  reading = λ s n g h c tree there found is free p. own_reading s g h c tree found is p;
+  loads = λ s source m is p. let a = p.1 in (p.0, record { goals = a.goals; shoens = a.shoens; above = a.above });
+  starts = λ s allowance low high t tree may room p. entered (start_goal s allowance low high t) (own_start s allowance low high t may p);
+  sends = λ s n m h o tree there is p. entered (sent_on n m o.control s) (own_sent s n m h o tree there is p);
+  moving = λ s r n clause g t m tree there task is enabled p. own_moving s r n clause g t m there task is p;
+  substituting = λ s r n g t m tree there task is enabled p. own_substituting s r n g t m there task is p;
+  answers = λ s n number v t h o tree there origin may room is p. entered (answered v t s) (own_answered s n number v t h o there origin may is p);
+  reading = λ s r n g h c tree there found is p. own_reading s r g h c tree found is p;
 }
 
 pub control_tails_are_unbound : ControlTailsAreUnbound

@@ -1,7 +1,7 @@
 -- What holds of equations and their answer, a solution or none: by induction on what the front equations led to.
 use Rattle.std.proofs.Common.{◌≡◌, ℕ, zero, suc, ◌<◌, ◌≤◌, false, List, [], ◌∷◌, Option, Some, None, option_map, arith, le_refl}
 use Rattle.kl1_model.specs.Term.{Term, variable, structure, Terms, count_of, occurs, Replacement}
-use Rattle.kl1_model.specs.Unify.{Equation, argument_equations, front, replace_in_all, equations_size, mgu_within, highest_among, mgu}
+use Rattle.kl1_model.specs.Unify.{Equation, argument_equations, transformed, replace_in_all, equations_size, mgu_within, highest_among, mgu}
 use Rattle.kl1_model.specs.code.Unifying.{after}
 use Rattle.kl1_model.specs.laws.UnifyLaws.{equate, bind, IsLower, AllNumberedTo}
 use Rattle.kl1_model.proofs.UnifyFront.{Clash, front_cases}
@@ -17,7 +17,7 @@ pub record HoldsOfEachAnswer (P : List Equation → Option (List Replacement) �
   pub right : (v : ℕ) (t : Term) (es : List Equation) (o : Option (List Replacement)) → occurs v t ≡ false → IsLower v t → P (replace_in_all v t es) o → P (equate t (variable v) ∷ es) (option_map (λ rest. bind v t ∷ rest) o)
   pub clash : (t u : Term) (es : List Equation) → Clash t u → P (equate t u ∷ es) None
 
-after_answers : (P : List Equation → Option (List Replacement) → Type 0) → HoldsOfEachAnswer P → (last : ℕ) (e : Equation) (es : List Equation) (same next : List Equation → Option (List Replacement)) → AllNumberedTo last (e ∷ es) → ((to : List Equation) → Shrinks last (e ∷ es) to → P to (same to)) → ((to : List Equation) → Loses last (e ∷ es) to → P to (next to)) → P (e ∷ es) (after same next (front e.left e.right es))
+after_answers : (P : List Equation → Option (List Replacement) → Type 0) → HoldsOfEachAnswer P → (last : ℕ) (e : Equation) (es : List Equation) (same next : List Equation → Option (List Replacement)) → AllNumberedTo last (e ∷ es) → ((to : List Equation) → Shrinks last (e ∷ es) to → P to (same to)) → ((to : List Equation) → Loses last (e ∷ es) to → P to (next to)) → P (e ∷ es) (after same next (transformed e.left e.right es))
 after_answers P c last e es same next h shrinks loses =
     front_cases es (λ a b r. AllNumberedTo last (equate a b ∷ es) → ((to : List Equation) → Shrinks last (equate a b ∷ es) to → P to (same to)) → ((to : List Equation) → Loses last (equate a b ∷ es) to → P to (next to)) → P (equate a b ∷ es) (after same next r))
     (λ t h p l. c.same t es (same es) (p es (shrinks_same last t es h)))

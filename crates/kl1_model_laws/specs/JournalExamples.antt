@@ -412,7 +412,7 @@ heading_without_a_feed_output = codes "fault 1" ++ 10 ∷ []
 
 -- the bytes of later_version.journal
 abbrev pub later_version_journal : List ℕ
-later_version_journal = codes "journal 4 0 0" ++ 10 ∷ []
+later_version_journal = codes "journal 5 0 0" ++ 10 ∷ []
 
 -- the bytes of later_version.expected
 abbrev pub later_version_output : List ℕ
@@ -674,6 +674,22 @@ reset_is_no_entry_journal = codes "journal 1 0 0" ++ 10 ∷ [] ++ codes "start 1
 abbrev pub reset_is_no_entry_output : List ℕ
 reset_is_no_entry_output = codes "+ shoen 1" ++ 10 ∷ [] ++ codes "fault 3" ++ 10 ∷ []
 
+-- the bytes of run_after_a_reduction.journal
+abbrev pub run_after_a_reduction_journal : List ℕ
+run_after_a_reduction_journal = codes "journal 4 0 0" ++ 10 ∷ [] ++ codes "load 3a2d206d6f64756c6520652e" ++ 10 ∷ [] ++ codes "start 9 0 9 ':='(_1,f(_2))" ++ 10 ∷ [] ++ codes "stop 1" ++ 10 ∷ [] ++ codes "resume 1" ++ 10 ∷ [] ++ codes "allow 1 5" ++ 10 ∷ [] ++ codes "abort 1" ++ 10 ∷ [] ++ codes "reduce 1 0" ++ 10 ∷ [] ++ codes "run 3" ++ 10 ∷ []
+
+-- the bytes of run_after_a_reduction.expected
+abbrev pub run_after_a_reduction_output : List ℕ
+run_after_a_reduction_output = codes "+ loaded e" ++ 10 ∷ [] ++ codes "+ shoen 1" ++ 10 ∷ [] ++ codes "+ sent" ++ 10 ∷ [] ++ codes "+ sent" ++ 10 ∷ [] ++ codes "+ sent" ++ 10 ∷ [] ++ codes "+ sent" ++ 10 ∷ [] ++ codes "+ reduced" ++ 10 ∷ [] ++ codes "+ 3" ++ 10 ∷ [] ++ codes "+ end 8" ++ 10 ∷ []
+
+-- the bytes of run_in_version_3.journal
+abbrev pub run_in_version_3_journal : List ℕ
+run_in_version_3_journal = codes "journal 3 0 0" ++ 10 ∷ [] ++ codes "load 3a2d206d6f64756c6520652e" ++ 10 ∷ [] ++ codes "start 9 0 9 ':='(_1,f(_2))" ++ 10 ∷ [] ++ codes "stop 1" ++ 10 ∷ [] ++ codes "resume 1" ++ 10 ∷ [] ++ codes "allow 1 5" ++ 10 ∷ [] ++ codes "abort 1" ++ 10 ∷ [] ++ codes "run 4" ++ 10 ∷ []
+
+-- the bytes of run_in_version_3.expected
+abbrev pub run_in_version_3_output : List ℕ
+run_in_version_3_output = codes "+ loaded e" ++ 10 ∷ [] ++ codes "+ shoen 1" ++ 10 ∷ [] ++ codes "+ sent" ++ 10 ∷ [] ++ codes "+ sent" ++ 10 ∷ [] ++ codes "+ sent" ++ 10 ∷ [] ++ codes "+ sent" ++ 10 ∷ [] ++ codes "fault 8" ++ 10 ∷ []
+
 -- the bytes of run_is_no_entry.journal
 abbrev pub run_is_no_entry_journal : List ℕ
 run_is_no_entry_journal = codes "journal 1 0 0" ++ 10 ∷ [] ++ codes "start 10 0 10 '='(_1,1)" ++ 10 ∷ [] ++ codes "run 1" ++ 10 ∷ []
@@ -681,6 +697,70 @@ run_is_no_entry_journal = codes "journal 1 0 0" ++ 10 ∷ [] ++ codes "start 10 
 -- the bytes of run_is_no_entry.expected
 abbrev pub run_is_no_entry_output : List ℕ
 run_is_no_entry_output = codes "+ shoen 1" ++ 10 ∷ [] ++ codes "fault 3" ++ 10 ∷ []
+
+-- the bytes of run_of_2_to_the_63.journal
+abbrev pub run_of_2_to_the_63_journal : List ℕ
+run_of_2_to_the_63_journal = codes "journal 4 0 0" ++ 10 ∷ [] ++ codes "load 3a2d206d6f64756c6520652e" ++ 10 ∷ [] ++ codes "start 9 0 9 ':='(_1,f(_2))" ++ 10 ∷ [] ++ codes "stop 1" ++ 10 ∷ [] ++ codes "resume 1" ++ 10 ∷ [] ++ codes "allow 1 5" ++ 10 ∷ [] ++ codes "abort 1" ++ 10 ∷ [] ++ codes "run 9223372036854775808" ++ 10 ∷ []
+
+-- the bytes of run_of_2_to_the_63.expected
+abbrev pub run_of_2_to_the_63_output : List ℕ
+run_of_2_to_the_63_output = codes "+ loaded e" ++ 10 ∷ [] ++ codes "+ shoen 1" ++ 10 ∷ [] ++ codes "+ sent" ++ 10 ∷ [] ++ codes "+ sent" ++ 10 ∷ [] ++ codes "+ sent" ++ 10 ∷ [] ++ codes "+ sent" ++ 10 ∷ [] ++ codes "fault 8" ++ 10 ∷ []
+
+-- the bytes of run_of_all_steps.journal
+abbrev pub run_of_all_steps_journal : List ℕ
+run_of_all_steps_journal = codes "journal 4 0 0" ++ 10 ∷ [] ++ codes "load 3a2d206d6f64756c6520652e" ++ 10 ∷ [] ++ codes "start 9 0 9 ':='(_1,f(_2))" ++ 10 ∷ [] ++ codes "stop 1" ++ 10 ∷ [] ++ codes "resume 1" ++ 10 ∷ [] ++ codes "allow 1 5" ++ 10 ∷ [] ++ codes "abort 1" ++ 10 ∷ [] ++ codes "run 4" ++ 10 ∷ []
+
+-- the bytes of run_of_all_steps.expected
+abbrev pub run_of_all_steps_output : List ℕ
+run_of_all_steps_output = codes "+ loaded e" ++ 10 ∷ [] ++ codes "+ shoen 1" ++ 10 ∷ [] ++ codes "+ sent" ++ 10 ∷ [] ++ codes "+ sent" ++ 10 ∷ [] ++ codes "+ sent" ++ 10 ∷ [] ++ codes "+ sent" ++ 10 ∷ [] ++ codes "+ 4" ++ 10 ∷ [] ++ codes "+ end 7" ++ 10 ∷ []
+
+-- the bytes of run_of_no_steps.journal
+abbrev pub run_of_no_steps_journal : List ℕ
+run_of_no_steps_journal = codes "journal 4 0 0" ++ 10 ∷ [] ++ codes "load 3a2d206d6f64756c6520652e" ++ 10 ∷ [] ++ codes "start 9 0 9 ':='(_1,f(_2))" ++ 10 ∷ [] ++ codes "stop 1" ++ 10 ∷ [] ++ codes "resume 1" ++ 10 ∷ [] ++ codes "allow 1 5" ++ 10 ∷ [] ++ codes "abort 1" ++ 10 ∷ [] ++ codes "run 0" ++ 10 ∷ []
+
+-- the bytes of run_of_no_steps.expected
+abbrev pub run_of_no_steps_output : List ℕ
+run_of_no_steps_output = codes "+ loaded e" ++ 10 ∷ [] ++ codes "+ shoen 1" ++ 10 ∷ [] ++ codes "+ sent" ++ 10 ∷ [] ++ codes "+ sent" ++ 10 ∷ [] ++ codes "+ sent" ++ 10 ∷ [] ++ codes "+ sent" ++ 10 ∷ [] ++ codes "fault 8" ++ 10 ∷ []
+
+-- the bytes of run_of_one_step_more.journal
+abbrev pub run_of_one_step_more_journal : List ℕ
+run_of_one_step_more_journal = codes "journal 4 0 0" ++ 10 ∷ [] ++ codes "load 3a2d206d6f64756c6520652e" ++ 10 ∷ [] ++ codes "start 9 0 9 ':='(_1,f(_2))" ++ 10 ∷ [] ++ codes "stop 1" ++ 10 ∷ [] ++ codes "resume 1" ++ 10 ∷ [] ++ codes "allow 1 5" ++ 10 ∷ [] ++ codes "abort 1" ++ 10 ∷ [] ++ codes "run 5" ++ 10 ∷ []
+
+-- the bytes of run_of_one_step_more.expected
+abbrev pub run_of_one_step_more_output : List ℕ
+run_of_one_step_more_output = codes "+ loaded e" ++ 10 ∷ [] ++ codes "+ shoen 1" ++ 10 ∷ [] ++ codes "+ sent" ++ 10 ∷ [] ++ codes "+ sent" ++ 10 ∷ [] ++ codes "+ sent" ++ 10 ∷ [] ++ codes "+ sent" ++ 10 ∷ [] ++ codes "fault 8" ++ 10 ∷ []
+
+-- the bytes of run_of_two_numbers.journal
+abbrev pub run_of_two_numbers_journal : List ℕ
+run_of_two_numbers_journal = codes "journal 4 0 0" ++ 10 ∷ [] ++ codes "load 3a2d206d6f64756c6520652e" ++ 10 ∷ [] ++ codes "start 9 0 9 ':='(_1,f(_2))" ++ 10 ∷ [] ++ codes "stop 1" ++ 10 ∷ [] ++ codes "resume 1" ++ 10 ∷ [] ++ codes "allow 1 5" ++ 10 ∷ [] ++ codes "abort 1" ++ 10 ∷ [] ++ codes "run 1 1" ++ 10 ∷ []
+
+-- the bytes of run_of_two_numbers.expected
+abbrev pub run_of_two_numbers_output : List ℕ
+run_of_two_numbers_output = codes "+ loaded e" ++ 10 ∷ [] ++ codes "+ shoen 1" ++ 10 ∷ [] ++ codes "+ sent" ++ 10 ∷ [] ++ codes "+ sent" ++ 10 ∷ [] ++ codes "+ sent" ++ 10 ∷ [] ++ codes "+ sent" ++ 10 ∷ [] ++ codes "fault 8" ++ 10 ∷ []
+
+-- the bytes of run_with_a_leading_zero.journal
+abbrev pub run_with_a_leading_zero_journal : List ℕ
+run_with_a_leading_zero_journal = codes "journal 4 0 0" ++ 10 ∷ [] ++ codes "load 3a2d206d6f64756c6520652e" ++ 10 ∷ [] ++ codes "start 9 0 9 ':='(_1,f(_2))" ++ 10 ∷ [] ++ codes "stop 1" ++ 10 ∷ [] ++ codes "resume 1" ++ 10 ∷ [] ++ codes "allow 1 5" ++ 10 ∷ [] ++ codes "abort 1" ++ 10 ∷ [] ++ codes "run 01" ++ 10 ∷ []
+
+-- the bytes of run_with_a_leading_zero.expected
+abbrev pub run_with_a_leading_zero_output : List ℕ
+run_with_a_leading_zero_output = codes "+ loaded e" ++ 10 ∷ [] ++ codes "+ shoen 1" ++ 10 ∷ [] ++ codes "+ sent" ++ 10 ∷ [] ++ codes "+ sent" ++ 10 ∷ [] ++ codes "+ sent" ++ 10 ∷ [] ++ codes "+ sent" ++ 10 ∷ [] ++ codes "fault 8" ++ 10 ∷ []
+
+-- the bytes of run_without_a_number.journal
+abbrev pub run_without_a_number_journal : List ℕ
+run_without_a_number_journal = codes "journal 4 0 0" ++ 10 ∷ [] ++ codes "load 3a2d206d6f64756c6520652e" ++ 10 ∷ [] ++ codes "start 9 0 9 ':='(_1,f(_2))" ++ 10 ∷ [] ++ codes "stop 1" ++ 10 ∷ [] ++ codes "resume 1" ++ 10 ∷ [] ++ codes "allow 1 5" ++ 10 ∷ [] ++ codes "abort 1" ++ 10 ∷ [] ++ codes "run" ++ 10 ∷ []
+
+-- the bytes of run_without_a_number.expected
+abbrev pub run_without_a_number_output : List ℕ
+run_without_a_number_output = codes "+ loaded e" ++ 10 ∷ [] ++ codes "+ shoen 1" ++ 10 ∷ [] ++ codes "+ sent" ++ 10 ∷ [] ++ codes "+ sent" ++ 10 ∷ [] ++ codes "+ sent" ++ 10 ∷ [] ++ codes "+ sent" ++ 10 ∷ [] ++ codes "fault 8" ++ 10 ∷ []
+
+-- the bytes of runs_one_after_another.journal
+abbrev pub runs_one_after_another_journal : List ℕ
+runs_one_after_another_journal = codes "journal 4 0 0" ++ 10 ∷ [] ++ codes "load 3a2d206d6f64756c6520652e" ++ 10 ∷ [] ++ codes "start 9 0 9 ':='(_1,f(_2))" ++ 10 ∷ [] ++ codes "stop 1" ++ 10 ∷ [] ++ codes "resume 1" ++ 10 ∷ [] ++ codes "allow 1 5" ++ 10 ∷ [] ++ codes "abort 1" ++ 10 ∷ [] ++ codes "run 1" ++ 10 ∷ [] ++ codes "run 3" ++ 10 ∷ []
+
+-- the bytes of runs_one_after_another.expected
+abbrev pub runs_one_after_another_output : List ℕ
+runs_one_after_another_output = codes "+ loaded e" ++ 10 ∷ [] ++ codes "+ shoen 1" ++ 10 ∷ [] ++ codes "+ sent" ++ 10 ∷ [] ++ codes "+ sent" ++ 10 ∷ [] ++ codes "+ sent" ++ 10 ∷ [] ++ codes "+ sent" ++ 10 ∷ [] ++ codes "+ 1" ++ 10 ∷ [] ++ codes "+ 3" ++ 10 ∷ [] ++ codes "+ end 8" ++ 10 ∷ []
 
 -- the bytes of second_name_that_is_missing.journal
 abbrev pub second_name_that_is_missing_journal : List ℕ
@@ -848,7 +928,17 @@ pub record JournalsHold : Type 0 where
   pub quotes_without_need : replay_output quotes_without_need_journal ≡ quotes_without_need_output
   pub reduction_of_no_goal : replay_output reduction_of_no_goal_journal ≡ reduction_of_no_goal_output
   pub reset_is_no_entry : replay_output reset_is_no_entry_journal ≡ reset_is_no_entry_output
+  pub run_after_a_reduction : replay_output run_after_a_reduction_journal ≡ run_after_a_reduction_output
+  pub run_in_version_3 : replay_output run_in_version_3_journal ≡ run_in_version_3_output
   pub run_is_no_entry : replay_output run_is_no_entry_journal ≡ run_is_no_entry_output
+  pub run_of_2_to_the_63 : replay_output run_of_2_to_the_63_journal ≡ run_of_2_to_the_63_output
+  pub run_of_all_steps : replay_output run_of_all_steps_journal ≡ run_of_all_steps_output
+  pub run_of_no_steps : replay_output run_of_no_steps_journal ≡ run_of_no_steps_output
+  pub run_of_one_step_more : replay_output run_of_one_step_more_journal ≡ run_of_one_step_more_output
+  pub run_of_two_numbers : replay_output run_of_two_numbers_journal ≡ run_of_two_numbers_output
+  pub run_with_a_leading_zero : replay_output run_with_a_leading_zero_journal ≡ run_with_a_leading_zero_output
+  pub run_without_a_number : replay_output run_without_a_number_journal ≡ run_without_a_number_output
+  pub runs_one_after_another : replay_output runs_one_after_another_journal ≡ runs_one_after_another_output
   pub second_name_that_is_missing : replay_output second_name_that_is_missing_journal ≡ second_name_that_is_missing_output
   pub shoens_in_shoens : replay_output shoens_in_shoens_journal ≡ shoens_in_shoens_output
   pub start_and_reduction : replay_output start_and_reduction_journal ≡ start_and_reduction_output

@@ -3,6 +3,7 @@ pub mod JournalExamples
 pub mod AccountRows
 pub mod HistoryRows
 pub mod ShoenRows
+pub mod RunRows
 pub mod SubstituteRows
 pub mod SpellingRows
 pub mod ReadRows

@@ -4,6 +4,7 @@ ghost use Rattle.kl1_model_laws.specs.Examples.{ExamplesHold};
 ghost use Rattle.kl1_model_laws.specs.GuardRows.{GuardRowsHold};
 ghost use Rattle.kl1_model_laws.specs.HistoryRows.{HistoryRowsHold};
 ghost use Rattle.kl1_model_laws.specs.JournalExamples.{JournalsHold};
+ghost use Rattle.kl1_model_laws.specs.RunRows.{RunRowsHold};
 ghost use Rattle.kl1_model_laws.specs.ShoenRows.{ShoenRowsHold};
 ghost use Rattle.kl1_model_laws.specs.SpellingRows.{SpellingRowsHold};
 ghost use Rattle.kl1_model_laws.specs.StreamRows.{StreamRowsHold};
@@ -31,6 +32,12 @@ pub fn account_rows_hold()
 /// definitions. It does nothing: this is its contract.
 pub fn history_rows_hold()
     ensures { HistoryRowsHold }
+{}
+
+/// Accounts that keep to the fourth rules come to what the rows say, and so do their journals, computed from the definitions. It does
+/// nothing: this is its contract.
+pub fn run_rows_hold()
+    ensures { RunRowsHold }
 {}
 
 /// Accounts at their limits, and their shoens, come to what the rows say, computed from the definitions. It does nothing: this is

@@ -39,7 +39,7 @@ pub fn reductions_stay_within_allowances()
     ensures most { NoneIsChargedMore }
 {}
 
-/// An account has at most 8,192 goals alive, whichever rules it keeps to, and whatever was done to it since it was fresh. It does
+/// An account has at most as many goals alive as its rules allow, whatever was done to it since it was fresh. It does
 /// nothing: its contract is this law.
 pub fn goals_alive_are_few()
     ensures { GoalsAreFew }

@@ -1,29 +1,30 @@
 -- What an event does is the same for whatever own name and sessions.
-use Rattle.std.proofs.Common.{◌≡◌, ℕ, suc, ◌+◌, ◌==◌, ◌||◌, not, ◌&&◌, Bool, true, false, if◌then◌else◌, List, [], ◌∷◌, refl, ap, ◌∙◌}
+use Rattle.std.proofs.Common.{◌≡◌, ℕ, zero, suc, ◌+◌, ◌==◌, not, ◌&&◌, Bool, true, false, if◌then◌else◌, List, [], ◌∷◌, refl, ap, ◌∙◌}
 use Rattle.std.specs.Prelude.{nat_lt, nat_le, length, Option, Some, None, is_some}
-use Rattle.kl1_model.specs.declared.limits.TheConstants.{MOST_REPORTS, MOST_MODULES, MOST_NAMES, MOST_ENTRIES, MOST_SOURCE_BYTES}
+use Rattle.kl1_model.specs.declared.limits.TheConstants.{MOST_MODULES, MOST_SOURCE_BYTES}
 use Rattle.kl1_model.specs.declared.message.Message.{Message}
 use Rattle.kl1_model.specs.declared.message.Message.TheVariants.{Stop, Start, Abort, Allow}
-use Rattle.kl1_model.specs.Term.{Term, variable, integer, atom, structure, Replacement, occurs}
-use Rattle.kl1_model.specs.Meaning.{cell, highest}
+use Rattle.kl1_model.specs.Term.{Term, variable, integer, atom, structure, Replacement}
+use Rattle.kl1_model.specs.Meaning.{highest}
 use Rattle.kl1_model.specs.Nodes.{goal_nodes}
 use Rattle.kl1_model.specs.Unify.{mgu}
 use Rattle.kl1_model.specs.Module.{Module, Reading, good, bad, read_module}
 use Rattle.kl1_model.specs.Match.{module_of}
-use Rattle.kl1_model.specs.State.{State, Goal, substitutes, has_substitutes, Shoen, Origin, goal_at, shoen_at, names_of, names_of_module, with_name, with_names, replace_in_state, replace_all, change_shoen, is_living, without_goal}
+use Rattle.kl1_model.specs.State.{State, Goal, substitutes, has_substitutes, has_runs, Shoen, Origin, goal_at, shoen_at, names_of, names_of_module, with_name, with_names, replace_in_state, replace_all, change_shoen, is_living, without_goal}
 use Rattle.kl1_model.specs.Tree.{path, charge}
 use Rattle.kl1_model.specs.Control.{Control, awaits_message, tells, tells_other, ends, breaks_off}
-use Rattle.kl1_model.specs.Report.{broken_at, reported_at, report, is_reported, report_each, closed_at, close, exception, exception_with, failure, illegal_input, exhaustion, started_report, stopped_report, resumed_report, exhausted_report, terminated_report, aborted_report}
+use Rattle.kl1_model.specs.Report.{has_made_last, report_tail, reported_on, reported_at, report, is_reported, report_each, closed_at, close, exception, exception_with, failure, illegal_input, exhaustion, started_report, stopped_report, resumed_report, exhausted_report, terminated_report, aborted_report}
 use Rattle.kl1_model.specs.Ending.{ends_now, ended_at, ending_of, without_monitor, terminate, terminate_each, settle, newly_exhausted, after_reduction, ended_below, abort}
 use Rattle.kl1_model.specs.Opening.{may_start, has_room_to_start, with_shoen, open_shoen, with_next_variables, started_shoen, start_goal, child_shoen, has_room_for_child, open_child}
 use Rattle.kl1_model.specs.Reduction.{Move, commits, raises, unifies, names, opens, goes, gives_way, Action, moves, reads, action_of, has_room_for, committed, replaced_by, substituted_by, raised, unified, equation, or_exhaustion, moved, obeyed, with_control, heard, acted, reduce_goal}
-use Rattle.kl1_model.specs.Sending.{may_send, has_room_to_send, sent_on, send_to}
-use Rattle.kl1_model.specs.Event.{Refusal, syntax, exists, shoen_ended, too_many_names, limit_passed, journal_full, start, Reply, loaded, opened, sent, reduced, Transition, refuse, is_number, with_entry, recorded}
-use Rattle.kl1_model.specs.Answering.{may_answer, has_room_to_answer, unanswered_at, answer_by, answer_to}
-use Rattle.kl1_model.specs.Step.{load_module, step}
+use Rattle.kl1_model.specs.Sending.{may_send, has_room_to_send, sent_on, send_living, send_to}
+use Rattle.kl1_model.specs.Event.{Refusal, syntax, exists, shoen_ended, too_many_names, limit_passed, journal_full, start, reduce, Reply, loaded, opened, sent, reduced, ran, Transition, refuse, is_number, is_refused, unless, are_too_many, is_full, needs_entry, with_entry, with_reduction}
+use Rattle.kl1_model.specs.Answering.{may_answer, has_room_to_answer, unanswered_at, answer_by, answer_living, answer_to}
+use Rattle.kl1_model.specs.Step.{load_module, start_by, step}
+use Rattle.kl1_model.specs.Choice.{Chosen, first, is_in_run}
 use Rattle.kl1_model.specs.code.Steps.{report_of, close_of, stopped_of, resumed_of, reduced_by, send_by, answer_in, with_module, named_by}
 use Rattle.kl1_model_server.specs.laws.HistoryLaws.{beside, stepped_beside, StaysBeside}
-use Rattle.kl1_model_server.specs.Journal.{loads, starts, sends, steps, answers}
+use Rattle.kl1_model_server.specs.Journal.{loads, starts, sends, steps, answers, runs, chosen_step, first_step, first_steps}
 
 -- either of two
 either : (c : Bool) (name : List ℕ) (n : ℕ) (a b s t : State) → a ≡ beside name n s → b ≡ beside name n t → (if c then a else b) ≡ beside name n (if c then s else t)
@@ -38,14 +39,12 @@ replaced : (rs : List Replacement) (name : List ℕ) (n : ℕ) (s : State) → r
 replaced [] name n s = refl
 replaced (r ∷ rs) name n s = replaced rs name n (replace_in_state r.number r.by s)
 
+told : (k : ℕ) (m : Term) (o : Option ℕ) (name : List ℕ) (n : ℕ) (s : State) → reported_on k m o (beside name n s) ≡ beside name n (reported_on k m o s)
+told k m None name n s = refl
+told k m (Some v) name n s = refl
+
 reported : (k : ℕ) (m t : Term) (name : List ℕ) (n : ℕ) (s : State) → reported_at k m t (beside name n s) ≡ beside name n (reported_at k m t s)
-reported k m (variable v) name n s =
-    let next = suc s.last_variable in
-    let change : State → State = λ z. change_shoen k (λ h. record h { tail = variable next }) (record (replace_in_state v (cell m (variable next)) z) { last_variable = next; reports = suc z.reports }) in
-    either (occurs v m || not (nat_lt s.reports MOST_REPORTS)) name n (broken_at k (beside name n s)) (change (beside name n s)) (broken_at k s) (change s) refl refl
-reported k m (integer i) name n s = refl
-reported k m (atom a) name n s = refl
-reported k m (structure f ts) name n s = refl
+reported k m t name n s = told k m (report_tail (has_made_last s) m t) name n s
 
 report_of_beside : (o : Option Shoen) (k : ℕ) (m : Term) (name : List ℕ) (n : ℕ) (s : State) → report_of o k m (beside name n s) ≡ beside name n (report_of o k m s)
 report_of_beside None k m name n s = refl
@@ -135,7 +134,7 @@ moved_beside g t (commits k) name n s = exhausted_or (has_room_for s k.clause) g
 moved_beside g t (raises kind) name n s = raised_beside g kind t name n s
 moved_beside g t (unifies a b) name n s = unified_beside g t (mgu (equation a b)) name n s
 moved_beside g t (names text a) name n s =
-    exhausted_or (nat_le (length (with_name s.names text)) MOST_NAMES) g t name n (named_by g t text a (beside name n s)) (named_by g t text a s) s
+    exhausted_or (not (are_too_many (with_name s.names text))) g t name n (named_by g t text a (beside name n s)) (named_by g t text a s) s
     (unified_beside g t (mgu (equation a (atom text))) name n (record s { names = with_name s.names text }))
 moved_beside g t (opens o) name n s =
     exhausted_or (has_room_for_child s g.shoen) g t name n (open_child (beside name n s) g.shoen o) (open_child s g.shoen o) s (open_beside (child_shoen s g.shoen o) o.goal name n s)
@@ -187,24 +186,19 @@ refused_or false r name n a x s e = refl
 done : (name : List ℕ) (n : ℕ) (a t : State) (r : Reply) → a ≡ beside name n t → record { state = a; reply = r } ≡ stepped_beside name n (record { state = t; reply = r })
 done name n a t r e = ap (λ z. let x : Transition = record { state = z; reply = r } in x) e
 
-recorded_beside : (s : State) (a x : Transition) (name : List ℕ) (n : ℕ) → a ≡ stepped_beside name n x → recorded (beside name n s) a ≡ stepped_beside name n (recorded s x)
-recorded_beside s a x name n e = refused_or (nat_lt s.entries MOST_ENTRIES) journal_full name n a x s e
+-- what may be refused by several tests
+unless_beside : (rs : List (Bool × Refusal)) (name : List ℕ) (n : ℕ) (a x : Transition) (s : State) → a ≡ stepped_beside name n x → unless (beside name n s) rs a ≡ stepped_beside name n (unless s rs x)
+unless_beside [] name n a x s e = e
+unless_beside (r ∷ rs) name n a x s e =
+    either_stepped r.0 name n (refuse (beside name n s) r.1) (unless (beside name n s) rs a) (refuse s r.1) (unless s rs x) refl (unless_beside rs name n a x s e)
 
 load_beside : (r : Reading Module) (name : List ℕ) (n : ℕ) (s : State) → load_module (beside name n s) r ≡ stepped_beside name n (load_module s r)
 load_beside (bad line) name n s = refl
 load_beside (good m) name n s =
-    let x : Transition = record { state = with_entry (with_module s m); reply = loaded m.name } in
-    let y = recorded s x in
-    let z = if nat_lt (length s.modules) MOST_MODULES then y else refuse s limit_passed in
-    let w = if nat_le (length (with_names s.names (names_of_module m))) MOST_NAMES then z else refuse s too_many_names in
-    let b = beside name n s in
-    let xb : Transition = record { state = with_entry (with_module b m); reply = loaded m.name } in
-    let yb = recorded b xb in
-    let zb = if nat_lt (length s.modules) MOST_MODULES then yb else refuse b limit_passed in
-    let wb = if nat_le (length (with_names s.names (names_of_module m))) MOST_NAMES then zb else refuse b too_many_names in
-    either_stepped (is_some (module_of s.modules m.name)) name n (refuse b exists) wb (refuse s exists) w refl
-    (refused_or (nat_le (length (with_names s.names (names_of_module m))) MOST_NAMES) too_many_names name n zb z s
-    (refused_or (nat_lt (length s.modules) MOST_MODULES) limit_passed name n yb y s (recorded_beside s xb x name n refl)))
+    unless_beside
+    ((is_some (module_of s.modules m.name), exists) ∷ (are_too_many (with_names s.names (names_of_module m)), too_many_names)
+    ∷ (not (nat_lt (length s.modules) MOST_MODULES), limit_passed) ∷ (is_full s, journal_full) ∷ []) name n
+    (record { state = with_entry (with_module (beside name n s) m); reply = loaded m.name }) (record { state = with_entry (with_module s m); reply = loaded m.name }) s refl
 
 start_beside : (allowance low high : ℕ) (t : Term) (name : List ℕ) (n : ℕ) (s : State) → start_goal (beside name n s) allowance low high t ≡ beside name n (start_goal s allowance low high t)
 start_beside allowance low high t name n s =
@@ -223,16 +217,10 @@ starting_beside allowance low high t name n s =
     let b = beside name n s in
     let x : Transition = record { state = with_entry (start_goal s allowance low high t); reply = opened (suc s.last_shoen) } in
     let xb : Transition = record { state = with_entry (start_goal b allowance low high t); reply = opened (suc s.last_shoen) } in
-    let y = recorded s x in
-    let yb = recorded b xb in
-    let z = if has_room_to_start s t then y else refuse s limit_passed in
-    let zb = if has_room_to_start s t then yb else refuse b limit_passed in
-    let w = if nat_le (length (with_names s.names (names_of t))) MOST_NAMES then z else refuse s too_many_names in
-    let wb = if nat_le (length (with_names s.names (names_of t))) MOST_NAMES then zb else refuse b too_many_names in
-    refused_or (may_start allowance low high t) syntax name n wb w s
-    (refused_or (nat_le (length (with_names s.names (names_of t))) MOST_NAMES) too_many_names name n zb z s
-    (refused_or (has_room_to_start s t) limit_passed name n yb y s
-    (recorded_beside s xb x name n (done name n (with_entry (start_goal b allowance low high t)) (with_entry (start_goal s allowance low high t)) (opened (suc s.last_shoen)) (ap with_entry (start_beside allowance low high t name n s))))))
+    refused_or (may_start allowance low high t) syntax name n (start_by b allowance low high t) (start_by s allowance low high t) s
+    (unless_beside
+    ((are_too_many (with_names s.names (names_of t)), too_many_names) ∷ (not (has_room_to_start s t), limit_passed) ∷ (is_full s, journal_full) ∷ []) name n
+    xb x s (done name n (with_entry (start_goal b allowance low high t)) (with_entry (start_goal s allowance low high t)) (opened (suc s.last_shoen)) (ap with_entry (start_beside allowance low high t name n s))))
 
 send_by_beside : (k : ℕ) (m : Message) (h : Shoen) (o : Option Origin) (name : List ℕ) (n : ℕ) (s : State) → send_by (beside name n s) k m h o ≡ stepped_beside name n (send_by s k m h o)
 send_by_beside k m h None name n s = refl
@@ -240,28 +228,25 @@ send_by_beside k m h (Some o) name n s =
     let b = beside name n s in
     let x : Transition = record { state = with_entry (sent_on k m o.control s); reply = sent } in
     let xb : Transition = record { state = with_entry (sent_on k m o.control b); reply = sent } in
-    let y = recorded s x in
-    let yb = recorded b xb in
-    let z = if has_room_to_send s m then y else refuse s limit_passed in
-    let zb = if has_room_to_send s m then yb else refuse b limit_passed in
-    refused_or (is_living h.life) shoen_ended name n zb z s
-    (refused_or (has_room_to_send s m) limit_passed name n yb y s
-    (recorded_beside s xb x name n (done name n (with_entry (sent_on k m o.control b)) (with_entry (sent_on k m o.control s)) sent (ap with_entry (sent_beside k m o.control name n s)))))
+    refused_or (is_living h.life) shoen_ended name n (send_living b k m o) (send_living s k m o) s
+    (unless_beside ((not (has_room_to_send s m), limit_passed) ∷ (is_full s, journal_full) ∷ []) name n xb x s
+    (done name n (with_entry (sent_on k m o.control b)) (with_entry (sent_on k m o.control s)) sent (ap with_entry (sent_beside k m o.control name n s))))
 
 send_beside : (k : ℕ) (m : Message) (o : Option Shoen) (name : List ℕ) (n : ℕ) (s : State) → send_to (beside name n s) k m o ≡ stepped_beside name n (send_to s k m o)
 send_beside k m None name n s = refl
 send_beside k m (Some h) name n s = send_by_beside k m h h.origin name n s
 
-reduced_by_beside : (g : Goal) (o : Option Action) (name : List ℕ) (n : ℕ) (s : State) → reduced_by (beside name n s) g o ≡ stepped_beside name n (reduced_by s g o)
-reduced_by_beside g None name n s = refl
-reduced_by_beside g (Some a) name n s =
-    let x : Transition = record { state = acted g a (with_entry s); reply = reduced } in
-    let xb : Transition = record { state = acted g a (with_entry (beside name n s)); reply = reduced } in
-    recorded_beside s xb x name n (done name n (acted g a (with_entry (beside name n s))) (acted g a (with_entry s)) reduced (acted_beside g a name n (with_entry s)))
+reduced_by_beside : (r : Bool) (g : Goal) (o : Option Action) (name : List ℕ) (n : ℕ) (s : State) → reduced_by (beside name n s) r g o ≡ stepped_beside name n (reduced_by s r g o)
+reduced_by_beside r g None name n s = refl
+reduced_by_beside r g (Some a) name n s =
+    let t = with_reduction r s in
+    let x : Transition = record { state = acted g a t; reply = reduced } in
+    let xb : Transition = record { state = acted g a (beside name n t); reply = reduced } in
+    unless_beside ((needs_entry r s && is_full s, journal_full) ∷ []) name n xb x s (done name n (acted g a (beside name n t)) (acted g a t) reduced (acted_beside g a name n t))
 
-reduce_beside : (clause : ℕ) (g : Option Goal) (name : List ℕ) (n : ℕ) (s : State) → reduce_goal (beside name n s) clause g ≡ stepped_beside name n (reduce_goal s clause g)
-reduce_beside clause None name n s = refl
-reduce_beside clause (Some g) name n s = reduced_by_beside g (action_of s g clause) name n s
+reduce_beside : (r : Bool) (clause : ℕ) (g : Option Goal) (name : List ℕ) (n : ℕ) (s : State) → reduce_goal (beside name n s) r clause g ≡ stepped_beside name n (reduce_goal s r clause g)
+reduce_beside r clause None name n s = refl
+reduce_beside r clause (Some g) name n s = reduced_by_beside r g (action_of s g clause) name n s
 
 answer_by_beside : (t : Term) (o : Option ℕ) (name : List ℕ) (n : ℕ) (s : State) → answer_by (beside name n s) t o ≡ stepped_beside name n (answer_by s t o)
 answer_by_beside t None name n s = refl
@@ -273,23 +258,42 @@ answer_in_beside report t h (Some o) name n s =
     let b = beside name n s in
     let x = answer_by s t (unanswered_at o.reports report) in
     let xb = answer_by b t (unanswered_at o.reports report) in
-    let y = recorded s x in
-    let yb = recorded b xb in
-    let z = if has_room_to_answer s t then y else refuse s limit_passed in
-    let zb = if has_room_to_answer s t then yb else refuse b limit_passed in
-    let w = if nat_le (length (with_names s.names (names_of t))) MOST_NAMES then z else refuse s too_many_names in
-    let wb = if nat_le (length (with_names s.names (names_of t))) MOST_NAMES then zb else refuse b too_many_names in
-    refused_or (is_living h.life) shoen_ended name n wb w s
-    (refused_or (nat_le (length (with_names s.names (names_of t))) MOST_NAMES) too_many_names name n zb z s
-    (refused_or (has_room_to_answer s t) limit_passed name n yb y s (recorded_beside s xb x name n (answer_by_beside t (unanswered_at o.reports report) name n s))))
+    refused_or (is_living h.life) shoen_ended name n (answer_living b report t o) (answer_living s report t o) s
+    (unless_beside
+    ((are_too_many (with_names s.names (names_of t)), too_many_names) ∷ (not (has_room_to_answer s t), limit_passed) ∷ (is_full s, journal_full) ∷ []) name n
+    xb x s (answer_by_beside t (unanswered_at o.reports report) name n s))
 
 answer_beside : (report : ℕ) (t : Term) (o : Option Shoen) (name : List ℕ) (n : ℕ) (s : State) → answer_to (beside name n s) report t o ≡ stepped_beside name n (answer_to s report t o)
 answer_beside report t None name n s = refl
 answer_beside report t (Some h) name n s = answer_in_beside report t h h.origin name n s
 
+step_beside : (goal clause : ℕ) (name : List ℕ) (n : ℕ) (s : State) → step (beside name n s) (reduce goal clause) ≡ stepped_beside name n (step s (reduce goal clause))
+step_beside goal clause name n s =
+    let r = is_in_run s goal clause in
+    refused_or (is_number goal && is_number clause) syntax name n (reduce_goal (beside name n s) r clause (goal_at goal s.goals)) (reduce_goal s r clause (goal_at goal s.goals)) s (reduce_beside r clause (goal_at goal s.goals) name n s)
+
+chosen_beside : (o : Option Chosen) (name : List ℕ) (n : ℕ) (s : State) → chosen_step (beside name n s) o ≡ stepped_beside name n (chosen_step s o)
+chosen_beside None name n s = refl
+chosen_beside (Some c) name n s = step_beside c.goal c.clause name n s
+
+first_step_beside : (name : List ℕ) (n : ℕ) (s : State) → first_step (beside name n s) ≡ stepped_beside name n (first_step s)
+first_step_beside name n s = chosen_beside (first s) name n s
+
+-- one first reduction more, after those before it
+abbrev one_more : ℕ → State → Transition
+one_more m s = let x = first_step s in record { state = x.state; reply = if is_refused x.reply then x.reply else ran (suc m) }
+
+first_steps_beside : (m : ℕ) (name : List ℕ) (n : ℕ) (s : State) → first_steps m (beside name n s) ≡ stepped_beside name n (first_steps m s)
+first_steps_beside zero name n s = refl
+first_steps_beside (suc m) name n s =
+    let t = (first_steps m s).state in
+    ap (λ (x : Transition). one_more m x.state) (first_steps_beside m name n s)
+    ∙ ap (λ (x : Transition). let y : Transition = record { state = x.state; reply = if is_refused x.reply then x.reply else ran (suc m) } in y) (first_step_beside name n t)
+
 pub stays_beside : StaysBeside
 stays_beside name n s (loads text) = refused_or (nat_le (length text) MOST_SOURCE_BYTES) syntax name n (load_module (beside name n s) (read_module text)) (load_module s (read_module text)) s (load_beside (read_module text) name n s)
 stays_beside name n s (starts allowance low high t) = starting_beside allowance low high t name n s
 stays_beside name n s (sends k m) = refused_or (may_send k m) syntax name n (send_to (beside name n s) k m (shoen_at k s.shoens)) (send_to s k m (shoen_at k s.shoens)) s (send_beside k m (shoen_at k s.shoens) name n s)
-stays_beside name n s (steps goal clause) = refused_or (is_number goal && is_number clause) syntax name n (reduce_goal (beside name n s) clause (goal_at goal s.goals)) (reduce_goal s clause (goal_at goal s.goals)) s (reduce_beside clause (goal_at goal s.goals) name n s)
+stays_beside name n s (steps goal clause) = step_beside goal clause name n s
+stays_beside name n s (runs m) = refused_or (has_runs s.rules) syntax name n (first_steps m (beside name n s)) (first_steps m s) s (first_steps_beside m name n s)
 stays_beside name n s (answers k report t) = refused_or (has_substitutes s.rules && may_answer k report t) syntax name n (answer_to (beside name n s) report t (shoen_at k s.shoens)) (answer_to s report t (shoen_at k s.shoens)) s (answer_beside report t (shoen_at k s.shoens) name n s)

@@ -9,9 +9,9 @@ use Rattle.kl1_model.specs.declared.limits.TheConstants.{MOST_NAME_BYTES, MOST_V
 use Rattle.kl1_model.specs.declared.sign.Sign.TheVariants.{Colon}
 use Rattle.kl1_model.specs.Text.{is_name_byte, is_text}
 use Rattle.kl1_model.specs.Name.{is_small_letter, is_word_byte, is_bare, doubled, quoted, name_text}
-use Rattle.kl1_model.specs.Token.{Token, name_token, variable_token, digits_token, minus_token, sign_token, end_token, broken, token, is_digit, first_is, behind_word, behind_digits, number_of, quoted_from, bounded, name_front, digits_front, front_of, Placed, Tokens, tokens_by}
+use Rattle.kl1_model.specs.Token.{Token, name_token, variable_token, digits_token, minus_token, sign_token, end_token, broken, token, is_digit, first_is, behind_word, behind_digits, number_of, bounded, name_front, digits_front, front_of, Placed, Tokens, tokens_by, in_quotes, after_quote}
 use Rattle.kl1_model.specs.Grammar.{Numbered}
-use Rattle.kl1_model.specs.code.Fronts.{quoted_front}
+use Rattle.kl1_model.specs.code.Fronts.{quoted_front, quoted_from}
 use Rattle.kl1_model.specs.laws.ReadLaws.{tokens_at}
 use Rattle.kl1_model.proofs.LexStarts.{front_by, front_starts}
 use Rattle.kl1_model.proofs.LexSteps.{tokens_go_on}
@@ -74,10 +74,12 @@ bare_front (b ∷ bs) rest bare short none =
 -- a quote at the end ends the text in quotes
 quote_ends : (text rest : List ℕ) → first_is (λ b. b == 39) rest ≡ false → quoted_from true text rest ≡ Some (text, rest)
 quote_ends text [] none = refl
-quote_ends text (b ∷ bs) none = rw (none, quoted_from)
+quote_ends text (b ∷ bs) none = ap (λ (x : Bool). elim x [ true ↦ in_quotes (text ++ b ∷ []) bs | false ↦ Some (text, b ∷ bs) ]) none
 
 plain_byte : (b : ℕ) (bs text : List ℕ) → (b == 39) ≡ false → is_name_byte b ≡ true → quoted_from false text (b ∷ bs) ≡ quoted_from false (text ++ b ∷ []) bs
-plain_byte b bs text is fine = rw (is, quoted_from) (rw (fine, quoted_from))
+plain_byte b bs text is fine =
+    ap (λ (x : Bool). elim x [ true ↦ after_quote text bs | false ↦ elim (is_name_byte b) [ true ↦ in_quotes (text ++ b ∷ []) bs | false ↦ None ] ]) is
+    ∙ ap (λ (x : Bool). elim x [ true ↦ in_quotes (text ++ b ∷ []) bs | false ↦ None ]) fine
 
 -- one byte of the text between quotes
 byte_in_quotes : (x : Bool) (b : ℕ) (bs text rest : List ℕ) → (b == 39) ≡ x → is_name_byte b ≡ true → quoted_from false text (doubled (b ∷ bs) ++ rest) ≡ quoted_from false (text ++ b ∷ []) (doubled bs ++ rest)

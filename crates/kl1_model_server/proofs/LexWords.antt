@@ -6,6 +6,7 @@ use Rattle.std.proofs.lemmas.Bool.{and_parts, and_from, leb-true, le-leb, or_par
 use Rattle.std.proofs.lemmas.List.{length-append}
 use Rattle.std.proofs.lemmas.List.Folds.{list_all-append}
 use Rattle.std.proofs.lemmas.Fmt.{decimal_by_steps}
+use Rattle.kl1_model.specs.Text.{leading, behind_leading}
 use Rattle.kl1_model.specs.Name.{is_small_letter, is_word_byte}
 use Rattle.kl1_model.specs.Token.{is_digit, first_is, word_of, behind_word, digits_of, behind_digits, number_of}
 use Rattle.kl1_model.proofs.LexStarts.{Start, names, numbers, start_of}
@@ -13,34 +14,34 @@ use Rattle.kl1_model.proofs.LexStarts.{Start, names, numbers, start_of}
 -- a word goes to the first byte that is none of a word
 pub word_stops : (ws rest : List ℕ) → list_all is_word_byte ws ≡ true → first_is is_word_byte rest ≡ false → word_of (ws ++ rest) ≡ ws
 word_stops [] [] all none = refl
-word_stops [] (b ∷ bs) all none = rw (none, word_of)
+word_stops [] (b ∷ bs) all none = rw (none, leading)
 word_stops (w ∷ ws) rest all none =
     let both = and_parts (is_word_byte w) (list_all is_word_byte ws) all in
-    rw (both.0, word_of) (ap (λ x. w ∷ x) (word_stops ws rest both.1 none))
+    rw (both.0, leading) (ap (λ x. w ∷ x) (word_stops ws rest both.1 none))
 
 -- after a word stands what is no part of it
 pub behind_word_is : (ws rest : List ℕ) → list_all is_word_byte ws ≡ true → first_is is_word_byte rest ≡ false → behind_word (ws ++ rest) ≡ rest
 behind_word_is [] [] all none = refl
-behind_word_is [] (b ∷ bs) all none = rw (none, behind_word)
+behind_word_is [] (b ∷ bs) all none = rw (none, behind_leading)
 behind_word_is (w ∷ ws) rest all none =
     let both = and_parts (is_word_byte w) (list_all is_word_byte ws) all in
-    rw (both.0, behind_word) (behind_word_is ws rest both.1 none)
+    rw (both.0, behind_leading) (behind_word_is ws rest both.1 none)
 
 -- digits go to the first byte that is none
 pub digits_stop : (ds rest : List ℕ) → list_all is_digit ds ≡ true → first_is is_digit rest ≡ false → digits_of (ds ++ rest) ≡ ds
 digits_stop [] [] all none = refl
-digits_stop [] (b ∷ bs) all none = rw (none, digits_of)
+digits_stop [] (b ∷ bs) all none = rw (none, leading)
 digits_stop (d ∷ ds) rest all none =
     let both = and_parts (is_digit d) (list_all is_digit ds) all in
-    rw (both.0, digits_of) (ap (λ x. d ∷ x) (digits_stop ds rest both.1 none))
+    rw (both.0, leading) (ap (λ x. d ∷ x) (digits_stop ds rest both.1 none))
 
 -- after digits stands what is none
 pub behind_digits_is : (ds rest : List ℕ) → list_all is_digit ds ≡ true → first_is is_digit rest ≡ false → behind_digits (ds ++ rest) ≡ rest
 behind_digits_is [] [] all none = refl
-behind_digits_is [] (b ∷ bs) all none = rw (none, behind_digits)
+behind_digits_is [] (b ∷ bs) all none = rw (none, behind_leading)
 behind_digits_is (d ∷ ds) rest all none =
     let both = and_parts (is_digit d) (list_all is_digit ds) all in
-    rw (both.0, behind_digits) (behind_digits_is ds rest both.1 none)
+    rw (both.0, behind_leading) (behind_digits_is ds rest both.1 none)
 
 -- a digit is a byte of a word
 digit_is_word : (b : ℕ) → is_digit b ≡ true → is_word_byte b ≡ true

@@ -1,5 +1,6 @@
 pub mod Besides
 pub mod RulesKept
+pub mod RunsKept
 pub mod Replays
 pub mod LexFronts
 pub mod LexWords
@@ -16,6 +17,7 @@ pub mod Loads
 pub mod Cuts
 pub mod InputLaws
 pub mod Words
+pub mod Exactly
 pub mod TextEntries
 pub mod TextNames
 pub mod TextLines

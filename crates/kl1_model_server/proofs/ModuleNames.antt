@@ -1,5 +1,5 @@
 -- The names of a module that was read are the texts of names.
-use Rattle.std.specs.Prelude.{◌≡◌, ℕ, nat_le, ◌&&◌, Bool, true, false, cond, List, [], ◌∷◌, ◌++◌, Option, Some, None, is_some, option_map, option_and_then, codes}
+use Rattle.std.specs.Prelude.{◌≡◌, ℕ, nat_le, ◌&&◌, Bool, true, false, cond, List, [], ◌∷◌, ◌++◌, Option, Some, None, option_map, option_and_then, codes}
 use Rattle.std.specs.List.{list_all}
 use Rattle.std.proofs.Common.{refl, ap, sym, ◌∙◌, subst}
 use Rattle.std.proofs.lemmas.Bool.{and_from, and_parts}
@@ -14,7 +14,7 @@ use Rattle.kl1_model.specs.reader.Reader.{clause_tree}
 use Rattle.kl1_model.specs.Numbering.{numbered_tokens}
 use Rattle.kl1_model.specs.Meaning.{pair, expression_term, series_terms, head_term, depth, is_narrow, are_narrow, is_writable, variables_in}
 use Rattle.kl1_model.specs.Goal.{is_head, is_test, is_goal, body_goal}
-use Rattle.kl1_model.specs.Module.{BodyGoal, Clause, goals_of, Module, Reading, good, bad, Item, items_of, named_module, each_of, head_name, head_patterns, is_fit_head, has_only, fit_test, without_priority, with_priority, may_name, fit_goal, trees_of, fit_body, clause_with, true_goal, clause_of_tree, clause_of, section_after, may_follow, module_of_items, read_module}
+use Rattle.kl1_model.specs.Module.{BodyGoal, Clause, goals_of, Module, good, Item, items_of, named_module, each_of, head_name, head_patterns, is_fit_head, has_only, fit_test, without_priority, with_priority, may_name, fit_goal, trees_of, fit_body, clause_with, true_goal, clause_of_tree, clause_of, section_after, may_follow, module_of_items, read_module}
 use Rattle.kl1_model.specs.State.{names_in, names_of_clause, names_of_clauses, names_of_module}
 use Rattle.kl1_model.proofs.ReadItems.{clauses_keep, items_read}
 use Rattle.kl1_model_server.proofs.NewNames.{names_in_are_texts}

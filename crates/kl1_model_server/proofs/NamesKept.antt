@@ -1,22 +1,22 @@
 -- Which names an account has used after what is done to it.
-use Rattle.std.specs.Prelude.{◌≡◌, ℕ, suc, ◌==◌, nat_lt, nat_le, not, ◌&&◌, ◌||◌, Bool, true, false, if◌then◌else◌, List, [], ◌∷◌, length, Option, Some, None}
+use Rattle.std.specs.Prelude.{◌≡◌, ℕ, suc, ◌==◌, nat_le, not, ◌&&◌, Bool, true, false, if◌then◌else◌, List, [], ◌∷◌, length, Option, Some, None}
 use Rattle.std.proofs.Common.{refl, sym, ◌∙◌, subst}
 use Rattle.std.proofs.lemmas.Bool.{leb-true}
-use Rattle.kl1_model.specs.declared.limits.TheConstants.{MOST_REPORTS, MOST_NAMES}
+use Rattle.kl1_model.specs.declared.limits.TheConstants.{MOST_NAMES}
 use Rattle.kl1_model.specs.declared.message.Message.{Message}
 use Rattle.kl1_model.specs.declared.message.Message.TheVariants.{Stop, Start, Abort, Allow}
 use Rattle.kl1_model.specs.Text.{is_text}
-use Rattle.kl1_model.specs.Term.{Term, variable, integer, atom, structure, Replacement, occurs}
-use Rattle.kl1_model.specs.Meaning.{cell}
+use Rattle.kl1_model.specs.Term.{Term, variable, integer, atom, structure, Replacement}
 use Rattle.kl1_model.specs.Unify.{mgu}
 use Rattle.kl1_model.specs.State.{State, Goal, has_substitutes, Shoen, shoen_at, with_name, replace_in_state, replace_all, change_shoen, without_goal}
 use Rattle.kl1_model.specs.Tree.{path, charge}
 use Rattle.kl1_model.specs.Control.{Control, awaits_message, tells, tells_other, ends, breaks_off}
-use Rattle.kl1_model.specs.Report.{broken_at, reported_at, report, is_reported, report_each, closed_at, close, exception, exception_with, failure, illegal_input, exhaustion, started_report, stopped_report, resumed_report, exhausted_report, terminated_report, aborted_report}
+use Rattle.kl1_model.specs.Report.{has_made_last, report_tail, reported_on, reported_at, report, is_reported, report_each, closed_at, close, exception, exception_with, failure, illegal_input, exhaustion, started_report, stopped_report, resumed_report, exhausted_report, terminated_report, aborted_report}
 use Rattle.kl1_model.specs.Ending.{ended_at, ending_of, without_monitor, terminate, terminate_each, settle, newly_exhausted, after_reduction, ended_below, abort}
 use Rattle.kl1_model.specs.Opening.{with_shoen, open_shoen, child_shoen, has_room_for_child, open_child}
 use Rattle.kl1_model.specs.Reduction.{Move, commits, raises, unifies, names, opens, goes, gives_way, Action, moves, reads, has_room_for, committed, substituted_by, raised, unified, equation, or_exhaustion, moved, obeyed, with_control, heard, acted}
 use Rattle.kl1_model.specs.code.Steps.{report_of, close_of, stopped_of, resumed_of, named_by}
+use Rattle.kl1_model.specs.Event.{are_too_many}
 use Rattle.kl1_model.specs.Sending.{sent_on}
 use Rattle.kl1_model_server.specs.laws.TextLaws.{AreNames}
 use Rattle.kl1_model_server.proofs.NewNames.{with_name_new}
@@ -34,14 +34,12 @@ replaced : (rs : List Replacement) (s : State) → Has s.names (replace_all rs s
 replaced [] s = refl
 replaced (r ∷ rs) s = replaced rs (replace_in_state r.number r.by s)
 
+told : (k : ℕ) (m : Term) (o : Option ℕ) (s : State) → Has s.names (reported_on k m o s)
+told k m None s = refl
+told k m (Some v) s = refl
+
 reported : (k : ℕ) (m t : Term) (s : State) → Has s.names (reported_at k m t s)
-reported k m (variable v) s =
-    let next = suc s.last_variable in
-    let changed = change_shoen k (λ h. record h { tail = variable next }) (record (replace_in_state v (cell m (variable next)) s) { last_variable = next; reports = suc s.reports }) in
-    either (occurs v m || not (nat_lt s.reports MOST_REPORTS)) s.names (broken_at k s) changed refl refl
-reported k m (integer i) s = refl
-reported k m (atom a) s = refl
-reported k m (structure f ts) s = refl
+reported k m t s = told k m (report_tail (has_made_last s) m t) s
 
 report_of_has : (o : Option Shoen) (k : ℕ) (m : Term) (s : State) → Has s.names (report_of o k m s)
 report_of_has None k m s = refl
@@ -123,19 +121,23 @@ named_or : (c : Bool) (g : Goal) (t : Term) (after s : State) → (c ≡ true �
 named_or true g t after s go h = go refl
 named_or false g t after s go h = same_names s (raised g exhaustion t s) (raised_has g exhaustion t s) h
 
+pub twice_not : (x : Bool) → not (not x) ≡ true → x ≡ true
+twice_not true h = refl
+twice_not false h = cc
+
 -- a name more, if there is room for it
-text_named : (g : Goal) (t : Term) (text : List ℕ) (a : Term) (s : State) → is_text text ≡ true → IsNamed s → nat_le (length (with_name s.names text)) MOST_NAMES ≡ true → IsNamed (named_by g t text a s)
+text_named : (g : Goal) (t : Term) (text : List ℕ) (a : Term) (s : State) → is_text text ≡ true → IsNamed s → not (are_too_many (with_name s.names text)) ≡ true → IsNamed (named_by g t text a s)
 text_named g t text a s fine h room =
     let u = record s { names = with_name s.names text } in
     let o = mgu (equation a (atom text)) in
-    let n : IsNamed u = record { few = leb-true (length (with_name s.names text)) MOST_NAMES room; new = with_name_new s.names text h.new fine } in
+    let n : IsNamed u = record { few = leb-true (length (with_name s.names text)) MOST_NAMES (twice_not (nat_le (length (with_name s.names text)) MOST_NAMES) room); new = with_name_new s.names text h.new fine } in
     same_names u (unified g t o u) (unified_has g t o u) n
 
 moved_named : (g : Goal) (t : Term) (m : Move) (s : State) → NamesText m → IsNamed s → IsNamed (moved g t m s)
 moved_named g t (commits k) s fine h = same_names s (moved g t (commits k) s) (exhausted_or (has_room_for s k.clause) g t (committed g k s) s refl) h
 moved_named g t (raises kind) s fine h = same_names s (moved g t (raises kind) s) (raised_has g kind t s) h
 moved_named g t (unifies a b) s fine h = same_names s (moved g t (unifies a b) s) (unified_has g t (mgu (equation a b)) s) h
-moved_named g t (names text a) s fine h = named_or (nat_le (length (with_name s.names text)) MOST_NAMES) g t (named_by g t text a s) s (text_named g t text a s fine h) h
+moved_named g t (names text a) s fine h = named_or (not (are_too_many (with_name s.names text))) g t (named_by g t text a s) s (text_named g t text a s fine h) h
 moved_named g t (opens o) s fine h =
     same_names s (moved g t (opens o) s) (exhausted_or (has_room_for_child s g.shoen) g t (open_child s g.shoen o) s (open_has (child_shoen s g.shoen o) o.goal s)) h
 moved_named g t goes s fine h = h

@@ -9,8 +9,8 @@ use Rattle.kl1_model.specs.declared.sign.Sign.{Sign}
 use Rattle.kl1_model.specs.declared.sign.Sign.TheVariants.{Neck}
 use Rattle.kl1_model.specs.Text.{is_name_byte, is_text}
 use Rattle.kl1_model.specs.Name.{is_small_letter, is_word_byte}
-use Rattle.kl1_model.specs.Token.{Token, name_token, variable_token, digits_token, minus_token, sign_token, end_token, is_variable_start, is_digit, is_blank, word_of, behind_word, digits_of, behind_digits, number_of, quoted_from, behind_comment, sign_at, Front, finished, broken, line_end, blank, token, first_is, name_front, dot_front, front_of, Placed, Tokens, tokens_by, tokens_within, tokens_of_text}
-use Rattle.kl1_model.specs.code.Fronts.{quoted_front, comment_front, sign_front}
+use Rattle.kl1_model.specs.Token.{Token, name_token, variable_token, digits_token, minus_token, sign_token, end_token, is_variable_start, is_digit, is_blank, word_of, behind_word, digits_of, behind_digits, number_of, behind_comment, sign_at, Front, finished, broken, line_end, blank, token, first_is, name_front, dot_front, front_of, Placed, Tokens, tokens_by, tokens_within, tokens_of_text}
+use Rattle.kl1_model.specs.code.Fronts.{quoted_front, comment_front, sign_front, quoted_from}
 use Rattle.kl1_model.proofs.LexStarts.{Start, ends_line, blanks, comments, names, variables, numbers, quotes, dots, subtracts, signs_or_nothing, start_of, front_by, front_starts}
 use Rattle.kl1_model.specs.Module.{Item, is_end, last_item, items_from, items_of, named_module}
 

@@ -1,32 +1,38 @@
 -- What is done to an account leaves the rules that it keeps to.
-use Rattle.std.specs.Prelude.{◌≡◌, ℕ, suc, ◌+◌, ◌==◌, nat_lt, nat_le, not, ◌&&◌, ◌||◌, Bool, true, false, if◌then◌else◌, List, [], ◌∷◌, length, Option, Some, None, is_some}
-use Rattle.std.proofs.Common.{refl, ◌∙◌}
-use Rattle.kl1_model.specs.declared.limits.TheConstants.{MOST_REPORTS, MOST_MODULES, MOST_NAMES, MOST_ENTRIES, MOST_SOURCE_BYTES}
+use Rattle.std.specs.Prelude.{◌≡◌, ℕ, zero, suc, ◌+◌, ◌==◌, nat_lt, nat_le, not, ◌&&◌, Bool, true, false, if◌then◌else◌, List, [], ◌∷◌, length, Option, Some, None, is_some}
+use Rattle.std.proofs.Common.{refl, ap, ◌∙◌}
+use Rattle.kl1_model.specs.declared.rules.Rules.{Rules}
+use Rattle.kl1_model.specs.declared.limits.TheConstants.{MOST_MODULES, MOST_SOURCE_BYTES}
 use Rattle.kl1_model.specs.declared.message.Message.{Message}
 use Rattle.kl1_model.specs.declared.message.Message.TheVariants.{Stop, Start, Abort, Allow}
-use Rattle.kl1_model.specs.Term.{Term, variable, integer, atom, structure, Replacement, occurs}
-use Rattle.kl1_model.specs.Meaning.{cell, highest}
+use Rattle.kl1_model.specs.Term.{Term, variable, integer, atom, structure, Replacement}
+use Rattle.kl1_model.specs.Meaning.{highest}
 use Rattle.kl1_model.specs.Nodes.{goal_nodes}
 use Rattle.kl1_model.specs.Unify.{mgu}
 use Rattle.kl1_model.specs.Module.{Module, Reading, good, bad, read_module}
 use Rattle.kl1_model.specs.Match.{module_of}
-use Rattle.kl1_model.specs.State.{State, Goal, has_substitutes, Shoen, Origin, goal_at, shoen_at, names_of, names_of_module, with_name, with_names, replace_in_state, replace_all, change_shoen, without_goal, is_living}
+use Rattle.kl1_model.specs.State.{State, Goal, has_substitutes, has_runs, Shoen, Origin, goal_at, shoen_at, names_of, names_of_module, with_name, with_names, replace_in_state, replace_all, change_shoen, without_goal, is_living}
 use Rattle.kl1_model.specs.Tree.{path, charge}
 use Rattle.kl1_model.specs.Control.{Control, awaits_message, tells, tells_other, ends, breaks_off}
-use Rattle.kl1_model.specs.Report.{broken_at, reported_at, report, is_reported, report_each, closed_at, close, exception, exception_with, failure, illegal_input, exhaustion, started_report, stopped_report, resumed_report, exhausted_report, terminated_report, aborted_report}
+use Rattle.kl1_model.specs.Report.{has_made_last, report_tail, reported_on, reported_at, report, is_reported, report_each, closed_at, close, exception, exception_with, failure, illegal_input, exhaustion, started_report, stopped_report, resumed_report, exhausted_report, terminated_report, aborted_report}
 use Rattle.kl1_model.specs.Ending.{ended_at, ending_of, without_monitor, terminate, terminate_each, settle, newly_exhausted, after_reduction, ended_below, abort}
 use Rattle.kl1_model.specs.Opening.{may_start, has_room_to_start, with_shoen, open_shoen, with_next_variables, started_shoen, start_goal, child_shoen, has_room_for_child, open_child}
 use Rattle.kl1_model.specs.Reduction.{Move, commits, raises, unifies, names, opens, goes, gives_way, Action, moves, reads, action_of, has_room_for, committed, substituted_by, raised, unified, equation, or_exhaustion, moved, obeyed, with_control, heard, acted, reduce_goal}
-use Rattle.kl1_model.specs.Sending.{may_send, has_room_to_send, sent_on, send_to}
-use Rattle.kl1_model.specs.Event.{Refusal, syntax, exists, shoen_ended, too_many_names, limit_passed, journal_full, start, loaded, opened, sent, reduced, Transition, refuse, is_number, with_entry, recorded, named, limited}
-use Rattle.kl1_model.specs.Answering.{may_answer, has_room_to_answer, unanswered_at, answer_by, answer_to}
-use Rattle.kl1_model.specs.Step.{load_module, step}
+use Rattle.kl1_model.specs.Sending.{may_send, has_room_to_send, sent_on, send_living, send_to}
+use Rattle.kl1_model.specs.Event.{Refusal, syntax, exists, shoen_ended, too_many_names, limit_passed, journal_full, start, reduce, loaded, opened, sent, reduced, Transition, refuse, is_number, unless, are_too_many, is_full, needs_entry, with_entry, with_reduction}
+use Rattle.kl1_model.specs.Answering.{may_answer, has_room_to_answer, unanswered_at, answer_by, answer_living, answer_to}
+use Rattle.kl1_model.specs.Step.{load_module, start_by, step}
+use Rattle.kl1_model.specs.Choice.{Chosen, first, is_in_run}
 use Rattle.kl1_model.specs.code.Steps.{report_of, close_of, stopped_of, resumed_of, reduced_by, send_by, answer_in, with_module, named_by}
-use Rattle.kl1_model_server.specs.Journal.{Entry, loads, starts, sends, steps, answers, event_in}
+use Rattle.kl1_model_server.specs.Journal.{Entry, loads, starts, sends, steps, answers, runs, chosen_step, first_steps, entry_step}
 
--- an account with the rules of another
+-- the rules of an account, and the length of its last run
+abbrev kept_of : State → Rules × ℕ
+kept_of s = (s.rules, s.run)
+
+-- an account with the rules of another, and with a last run that is as long
 abbrev Alike : State → State → Type 0
-Alike s t = t.rules ≡ s.rules
+Alike s t = kept_of t ≡ kept_of s
 
 either : (c : Bool) (s t u : State) → Alike s t → Alike s u → Alike s (if c then t else u)
 either true s t u p q = p
@@ -36,14 +42,12 @@ replaced : (rs : List Replacement) (s : State) → Alike s (replace_all rs s)
 replaced [] s = refl
 replaced (r ∷ rs) s = replaced rs (replace_in_state r.number r.by s)
 
+told : (k : ℕ) (m : Term) (o : Option ℕ) (s : State) → Alike s (reported_on k m o s)
+told k m None s = refl
+told k m (Some v) s = refl
+
 reported : (k : ℕ) (m t : Term) (s : State) → Alike s (reported_at k m t s)
-reported k m (variable v) s =
-    let next = suc s.last_variable in
-    let changed = change_shoen k (λ h. record h { tail = variable next }) (record (replace_in_state v (cell m (variable next)) s) { last_variable = next; reports = suc s.reports }) in
-    either (occurs v m || not (nat_lt s.reports MOST_REPORTS)) s (broken_at k s) changed refl refl
-reported k m (integer i) s = refl
-reported k m (atom a) s = refl
-reported k m (structure f ts) s = refl
+reported k m t s = told k m (report_tail (has_made_last s) m t) s
 
 report_of_alike : (o : Option Shoen) (k : ℕ) (m : Term) (s : State) → Alike s (report_of o k m s)
 report_of_alike None k m s = refl
@@ -117,7 +121,7 @@ moved_alike g t (commits k) s = exhausted_or (has_room_for s k.clause) g t (comm
 moved_alike g t (raises kind) s = raised_alike g kind t s
 moved_alike g t (unifies a b) s = unified_alike g t (mgu (equation a b)) s
 moved_alike g t (names text a) s =
-    exhausted_or (nat_le (length (with_name s.names text)) MOST_NAMES) g t (named_by g t text a s) s (unified_alike g t (mgu (equation a (atom text))) (record s { names = with_name s.names text }))
+    exhausted_or (not (are_too_many (with_name s.names text))) g t (named_by g t text a s) s (unified_alike g t (mgu (equation a (atom text))) (record s { names = with_name s.names text }))
 moved_alike g t (opens o) s = exhausted_or (has_room_for_child s g.shoen) g t (open_child s g.shoen o) s (open_alike (child_shoen s g.shoen o) o.goal s)
 moved_alike g t goes s = refl
 moved_alike g t gives_way s = refl
@@ -164,89 +168,112 @@ sent_alike k m (structure f ts) s = refl
 
 -- ---- events
 
+-- an account with the rules of another
+abbrev Ruled : State → State → Type 0
+Ruled s t = t.rules ≡ s.rules
+
+ruled : (s t : State) → Alike s t → Ruled s t
+ruled s t e = ap (λ (p : Rules × ℕ). p.0) e
+
+-- what a goal does leaves the length of the last run
+pub acted_run : (g : Goal) (a : Action) (s : State) → (acted g a s).run ≡ s.run
+acted_run g a s = ap (λ (p : Rules × ℕ). p.1) (acted_alike g a s)
+
 -- either outcome
-one_of : (c : Bool) (s : State) (x y : Transition) → Alike s x.state → Alike s y.state → Alike s (if c then x else y).state
+one_of : (c : Bool) (s : State) (x y : Transition) → Ruled s x.state → Ruled s y.state → Ruled s (if c then x else y).state
 one_of true s x y p q = p
 one_of false s x y p q = q
 
 -- what may be refused
-may : (c : Bool) (s : State) (x : Transition) (r : Refusal) → Alike s x.state → Alike s (if c then x else refuse s r).state
+may : (c : Bool) (s : State) (x : Transition) (r : Refusal) → Ruled s x.state → Ruled s (if c then x else refuse s r).state
 may c s x r p = one_of c s x (refuse s r) p refl
 
-recorded_alike : (s : State) (x : Transition) → Alike s x.state → Alike s (recorded s x).state
-recorded_alike s x p = may (nat_lt s.entries MOST_ENTRIES) s x journal_full p
+unless_alike : (s : State) (rs : List (Bool × Refusal)) (x : Transition) → Ruled s x.state → Ruled s (unless s rs x).state
+unless_alike s [] x p = p
+unless_alike s (r ∷ rs) x p = one_of r.0 s (refuse s r.1) (unless s rs x) refl (unless_alike s rs x p)
 
-load_alike : (s : State) (r : Reading Module) → Alike s (load_module s r).state
+load_alike : (s : State) (r : Reading Module) → Ruled s (load_module s r).state
 load_alike s (bad line) = refl
 load_alike s (good m) =
-    let x : Transition = record { state = with_entry (with_module s m); reply = loaded m.name } in
-    let y = limited s (nat_lt (length s.modules) MOST_MODULES) (recorded s x) in
-    let names = with_names s.names (names_of_module m) in
-    one_of (is_some (module_of s.modules m.name)) s (refuse s exists) (named s names y) refl
-    (may (nat_le (length names) MOST_NAMES) s y too_many_names (may (nat_lt (length s.modules) MOST_MODULES) s (recorded s x) limit_passed (recorded_alike s x refl)))
+    unless_alike s
+    ((is_some (module_of s.modules m.name), exists) ∷ (are_too_many (with_names s.names (names_of_module m)), too_many_names)
+    ∷ (not (nat_lt (length s.modules) MOST_MODULES), limit_passed) ∷ (is_full s, journal_full) ∷ []) (record { state = with_entry (with_module s m); reply = loaded m.name }) refl
 
-start_alike : (s : State) (allowance low high : ℕ) (t : Term) → Alike s (start_goal s allowance low high t)
+start_alike : (s : State) (allowance low high : ℕ) (t : Term) → Ruled s (start_goal s allowance low high t)
 start_alike s allowance low high t =
     let goal = with_next_variables s.last_variable t in
     let count = s.last_variable + highest t in
-    open_alike (started_shoen s allowance low high goal (variable (suc count)) (variable (suc (suc count)))) goal
+    ruled s (start_goal s allowance low high t)
+    (open_alike (started_shoen s allowance low high goal (variable (suc count)) (variable (suc (suc count)))) goal
     (record s {
       names = with_names s.names (names_of t);
       last_variable = suc (suc count);
       variables = s.variables + suc (suc (highest t));
       nodes = s.nodes + goal_nodes t;
-    })
+    }))
 
-starting_alike : (s : State) (allowance low high : ℕ) (t : Term) → Alike s (step s (start allowance low high t)).state
+starting_alike : (s : State) (allowance low high : ℕ) (t : Term) → Ruled s (step s (start allowance low high t)).state
 starting_alike s allowance low high t =
-    let x : Transition = record { state = with_entry (start_goal s allowance low high t); reply = opened (suc s.last_shoen) } in
-    let y = limited s (has_room_to_start s t) (recorded s x) in
-    let names = with_names s.names (names_of t) in
-    may (may_start allowance low high t) s (named s names y) syntax
-    (may (nat_le (length names) MOST_NAMES) s y too_many_names
-    (may (has_room_to_start s t) s (recorded s x) limit_passed (recorded_alike s x (start_alike s allowance low high t))))
+    may (may_start allowance low high t) s (start_by s allowance low high t) syntax
+    (unless_alike s
+    ((are_too_many (with_names s.names (names_of t)), too_many_names) ∷ (not (has_room_to_start s t), limit_passed) ∷ (is_full s, journal_full) ∷ [])
+    (record { state = with_entry (start_goal s allowance low high t); reply = opened (suc s.last_shoen) }) (start_alike s allowance low high t))
 
-send_by_alike : (s : State) (n : ℕ) (m : Message) (h : Shoen) (o : Option Origin) → Alike s (send_by s n m h o).state
+send_by_alike : (s : State) (n : ℕ) (m : Message) (h : Shoen) (o : Option Origin) → Ruled s (send_by s n m h o).state
 send_by_alike s n m h None = refl
 send_by_alike s n m h (Some o) =
-    let x : Transition = record { state = with_entry (sent_on n m o.control s); reply = sent } in
-    may (is_living h.life) s (limited s (has_room_to_send s m) (recorded s x)) shoen_ended
-    (may (has_room_to_send s m) s (recorded s x) limit_passed (recorded_alike s x (sent_alike n m o.control s)))
+    may (is_living h.life) s (send_living s n m o) shoen_ended
+    (unless_alike s ((not (has_room_to_send s m), limit_passed) ∷ (is_full s, journal_full) ∷ [])
+    (record { state = with_entry (sent_on n m o.control s); reply = sent }) (ruled s (sent_on n m o.control s) (sent_alike n m o.control s)))
 
-send_alike : (s : State) (n : ℕ) (m : Message) (o : Option Shoen) → Alike s (send_to s n m o).state
+send_alike : (s : State) (n : ℕ) (m : Message) (o : Option Shoen) → Ruled s (send_to s n m o).state
 send_alike s n m None = refl
 send_alike s n m (Some h) = send_by_alike s n m h h.origin
 
-reduced_alike : (s : State) (g : Goal) (o : Option Action) → Alike s (reduced_by s g o).state
-reduced_alike s g None = refl
-reduced_alike s g (Some a) = recorded_alike s (record { state = acted g a (with_entry s); reply = reduced }) (acted_alike g a (with_entry s))
+reduced_alike : (s : State) (r : Bool) (g : Goal) (o : Option Action) → Ruled s (reduced_by s r g o).state
+reduced_alike s r g None = refl
+reduced_alike s r g (Some a) =
+    unless_alike s ((needs_entry r s && is_full s, journal_full) ∷ []) (record { state = acted g a (with_reduction r s); reply = reduced }) (ruled (with_reduction r s) (acted g a (with_reduction r s)) (acted_alike g a (with_reduction r s)))
 
-reduce_alike : (s : State) (clause : ℕ) (g : Option Goal) → Alike s (reduce_goal s clause g).state
-reduce_alike s clause None = refl
-reduce_alike s clause (Some g) = reduced_alike s g (action_of s g clause)
+reduce_alike : (s : State) (r : Bool) (clause : ℕ) (g : Option Goal) → Ruled s (reduce_goal s r clause g).state
+reduce_alike s r clause None = refl
+reduce_alike s r clause (Some g) = reduced_alike s r g (action_of s g clause)
 
-answer_by_alike : (s : State) (t : Term) (o : Option ℕ) → Alike s (answer_by s t o).state
+answer_by_alike : (s : State) (t : Term) (o : Option ℕ) → Ruled s (answer_by s t o).state
 answer_by_alike s t None = refl
 answer_by_alike s t (Some v) = refl
 
-answer_in_alike : (s : State) (report : ℕ) (t : Term) (h : Shoen) (o : Option Origin) → Alike s (answer_in s report t h o).state
+answer_in_alike : (s : State) (report : ℕ) (t : Term) (h : Shoen) (o : Option Origin) → Ruled s (answer_in s report t h o).state
 answer_in_alike s report t h None = refl
 answer_in_alike s report t h (Some o) =
-    let x = answer_by s t (unanswered_at o.reports report) in
-    let y = limited s (has_room_to_answer s t) (recorded s x) in
-    let names = with_names s.names (names_of t) in
-    may (is_living h.life) s (named s names y) shoen_ended
-    (may (nat_le (length names) MOST_NAMES) s y too_many_names
-    (may (has_room_to_answer s t) s (recorded s x) limit_passed (recorded_alike s x (answer_by_alike s t (unanswered_at o.reports report)))))
+    may (is_living h.life) s (answer_living s report t o) shoen_ended
+    (unless_alike s
+    ((are_too_many (with_names s.names (names_of t)), too_many_names) ∷ (not (has_room_to_answer s t), limit_passed) ∷ (is_full s, journal_full) ∷ [])
+    (answer_by s t (unanswered_at o.reports report)) (answer_by_alike s t (unanswered_at o.reports report)))
 
-answer_alike : (s : State) (report : ℕ) (t : Term) (o : Option Shoen) → Alike s (answer_to s report t o).state
+answer_alike : (s : State) (report : ℕ) (t : Term) (o : Option Shoen) → Ruled s (answer_to s report t o).state
 answer_alike s report t None = refl
 answer_alike s report t (Some h) = answer_in_alike s report t h h.origin
 
+-- a reduction leaves them
+pub step_rules : (s : State) (goal clause : ℕ) → (step s (reduce goal clause)).state.rules ≡ s.rules
+step_rules s goal clause =
+    let r = is_in_run s goal clause in
+    may (is_number goal && is_number clause) s (reduce_goal s r clause (goal_at goal s.goals)) syntax (reduce_alike s r clause (goal_at goal s.goals))
+
+chosen_rules : (s : State) (o : Option Chosen) → Ruled s (chosen_step s o).state
+chosen_rules s None = refl
+chosen_rules s (Some c) = step_rules s c.goal c.clause
+
+pub first_steps_rules : (n : ℕ) (s : State) → Ruled s (first_steps n s).state
+first_steps_rules zero s = refl
+first_steps_rules (suc n) s = let t = (first_steps n s).state in chosen_rules t (first t) ∙ first_steps_rules n s
+
 -- what an entry does leaves them
-pub entry_rules : (s : State) (e : Entry) → (step s (event_in e)).state.rules ≡ s.rules
+pub entry_rules : (s : State) (e : Entry) → (entry_step s e).state.rules ≡ s.rules
 entry_rules s (loads text) = may (nat_le (length text) MOST_SOURCE_BYTES) s (load_module s (read_module text)) syntax (load_alike s (read_module text))
 entry_rules s (starts allowance low high t) = starting_alike s allowance low high t
 entry_rules s (sends n m) = may (may_send n m) s (send_to s n m (shoen_at n s.shoens)) syntax (send_alike s n m (shoen_at n s.shoens))
-entry_rules s (steps goal clause) = may (is_number goal && is_number clause) s (reduce_goal s clause (goal_at goal s.goals)) syntax (reduce_alike s clause (goal_at goal s.goals))
+entry_rules s (steps goal clause) = step_rules s goal clause
+entry_rules s (runs n) = may (has_runs s.rules) s (first_steps n s) syntax (first_steps_rules n s)
 entry_rules s (answers n report t) = may (has_substitutes s.rules && may_answer n report t) s (answer_to s report t (shoen_at n s.shoens)) syntax (answer_alike s report t (shoen_at n s.shoens))

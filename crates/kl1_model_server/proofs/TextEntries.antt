@@ -1,11 +1,10 @@
 -- The lines of entries read back.
-use Rattle.std.specs.Prelude.{◌≡◌, ℕ, ◌+◌, ◌*◌, ◌-◌, ◌/◌, ◌%◌, ◌≤◌, ◌<◌, nat_le, nat_lt, ◌&&◌, Bool, true, false, if◌then◌else◌, List, [], ◌∷◌, ◌++◌, length, codes, bytes_eq, decimal, Option, Some, None, option_map, option_and_then}
+use Rattle.std.specs.Prelude.{◌≡◌, ℕ, ◌+◌, ◌*◌, ◌-◌, ◌/◌, ◌%◌, ◌≤◌, ◌<◌, nat_le, nat_lt, ◌&&◌, Bool, true, false, if◌then◌else◌, List, [], ◌∷◌, ◌++◌, length, codes, decimal, Option, Some, None, option_map, option_and_then}
 use Rattle.std.specs.List.{list_all}
-use Rattle.std.proofs.Common.{refl, sym, ap, ap₂, ◌∙◌, arith, inl, inr}
+use Rattle.std.proofs.Common.{refl, ap, ap₂, ◌∙◌, arith, inl, inr}
 use Rattle.std.proofs.lemmas.Bool.{and_parts, and_from, or_left, or_right, le-leb, lt-leb, lt-ltb, le-ltb, ltb-true, cases_lt}
 use Rattle.std.proofs.lemmas.List.{append_assoc, length-append}
 use Rattle.std.proofs.lemmas.Option.{none-some, same_Some}
-use Rattle.std.proofs.lemmas.Slice.Eq.{bytes_eq-Decides}
 use Rattle.kl1_model.specs.declared.limits.TheConstants.{NUMBER_LIMIT, MOST_LINE_BYTES, MOST_DEPTH}
 use Rattle.kl1_model.specs.declared.message.Message.{Message}
 use Rattle.kl1_model.specs.declared.message.Message.TheVariants.{Stop, Start, Abort, Allow}
@@ -20,11 +19,12 @@ use Rattle.kl1_model.specs.Module.{Reading, good, bad, read_goal}
 use Rattle.kl1_model.specs.Event.{is_number}
 use Rattle.kl1_model.specs.Sending.{is_message, may_send}
 use Rattle.kl1_model.specs.laws.ReadLaws.{is_printable}
-use Rattle.kl1_model_server.specs.Journal.{Entry, loads, starts, sends, steps, answers}
-use Rattle.kl1_model_server.specs.JournalText.{hex_digit, is_hex_digit, hex_text, hex_value, hex_bytes, entry_line, of_two, if_read, start_in, answer_in, entry_by}
+use Rattle.kl1_model_server.specs.Journal.{Entry, loads, starts, sends, steps, answers, runs}
+use Rattle.kl1_model_server.specs.JournalText.{hex_digit, is_hex_digit, hex_text, hex_value, hex_bytes, entry_line, of_two, if_good, start_in, answer_in, run_of, entry_by, exactly}
 use Rattle.kl1_model_server.specs.laws.TextLaws.{AreBytes, HasLine, EntriesReadBack, StrictLinesAreEntries}
 use Rattle.kl1_model_server.proofs.ReadBack.{printed_goals_read_back}
 use Rattle.kl1_model_server.proofs.ReadPlain.{prints_are_plain}
+use Rattle.kl1_model_server.proofs.Exactly.{exactly_back, exactly_strict}
 use Rattle.kl1_model_server.proofs.Words.{few_digits, number_back, before_front, behind_front, decimal_no_space, highest_fits}
 
 two_back : (make : ℕ → ℕ → Entry) (a b : ℕ) → a < NUMBER_LIMIT → b < NUMBER_LIMIT → of_two make (decimal a ++ 32 ∷ decimal b) ≡ Some (make a b)
@@ -119,7 +119,7 @@ answers_here n report t h = record {
 }
 
 -- what was read as good
-pub is_read : {A : Type 0} (r : Reading A) (a : A) → if_read r ≡ Some a → r ≡ good a
+pub is_read : {A : Type 0} (r : Reading A) (a : A) → if_good r ≡ Some a → r ≡ good a
 is_read (good b) a h = ap (λ x. good x) (same_Some b a h)
 is_read (bad line) a h = absurd (none-some a h)
 
@@ -137,11 +137,11 @@ start_back allowance low high t s =
     let is_b : behind_space rest ≡ b = behind_front (decimal allowance) b (decimal_no_space allowance s.first) in
     let is_c : behind_space (behind_space rest) ≡ c = ap behind_space is_b ∙ behind_front (decimal low) c (decimal_no_space low s.second) in
     let is_last : behind_space (behind_space (behind_space rest)) ≡ last = ap behind_space is_c ∙ behind_front (decimal high) last (decimal_no_space high s.third) in
-    by_parts (number_in (before_space rest)) (number_in (before_space (behind_space rest))) (number_in (before_space (behind_space (behind_space rest)))) (if_read (read_goal (behind_space (behind_space (behind_space rest))))) allowance low high t
+    by_parts (number_in (before_space rest)) (number_in (before_space (behind_space rest))) (number_in (before_space (behind_space (behind_space rest)))) (if_good (read_goal (behind_space (behind_space (behind_space rest))))) allowance low high t
     (ap number_in (before_front (decimal allowance) b (decimal_no_space allowance s.first)) ∙ number_back allowance s.first)
     (ap (λ x. number_in (before_space x)) is_b ∙ ap number_in (before_front (decimal low) c (decimal_no_space low s.second)) ∙ number_back low s.second)
     (ap (λ x. number_in (before_space x)) is_c ∙ ap number_in (before_front (decimal high) last (decimal_no_space high s.third)) ∙ number_back high s.third)
-    (ap if_read (ap read_goal is_last ∙ printed_goals_read_back t s.printable s.goal))
+    (ap if_good (ap read_goal is_last ∙ printed_goals_read_back t s.printable s.goal))
 
 by_two : (x y : Option ℕ) (o : Option Term) (n report : ℕ) (t : Term) → x ≡ Some n → y ≡ Some report → o ≡ Some t → option_and_then (λ n. option_and_then (λ report. option_map (answers n report) o) y) x ≡ Some (answers n report t)
 by_two x y o n report t p q e = rw (p, q, e) refl
@@ -154,10 +154,10 @@ answer_back n report t s =
     let rest = decimal n ++ 32 ∷ b in
     let is_b : behind_space rest ≡ b = behind_front (decimal n) b (decimal_no_space n s.first) in
     let is_last : behind_space (behind_space rest) ≡ last = ap behind_space is_b ∙ behind_front (decimal report) last (decimal_no_space report s.second) in
-    by_two (number_in (before_space rest)) (number_in (before_space (behind_space rest))) (if_read (read_goal (behind_space (behind_space rest)))) n report t
+    by_two (number_in (before_space rest)) (number_in (before_space (behind_space rest))) (if_good (read_goal (behind_space (behind_space rest)))) n report t
     (ap number_in (before_front (decimal n) b (decimal_no_space n s.first)) ∙ number_back n s.first)
     (ap (λ x. number_in (before_space x)) is_b ∙ ap number_in (before_front (decimal report) last (decimal_no_space report s.second)) ∙ number_back report s.second)
-    (ap if_read (ap read_goal is_last ∙ printed_goals_read_back t s.printable s.goal))
+    (ap if_good (ap read_goal is_last ∙ printed_goals_read_back t s.printable s.goal))
 
 three_parts : (a b p : List ℕ) → a ++ 32 ∷ [] ++ b ++ 32 ∷ [] ++ p ≡ a ++ 32 ∷ (b ++ 32 ∷ p)
 three_parts a b p = simp append_assoc refl
@@ -176,6 +176,10 @@ sent_number n m h = ltb-true n NUMBER_LIMIT (and_parts (is_number n) (is_message
 pub sent_more : (n k : ℕ) → may_send n (Allow k) ≡ true → k < NUMBER_LIMIT
 sent_more n k h = ltb-true k NUMBER_LIMIT (and_parts (is_number n) (is_number k) h).1
 
+-- the entry that a line may be, by its words
+abbrev parsed : List ℕ → Option Entry
+parsed line = entry_by (before_space line) (behind_space line)
+
 -- the entry by the words of its line
 by_back : (e : Entry) → HasLine e → entry_by (before_space (entry_line e)) (behind_space (entry_line e)) ≡ Some e
 by_back (loads text) h = rw (hex_digits text h.0) (ap (λ bs. Some (loads bs)) (hex_back text h.0))
@@ -185,6 +189,7 @@ by_back (sends n Start) h = ap (option_map (λ k. sends k Start)) (number_back n
 by_back (sends n Abort) h = ap (option_map (λ k. sends k Abort)) (number_back n (sent_number n Abort h))
 by_back (sends n (Allow k)) h = ap (of_two (λ n k. sends n (Allow k))) (two_parts (decimal n) (decimal k)) ∙ two_back (λ n k. sends n (Allow k)) n k (sent_number n (Allow k) h) (sent_more n k h)
 by_back (answers n report t) h = ap answer_in (three_parts (decimal n) (decimal report) (print t)) ∙ answer_back n report t (answers_here n report t h)
+by_back (runs n) h = ap (option_and_then run_of) (number_back n h.1) ∙ ap (λ x. if◌then◌else◌ {A = Option Entry} x (Some (runs n)) None) (le-leb 1 n h.0)
 by_back (steps goal clause) h = ap (of_two steps) (two_parts (decimal goal) (decimal clause)) ∙ two_back steps goal clause h.0 h.1
 
 -- two digits each
@@ -204,33 +209,18 @@ fits (sends n Start) h = omega (arith, few_digits n (sent_number n Start h))
 fits (sends n Abort) h = omega (arith, few_digits n (sent_number n Abort h))
 fits (sends n (Allow k)) h = omega (arith, length_two n k (sent_number n (Allow k) h) (sent_more n k h))
 fits (answers n report t) h = h.5
+fits (runs n) h = omega (arith, few_digits n h.1)
 fits (steps goal clause) h = omega (arith, length_two goal clause h.0 h.1)
-
--- an entry, if this is its line
-abbrev pub if_line : List ℕ → Entry → Option Entry
-if_line line e = if bytes_eq (entry_line e) line then Some e else None
-
-line_same : (e : Entry) → if_line (entry_line e) e ≡ Some e
-line_same e = rw ((bytes_eq-Decides (entry_line e) (entry_line e)).1 refl) refl
 
 pub entries_read_back : EntriesReadBack
 entries_read_back e h =
     let line = entry_line e in
-    ap (λ x. if◌then◌else◌ {A = Option Entry} x (option_and_then (if_line line) (entry_by (before_space line) (behind_space line))) None) (le-leb (length line) MOST_LINE_BYTES (fits e h))
-    ∙ ap (option_and_then (if_line line)) (by_back e h)
-    ∙ line_same e
+    ap (λ x. if◌then◌else◌ {A = Option Entry} x (exactly entry_line parsed line) None) (le-leb (length line) MOST_LINE_BYTES (fits e h))
+    ∙ exactly_back entry_line parsed e (by_back e h)
 
-if_strict : (line : List ℕ) (e f : Entry) (b : Bool) → bytes_eq (entry_line e) line ≡ b → if◌then◌else◌ {A = Option Entry} b (Some e) None ≡ Some f → entry_line f ≡ line
-if_strict line e f true is h = ap entry_line (sym (same_Some e f h)) ∙ (bytes_eq-Decides (entry_line e) line).0 is
-if_strict line e f false is h = absurd (none-some f h)
-
-strict_by : (line : List ℕ) (o : Option Entry) (f : Entry) → option_and_then (if_line line) o ≡ Some f → entry_line f ≡ line
-strict_by line None f h = absurd (none-some f h)
-strict_by line (Some e) f h = if_strict line e f (bytes_eq (entry_line e) line) refl h
-
-strict_short : (b : Bool) (line : List ℕ) (o : Option Entry) (f : Entry) → if◌then◌else◌ {A = Option Entry} b (option_and_then (if_line line) o) None ≡ Some f → entry_line f ≡ line
-strict_short true line o f h = strict_by line o f h
-strict_short false line o f h = absurd (none-some f h)
+strict_short : (b : Bool) (line : List ℕ) (e : Entry) → if◌then◌else◌ {A = Option Entry} b (exactly entry_line parsed line) None ≡ Some e → entry_line e ≡ line
+strict_short true line e h = (exactly_strict entry_line parsed line e h).1
+strict_short false line e h = absurd (none-some e h)
 
 pub strict_lines_are_entries : StrictLinesAreEntries
-strict_lines_are_entries line e h = strict_short (nat_le (length line) MOST_LINE_BYTES) line (entry_by (before_space line) (behind_space line)) e h
+strict_lines_are_entries line e h = strict_short (nat_le (length line) MOST_LINE_BYTES) line e h

@@ -10,7 +10,7 @@ use Rattle.kl1_model.specs.declared.rules.Rules.{Rules}
 use Rattle.kl1_model.specs.Text.{is_text}
 use Rattle.kl1_model_server.specs.Command.{written_lines}
 use Rattle.kl1_model_server.specs.Journal.{Entry, Journal}
-use Rattle.kl1_model_server.specs.JournalText.{entry_line, name_line, first_line, journal_lines, entry_in, name_in, is_new_name, Heading, heading_in, Lines, lines_of, entries_in, journal_after, journal_of}
+use Rattle.kl1_model_server.specs.JournalText.{entry_line, name_line, heading_line, journal_lines, entry_in, name_in, is_new_name, Heading, heading_in, Lines, lines_of, entries_in, journal_after, journal_of}
 use Rattle.kl1_model_server.specs.laws.TextLaws.{HasLine, is_unbroken, are_new_names, IsWritten, journal_text, JournalsReadBack, StrictTextsAreJournals}
 use Rattle.kl1_model_server.proofs.TextEntries.{entries_read_back, strict_lines_are_entries}
 use Rattle.kl1_model_server.proofs.TextNames.{names_read_back, strict_lines_are_names, headings_read_back, strict_lines_are_headings}
@@ -67,7 +67,7 @@ lines_unbroken j w =
     let entries = map entry_line j.entries in
     let few = w.sessions in
     let less = w.names.few in
-    and_from (is_unbroken (first_line j.rules j.sessions (length j.names))) (list_all is_unbroken (names ++ entries)) (first_unbroken j.rules j.sessions (length j.names) (omega arith) (omega arith))
+    and_from (is_unbroken (heading_line j.rules j.sessions (length j.names))) (list_all is_unbroken (names ++ entries)) (first_unbroken j.rules j.sessions (length j.names) (omega arith) (omega arith))
     (list_all-append is_unbroken names entries ∙ and_from (list_all is_unbroken names) (list_all is_unbroken entries) (names_unbroken [] j.names w.names.new) (entries_unbroken j.entries w.entries))
 
 -- the lines of a journal's text
@@ -135,13 +135,13 @@ after_strict rules sessions before (suc n) [] j h = absurd (none-some j h)
 after_strict rules sessions before (suc n) (line ∷ lines) j h =
     name_read line rules sessions before n lines (name_in line) j (λ t is. (strict_lines_are_names line t is).1) (λ t. after_strict rules sessions (before ++ t ∷ []) n lines j) h
 
-lines_are : (line : List ℕ) (h : Heading) (lines : List (List ℕ)) (j : Journal) → first_line h.rules h.sessions h.names ≡ line → ReadAfter h.rules h.sessions [] h.names lines j → journal_lines j ≡ line ∷ lines
+lines_are : (line : List ℕ) (h : Heading) (lines : List (List ℕ)) (j : Journal) → heading_line h.rules h.sessions h.names ≡ line → ReadAfter h.rules h.sessions [] h.names lines j → journal_lines j ≡ line ∷ lines
 lines_are line h lines j is r =
     ap₂ (λ (x : List ℕ) (xs : List (List ℕ)). x ∷ xs)
-    (ap (λ rules. first_line rules j.sessions (length j.names)) r.same_rules ∙ ap₂ (first_line h.rules) r.same_sessions (ap (length {A = List ℕ}) r.same_names ∙ r.count) ∙ is)
+    (ap (λ rules. heading_line rules j.sessions (length j.names)) r.same_rules ∙ ap₂ (heading_line h.rules) r.same_sessions (ap (length {A = List ℕ}) r.same_names ∙ r.count) ∙ is)
     (ap (λ (x : List (List ℕ)). map name_line x ++ map entry_line j.entries) r.same_names ∙ r.same_lines)
 
-heading_read : (line : List ℕ) (x : Option Heading) (lines : List (List ℕ)) (j : Journal) → ((h : Heading) → x ≡ Some h → first_line h.rules h.sessions h.names ≡ line) → option_and_then (λ (h : Heading). journal_after h.rules h.sessions [] h.names lines) x ≡ Some j → journal_lines j ≡ line ∷ lines
+heading_read : (line : List ℕ) (x : Option Heading) (lines : List (List ℕ)) (j : Journal) → ((h : Heading) → x ≡ Some h → heading_line h.rules h.sessions h.names ≡ line) → option_and_then (λ (h : Heading). journal_after h.rules h.sessions [] h.names lines) x ≡ Some j → journal_lines j ≡ line ∷ lines
 heading_read line None lines j is e = absurd (none-some j e)
 heading_read line (Some h) lines j is e = lines_are line h lines j (is h refl) (after_strict h.rules h.sessions [] h.names lines j e)
 

@@ -7,13 +7,14 @@ use Rattle.std.specs.List.{list_all}
 use Rattle.std.proofs.lemmas.Option.{none-some, same_Some}
 use Rattle.std.proofs.lemmas.Slice.Eq.{bytes_eq-Decides}
 use Rattle.kl1_model.specs.declared.rules.Rules.{Rules}
-use Rattle.kl1_model.specs.declared.rules.Rules.TheVariants.{One, Two, Three}
+use Rattle.kl1_model.specs.declared.rules.Rules.TheVariants.{One, Two, Three, Four}
 use Rattle.kl1_model.specs.declared.limits.TheConstants.{NUMBER_LIMIT, MOST_NAMES, MOST_SESSIONS}
 use Rattle.kl1_model.specs.Text.{is_text}
 use Rattle.kl1_model.specs.Name.{is_small_letter, is_word_byte, is_bare, doubled, quoted, name_text}
 use Rattle.kl1_model.specs.Line.{before_space, behind_space, number_in}
-use Rattle.kl1_model_server.specs.JournalText.{name_line, unquoted, name_by, version, first_line, Heading, rules_of, heading_by}
+use Rattle.kl1_model_server.specs.JournalText.{name_line, unquoted, name_by, if_text, version, heading_line, Heading, rules_of, heading_by, if_allowed}
 use Rattle.kl1_model_server.specs.laws.TextLaws.{NamesReadBack, StrictLinesAreNames, HeadingsReadBack, StrictLinesAreHeadings}
+use Rattle.kl1_model_server.proofs.Exactly.{exactly_back, exactly_strict}
 use Rattle.kl1_model_server.proofs.Words.{number_back, before_front, behind_front, decimal_no_space}
 
 plain_byte : (b : ℕ) (bs : List ℕ) → (b == 39) ≡ false → unquoted (b ∷ (doubled bs ++ 39 ∷ [])) ≡ b ∷ unquoted (doubled bs ++ 39 ∷ [])
@@ -48,50 +49,50 @@ atom_back : (x : Bool) (t : List ℕ) → bytes_eq t (codes "[]") ≡ x → name
 atom_back true t is = let same = (bytes_eq-Decides t (codes "[]")).0 is in ap name_by same ∙ sym same
 atom_back false t is = name_back (is_bare t) t refl
 
--- a name, if this is its line
-abbrev if_name_line : List ℕ → List ℕ → Option (List ℕ)
-if_name_line line t = if is_text t && bytes_eq (name_line t) line then Some t else None
-
-name_same : (t : List ℕ) → is_text t ≡ true → if_name_line (name_line t) t ≡ Some t
-name_same t h = ap (λ x. if◌then◌else◌ {A = Option (List ℕ)} x (Some t) None) (and_from (is_text t) (bytes_eq (name_line t) (name_line t)) h ((bytes_eq-Decides (name_line t) (name_line t)).1 refl))
+-- the name that a line may have
+abbrev named : List ℕ → Option (List ℕ)
+named line = if_text (name_by (behind_space line))
 
 pub names_read_back : NamesReadBack
-names_read_back t h = ap (if_name_line (name_line t)) (atom_back (bytes_eq t (codes "[]")) t refl) ∙ name_same t h
+names_read_back t h =
+    exactly_back name_line named t (ap if_text (atom_back (bytes_eq t (codes "[]")) t refl) ∙ ap (λ x. if◌then◌else◌ {A = Option (List ℕ)} x (Some t) None) h)
 
-name_strict : (b : Bool) (line t u : List ℕ) → is_text t && bytes_eq (name_line t) line ≡ b → if◌then◌else◌ {A = Option (List ℕ)} b (Some t) None ≡ Some u → (is_text u ≡ true) × (name_line u ≡ line)
-name_strict true line t u is h =
-    let both = and_parts (is_text t) (bytes_eq (name_line t) line) is in
-    let same = same_Some t u h in
-    (ap is_text (sym same) ∙ both.0, ap name_line (sym same) ∙ (bytes_eq-Decides (name_line t) line).0 both.1)
-name_strict false line t u is h = absurd (none-some u h)
+text_read : (b : Bool) (t u : List ℕ) → is_text t ≡ b → if◌then◌else◌ {A = Option (List ℕ)} b (Some t) None ≡ Some u → is_text u ≡ true
+text_read true t u is h = ap is_text (sym (same_Some t u h)) ∙ is
+text_read false t u is h = absurd (none-some u h)
 
 pub strict_lines_are_names : StrictLinesAreNames
 strict_lines_are_names line t h =
     let u = name_by (behind_space line) in
-    name_strict (is_text u && bytes_eq (name_line u) line) line u t refl h
+    let both = exactly_strict name_line named line t h in
+    (text_read (is_text u) u t refl both.0, both.1)
 
 -- a heading
 abbrev heading : Rules → ℕ → ℕ → Heading
 heading rules sessions names = record { rules = rules; sessions = sessions; names = names }
 
--- a heading, if its numbers are allowed and this is its line
-abbrev if_first_line : List ℕ → Heading → Option Heading
-if_first_line line h = if nat_le h.sessions MOST_SESSIONS && nat_le h.names MOST_NAMES && bytes_eq (first_line h.rules h.sessions h.names) line then Some h else None
+-- what a heading's line is
+abbrev line_of : Heading → List ℕ
+line_of h = heading_line h.rules h.sessions h.names
+
+-- the heading that a line may be
+abbrev headed : List ℕ → Option Heading
+headed line = option_and_then if_allowed (heading_by (behind_space line))
 
 by_parts : (o : Option Rules) (x y : Option ℕ) (rules : Rules) (m n : ℕ) → o ≡ Some rules → x ≡ Some m → y ≡ Some n → option_and_then (λ rules. option_and_then (λ sessions. option_map (heading rules sessions) y) x) o ≡ Some (heading rules m n)
 by_parts o x y rules m n p q u = rw (p, q, u) refl
 
 -- a heading whose numbers are small
-heading_same : (rules : Rules) (m n : ℕ) → m ≤ MOST_SESSIONS → n ≤ MOST_NAMES → if_first_line (first_line rules m n) (heading rules m n) ≡ Some (heading rules m n)
-heading_same rules m n p q =
-    let line = first_line rules m n in
-    ap (λ x. if◌then◌else◌ {A = Option Heading} x (Some (record { rules = rules; sessions = m; names = n })) None)
-    (and_from (nat_le m MOST_SESSIONS && nat_le n MOST_NAMES) (bytes_eq line line) (and_from (nat_le m MOST_SESSIONS) (nat_le n MOST_NAMES) (le-leb m MOST_SESSIONS p) (le-leb n MOST_NAMES q)) ((bytes_eq-Decides line line).1 refl))
+heading_allowed : (rules : Rules) (m n : ℕ) → m ≤ MOST_SESSIONS → n ≤ MOST_NAMES → if_allowed (heading rules m n) ≡ Some (heading rules m n)
+heading_allowed rules m n p q =
+    ap (λ x. if◌then◌else◌ {A = Option Heading} x (Some (heading rules m n)) None)
+    (and_from (nat_le m MOST_SESSIONS) (nat_le n MOST_NAMES) (le-leb m MOST_SESSIONS p) (le-leb n MOST_NAMES q))
 
 -- the version of a journal, and what stands after it in the first line
 version_back : (rules : Rules) (rest : List ℕ) → (line : List ℕ) → line ≡ codes "journal " ++ version rules ++ 32 ∷ rest → (rules_of (before_space (behind_space line)) ≡ Some rules) × (behind_space (behind_space line) ≡ rest)
 version_back One rest line is = (ap (λ x. rules_of (before_space (behind_space x))) is, ap (λ x. behind_space (behind_space x)) is)
 version_back Two rest line is = (ap (λ x. rules_of (before_space (behind_space x))) is, ap (λ x. behind_space (behind_space x)) is)
+version_back Four rest line is = (ap (λ x. rules_of (before_space (behind_space x))) is, ap (λ x. behind_space (behind_space x)) is)
 version_back Three rest line is = (ap (λ x. rules_of (before_space (behind_space x))) is, ap (λ x. behind_space (behind_space x)) is)
 
 first_parts : (v m n : List ℕ) → codes "journal " ++ v ++ 32 ∷ [] ++ m ++ 32 ∷ [] ++ n ≡ codes "journal " ++ v ++ 32 ∷ (m ++ 32 ∷ n)
@@ -102,31 +103,29 @@ headings_read_back rules m n p q =
     let few : m < NUMBER_LIMIT = omega arith in
     let less : n < NUMBER_LIMIT = omega arith in
     let rest = decimal m ++ 32 ∷ decimal n in
-    let line = first_line rules m n in
+    let line = heading_line rules m n in
     let both = version_back rules rest line (first_parts (version rules) (decimal m) (decimal n)) in
     let is_rest : behind_space (behind_space line) ≡ rest = both.1 in
-    ap (option_and_then (if_first_line line))
+    exactly_back line_of headed (heading rules m n)
+    (ap (option_and_then if_allowed)
     (by_parts (rules_of (before_space (behind_space line))) (number_in (before_space (behind_space (behind_space line)))) (number_in (behind_space (behind_space (behind_space line)))) rules m n
     both.0
     (ap (λ x. number_in (before_space x)) is_rest ∙ ap number_in (before_front (decimal m) (decimal n) (decimal_no_space m few)) ∙ number_back m few)
     (ap (λ x. number_in (behind_space x)) is_rest ∙ ap number_in (behind_front (decimal m) (decimal n) (decimal_no_space m few)) ∙ number_back n less))
-    ∙ heading_same rules m n p q
+    ∙ heading_allowed rules m n p q)
 
--- what is known of a heading that was read
-abbrev IsHeading : List ℕ → Heading → Type 0
-IsHeading line h = (h.sessions ≤ MOST_SESSIONS) × (h.names ≤ MOST_NAMES) × (first_line h.rules h.sessions h.names ≡ line)
+allowed_read : (b : Bool) (g h : Heading) → nat_le g.sessions MOST_SESSIONS && nat_le g.names MOST_NAMES ≡ b → if◌then◌else◌ {A = Option Heading} b (Some g) None ≡ Some h → (h.sessions ≤ MOST_SESSIONS) × (h.names ≤ MOST_NAMES)
+allowed_read true g h is e =
+    let both = and_parts (nat_le g.sessions MOST_SESSIONS) (nat_le g.names MOST_NAMES) is in
+    subst (λ (h : Heading). (h.sessions ≤ MOST_SESSIONS) × (h.names ≤ MOST_NAMES)) (same_Some g h e) (leb-true g.sessions MOST_SESSIONS both.0, leb-true g.names MOST_NAMES both.1)
+allowed_read false g h is e = absurd (none-some h e)
 
-heading_strict : (b : Bool) (line : List ℕ) (g h : Heading) → nat_le g.sessions MOST_SESSIONS && nat_le g.names MOST_NAMES && bytes_eq (first_line g.rules g.sessions g.names) line ≡ b →
-    if◌then◌else◌ {A = Option Heading} b (Some g) None ≡ Some h → IsHeading line h
-heading_strict true line g h is e =
-    let all = and_parts (nat_le g.sessions MOST_SESSIONS && nat_le g.names MOST_NAMES) (bytes_eq (first_line g.rules g.sessions g.names) line) is in
-    let both = and_parts (nat_le g.sessions MOST_SESSIONS) (nat_le g.names MOST_NAMES) all.0 in
-    subst (IsHeading line) (same_Some g h e) (leb-true g.sessions MOST_SESSIONS both.0, leb-true g.names MOST_NAMES both.1, (bytes_eq-Decides (first_line g.rules g.sessions g.names) line).0 all.1)
-heading_strict false line g h is e = absurd (none-some h e)
-
-heading_of : (line : List ℕ) (o : Option Heading) (h : Heading) → option_and_then (if_first_line line) o ≡ Some h → IsHeading line h
-heading_of line None h e = absurd (none-some h e)
-heading_of line (Some g) h e = heading_strict (nat_le g.sessions MOST_SESSIONS && nat_le g.names MOST_NAMES && bytes_eq (first_line g.rules g.sessions g.names) line) line g h refl e
+few_in : (o : Option Heading) (h : Heading) → option_and_then if_allowed o ≡ Some h → (h.sessions ≤ MOST_SESSIONS) × (h.names ≤ MOST_NAMES)
+few_in None h e = absurd (none-some h e)
+few_in (Some g) h e = allowed_read (nat_le g.sessions MOST_SESSIONS && nat_le g.names MOST_NAMES) g h refl e
 
 pub strict_lines_are_headings : StrictLinesAreHeadings
-strict_lines_are_headings line h e = heading_of line (heading_by (behind_space line)) h e
+strict_lines_are_headings line h e =
+    let both = exactly_strict line_of headed line h e in
+    let few = few_in (heading_by (behind_space line)) h both.0 in
+    (few.0, few.1, both.1)

@@ -6,7 +6,7 @@ use Rattle.std.proofs.lemmas.Bool.{and_parts, and_from, leb-true, ne_eqb, not_fr
 use Rattle.std.proofs.lemmas.List.Folds.{list_all-append}
 use Rattle.std.proofs.lemmas.Slice.Eq.{bytes_eq-Decides}
 use Rattle.kl1_model.specs.declared.rules.Rules.{Rules}
-use Rattle.kl1_model.specs.declared.rules.Rules.TheVariants.{One, Two, Three}
+use Rattle.kl1_model.specs.declared.rules.Rules.TheVariants.{One, Two, Three, Four}
 use Rattle.kl1_model.specs.declared.limits.TheConstants.{NUMBER_LIMIT}
 use Rattle.kl1_model.specs.declared.message.Message.TheVariants.{Stop, Start, Abort, Allow}
 use Rattle.kl1_model.specs.Text.{is_name_byte, is_text}
@@ -14,8 +14,8 @@ use Rattle.kl1_model.specs.Name.{atom_text}
 use Rattle.kl1_model.specs.Token.{is_digit}
 use Rattle.kl1_model.specs.Term.{Term, atom}
 use Rattle.kl1_model.specs.Print.{Printed, plain, print}
-use Rattle.kl1_model_server.specs.Journal.{Entry, loads, starts, sends, steps, answers}
-use Rattle.kl1_model_server.specs.JournalText.{hex_digit, hex_text, entry_line, name_line, first_line}
+use Rattle.kl1_model_server.specs.Journal.{Entry, loads, starts, sends, steps, answers, runs}
+use Rattle.kl1_model_server.specs.JournalText.{hex_digit, hex_text, entry_line, name_line, heading_line}
 use Rattle.kl1_model_server.specs.laws.TextLaws.{HasLine, is_unbroken}
 use Rattle.kl1_model_server.proofs.LexWords.{decimal_writes}
 use Rattle.kl1_model_server.proofs.ReadPlain.{prints_are_plain}
@@ -86,6 +86,7 @@ entry_unbroken (sends n Stop) h = decimal_unbroken n (sent_number n Stop h)
 entry_unbroken (sends n Start) h = decimal_unbroken n (sent_number n Start h)
 entry_unbroken (sends n Abort) h = decimal_unbroken n (sent_number n Abort h)
 entry_unbroken (sends n (Allow k)) h = two_unbroken n k (sent_number n (Allow k) h) (sent_more n k h)
+entry_unbroken (runs n) h = decimal_unbroken n h.1
 entry_unbroken (steps goal clause) h = two_unbroken goal clause h.0 h.1
 entry_unbroken (answers n report t) h = answer_unbroken n report t (answers_here n report t h)
 
@@ -99,7 +100,8 @@ name_unbroken t h =
     plain_unbroken (atom_text t) (ap (list_all is_name_byte) (sym (atom_printed (bytes_eq t (codes "[]")) t refl)) ∙ prints_are_plain (atom t) h (omega arith))
 
 -- the first line has no line feed
-pub first_unbroken : (rules : Rules) (sessions names : ℕ) → sessions < NUMBER_LIMIT → names < NUMBER_LIMIT → IsUnbroken (first_line rules sessions names)
+pub first_unbroken : (rules : Rules) (sessions names : ℕ) → sessions < NUMBER_LIMIT → names < NUMBER_LIMIT → IsUnbroken (heading_line rules sessions names)
 first_unbroken One sessions names p q = two_unbroken sessions names p q
 first_unbroken Two sessions names p q = two_unbroken sessions names p q
 first_unbroken Three sessions names p q = two_unbroken sessions names p q
+first_unbroken Four sessions names p q = two_unbroken sessions names p q

@@ -6,6 +6,7 @@ use Rattle.std.proofs.Common.{refl, ap, arith}
 use Rattle.std.proofs.lemmas.Bool.{and_parts, leb-true, le-leb, lt-ltb, ne_eqb}
 use Rattle.std.proofs.lemmas.List.{length-append}
 use Rattle.std.proofs.lemmas.Fmt.{length-decimal-le}
+use Rattle.kl1_model.specs.Text.{before_byte, behind_byte}
 use Rattle.kl1_model.specs.declared.limits.TheConstants.{MOST_DIGITS, NUMBER_LIMIT}
 use Rattle.kl1_model.specs.declared.pair_form.PairForm.{PairForm}
 use Rattle.kl1_model.specs.declared.pair_form.PairForm.TheVariants.{Cell, Qualified, Call}
@@ -35,12 +36,12 @@ NoSpace bs = AllByRecursion (λ b. (b == 32) ≡ false) bs
 -- the bytes before the first space
 pub before_front : (w rest : List ℕ) → NoSpace w → before_space (w ++ 32 ∷ rest) ≡ w
 before_front [] rest a = refl
-before_front (b ∷ bs) rest a = rw (a.0, before_space) (ap (λ (x : List ℕ). b ∷ x) (before_front bs rest a.1))
+before_front (b ∷ bs) rest a = rw (a.0, before_byte) (ap (λ (x : List ℕ). b ∷ x) (before_front bs rest a.1))
 
 -- the bytes after it
 pub behind_front : (w rest : List ℕ) → NoSpace w → behind_space (w ++ 32 ∷ rest) ≡ rest
 behind_front [] rest a = refl
-behind_front (b ∷ bs) rest a = rw (a.0, behind_space) (behind_front bs rest a.1)
+behind_front (b ∷ bs) rest a = rw (a.0, behind_byte) (behind_front bs rest a.1)
 
 digit_no_space : (b : ℕ) → is_digit b ≡ true → (b == 32) ≡ false
 digit_no_space b d = ne_eqb b 32 (λ e. omega (arith, e, leb-true 48 b (and_parts (nat_le 48 b) (nat_le b 57) d).0))

@@ -1,9 +1,9 @@
 -- Each event leaves an account with a journal that has a text.
-use Rattle.std.specs.Prelude.{◌≡◌, ℕ, suc, ◌+◌, ◌-◌, ◌≤◌, nat_le, nat_lt, ◌&&◌, Bool, true, false, if◌then◌else◌, List, [], ◌∷◌, ◌++◌, length, Option, Some, None, is_some}
+use Rattle.std.specs.Prelude.{◌≡◌, ℕ, zero, suc, ◌+◌, ◌-◌, ◌≤◌, ◌<◌, nat_le, nat_lt, not, ◌&&◌, Bool, true, false, if◌then◌else◌, List, [], ◌∷◌, ◌++◌, length, Option, Some, None, is_some}
 use Rattle.std.specs.List.{list_all, AllByRecursion}
 use Rattle.std.proofs.Common.{refl, sym, ap, subst, arith}
 use Rattle.std.proofs.lemmas.Bool.{and_parts, leb-true, ltb-true}
-use Rattle.kl1_model.specs.declared.limits.TheConstants.{NUMBER_LIMIT, MOST_SOURCE_BYTES, MOST_LINE_BYTES, MOST_PRIORITY, MOST_ENTRIES, MOST_MODULES, MOST_NAMES, MOST_SESSIONS, MOST_DEPTH}
+use Rattle.kl1_model.specs.declared.limits.TheConstants.{NUMBER_LIMIT, MOST_RUN, MOST_SOURCE_BYTES, MOST_LINE_BYTES, MOST_PRIORITY, MOST_MODULES, MOST_NAMES, MOST_SESSIONS, MOST_DEPTH}
 use Rattle.kl1_model.specs.Text.{is_text}
 use Rattle.kl1_model.specs.declared.message.Message.{Message}
 use Rattle.kl1_model.specs.Term.{Term, variable}
@@ -13,22 +13,23 @@ use Rattle.kl1_model.specs.Nodes.{goal_nodes}
 use Rattle.kl1_model.specs.Module.{Module, Reading, good, bad, read_module}
 use Rattle.kl1_model.specs.Match.{module_of}
 use Rattle.kl1_model.specs.State.{State, has_substitutes, Goal, Shoen, Origin, goal_at, shoen_at, names_of, names_of_module, with_names, is_living}
-use Rattle.kl1_model.specs.Event.{Refusal, syntax, exists, shoen_ended, too_many_names, limit_passed, journal_full, sessions_refused, Event, load, start, control, reduce, read, login, logout, reset, answer, loaded, opened, sent, reduced, welcome, bye, Transition, refuse, is_number, is_range, with_entry, recorded, named, limited}
+use Rattle.kl1_model.specs.Event.{Refusal, syntax, exists, shoen_ended, too_many_names, limit_passed, journal_full, sessions_refused, Event, load, start, control, reduce, read, login, logout, reset, answer, loaded, opened, sent, reduced, welcome, bye, Transition, refuse, is_number, is_range, is_refused, unless, are_too_many, is_full, needs_entry, with_entry, with_reduction}
 use Rattle.kl1_model.specs.Opening.{start_line, may_start, has_room_to_start, with_next_variables, started_shoen, start_goal}
-use Rattle.kl1_model.specs.Sending.{may_send, has_room_to_send, sent_on, send_to}
-use Rattle.kl1_model.specs.Answering.{answer_line, may_answer, has_room_to_answer, unanswered_at, answer_by, answer_to}
+use Rattle.kl1_model.specs.Sending.{may_send, has_room_to_send, sent_on, send_living, send_to}
+use Rattle.kl1_model.specs.Answering.{answer_line, may_answer, has_room_to_answer, unanswered_at, answer_by, answer_living, answer_to}
 use Rattle.kl1_model.specs.Reduction.{Action, action_of, acted, reduce_goal}
-use Rattle.kl1_model.specs.Step.{load_module, step}
+use Rattle.kl1_model.specs.Choice.{is_in_run}
+use Rattle.kl1_model.specs.Step.{load_module, start_by, step}
 use Rattle.kl1_model.specs.code.Steps.{send_by, answer_in, reduced_by, with_module}
-use Rattle.kl1_model.specs.laws.TreeLaws.{is_refused}
-use Rattle.kl1_model_server.specs.Journal.{Entry, loads, starts, sends, steps, answers, event_in, Journal, with_entry as with_entry_more, with_event}
+use Rattle.kl1_model_server.specs.Journal.{Entry, loads, starts, sends, steps, answers, runs, entry_step, Journal, without_last, entered, stepped, with_event}
 use Rattle.kl1_model_server.specs.laws.TextLaws.{HasLine, AreNames, IsWritten, HasBytes, FreshIsWritten, WrittenStays}
 use Rattle.kl1_model_server.proofs.Besides.{stays_beside}
 use Rattle.kl1_model_server.proofs.Replays.{reading_stays}
 use Rattle.kl1_model_server.proofs.TextEntries.{length_hex}
 use Rattle.kl1_model_server.proofs.NewNames.{with_names_new, no_names, names_are_texts}
 use Rattle.kl1_model_server.proofs.SpelledTexts.{MayAct, actions_name_texts}
-use Rattle.kl1_model_server.proofs.NamesKept.{IsNamed, same_names, open_has, acted_named, sent_has}
+use Rattle.kl1_model_server.proofs.RunsKept.{step_run}
+use Rattle.kl1_model_server.proofs.NamesKept.{IsNamed, twice_not, same_names, open_has, acted_named, sent_has}
 use Rattle.kl1_model_server.proofs.ModuleNames.{module_names_are_texts}
 
 pub fresh_is_written : FreshIsWritten
@@ -50,24 +51,28 @@ named_unless : (c : Bool) (r : Refusal) (s : State) (x : Transition) → IsNamed
 named_unless true r s x n h = h
 named_unless false r s x n h = n
 
-recorded_named : (s : State) (x : Transition) → IsNamed x.state → IsNamed s → IsNamed (recorded s x).state
-recorded_named s x n h = named_if (nat_lt s.entries MOST_ENTRIES) journal_full s x (λ is. n) h
+-- what may be refused by several tests
+unless_named : (s : State) (rs : List (Bool × Refusal)) (x : Transition) → IsNamed x.state → IsNamed s → IsNamed (unless s rs x).state
+unless_named s [] x n h = n
+unless_named s (r ∷ rs) x n h = named_unless r.0 r.1 s (unless s rs x) (unless_named s rs x n h) h
+
+-- what is refused if names are too many, and then by other tests
+room_named : (c : Bool) (s : State) (rs : List (Bool × Refusal)) (x : Transition) → (not c ≡ true → IsNamed x.state) → IsNamed s → IsNamed (unless s ((c, too_many_names) ∷ rs) x).state
+room_named true s rs x go h = h
+room_named false s rs x go h = unless_named s rs x (go refl) h
 
 -- names that come to those used, if there is room for them
-more_named : (names others : List (List ℕ)) → AreNames names → list_all is_text others ≡ true → nat_le (length (with_names names others)) MOST_NAMES ≡ true → AreNames (with_names names others)
-more_named names others h texts room = record { few = leb-true (length (with_names names others)) MOST_NAMES room; new = with_names_new names others h.new texts }
+more_named : (names others : List (List ℕ)) → AreNames names → list_all is_text others ≡ true → not (are_too_many (with_names names others)) ≡ true → AreNames (with_names names others)
+more_named names others h texts room = record { few = leb-true (length (with_names names others)) MOST_NAMES (twice_not (nat_le (length (with_names names others)) MOST_NAMES) room); new = with_names_new names others h.new texts }
 
 load_named : (s : State) (r : Reading Module) → ((m : Module) → r ≡ good m → list_all is_text (names_of_module m) ≡ true) → IsNamed s → IsNamed (load_module s r).state
 load_named s (bad line) texts h = h
 load_named s (good m) texts h =
     let names = with_names s.names (names_of_module m) in
     let x : Transition = record { state = with_entry (with_module s m); reply = loaded m.name } in
-    let y = limited s (nat_lt (length s.modules) MOST_MODULES) (recorded s x) in
-    named_unless (is_some (module_of s.modules m.name)) exists s (named s names y)
-    (named_if (nat_le (length names) MOST_NAMES) too_many_names s y (λ room.
-    let n : IsNamed x.state = more_named s.names (names_of_module m) h (texts m refl) room in
-    named_if (nat_lt (length s.modules) MOST_MODULES) limit_passed s (recorded s x) (λ is. recorded_named s x n h) h)
-    h) h
+    let rest = (not (nat_lt (length s.modules) MOST_MODULES), limit_passed) ∷ (is_full s, journal_full) ∷ [] in
+    named_unless (is_some (module_of s.modules m.name)) exists s (unless s ((are_too_many names, too_many_names) ∷ rest) x)
+    (room_named (are_too_many names) s rest x (λ room. more_named s.names (names_of_module m) h (texts m refl) room) h) h
 
 -- the facts of a start
 may_start_line : (allowance low high : ℕ) (t : Term) → may_start allowance low high t ≡ true → HasLine (starts allowance low high t)
@@ -92,23 +97,22 @@ start_named : (s : State) (allowance low high : ℕ) (t : Term) → IsNamed s �
 start_named s allowance low high t h =
     let names = with_names s.names (names_of t) in
     let x : Transition = record { state = with_entry (start_goal s allowance low high t); reply = opened (suc s.last_shoen) } in
-    let y = limited s (has_room_to_start s t) (recorded s x) in
+    let rest = (not (has_room_to_start s t), limit_passed) ∷ (is_full s, journal_full) ∷ [] in
     let goal = with_next_variables s.last_variable t in
     let count = s.last_variable + highest t in
     let u = record s { names = names; last_variable = suc (suc count); variables = s.variables + suc (suc (highest t)); nodes = s.nodes + goal_nodes t } in
     let shoen = started_shoen s allowance low high goal (variable (suc count)) (variable (suc (suc count))) in
-    named_if (may_start allowance low high t) syntax s (named s names y) (λ may.
-    named_if (nat_le (length names) MOST_NAMES) too_many_names s y (λ room.
+    named_if (may_start allowance low high t) syntax s (start_by s allowance low high t) (λ may.
+    room_named (are_too_many names) s rest x (λ room.
     let n : IsNamed u = more_named s.names (names_of t) h (names_are_texts t (start_narrow allowance low high t may)) room in
-    named_if (has_room_to_start s t) limit_passed s (recorded s x) (λ is. recorded_named s x (same_names u (start_goal s allowance low high t) (open_has shoen goal u) n) h) h) h) h
+    same_names u (start_goal s allowance low high t) (open_has shoen goal u) n) h) h
 
 send_by_named : (s : State) (n : ℕ) (m : Message) (h : Shoen) (o : Option Origin) → IsNamed s → IsNamed (send_by s n m h o).state
 send_by_named s n m h None is = is
 send_by_named s n m h (Some o) is =
     let x : Transition = record { state = with_entry (sent_on n m o.control s); reply = sent } in
-    let y = limited s (has_room_to_send s m) (recorded s x) in
-    named_if (is_living h.life) shoen_ended s y (λ living.
-    named_if (has_room_to_send s m) limit_passed s (recorded s x) (λ room. recorded_named s x (same_names s (sent_on n m o.control s) (sent_has n m o.control s) is) is) is) is
+    named_if (is_living h.life) shoen_ended s (send_living s n m o) (λ living.
+    unless_named s ((not (has_room_to_send s m), limit_passed) ∷ (is_full s, journal_full) ∷ []) x (same_names s (sent_on n m o.control s) (sent_has n m o.control s) is) is) is
 
 send_named : (s : State) (n : ℕ) (m : Message) (o : Option Shoen) → IsNamed s → IsNamed (send_to s n m o).state
 send_named s n m None is = is
@@ -136,11 +140,11 @@ answer_in_named s report t h None narrow is = is
 answer_in_named s report t h (Some o) narrow is =
     let names = with_names s.names (names_of t) in
     let x = answer_by s t (unanswered_at o.reports report) in
-    let y = limited s (has_room_to_answer s t) (recorded s x) in
-    named_if (is_living h.life) shoen_ended s (named s names y) (λ living.
-    named_if (nat_le (length names) MOST_NAMES) too_many_names s y (λ room.
+    let rest = (not (has_room_to_answer s t), limit_passed) ∷ (is_full s, journal_full) ∷ [] in
+    named_if (is_living h.life) shoen_ended s (answer_living s report t o) (λ living.
+    room_named (are_too_many names) s rest x (λ room.
     let n : AreNames names = more_named s.names (names_of t) is (names_are_texts t narrow) room in
-    named_if (has_room_to_answer s t) limit_passed s (recorded s x) (λ fits. recorded_named s x (answer_by_named s t (unanswered_at o.reports report) is n) is) is) is) is
+    answer_by_named s t (unanswered_at o.reports report) is n) is) is
 
 answer_named : (s : State) (report : ℕ) (t : Term) (o : Option Shoen) → is_narrow t ≡ true → IsNamed s → IsNamed (answer_to s report t o).state
 answer_named s report t None narrow is = is
@@ -150,20 +154,24 @@ answer_named s report t (Some h) narrow is = answer_in_named s report t h h.orig
 answer_narrow : (c : Bool) (n report : ℕ) (t : Term) → (c && may_answer n report t) ≡ true → is_narrow t ≡ true
 answer_narrow c n report t h = (and_parts (is_narrow t) (nat_le (depth t) MOST_DEPTH) (may_answer_line n report t (and_parts c (may_answer n report t) h).1).3).0
 
-reduced_named : (s : State) (g : Goal) (o : Option Action) → MayAct o → IsNamed s → IsNamed (reduced_by s g o).state
-reduced_named s g None texts h = h
-reduced_named s g (Some a) texts h = recorded_named s (record { state = acted g a (with_entry s); reply = reduced }) (acted_named g a (with_entry s) texts h) h
+reduced_named : (s : State) (r : Bool) (g : Goal) (o : Option Action) → MayAct o → IsNamed s → IsNamed (reduced_by s r g o).state
+reduced_named s r g None texts h = h
+reduced_named s r g (Some a) texts h =
+    unless_named s ((needs_entry r s && is_full s, journal_full) ∷ []) (record { state = acted g a (with_reduction r s); reply = reduced })
+    (acted_named g a (with_reduction r s) texts (record { few = h.few; new = h.new })) h
 
-reduce_named : (s : State) (clause : ℕ) (g : Option Goal) → IsNamed s → IsNamed (reduce_goal s clause g).state
-reduce_named s clause None h = h
-reduce_named s clause (Some g) h = reduced_named s g (action_of s g clause) (actions_name_texts s g clause) h
+reduce_named : (s : State) (r : Bool) (clause : ℕ) (g : Option Goal) → IsNamed s → IsNamed (reduce_goal s r clause g).state
+reduce_named s r clause None h = h
+reduce_named s r clause (Some g) h = reduced_named s r g (action_of s g clause) (actions_name_texts s g clause) h
 
 -- each event leaves names that may have been used
 pub step_named : (s : State) (e : Event) → IsNamed s → IsNamed (step s e).state
 step_named s (load text) h = named_if (nat_le (length text) MOST_SOURCE_BYTES) syntax s (load_module s (read_module text)) (λ short. load_named s (read_module text) (module_names_are_texts text) h) h
 step_named s (start allowance low high t) h = start_named s allowance low high t h
 step_named s (control n m) h = named_if (may_send n m) syntax s (send_to s n m (shoen_at n s.shoens)) (λ may. send_named s n m (shoen_at n s.shoens) h) h
-step_named s (reduce goal clause) h = named_if (is_number goal && is_number clause) syntax s (reduce_goal s clause (goal_at goal s.goals)) (λ may. reduce_named s clause (goal_at goal s.goals) h) h
+step_named s (reduce goal clause) h =
+    let r = is_in_run s goal clause in
+    named_if (is_number goal && is_number clause) syntax s (reduce_goal s r clause (goal_at goal s.goals)) (λ may. reduce_named s r clause (goal_at goal s.goals) h) h
 step_named s (read q) h = same_names s (step s (read q)).state (ap (λ (z : State). z.names) (reading_stays s q)) h
 step_named s login h = named_if (nat_lt s.sessions MOST_SESSIONS) sessions_refused s (record { state = record s { sessions = suc s.sessions }; reply = welcome s.own_name }) (λ may. record { few = h.few; new = h.new }) h
 step_named s logout h = named_if (nat_lt 0 s.sessions) sessions_refused s (record { state = record s { sessions = s.sessions - 1 }; reply = bye }) (λ may. record { few = h.few; new = h.new }) h
@@ -172,14 +180,14 @@ step_named s (answer n report t) h = named_if (has_substitutes s.rules && may_an
 
 -- ---- the sessions of an account
 
-entry_sessions : (s : State) (e : Entry) → (step s (event_in e)).state.sessions ≡ s.sessions
+entry_sessions : (s : State) (e : Entry) → (entry_step s e).state.sessions ≡ s.sessions
 entry_sessions s e = ap (λ (x : Transition). x.state.sessions) (stays_beside s.own_name s.sessions s e)
 
 few_or : (c : Bool) (s : State) (x : Transition) (r : Refusal) → (c ≡ true → x.state.sessions ≤ MOST_SESSIONS) → s.sessions ≤ MOST_SESSIONS → (if c then x else refuse s r).state.sessions ≤ MOST_SESSIONS
 few_or true s x r go h = go refl
 few_or false s x r go h = h
 
-entry_few : (s : State) (e : Entry) → s.sessions ≤ MOST_SESSIONS → (step s (event_in e)).state.sessions ≤ MOST_SESSIONS
+entry_few : (s : State) (e : Entry) → s.sessions ≤ MOST_SESSIONS → (entry_step s e).state.sessions ≤ MOST_SESSIONS
 entry_few s e h = subst (λ n. n ≤ MOST_SESSIONS) (sym (entry_sessions s e)) h
 
 step_few : (s : State) (e : Event) → s.sessions ≤ MOST_SESSIONS → (step s e).state.sessions ≤ MOST_SESSIONS
@@ -204,8 +212,20 @@ added : (es : List Entry) (e : Entry) → AllByRecursion HasLine es → HasLine 
 added [] e h is = (is, tt)
 added (d ∷ ds) e h is = (h.0, added ds e h.1 is)
 
-entry_written : (j : Journal) (e : Entry) → HasLine e → IsWritten j → IsWritten (with_entry_more j e)
+entry_written : (j : Journal) (e : Entry) → HasLine e → IsWritten j → IsWritten (entered j e)
 entry_written j e is w = record { sessions = w.sessions; names = w.names; entries = added j.entries e w.entries is }
+
+removed : (es : List Entry) → AllByRecursion HasLine es → AllByRecursion HasLine (without_last es)
+removed [] h = tt
+removed (e ∷ []) h = tt
+removed (e ∷ f ∷ es) h = (h.0, removed (f ∷ es) h.1)
+
+-- a reduction more, in a run or not
+stepped_written : (j : Journal) (goal clause n : ℕ) → goal < NUMBER_LIMIT → clause < NUMBER_LIMIT → n ≤ MOST_RUN → IsWritten j → IsWritten (stepped j goal clause n)
+stepped_written j goal clause zero g c few w = entry_written j (steps goal clause) (g, c) w
+stepped_written j goal clause (suc zero) g c few w = entry_written j (runs 1) (omega arith, omega arith) w
+stepped_written j goal clause (suc (suc n)) g c few w =
+    record { sessions = w.sessions; names = w.names; entries = added (without_last j.entries) (runs (suc (suc n))) (removed j.entries w.entries) (omega arith, omega (arith, few)) }
 
 accepted_written : (j : Journal) (s : State) (e : Event) → HasBytes e → is_refused (step s e).reply ≡ false → IsNamed (step s e).state → (step s e).state.sessions ≤ MOST_SESSIONS → IsWritten j → IsWritten (with_event j e (step s e).state)
 accepted_written j s (load text) bytes a named few w =
@@ -214,8 +234,9 @@ accepted_written j s (start allowance low high t) bytes a named few w =
     entry_written j (starts allowance low high t) (may_start_line allowance low high t (passed (may_start allowance low high t) s _ syntax a)) w
 accepted_written j s (control n m) bytes a named few w = entry_written j (sends n m) (passed (may_send n m) s (send_to s n m (shoen_at n s.shoens)) syntax a) w
 accepted_written j s (reduce goal clause) bytes a named few w =
-    let both = and_parts (is_number goal) (is_number clause) (passed (is_number goal && is_number clause) s (reduce_goal s clause (goal_at goal s.goals)) syntax a) in
-    entry_written j (steps goal clause) (ltb-true goal NUMBER_LIMIT both.0, ltb-true clause NUMBER_LIMIT both.1) w
+    let r = is_in_run s goal clause in
+    let both = and_parts (is_number goal) (is_number clause) (passed (is_number goal && is_number clause) s (reduce_goal s r clause (goal_at goal s.goals)) syntax a) in
+    stepped_written j goal clause (step s (reduce goal clause)).state.run (ltb-true goal NUMBER_LIMIT both.0) (ltb-true clause NUMBER_LIMIT both.1) (step_run s goal clause a) w
 accepted_written j s (read q) bytes a named few w = w
 accepted_written j s login bytes a named few w = record { sessions = few; names = w.names; entries = w.entries }
 accepted_written j s logout bytes a named few w = record { sessions = few; names = w.names; entries = w.entries }

@@ -1,5 +1,5 @@
 -- Commands and replies as texts, and what a command does.
-use Rattle.std.specs.Prelude.{ℕ, zero, suc, nat_le, ◌&&◌, true, false, if◌then◌else◌, List, [], ◌∷◌, ◌++◌, length, codes, bytes_eq, decimal, Option, Some, None, option_map, option_and_then}
+use Rattle.std.specs.Prelude.{ℕ, zero, suc, ◌==◌, nat_le, ◌&&◌, true, false, if◌then◌else◌, List, [], ◌∷◌, ◌++◌, length, codes, bytes_eq, decimal, Option, Some, None, option_map, option_and_then}
 use Rattle.kl1_model.specs.declared.message.Message.TheVariants.{Stop, Start, Abort, Allow}
 use Rattle.kl1_model.specs.declared.condition.Condition.{Condition}
 use Rattle.kl1_model.specs.declared.condition.Condition.TheVariants.{Terminated, Aborted, Stopped, Exhausted, Running}
@@ -7,9 +7,9 @@ use Rattle.kl1_model.specs.Term.{Term}
 use Rattle.kl1_model.specs.Name.{atom_text}
 use Rattle.kl1_model.specs.declared.limits.TheConstants.{MOST_COMMAND_BYTES, MOST_LISTED, MOST_STEPS}
 use Rattle.kl1_model.specs.Line.{word_in, behind_word_in, number_in, up_to, only_number, is_blank_line}
-use Rattle.kl1_model.specs.Event.{Refusal, syntax, source, exists, no_shoen, shoen_ended, step_refused, too_many_names, limit_passed, journal_full, sessions_refused, answer_refused, value, status, reports, modules, is_quiet, Event, load, start, control, reduce, read, login, logout, reset, answer, Reply, loaded, opened, sent, reduced, ran, shown, status_is, listed, quiet_is, welcome, bye, was_reset, refused, is_range}
+use Rattle.kl1_model.specs.Event.{Refusal, syntax, source, exists, no_shoen, shoen_ended, step_refused, too_many_names, limit_passed, journal_full, sessions_refused, answer_refused, value, status, reports, modules, is_quiet, Event, load, start, control, reduce, read, login, logout, reset, answer, Reply, loaded, opened, sent, reduced, ran, shown, status_is, listed, quiet_is, welcome, bye, was_reset, refused, is_refused, is_range}
 use Rattle.kl1_model.specs.Module.{Reading, good, bad, read_goal}
-use Rattle.kl1_model.specs.Choice.{Chosen, first}
+use Rattle.kl1_model.specs.Choice.{first}
 use Rattle.kl1_model.specs.Record.{Request, load_of, spoiled_load, other_line}
 use Rattle.kl1_model_server.specs.Journal.{Kept, Done, done}
 use Rattle.kl1_model_server.specs.JournalText.{page_of}
@@ -90,33 +90,20 @@ command_of (load_of text) = Some (does (load text))
 command_of spoiled_load = None
 command_of (other_line line) = parse line
 
--- how a run goes on, from the steps done and the account
-abbrev pub Going : Type 0
-Going = ℕ → Kept → Done
-
 -- a reply that leaves an account as it is
 abbrev pub said : Kept → Reply → Done
 said k r = record { kept = k; reply = r }
 
--- a run that stops: with its steps, or with the refusal if no step was done
-abbrev pub stopped_by : Kept → ℕ → Refusal → Done
-stopped_by k zero r = said k (refused r)
-stopped_by k (suc n) r = said k (ran (suc n))
-
--- goes on after a step, unless it was refused
-abbrev pub run_on : Going → Kept → ℕ → Kept → Reply → Done
-run_on next before n after (refused r) = stopped_by before n r
-run_on next before n after reply = next (suc n) after
-
--- the first goal's step, if one can step, and how the run goes on
-abbrev pub run_choice : Going → Kept → ℕ → Option Chosen → Done
-run_choice next k n None = said k (ran n)
-run_choice next k n (Some c) = let x = done k (reduce c.goal c.clause) in run_on next k n x.kept x.reply
-
--- first steps, one after another, at most this number of them and until none can step or one is refused, after n that are done
+-- first reductions, one after another, at most this number of them and until none can be done or one is refused, after n that are done; if the
+-- very first is refused, so is the run
 abbrev pub run_from : ℕ → ℕ → Kept → Done
 run_from zero n k = said k (ran n)
-run_from (suc most) n k = run_choice (run_from most) k n (first k.state)
+run_from (suc most) n k = elim (first k.state) [
+  | None ↦ said k (ran n)
+  | Some c ↦
+      let x = done k (reduce c.goal c.clause) in
+      if is_refused x.reply then said k (if n == 0 then x.reply else ran n) else run_from most (suc n) x.kept
+]
 
 -- what a command does to an account with its journal, and the reply
 abbrev pub act : Kept → Command → Done

@@ -1,28 +1,56 @@
 -- The journal of an account, and what it says of the account.
-use Rattle.std.specs.Prelude.{ℕ, if◌then◌else◌, List, [], ◌∷◌, ◌++◌, fold}
+use Rattle.std.specs.Prelude.{ℕ, zero, suc, Bool, true, false, if◌then◌else◌, List, [], ◌∷◌, ◌++◌, fold, Option, Some, None}
 use Rattle.kl1_model.specs.declared.message.Message.{Message}
 use Rattle.kl1_model.specs.declared.rules.Rules.{Rules}
 use Rattle.kl1_model.specs.Term.{Term}
-use Rattle.kl1_model.specs.State.{State, fresh, fresh_with}
-use Rattle.kl1_model.specs.Event.{Event, load, start, control, reduce, read, login, logout, reset, answer, Reply, Transition}
+use Rattle.kl1_model.specs.State.{State, has_runs, fresh, fresh_with}
+use Rattle.kl1_model.specs.Event.{syntax, step_refused, Event, load, start, control, reduce, read, login, logout, reset, answer, Reply, ran, Transition, refuse, is_refused}
+use Rattle.kl1_model.specs.Choice.{Chosen, first}
 use Rattle.kl1_model.specs.Step.{step}
-use Rattle.kl1_model.specs.laws.TreeLaws.{is_refused}
 
--- an entry: a loaded source, a start, a message to a shoen, a reduction, or an answer to a report; its numbers are those of its event
+-- an entry: a loaded source, a start, a message to a shoen, a reduction, or an answer to a report, whose numbers are those of its event; or a
+-- run, which is this number of reductions, one after another, each the first that the account could do
 pub data Entry : Type 0 where
   loads : List ℕ → Entry
   starts : ℕ → ℕ → ℕ → Term → Entry
   sends : ℕ → Message → Entry
   steps : ℕ → ℕ → Entry
   answers : ℕ → ℕ → Term → Entry
+  runs : ℕ → Entry
 
--- the event of an entry
-abbrev pub event_in : Entry → Event
-event_in (loads text) = load text
-event_in (starts allowance low high t) = start allowance low high t
-event_in (sends n m) = control n m
-event_in (steps goal clause) = reduce goal clause
-event_in (answers n report t) = answer n report t
+-- whether an event is an entry of a journal, if it is accepted
+abbrev pub is_entry : Event → Bool
+is_entry (load text) = true
+is_entry (start allowance low high t) = true
+is_entry (control n m) = true
+is_entry (answer n report t) = true
+is_entry (reduce goal clause) = true
+is_entry _ = false
+
+-- the reduction that was chosen, and the reply; refused if there is none
+abbrev pub chosen_step : State → Option Chosen → Transition
+chosen_step s None = refuse s step_refused
+chosen_step s (Some c) = step s (reduce c.goal c.clause)
+
+-- the first reduction that an account can do, and the reply
+abbrev pub first_step : State → Transition
+first_step s = chosen_step s (first s)
+
+-- `n` first reductions, one after another, and how many they are as the reply; refused if one of them is, and then the others are done
+abbrev pub first_steps : ℕ → State → Transition
+first_steps zero s = record { state = s; reply = ran 0 }
+first_steps (suc n) s =
+    let x = first_step (first_steps n s).state in
+    record { state = x.state; reply = if is_refused x.reply then x.reply else ran (suc n) }
+
+-- what an entry does to an account, and the reply; a run is refused by rules without runs
+abbrev pub entry_step : State → Entry → Transition
+entry_step s (loads text) = step s (load text)
+entry_step s (starts allowance low high t) = step s (start allowance low high t)
+entry_step s (sends n m) = step s (control n m)
+entry_step s (steps goal clause) = step s (reduce goal clause)
+entry_step s (answers n report t) = step s (answer n report t)
+entry_step s (runs n) = if has_runs s.rules then first_steps n s else refuse s syntax
 
 -- a journal: the account's rules, how many sessions are open, the names at the last reset, in order of first use, and the entries since
 pub record Journal : Type 0 where
@@ -35,21 +63,33 @@ pub record Journal : Type 0 where
 abbrev pub new_journal : Rules → List (List ℕ) → ℕ → Journal
 new_journal rules names sessions = record { rules = rules; sessions = sessions; names = names; entries = [] }
 
+-- entries without the last
+abbrev pub without_last : List Entry → List Entry
+without_last [] = []
+without_last (e ∷ []) = []
+without_last (e ∷ f ∷ es) = e ∷ without_last (f ∷ es)
+
 -- a journal with one entry more
-abbrev pub with_entry : Journal → Entry → Journal
-with_entry j e = record j { entries = j.entries ++ e ∷ [] }
+abbrev pub entered : Journal → Entry → Journal
+entered j e = record j { entries = j.entries ++ e ∷ [] }
+
+-- a journal with one reduction more, which made its last run this long: an entry of its own if 0, a new run if 1, or else in the last entry
+abbrev pub stepped : Journal → ℕ → ℕ → ℕ → Journal
+stepped j goal clause zero = entered j (steps goal clause)
+stepped j goal clause (suc zero) = entered j (runs 1)
+stepped j goal clause (suc (suc n)) = record j { entries = without_last j.entries ++ runs (suc (suc n)) ∷ [] }
 
 -- a journal after an accepted event that led to this account; a query is no entry, and a reset begins the journal anew
 abbrev pub with_event : Journal → Event → State → Journal
-with_event j (load text) s = with_entry j (loads text)
-with_event j (start allowance low high t) s = with_entry j (starts allowance low high t)
-with_event j (control n m) s = with_entry j (sends n m)
-with_event j (reduce goal clause) s = with_entry j (steps goal clause)
+with_event j (load text) s = entered j (loads text)
+with_event j (start allowance low high t) s = entered j (starts allowance low high t)
+with_event j (control n m) s = entered j (sends n m)
+with_event j (reduce goal clause) s = stepped j goal clause s.run
 with_event j (read q) s = j
 with_event j login s = record j { sessions = s.sessions }
 with_event j logout s = record j { sessions = s.sessions }
 with_event j reset s = new_journal s.rules s.names s.sessions
-with_event j (answer n report t) s = with_entry j (answers n report t)
+with_event j (answer n report t) s = entered j (answers n report t)
 
 -- a journal after what became of an event: a refused event leaves it, and an accepted one is noted in it
 abbrev pub noted : Journal → Event → Transition → Journal
@@ -57,7 +97,7 @@ noted j e x = if is_refused x.reply then j else with_event j e x.state
 
 -- the replay of a journal: the account of this name, fresh but for the journal's rules, names and sessions, after the journal's entries
 abbrev pub replay : List ℕ → Journal → State
-replay name j = fold (λ s e. (step s (event_in e)).state) (fresh_with j.rules name j.names j.sessions) j.entries
+replay name j = fold (λ s e. (entry_step s e).state) (fresh_with j.rules name j.names j.sessions) j.entries
 
 -- an account with its journal
 pub record Kept : Type 0 where

@@ -4,7 +4,7 @@ use Rattle.std.specs.List.{list_all, list_any}
 use Rattle.kl1_model.specs.declared.message.Message.{Message}
 use Rattle.kl1_model.specs.declared.message.Message.TheVariants.{Stop, Start, Abort, Allow}
 use Rattle.kl1_model.specs.declared.rules.Rules.{Rules}
-use Rattle.kl1_model.specs.declared.rules.Rules.TheVariants.{One, Two, Three}
+use Rattle.kl1_model.specs.declared.rules.Rules.TheVariants.{One, Two, Three, Four}
 use Rattle.kl1_model.specs.declared.limits.TheConstants.{MOST_LINE_BYTES, MOST_NAMES, MOST_SESSIONS}
 use Rattle.kl1_model.specs.Text.{is_text, is_built_in}
 use Rattle.kl1_model.specs.Name.{atom_text}
@@ -13,12 +13,12 @@ use Rattle.kl1_model.specs.Line.{before_space, behind_space, number_in}
 use Rattle.kl1_model.specs.Module.{Reading, good, bad, read_goal}
 use Rattle.kl1_model.specs.Opening.{start_line}
 use Rattle.kl1_model.specs.Answering.{answer_line}
-use Rattle.kl1_model_server.specs.Journal.{Entry, loads, starts, sends, steps, answers, Journal}
+use Rattle.kl1_model_server.specs.Journal.{Entry, loads, starts, sends, steps, answers, runs, Journal}
 
 -- what was read, if it is good
-abbrev pub if_read : {A : Type 0} → Reading A → Option A
-if_read (good a) = Some a
-if_read (bad line) = None
+abbrev pub if_good : {A : Type 0} → Reading A → Option A
+if_good (good a) = Some a
+if_good (bad line) = None
 
 -- ---- the lines of a journal
 
@@ -45,6 +45,7 @@ entry_line (starts allowance low high t) = start_line allowance low high t
 entry_line (sends n m) = message_line n m
 entry_line (steps goal clause) = codes "reduce " ++ decimal goal ++ codes " " ++ decimal clause
 entry_line (answers n report t) = answer_line n report t
+entry_line (runs n) = codes "run " ++ decimal n
 
 -- the line of a name that was used at the last reset
 abbrev pub name_line : List ℕ → List ℕ
@@ -55,14 +56,15 @@ abbrev pub version : Rules → List ℕ
 version One = codes "1"
 version Two = codes "2"
 version Three = codes "3"
+version Four = codes "4"
 
 -- the first line of a journal: its version, how many sessions are open, and how many names follow
-abbrev pub first_line : Rules → ℕ → ℕ → List ℕ
-first_line rules sessions names = codes "journal " ++ version rules ++ codes " " ++ decimal sessions ++ codes " " ++ decimal names
+abbrev pub heading_line : Rules → ℕ → ℕ → List ℕ
+heading_line rules sessions names = codes "journal " ++ version rules ++ codes " " ++ decimal sessions ++ codes " " ++ decimal names
 
 -- the lines of a journal
 abbrev pub journal_lines : Journal → List (List ℕ)
-journal_lines j = first_line j.rules j.sessions (length j.names) ∷ map name_line j.names ++ map entry_line j.entries
+journal_lines j = heading_line j.rules j.sessions (length j.names) ∷ map name_line j.names ++ map entry_line j.entries
 
 -- the lines of a journal from line `from` on, the first being 1, at most `count` of them
 abbrev pub page_of : Journal → ℕ → ℕ → List (List ℕ)
@@ -98,11 +100,15 @@ of_two make = of_number (λ a rest. option_map (make a) (number_in rest))
 
 -- a start of three numbers and a goal
 abbrev pub start_in : List ℕ → Option Entry
-start_in = of_number (λ allowance. of_number (λ low. of_number (λ high rest. option_map (starts allowance low high) (if_read (read_goal rest)))))
+start_in = of_number (λ allowance. of_number (λ low. of_number (λ high rest. option_map (starts allowance low high) (if_good (read_goal rest)))))
 
 -- an answer of two numbers and a goal
 abbrev pub answer_in : List ℕ → Option Entry
-answer_in = of_number (λ n. of_number (λ report rest. option_map (answers n report) (if_read (read_goal rest))))
+answer_in = of_number (λ n. of_number (λ report rest. option_map (answers n report) (if_good (read_goal rest))))
+
+-- a run of this number of reductions, which is at least 1
+abbrev pub run_of : ℕ → Option Entry
+run_of n = if nat_le 1 n then Some (runs n) else None
 
 -- the entry that a line may be, by its first word and what is after that
 abbrev pub entry_by : List ℕ → List ℕ → Option Entry
@@ -115,14 +121,17 @@ entry_by w rest =
     else if bytes_eq w (codes "resume") then option_map (λ n. sends n Start) (number_in rest)
     else if bytes_eq w (codes "abort") then option_map (λ n. sends n Abort) (number_in rest)
     else if bytes_eq w (codes "allow") then of_two (λ n k. sends n (Allow k)) rest
+    else if bytes_eq w (codes "run") then option_and_then run_of (number_in rest)
     else None
+
+-- what a line is read as, if its print is the line again
+abbrev pub exactly : {A : Type 0} → (A → List ℕ) → (List ℕ → Option A) → List ℕ → Option A
+exactly print read line = option_and_then (λ a. if bytes_eq (print a) line then Some a else None) (read line)
 
 -- the entry whose line this is, if there is one and the line isn't too long
 abbrev pub entry_in : List ℕ → Option Entry
 entry_in line =
-    if nat_le (length line) MOST_LINE_BYTES
-    then option_and_then (λ e. if bytes_eq (entry_line e) line then Some e else None) (entry_by (before_space line) (behind_space line))
-    else None
+    if nat_le (length line) MOST_LINE_BYTES then exactly entry_line (λ line. entry_by (before_space line) (behind_space line)) line else None
 
 -- ---- the name that a line has, and the first line
 
@@ -137,9 +146,13 @@ abbrev pub name_by : List ℕ → List ℕ
 name_by [] = []
 name_by (b ∷ bs) = if b == 39 then unquoted bs else b ∷ bs
 
+-- bytes, if they are the text of a name
+abbrev pub if_text : List ℕ → Option (List ℕ)
+if_text t = if is_text t then Some t else None
+
 -- the name whose line this is, if there is one
 abbrev pub name_in : List ℕ → Option (List ℕ)
-name_in line = let t = name_by (behind_space line) in if is_text t && bytes_eq (name_line t) line then Some t else None
+name_in line = exactly name_line (λ line. if_text (name_by (behind_space line))) line
 
 -- whether a name may follow these in a journal: it isn't built in, and isn't among them
 abbrev pub is_new_name : List (List ℕ) → List ℕ → Bool
@@ -157,6 +170,7 @@ rules_of w =
     if bytes_eq w (version One) then Some One
     else if bytes_eq w (version Two) then Some Two
     else if bytes_eq w (version Three) then Some Three
+    else if bytes_eq w (version Four) then Some Four
     else None
 
 -- the heading that a line may be, by what is after its first word: a version and two numbers
@@ -168,12 +182,14 @@ heading_by line =
     (behind_space line))
     (rules_of (before_space line))
 
+-- a heading, if its numbers are allowed
+abbrev pub if_allowed : Heading → Option Heading
+if_allowed h = if nat_le h.sessions MOST_SESSIONS && nat_le h.names MOST_NAMES then Some h else None
+
 -- the heading whose line this is, if there is one and its numbers are allowed
 abbrev pub heading_in : List ℕ → Option Heading
 heading_in line =
-    option_and_then
-    (λ h. if nat_le h.sessions MOST_SESSIONS && nat_le h.names MOST_NAMES && bytes_eq (first_line h.rules h.sessions h.names) line then Some h else None)
-    (heading_by (behind_space line))
+    exactly (λ h. heading_line h.rules h.sessions h.names) (λ line. option_and_then if_allowed (heading_by (behind_space line))) line
 
 -- ---- the lines of a text
 

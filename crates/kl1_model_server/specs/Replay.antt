@@ -2,10 +2,9 @@
 use Rattle.std.specs.Prelude.{ℕ, zero, suc, if◌then◌else◌, List, [], ◌∷◌, ◌++◌, codes, decimal, unwrap_or, Some, None, option_map}
 use Rattle.kl1_model.specs.declared.rules.Rules.{Rules}
 use Rattle.kl1_model.specs.State.{State, fresh_with}
-use Rattle.kl1_model.specs.Step.{step}
-use Rattle.kl1_model.specs.laws.TreeLaws.{is_refused}
+use Rattle.kl1_model.specs.Event.{is_refused}
 use Rattle.kl1_model_server.specs.Command.{reply_lines, written_line, written_lines}
-use Rattle.kl1_model_server.specs.Journal.{event_in}
+use Rattle.kl1_model_server.specs.Journal.{entry_step}
 use Rattle.kl1_model_server.specs.JournalText.{entry_in, name_in, is_new_name, heading_in, lines_of}
 
 -- what is written for line k, the first being 1, if it is missing, isn't of the form, or its entry is refused
@@ -28,7 +27,7 @@ written_entries k n s (line ∷ lines) rest =
     elim (entry_in line) [
       | None ↦ written_fault k
       | Some e ↦
-          let x = step s (event_in e) in
+          let x = entry_step s e in
           if is_refused x.reply then written_fault k else written_lines (reply_lines x.reply) ++ written_entries (suc k) (suc n) x.state lines rest
     ]
 

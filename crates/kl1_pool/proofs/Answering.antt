@@ -10,7 +10,10 @@ use Rattle.kl1_command.specs.declared.performed.Performed.{Performed}
 use Rattle.kl1_command.specs.declared.performed.Performed.TheVariants as performed
 use Rattle.kl1_command.specs.Performing.{IsUntouched}
 use Rattle.kl1_command.specs.Room.{PerformsWithin}
+use Rattle.kl1_pool_tickets.specs.declared.serving.TheConstants.{MOST_STEPS}
+use Rattle.kl1_pool_tickets.specs.declared.serving.TimeSlice.{TimeSlice}
 use Rattle.kl1_pool.specs.Answers.{IsGivenBySome, IsGiven}
+use Rattle.kl1_pool.specs.Stepping.{AreFirstSteps, goes_on, IsTurnOfSome}
 
 -- what is untouched is so in each part
 pub untouched_part : {A B : Type 0} (f : A → B) (p : Performed) (a b : A) → IsUntouched p a b → IsUntouched p (f a) (f b)
@@ -30,3 +33,11 @@ given rules name room old new c p kept keeps called names before does =
     let f = reading_of new.0.names in
     let fits = reading_fits new.0.names names in
     by_some rules name c p (room, kept_of f old, kept_of f new, record { replay = (kept.replay f (before f fits)).is; keeps_to = keeps; called = called }, does f fits)
+
+-- the turn of an account
+pub turn_of : (rules : Rules) (name : Option (List ℕ)) (old new : Held) (t : TimeSlice) → IsKept old → old.0.rules ≡ rules → name ≡ Some old.0.own_name → AreNames new.0.names → ((f : Reading) → Fits new.0.names f → Fits old.0.names f) →
+    ((f : Reading) → Fits new.0.names f → AreFirstSteps (kept_of f old) t.steps (kept_of f new)) → ((f : Reading) → Fits new.0.names f → t.again ≡ goes_on MOST_STEPS t.steps (kept_of f new)) → IsTurnOfSome rules name t
+turn_of rules name old new t kept keeps called names before steps again =
+    let f = reading_of new.0.names in
+    let fits = reading_fits new.0.names names in
+    (kept_of f old, kept_of f new, record { replay = (kept.replay f (before f fits)).is; keeps_to = keeps; called = called }, steps f fits, again f fits)

@@ -1,36 +1,52 @@
 -- What an event makes of what a book tells.
-use Rattle.std.proofs.Common.{◌≡◌, ℕ, suc, ◌+◌, ◌-◌, ◌<◌, ◌^◌, nat_le, nat_lt, ◌&&◌, Bool, true, false, if◌then◌else◌, List, [], ◌∷◌, ◌++◌, length, refl, ap, ◌∙◌, subst, arith}
+use Rattle.std.proofs.Common.{◌≡◌, ℕ, zero, suc, ◌+◌, ◌-◌, ◌<◌, ◌^◌, nat_le, nat_lt, not, ◌&&◌, Bool, true, false, if◌then◌else◌, List, [], ◌∷◌, ◌++◌, length, refl, sym, ap, ◌∙◌, subst, arith}
 use Rattle.std.specs.Prelude.{Option, Some, None, is_some}
-use Rattle.std.proofs.lemmas.List.{length-append}
-use Rattle.kl1_model.specs.declared.limits.TheConstants.{MOST_MODULES, MOST_SESSIONS, MOST_SOURCE_BYTES, MOST_NAMES, MOST_ENTRIES}
+use Rattle.kl1_model.specs.declared.limits.TheConstants.{MOST_MODULES, MOST_SESSIONS, MOST_SOURCE_BYTES}
 use Rattle.kl1_model.specs.Term.{Term}
 use Rattle.kl1_model.specs.declared.message.Message.{Message}
 use Rattle.kl1_model.specs.declared.rules.Rules.{Rules}
 use Rattle.kl1_model.specs.Module.{Module, Reading, good, bad, read_module}
 use Rattle.kl1_model.specs.Match.{module_of}
-use Rattle.kl1_model.specs.State.{Goal, Origin, Shoen, State, goal_at, shoen_at, has_substitutes, names_of, names_of_module, with_names}
+use Rattle.kl1_model.specs.State.{Goal, Origin, Shoen, State, goal_at, shoen_at, has_substitutes, names_of, names_of_module, with_names, is_living}
 use Rattle.kl1_model.specs.Event as model
-use Rattle.kl1_model.specs.Event.{Transition, refuse, is_number, with_entry, recorded, named, limited}
+use Rattle.kl1_model.specs.Event.{Transition, refuse, unless, are_too_many, is_full, needs_entry, is_number, with_entry, with_reduction}
+use Rattle.kl1_model.specs.Choice.{is_in_run}
 use Rattle.kl1_model.specs.Reduction.{Action, reduce_goal, acted, action_of}
 use Rattle.kl1_model.specs.Opening.{may_start, has_room_to_start, start_goal}
-use Rattle.kl1_model.specs.Sending.{may_send, has_room_to_send, send_to, sent_on}
-use Rattle.kl1_model.specs.Answering.{may_answer, has_room_to_answer, unanswered_at, answer_by, answer_to}
-use Rattle.kl1_model.specs.State.{is_living}
+use Rattle.kl1_model.specs.Sending.{may_send, has_room_to_send, send_to, send_living, sent_on}
+use Rattle.kl1_model.specs.Answering.{may_answer, has_room_to_answer, unanswered_at, answer_by, answer_living, answer_to}
 use Rattle.kl1_model.specs.Asking.{reply_to, origin_at}
-use Rattle.kl1_model.specs.Step.{load_module, step}
+use Rattle.kl1_model.specs.Step.{load_module, start_by, step}
 use Rattle.kl1_model.specs.code.Steps.{reduced_by, send_by, answer_in, value_of, status_of, reports_of, with_module}
-use Rattle.kl1_model_server.specs.Journal.{Entry, loads, starts, sends, steps, answers, Journal, noted, new_journal}
+use Rattle.kl1_model_server.specs.Journal.{Entry, loads, starts, sends, steps, answers, runs, without_last, entered, stepped, Journal, noted, new_journal}
 use Rattle.kl1_model_server.specs.Journal.{Kept, Done, done}
-use Rattle.kl1_model_server.specs.Journal as history
+use Rattle.kl1_model_server.specs.laws.HistoryLaws.{EndsInRun}
+use Rattle.kl1_model_server.proofs.RulesKept.{acted_run}
+use Rattle.kl1_model_server.proofs.RunsKept.{run_with, run_goes_on}
 use Rattle.kl1_tally.specs.Seats.{Book}
 use Rattle.kl1_pool.specs.declared.totals_before_reset.TotalsBeforeReset.{TotalsBeforeReset}
 use Rattle.kl1_command.specs.Told.{events_by, steps_by}
-use Rattle.kl1_pool.specs.Counted.{reduces_in, IsCounted, with_more, past_by, is_run, ended, HasRoom}
+use Rattle.kl1_pool.specs.Counted.{events_in, reduces_in, IsCounted, with_more, past_by, is_run, ended, HasRoom}
 
 -- what holds of both sides of a choice holds of it
 by_choice : (P : Transition → Type 0) (c : Bool) (x y : Transition) → P x → P y → P (if c then x else y)
 by_choice P true x y h k = h
 by_choice P false x y h k = k
+
+-- what isn't refused holds, and what is refused does
+by_unless : (P : Transition → Type 0) (s : State) (rs : List (Bool × model.Refusal)) (x : Transition) → ((r : model.Refusal) → P (refuse s r)) → P x → P (model.unless s rs x)
+by_unless P s [] x refuses h = h
+by_unless P s (r ∷ rs) x refuses h = by_choice P r.0 (refuse s r.1) (unless s rs x) (refuses r.1) (by_unless P s rs x refuses h)
+
+-- events among more entries
+events_more : (es fs : List Entry) → events_in (es ++ fs) ≡ events_in es + events_in fs
+events_more [] fs = let e : events_in fs ≡ 0 + events_in fs = omega arith in e
+events_more (loads text ∷ es) fs = let h = events_more es fs in let e : suc (events_in (es ++ fs)) ≡ suc (events_in es) + events_in fs = omega (arith, h) in e
+events_more (starts allowance low high t ∷ es) fs = let h = events_more es fs in let e : suc (events_in (es ++ fs)) ≡ suc (events_in es) + events_in fs = omega (arith, h) in e
+events_more (sends n m ∷ es) fs = let h = events_more es fs in let e : suc (events_in (es ++ fs)) ≡ suc (events_in es) + events_in fs = omega (arith, h) in e
+events_more (answers n report t ∷ es) fs = let h = events_more es fs in let e : suc (events_in (es ++ fs)) ≡ suc (events_in es) + events_in fs = omega (arith, h) in e
+events_more (steps goal clause ∷ es) fs = let h = events_more es fs in let e : suc (events_in (es ++ fs)) ≡ suc (events_in es) + events_in fs = omega (arith, h) in e
+events_more (runs n ∷ es) fs = let h = events_more es fs in let e : n + events_in (es ++ fs) ≡ n + events_in es + events_in fs = omega (arith, h) in e
 
 -- reductions among more entries
 reduces_more : (es fs : List Entry) → reduces_in (es ++ fs) ≡ reduces_in es + reduces_in fs
@@ -40,6 +56,7 @@ reduces_more (starts allowance low high t ∷ es) fs = reduces_more es fs
 reduces_more (sends n m ∷ es) fs = reduces_more es fs
 reduces_more (answers n report t ∷ es) fs = reduces_more es fs
 reduces_more (steps goal clause ∷ es) fs = let h = reduces_more es fs in let e : suc (reduces_in (es ++ fs)) ≡ suc (reduces_in es) + reduces_in fs = omega (arith, h) in e
+reduces_more (runs n ∷ es) fs = let h = reduces_more es fs in let e : n + reduces_in (es ++ fs) ≡ n + reduces_in es + reduces_in fs = omega (arith, h) in e
 
 -- a book tells what it did and what the reply to an event adds, which is no run's
 abbrev pub Counts : TotalsBeforeReset → Journal → Book → model.Event → Transition → Type 0
@@ -53,13 +70,38 @@ no_more p j b h = record { events = omega (arith, h.events); steps = omega (arit
 in_sessions : (p : TotalsBeforeReset) (j : Journal) (b : Book) (n : ℕ) → IsCounted p j b → IsCounted p (record j { sessions = n }) (with_more b 0 0)
 in_sessions p j b n h = record { events = omega (arith, h.events); steps = omega (arith, h.steps); few = omega (arith, h.few) }
 
--- one entry more
-one_more : (p : TotalsBeforeReset) (j : Journal) (b : Book) (entry : Entry) (n : ℕ) → reduces_in (entry ∷ []) ≡ n → IsCounted p j b → b.events < 2 ^ 63 → IsCounted p (history.with_entry j entry) (with_more b 1 n)
-one_more p j b entry n is h room = record {
-  events = let e : length (j.entries ++ entry ∷ []) ≡ length j.entries + 1 = length-append j.entries (entry ∷ []) in let z : b.events + 1 ≡ p.events + length (j.entries ++ entry ∷ []) = omega (arith, h.events, e) in z;
-  steps = let e : reduces_in (j.entries ++ entry ∷ []) ≡ reduces_in j.entries + reduces_in (entry ∷ []) = reduces_more j.entries (entry ∷ []) in let z : b.steps + n ≡ p.steps + reduces_in (j.entries ++ entry ∷ []) = omega (arith, h.steps, e, is) in z;
+-- one entry more, which is one event
+one_more : (p : TotalsBeforeReset) (j : Journal) (b : Book) (entry : Entry) (n : ℕ) → events_in (entry ∷ []) ≡ 1 → reduces_in (entry ∷ []) ≡ n → IsCounted p j b → b.events < 2 ^ 63 → IsCounted p (entered j entry) (with_more b 1 n)
+one_more p j b entry n one is h room = record {
+  events = let e = events_more j.entries (entry ∷ []) in let z : b.events + 1 ≡ p.events + events_in (j.entries ++ entry ∷ []) = omega (arith, h.events, e, one) in z;
+  steps = let e = reduces_more j.entries (entry ∷ []) in let z : b.steps + n ≡ p.steps + reduces_in (j.entries ++ entry ∷ []) = omega (arith, h.steps, e, is) in z;
   few = omega (arith, room);
 }
+
+-- the last run one reduction longer
+run_longer : (p : TotalsBeforeReset) (j : Journal) (b : Book) (m : ℕ) → without_last j.entries ++ runs (suc m) ∷ [] ≡ j.entries → IsCounted p j b → b.events < 2 ^ 63 → IsCounted p (record j { entries = without_last j.entries ++ runs (suc (suc m)) ∷ [] }) (with_more b 1 1)
+run_longer p j b m last h room =
+    let front = without_last j.entries in record {
+      events =
+          let was = events_more front (runs (suc m) ∷ []) in
+          let same = ap events_in last in
+          let now = events_more front (runs (suc (suc m)) ∷ []) in
+          let z : b.events + 1 ≡ p.events + events_in (front ++ runs (suc (suc m)) ∷ []) = omega (arith, h.events, was, same, now) in z;
+      steps =
+          let was = reduces_more front (runs (suc m) ∷ []) in
+          let same = ap reduces_in last in
+          let now = reduces_more front (runs (suc (suc m)) ∷ []) in
+          let z : b.steps + 1 ≡ p.steps + reduces_in (front ++ runs (suc (suc m)) ∷ []) = omega (arith, h.steps, was, same, now) in z;
+      few = omega (arith, room);
+    }
+
+-- one reduction more, by the length of the last run after it and before it
+stepped_counts : (p : TotalsBeforeReset) (j : Journal) (b : Book) (goal clause n before : ℕ) → EndsInRun j.entries before → ((m : ℕ) → n ≡ suc (suc m) → before ≡ suc m) → IsCounted p j b → b.events < 2 ^ 63 → IsCounted p (stepped j goal clause n) (with_more b 1 1)
+stepped_counts p j b goal clause zero before ends goes h room = one_more p j b (steps goal clause) 1 refl refl h room
+stepped_counts p j b goal clause (suc zero) before ends goes h room = one_more p j b (runs 1) 1 refl refl h room
+stepped_counts p j b goal clause (suc (suc m)) before ends goes h room =
+    let was = goes m refl in
+    run_longer p j b m (subst (λ n. without_last j.entries ++ runs n ∷ [] ≡ j.entries) was (ends m was)) h room
 
 -- a journal that begins anew
 begun_anew : (p : TotalsBeforeReset) (j : Journal) (b : Book) (rules : Rules) (names : List (List ℕ)) (n : ℕ) → IsCounted p j b → IsCounted (past_by p j model.was_reset) (new_journal rules names n) (with_more b 0 0)
@@ -68,38 +110,27 @@ begun_anew p j b rules names n h = record { events = omega (arith, h.events); st
 loaded_counts : (p : TotalsBeforeReset) (j : Journal) (b : Book) (text : List ℕ) (s : State) (r : Reading Module) → IsCounted p j b → b.events < 2 ^ 63 → Counts p j b (model.load text) (load_module s r)
 loaded_counts p j b text s (bad line) h room = (no_more p j b h, refl)
 loaded_counts p j b text s (good m) h room =
-    let P : Transition → Type 0 = Counts p j b (model.load text) in
-    let no : IsCounted p j (with_more b 0 0) × (false ≡ false) = (no_more p j b h, refl) in
-    let done : Transition = record { state = with_entry (with_module s m); reply = model.loaded m.name } in
     let names = with_names s.names (names_of_module m) in
-    let recorded_done = recorded s done in
-    let within = nat_lt (length s.modules) MOST_MODULES in
-    by_choice P (is_some (module_of s.modules m.name)) (refuse s model.exists) (named s names (limited s within recorded_done)) no
-    (by_choice P (nat_le (length names) MOST_NAMES) (limited s within recorded_done) (refuse s model.too_many_names)
-    (by_choice P within recorded_done (refuse s model.limit_passed)
-    (by_choice P (nat_lt s.entries MOST_ENTRIES) done (refuse s model.journal_full) (one_more p j b (loads text) 0 refl h room, refl) no) no) no)
+    by_unless (Counts p j b (model.load text)) s
+    ((is_some (module_of s.modules m.name), model.exists) ∷ (are_too_many names, model.too_many_names) ∷ (not (nat_lt (length s.modules) MOST_MODULES), model.limit_passed) ∷ (is_full s, model.journal_full) ∷ [])
+    (record { state = with_entry (with_module s m); reply = model.loaded m.name }) (λ r. (no_more p j b h, refl)) (one_more p j b (loads text) 0 refl refl h room, refl)
 
 started_counts : (p : TotalsBeforeReset) (j : Journal) (b : Book) (s : State) (allowance low high : ℕ) (t : Term) → IsCounted p j b → b.events < 2 ^ 63 → Counts p j b (model.start allowance low high t) (step s (model.start allowance low high t))
 started_counts p j b s allowance low high t h room =
     let P : Transition → Type 0 = Counts p j b (model.start allowance low high t) in
-    let no : IsCounted p j (with_more b 0 0) × (false ≡ false) = (no_more p j b h, refl) in
-    let done : Transition = record { state = with_entry (start_goal s allowance low high t); reply = model.opened (suc s.last_shoen) } in
-    let names = with_names s.names (names_of t) in
-    let within = has_room_to_start s t in
-    by_choice P (may_start allowance low high t) (named s names (limited s within (recorded s done))) (refuse s model.syntax)
-    (by_choice P (nat_le (length names) MOST_NAMES) (limited s within (recorded s done)) (refuse s model.too_many_names)
-    (by_choice P within (recorded s done) (refuse s model.limit_passed)
-    (by_choice P (nat_lt s.entries MOST_ENTRIES) done (refuse s model.journal_full) (one_more p j b (starts allowance low high t) 0 refl h room, refl) no) no) no) no
+    by_choice P (may_start allowance low high t) (start_by s allowance low high t) (refuse s model.syntax)
+    (by_unless P s
+    ((are_too_many (with_names s.names (names_of t)), model.too_many_names) ∷ (not (has_room_to_start s t), model.limit_passed) ∷ (is_full s, model.journal_full) ∷ [])
+    (record { state = with_entry (start_goal s allowance low high t); reply = model.opened (suc s.last_shoen) }) (λ r. (no_more p j b h, refl)) (one_more p j b (starts allowance low high t) 0 refl refl h room, refl))
+    (no_more p j b h, refl)
 
 sent_counts : (p : TotalsBeforeReset) (j : Journal) (b : Book) (s : State) (n : ℕ) (m : Message) (to : Shoen) (origin : Option Origin) → IsCounted p j b → b.events < 2 ^ 63 → Counts p j b (model.control n m) (send_by s n m to origin)
 sent_counts p j b s n m to None h room = (no_more p j b h, refl)
 sent_counts p j b s n m to (Some o) h room =
     let P : Transition → Type 0 = Counts p j b (model.control n m) in
-    let no : IsCounted p j (with_more b 0 0) × (false ≡ false) = (no_more p j b h, refl) in
-    let done : Transition = record { state = with_entry (sent_on n m o.control s); reply = model.sent } in
-    by_choice P (is_living to.life) (limited s (has_room_to_send s m) (recorded s done)) (refuse s model.shoen_ended)
-    (by_choice P (has_room_to_send s m) (recorded s done) (refuse s model.limit_passed)
-    (by_choice P (nat_lt s.entries MOST_ENTRIES) done (refuse s model.journal_full) (one_more p j b (sends n m) 0 refl h room, refl) no) no) no
+    by_choice P (is_living to.life) (send_living s n m o) (refuse s model.shoen_ended)
+    (by_unless P s ((not (has_room_to_send s m), model.limit_passed) ∷ (is_full s, model.journal_full) ∷ []) (record { state = with_entry (sent_on n m o.control s); reply = model.sent }) (λ r. (no_more p j b h, refl)) (one_more p j b (sends n m) 0 refl refl h room, refl))
+    (no_more p j b h, refl)
 
 told_counts : (p : TotalsBeforeReset) (j : Journal) (b : Book) (s : State) (n : ℕ) (m : Message) (to : Option Shoen) → IsCounted p j b → b.events < 2 ^ 63 → Counts p j b (model.control n m) (send_to s n m to)
 told_counts p j b s n m None h room = (no_more p j b h, refl)
@@ -107,33 +138,36 @@ told_counts p j b s n m (Some to) h room = sent_counts p j b s n m to to.origin 
 
 given_counts : (p : TotalsBeforeReset) (j : Journal) (b : Book) (s : State) (n report : ℕ) (t : Term) (v : Option ℕ) → IsCounted p j b → b.events < 2 ^ 63 → Counts p j b (model.answer n report t) (answer_by s t v)
 given_counts p j b s n report t None h room = (no_more p j b h, refl)
-given_counts p j b s n report t (Some v) h room = (one_more p j b (answers n report t) 0 refl h room, refl)
+given_counts p j b s n report t (Some v) h room = (one_more p j b (answers n report t) 0 refl refl h room, refl)
 
 answered_counts : (p : TotalsBeforeReset) (j : Journal) (b : Book) (s : State) (n report : ℕ) (t : Term) (to : Shoen) (origin : Option Origin) → IsCounted p j b → b.events < 2 ^ 63 → Counts p j b (model.answer n report t) (answer_in s report t to origin)
 answered_counts p j b s n report t to None h room = (no_more p j b h, refl)
 answered_counts p j b s n report t to (Some o) h room =
     let P : Transition → Type 0 = Counts p j b (model.answer n report t) in
-    let no : IsCounted p j (with_more b 0 0) × (false ≡ false) = (no_more p j b h, refl) in
-    let done = answer_by s t (unanswered_at o.reports report) in
-    let names = with_names s.names (names_of t) in
-    let within = has_room_to_answer s t in
-    by_choice P (is_living to.life) (named s names (limited s within (recorded s done))) (refuse s model.shoen_ended)
-    (by_choice P (nat_le (length names) MOST_NAMES) (limited s within (recorded s done)) (refuse s model.too_many_names)
-    (by_choice P within (recorded s done) (refuse s model.limit_passed)
-    (by_choice P (nat_lt s.entries MOST_ENTRIES) done (refuse s model.journal_full) (given_counts p j b s n report t (unanswered_at o.reports report) h room) no) no) no) no
+    by_choice P (is_living to.life) (answer_living s report t o) (refuse s model.shoen_ended)
+    (by_unless P s ((are_too_many (with_names s.names (names_of t)), model.too_many_names) ∷ (not (has_room_to_answer s t), model.limit_passed) ∷ (is_full s, model.journal_full) ∷ []) (answer_by s t (unanswered_at o.reports report)) (λ r. (no_more p j b h, refl)) (given_counts p j b s n report t (unanswered_at o.reports report) h room))
+    (no_more p j b h, refl)
 
 replied_counts : (p : TotalsBeforeReset) (j : Journal) (b : Book) (s : State) (n report : ℕ) (t : Term) (to : Option Shoen) → IsCounted p j b → b.events < 2 ^ 63 → Counts p j b (model.answer n report t) (answer_to s report t to)
 replied_counts p j b s n report t None h room = (no_more p j b h, refl)
 replied_counts p j b s n report t (Some to) h room = answered_counts p j b s n report t to to.origin h room
 
-acted_counts : (p : TotalsBeforeReset) (j : Journal) (b : Book) (s : State) (goal clause : ℕ) (g : Goal) (a : Option Action) → IsCounted p j b → b.events < 2 ^ 63 → Counts p j b (model.reduce goal clause) (reduced_by s g a)
-acted_counts p j b s goal clause g None h room = (no_more p j b h, refl)
-acted_counts p j b s goal clause g (Some a) h room =
-    by_choice (Counts p j b (model.reduce goal clause)) (nat_lt s.entries MOST_ENTRIES) (record { state = acted g a (with_entry s); reply = model.reduced }) (refuse s model.journal_full) (one_more p j b (steps goal clause) 1 refl h room, refl) (no_more p j b h, refl)
+-- a run that goes on was one reduction shorter
+goes_by : (in_run : Bool) (s : State) (m : ℕ) → run_with in_run s ≡ suc (suc m) → s.run ≡ suc m
+goes_by true s m e = run_goes_on s.run m e
+goes_by false s m e = absurd (omega (arith, e))
 
-reduced_counts : (p : TotalsBeforeReset) (j : Journal) (b : Book) (s : State) (goal clause : ℕ) (g : Option Goal) → IsCounted p j b → b.events < 2 ^ 63 → Counts p j b (model.reduce goal clause) (reduce_goal s clause g)
-reduced_counts p j b s goal clause None h room = (no_more p j b h, refl)
-reduced_counts p j b s goal clause (Some g) h room = acted_counts p j b s goal clause g (action_of s g clause) h room
+acted_counts : (p : TotalsBeforeReset) (j : Journal) (b : Book) (s : State) (goal clause : ℕ) (in_run : Bool) (g : Goal) (a : Option Action) → EndsInRun j.entries s.run → IsCounted p j b → b.events < 2 ^ 63 → Counts p j b (model.reduce goal clause) (reduced_by s in_run g a)
+acted_counts p j b s goal clause in_run g None ends h room = (no_more p j b h, refl)
+acted_counts p j b s goal clause in_run g (Some a) ends h room =
+    let after = acted g a (with_reduction in_run s) in
+    let is : after.run ≡ run_with in_run s = acted_run g a (with_reduction in_run s) in
+    by_unless (Counts p j b (model.reduce goal clause)) s ((needs_entry in_run s && is_full s, model.journal_full) ∷ []) (record { state = after; reply = model.reduced }) (λ r. (no_more p j b h, refl))
+    (stepped_counts p j b goal clause after.run s.run ends (λ m e. goes_by in_run s m (sym is ∙ e)) h room, refl)
+
+reduced_counts : (p : TotalsBeforeReset) (j : Journal) (b : Book) (s : State) (goal clause : ℕ) (in_run : Bool) (g : Option Goal) → EndsInRun j.entries s.run → IsCounted p j b → b.events < 2 ^ 63 → Counts p j b (model.reduce goal clause) (reduce_goal s in_run clause g)
+reduced_counts p j b s goal clause in_run None ends h room = (no_more p j b h, refl)
+reduced_counts p j b s goal clause in_run (Some g) ends h room = acted_counts p j b s goal clause in_run g (action_of s g clause) ends h room
 
 value_counts : (p : TotalsBeforeReset) (j : Journal) (b : Book) (q : model.Query) (s : State) (o : Option Origin) → IsCounted p j b → Counts p j b (model.read q) (value_of s o)
 value_counts p j b q s None h = (no_more p j b h, refl)
@@ -158,28 +192,28 @@ answer_counts p j b model.modules s h = (no_more p j b h, refl)
 answer_counts p j b model.is_quiet s h = (no_more p j b h, refl)
 
 -- what a book tells after an event, if it has room
-pub step_counts : (p : TotalsBeforeReset) (j : Journal) (b : Book) (s : State) (e : model.Event) → IsCounted p j b → HasRoom b e → Counts p j b e (step s e)
-step_counts p j b s (model.load text) h room =
+pub step_counts : (p : TotalsBeforeReset) (j : Journal) (b : Book) (s : State) (e : model.Event) → EndsInRun j.entries s.run → IsCounted p j b → HasRoom b e → Counts p j b e (step s e)
+step_counts p j b s (model.load text) ends h room =
     by_choice (Counts p j b (model.load text)) (nat_le (length text) MOST_SOURCE_BYTES) (load_module s (read_module text)) (refuse s model.syntax) (loaded_counts p j b text s (read_module text) h (room refl)) (no_more p j b h, refl)
-step_counts p j b s (model.start allowance low high t) h room = started_counts p j b s allowance low high t h (room refl)
-step_counts p j b s (model.control n m) h room =
+step_counts p j b s (model.start allowance low high t) ends h room = started_counts p j b s allowance low high t h (room refl)
+step_counts p j b s (model.control n m) ends h room =
     by_choice (Counts p j b (model.control n m)) (may_send n m) (send_to s n m (shoen_at n s.shoens)) (refuse s model.syntax) (told_counts p j b s n m (shoen_at n s.shoens) h (room refl)) (no_more p j b h, refl)
-step_counts p j b s (model.answer n report t) h room =
+step_counts p j b s (model.answer n report t) ends h room =
     by_choice (Counts p j b (model.answer n report t)) (has_substitutes s.rules && may_answer n report t) (answer_to s report t (shoen_at n s.shoens)) (refuse s model.syntax) (replied_counts p j b s n report t (shoen_at n s.shoens) h (room refl)) (no_more p j b h, refl)
-step_counts p j b s (model.reduce goal clause) h room =
-    by_choice (Counts p j b (model.reduce goal clause)) (is_number goal && is_number clause) (reduce_goal s clause (goal_at goal s.goals)) (refuse s model.syntax) (reduced_counts p j b s goal clause (goal_at goal s.goals) h (room refl)) (no_more p j b h, refl)
-step_counts p j b s (model.read q) h room = answer_counts p j b q s h
-step_counts p j b s model.login h room =
+step_counts p j b s (model.reduce goal clause) ends h room =
+    by_choice (Counts p j b (model.reduce goal clause)) (is_number goal && is_number clause) (reduce_goal s (is_in_run s goal clause) clause (goal_at goal s.goals)) (refuse s model.syntax) (reduced_counts p j b s goal clause (is_in_run s goal clause) (goal_at goal s.goals) ends h (room refl)) (no_more p j b h, refl)
+step_counts p j b s (model.read q) ends h room = answer_counts p j b q s h
+step_counts p j b s model.login ends h room =
     by_choice (Counts p j b model.login) (nat_lt s.sessions MOST_SESSIONS) (record { state = record s { sessions = suc s.sessions }; reply = model.welcome s.own_name }) (refuse s model.sessions_refused) (in_sessions p j b (suc s.sessions) h, refl) (no_more p j b h, refl)
-step_counts p j b s model.logout h room =
+step_counts p j b s model.logout ends h room =
     by_choice (Counts p j b model.logout) (nat_lt 0 s.sessions) (record { state = record s { sessions = s.sessions - 1 }; reply = model.bye }) (refuse s model.sessions_refused) (in_sessions p j b (s.sessions - 1) h, refl) (no_more p j b h, refl)
-step_counts p j b s model.reset h room = (begun_anew p j b s.rules s.names s.sessions h, refl)
+step_counts p j b s model.reset ends h room = (begun_anew p j b s.rules s.names s.sessions h, refl)
 
 -- so by what was done to an account with its journal
-pub done_counts : (p : TotalsBeforeReset) (b : Book) (k : Kept) (e : model.Event) (d : Done) → done k e ≡ d → IsCounted p k.journal b → HasRoom b e →
+pub done_counts : (p : TotalsBeforeReset) (b : Book) (k : Kept) (e : model.Event) (d : Done) → done k e ≡ d → EndsInRun k.journal.entries k.state.run → IsCounted p k.journal b → HasRoom b e →
     IsCounted (past_by p k.journal d.reply) d.kept.journal (with_more b (events_by d.reply) (steps_by d.reply)) × (is_run d.reply ≡ false)
-done_counts p b k e d is h room =
-    subst (λ (x : Done). IsCounted (past_by p k.journal x.reply) x.kept.journal (with_more b (events_by x.reply) (steps_by x.reply)) × (is_run x.reply ≡ false)) is (step_counts p k.journal b k.state e h room)
+done_counts p b k e d is ends h room =
+    subst (λ (x : Done). IsCounted (past_by p k.journal x.reply) x.kept.journal (with_more b (events_by x.reply) (steps_by x.reply)) × (is_run x.reply ≡ false)) is (step_counts p k.journal b k.state e ends h room)
 
 -- the past after a reply, if a book tells what it has and a journal
 pub ended_is : (p : TotalsBeforeReset) (j : Journal) (b : Book) (r : model.Reply) → IsCounted p j b → ended p b r ≡ past_by p j r
@@ -194,5 +228,5 @@ ended_is p j b (model.listed texts) h = refl
 ended_is p j b (model.quiet_is a) h = refl
 ended_is p j b (model.welcome name) h = refl
 ended_is p j b model.bye h = refl
-ended_is p j b model.was_reset h = ap (λ (n : ℕ). let z : TotalsBeforeReset = record { events = n; steps = b.steps } in z) h.events ∙ ap (λ (n : ℕ). let z : TotalsBeforeReset = record { events = p.events + length j.entries; steps = n } in z) h.steps
+ended_is p j b model.was_reset h = ap (λ (n : ℕ). let z : TotalsBeforeReset = record { events = n; steps = b.steps } in z) h.events ∙ ap (λ (n : ℕ). let z : TotalsBeforeReset = record { events = p.events + events_in j.entries; steps = n } in z) h.steps
 ended_is p j b (model.refused r) h = refl

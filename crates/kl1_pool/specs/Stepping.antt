@@ -1,9 +1,13 @@
 -- What a turn leaves.
-use Rattle.std.specs.Prelude.{◌≡◌, ℕ, nat_le, not, ◌&&◌, Bool}
+use Rattle.std.specs.Prelude.{◌≡◌, ℕ, ◌⊎◌, nat_le, not, ◌&&◌, Bool, false, List, Option}
+use Rattle.kl1_model.specs.declared.rules.Rules.{Rules}
 use Rattle.kl1_model.specs.Event as model
 use Rattle.kl1_model.specs.Choice.{quiet}
 use Rattle.kl1_model_server.specs.Journal.{Kept}
 use Rattle.kl1_model_server.specs.Command.{run_from}
+use Rattle.kl1_pool_tickets.specs.declared.serving.TheConstants.{MOST_STEPS}
+use Rattle.kl1_pool_tickets.specs.declared.serving.TimeSlice.{TimeSlice}
+use Rattle.kl1_pool.specs.Answers.{IsAccount}
 
 -- n first steps, all of them done, lead from one account to another
 abbrev pub AreFirstSteps : Kept → ℕ → Kept → Type 0
@@ -12,3 +16,11 @@ AreFirstSteps s n after = run_from n 0 s ≡ record { kept = after; reply = mode
 -- whether an account goes on after a turn of n steps, if a whole turn has `most`: all of these were done, and a goal can step
 abbrev pub goes_on : ℕ → ℕ → Kept → Bool
 goes_on most n after = nat_le most n && not (quiet after.state)
+
+-- some account of these rules and of this name does the steps of a turn, its first ones; the turn tells whether it goes on
+abbrev pub IsTurnOfSome : Rules → Option (List ℕ) → TimeSlice → Type 0
+IsTurnOfSome rules name t = (before : Kept) × (after : Kept) × IsAccount rules name before × AreFirstSteps before t.steps after × (t.again ≡ goes_on MOST_STEPS t.steps after)
+
+-- a turn is that of some such account; or none was done, and the ticket isn't put back
+abbrev pub IsTurn : Rules → Option (List ℕ) → TimeSlice → Type 0
+IsTurn rules name t = IsTurnOfSome rules name t ⊎ ((t.steps ≡ 0) × (t.again ≡ false))

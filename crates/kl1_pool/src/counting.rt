@@ -5,10 +5,11 @@ ghost use Rattle.kl1_tally.specs.declared.amounts.TheConstants.{MOST_ACCOUNTS};
 ghost use Rattle.kl1_user_events.specs.Views.{event_of, reply_of, reduced_or};
 ghost use Rattle.kl1_pool_tickets.specs.Counts.{Moved};
 ghost use Rattle.kl1_command.specs.Told.{events_by, steps_by};
-ghost use Rattle.kl1_command.specs.Room.{is_entry};
+ghost use Rattle.kl1_model_server.specs.Journal.{is_entry};
 ghost use Rattle.kl1_pool.specs.Counted.{with_more, is_run, ended, HasRoom};
 
 use crate::totals_before_reset::TotalsBeforeReset;
+use kl1_journal_entries::is_entry;
 use kl1_pool_tickets::{Share, TicketIds};
 use kl1_tally::{BookSeat, Tally};
 use kl1_user_events::{Event, Refusal, Reply};
@@ -70,20 +71,6 @@ pub(crate) fn past_after(
         },
         _ => past,
     }
-}
-
-/// Whether an event is an entry of the journal if it is accepted.
-fn is_entry(event: &Event) -> bool
-    ensures { result ≡ is_entry (event_of event.now) }
-{
-    matches!(
-        event,
-        Event::Load { .. }
-            | Event::Start { .. }
-            | Event::Control { .. }
-            | Event::Answer { .. }
-            | Event::Reduce { .. }
-    )
 }
 
 /// Whether a book can't tell what an event is, if that is an entry.

@@ -1,11 +1,12 @@
 // Accounts under locks, with what threads share besides.
 
-ghost use Rattle.std.specs.Prelude.{◌≡◌, ◌<◌, ◌≤◌, IfOk, All, vec_len};
+ghost use Rattle.std.specs.Prelude.{◌≡◌, ◌<◌, ◌≤◌, IfOk, All, slice_get, vec_len};
 ghost use Rattle.kl1_tally.specs.declared.amounts.TheConstants.{MOST_ACCOUNTS};
 ghost use Rattle.kl1_pool_tickets.specs.Counts.{Moved, Acts, new_counts};
 ghost use Rattle.kl1_pool_tickets.specs.declared.serving.TheConstants.{MOST_STEPS};
 ghost use Rattle.kl1_command.specs.Commands.{command_view};
 ghost use Rattle.kl1_command.specs.Told.{events_told, steps_told};
+ghost use Rattle.kl1_pool.specs.Stepping.{IsTurn};
 
 use crate::answer::Answer;
 use crate::gate::Gate;
@@ -160,6 +161,7 @@ impl<'t, R: Wait, K: PoolIds> Pool<'t, R, K> {
         share: &mut Share<K>,
     ) -> TimeSlice
         ensures few { result.steps ≤ MOST_STEPS }
+        ensures turn { IsTurn K.rules (slice_get K.names account) result }
         ensures counted { Moved account result.steps result.steps 0 0 share.old share.new }
     {
         let Some(place) = self.places.get(account) else {
@@ -172,15 +174,12 @@ impl<'t, R: Wait, K: PoolIds> Pool<'t, R, K> {
             return NO_TURN;
         }
         gate.enter(number);
-        let turn = found.turn(self.rt, &self.common, &self.tables, share);
+        let slice = found.time_slice(self.rt, &self.common, &self.tables, share);
         gate.leave(number);
-        if !turn.again {
+        if !slice.again {
             found.clear_ticket();
         }
-        TimeSlice {
-            steps: turn.steps.done,
-            again: turn.again,
-        }
+        slice
     }
 
     /// Drops a pool whose shares can't be gathered. A drop without this call is proved only where the tables that are lent to the pool

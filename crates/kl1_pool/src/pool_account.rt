@@ -3,17 +3,16 @@
 ghost use Rattle.std.specs.Prelude.{◌≡◌, ◌<◌, ◌≤◌, ◌^◌, ◌&&◌, if◌then◌else◌, [], Some, slice_get, IfOk, IsOk, IsTrue, OnErr, true, false, not, option_map};
 ghost use Rattle.kl1_model.specs.Event.{reduce as reduce_event, refused, journal_full};
 ghost use Rattle.kl1_model.specs.Choice.{first, quiet};
-ghost use Rattle.kl1_model_server.specs.Journal.{done};
+ghost use Rattle.kl1_model_server.specs.Journal.{done, is_entry};
 ghost use Rattle.kl1_model_server.specs.JournalText.{page_of};
 ghost use Rattle.kl1_atoms.specs.Names.{AreNames};
 ghost use Rattle.kl1_atoms.specs.Seats.{face_in, IsSharedSeat};
-ghost use Rattle.kl1_codes_modules.specs.Numbered.{ArePlaced};
+ghost use Rattle.kl1_codes.specs.Numbered.{ArePlaced};
 ghost use Rattle.kl1_user_events.specs.Views.{event_of, is_logout, reply_of, reduced_or, chosen_of};
 ghost use Rattle.kl1_pool_tickets.specs.Counts.{Moved};
 ghost use Rattle.kl1_pool_tickets.specs.Parts.{IsNewBook};
 ghost use Rattle.kl1_journal.specs.Keeping.{Reading, Fits, kept_of, IsKept};
 ghost use Rattle.kl1_command.specs.Told.{events_by, steps_by};
-ghost use Rattle.kl1_command.specs.Room.{is_entry};
 ghost use Rattle.kl1_pool.specs.PoolAccounts.{StandsIn};
 ghost use Rattle.kl1_pool.specs.Counted.{no_past, with_more, IsCounted, past_by, room_in, HasRoom};
 
@@ -31,7 +30,7 @@ use std::marker::{Model, PhantomData};
 use std::sync::Wait;
 
 /// An account with its journal and its book; what its journals counted that resets ended; and whether its ticket is out. What a book
-/// tells is always what was counted before the last reset and the entries of the journal.
+/// tells is always what was counted before the last reset and the events that the journal's entries are.
 #[derive(Drop)]
 pub struct PoolAccount<'t, R: Wait, K: PoolIds> {
     kept: JournaledAccount<NamedAtoms<'t, K>, SharedCodes<'t, R>>,
@@ -46,7 +45,7 @@ impl<'t, R: Wait, K: PoolIds> Model for PoolAccount<'t, R, K> {
     ghost use Rattle.std.specs.Coded.{codes};
     ghost use Rattle.kl1_tally.specs.declared.amounts.TheConstants.{MOST_ACCOUNTS};
     ghost use Rattle.kl1_atoms.specs.Seats.{face_in, IsSharedSeat};
-    ghost use Rattle.kl1_codes_modules.specs.Numbered.{numbered_code, ArePlaced};
+    ghost use Rattle.kl1_codes.specs.Numbered.{numbered_code, ArePlaced};
     ghost use Rattle.kl1_journal_entries.specs.Codes.{journal_code};
     ghost use Rattle.kl1_pool.specs.PoolAccounts.{PoolAccountValue, StandsIn};
     ghost use Rattle.kl1_pool.specs.Counted.{IsCounted};
@@ -89,8 +88,8 @@ impl<'t, R: Wait, K: PoolIds> PoolAccount<'t, R, K> {
         }
     }
 
-    /// What an event does to the account and its journal, and the reply. An accepted entry is one event more in the book and in
-    /// `share`, and a reduction is a step besides; an accepted reset adds the journal that it ends to what was counted before. If
+    /// What an event does to the account and its journal, and the reply. What is accepted and belongs in the journal is one event more in
+    /// the book and in `share`, and a reduction is a step besides; an accepted reset adds the journal that it ends to what was counted before. If
     /// memory is refused, account, journal, book and share are as before; a code may have been put in. A session is closed without
     /// memory. If the book tells `MOST_EVENTS` already, what would be an entry is refused, as by a full journal.
     pub fn apply(
@@ -116,6 +115,9 @@ impl<'t, R: Wait, K: PoolIds> PoolAccount<'t, R, K> {
         if is_full(&self.book, event) {
             return Ok(Reply::Refused(Refusal::Journal));
         }
+        // This and the next one are called for the facts that they prove: the journal ends in the run that the account counts, and some
+        // reading fits the names.
+        self.kept.shows_replay();
         let reply = self.kept.apply(names, codes, event)?;
         self.kept.shows_replay();
         self.past = past_after(self.past, &self.book, &reply);
@@ -144,6 +146,8 @@ impl<'t, R: Wait, K: PoolIds> PoolAccount<'t, R, K> {
         ensures err { OnErr result ((self.new ≡ self.old) × (share.new ≡ share.old)) }
         ensures before { (f : Reading) → Fits self.new.held.0.names f → Fits self.old.held.0.names f }
     {
+        // As in `apply`.
+        self.kept.shows_replay();
         let refused = self.kept.reduce(names, codes, goal, clause)?;
         self.kept.shows_replay();
         count_step(tally, &mut self.book, share, &refused);
@@ -151,8 +155,8 @@ impl<'t, R: Wait, K: PoolIds> PoolAccount<'t, R, K> {
     }
 
     /// Tells a caller's proof what the type keeps: the account is the replay of its journal for each reading of its names, there is
-    /// such a reading; the book tells what was counted before the last reset and the entries of the journal; and the rules and the
-    /// name are those that K names. It does nothing.
+    /// such a reading; the book tells what was counted before the last reset and the events that the journal's entries are; and the
+    /// rules and the name are those that K names. It does nothing.
     pub fn shows_counts(&self)
         ensures kept { IsKept self.now.held }
         ensures names { AreNames self.now.held.0.names }

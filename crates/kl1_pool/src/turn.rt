@@ -1,20 +1,21 @@
 // Turns of an account of a pool.
 
-ghost use Rattle.std.specs.Prelude.{◌≡◌, ◌≤◌, min};
+ghost use Rattle.std.specs.Prelude.{◌≡◌, ◌≤◌, min, slice_get};
 ghost use Rattle.kl1_command.specs.Told.{told_steps};
 ghost use Rattle.kl1_command.specs.Stepping.{IsEnd, RunsOn};
+ghost use Rattle.kl1_pool_tickets.specs.Counts.{Moved};
 ghost use Rattle.kl1_pool_tickets.specs.declared.serving.TheConstants.{MOST_STEPS};
 ghost use Rattle.kl1_journal.specs.Keeping.{Reading, Fits, kept_of};
 ghost use Rattle.kl1_pool.specs.Counted.{room_in};
 ghost use Rattle.kl1_pool.specs.PoolAccounts.{HasCounted};
-ghost use Rattle.kl1_pool.specs.Stepping.{AreFirstSteps, goes_on};
+ghost use Rattle.kl1_pool.specs.Stepping.{AreFirstSteps, goes_on, IsTurnOfSome};
 
 use crate::account_host::AccountHost;
 use crate::pool_account::PoolAccount;
 use crate::pool_ids::PoolIds;
 use crate::shared_tables::SharedTables;
 use kl1_command::{Steps, run_steps};
-use kl1_pool_tickets::{MOST_STEPS, PoolShared, Share};
+use kl1_pool_tickets::{MOST_STEPS, PoolShared, Share, TimeSlice};
 use std::sync::Wait;
 
 /// What a turn did: how many steps, with what became of the last one that was tried; and whether all were done and a goal can still
@@ -47,6 +48,29 @@ impl<'t, R: Wait, K: PoolIds> PoolAccount<'t, R, K> {
         let steps = self.first_steps(rt, common, tables, share, most);
         let again = steps.done == MOST_STEPS && !self.quiet();
         Turn { steps, again }
+    }
+
+    /// A turn, and what a worker is told of it.
+    pub(crate) fn time_slice(
+        &mut self,
+        rt: &'t R,
+        common: &PoolShared<K>,
+        tables: &SharedTables<'t, K>,
+        share: &mut Share<K>,
+    ) -> TimeSlice
+        ensures few { result.steps ≤ MOST_STEPS }
+        ensures turn { IsTurnOfSome K.rules (slice_get K.names self.old.book.account) result }
+        ensures counted { Moved self.old.book.account result.steps result.steps 0 0 share.old share.new }
+    {
+        // This and the next one are called for the facts that they prove: the account is the replay of its journal, and some reading fits
+        // the names.
+        self.shows_counts();
+        let turn = self.turn(rt, common, tables, share);
+        self.shows_counts();
+        TimeSlice {
+            steps: turn.steps.done,
+            again: turn.again,
+        }
     }
 
     /// First steps until `most` are done, none can step, or one is refused.

@@ -1,9 +1,10 @@
 // Workers, which go on with accounts.
 
-ghost use Rattle.std.specs.Prelude.{◌≡◌, ◌<◌, ◌≤◌};
+ghost use Rattle.std.specs.Prelude.{◌≡◌, ◌<◌, ◌≤◌, slice_get};
 ghost use Rattle.kl1_tally.specs.declared.amounts.TheConstants.{MOST_ACCOUNTS};
-ghost use Rattle.kl1_pool_tickets.specs.Counts.{Moved, Worked};
+ghost use Rattle.kl1_pool_tickets.specs.Counts.{Moved, ServesTickets, Worked};
 ghost use Rattle.kl1_pool_tickets.specs.declared.serving.TheConstants.{MOST_STEPS};
+ghost use Rattle.kl1_pool.specs.Stepping.{IsTurn};
 
 use crate::gate::Gate;
 use crate::pool::Pool;
@@ -20,6 +21,11 @@ struct AtWork<'p, 't, G: Gate, R: Wait, K: PoolIds> {
 }
 
 impl<'p, 't, G: Gate, R: Wait, K: PoolIds> Accounts<K> for AtWork<'p, 't, G, R, K> {
+    ghost use Rattle.std.specs.Prelude.{slice_get};
+    ghost use Rattle.kl1_pool.specs.Stepping.{IsTurn};
+
+    ghost turned = { λ account slice _ _. IsTurn K.rules (slice_get K.names account) slice };
+
     fn turn<W: Wait>(&self, rt: &W, account: usize, share: &mut Share<K>) -> TimeSlice {
         self.pool.turn(rt, self.gate, self.number, account, share)
     }
@@ -30,7 +36,7 @@ impl<'p, 't, G: Gate, R: Wait, K: PoolIds> Accounts<K> for AtWork<'p, 't, G, R, 
 }
 
 /// Takes tickets, and does a turn of each ticket's account, between `enter` and `leave` of `gate` with the worker's `number`; the
-/// ticket is put back if the account goes on. Ends when `close` was called, or if the share can take no more.
+/// ticket is put back if the account goes on, and only then. Ends when `close` was called, or if the share can take no more.
 pub fn worker<'t, G: Gate, R: Wait, K: PoolIds, W: Wait>(
     rt: &W,
     pool: &Pool<'t, R, K>,
@@ -38,7 +44,8 @@ pub fn worker<'t, G: Gate, R: Wait, K: PoolIds, W: Wait>(
     number: u64,
     share: &mut Share<K>,
 )
-    ensures { Worked share.old share.new }
+    ensures tickets { ServesTickets (λ account slice _ _. IsTurn K.rules (slice_get K.names account) slice) share.old share.new }
+    ensures worked { Worked share.old share.new }
 {
     kl1_pool_tickets::worker(rt, &pool.common, &AtWork { pool, gate, number }, share)
 }

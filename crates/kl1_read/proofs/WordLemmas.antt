@@ -8,7 +8,8 @@ use Rattle.std.proofs.lemmas.List.Folds.{list_all-append}
 use Rattle.kl1_model.specs.declared.limits.TheConstants.{MOST_NAME_BYTES}
 use Rattle.kl1_model.specs.Text.{is_name_byte}
 use Rattle.kl1_model.specs.Name.{is_word_byte}
-use Rattle.kl1_model.specs.Token.{word_of, behind_word, digits_of, behind_digits, is_digit, quoted_from}
+use Rattle.kl1_model.specs.Token.{word_of, behind_word, digits_of, behind_digits, is_digit}
+use Rattle.kl1_model.specs.code.Fronts.{quoted_from}
 use Rattle.kl1_read.specs.Quotes.{short}
 
 -- the front part of a text, by what is after it

@@ -3,8 +3,8 @@
 ghost use Rattle.std.specs.Prelude.{◌≡◌, ◌∷◌, [], false, length, drop, IsTrue};
 ghost use Rattle.kl1_model.specs.declared.limits.TheConstants.{MOST_VARIABLE_BYTES};
 ghost use Rattle.kl1_model.specs.Text.{is_name_byte};
-ghost use Rattle.kl1_model.specs.Token.{front_of, word_of, behind_word, bounded, variable_token, name_front, digits_front, digits_of, behind_digits, quoted_from, behind_comment, dot_front, sign_at};
-ghost use Rattle.kl1_model.specs.code.Fronts.{sign_front};
+ghost use Rattle.kl1_model.specs.Token.{front_of, word_of, behind_word, bounded, variable_token, name_front, digits_front, digits_of, behind_digits, behind_comment, dot_front, sign_at};
+ghost use Rattle.kl1_model.specs.code.Fronts.{sign_front, quoted_from};
 ghost use Rattle.kl1_model.specs.Token as model;
 ghost use Rattle.kl1_model.specs.laws.ReadLaws.{LeavesLess};
 ghost use Rattle.kl1_model.proofs.LexStarts.{start_of, front_by};

@@ -1,7 +1,7 @@
 // Names in quotes.
 
 ghost use Rattle.std.specs.Prelude.{◌≡◌, false, []};
-ghost use Rattle.kl1_model.specs.Token.{quoted_from};
+ghost use Rattle.kl1_model.specs.code.Fronts.{quoted_from};
 ghost use Rattle.kl1_read.specs.Quotes.{Ends, short};
 
 use crate::bytes::is_name_byte;

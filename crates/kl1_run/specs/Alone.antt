@@ -1,6 +1,6 @@
 -- What work on an account of its own comes to.
 use Rattle.std.specs.Prelude.{ℕ, List, codes, Option, None, Some}
-use Rattle.kl1_model.specs.declared.rules.Rules.TheVariants.{Three}
+use Rattle.kl1_model.specs.declared.rules.Rules.{Rules}
 use Rattle.kl1_model.specs.Term.{Term}
 use Rattle.kl1_model_server.specs.Journal.{Kept, fresh_kept}
 use Rattle.kl1_run_work.specs.declared.wanted.Wanted.{Wanted}
@@ -19,13 +19,13 @@ seen_if contents failures None = record { bytes = None; failures = 0 }
 seen_if contents failures (Some s) = seen contents failures s
 
 -- what the work comes to that loads these sources in an account in which nothing has happened, starts a goal with an allowance, and
--- does first steps, at most `steps`
-abbrev pub alone_of : List (List ℕ) → Term → ℕ → ℕ → Worked
-alone_of texts goal allowance steps = worked_of (fresh_kept Three account_name) texts goal allowance steps
+-- does first steps, at most `steps`, by these rules
+abbrev pub alone_of : Rules → List (List ℕ) → Term → ℕ → ℕ → Worked
+alone_of rules texts goal allowance steps = worked_of (fresh_kept rules account_name) texts goal allowance steps
 
 -- that work is done, and what came of it was written to two streams, by how the work ended; and the journal of the account after it
 -- was written to a third
-pub record RunsAlone (texts : List (List ℕ)) (goal : Term) (allowance steps : ℕ) (wanted : Wanted) (out out' err err' book book' : Stream) (result : RunResult) : Type 0 where
+pub record RunsAlone (rules : Rules) (texts : List (List ℕ)) (goal : Term) (allowance steps : ℕ) (wanted : Wanted) (out out' err err' book book' : Stream) (result : RunResult) : Type 0 where
   pub after : Kept
-  pub runs : IsRun (alone_of texts goal allowance steps) wanted out out' err err' result.ending after
+  pub runs : IsRun (alone_of rules texts goal allowance steps) wanted out out' err err' result.ending after
   pub journal : IsTold after.journal book book' result.journal

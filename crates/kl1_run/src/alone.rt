@@ -13,6 +13,16 @@ use kl1_run_work::{Ending, Host, Sink, Stop, Wanted, Watch, Work, put_journal, r
 use kl1_world::{AccountName, Rules, World};
 use std::alloc::Global;
 
+/// Work on an account of its own.
+#[derive(Drop)]
+pub struct LoneWork {
+    pub work: Work,
+    /// The rules that the account keeps to.
+    pub rules: Rules,
+    /// What is told of the goal's shoen.
+    pub wanted: Wanted,
+}
+
 /// How work on an account of its own ended.
 #[derive(Drop)]
 pub struct RunResult {
@@ -42,16 +52,20 @@ fn write_journal<H: Host, J: Sink>(
 #[tactic(auto, using(crate::proofs::Runs::refused_alone, crate::proofs::Runs::none_followed))]
 pub fn run_alone<T: Watch, W: Sink, E: Sink, J: Sink>(
     alloc: Global,
-    work: Work,
-    wanted: Wanted,
+    lone: LoneWork,
     watch: &mut T,
     out: &mut W,
     err: &mut E,
     journal: &mut Option<J>,
 ) -> RunResult
-    ensures runs { RunsAlone (texts_of work.files.items) work.goal work.allowance work.steps wanted (seen W.contents W.failures out.old) (seen W.contents W.failures out.new) (seen E.contents E.failures err.old) (seen E.contents E.failures err.new) (seen_if J.contents J.failures journal.old) (seen_if J.contents J.failures journal.new) result }
-    ensures follows { Follows (alone_of (texts_of work.files.items) work.goal work.allowance) work.steps (T.told watch.old) (T.told watch.new) }
+    ensures runs { RunsAlone lone.rules (texts_of lone.work.files.items) lone.work.goal lone.work.allowance lone.work.steps lone.wanted (seen W.contents W.failures out.old) (seen W.contents W.failures out.new) (seen E.contents E.failures err.old) (seen E.contents E.failures err.new) (seen_if J.contents J.failures journal.old) (seen_if J.contents J.failures journal.new) result }
+    ensures follows { Follows (alone_of lone.rules (texts_of lone.work.files.items) lone.work.goal lone.work.allowance) lone.work.steps (T.told watch.old) (T.told watch.new) }
 {
+    let LoneWork {
+        work,
+        rules,
+        wanted,
+    } = lone;
     let name = AccountName::read(b"me").unwrap();
     match AtomTable::new(alloc, 1) {
         Ok((table, seats)) => {
@@ -61,7 +75,7 @@ pub fn run_alone<T: Watch, W: Sink, E: Sink, J: Sink>(
                 seats,
                 PlainCodes::new(alloc),
                 &[name],
-                Rules::Three,
+                rules,
             ) {
                 Ok(mut world) => {
                     let ending = run(alloc, &mut world, work, wanted, watch, out, err);

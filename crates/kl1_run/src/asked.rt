@@ -2,11 +2,12 @@
 
 use crate::fault::Fault;
 use kl1_run_work::Wanted;
+use kl1_world::Rules;
 use std::env;
 
 /// How the program is called.
 pub const USAGE: &str =
-    "kl1_run [--steps N] [--allowance N] [--reports] [--whole] [--journal FILE] FILE... GOAL\n       kl1_run --check FILE...\n       kl1_run --script [--steps N] [--allowance N] [--reports] FILE... GOAL";
+    "kl1_run [--steps N] [--allowance N] [--rules N] [--reports] [--whole] [--journal FILE] FILE... GOAL\n       kl1_run --check FILE...\n       kl1_run --script [--steps N] [--allowance N] [--reports] FILE... GOAL";
 
 /// What is to be done with the files.
 #[derive(Clone, Copy)]
@@ -30,6 +31,8 @@ pub struct Asked<'a> {
     pub steps: u64,
     /// The allowance of the goal's shoen, in reductions.
     pub allowance: u64,
+    /// The rules that the account keeps to.
+    pub rules: Rules,
     /// What is told of the goal.
     pub wanted: Wanted,
     /// The name of the file to which the journal of a run is written; `None` if it is written nowhere.

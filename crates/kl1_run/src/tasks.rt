@@ -1,6 +1,6 @@
 // What is done for each task.
 
-use crate::alone::{RunResult, run_alone};
+use crate::alone::{LoneWork, RunResult, run_alone};
 use crate::asked::{Asked, Task, USAGE};
 use crate::fault::{BAD, Fault};
 use crate::files::{journal_file, read_each};
@@ -100,24 +100,20 @@ fn run_goal(
     let mut out = FailureCounter::new(rt.stdout());
     let mut err = FailureCounter::new(rt.stderr());
     let mut journal = journal_file(rt, asked.journal)?;
-    let work = Work {
-        files,
-        goal,
-        allowance: asked.allowance,
-        steps: asked.steps,
+    let lone = LoneWork {
+        work: Work {
+            files,
+            goal,
+            allowance: asked.allowance,
+            steps: asked.steps,
+        },
+        rules: asked.rules,
+        wanted: asked.wanted,
     };
     let RunResult {
         ending,
         journal: told,
-    } = run_alone(
-        alloc,
-        work,
-        asked.wanted,
-        &mut progress,
-        &mut out,
-        &mut err,
-        &mut journal,
-    );
+    } = run_alone(alloc, lone, &mut progress, &mut out, &mut err, &mut journal);
     progress.clear();
     let status = match ending {
         Ok(ending) => tell_ending(rt, ending)?,

@@ -4,6 +4,7 @@ use crate::asked::{Asked, Task, USAGE};
 use crate::fault::BAD;
 use clap::{Arg, ArgAction, Command, Error, value_parser};
 use kl1_run_work::{MOST_ALLOWANCE, MOST_STEPS, Wanted};
+use kl1_world::Rules;
 use std::alloc::{AllocError, Global};
 
 /// The flag of a name, with what help says of it.
@@ -23,14 +24,24 @@ fn number<'a>(alloc: Global, name: &'a str, help: &'a str) -> Arg<'a> {
         .help(help)
 }
 
-/// The words that the program knows.
-fn command<'a>(alloc: Global) -> Result<Command<'a>, AllocError> {
+/// A command that knows the options that take a number too.
+fn with_numbers<'a>(alloc: Global, command: Command<'a>) -> Result<Command<'a>, AllocError> {
     let steps = number(alloc, "steps", "Do at most N reductions");
     let allowance = number(
         alloc,
         "allowance",
         "Let the goal be charged N reductions at most",
     );
+    let rules = Arg::new(alloc, "rules")
+        .long("rules")
+        .action(ArgAction::Set)
+        .value_parser(value_parser!(u64).range(3..=4))
+        .help("Keep to the rules of version N, 3 or 4; 4 has the greater limits");
+    command.arg(steps)?.arg(allowance)?.arg(rules)
+}
+
+/// The words that the program knows.
+fn command<'a>(alloc: Global) -> Result<Command<'a>, AllocError> {
     let reports = flag(alloc, "reports", "Tell the goal's reports too");
     let whole = flag(
         alloc,
@@ -58,17 +69,24 @@ fn command<'a>(alloc: Global) -> Result<Command<'a>, AllocError> {
         .action(ArgAction::Append)
         .num_args(1..)
         .help("Files with modules, and then a goal");
-    Command::new(alloc, "kl1_run")
+    let command = Command::new(alloc, "kl1_run")
         .about("Loads modules from files, and runs a goal")
-        .override_usage(USAGE)
-        .arg(steps)?
-        .arg(allowance)?
+        .override_usage(USAGE);
+    with_numbers(alloc, command)?
         .arg(reports)?
         .arg(whole)?
         .arg(journal)?
         .arg(check)?
         .arg(script)?
         .arg(words)
+}
+
+/// The most steps of a task: a script's `run` takes no more than its limit, and a run ends at its allowance.
+fn most_steps(task: Task) -> u64 {
+    match task {
+        Task::Script => MOST_STEPS,
+        Task::Check | Task::Run => MOST_ALLOWANCE,
+    }
 }
 
 /// What the words ask for, of which the first is the program's name.
@@ -86,11 +104,16 @@ pub fn asked_in<'a>(alloc: Global, words: &'a [String]) -> Result<Asked<'a>, Err
         task,
         steps: matches
             .get_one::<u64>("steps")
-            .unwrap_or(MOST_STEPS)
-            .min(MOST_STEPS),
+            .unwrap_or(MOST_ALLOWANCE)
+            .min(most_steps(task)),
         allowance: matches
             .get_one::<u64>("allowance")
             .unwrap_or(MOST_ALLOWANCE),
+        rules: if matches.get_one::<u64>("rules") == Some(3) {
+            Rules::Three
+        } else {
+            Rules::Four
+        },
         wanted: Wanted {
             reports: matches.get_flag("reports"),
             whole: matches.get_flag("whole"),

@@ -1,11 +1,10 @@
 -- What is asked changes nothing.
 use Rattle.std.proofs.Common.{◌≡◌, ℕ, Bool, true, false, if◌then◌else◌, nat_le, ◌&&◌, List, [], ◌∷◌, ◌++◌, Option, Some, None, option_map, is_none, is_some, not, ap, sym, ◌∙◌, refl}
 use Rattle.kl1_model.specs.State.{Origin, Shoen, State, shoen_at}
-use Rattle.kl1_model.specs.Event.{syntax, Query, value, status, reports, modules, is_quiet, read, Reply, refuse, is_number}
+use Rattle.kl1_model.specs.Event.{syntax, Query, value, status, reports, modules, is_quiet, read, Reply, refuse, is_number, is_refused}
 use Rattle.kl1_model.specs.Asking.{reply_to, origin_at}
 use Rattle.kl1_model.specs.code.Steps.{value_of, status_of, reports_of}
 use Rattle.kl1_model.specs.Choice.{Chosen, first}
-use Rattle.kl1_model.specs.laws.TreeLaws.{is_refused}
 use Rattle.kl1_model_server.specs.Journal.{Journal, Kept, Done, done}
 use Rattle.kl1_run_work.specs.declared.ending.Ending.{Ending}
 use Rattle.kl1_run_work.specs.Answers.{value_text, value_line, ending_in, ending_of}

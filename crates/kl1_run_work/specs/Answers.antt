@@ -4,7 +4,8 @@ use Rattle.std.specs.List.{starts_with}
 use Rattle.std.specs.declared.result.Result.{Result}
 use Rattle.kl1_model.specs.declared.condition.Condition.{Condition}
 use Rattle.kl1_model.specs.declared.condition.Condition.TheVariants.{Terminated, Aborted, Stopped, Exhausted, Running}
-use Rattle.kl1_model.specs.declared.limits.TheConstants.{MOST_REPORTS}
+use Rattle.kl1_model.specs.declared.rules.Rules.TheVariants.{Four}
+use Rattle.kl1_model.specs.Rules.{limits_of}
 use Rattle.kl1_model.specs.Print.{cut_print}
 use Rattle.kl1_model.specs.State.{Origin, State}
 use Rattle.kl1_model.specs.Event.{value, status, is_number, Reply, loaded, opened, sent, reduced, ran, shown, status_is, listed, quiet_is, welcome, bye, was_reset, refused}
@@ -80,9 +81,9 @@ reports_by (Some o) = map cut_print (elements_of o.reports)
 unfoldable pub reports_in : State → ℕ → List (List ℕ)
 reports_in s n = if is_number n then reports_by (origin_at n s.shoens) else []
 
--- as many of them as an account makes
+-- as many of them as an account makes by any rules
 unfoldable pub all_reports : State → ℕ → List (List ℕ)
-all_reports s n = take MOST_REPORTS (reports_in s n)
+all_reports s n = take (limits_of Four).reports (reports_in s n)
 
 -- whether a report tells an exception
 abbrev pub is_exception : List ℕ → Bool

@@ -8,6 +8,7 @@ ghost use Rattle.kl1_run_work.specs.Answers.{listed_in, is_exception, reports_in
 
 use crate::asked::ask;
 use kl1_command::UnbookedHost;
+use kl1_model::limits::MOST_LISTED;
 use kl1_user_events::{Listed, Query, Reply, ShoenNo};
 use std::alloc::{AllocError, Global};
 
@@ -15,7 +16,7 @@ use std::alloc::{AllocError, Global};
 pub(crate) const PAGE: u64 = 64;
 
 /// The most replies that list the reports of an account.
-const MOST_PAGES: u64 = 1_024;
+const MOST_PAGES: u64 = 262_144;
 
 /// The lines of a shoen's reports, and of the exceptions among them.
 #[derive(Drop)]
@@ -83,7 +84,7 @@ fn page_from<H: UnbookedHost>(
     shoen: ShoenNo,
     done: u64,
 ) -> Result<Listed, AllocError>
-    requires few { done < 65536 }
+    requires few { done < 16777216 }
     ensures page { IfOk result (λ page. (f : H.Reading) → H.fits host.new f → page ≡ take MOST_LISTED (drop done (reports_in (H.kept f host.new).state shoen.0))) }
     ensures same { (f : H.Reading) → H.fits host.new f → H.kept f host.new ≡ H.kept f host.old }
     ensures before { (f : H.Reading) → H.fits host.new f → H.fits host.old f }
@@ -113,6 +114,10 @@ pub(crate) fn reported_by<H: UnbookedHost>(
     for page in 0..MOST_PAGES {
         let listed = page_from(alloc, host, shoen, PAGE * page)?;
         put_page(listed.texts(), &mut reported)?;
+        // No report comes after a page that isn't full.
+        if listed.texts().len() < MOST_LISTED {
+            return Ok(reported);
+        }
     }
     Ok(reported)
 }

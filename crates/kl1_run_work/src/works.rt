@@ -27,7 +27,7 @@ pub struct Work {
     pub goal: Term,
     /// What the goal's shoen may be charged, in reductions.
     pub allowance: u64,
-    /// The most first steps that are done. After as many as a journal has entries more change nothing.
+    /// The most first steps that are done. Where a journal has an entry for each, more change nothing after it is full.
     pub steps: u64,
 }
 

@@ -1,16 +1,22 @@
 -- What is written for a line by what became of its entry.
 use Rattle.std.proofs.Common.{◌≡◌, ℕ, suc, Bool, true, false, List, ◌∷◌, ◌++◌, Option, Some, None, refl, sym, ap, ◌∙◌, if◌then◌else◌}
-use Rattle.std.specs.Prelude.{option_map, option_and_then}
+use Rattle.std.specs.Prelude.{option_and_then, is_some}
 use Rattle.kl1_model.specs.State.{State}
-use Rattle.kl1_model.specs.Event.{Event, Transition}
+use Rattle.kl1_model.specs.Event.{Event, Transition, is_refused}
 use Rattle.kl1_model.specs.Step.{step}
-use Rattle.kl1_model.specs.laws.TreeLaws.{is_refused}
 use Rattle.kl1_model_server.specs.Command.{reply_lines, written_lines}
-use Rattle.kl1_model_server.specs.Journal.{Entry, event_in}
+use Rattle.kl1_model_server.specs.Journal.{Entry, runs, entry_step}
 use Rattle.kl1_model_server.specs.JournalText.{entry_in}
 use Rattle.kl1_model_server.specs.Replay.{written_entries, written_fault}
 use Rattle.kl1_model_server.proofs.ReplayReplies.{written_step, written_entry}
+use Rattle.kl1_user_events.specs.Views.{event_of}
+use Rattle.kl1_user_events.specs.declared.event.Event as events
+use Rattle.kl1_journal_entries.specs.declared.deed.Deed.{Deed}
+use Rattle.kl1_journal_entries.specs.declared.deed.Deed.TheVariants as deed
+use Rattle.kl1_journal_entries.specs.Found.{deed_in}
+use Rattle.kl1_journal_entries.specs.Lined.{entry_of}
 use Rattle.kl1_script.specs.Replays.{if_accepted, accepted_in}
+use Rattle.kl1_script.proofs.FirstSteps.{event_does}
 
 not_refused : (v : Bool) (y x : Transition) → (if v then None else Some y) ≡ Some x → v ≡ false
 not_refused true y x e = cc
@@ -28,37 +34,39 @@ step_accepted : (next : State → List ℕ) (k : ℕ) (y x : Transition) → if_
 step_accepted next k y x e =
     rw (not_refused (is_refused y.reply) y x e) (ap (λ (z : Transition). written_lines (reply_lines z.reply) ++ next z.state) (same_step (is_refused y.reply) y x e))
 
-entry_accepted : (next : State → List ℕ) (k : ℕ) (s : State) (o : Option Entry) (x : Transition) → option_and_then (λ e. if_accepted (step s (event_in e))) o ≡ Some x → written_entry next k s o ≡ written_lines (reply_lines x.reply) ++ next x.state
+entry_accepted : (next : State → List ℕ) (k : ℕ) (s : State) (o : Option Entry) (x : Transition) → option_and_then (λ e. if_accepted (entry_step s e)) o ≡ Some x → written_entry next k s o ≡ written_lines (reply_lines x.reply) ++ next x.state
 entry_accepted next k s None x h = cc
-entry_accepted next k s (Some e) x h = step_accepted next k (step s (event_in e)) x h
+entry_accepted next k s (Some e) x h = step_accepted next k (entry_step s e) x h
 
 -- an entry that is accepted
 pub one_accepted : (k n : ℕ) (s : State) (line : List ℕ) (lines : List (List ℕ)) (rest : List ℕ) (x : Transition) → accepted_in s line ≡ Some x → written_entries k n s (line ∷ lines) rest ≡ written_lines (reply_lines x.reply) ++ written_entries (suc k) (suc n) x.state lines rest
 one_accepted k n s line lines rest x h = entry_accepted (λ after. written_entries (suc k) (suc n) after lines rest) k s (entry_in line) x h
 
-entry_fault : (next : State → List ℕ) (k : ℕ) (s : State) (o : Option Entry) → option_and_then (λ e. if_accepted (step s (event_in e))) o ≡ None → written_entry next k s o ≡ written_fault k
+entry_fault : (next : State → List ℕ) (k : ℕ) (s : State) (o : Option Entry) → option_and_then (λ e. if_accepted (entry_step s e)) o ≡ None → written_entry next k s o ≡ written_fault k
 entry_fault next k s None h = refl
-entry_fault next k s (Some e) h = rw (refused (is_refused (step s (event_in e)).reply) (step s (event_in e)) h) refl
+entry_fault next k s (Some e) h = rw (refused (is_refused (entry_step s e).reply) (entry_step s e) h) refl
 
 -- a line that is no entry's, or whose entry is refused
 pub one_fault : (k n : ℕ) (s : State) (line : List ℕ) (lines : List (List ℕ)) (rest : List ℕ) → accepted_in s line ≡ None → written_entries k n s (line ∷ lines) rest ≡ written_fault k
 one_fault k n s line lines rest h = entry_fault (λ after. written_entries (suc k) (suc n) after lines rest) k s (entry_in line) h
 
-found_none : (o : Option Entry) → option_map event_in o ≡ None → o ≡ None
-found_none None e = refl
-found_none (Some x) e = cc
-
 -- a line that is no entry's
-pub no_entry : (s : State) (line : List ℕ) (found : Option Event) → found ≡ option_map event_in (entry_in line) → found ≡ None → accepted_in s line ≡ None
-no_entry s line found is none = rw (found_none (entry_in line) (sym is ∙ none)) refl
+pub no_entry : (s : State) (line : List ℕ) (found : Option Entry) → found ≡ entry_in line → found ≡ None → accepted_in s line ≡ None
+no_entry s line found is none = rw (sym is ∙ none) refl
 
-found_some : (s : State) (e : Event) (o : Option Entry) → option_map event_in o ≡ Some e → option_and_then (λ x. if_accepted (step s (event_in x))) o ≡ if_accepted (step s e)
-found_some s e None h = cc
-found_some s e (Some x) h = ap (λ (y : Event). if_accepted (step s y)) (same_some (event_in x) e h)
-  where
-    same_some : (x y : Event) → Some x ≡ Some y → x ≡ y
-    same_some x y h = cc
+-- the event of a line that is an entry's
+event_by : (s : State) (o : Option Entry) (e : Event) → entry_of e ≡ o → is_some o ≡ true → option_and_then (λ d. if_accepted (entry_step s d)) o ≡ if_accepted (step s e)
+event_by s None e is some = cc
+event_by s (Some x) e is some = ap if_accepted (event_does e x s is)
 
--- a line whose entry is this event
-pub some_entry : (s : State) (line : List ℕ) (e : Event) (found : Option Event) → found ≡ option_map event_in (entry_in line) → found ≡ Some e → accepted_in s line ≡ if_accepted (step s e)
-some_entry s line e found is some = found_some s e (entry_in line) (sym is ∙ some)
+-- a line whose entry asks for this event
+pub event_entry : (s : State) (line : List ℕ) (found : Option Deed) (d : Deed) (e : events.Event) → found ≡ Some d → d ≡ deed.Event e → option_and_then deed_in found ≡ entry_in line → is_some found ≡ is_some (entry_in line) → accepted_in s line ≡ if_accepted (step s (event_of e))
+event_entry s line found d e some what is same =
+    let asked : found ≡ Some (deed.Event e) = some ∙ ap (λ (x : Deed). let o : Option Deed = Some x in o) what in
+    event_by s (entry_in line) (event_of e) (sym (ap (option_and_then deed_in) asked) ∙ is) (sym same ∙ ap is_some asked)
+
+-- a line whose entry is this run
+pub run_entry : (s : State) (line : List ℕ) (found : Option Deed) (d : Deed) (n : ℕ) → found ≡ Some d → d ≡ deed.Run n → option_and_then deed_in found ≡ entry_in line → accepted_in s line ≡ if_accepted (entry_step s (runs n))
+run_entry s line found d n some what is =
+    let asked : found ≡ Some (deed.Run n) = some ∙ ap (λ (x : Deed). let o : Option Deed = Some x in o) what in
+    ap (option_and_then (λ e. if_accepted (entry_step s e))) (sym is ∙ ap (option_and_then deed_in) asked)

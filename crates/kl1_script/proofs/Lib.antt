@@ -5,5 +5,6 @@ pub mod Endings
 pub mod RecordReplies
 pub mod NewNames
 pub mod LinesOfNames
+pub mod FirstSteps
 pub mod Accepted
 pub mod EntryReplies

@@ -1,11 +1,10 @@
 -- How the lines of names go on, and end.
-use Rattle.std.proofs.Common.{◌≡◌, ℕ, zero, suc, ◌+◌, Bool, true, false, List, [], ◌∷◌, ◌++◌, Option, Some, None, refl, ap, ◌∙◌, if◌then◌else◌}
+use Rattle.std.proofs.Common.{◌≡◌, ℕ, suc, ◌+◌, true, false, List, [], ◌∷◌, ◌++◌, Some, None, refl, ap, ◌∙◌, if◌then◌else◌}
 use Rattle.kl1_model.specs.declared.rules.Rules.{Rules}
 use Rattle.kl1_model_server.specs.JournalText.{Lines, name_in, is_new_name}
 use Rattle.kl1_model_server.specs.Replay.{written_names, written_fault}
 use Rattle.kl1_model_server.proofs.ReplayReplies.{written_name}
 use Rattle.kl1_journal_entries.specs.Reading.{with_line}
-use Rattle.kl1_script.specs.Replays.{name_replies}
 use Rattle.kl1_script.specs.Names.{GoesOn, EndsAt}
 
 -- no line is read yet

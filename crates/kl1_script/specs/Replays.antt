@@ -2,22 +2,20 @@
 use Rattle.std.specs.Prelude.{ℕ, zero, suc, if◌then◌else◌, List, [], ◌∷◌, ◌++◌, Option, Some, None, option_and_then}
 use Rattle.kl1_model.specs.declared.rules.Rules.{Rules}
 use Rattle.kl1_model.specs.State.{State, fresh_with}
-use Rattle.kl1_model.specs.Event.{Transition}
-use Rattle.kl1_model.specs.Step.{step}
-use Rattle.kl1_model.specs.laws.TreeLaws.{is_refused}
+use Rattle.kl1_model.specs.Event.{Transition, is_refused}
 use Rattle.kl1_model_server.specs.Command.{reply_lines, written_lines}
-use Rattle.kl1_model_server.specs.Journal.{event_in}
+use Rattle.kl1_model_server.specs.Journal.{entry_step}
 use Rattle.kl1_model_server.specs.JournalText.{Heading, Lines, entry_in, name_in, is_new_name, heading_in, lines_of}
 use Rattle.kl1_model_server.specs.Replay.{replay_name, written_fault, written_rest}
 use Rattle.kl1_lines.specs.Replies.{Written}
 
--- what became of an event, if it is accepted
+-- what became of an event or an entry, if it is accepted
 abbrev pub if_accepted : Transition → Option Transition
 if_accepted x = if is_refused x.reply then None else Some x
 
 -- what became of the entry of a line, if it is one and is accepted
 abbrev pub accepted_in : State → List ℕ → Option Transition
-accepted_in s line = option_and_then (λ e. if_accepted (step s (event_in e))) (entry_in line)
+accepted_in s line = option_and_then (λ e. if_accepted (entry_step s e)) (entry_in line)
 
 -- the reply to an entry, with those to the entries after it; nothing if it isn't accepted
 abbrev pub reply_then : (State → List (List ℕ)) → Option Transition → List (List ℕ)

@@ -4,6 +4,7 @@ ghost use Rattle.std.specs.Prelude.{◌≡◌, ◌++◌, ◌<◌, length, IfOk, 
 ghost use Rattle.kl1_model.specs.declared.limits.TheConstants.{MOST_WAITING_BYTES};
 ghost use Rattle.kl1_model.specs.Step.{step};
 ghost use Rattle.kl1_user_events.specs.Views.{event_of};
+ghost use Rattle.kl1_model_server.specs.Journal.{runs, entry_step};
 ghost use Rattle.kl1_user.specs.Accounts.{Reading, Fits, state_of};
 ghost use Rattle.kl1_script.specs.Replays.{if_accepted, accepted_in};
 ghost use Rattle.kl1_script.specs.Steps.{Went, told_of};
@@ -13,7 +14,7 @@ use crate::replayed::Replayed;
 use kl1_atoms::AtomSource;
 use kl1_codes::CodeSource;
 use kl1_command::put_reply;
-use kl1_journal_entries::{entry_of, next_line};
+use kl1_journal_entries::{Deed, entry_of, next_line};
 use kl1_lines::{NextReply, Replies};
 use kl1_user_events::{Event, Reply};
 use std::alloc::{AllocError, Global};
@@ -40,6 +41,27 @@ fn put_event<A: AtomSource + Drop, C: CodeSource + Drop>(
     }
 }
 
+/// Does a run, and puts its reply after the bytes, unless it is refused. Answers whether it was accepted. After an `Err` the bytes are as
+/// they were, and some of the run may be done.
+fn put_run<A: AtomSource + Drop, C: CodeSource + Drop>(
+    replayed: &mut Replayed<A, C>,
+    reductions: u64,
+    out: &mut Vec<u8>,
+) -> Result<bool, AllocError>
+    requires few { length out.old.items < MOST_WAITING_BYTES }
+    ensures went { IfOk result (λ accepted. (f : Reading) → Fits replayed.new.names f → Went accepted (if_accepted (entry_step (state_of f replayed.old) (runs reductions))) (state_of f replayed.new)) }
+    ensures told { OnOk result ((f : Reading) → Fits replayed.new.names f → out.new.items ≡ out.old.items ++ told_of (if_accepted (entry_step (state_of f replayed.old) (runs reductions)))) }
+    ensures before { (f : Reading) → Fits replayed.new.names f → Fits replayed.old.names f }
+    ensures err { OnErr result (out.new.items ≡ out.old.items) }
+{
+    let accepted = replayed.run(reductions)?;
+    if !accepted {
+        return Ok(false);
+    }
+    put_reply(out, &Reply::Ran(reductions))?;
+    Ok(true)
+}
+
 /// Does the entry of a line, if it is one, and puts its reply after the bytes, unless it is refused. Answers whether it was accepted.
 /// After an `Err` the bytes are as they were, and the entry may be done.
 fn put_entry<A: AtomSource + Drop, C: CodeSource + Drop>(
@@ -56,7 +78,8 @@ fn put_entry<A: AtomSource + Drop, C: CodeSource + Drop>(
 {
     match entry_of(alloc, line)? {
         None => Ok(false),
-        Some(event) => put_event(replayed, &event, out),
+        Some(Deed::Event(event)) => put_event(replayed, &event, out),
+        Some(Deed::Run(reductions)) => put_run(replayed, reductions, out),
     }
 }
 

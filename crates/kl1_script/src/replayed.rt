@@ -4,10 +4,13 @@ ghost use Rattle.std.specs.Prelude.{◌≡◌, ◌≤◌, [], length, IfOk, OnEr
 ghost use Rattle.kl1_model.specs.declared.limits.TheConstants.{MOST_NAMES};
 ghost use Rattle.kl1_model.specs.State.{fresh_with};
 ghost use Rattle.kl1_model.specs.Step.{step};
+ghost use Rattle.kl1_model_server.specs.Journal.{runs, first_step, entry_step};
 ghost use Rattle.kl1_model_server.specs.Replay.{replay_name};
 ghost use Rattle.kl1_atoms.specs.Names.{AreNames};
 ghost use Rattle.kl1_user_events.specs.Views.{event_of, reply_of};
 ghost use Rattle.kl1_user.specs.Accounts.{Reading, Fits, IsNameList, state_of};
+ghost use Rattle.kl1_script.specs.Replays.{if_accepted};
+ghost use Rattle.kl1_script.specs.Steps.{Went};
 
 use kl1_atoms::AtomSource;
 use kl1_codes::CodeSource;
@@ -28,7 +31,7 @@ pub(crate) struct Replayed<A: AtomSource + Drop, C: CodeSource + Drop> {
 
 impl<A: AtomSource + Drop, C: CodeSource + Drop> Model for Replayed<A, C> {
     ghost use Rattle.std.specs.Coded.{codes};
-    ghost use Rattle.kl1_codes_modules.specs.Numbered.{numbered_code, ArePlaced};
+    ghost use Rattle.kl1_codes.specs.Numbered.{numbered_code, ArePlaced};
     ghost use Rattle.kl1_user.specs.Accounts.{Account as Kept};
 
     ghost Value = { Kept };
@@ -84,6 +87,47 @@ impl<A: AtomSource + Drop, C: CodeSource + Drop> Replayed<A, C> {
             &mut self.code_source,
             event,
         )
+    }
+
+    /// Does a first reduction. Answers whether one was done: none can be, or it is refused. If memory is refused, the account is as before.
+    fn step(&mut self) -> Result<bool, AllocError>
+        ensures step { IfOk result (λ accepted. (f : Reading) → Fits self.new.names f → Went accepted (if_accepted (first_step (state_of f self.old))) (state_of f self.new)) }
+        ensures before { (f : Reading) → Fits self.new.names f → Fits self.old.names f }
+        ensures err { OnErr result (self.new ≡ self.old) }
+    {
+        match self.user.pick() {
+            None => Ok(false),
+            Some((goal, clause)) => {
+                let refused = self.user.reduce(
+                    &mut self.names,
+                    &mut self.seat,
+                    &self.code_source,
+                    goal,
+                    clause,
+                )?;
+                Ok(refused.is_none())
+            }
+        }
+    }
+
+    /// Does first reductions, one after another, `reductions` of them. Answers whether all were done; rules without runs refuse them. If
+    /// memory is refused, some may be done.
+    pub(crate) fn run(&mut self, reductions: u64) -> Result<bool, AllocError>
+        ensures step { IfOk result (λ accepted. (f : Reading) → Fits self.new.names f → Went accepted (if_accepted (entry_step (state_of f self.old) (runs reductions))) (state_of f self.new)) }
+        ensures before { (f : Reading) → Fits self.new.names f → Fits self.old.names f }
+    {
+        if !self.user.rules().has_runs() {
+            return Ok(false);
+        }
+        let mut left = reductions;
+        while left > 0 {
+            let accepted = self.step()?;
+            if !accepted {
+                return Ok(false);
+            }
+            left -= 1;
+        }
+        Ok(true)
     }
 
     /// Tells a caller's proof that the names of the account are one to one with their numbers. It does nothing.

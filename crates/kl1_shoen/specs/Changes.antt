@@ -1,6 +1,6 @@
 -- What becomes of one shoen.
 use Rattle.std.specs.Prelude.{◌+◌, min, true, option_map}
-use Rattle.kl1_model.specs.declared.limits.TheConstants.{MOST_ALLOWANCE}
+use Rattle.kl1_model.specs.Reduction.{grown}
 use Rattle.kl1_store.specs.declared.cell.Cell.{Cell}
 use Rattle.kl1_shoen_paths.specs.declared.shoen.Shoen.{Shoen}
 use Rattle.kl1_shoen_paths.specs.declared.shoen.Origin.{Origin}
@@ -18,5 +18,5 @@ changed_by (Control control) h = record h { control = control }
 changed_by (OriginControl control) h = record h { origin = option_map (with_control control) h.origin }
 changed_by Breaks h = record h { is_broken = true }
 changed_by (Stopped is_stopped) h = record h { is_stopped = is_stopped }
-changed_by (Allows extra) h = record h { allowance = min (h.allowance + extra) MOST_ALLOWANCE }
+changed_by (Allows extra) h = record h { allowance = grown h.allowance extra }
 changed_by (Ends life) h = record h { life = life }

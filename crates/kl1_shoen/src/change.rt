@@ -1,7 +1,7 @@
 // What becomes of one shoen.
 
 ghost use Rattle.std.specs.Prelude.{◌≡◌, ◌+◌, min, option_map};
-ghost use Rattle.kl1_model.specs.declared.limits.TheConstants.{MOST_ALLOWANCE};
+ghost use Rattle.kl1_model.specs.Reduction.{grown};
 ghost use Rattle.kl1_shoen.specs.Changes.{changed_by, with_control as kept_with};
 
 use kl1_model::Life;
@@ -31,10 +31,10 @@ pub enum Change<N> {
 
 /// An allowance, in reductions, after it was raised: it ends at the greatest there is.
 fn raised(allowance: u64, extra: u64) -> u64
-    ensures { result ≡ min (allowance + extra) MOST_ALLOWANCE }
+    ensures { result ≡ grown allowance extra }
 {
     if MOST_ALLOWANCE <= allowance {
-        return MOST_ALLOWANCE;
+        return allowance;
     }
     if MOST_ALLOWANCE - allowance <= extra {
         return MOST_ALLOWANCE;

@@ -5,7 +5,7 @@ use Rattle.std.proofs.lemmas.List.{drop_all}
 use Rattle.std.proofs.lemmas.Option.{get_or_from_slice_get, slice_get_within}
 use Rattle.kl1_model.specs.declared.built_in.BuiltIn.{BuiltIn}
 use Rattle.kl1_model.specs.Term.{Term, Terms, none, more, size, sizes}
-use Rattle.kl1_model.specs.Unify.{Equation, front, mgu, argument_equations, equations_size}
+use Rattle.kl1_model.specs.Unify.{Equation, transformed, mgu, argument_equations, equations_size}
 use Rattle.kl1_model.specs.code.Unifying.{after, bound_to}
 use Rattle.kl1_model.proofs.UnifyRule.{front_decides}
 use Rattle.kl1_model.proofs.EqualSides.{equal_sides_dropped}
@@ -80,7 +80,7 @@ turn_waiting f h ps p l r x y turn =
 
 -- what a turn comes to, by its front equation
 turn_decides : {N : Type 0} (f : N → List ℕ) (h : Held N) (ps : List Frame) (p : Frame) (l r x y : Cell N) → Turn h p l r x y →
-    mgu (waiting f h [] (ps ++ p ∷ [])) ≡ after mgu mgu (front (term_of f h x) (term_of f h y) (waiting f h [] (ps ++ onward p ∷ [])))
+    mgu (waiting f h [] (ps ++ p ∷ [])) ≡ after mgu mgu (transformed (term_of f h x) (term_of f h y) (waiting f h [] (ps ++ onward p ∷ [])))
 turn_decides f h ps p l r x y turn =
     ap mgu (turn_waiting f h ps p l r x y turn)
     ∙ front_decides (record { left = term_of f h x; right = term_of f h y }) (waiting f h [] (ps ++ onward p ∷ []))

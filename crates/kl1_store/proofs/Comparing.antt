@@ -8,7 +8,7 @@ use Rattle.std.proofs.lemmas.Bool.{false≢true, cond-true, cond-false, ne_eqb, 
 use Rattle.std.proofs.lemmas.Slice.Eq.{bytes_eq-Decides}
 use Rattle.kl1_model.specs.declared.built_in.BuiltIn.{BuiltIn}
 use Rattle.kl1_model.specs.Term.{Term, variable, integer, atom, structure, Terms, none, more, count_of, size}
-use Rattle.kl1_model.specs.Unify.{Equation, goes_on, fails, front, argument_equations, equations_size}
+use Rattle.kl1_model.specs.Unify.{Equation, remains, conflicts, transformed, argument_equations, equations_size}
 use Rattle.kl1_model.specs.Same.{clash, any_clash}
 use Rattle.kl1_model.specs.code.Awaited.{awaited, all_awaited}
 use Rattle.kl1_model.proofs.Clashes.{no_clash}
@@ -134,15 +134,15 @@ looked_right built h x y v ps waits longer p pairs ey wy inside value e =
     (λ f. ap (clash (term_of f h x)) (stands_for f h y v ey wy) ∙ clash-right (term_of f h x) v)
     (λ f. ap (awaited (term_of f h x)) (stands_for f h y v ey wy) ∙ awaited-right v (term_of f h x) (positive f h x p inside value)) e
 
-fails_if : (c : Bool) (l : List Equation) → (if c then goes_on l else fails) ≡ fails → c ≡ false
+fails_if : (c : Bool) (l : List Equation) → (if c then remains l else conflicts) ≡ conflicts → c ≡ false
 fails_if true l e = absurd (cc)
 fails_if false l e = refl
 
-goes_if : (c : Bool) (l m : List Equation) → (if c then goes_on l else fails) ≡ goes_on m → c ≡ true
+goes_if : (c : Bool) (l m : List Equation) → (if c then remains l else conflicts) ≡ remains m → c ≡ true
 goes_if true l m e = refl
 goes_if false l m e = absurd (cc)
 
-clash_from_front : (t u : Term) → 0 < term_kind t → 0 < term_kind u → front t u [] ≡ fails → clash t u ≡ true
+clash_from_front : (t u : Term) → 0 < term_kind t → 0 < term_kind u → transformed t u [] ≡ conflicts → clash t u ≡ true
 clash_from_front (variable v) u p q e = absurd (omega arith)
 clash_from_front (integer i) (variable w) p q e = absurd (omega arith)
 clash_from_front (integer i) (integer j) p q e = not_from_false (int_eq i j) (fails_if (int_eq i j) [] e)
@@ -181,8 +181,8 @@ opened_structures {N = N} f h x y p formed opens =
     let l = ap (term_of f h) opens.left ∙ term_of-Structure f h p.left a.0 formed a.1 in
     let r = ap (term_of f h) opens.right ∙ term_of-Structure f h p.right b.0 formed b.1 in
     let P : ℕ → Type 0 = λ n. Structures (term_of f h x) (term_of f h y) (terms_of f h (drop n (arguments_of h p.left))) (terms_of f h (drop n (arguments_of h p.right))) in
-    let leads : front (structure (f a.0) ts) (structure (f b.0) us) [] ≡ goes_on (rest_of f h p []) =
-    ap (λ t. front t (structure (f b.0) us) []) (sym l) ∙ ap (λ u. front (term_of f h x) u []) (sym r) ∙ opens.leads f [] in
+    let leads : transformed (structure (f a.0) ts) (structure (f b.0) us) [] ≡ remains (rest_of f h p []) =
+    ap (λ t. transformed t (structure (f b.0) us) []) (sym l) ∙ ap (λ u. transformed (term_of f h x) u []) (sym r) ∙ opens.leads f [] in
     subst P (sym opens.start) (record {
       left_name = f a.0;
       right_name = f b.0;
@@ -345,7 +345,7 @@ pub left_looks : {N : Type 0} (built : BuiltIn → N) (h : Held N) (l r : Cell N
 left_looks {N = N} built h l r start waits longer ds before ps between now p q x y i e are is turn c = (
   record {
     pairs = c.pairs;
-    clash = λ f reads w. i.clash f reads (ap clash_among (front f) ∙ sym (c.clash f reads) ∙ w);
+    clash = λ f reads w. i.clash f reads (ap clash_among (transformed f) ∙ sym (c.clash f reads) ∙ w);
     found = λ f reads v a. by_part f reads v (of_split v waits _ (whole f reads v (of_first v longer (awaited_among (waiting f h [] now)) a)));
     rest = λ f reads v a. by_part f reads v (of_split v waits _ (whole f reads v (of_second v longer (awaited_among (waiting f h [] now)) a)));
     kept = λ f reads v a. looked_more built f h x y between now waits longer reads c.either v (i.kept f reads v a);
@@ -355,14 +355,14 @@ left_looks {N = N} built h l r start waits longer ds before ps between now p q x
         (left_expects f h (term_of f h l) (term_of f h r) waits before ps between p q x y e are is turn (i.under f reads)));
     done = λ f reads. each_more (structure_term f h) waits longer (looked_more built f h x y between now waits longer reads c.either) ds (i.done f reads);
   },
-  omega (arith, ap equations_size (front unread), c.less, ap length e, ap length are, length-append ps (p ∷ []), length-append ps (q ∷ [])),
+  omega (arith, ap equations_size (transformed unread), c.less, ap length e, ap length are, length-append ps (p ∷ []), length-append ps (q ∷ [])),
 )
   where
-    front : (f : N → List ℕ) → waiting f h [] before ≡ record { left = term_of f h x; right = term_of f h y } ∷ waiting f h [] between
-    front f = turn_front f h before ps between p q x y e are is turn
+    transformed : (f : N → List ℕ) → waiting f h [] before ≡ record { left = term_of f h x; right = term_of f h y } ∷ waiting f h [] between
+    transformed f = turn_front f h before ps between p q x y e are is turn
 
     whole : (f : N → List ℕ) → Reads built f → (v : ℕ) → IsOf v (longer ++ awaited_among (waiting f h [] now)) → IsOf v (waits ++ awaited_among (waiting f h [] before))
-    whole f reads v a = let L : List ℕ → Type 0 = λ k. IsOf v k in subst L (c.awaited f reads ∙ ap (λ es. waits ++ awaited_among es) (sym (front f))) a
+    whole f reads v a = let L : List ℕ → Type 0 = λ k. IsOf v k in subst L (c.awaited f reads ∙ ap (λ es. waits ++ awaited_among es) (sym (transformed f))) a
 
     by_part : (f : N → List ℕ) → Reads built f → (v : ℕ) → IsOf v waits ⊎ IsOf v (awaited_among (waiting f h [] before)) → IsOf v start ⊎ IsOf v (awaited (term_of f h l) (term_of f h r))
     by_part f reads v (inl a) = i.found f reads v a
@@ -374,7 +374,7 @@ pub left_skips : {N : Type 0} (built : BuiltIn → N) (h : Held N) (l r : Cell N
 left_skips {N = N} built h l r start waits ds before ps between p q x y i e are is turn le known = (
   record {
     pairs = onward_pushed h before ps between p q i.pairs e are is le;
-    clash = λ f reads w. i.clash f reads (ap clash_among (front f) ∙ or_right (clash (term_of f h x) (term_of f h y)) (clash_among (waiting f h [] between)) w);
+    clash = λ f reads w. i.clash f reads (ap clash_among (transformed f) ∙ or_right (clash (term_of f h x) (term_of f h y)) (clash_among (waiting f h [] between)) w);
     found = i.found;
     rest = λ f reads v a. i.rest f reads v (later f v a);
     kept = i.kept;
@@ -383,14 +383,14 @@ left_skips {N = N} built h l r start waits ds before ps between p q x y i e are 
         (left_expects f h (term_of f h l) (term_of f h r) waits before ps between p q x y e are is turn (i.under f reads)) (is_done f reads);
     done = i.done;
   },
-  omega (arith, ap equations_size (front unread), ap length e, ap length are, length-append ps (p ∷ []), length-append ps (q ∷ [])),
+  omega (arith, ap equations_size (transformed unread), ap length e, ap length are, length-append ps (p ∷ []), length-append ps (q ∷ [])),
 )
   where
-    front : (f : N → List ℕ) → waiting f h [] before ≡ record { left = term_of f h x; right = term_of f h y } ∷ waiting f h [] between
-    front f = turn_front f h before ps between p q x y e are is turn
+    transformed : (f : N → List ℕ) → waiting f h [] before ≡ record { left = term_of f h x; right = term_of f h y } ∷ waiting f h [] between
+    transformed f = turn_front f h before ps between p q x y e are is turn
 
     later : (f : N → List ℕ) (v : ℕ) → IsOf v (awaited_among (waiting f h [] between)) → IsOf v (awaited_among (waiting f h [] before))
-    later f v a = let L : List Equation → Type 0 = λ k. IsOf v (awaited_among k) in subst L (sym (front f)) (of_second v (awaited (term_of f h x) (term_of f h y)) (awaited_among (waiting f h [] between)) a)
+    later f v a = let L : List Equation → Type 0 = λ k. IsOf v (awaited_among k) in subst L (sym (transformed f)) (of_second v (awaited (term_of f h x) (term_of f h y)) (awaited_among (waiting f h [] between)) a)
 
     is_done : (f : N → List ℕ) → Reads built f → IsDone waits (term_of f h x) (term_of f h y)
     is_done f reads =

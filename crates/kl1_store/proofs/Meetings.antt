@@ -7,7 +7,7 @@ use Rattle.std.proofs.lemmas.Bool.{ne_eqb, eq-eqb, lt-ltb, le-ltb, cond-true, co
 use Rattle.std.proofs.lemmas.Bool.Decides.{Decides-int_eq}
 use Rattle.kl1_model.specs.declared.built_in.BuiltIn.{BuiltIn}
 use Rattle.kl1_model.specs.Term.{Term, variable, integer, atom, structure, count_of}
-use Rattle.kl1_model.specs.Unify.{Equation, goes_on, fails, binds, front, argument_equations}
+use Rattle.kl1_model.specs.Unify.{Equation, remains, conflicts, eliminates, transformed, argument_equations}
 use Rattle.kl1_model.specs.code.Unifying.{bound_to}
 use Rattle.kl1_text.specs.Reading.{Reads}
 use Rattle.kl1_store.specs.declared.cell.Cell.{Cell}
@@ -57,7 +57,7 @@ no_variable (Integer i) value = omega arith
 no_variable (Atom a) value = omega arith
 no_variable (Structure s) value = omega arith
 
-front-kinds : (t u : Term) (es : List Equation) → 0 < term_kind t → 0 < term_kind u → (term_kind t ≡ term_kind u → ⊥) → front t u es ≡ fails
+front-kinds : (t u : Term) (es : List Equation) → 0 < term_kind t → 0 < term_kind u → (term_kind t ≡ term_kind u → ⊥) → transformed t u es ≡ conflicts
 front-kinds (variable v) u es p q ne = absurd (omega arith)
 front-kinds (integer i) (variable v) es p q ne = absurd (omega arith)
 front-kinds (integer i) (integer j) es p q ne = absurd (ne refl)
@@ -72,13 +72,13 @@ front-kinds (structure b us) (integer j) es p q ne = refl
 front-kinds (structure b us) (atom a) es p q ne = refl
 front-kinds (structure b us) (structure a ts) es p q ne = absurd (ne refl)
 
-front-left : (v : ℕ) (t : Term) (es : List Equation) → 0 < term_kind t → front (variable v) t es ≡ bound_to v t es
+front-left : (v : ℕ) (t : Term) (es : List Equation) → 0 < term_kind t → transformed (variable v) t es ≡ bound_to v t es
 front-left v (variable w) es p = absurd (omega arith)
 front-left v (integer i) es p = refl
 front-left v (atom a) es p = refl
 front-left v (structure a ts) es p = refl
 
-front-right : (v : ℕ) (t : Term) (es : List Equation) → 0 < term_kind t → front t (variable v) es ≡ bound_to v t es
+front-right : (v : ℕ) (t : Term) (es : List Equation) → 0 < term_kind t → transformed t (variable v) es ≡ bound_to v t es
 front-right v (variable w) es p = absurd (omega arith)
 front-right v (integer i) es p = refl
 front-right v (atom a) es p = refl
@@ -127,7 +127,7 @@ takes_left h v r p inside unbound known value = record {
   one = λ p q. p;
   sides = inl (refl, refl);
   leads = λ f es.
-      ap (λ t. front t (term_of f h r) es) (term_of-unbound f h v unbound)
+      ap (λ t. transformed t (term_of f h r) es) (term_of-unbound f h v unbound)
       ∙ front-left v (term_of f h r) es (let k = kind_kept f h r p known value in omega (arith, no_variable r value));
 }
 
@@ -137,26 +137,26 @@ takes_right h v l p inside unbound known value = record {
   one = λ p q. q;
   sides = inr (refl, refl);
   leads = λ f es.
-      ap (λ t. front (term_of f h l) t es) (term_of-unbound f h v unbound)
+      ap (λ t. transformed (term_of f h l) t es) (term_of-unbound f h v unbound)
       ∙ front-right v (term_of f h l) es (let k = kind_kept f h l p known value in omega (arith, no_variable l value));
 }
 
 -- of two variables the higher takes the lower
-front-lower : (v w : ℕ) (es : List Equation) → v < w → front (variable v) (variable w) es ≡ bound_to w (variable v) es
+front-lower : (v w : ℕ) (es : List Equation) → v < w → transformed (variable v) (variable w) es ≡ bound_to w (variable v) es
 front-lower v w es lt =
-    cond-false (v == w) (goes_on es) (if nat_lt v w then binds w (variable v) es else binds v (variable w) es) (ne_eqb v w (λ e. omega arith))
-    ∙ cond-true (nat_lt v w) (binds w (variable v) es) (binds v (variable w) es) (lt-ltb v w lt)
-    ∙ sym (cond-false (w == v) fails (binds w (variable v) es) (ne_eqb w v (λ e. omega arith)))
+    cond-false (v == w) (remains es) (if nat_lt v w then eliminates w (variable v) es else eliminates v (variable w) es) (ne_eqb v w (λ e. omega arith))
+    ∙ cond-true (nat_lt v w) (eliminates w (variable v) es) (eliminates v (variable w) es) (lt-ltb v w lt)
+    ∙ sym (cond-false (w == v) conflicts (eliminates w (variable v) es) (ne_eqb w v (λ e. omega arith)))
 
-front-higher : (v w : ℕ) (es : List Equation) → w < v → front (variable v) (variable w) es ≡ bound_to v (variable w) es
+front-higher : (v w : ℕ) (es : List Equation) → w < v → transformed (variable v) (variable w) es ≡ bound_to v (variable w) es
 front-higher v w es lt =
-    cond-false (v == w) (goes_on es) (if nat_lt v w then binds w (variable v) es else binds v (variable w) es) (ne_eqb v w (λ e. omega arith))
-    ∙ cond-false (nat_lt v w) (binds w (variable v) es) (binds v (variable w) es) (le-ltb v w (omega arith))
-    ∙ sym (cond-false (v == w) fails (binds v (variable w) es) (ne_eqb v w (λ e. omega arith)))
+    cond-false (v == w) (remains es) (if nat_lt v w then eliminates w (variable v) es else eliminates v (variable w) es) (ne_eqb v w (λ e. omega arith))
+    ∙ cond-false (nat_lt v w) (eliminates w (variable v) es) (eliminates v (variable w) es) (le-ltb v w (omega arith))
+    ∙ sym (cond-false (v == w) conflicts (eliminates v (variable w) es) (ne_eqb v w (λ e. omega arith)))
 
 both_unbound : {N : Type 0} (f : N → List ℕ) (h : Held N) (v w : ℕ) (es : List Equation) → is_bound v h.bindings ≡ false → is_bound w h.bindings ≡ false →
-    front (term_of f h (Variable v)) (term_of f h (Variable w)) es ≡ front (variable v) (variable w) es
-both_unbound f h v w es p q = ap (λ t. front t (term_of f h (Variable w)) es) (term_of-unbound f h v p) ∙ ap (λ t. front (variable v) t es) (term_of-unbound f h w q)
+    transformed (term_of f h (Variable v)) (term_of f h (Variable w)) es ≡ transformed (variable v) (variable w) es
+both_unbound f h v w es p q = ap (λ t. transformed t (term_of f h (Variable w)) es) (term_of-unbound f h v p) ∙ ap (λ t. transformed (variable v) t es) (term_of-unbound f h w q)
 
 pub takes_lower : {N : Type 0} (h : Held N) (v w : ℕ) → suc w ≤ h.variables → is_bound v h.bindings ≡ false → is_bound w h.bindings ≡ false → v < w → Takes h (Variable v) (Variable w) w (Variable v)
 takes_lower h v w inside p q lt = record {
@@ -176,16 +176,16 @@ takes_higher h v w inside p q lt = record {
 
 pub integers_clash : {N : Type 0} (built : BuiltIn → N) (h : Held N) (i j : ℤ) → (i ≡ j → ⊥) → MeetsAs built h (Integer i) (Integer j) Clash
 integers_clash built h i j ne = λ f reads es.
-    ap (λ t. front t (term_of f h (Integer j)) es) (term_of-Integer f h i) ∙ ap (λ t. front (integer i) t es) (term_of-Integer f h j)
-    ∙ cond-false (int_eq i j) (goes_on es) fails (false_from_ne_true (int_eq i j) (λ e. ne ((Decides-int_eq i j).0 e)))
+    ap (λ t. transformed t (term_of f h (Integer j)) es) (term_of-Integer f h i) ∙ ap (λ t. transformed (integer i) t es) (term_of-Integer f h j)
+    ∙ cond-false (int_eq i j) (remains es) conflicts (false_from_ne_true (int_eq i j) (λ e. ne ((Decides-int_eq i j).0 e)))
 
 names_differ : {N : Type 0} (built : BuiltIn → N) (f : N → List ℕ) (a b : N) → Reads built f → (a ≡ b → ⊥) → bytes_eq (f a) (f b) ≡ false
 names_differ built f a b reads ne = false_from_ne_true (bytes_eq (f a) (f b)) (λ e. ne (reads.once a b ((bytes_eq-Decides (f a) (f b)).0 e)))
 
 pub atoms_clash : {N : Type 0} (built : BuiltIn → N) (h : Held N) (a b : N) → (a ≡ b → ⊥) → MeetsAs built h (Atom a) (Atom b) Clash
 atoms_clash built h a b ne = λ f reads es.
-    ap (λ t. front t (term_of f h (Atom b)) es) (term_of-Atom f h a) ∙ ap (λ t. front (atom (f a)) t es) (term_of-Atom f h b)
-    ∙ cond-false (bytes_eq (f a) (f b)) (goes_on es) fails (names_differ built f a b reads ne)
+    ap (λ t. transformed t (term_of f h (Atom b)) es) (term_of-Atom f h a) ∙ ap (λ t. transformed (atom (f a)) t es) (term_of-Atom f h b)
+    ∙ cond-false (bytes_eq (f a) (f b)) (remains es) conflicts (names_differ built f a b reads ne)
 
 pub count_of-terms_of : {N : Type 0} (f : N → List ℕ) (h : Held N) (xs : List (Cell N)) → count_of (terms_of f h xs) ≡ length xs
 unfolding terms_of
@@ -198,19 +198,19 @@ pub record AreRead {N : Type 0} (h : Held N) (s t : ℕ) (a b : N) : Type 0 wher
   pub right : slice_get h.structures t ≡ Some (record { name = b; arguments = arguments_of h t })
 
 front-structures : {N : Type 0} (f : N → List ℕ) (h : Held N) (s t : ℕ) (a b : N) (es : List Equation) → IsFormed h → AreRead h s t a b →
-    front (term_of f h (Structure s)) (term_of f h (Structure t)) es
+    transformed (term_of f h (Structure s)) (term_of f h (Structure t)) es
     ≡ (if bytes_eq (f a) (f b) && count_of (terms_of f h (arguments_of h s)) == count_of (terms_of f h (arguments_of h t))
-    then goes_on (argument_equations (terms_of f h (arguments_of h s)) (terms_of f h (arguments_of h t)) es) else fails)
+    then remains (argument_equations (terms_of f h (arguments_of h s)) (terms_of f h (arguments_of h t)) es) else conflicts)
 front-structures f h s t a b es p read =
-    ap (λ x. front x (term_of f h (Structure t)) es) (term_of-Structure f h s a p read.left)
-    ∙ ap (λ x. front (structure (f a) (terms_of f h (arguments_of h s))) x es) (term_of-Structure f h t b p read.right)
+    ap (λ x. transformed x (term_of f h (Structure t)) es) (term_of-Structure f h s a p read.left)
+    ∙ ap (λ x. transformed (structure (f a) (terms_of f h (arguments_of h s))) x es) (term_of-Structure f h t b p read.right)
 
 pub counts_clash : {N : Type 0} (built : BuiltIn → N) (h : Held N) (s t : ℕ) (a b : N) → IsFormed h → AreRead h s t a b →
     (length (arguments_of h s) ≡ length (arguments_of h t) → ⊥) → MeetsAs built h (Structure s) (Structure t) Clash
 counts_clash built h s t a b p read ne = λ f reads es.
     front-structures f h s t a b es p read
     ∙ cond-false (bytes_eq (f a) (f b) && count_of (terms_of f h (arguments_of h s)) == count_of (terms_of f h (arguments_of h t)))
-    (goes_on (argument_equations (terms_of f h (arguments_of h s)) (terms_of f h (arguments_of h t)) es)) fails
+    (remains (argument_equations (terms_of f h (arguments_of h s)) (terms_of f h (arguments_of h t)) es)) conflicts
     (and_right (bytes_eq (f a) (f b)) _ (ne_eqb _ _ (λ e. ne (sym (count_of-terms_of f h (arguments_of h s)) ∙ e ∙ count_of-terms_of f h (arguments_of h t)))))
 
 pub names_clash : {N : Type 0} (built : BuiltIn → N) (h : Held N) (s t : ℕ) (a b : N) → IsFormed h → AreRead h s t a b →
@@ -218,7 +218,7 @@ pub names_clash : {N : Type 0} (built : BuiltIn → N) (h : Held N) (s t : ℕ) 
 names_clash built h s t a b p read ne = λ f reads es.
     front-structures f h s t a b es p read
     ∙ cond-false (bytes_eq (f a) (f b) && count_of (terms_of f h (arguments_of h s)) == count_of (terms_of f h (arguments_of h t)))
-    (goes_on (argument_equations (terms_of f h (arguments_of h s)) (terms_of f h (arguments_of h t)) es)) fails
+    (remains (argument_equations (terms_of f h (arguments_of h s)) (terms_of f h (arguments_of h t)) es)) conflicts
     (and_left _ (count_of (terms_of f h (arguments_of h s)) == count_of (terms_of f h (arguments_of h t))) (names_differ built f a b reads ne))
 
 pub structures_open : {N : Type 0} (h : Held N) (s t n : ℕ) (a b : N) → IsFormed h → AreRead h s t a b → s < length h.structures → t < length h.structures →
@@ -242,7 +242,7 @@ structures_open {N = N} h s t n a b p read ls lt es et e =
       leads = λ f rest.
           front-structures f h s t a b rest p read
           ∙ cond-true (bytes_eq (f a) (f b) && count_of (terms_of f h (arguments_of h s)) == count_of (terms_of f h (arguments_of h t)))
-          (goes_on (argument_equations (terms_of f h (arguments_of h s)) (terms_of f h (arguments_of h t)) rest)) fails
+          (remains (argument_equations (terms_of f h (arguments_of h s)) (terms_of f h (arguments_of h t)) rest)) conflicts
           (and_from (bytes_eq (f a) (f b)) _ ((bytes_eq-Decides (f a) (f b)).1 (ap f e))
           (eq-eqb _ _ (count_of-terms_of f h (arguments_of h s) ∙ sym es ∙ et ∙ sym (count_of-terms_of f h (arguments_of h t)))));
     }

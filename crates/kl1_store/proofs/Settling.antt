@@ -5,7 +5,7 @@ use Rattle.std.proofs.lemmas.List.{append-nil}
 use Rattle.std.proofs.lemmas.Bool.{cases_eq, eq-eqb, cond-true, cond-false}
 use Rattle.kl1_model.specs.declared.built_in.BuiltIn.{BuiltIn}
 use Rattle.kl1_model.specs.Term.{Term, Terms, none, more, occurs, replace, replace_each, Replacement}
-use Rattle.kl1_model.specs.Unify.{Equation, fails, binds, front, mgu, argument_equations, replace_in_all}
+use Rattle.kl1_model.specs.Unify.{Equation, conflicts, eliminates, transformed, mgu, argument_equations, replace_in_all}
 use Rattle.kl1_model.specs.code.Unifying.{after, bound_to}
 use Rattle.kl1_model.proofs.UnifyRule.{front_decides, nothing_solved}
 use Rattle.kl1_model.proofs.EqualSides.{equal_sides_dropped}
@@ -125,11 +125,11 @@ mapped_twice : (rs : List Replacement) (r : Replacement) (o : Option (List Repla
 mapped_twice rs r None = refl
 mapped_twice rs r (Some qs) = ap Some (sym (append_assoc rs (r ∷ []) qs))
 
-bound_fails : (v : ℕ) (t : Term) (es : List Equation) → occurs v t ≡ true → bound_to v t es ≡ fails
-bound_fails v t es e = cond-true (occurs v t) fails (binds v t es) e
+bound_fails : (v : ℕ) (t : Term) (es : List Equation) → occurs v t ≡ true → bound_to v t es ≡ conflicts
+bound_fails v t es e = cond-true (occurs v t) conflicts (eliminates v t es) e
 
-bound_binds : (v : ℕ) (t : Term) (es : List Equation) → occurs v t ≡ false → bound_to v t es ≡ binds v t es
-bound_binds v t es e = cond-false (occurs v t) fails (binds v t es) e
+bound_binds : (v : ℕ) (t : Term) (es : List Equation) → occurs v t ≡ false → bound_to v t es ≡ eliminates v t es
+bound_binds v t es e = cond-false (occurs v t) conflicts (eliminates v t es) e
 
 -- one binding more
 pub leads_on : {N : Type 0} (f : N → List ℕ) (old now : Held N) (start : Option (List Replacement)) (v : ℕ) (x : Cell N) (before ps : List Frame) →
@@ -244,7 +244,7 @@ pub record OneEquation {N : Type 0} (h : Held N) (l r x y : Cell N) : Type 0 whe
   pub right_means : Stands h y r
 
 one_decides : {N : Type 0} (f : N → List ℕ) (h : Held N) (l r x y : Cell N) → OneEquation h l r x y →
-    mgu (equation_of f h l r) ≡ after mgu mgu (front (term_of f h x) (term_of f h y) [])
+    mgu (equation_of f h l r) ≡ after mgu mgu (transformed (term_of f h x) (term_of f h y) [])
 one_decides f h l r x y one =
     ap mgu (sym (same_equation f h l r x y one.left_means one.right_means))
     ∙ front_decides (record { left = term_of f h x; right = term_of f h y }) []

@@ -1,7 +1,7 @@
 -- What an equation of two cells leads to, by the definition of unification.
 use Rattle.std.specs.Prelude.{◌≡◌, ℕ, suc, ◌≤◌, ◌⊎◌, false, List}
 use Rattle.kl1_model.specs.declared.built_in.BuiltIn.{BuiltIn}
-use Rattle.kl1_model.specs.Unify.{Equation, goes_on, fails, front}
+use Rattle.kl1_model.specs.Unify.{Equation, remains, conflicts, transformed}
 use Rattle.kl1_model.specs.code.Unifying.{bound_to}
 use Rattle.kl1_text.specs.Reading.{Reads}
 use Rattle.kl1_store.specs.declared.cell.Cell.{Cell}
@@ -27,7 +27,7 @@ pub record Takes {N : Type 0} (h : Held N) (l r : Cell N) (v : ℕ) (x : Cell N)
   pub can : CanTake h v x
   pub one : IsNoVariable l → IsNoVariable r → ⊥
   pub sides : ((l ≡ Variable v) × (x ≡ r)) ⊎ ((r ≡ Variable v) × (x ≡ l))
-  pub leads : (f : N → List ℕ) (es : List Equation) → front (term_of f h l) (term_of f h r) es ≡ bound_to v (term_of f h x) es
+  pub leads : (f : N → List ℕ) (es : List Equation) → transformed (term_of f h l) (term_of f h r) es ≡ bound_to v (term_of f h x) es
 
 -- the sides of an equation are structures of one name and one number of arguments, and it leads to those of the arguments
 pub record Opens {N : Type 0} (h : Held N) (l r : Cell N) (p : Frame) : Type 0 where
@@ -35,11 +35,11 @@ pub record Opens {N : Type 0} (h : Held N) (l r : Cell N) (p : Frame) : Type 0 w
   pub right : r ≡ Structure p.right
   pub start : p.next ≡ 0
   pub is : IsPair h p
-  pub leads : (f : N → List ℕ) (es : List Equation) → front (term_of f h l) (term_of f h r) es ≡ goes_on (rest_of f h p es)
+  pub leads : (f : N → List ℕ) (es : List Equation) → transformed (term_of f h l) (term_of f h r) es ≡ remains (rest_of f h p es)
 
 -- what a meeting promises
 abbrev pub MeetsAs : {N : Type 0} → (BuiltIn → N) → Held N → Cell N → Cell N → Meeting N → Type 0
 MeetsAs built h l r Same = (f : _) → term_of f h l ≡ term_of f h r
-MeetsAs built h l r Clash = (f : _) → Reads built f → (es : List Equation) → front (term_of f h l) (term_of f h r) es ≡ fails
+MeetsAs built h l r Clash = (f : _) → Reads built f → (es : List Equation) → transformed (term_of f h l) (term_of f h r) es ≡ conflicts
 MeetsAs built h l r (Bind v x) = Takes h l r v x
 MeetsAs built h l r (Open p) = Opens h l r p

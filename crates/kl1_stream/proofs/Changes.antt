@@ -1,12 +1,11 @@
 -- What a report, an end and a message of the console do to an account's state, by the definitions.
-use Rattle.std.proofs.Common.{◌≡◌, ℕ, suc, ◌+◌, Bool, not, ◌||◌, if◌then◌else◌, List, refl, sym, ap, ◌∙◌}
-use Rattle.std.specs.Prelude.{Some, None, nat_lt}
-use Rattle.kl1_model.specs.declared.limits.TheConstants.{MOST_REPORTS}
+use Rattle.std.proofs.Common.{◌≡◌, ℕ, suc, ◌+◌, Bool, ◌||◌, if◌then◌else◌, List, refl, sym, ap, ◌∙◌}
+use Rattle.std.specs.Prelude.{Some, None}
 use Rattle.kl1_model.specs.declared.built_in.BuiltIn.{BuiltIn}
 use Rattle.kl1_model.specs.Term.{Term, variable, integer, atom, structure, occurs}
 use Rattle.kl1_model.specs.Meaning.{cell}
 use Rattle.kl1_model.specs.State.{Shoen, State, shoen_at, change_shoen, replace_in_state}
-use Rattle.kl1_model.specs.Report.{report, reported_at, broken_at, close, closed_at}
+use Rattle.kl1_model.specs.Report.{has_made_last, reported_on, report, reported_at, broken_at, close, closed_at}
 use Rattle.kl1_model.specs.code.Steps.{report_of, close_of}
 use Rattle.kl1_model.specs.declared.message.Message.{Message}
 use Rattle.kl1_model.specs.Control.{message_term, message_nodes}
@@ -26,7 +25,7 @@ pub record IsStateOf {N : Type 0} (f : N → List ℕ) (old : Held N) (tail : Ce
   pub tail_is : shoen.tail ≡ term_of f old tail
   pub broken_is : shoen.is_broken ≡ is_broken
   pub variables : suc s.last_variable ≡ old.variables
-  pub last_is : is_last ≡ not (nat_lt s.reports MOST_REPORTS)
+  pub last_is : is_last ≡ has_made_last s
 
 reports_as : {N : Type 0} (f : N → List ℕ) (old : Held N) (tail : Cell N) (is_broken is_last : Bool) (n : ℕ) (s : State) (m : Term) → IsStateOf f old tail is_broken is_last n s →
     report n m s ≡ (if is_broken then s else reported_at n m (term_of f old tail) s)
@@ -39,10 +38,10 @@ reports_as f old tail is_broken is_last n s m p =
 abbrev pub made_at : ℕ → ℕ → Term → ℕ → State → State
 made_at n v m next s = change_shoen n (λ h. record h { tail = variable next }) (record (replace_in_state v (cell m (variable next)) s) { last_variable = next; reports = suc s.reports })
 
-broken_by : (n : ℕ) (t m : Term) (s : State) (is_last : Bool) → is_last ≡ not (nat_lt s.reports MOST_REPORTS) → Breaks is_last t m → reported_at n m t s ≡ broken_at n s
+broken_by : (n : ℕ) (t m : Term) (s : State) (is_last : Bool) → is_last ≡ has_made_last s → Breaks is_last t m → reported_at n m t s ≡ broken_at n s
 broken_by n (variable v) m s is_last q e =
-    ap (λ b. if occurs v m || b then broken_at n s else made_at n v m (suc s.last_variable) s) (sym q)
-    ∙ ap (λ b. if b then broken_at n s else made_at n v m (suc s.last_variable) s) e
+    ap (λ b. reported_on n m (if occurs v m || b then None else Some v) s) (sym q)
+    ∙ ap (λ b. reported_on n m (if b then None else Some v) s) e
 broken_by n (integer i) m s is_last q e = refl
 broken_by n (atom a) m s is_last q e = refl
 broken_by n (structure g ts) m s is_last q e = refl
@@ -74,8 +73,8 @@ report_sent built f old new tail message is_broken is_last next n s reads p d =
     reports_as f old tail is_broken is_last n s m p
     ∙ ap (λ b. if b then s else reported_at n m (term_of f old tail) s) d.whole
     ∙ ap (λ t. reported_at n m t s) (d.tail_is f)
-    ∙ ap (λ b. if b || not (nat_lt s.reports MOST_REPORTS) then broken_at n s else moved (suc s.last_variable)) sent.free
-    ∙ ap (λ b. if b then broken_at n s else moved (suc s.last_variable)) (sym p.last_is ∙ d.more)
+    ∙ ap (λ b. reported_on n m (if b || has_made_last s then None else Some d.number) s) sent.free
+    ∙ ap (λ b. reported_on n m (if b then None else Some d.number) s) (sym p.last_is ∙ d.more)
     ∙ ap moved (p.variables ∙ sym d.sent.next_is)
 
 -- the end of a stream: on a broken one nothing, else what the definitions do at its tail

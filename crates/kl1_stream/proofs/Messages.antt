@@ -8,7 +8,7 @@ use Rattle.kl1_model.specs.declared.built_in.BuiltIn.TheVariants.{ListCell, Empt
 use Rattle.kl1_model.specs.Term.{Term, variable, atom, structure, none, more, occurs, replace, Replacement}
 use Rattle.kl1_model.specs.code.Unifying.{replaced, after}
 use Rattle.kl1_model.specs.Meaning.{cell, nil}
-use Rattle.kl1_model.specs.Unify.{Equation, fails, binds, equations_size, mgu_within, highest_among, mgu}
+use Rattle.kl1_model.specs.Unify.{Equation, conflicts, eliminates, equations_size, mgu_within, highest_among, mgu}
 use Rattle.kl1_text.specs.Reading.{Reads}
 use Rattle.kl1_store.specs.declared.cell.Cell.{Cell}
 use Rattle.kl1_store.specs.declared.cell.Cell.TheVariants.{Variable, Integer, Atom, Structure}
@@ -35,7 +35,7 @@ solved_by v t b = if b then None else Some (record { number = v; by = t } ∷ []
 abbrev pub one_equation : ℕ → Term → List Equation
 one_equation v t = record { left = variable v; right = t } ∷ []
 
-front_solves : (last v : ℕ) (t : Term) (b : Bool) → after (mgu_within (suc (suc last)) 1) (λ to. mgu_within (suc last) (equations_size to) to) (if b then fails else binds v t []) ≡ solved_by v t b
+front_solves : (last v : ℕ) (t : Term) (b : Bool) → after (mgu_within (suc (suc last)) 1) (λ to. mgu_within (suc last) (equations_size to) to) (if b then conflicts else eliminates v t []) ≡ solved_by v t b
 unfolding mgu_within
 front_solves last v t true = refl
 front_solves last v t false = refl

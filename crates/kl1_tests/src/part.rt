@@ -37,7 +37,7 @@ pub enum Part {
 }
 
 /// The parts by the two words that name them at the front of a heading.
-const PARTS: [(&[u8], Part); 66] = [
+const PARTS: [(&[u8], Part); 69] = [
     (b"store numbers ", Part::Numbers),
     (b"store texts ", Part::Texts),
     (b"read name ", Part::Read(kl1_tests_engine::Kind::Name)),
@@ -113,10 +113,13 @@ const PARTS: [(&[u8], Part); 66] = [
     (b"user one ", Part::One(Rules::One)),
     (b"user again ", Part::Again(Rules::One)),
     (b"user answers ", Part::Again(Rules::Two)),
+    (b"user fourth ", Part::One(Rules::Four)),
+    (b"user fourth_again ", Part::Again(Rules::Four)),
     (b"user published ", Part::Published),
     (b"world once ", Part::World(Rules::One, 1)),
     (b"world both ", Part::World(Rules::One, 2)),
     (b"world answers ", Part::World(Rules::Two, 2)),
+    (b"world fourth ", Part::World(Rules::Four, 2)),
     (b"journal read ", Part::Journal),
     (b"command line ", Part::Command(command::Kind::Line)),
     (b"command record ", Part::Command(command::Kind::Record)),

@@ -1,6 +1,6 @@
 // The account that rows are tried on.
 
-use crate::acts::{event_of, is_page, is_run_right};
+use crate::acts::{are_reduced, event_of, is_page, is_run_right};
 use crate::again::is_right_again;
 use crate::answers::{is_answered, is_first};
 use crate::player::Player;
@@ -20,6 +20,7 @@ fn is_act_right(alloc: Global, user: &mut Player, act: &[u8], wanted: &[u8]) -> 
     match word {
         b"first" => is_first(user, wanted),
         b"run" => is_run_right(user, words, wanted),
+        b"reduces" => are_reduced(user, words, wanted),
         b"journal" => is_page(user, words, wanted),
         _ => match event_of(alloc, user, word, words) {
             Some(event) => is_answered(user, &event, wanted),

@@ -7,6 +7,7 @@
 // | `made LEFT LEVELS RIGHT` | a goal that no text may write is started |
 // | `answer S N GOAL` | a goal is the answer to report N of shoen S |
 // | `reduce G C` | goal G is reduced by clause C |
+// | `reduces G C N` | the goals of the N numbers from G on are reduced by clause C, one after another, as long as each can; the answer is how often |
 // | `step` | the first goal is reduced |
 // | `value S` | the goal of shoen S is shown |
 // | `quiet` | whether no goal can step is asked |
@@ -61,13 +62,18 @@ fn answer_of(alloc: Global, words: &[u8]) -> Option<Event> {
     })
 }
 
+/// The reduction of a goal by a clause.
+fn reduction(goal: u64, clause: u64) -> Event {
+    Event::Reduce {
+        goal: GoalNo(goal),
+        clause: ClauseNo(clause),
+    }
+}
+
 /// The reduction of a goal by a clause, whose numbers a text has.
 fn reduction_of(words: &[u8]) -> Event {
     let (goal, clause) = cut(words, b' ');
-    Event::Reduce {
-        goal: GoalNo(number_of(goal)),
-        clause: ClauseNo(number_of(clause)),
-    }
+    reduction(number_of(goal), number_of(clause))
 }
 
 /// The reduction of the first goal.
@@ -185,6 +191,21 @@ pub fn is_run_right(user: &mut Player, words: &[u8], wanted: &[u8]) -> bool {
     let most = number_of(words);
     for steps in 0..most {
         if !is_stepped(user) {
+            return is_counted(wanted, b"+ ", steps);
+        }
+    }
+    is_counted(wanted, b"+ ", most)
+}
+
+/// Whether as many goals as is wanted can be reduced, one after another: those of the numbers from the first of a text on, by its clause, at
+/// most as many as it says.
+pub fn are_reduced(user: &mut Player, words: &[u8], wanted: &[u8]) -> bool {
+    let (first, behind) = cut(words, b' ');
+    let (clause, most) = cut(behind, b' ');
+    let (first, clause, most) = (number_of(first), number_of(clause), number_of(most));
+    for steps in 0..most {
+        let event = reduction(first.saturating_add(steps), clause);
+        if !is_answered(user, &event, b"+ reduced") {
             return is_counted(wanted, b"+ ", steps);
         }
     }

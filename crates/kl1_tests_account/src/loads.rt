@@ -2,7 +2,7 @@
 
 ghost use Rattle.std.specs.Prelude.{◌≡◌, []};
 ghost use Rattle.kl1_atoms.specs.Seats.{IsSharedSeat, face_in};
-ghost use Rattle.kl1_codes_modules.specs.Numbered.{ArePlaced};
+ghost use Rattle.kl1_codes.specs.Numbered.{ArePlaced};
 
 use kl1_atoms::{AtomSeat, AtomTable, SharedAtoms};
 use kl1_codes::{CodeSource, PlainCodes};

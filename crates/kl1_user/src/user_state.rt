@@ -6,7 +6,7 @@ ghost use Rattle.kl1_model.specs.State.{fresh, fresh_with};
 ghost use Rattle.kl1_model.specs.Event.{reduce as reduce_event, read};
 ghost use Rattle.kl1_model.specs.Step.{step};
 ghost use Rattle.kl1_model.specs.Choice.{first, quiet};
-ghost use Rattle.kl1_codes_modules.specs.Numbered.{ArePlaced};
+ghost use Rattle.kl1_codes.specs.Numbered.{ArePlaced};
 ghost use Rattle.kl1_user_effects.specs.Fitting.{Reading, Fits};
 ghost use Rattle.kl1_user_effects.specs.Account.{state_of, texts_of};
 ghost use Rattle.kl1_user_effects.specs.Naming.{IsNameList, Keeps};
@@ -33,7 +33,7 @@ pub struct UserState<A: AtomSource, C: CodeSource> {
 
 impl<A: AtomSource, C: CodeSource> Model for UserState<A, C> {
     ghost use Rattle.std.specs.Coded.{codes};
-    ghost use Rattle.kl1_codes_modules.specs.Numbered.{numbered_code};
+    ghost use Rattle.kl1_codes.specs.Numbered.{numbered_code};
     ghost use Rattle.kl1_atoms.specs.Names.{AreNames};
     ghost use Rattle.kl1_user_effects.specs.Account.{Account as Kept};
 
@@ -212,6 +212,20 @@ impl<A: AtomSource, C: CodeSource> UserState<A, C> {
         ensures { result.now ≡ texts_of self.now.names }
     {
         self.account.name_texts()
+    }
+
+    /// The rules that the account keeps to.
+    pub fn rules(&self) -> Rules
+        ensures { result ≡ self.now.rules }
+    {
+        self.account.rules()
+    }
+
+    /// How many reductions the last entry of the journal has, if it is a run, or else 0.
+    pub fn run(&self) -> u32
+        ensures { (f : Reading) → result ≡ (state_of f self.now).run }
+    {
+        self.account.run()
     }
 
     /// The first goal that can step, with the clause by which it steps, by each reading of the names; there is such a reading.

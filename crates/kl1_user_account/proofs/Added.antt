@@ -6,7 +6,7 @@ use Rattle.kl1_store.specs.Hooks.{Hook, Kept, HasGrown}
 use Rattle.kl1_store.specs.Held.{Held}
 use Rattle.kl1_goals.specs.declared.goal.Goal.{Goal}
 use Rattle.kl1_shoen_paths.specs.declared.shoen.Shoen.{Shoen}
-use Rattle.kl1_codes_modules.specs.Shelves.{Program}
+use Rattle.kl1_codes.specs.Shelves.{Program}
 use Rattle.kl1_store_hooks.specs.Hanging.{AreAmong}
 use Rattle.kl1_store_hooks.proofs.Hooked.{HasGrown-same, HasGrown-trans, grown_among}
 use Rattle.kl1_user_effects.specs.Fitting.{Reading}

@@ -2,8 +2,8 @@
 use Rattle.std.proofs.Common.{◌≡◌, ℕ, suc, ◌+◌, ◌-◌, ◌<◌, ◌≤◌, true, false, List, [], ◌∷◌, length, map, refl, sym, ap, ap₂, ◌∙◌, arith, subst}
 use Rattle.std.specs.Prelude.{nat_le, Option, Some, None, option_map, codes}
 use Rattle.std.specs.List.{AllByRecursion}
-use Rattle.kl1_model.specs.declared.limits.TheConstants.{MOST_VARIABLES, MOST_NODES}
 use Rattle.std.proofs.lemmas.Bool.{and_parts, leb-true}
+use Rattle.kl1_model.specs.declared.limits.Limits.{Limits}
 use Rattle.kl1_model.specs.Term as term
 use Rattle.kl1_model.specs.Term.{Term, structure, replace}
 use Rattle.kl1_model.specs.Meaning.{highest}
@@ -119,7 +119,7 @@ carried_shoens t u v w c (s ∷ ss) e =
 
 -- an account with an answer in place
 abbrev pub with_answer : Account → Held CellName → List Known → Draft → Account
-with_answer a h names d = record a { held = h; goals = restood d.changes.items a.goals; names = names; variables = d.variables; nodes = d.nodes; entries = suc a.entries }
+with_answer a h names d = record a { held = h; goals = restood d.changes.items a.goals; names = names; variables = d.variables; nodes = d.nodes; entries = suc a.entries; run = 0 }
 
 -- what is known of an answer that is drafted, and whose names are published
 pub record IsPut (a : Account) (n report v : ℕ) (goal code : Term) (counted : Counted) (spares numbers : List CellName) (more : List Known) (old new : Kept CellName) (d : Draft) : Type 0 where
@@ -185,7 +185,7 @@ module _ (a : Account) (hooks : List Hook) (known n report v : ℕ) (goal code :
   answered_state f fits =
       let g = by_spares f in
       let base : State = record (state_of f a) { goals = []; shoens = []; last_variable = 0 } in
-      let S : State = record base { names = with_names (texts_of a.names) (names_of goal); last_variable = (a.held.variables - 1) + highest goal; variables = a.variables + highest goal; nodes = a.nodes + structures_of goal; entries = suc a.entries } in
+      let S : State = record base { names = with_names (texts_of a.names) (names_of goal); last_variable = (a.held.variables - 1) + highest goal; variables = a.variables + highest goal; nodes = a.nodes + structures_of goal; entries = suc a.entries; run = 0 } in
       let R : List model.Goal → List model.Shoen → State = λ gs ss. record S { goals = gs; shoens = ss } in
       let names : with_names (texts_of a.names) (names_of goal) ≡ texts_of more = sym (p.texts ∙ names_used (texts_of a.names) (with_names [] (names_of goal)) goal refl) in
       let read = replaced_read f fits base in
@@ -196,10 +196,10 @@ module _ (a : Account) (hooks : List Hook) (known n report v : ℕ) (goal code :
       ∙ same (map (goal_with (meaning f (held_exchanged spares numbers new.held))) (restood d.changes.items a.goals)) (map (shoen_with (meaning f (held_exchanged spares numbers new.held))) a.shoens) names
     where
       same : (gs : List model.Goal) (ss : List model.Shoen) → with_names (texts_of a.names) (names_of goal) ≡ texts_of more →
-          (let z : State = record (state_of f a) { goals = gs; shoens = ss; names = with_names (texts_of a.names) (names_of goal); last_variable = (a.held.variables - 1) + highest goal; variables = a.variables + highest goal; nodes = a.nodes + structures_of goal; entries = suc a.entries } in z)
+          (let z : State = record (state_of f a) { goals = gs; shoens = ss; names = with_names (texts_of a.names) (names_of goal); last_variable = (a.held.variables - 1) + highest goal; variables = a.variables + highest goal; nodes = a.nodes + structures_of goal; entries = suc a.entries; run = 0 } in z)
           ≡ record (state_of f (with_answer a (held_exchanged spares numbers new.held) more d)) { goals = gs; shoens = ss }
       same gs ss names =
-          let T : List (List ℕ) → ℕ → ℕ → ℕ → State = λ ns l i j. record (state_of f a) { goals = gs; shoens = ss; names = ns; last_variable = l; variables = i; nodes = j; entries = suc a.entries } in
+          let T : List (List ℕ) → ℕ → ℕ → ℕ → State = λ ns l i j. record (state_of f a) { goals = gs; shoens = ss; names = ns; last_variable = l; variables = i; nodes = j; entries = suc a.entries; run = 0 } in
           ap (λ (ns : List (List ℕ)). T ns ((a.held.variables - 1) + highest goal) (a.variables + highest goal) (a.nodes + structures_of goal)) names
           ∙ ap (λ l. T (texts_of more) l (a.variables + highest goal) (a.nodes + structures_of goal)) (sym top)
           ∙ ap₂ (λ i j. T (texts_of more) ((held_exchanged spares numbers new.held).variables - 1) i j) (sym p.variables) (sym p.nodes)
@@ -218,6 +218,7 @@ module _ (a : Account) (hooks : List Hook) (known n report v : ℕ) (goal code :
       let up : Grown a.held new.held = let G : Held CellName → Type 0 = λ h. Grown h new.held in subst G (sym p.held) p.grown in
       let room = p.may.room in
       let entries = (at (λ c. [])).entries_are in
+      let most = ap (λ (m : Limits). m.entries) (at (λ c. [])).most_are in
       record {
         some = let x = k.some in let y = up.variables in let e = exchanged_variables spares numbers new.held in omega (arith, x, y, e);
         goals = restood_holds (λ g. IsTaskIn (held_exchanged spares numbers new.held) g.task) (λ g o q. q) cs a.goals (exchanged_goals spares numbers new.held a.goals (goals_grown a.held new.held up a.goals k.goals));
@@ -226,8 +227,7 @@ module _ (a : Account) (hooks : List Hook) (known n report v : ℕ) (goal code :
         count = k.count;
         first = restood_holds (λ g. 0 < g.number) (λ g o q. q) cs a.goals k.first;
         last = restood_holds (λ g. g.number ≤ a.last_goal) (λ g o q. q) cs a.goals k.last;
-        few = let x = k.few in omega (arith, x);
-        most = omega (arith, room, entries);
+        most = omega (arith, room, entries, most);
         settled = λ f fits.
             let g = by_spares f in
             let own = (spared f fits).fits in
@@ -249,44 +249,44 @@ module _ (a : Account) (hooks : List Hook) (known n report v : ℕ) (goal code :
 -- ---- by what its parts are
 
 -- an account with an answer in place
-placed : (a : Account) (h last : Held CellName) (names : List Known) (d : Draft) (gs : List (Goal CellName)) (variables nodes entries : ℕ) → h ≡ last → gs ≡ restood d.changes.items a.goals → variables ≡ d.variables → nodes ≡ d.nodes → entries ≡ suc a.entries →
-    record a { held = h; goals = gs; names = names; variables = variables; nodes = nodes; entries = entries } ≡ with_answer a last names d
-placed a h last names d gs variables nodes entries p q r s t =
-    let R : Held CellName → List (Goal CellName) → ℕ → ℕ → ℕ → Account = λ x xs i j e. record a { held = x; goals = xs; names = names; variables = i; nodes = j; entries = e } in
-    ap₂ (λ (x : Held CellName) (xs : List (Goal CellName)). R x xs variables nodes entries) p q
-    ∙ ap₂ (λ i j. R last (restood d.changes.items a.goals) i j entries) r s
-    ∙ ap (λ e. R last (restood d.changes.items a.goals) d.variables d.nodes e) t
+placed : (a : Account) (h last : Held CellName) (names : List Known) (d : Draft) (gs : List (Goal CellName)) (variables nodes entries run : ℕ) → h ≡ last → gs ≡ restood d.changes.items a.goals → variables ≡ d.variables → nodes ≡ d.nodes → entries ≡ suc a.entries → run ≡ 0 →
+    record a { held = h; goals = gs; names = names; variables = variables; nodes = nodes; entries = entries; run = run } ≡ with_answer a last names d
+placed a h last names d gs variables nodes entries run p q r s t z =
+    let R : Held CellName → List (Goal CellName) → ℕ → ℕ → ℕ → ℕ → Account = λ x xs i j e m. record a { held = x; goals = xs; names = names; variables = i; nodes = j; entries = e; run = m } in
+    ap₂ (λ (x : Held CellName) (xs : List (Goal CellName)). R x xs variables nodes entries run) p q
+    ∙ ap₂ (λ i j. R last (restood d.changes.items a.goals) i j entries run) r s
+    ∙ ap₂ (λ e m. R last (restood d.changes.items a.goals) d.variables d.nodes e m) t z
 
 -- all that always holds of an account holds after an answer
-pub answer_kept : (a : Account) (hooks after : List Hook) (known count n report v : ℕ) (goal code : Term) (counted : Counted) (spares numbers : List CellName) (more : List Known) (old new : Kept CellName) (d : Draft) (h : Held CellName) (gs : List (Goal CellName)) (variables nodes entries : ℕ) →
+pub answer_kept : (a : Account) (hooks after : List Hook) (known count n report v : ℕ) (goal code : Term) (counted : Counted) (spares numbers : List CellName) (more : List Known) (old new : Kept CellName) (d : Draft) (h : Held CellName) (gs : List (Goal CellName)) (variables nodes entries run : ℕ) →
     IsKept a hooks known → IsPut a n report v goal code counted spares numbers more old new d → ((f : Reading) → HasNames (state_of f a) a.names counted) → hooks ≡ old.hooks →
-    h ≡ held_exchanged spares numbers new.held → gs ≡ restood d.changes.items a.goals → variables ≡ d.variables → nodes ≡ d.nodes → entries ≡ suc a.entries → after ≡ new.hooks → count ≡ known →
-    IsKept (record a { held = h; goals = gs; names = more; variables = variables; nodes = nodes; entries = entries }) after count
-answer_kept a hooks after known count n report v goal code counted spares numbers more old new d h gs variables nodes entries k p at hung is goals vs ns es hooked counted_is =
+    h ≡ held_exchanged spares numbers new.held → gs ≡ restood d.changes.items a.goals → variables ≡ d.variables → nodes ≡ d.nodes → entries ≡ suc a.entries → run ≡ 0 → after ≡ new.hooks → count ≡ known →
+    IsKept (record a { held = h; goals = gs; names = more; variables = variables; nodes = nodes; entries = entries; run = run }) after count
+answer_kept a hooks after known count n report v goal code counted spares numbers more old new d h gs variables nodes entries run k p at hung is goals vs ns es rs hooked counted_is =
     let A : Account → Type 0 = λ z. IsKept z new.hooks known in
-    let b : Account = record a { held = h; goals = gs; names = more; variables = variables; nodes = nodes; entries = entries } in
+    let b : Account = record a { held = h; goals = gs; names = more; variables = variables; nodes = nodes; entries = entries; run = run } in
     let H : List Hook → Type 0 = λ hs. IsKept b hs known in
     let N : ℕ → Type 0 = λ m. IsKept b after m in
-    subst N (sym counted_is) (subst H (sym hooked) (subst A (sym (placed a h (held_exchanged spares numbers new.held) more d gs variables nodes entries is goals vs ns es))
+    subst N (sym counted_is) (subst H (sym hooked) (subst A (sym (placed a h (held_exchanged spares numbers new.held) more d gs variables nodes entries run is goals vs ns es rs))
     (answer_keeps a hooks known n report v goal code counted spares numbers more old new d k p at hung)))
 
 -- the step is the answer
-pub answer_step : (a b : Account) (hooks : List Hook) (known n report v : ℕ) (goal code : Term) (counted : Counted) (spares numbers : List CellName) (more : List Known) (old new : Kept CellName) (d : Draft) (h : Held CellName) (gs : List (Goal CellName)) (variables nodes entries : ℕ) →
+pub answer_step : (a b : Account) (hooks : List Hook) (known n report v : ℕ) (goal code : Term) (counted : Counted) (spares numbers : List CellName) (more : List Known) (old new : Kept CellName) (d : Draft) (h : Held CellName) (gs : List (Goal CellName)) (variables nodes entries run : ℕ) →
     a ≡ b → IsKept a hooks known → IsPut a n report v goal code counted spares numbers more old new d → ((f : Reading) → HasNames (state_of f a) a.names counted) →
-    h ≡ held_exchanged spares numbers new.held → gs ≡ restood d.changes.items a.goals → variables ≡ d.variables → nodes ≡ d.nodes → entries ≡ suc a.entries →
-    (f : Reading) → Fits more f → step (state_of f b) (answer n report goal) ≡ record { state = state_of f (record a { held = h; goals = gs; names = more; variables = variables; nodes = nodes; entries = entries }); reply = sent }
-answer_step a b hooks known n report v goal code counted spares numbers more old new d h gs variables nodes entries view k p at is goals vs ns es f fits =
+    h ≡ held_exchanged spares numbers new.held → gs ≡ restood d.changes.items a.goals → variables ≡ d.variables → nodes ≡ d.nodes → entries ≡ suc a.entries → run ≡ 0 →
+    (f : Reading) → Fits more f → step (state_of f b) (answer n report goal) ≡ record { state = state_of f (record a { held = h; goals = gs; names = more; variables = variables; nodes = nodes; entries = entries; run = run }); reply = sent }
+answer_step a b hooks known n report v goal code counted spares numbers more old new d h gs variables nodes entries run view k p at is goals vs ns es rs f fits =
     let R : Account → Transition = λ z. record { state = state_of f z; reply = sent } in
     sym (ap (λ (w : Account). step (state_of f w) (answer n report goal)) view)
     ∙ answer_steps a hooks known n report v goal code counted spares numbers more old new d k p f (at f) fits
-    ∙ ap R (sym (placed a h (held_exchanged spares numbers new.held) more d gs variables nodes entries is goals vs ns es))
+    ∙ ap R (sym (placed a h (held_exchanged spares numbers new.held) more d gs variables nodes entries run is goals vs ns es rs))
 
 -- room for an answer is within what there may be
-pub variables_within : (c : Counted) (variables nodes : ℕ) → has_room_to_answer_beside c variables nodes ≡ true → c.variables + variables ≤ MOST_VARIABLES
-variables_within c variables nodes e = leb-true (c.variables + variables) MOST_VARIABLES (and_parts (nat_le (c.variables + variables) MOST_VARIABLES) (nat_le (c.nodes + nodes) MOST_NODES) e).0
+pub variables_within : (c : Counted) (variables nodes : ℕ) → has_room_to_answer_beside c variables nodes ≡ true → c.variables + variables ≤ c.most.variables
+variables_within c variables nodes e = leb-true (c.variables + variables) c.most.variables (and_parts (nat_le (c.variables + variables) c.most.variables) (nat_le (c.nodes + nodes) c.most.nodes) e).0
 
-pub nodes_within : (c : Counted) (variables nodes : ℕ) → has_room_to_answer_beside c variables nodes ≡ true → c.nodes + nodes ≤ MOST_NODES
-nodes_within c variables nodes e = leb-true (c.nodes + nodes) MOST_NODES (and_parts (nat_le (c.variables + variables) MOST_VARIABLES) (nat_le (c.nodes + nodes) MOST_NODES) e).1
+pub nodes_within : (c : Counted) (variables nodes : ℕ) → has_room_to_answer_beside c variables nodes ≡ true → c.nodes + nodes ≤ c.most.nodes
+nodes_within c variables nodes e = leb-true (c.nodes + nodes) c.most.nodes (and_parts (nat_le (c.variables + variables) c.most.variables) (nat_le (c.nodes + nodes) c.most.nodes) e).1
 
 -- ---- by what a draft is
 

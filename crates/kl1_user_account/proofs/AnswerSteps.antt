@@ -1,17 +1,18 @@
 -- What refuses an answer, and the step of one that nothing refuses.
-use Rattle.std.proofs.Common.{◌≡◌, ℕ, ◌+◌, ◌-◌, ◌<◌, ◌≤◌, ◌&&◌, Bool, true, false, if◌then◌else◌, List, [], length, refl, sym, ap, ap₂, ◌∙◌, arith, subst}
+use Rattle.std.proofs.Common.{◌≡◌, ℕ, ◌+◌, ◌-◌, ◌<◌, ◌≤◌, ◌&&◌, Bool, true, false, not, if◌then◌else◌, List, [], ◌∷◌, length, refl, sym, ap, ap₂, ◌∙◌, arith, subst}
 use Rattle.std.specs.Prelude.{nat_lt, nat_le, Option, Some, None, option_map, option_and_then, unwrap_or}
-use Rattle.std.proofs.lemmas.Bool.{and_parts, ltb-true, ltb-false, leb-true, lt-leb, le-leb, le-ltb, lt-ltb}
+use Rattle.std.proofs.lemmas.Bool.{and_parts, not-true, not-false, ltb-true, ltb-false, leb-true, lt-ltb}
 use Rattle.kl1_model.specs.declared.rules.Rules.{Rules}
 use Rattle.kl1_model.specs.declared.life.Life.{Life}
 use Rattle.kl1_model.specs.declared.life.Life.TheVariants.{Living, Terminated, Aborted}
-use Rattle.kl1_model.specs.declared.limits.TheConstants.{MOST_VARIABLES, MOST_NODES, MOST_ENTRIES, MOST_NAMES, MOST_LINE_BYTES}
+use Rattle.kl1_model.specs.declared.limits.Limits.{Limits}
+use Rattle.kl1_model.specs.declared.limits.TheConstants.{MOST_NAMES, MOST_LINE_BYTES}
 use Rattle.kl1_model.specs.Term.{Term}
 use Rattle.kl1_model.specs.Goal.{is_goal}
 use Rattle.kl1_model.specs.Meaning.{highest, is_writable, is_numbered}
 use Rattle.kl1_model.specs.Nodes.{structures_of}
-use Rattle.kl1_model.specs.State.{State, has_substitutes, shoen_at, is_living, names_of, with_names}
-use Rattle.kl1_model.specs.Event.{Transition, answer, sent, refuse, recorded, named, limited, syntax, no_shoen, shoen_ended, too_many_names, journal_full, with_entry, is_number}
+use Rattle.kl1_model.specs.State.{State, has_substitutes, limits_of, shoen_at, is_living, names_of, with_names}
+use Rattle.kl1_model.specs.Event.{Transition, answer, sent, refuse, unless, syntax, no_shoen, shoen_ended, too_many_names, limit_passed, journal_full, with_entry, is_number}
 use Rattle.kl1_model.specs.Answering.{answer_line, may_answer, has_room_to_answer, unanswered_at, answered, answer_by, answer_to}
 use Rattle.kl1_model.specs.code.Steps.{answer_in}
 use Rattle.kl1_model.specs.Step.{step}
@@ -36,14 +37,19 @@ use Rattle.kl1_user_account.specs.Starting.{HasNames}
 use Rattle.kl1_user_account.specs.Answering.{has_room_to_answer_beside, RefusesAnswer, IsAnswerable, AnswersAs}
 use Rattle.kl1_user_effects.proofs.States.{found_in}
 use Rattle.kl1_user_account.proofs.Origins.{kept_at}
-use Rattle.kl1_user_account.proofs.StartSteps.{names_used}
+use Rattle.kl1_user_account.proofs.StartSteps.{crowded, uncrowded, free_in}
 
 -- ---- the step of an answer
+
+-- what comes of an answer to a living shoen, by whether its names are few, whether there is room and whether the journal has room
+abbrev judged_by : State → ℕ → Term → Term → Bool → Bool → Bool → Transition
+judged_by s report goal reports few keeps free =
+    unless s ((not few, too_many_names) ∷ (not keeps, limit_passed) ∷ (not free, journal_full) ∷ []) (answer_by s goal (unanswered_at reports report))
 
 -- what comes of an answer if the shoen lives or doesn't, by what a substitute waits for
 abbrev after_life : State → ℕ → Term → Term → Bool → Transition
 after_life s report goal reports b =
-    if b then named s (with_names s.names (names_of goal)) (limited s (has_room_to_answer s goal) (recorded s (answer_by s goal (unanswered_at reports report)))) else refuse s shoen_ended
+    if b then judged_by s report goal reports (nat_le (length (with_names s.names (names_of goal))) MOST_NAMES) (has_room_to_answer s goal) (nat_lt s.entries (limits_of s.rules).entries) else refuse s shoen_ended
 
 -- one that isn't right, or that the rules don't know
 answer_wrong : (s : State) (n report : ℕ) (goal : Term) → (has_substitutes s.rules && may_answer n report goal) ≡ false → step s (answer n report goal) ≡ refuse s syntax
@@ -93,28 +99,28 @@ answer_some s t last goals ss n report goal o b e some lives = answer_right s t 
 -- room by what is counted of a state
 room_in : (s : State) (names : List Known) (c : Counted) (goal : Term) → HasNames s names c → has_room_to_answer s goal ≡ has_room_to_answer_beside c (highest goal) (structures_of goal)
 room_in s names c goal at =
-    ap₂ (λ x y. nat_le (x + highest goal) MOST_VARIABLES && nat_le (y + structures_of goal) MOST_NODES) at.variables_are at.nodes_are
+    ap (λ (m : Limits). nat_le (s.variables + highest goal) m.variables && nat_le (s.nodes + structures_of goal) m.nodes) at.most_are
+    ∙ ap₂ (λ x y. nat_le (x + highest goal) c.most.variables && nat_le (y + structures_of goal) c.most.nodes) at.variables_are at.nodes_are
 
--- whether names are few, of a state
-few_in : (s : State) (names : List Known) (c : Counted) (goal : Term) (b : Bool) → HasNames s names c → nat_lt MOST_NAMES (length (with_texts (texts_of names) (with_names [] (names_of goal)))) ≡ b → nat_lt MOST_NAMES (length (with_names s.names (names_of goal))) ≡ b
-few_in s names c goal b at e =
-    ap (λ (ns : List (List ℕ)). nat_lt MOST_NAMES (length (with_names ns (names_of goal)))) at.names_are
-    ∙ ap (λ (ns : List (List ℕ)). nat_lt MOST_NAMES (length ns)) (sym (names_used (texts_of names) (with_names [] (names_of goal)) goal refl))
-    ∙ e
+-- whether names are too many, of a state
+many_in : (s : State) (names : List Known) (c : Counted) (goal : Term) (b : Bool) → HasNames s names c → nat_lt MOST_NAMES (length (with_texts (texts_of names) (with_names [] (names_of goal)))) ≡ b → nat_lt MOST_NAMES (length (with_texts s.names (with_names [] (names_of goal)))) ≡ b
+many_in s names c goal b at e = ap (λ (ns : List (List ℕ)). nat_lt MOST_NAMES (length (with_texts ns (with_names [] (names_of goal))))) at.names_are ∙ e
 
--- too many names
-after_crowd : (s : State) (report : ℕ) (goal reports : Term) → nat_lt MOST_NAMES (length (with_names s.names (names_of goal))) ≡ true → after_life s report goal reports true ≡ refuse s too_many_names
-after_crowd s report goal reports many =
-    let lt = ltb-true MOST_NAMES (length (with_names s.names (names_of goal))) many in
-    ap (λ b. if b then limited s (has_room_to_answer s goal) (recorded s (answer_by s goal (unanswered_at reports report))) else refuse s too_many_names) (lt-leb (length (with_names s.names (names_of goal))) MOST_NAMES (omega (arith, lt)))
+-- names of a state that are too many
+crowded_in : (s : State) (names : List Known) (c : Counted) (goal : Term) → HasNames s names c → nat_lt MOST_NAMES (length (with_texts (texts_of names) (with_names [] (names_of goal)))) ≡ true → nat_le (length (with_names s.names (names_of goal))) MOST_NAMES ≡ false
+crowded_in s names c goal at many = crowded s.names (with_names [] (names_of goal)) goal refl (many_in s names c goal true at many)
 
--- few names, by whether there is room
-after_names : (s : State) (report : ℕ) (goal reports : Term) (b : Bool) → nat_lt MOST_NAMES (length (with_names s.names (names_of goal))) ≡ false → has_room_to_answer s goal ≡ b →
-    after_life s report goal reports true ≡ limited s b (recorded s (answer_by s goal (unanswered_at reports report)))
-after_names s report goal reports b few room =
-    let le = ltb-false MOST_NAMES (length (with_names s.names (names_of goal))) few in
-    ap (λ c. if c then limited s (has_room_to_answer s goal) (recorded s (answer_by s goal (unanswered_at reports report))) else refuse s too_many_names) (le-leb (length (with_names s.names (names_of goal))) MOST_NAMES (omega (arith, le)))
-    ∙ ap (λ c. limited s c (recorded s (answer_by s goal (unanswered_at reports report)))) room
+-- names of a state that aren't
+uncrowded_in : (s : State) (names : List Known) (c : Counted) (goal : Term) → HasNames s names c → nat_lt MOST_NAMES (length (with_texts (texts_of names) (with_names [] (names_of goal)))) ≡ false → nat_le (length (with_names s.names (names_of goal))) MOST_NAMES ≡ true
+uncrowded_in s names c goal at few = uncrowded s.names (with_names [] (names_of goal)) goal refl (many_in s names c goal false at few)
+
+-- an answer to a living shoen
+after_living : (s : State) (report : ℕ) (goal reports : Term) (few keeps free : Bool) → nat_le (length (with_names s.names (names_of goal))) MOST_NAMES ≡ few → has_room_to_answer s goal ≡ keeps → nat_lt s.entries (limits_of s.rules).entries ≡ free →
+    after_life s report goal reports true ≡ judged_by s report goal reports few keeps free
+after_living s report goal reports few keeps free e k r =
+    ap (λ b. judged_by s report goal reports b (has_room_to_answer s goal) (nat_lt s.entries (limits_of s.rules).entries)) e
+    ∙ ap (λ b. judged_by s report goal reports few b (nat_lt s.entries (limits_of s.rules).entries)) k
+    ∙ ap (judged_by s report goal reports few keeps) r
 
 -- ---- refusals
 
@@ -135,44 +141,42 @@ module _ (rules : Rules) (h : Held CellName) (ss : List (Shoen CellName)) (names
   refused_crowd o is some lives many f reads s goals same at =
       let S = with_kept f s h goals ss in
       answer_some s (meaning f h) (h.variables - 1) goals ss n report goal o true (knows_rules s true same is) some lives
-      ∙ after_crowd S report goal (meaning f h o.reports) (few_in S names c goal true at many)
+      ∙ after_living S report goal (meaning f h o.reports) false (has_room_to_answer S goal) (nat_lt S.entries (limits_of S.rules).entries) (crowded_in S names c goal at many) refl refl
 
   pub refused_limit : (o : Origin CellName) → (has_substitutes rules && may_answer n report goal) ≡ true → kept_at n ss ≡ Some o → lives_in ss n ≡ true → nat_lt MOST_NAMES (length (with_texts (texts_of names) (with_names [] (names_of goal)))) ≡ false → has_room_to_answer_beside c (highest goal) (structures_of goal) ≡ false →
       RefusesAnswer rules h ss names c n report goal Limit
   refused_limit o is some lives few keeps f reads s goals same at =
       let S = with_kept f s h goals ss in
       answer_some s (meaning f h) (h.variables - 1) goals ss n report goal o true (knows_rules s true same is) some lives
-      ∙ after_names S report goal (meaning f h o.reports) false (few_in S names c goal false at few) (room_in S names c goal at ∙ keeps)
+      ∙ after_living S report goal (meaning f h o.reports) true false (nat_lt S.entries (limits_of S.rules).entries) (uncrowded_in S names c goal at few) (room_in S names c goal at ∙ keeps) refl
 
-  -- what comes of an answer that keeps to the limits
-  within : (o : Origin CellName) → (has_substitutes rules && may_answer n report goal) ≡ true → kept_at n ss ≡ Some o → lives_in ss n ≡ true → nat_lt MOST_NAMES (length (with_texts (texts_of names) (with_names [] (names_of goal)))) ≡ false → has_room_to_answer_beside c (highest goal) (structures_of goal) ≡ true →
-      (f : Reading) (s : State) (goals : List (Goal CellName)) → s.rules ≡ rules → HasNames (with_kept f s h goals ss) names c →
-      step (with_kept f s h goals ss) (answer n report goal) ≡ recorded (with_kept f s h goals ss) (answer_by (with_kept f s h goals ss) goal (unanswered_at (meaning f h o.reports) report))
-  within o is some lives few keeps f s goals same at =
+  -- what comes of an answer that keeps to the limits, by whether the journal has room
+  within : (o : Origin CellName) (free : Bool) → (has_substitutes rules && may_answer n report goal) ≡ true → kept_at n ss ≡ Some o → lives_in ss n ≡ true → nat_lt MOST_NAMES (length (with_texts (texts_of names) (with_names [] (names_of goal)))) ≡ false → has_room_to_answer_beside c (highest goal) (structures_of goal) ≡ true →
+      nat_lt c.entries c.most.entries ≡ free → (f : Reading) (s : State) (goals : List (Goal CellName)) → s.rules ≡ rules → HasNames (with_kept f s h goals ss) names c →
+      step (with_kept f s h goals ss) (answer n report goal) ≡ (let S = with_kept f s h goals ss in if free then answer_by S goal (unanswered_at (meaning f h o.reports) report) else refuse S journal_full)
+  within o free is some lives few keeps room f s goals same at =
       let S = with_kept f s h goals ss in
       answer_some s (meaning f h) (h.variables - 1) goals ss n report goal o true (knows_rules s true same is) some lives
-      ∙ after_names S report goal (meaning f h o.reports) true (few_in S names c goal false at few) (room_in S names c goal at ∙ keeps)
+      ∙ after_living S report goal (meaning f h o.reports) true true free (uncrowded_in S names c goal at few) (room_in S names c goal at ∙ keeps) (free_in S names c at ∙ room)
+      ∙ by free S (answer_by S goal (unanswered_at (meaning f h o.reports) report))
+    where
+      by : (b : Bool) (s : State) (after : Transition) → unless s ((not true, too_many_names) ∷ (not true, limit_passed) ∷ (not b, journal_full) ∷ []) after ≡ (if b then after else refuse s journal_full)
+      by true s after = refl
+      by false s after = refl
 
-  pub refused_full : (o : Origin CellName) → (has_substitutes rules && may_answer n report goal) ≡ true → kept_at n ss ≡ Some o → lives_in ss n ≡ true → nat_lt MOST_NAMES (length (with_texts (texts_of names) (with_names [] (names_of goal)))) ≡ false → has_room_to_answer_beside c (highest goal) (structures_of goal) ≡ true → MOST_ENTRIES ≤ c.entries →
+  pub refused_full : (o : Origin CellName) → (has_substitutes rules && may_answer n report goal) ≡ true → kept_at n ss ≡ Some o → lives_in ss n ≡ true → nat_lt MOST_NAMES (length (with_texts (texts_of names) (with_names [] (names_of goal)))) ≡ false → has_room_to_answer_beside c (highest goal) (structures_of goal) ≡ true → not (nat_lt c.entries c.most.entries) ≡ true →
       RefusesAnswer rules h ss names c n report goal Journal
-  refused_full o is some lives few keeps full f reads s goals same at =
-      let S = with_kept f s h goals ss in
-      let e = at.entries_are in
-      within o is some lives few keeps f s goals same at
-      ∙ ap (λ b. if b then answer_by S goal (unanswered_at (meaning f h o.reports) report) else refuse S journal_full) (le-ltb S.entries MOST_ENTRIES (omega (arith, full, e)))
+  refused_full o is some lives few keeps full f reads s goals same at = within o false is some lives few keeps (not-true (nat_lt c.entries c.most.entries) full) f s goals same at
 
-  pub refused_answered : (o : Origin CellName) → (has_substitutes rules && may_answer n report goal) ≡ true → kept_at n ss ≡ Some o → lives_in ss n ≡ true → nat_lt MOST_NAMES (length (with_texts (texts_of names) (with_names [] (names_of goal)))) ≡ false → has_room_to_answer_beside c (highest goal) (structures_of goal) ≡ true → c.entries < MOST_ENTRIES →
+  pub refused_answered : (o : Origin CellName) → (has_substitutes rules && may_answer n report goal) ≡ true → kept_at n ss ≡ Some o → lives_in ss n ≡ true → nat_lt MOST_NAMES (length (with_texts (texts_of names) (with_names [] (names_of goal)))) ≡ false → has_room_to_answer_beside c (highest goal) (structures_of goal) ≡ true → not (nat_lt c.entries c.most.entries) ≡ false →
       ((f : Reading) → Reads built f → unanswered_at (meaning f h o.reports) report ≡ None) → RefusesAnswer rules h ss names c n report goal Answer
   refused_answered o is some lives few keeps room none f reads s goals same at =
       let S = with_kept f s h goals ss in
-      let e = at.entries_are in
-      within o is some lives few keeps f s goals same at
-      ∙ ap (λ b. if b then answer_by S goal (unanswered_at (meaning f h o.reports) report) else refuse S journal_full) (lt-ltb S.entries MOST_ENTRIES (omega (arith, room, e)))
-      ∙ ap (answer_by S goal) (none f reads)
+      within o true is some lives few keeps (not-false (nat_lt c.entries c.most.entries) room) f s goals same at ∙ ap (answer_by S goal) (none f reads)
 
   -- ---- an answer that is given
 
-  pub answerable : (o : Origin CellName) (code : Term) (v : ℕ) → (has_substitutes rules && may_answer n report goal) ≡ true → kept_at n ss ≡ Some o → lives_in ss n ≡ true → nat_lt MOST_NAMES (length (with_texts (texts_of names) (with_names [] (names_of goal)))) ≡ false → has_room_to_answer_beside c (highest goal) (structures_of goal) ≡ true → c.entries < MOST_ENTRIES →
+  pub answerable : (o : Origin CellName) (code : Term) (v : ℕ) → (has_substitutes rules && may_answer n report goal) ≡ true → kept_at n ss ≡ Some o → lives_in ss n ≡ true → nat_lt MOST_NAMES (length (with_texts (texts_of names) (with_names [] (names_of goal)))) ≡ false → has_room_to_answer_beside c (highest goal) (structures_of goal) ≡ true → not (nat_lt c.entries c.most.entries) ≡ false →
       code ≡ goal → IsUnbound h v → ((f : Reading) → Reads built f → unanswered_at (meaning f h o.reports) report ≡ Some v) → IsAnswerable rules h ss names c n report goal code v
   answerable o code v is some lives few keeps room code_is unbound waits =
       let both = and_parts (has_substitutes rules) (may_answer n report goal) is in
@@ -188,7 +192,7 @@ module _ (rules : Rules) (h : Held CellName) (ss : List (Shoen CellName)) (names
         kept = at.1.1.1;
         few = few;
         keeps = keeps;
-        room = room;
+        room = ltb-true c.entries c.most.entries (not-false (nat_lt c.entries c.most.entries) room);
         unbound = unbound;
         waits = waits;
       }
@@ -207,14 +211,10 @@ module _ (rules : Rules) (h : Held CellName) (ss : List (Shoen CellName)) (names
       step (with_kept f s h goals ss) (answer n report goal) ≡ record { state = with_entry (answered v goal (with_kept f s h goals ss)); reply = sent }
   step_answerable code v may f reads s goals same at =
       let S = with_kept f s h goals ss in
-      let e = at.entries_are in
-      let room = may.room in
       let is : (has_substitutes rules && may_answer n report goal) ≡ true = ap₂ (λ x y. x && y) may.substitutes may.may in
       let some : kept_at n ss ≡ Some may.origin = ap (option_and_then (λ (z : Shoen CellName). z.origin)) may.found ∙ may.kept in
       let lives : lives_in ss n ≡ true = ap (λ (p : Option (Shoen CellName)). unwrap_or (option_map (λ z. is_living z.life) p) false) may.found ∙ ap is_living may.lives in
-      within may.origin is some lives may.few may.keeps f s goals same at
-      ∙ ap (λ b. if b then answer_by S goal (unanswered_at (meaning f h may.origin.reports) report) else refuse S journal_full) (lt-ltb S.entries MOST_ENTRIES (omega (arith, room, e)))
-      ∙ ap (answer_by S goal) (may.waits f reads)
+      within may.origin true is some lives may.few may.keeps (lt-ltb c.entries c.most.entries may.room) f s goals same at ∙ ap (answer_by S goal) (may.waits f reads)
 
 -- ---- what is known of an answer that is right
 

@@ -7,7 +7,7 @@ use Rattle.kl1_model.specs.Term.{Term, variable, integer, atom, structure, Terms
 use Rattle.kl1_model.specs.code.Unifying.{replaced, after}
 use Rattle.kl1_model.specs.code.TermCode.{nodes_of}
 use Rattle.kl1_model.specs.Meaning.{highest, variables_of, variables_in, numbered_after, is_numbered}
-use Rattle.kl1_model.specs.Unify.{Equation, fails, binds, equations_size, mgu_within, highest_among, mgu}
+use Rattle.kl1_model.specs.Unify.{Equation, conflicts, eliminates, equations_size, mgu_within, highest_among, mgu}
 use Rattle.kl1_model.specs.Goal.{is_goal}
 use Rattle.kl1_model.specs.Opening.{with_next_variables}
 use Rattle.kl1_model.specs.State.{names_of, with_names}
@@ -36,7 +36,7 @@ use Rattle.kl1_match.proofs.Places.{kept_with}
 use Rattle.kl1_goals.specs.declared.goal.Goal.{Goal}
 use Rattle.kl1_goals.specs.Tables.{AreInOrder}
 use Rattle.kl1_shoen_paths.specs.declared.shoen.Shoen.{Shoen}
-use Rattle.kl1_codes_modules.specs.Shelves.{Program}
+use Rattle.kl1_codes.specs.Shelves.{Program}
 use Rattle.kl1_user_effects.specs.declared.draft.Change.{Change}
 use Rattle.kl1_user_effects.specs.Fitting.{Reading, built}
 use Rattle.kl1_user_effects.specs.Account.{meaning}
@@ -104,7 +104,7 @@ one_by v t = record { number = v; by = t } ∷ []
 abbrev one_equation : ℕ → Term → List Equation
 one_equation v t = record { left = variable v; right = t } ∷ []
 
-front_solves : (last v : ℕ) (t : Term) (b : Bool) → after (mgu_within (suc (suc last)) 1) (λ to. mgu_within (suc last) (equations_size to) to) (if b then fails else binds v t []) ≡ (if b then None else Some (one_by v t))
+front_solves : (last v : ℕ) (t : Term) (b : Bool) → after (mgu_within (suc (suc last)) 1) (λ to. mgu_within (suc last) (equations_size to) to) (if b then conflicts else eliminates v t []) ≡ (if b then None else Some (one_by v t))
 unfolding mgu_within
 front_solves last v t true = refl
 front_solves last v t false = refl

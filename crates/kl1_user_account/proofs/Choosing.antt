@@ -12,7 +12,8 @@ use Rattle.kl1_model.specs.Tree.{is_enabled, is_enabled_in}
 use Rattle.kl1_model.specs.Look.{goal_look}
 use Rattle.kl1_model.specs.Reduction.{Move, moves, term_move, read_action, task_action, action_of}
 use Rattle.kl1_model.specs.code.Waits.{move_by, look_clause, call_clauses}
-use Rattle.kl1_model.specs.Choice.{task_clauses, clause_for, can_step, quiet, goes_before, first_of_goals, Chosen, first}
+use Rattle.kl1_model.specs.Rules.{has_runs}
+use Rattle.kl1_model.specs.Choice.{task_clauses, clause_for, can_step, quiet, goes_before, first_of_goals, Chosen, first, is_first, is_in_run}
 use Rattle.kl1_model.specs.code.Steps.{substitute_move, monitor_action, chosen}
 use Rattle.kl1_store.specs.Held.{Held}
 use Rattle.kl1_store.specs.Hooks.{Hook}
@@ -25,8 +26,8 @@ use Rattle.kl1_shoen_paths.specs.declared.shoen.Shoen.{Shoen}
 use Rattle.kl1_shoen.specs.Shoens.{shoen_in}
 use Rattle.kl1_shoen.proofs.Meaning.{Has, enabled_is}
 use Rattle.kl1_goals.specs.Readies.{Ready, goes_first, stands, ready_by, ready_of, better, first_from, chosen as chosen_pair}
-use Rattle.kl1_codes_modules.specs.Finding.{contents}
-use Rattle.kl1_codes_modules.specs.Shelves.{Program}
+use Rattle.kl1_codes.specs.Finding.{contents}
+use Rattle.kl1_codes.specs.Shelves.{Program}
 use Rattle.kl1_user_effects.specs.Fitting.{Reading, Fits}
 use Rattle.kl1_user_effects.specs.Account.{Account, program_of, Means, meaning, aim_with, goal_with, task_with, shoen_with, state_of}
 use Rattle.kl1_user_effects.specs.Settled.{front_with, control_with, control_clause, monitor_clause, task_clause, IsSettled, AreSettled, IsEnabled, AreEnabled}
@@ -131,8 +132,8 @@ least b [] = b
 least b (g ∷ gs) = least (if goes_before g b then g else b) gs
 
 -- whether none goes before
-abbrev is_first : List model.Goal → model.Goal → Bool
-is_first gs x = not (list_any (λ h. goes_before h x) gs)
+abbrev is_first_among : List model.Goal → model.Goal → Bool
+is_first_among gs x = not (list_any (λ h. goes_before h x) gs)
 
 find_same : (p q : model.Goal → Bool) → ((x : model.Goal) → p x ≡ q x) → (gs : List model.Goal) → find p gs ≡ find q gs
 find_same p q e [] = refl
@@ -170,20 +171,20 @@ not_first true v y w e f h = absurd (false≢true (sym e))
 not_first false true y w e f h = ap not (or_right y w (f refl))
 not_first false false y w e f h = absurd (false≢true (sym h))
 
-first_is_least : (b : model.Goal) (gs : List model.Goal) → find (is_first (b ∷ gs)) (b ∷ gs) ≡ Some (least b gs)
+first_is_least : (b : model.Goal) (gs : List model.Goal) → find (is_first_among (b ∷ gs)) (b ∷ gs) ≡ Some (least b gs)
 first_is_least b [] = ap (λ c. if not (c || false) then Some b else None) (irreflexive b)
 first_is_least b (g ∷ gs) = by_case (cases_Bool (goes_before g b)) (first_is_least g gs) (first_is_least b gs)
   where
-    by_case : (goes_before g b ≡ true) ⊎ (goes_before g b ≡ false) → find (is_first (g ∷ gs)) (g ∷ gs) ≡ Some (least g gs) → find (is_first (b ∷ gs)) (b ∷ gs) ≡ Some (least b gs) →
-        find (is_first (b ∷ g ∷ gs)) (b ∷ g ∷ gs) ≡ Some (least b (g ∷ gs))
+    by_case : (goes_before g b ≡ true) ⊎ (goes_before g b ≡ false) → find (is_first_among (g ∷ gs)) (g ∷ gs) ≡ Some (least g gs) → find (is_first_among (b ∷ gs)) (b ∷ gs) ≡ Some (least b gs) →
+        find (is_first_among (b ∷ g ∷ gs)) (b ∷ g ∷ gs) ≡ Some (least b (g ∷ gs))
     by_case (inl t) on_g on_b =
-        dropped (goes_before b b) b (find (is_first (b ∷ g ∷ gs)) (g ∷ gs)) (goes_before g b) (list_any (λ h. goes_before h b) gs) t
-        ∙ find_same (is_first (b ∷ g ∷ gs)) (is_first (g ∷ gs)) (λ x. implied (goes_before b x) (goes_before g x) (list_any (λ h. goes_before h x) gs) (before_on g b x t)) (g ∷ gs)
+        dropped (goes_before b b) b (find (is_first_among (b ∷ g ∷ gs)) (g ∷ gs)) (goes_before g b) (list_any (λ h. goes_before h b) gs) t
+        ∙ find_same (is_first_among (b ∷ g ∷ gs)) (is_first_among (g ∷ gs)) (λ x. implied (goes_before b x) (goes_before g x) (list_any (λ h. goes_before h x) gs) (before_on g b x t)) (g ∷ gs)
         ∙ on_g
         ∙ ap (λ c. Some (least (if c then g else b) gs)) (sym t)
     by_case (inr f) on_g on_b =
-        find_same (is_first (b ∷ g ∷ gs)) (is_first (b ∷ gs)) (λ x. implied_later (goes_before b x) (goes_before g x) (list_any (λ h. goes_before h x) gs) (before_over g b x f)) (b ∷ g ∷ gs)
-        ∙ skipped b g (is_first (b ∷ gs) b) (is_first (b ∷ gs) g) (find (is_first (b ∷ gs)) gs)
+        find_same (is_first_among (b ∷ g ∷ gs)) (is_first_among (b ∷ gs)) (λ x. implied_later (goes_before b x) (goes_before g x) (list_any (λ h. goes_before h x) gs) (before_over g b x f)) (b ∷ g ∷ gs)
+        ∙ skipped b g (is_first_among (b ∷ gs) b) (is_first_among (b ∷ gs) g) (find (is_first_among (b ∷ gs)) gs)
         (not_first (goes_before b b) (list_any (λ h. goes_before h b) gs) (goes_before b g) (list_any (λ h. goes_before h g) gs) (irreflexive b) (any_goes b g f gs))
         ∙ on_b
         ∙ ap (λ c. Some (least (if c then g else b) gs)) (sym f)
@@ -437,3 +438,29 @@ is_quiet f a b hooks r e settled enabled p fits =
     ap not p
     ∙ quiet_is (state_of f a) (meaning f a.held) a.goals refl (stand_in f a hooks all enabled)
     ∙ ap (λ (z : Account). quiet (state_of f z)) e
+
+-- ---- whether a reduction is noted in a run
+
+-- whether what the table picks is this goal with this clause
+abbrev pub is_picked : Option (ℕ × ℕ) → ℕ → ℕ → Bool
+is_picked None n c = false
+is_picked (Some p) n c = p.0 == n && p.1 == c
+
+abbrev is_chosen : Option Chosen → ℕ → ℕ → Bool
+is_chosen o n c = elim o [ None ↦ false | Some k ↦ k.goal == n && k.clause == c ]
+
+picked_as : (o : Option (ℕ × ℕ)) (n c : ℕ) → is_picked o n c ≡ is_chosen (option_map chosen_by o) n c
+picked_as None n c = refl
+picked_as (Some p) n c = refl
+
+-- by rules without runs none is
+pub not_in_run : (f : Reading) (a b : Account) (n c : ℕ) → a ≡ b → has_runs a.rules ≡ false → false ≡ is_in_run (state_of f b) n c
+not_in_run f a b n c e off = sym (ap (λ w. w && is_first (state_of f b) n c) (ap (λ (z : Account). has_runs z.rules) (sym e) ∙ off))
+
+-- by rules with runs what the table picks is
+pub in_run_as : (f : Reading) (a b : Account) (hooks : List Hook) (n c : ℕ) (o : Option (ℕ × ℕ)) → a ≡ b → has_runs a.rules ≡ true → AreSettledIn a hooks → AreEnabled a.shoens a.work a.goals → o ≡ option_map chosen_pair (first_from None a.goals) → Fits b.names f →
+    is_picked o n c ≡ is_in_run (state_of f b) n c
+in_run_as f a b hooks n c o e on settled enabled p fits =
+    picked_as o n c
+    ∙ ap (λ x. is_chosen x n c) (picks f a b hooks o e settled enabled p fits)
+    ∙ sym (ap (λ w. w && is_first (state_of f b) n c) (ap (λ (z : Account). has_runs z.rules) (sym e) ∙ on))

@@ -1,7 +1,6 @@
 -- A move that is found is one of the definitions.
-use Rattle.std.proofs.Common.{◌≡◌, ℕ, ◌<◌, List, [], ◌∷◌, length, refl, sym, ap, ◌∙◌, arith, subst}
+use Rattle.std.proofs.Common.{◌≡◌, ℕ, Bool, false, List, [], ◌∷◌, length, refl, sym, ap, ◌∙◌, arith, subst}
 use Rattle.std.specs.Prelude.{Option, Some, None, slice_get}
-use Rattle.kl1_model.specs.declared.limits.TheConstants.{MOST_ENTRIES}
 use Rattle.kl1_model.specs.Text.{text_of}
 use Rattle.kl1_model.specs.Reduction as model
 use Rattle.kl1_model.specs.code.Waits.{move_by}
@@ -22,8 +21,8 @@ use Rattle.kl1_goals_moves.specs.Moves.{IsMove, MovesAs, MoveIn}
 use Rattle.kl1_goals_moves.specs.Substitutes.{move_by_clause, substitute_move_of, SubstituteMoves}
 use Rattle.kl1_goals.specs.declared.task.Task.{Task}
 use Rattle.kl1_goals.specs.declared.task.Task.TheVariants.{Reduces, Substitutes}
-use Rattle.kl1_codes_modules.specs.Finding.{contents}
-use Rattle.kl1_codes_modules.specs.Shelves.{Program}
+use Rattle.kl1_codes.specs.Finding.{contents}
+use Rattle.kl1_codes.specs.Shelves.{Program}
 use Rattle.kl1_user_effects.specs.Fitting.{Reading, built, reading_of, reading_fits}
 use Rattle.kl1_user_effects.specs.Account.{meaning, task_with, aim, whole}
 use Rattle.kl1_user_account.specs.Reducing.{move_or_go, move_at, task_move, move_of_task, IsMade, IsToMake}
@@ -77,9 +76,9 @@ allowed_move f program h p places text x m clause inside moves = allowed f h (mo
 -- ---- moves that are to be made
 
 -- a goal that is to be reduced
-pub goal_makes : (h : Held CellName) (program : Program) (entries : ℕ) (k : Task CellName) (x : Qualified CellName) (c : ℕ) (p : Predicate CellName) (places : List (Place CellName)) (text : List ℕ) (m : Move CellName) → k ≡ Reduces x → IsMade h program entries x c p places text m → IsToMake h program entries k x c p places text m
-goal_makes h program entries k x c p places text m is makes =
-    let T : Task CellName → Type 0 = λ z. IsToMake h program entries z x c p places text m in
+pub goal_makes : (h : Held CellName) (program : Program) (full : Bool) (k : Task CellName) (x : Qualified CellName) (c : ℕ) (p : Predicate CellName) (places : List (Place CellName)) (text : List ℕ) (m : Move CellName) → k ≡ Reduces x → IsMade h program full x c p places text m → IsToMake h program full k x c p places text m
+goal_makes h program full k x c p places text m is makes =
+    let T : Task CellName → Type 0 = λ z. IsToMake h program full z x c p places text m in
     subst T (sym is) (record { task = refl; moves = makes.moves; some = makes.some; room = makes.room })
 
 -- a substitute's move, told of cells
@@ -103,10 +102,10 @@ substitute_inside h o p places text made.Goes s = absurd s
 substitute_inside h o p places text made.GivesWay s = tt
 
 -- a substitute
-pub substitute_makes : (h : Held CellName) (program : Program) (entries : ℕ) (k : Task CellName) (y : Cell CellName) (c : ℕ) (p : Predicate CellName) (places : List (Place CellName)) (text : List ℕ) (o : Option (Move CellName)) (m : Move CellName) → k ≡ Substitutes y → o ≡ Some m →
-    ((f : Reading) → Reads built f → SubstituteMoves (meaning f h y) c o) → entries < MOST_ENTRIES → IsToMake h program entries k (whole y) c p places text m
-substitute_makes h program entries k y c p places text o m is found moves room =
-    let T : Task CellName → Type 0 = λ z. IsToMake h program entries z (whole y) c p places text m in
+pub substitute_makes : (h : Held CellName) (program : Program) (full : Bool) (k : Task CellName) (y : Cell CellName) (c : ℕ) (p : Predicate CellName) (places : List (Place CellName)) (text : List ℕ) (o : Option (Move CellName)) (m : Move CellName) → k ≡ Substitutes y → o ≡ Some m →
+    ((f : Reading) → Reads built f → SubstituteMoves (meaning f h y) c o) → full ≡ false → IsToMake h program full k (whole y) c p places text m
+substitute_makes h program full k y c p places text o m is found moves room =
+    let T : Task CellName → Type 0 = λ z. IsToMake h program full z (whole y) c p places text m in
     let one : (f : Reading) → Reads built f → SubstituteMoves (meaning f h y) c (Some m) = λ f reads. (let S : Option (Move CellName) → Type 0 = λ q. SubstituteMoves (meaning f h y) c q in subst S found (moves f reads)) in
     subst T (sym is) (record {
       task = refl;

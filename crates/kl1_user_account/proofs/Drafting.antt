@@ -1,6 +1,7 @@
 -- Goals that are judged before their names are published.
 use Rattle.std.proofs.Common.{◌≡◌, ℕ, ◌+◌, ◌-◌, List, [], ◌∷◌, sym, ap, ◌∙◌, arith, subst}
 use Rattle.std.specs.Prelude.{Option}
+use Rattle.kl1_model.specs.Rules.{limits_of}
 use Rattle.kl1_model.specs.Term.{Term}
 use Rattle.kl1_model.specs.code.TermCode.{nodes_of}
 use Rattle.kl1_model.specs.Module.{Module}
@@ -19,8 +20,8 @@ use Rattle.kl1_goals_moves.specs.declared.kind.Kind.{Kind}
 use Rattle.kl1_goals_moves.specs.Kinds.{IsKind}
 use Rattle.kl1_goals_moves.specs.Moves.{HasPredicate}
 use Rattle.kl1_goals_moves.specs.Standing.{StandsAs}
-use Rattle.kl1_codes_modules.specs.Finding.{contents}
-use Rattle.kl1_codes_modules.specs.Shelves.{Program}
+use Rattle.kl1_codes.specs.Finding.{contents}
+use Rattle.kl1_codes.specs.Shelves.{Program}
 use Rattle.kl1_user_effects.specs.Fitting.{Reading, built}
 use Rattle.kl1_user_effects.specs.Account.{meaning}
 use Rattle.kl1_user_effects.specs.Works.{Knows}
@@ -68,16 +69,16 @@ cells_grown h k g [] i = tt
 cells_grown h k g (x ∷ xs) i = (in_grown h k g x i.0, cells_grown h k g xs i.1)
 
 -- a start that was drafted
-pub drafted : (program : Program) (names : List Known) (texts : List (List ℕ)) (row : List Instruction) (count allowance made : ℕ) (old one two new : Held CellName) (was cells : List (Cell CellName)) (numbers sliced : List CellName) (awaited : List ℕ) (streams : Streams) (standing : Option ℕ) →
-    one ≡ with_variables old count → AreGoalVariables one (old.variables - 1) count was → OpensStreams allowance made one two streams → Grown one two → new ≡ two → cells ≡ was →
+pub drafted : (program : Program) (names : List Known) (texts : List (List ℕ)) (row : List Instruction) (count allowance made most : ℕ) (old one two new : Held CellName) (was cells : List (Cell CellName)) (numbers sliced : List CellName) (awaited : List ℕ) (streams : Streams) (standing : Option ℕ) →
+    one ≡ with_variables old count → AreGoalVariables one (old.variables - 1) count was → OpensStreams allowance made most one two streams → most ≡ (limits_of program.rules).reports → Grown one two → new ≡ two → cells ≡ was →
     (AreNames names → AreSmall names → ReadsDraft names texts numbers) → sliced ≡ numbers → Judges program sliced row was two awaited standing → AreUnbound two awaited →
     IsDrafted program names texts row count allowance made old new cells awaited (record { streams = streams; standing = standing })
-drafted program names texts row count allowance made old one two new was cells numbers sliced awaited streams standing e v o g back same draft items judge unbound =
+drafted program names texts row count allowance made most old one two new was cells numbers sliced awaited streams standing e v o limit g back same draft items judge unbound =
     let last = old.variables - 1 in
     let o1 : Opening = record { streams = streams; standing = standing } in
     let here : AreGoalVariables two last count was = record { inside = cells_grown one two g was v.inside; next = v.next; free = λ w a b. ap (λ bs. is_bound (last + w) bs) o.bindings ∙ v.free w a b } in
     let there : IsDrafted program names texts row count allowance made old two was awaited o1 = record {
-      streams = (let P : Held CellName → Type 0 = λ h. OpensStreams allowance made h two streams in subst P e o);
+      streams = (let P : Held CellName → Type 0 = λ h. OpensStreams allowance made (limits_of program.rules).reports h two streams in let M : ℕ → Type 0 = λ m. OpensStreams allowance made m one two streams in subst P e (subst M limit o));
       variables = here;
       judged = λ named small read goal is numbered many.
           let d = draft named small in

@@ -13,7 +13,7 @@ use Rattle.kl1_goals.specs.Lists.{is_other, is_monitor, is_monitor_of, is_flagge
 use Rattle.kl1_goals.specs.Tables.{Tabled, AreBefore, IsNext}
 use Rattle.kl1_shoen_paths.specs.declared.shoen.Shoen.{Shoen}
 use Rattle.kl1_shoen.specs.Shoens.{Tree, AreNumbered, is_enabled_at}
-use Rattle.kl1_codes_modules.specs.Shelves.{Program}
+use Rattle.kl1_codes.specs.Shelves.{Program}
 use Rattle.kl1_user_effects.specs.declared.draft.Draft.{Draft}
 use Rattle.kl1_user_effects.specs.Account.{Means, goal_with}
 use Rattle.kl1_user_effects.specs.Kept.{IsTaskIn, IsOwned, AreOwned}

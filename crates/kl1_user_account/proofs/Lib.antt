@@ -18,9 +18,11 @@ pub mod Drafted
 pub mod PutIn
 pub mod Steps
 pub mod StartLines
+pub mod PrintLengths
 pub mod Beyond
 pub mod Opened
 pub mod Streaming
+pub mod Begun
 pub mod TwoGoals
 pub mod StartHooks
 pub mod NamesOnce

@@ -1,16 +1,17 @@
 -- Loads, by the definition of the step.
-use Rattle.std.proofs.Common.{◌≡◌, ℕ, ◌+◌, ◌<◌, ◌≤◌, suc, Bool, true, false, if◌then◌else◌, ◌==◌, List, [], ◌∷◌, ◌++◌, length, map, refl, sym, ap, ◌∙◌, subst, arith, nat_lt, take, get_or}
+use Rattle.std.proofs.Common.{◌≡◌, ℕ, ◌+◌, ◌<◌, ◌≤◌, suc, Bool, true, false, if◌then◌else◌, ◌==◌, List, [], ◌∷◌, ◌++◌, length, map, not, refl, sym, ap, ap₂, ◌∙◌, subst, arith, nat_lt, take, get_or}
 use Rattle.std.specs.Prelude.{Some, is_some, option_map}
 use Rattle.kl1_model.specs.declared.rules.Rules.{Rules}
 use Rattle.kl1_model.specs.Control.{control_of}
 use Rattle.std.proofs.lemmas.Bool.{le-leb, lt-leb, lt-ltb, le-ltb, ltb-true, ltb-false}
 use Rattle.std.proofs.lemmas.List.{map-append, take_more}
-use Rattle.kl1_model.specs.declared.limits.TheConstants.{MOST_NAMES, MOST_MODULES, MOST_ENTRIES, MOST_SOURCE_BYTES}
+use Rattle.kl1_model.specs.declared.limits.TheConstants.{MOST_NAMES, MOST_MODULES, MOST_SOURCE_BYTES}
 use Rattle.kl1_model.specs.Module.{Module, read_module, good}
 use Rattle.kl1_model.specs.Match.{module_of}
 use Rattle.kl1_model.specs.State as model
 use Rattle.kl1_model.specs.State.{State, names_of_module, with_names}
-use Rattle.kl1_model.specs.Event.{load, loaded, refuse, with_entry, Transition}
+use Rattle.kl1_model.specs.Rules.{limits_of}
+use Rattle.kl1_model.specs.Event.{load, loaded, refuse, is_full, with_entry, Transition}
 use Rattle.kl1_model.specs.Step.{step, load_module}
 use Rattle.kl1_model.specs.code.Steps.{with_module}
 use Rattle.kl1_text.specs.Reading.{Reads}
@@ -27,11 +28,11 @@ use Rattle.kl1_goals.specs.Lists.{stood_by}
 use Rattle.kl1_goals.specs.Tables.{Tabled}
 use Rattle.kl1_shoen_paths.specs.declared.shoen.Shoen.{Shoen}
 use Rattle.kl1_shoen.specs.Shoens.{shoen_in}
-use Rattle.kl1_codes_modules.specs.Numbered.{Numbered, own_names, number_of, IsRead, AreRead}
-use Rattle.kl1_codes_modules.specs.Finding.{contents, is_numbered, TellsModule}
-use Rattle.kl1_codes_modules.specs.Shelves.{with_last}
-use Rattle.kl1_codes_modules.proofs.Names.{number_reads}
-use Rattle.kl1_codes_modules.proofs.Shelving.{tells}
+use Rattle.kl1_codes.specs.Numbered.{Numbered, own_names, number_of, IsRead, AreRead}
+use Rattle.kl1_codes.specs.Finding.{contents, is_numbered, TellsModule}
+use Rattle.kl1_codes.specs.Shelves.{with_last}
+use Rattle.kl1_codes.proofs.Names.{number_reads}
+use Rattle.kl1_codes.proofs.Shelving.{tells}
 use Rattle.kl1_store_hooks.specs.Hanging.{HangsOnEach}
 use Rattle.kl1_user_effects.specs.declared.draft.Change.{Change}
 use Rattle.kl1_user_account.specs.declared.loading.Loading.{Loading}
@@ -69,12 +70,12 @@ pub crowds_is : (names : List Known) (d : Numbered) (code : Module) (texts : Lis
 crowds_is names d code texts b e are is = sym (e ∙ ap (λ (xs : List (List ℕ)). nat_lt MOST_NAMES (length (with_texts (texts_of names) xs))) (are ∙ ap own_names is))
 
 -- a module whose name is taken
-pub draft_exists : (ms : List Numbered) (names : List Known) (entries : ℕ) (d : Numbered) → is_some (module_of (contents ms) d.content.name) ≡ true → DraftsAs ms names entries d (Some Exists)
-draft_exists ms names entries d there = λ s at. rw (at.modules_are, there) refl
+pub draft_exists : (ms : List Numbered) (names : List Known) (full : Bool) (d : Numbered) → is_some (module_of (contents ms) d.content.name) ≡ true → DraftsAs ms names full d (Some Exists)
+draft_exists ms names full d there = λ s at. rw (at.modules_are, there) refl
 
 -- names that would be too many
-pub draft_crowds : (ms : List Numbered) (names : List Known) (entries : ℕ) (d : Numbered) → is_some (module_of (contents ms) d.content.name) ≡ false → nat_lt MOST_NAMES (length (with_texts (texts_of names) (own_names d.content))) ≡ true → DraftsAs ms names entries d (Some Names)
-draft_crowds ms names entries d absent many = λ s at.
+pub draft_crowds : (ms : List Numbered) (names : List Known) (full : Bool) (d : Numbered) → is_some (module_of (contents ms) d.content.name) ≡ false → nat_lt MOST_NAMES (length (with_texts (texts_of names) (own_names d.content))) ≡ true → DraftsAs ms names full d (Some Names)
+draft_crowds ms names full d absent many = λ s at.
     let n = length (with_names (texts_of names) (names_of_module d.content)) in
     let is : length (with_texts (texts_of names) (own_names d.content)) ≡ n = ap length (of_module (texts_of names) d.content) in
     let lt : MOST_NAMES < n = ltb-true MOST_NAMES n (ap (nat_lt MOST_NAMES) (sym is) ∙ many) in
@@ -92,22 +93,22 @@ modules_count [] = refl
 modules_count (m ∷ ms) = ap suc (modules_count ms)
 
 -- as many modules as there may be
-pub draft_limit : (ms : List Numbered) (names : List Known) (entries : ℕ) (d : Numbered) → is_some (module_of (contents ms) d.content.name) ≡ false → nat_lt MOST_NAMES (length (with_texts (texts_of names) (own_names d.content))) ≡ false → MOST_MODULES ≤ length ms → DraftsAs ms names entries d (Some Limit)
-draft_limit ms names entries d absent few full = λ s at.
+pub draft_limit : (ms : List Numbered) (names : List Known) (full : Bool) (d : Numbered) → is_some (module_of (contents ms) d.content.name) ≡ false → nat_lt MOST_NAMES (length (with_texts (texts_of names) (own_names d.content))) ≡ false → MOST_MODULES ≤ length ms → DraftsAs ms names full d (Some Limit)
+draft_limit ms names full d absent few many = λ s at.
     let n = length (with_names (texts_of names) (names_of_module d.content)) in
-    rw (at.modules_are, absent, at.names_are, le-leb n MOST_NAMES (few_names names d.content few), modules_count ms, le-ltb (length ms) MOST_MODULES full) refl
+    rw (at.modules_are, absent, at.names_are, le-leb n MOST_NAMES (few_names names d.content few), modules_count ms, le-ltb (length ms) MOST_MODULES many) refl
 
 -- a full journal
-pub draft_full : (ms : List Numbered) (names : List Known) (entries : ℕ) (d : Numbered) → is_some (module_of (contents ms) d.content.name) ≡ false → nat_lt MOST_NAMES (length (with_texts (texts_of names) (own_names d.content))) ≡ false → length ms < MOST_MODULES → MOST_ENTRIES ≤ entries →
-    DraftsAs ms names entries d (Some Journal)
-draft_full ms names entries d absent few less full = λ s at.
+pub draft_full : (ms : List Numbered) (names : List Known) (full : Bool) (d : Numbered) → is_some (module_of (contents ms) d.content.name) ≡ false → nat_lt MOST_NAMES (length (with_texts (texts_of names) (own_names d.content))) ≡ false → length ms < MOST_MODULES → full ≡ true →
+    DraftsAs ms names full d (Some Journal)
+draft_full ms names full d absent few less none = λ s at.
     let n = length (with_names (texts_of names) (names_of_module d.content)) in
-    rw (at.modules_are, absent, at.names_are, le-leb n MOST_NAMES (few_names names d.content few), modules_count ms, lt-ltb (length ms) MOST_MODULES less, at.entries_are, le-ltb entries MOST_ENTRIES full) refl
+    rw (at.modules_are, absent, at.names_are, le-leb n MOST_NAMES (few_names names d.content few), modules_count ms, lt-ltb (length ms) MOST_MODULES less, at.full_is, none) refl
 
 -- a module that may be loaded
-pub draft_loads : (ms : List Numbered) (names : List Known) (entries : ℕ) (d : Numbered) → ReadsDraft names (own_names d.content) d.row → is_numbered ms (number_of d) ≡ false → is_some (module_of (contents ms) d.content.name) ≡ false →
-    nat_lt MOST_NAMES (length (with_texts (texts_of names) (own_names d.content))) ≡ false → length ms < MOST_MODULES → entries < MOST_ENTRIES → IsDraft ms names entries d
-draft_loads ms names entries d reads new absent few less room =
+pub draft_loads : (ms : List Numbered) (names : List Known) (full : Bool) (d : Numbered) → ReadsDraft names (own_names d.content) d.row → is_numbered ms (number_of d) ≡ false → is_some (module_of (contents ms) d.content.name) ≡ false →
+    nat_lt MOST_NAMES (length (with_texts (texts_of names) (own_names d.content))) ≡ false → length ms < MOST_MODULES → full ≡ false → IsDraft ms names full d
+draft_loads ms names full d reads new absent few less room =
     let n = length (with_names (texts_of names) (names_of_module d.content)) in
     let le = few_names names d.content few in
     let is : length (with_texts (texts_of names) (own_names d.content)) ≡ n = ap length (of_module (texts_of names) d.content) in
@@ -118,7 +119,7 @@ draft_loads ms names entries d reads new absent few less room =
       few = omega arith;
       modules_few = less;
       room = room;
-      loads = λ s at. rw (at.modules_are, absent, at.names_are, le-leb n MOST_NAMES le, modules_count ms, lt-ltb (length ms) MOST_MODULES less, at.entries_are, lt-ltb entries MOST_ENTRIES room) refl;
+      loads = λ s at. rw (at.modules_are, absent, at.names_are, le-leb n MOST_NAMES le, modules_count ms, lt-ltb (length ms) MOST_MODULES less, at.full_is, room) refl;
     }
 
 -- ---- sources
@@ -132,9 +133,9 @@ pub same_parts : (x : Numbered) (m n : Module) (row own : List CellName) (place 
 same_parts x m n row own place is content rows = rw (content, rows) is
 
 -- a module is drafted for a source that is read as it, if it is one that may be loaded
-pub drafted_is : (ms : List Numbered) (names : List Known) (entries : ℕ) (text : List ℕ) (x d : Numbered) → length text ≤ MOST_SOURCE_BYTES → read_module text ≡ good d.content → x ≡ d → IsDraft ms names entries d → IsDraftOf ms names entries text x
-drafted_is ms names entries text x d few read is draft =
-    let P : Numbered → Type 0 = λ y. IsDraftOf ms names entries text y in
+pub drafted_is : (ms : List Numbered) (names : List Known) (full : Bool) (text : List ℕ) (x d : Numbered) → length text ≤ MOST_SOURCE_BYTES → read_module text ≡ good d.content → x ≡ d → IsDraft ms names full d → IsDraftOf ms names full text x
+drafted_is ms names full text x d few read is draft =
+    let P : Numbered → Type 0 = λ y. IsDraftOf ms names full text y in
     subst P (sym is) (record { draft = draft; loads = load_good text d.content few read })
 
 -- ---- goals that stand otherwise
@@ -234,11 +235,23 @@ still_new ms ks d row names rows numbers absent =
 
 -- an account with a module more, under these numbers, these names and these changes of its goals
 abbrev pub with_load : Account → Numbered → List CellName → List Known → List Change → Account
-with_load a d row names changes = record a { modules = a.modules ++ record d { row = row } ∷ []; names = names; goals = restood changes a.goals; entries = a.entries + 1 }
+with_load a d row names changes = record a { modules = a.modules ++ record d { row = row } ∷ []; names = names; goals = restood changes a.goals; entries = suc a.entries; run = 0 }
+
+-- whether the journal of an account has no room for one entry more
+abbrev pub has_no_room : Account → Bool
+has_no_room a = not (nat_lt a.entries (limits_of a.rules).entries)
+
+-- if it has, there may be one entry more
+more_entry : (entries most : ℕ) → not (nat_lt entries most) ≡ false → suc entries ≤ most
+more_entry entries most = by (nat_lt entries most) refl
+  where
+    by : (b : Bool) → nat_lt entries most ≡ b → not b ≡ false → suc entries ≤ most
+    by true e r = ltb-true entries most e
+    by false e r = absurd (cc)
 
 -- a load is ready to be put in place
 pub record IsReady (a : Account) (source : List ℕ) (d : Numbered) (hooks : List Hook) (changes : List Change) (names : List Known) (row : List CellName) : Type 0 where
-  pub draft : IsDraftOf a.modules a.names a.entries source d
+  pub draft : IsDraftOf a.modules a.names (has_no_room a) source d
   pub settles : Settles (program_of a) d a.shoens hooks a.held a.goals changes
   pub texts : texts_of names ≡ with_texts (texts_of a.names) (own_names d.content)
   pub numbers : AreNumbersOf names (own_names d.content) row
@@ -251,19 +264,17 @@ pub load_steps : (a : Account) (source : List ℕ) (d : Numbered) (hooks : List 
 load_steps a source d hooks changes names row r f =
     let s = state_of f a in
     let t = meaning f a.held in
-    let T : List Module → List (List ℕ) → ℕ → List model.Goal → State = λ ms ns e gs. record s { modules = ms; names = ns; entries = e; goals = gs } in
+    let T : List Module → List (List ℕ) → ℕ → List model.Goal → State = λ ms ns e gs. record s { modules = ms; names = ns; entries = e; run = 0; goals = gs } in
     let R : State → Transition = λ z. record { state = z; reply = loaded d.content.name } in
     let ms = contents a.modules ++ d.content ∷ [] in
     let ns = with_names (texts_of a.names) (names_of_module d.content) in
     let gs = map (goal_with t) a.goals in
     let named : ns ≡ texts_of names = sym (r.texts ∙ of_module (texts_of a.names) d.content) in
-    let one : suc a.entries ≡ a.entries + 1 = omega arith in
     let same : with_entry (with_module s d.content) ≡ state_of f (with_load a d row names changes) =
     ap (λ x. T x ns (suc a.entries) gs) (sym (contents_more a.modules (record d { row = row })))
     ∙ (ap (λ x. T (contents (a.modules ++ record d { row = row } ∷ [])) x (suc a.entries) gs) named
-    ∙ (ap (λ x. T (contents (a.modules ++ record d { row = row } ∷ [])) (texts_of names) x gs) one
-    ∙ ap (λ x. T (contents (a.modules ++ record d { row = row } ∷ [])) (texts_of names) (a.entries + 1) x) (sym (restood_read t changes a.goals)))) in
-    r.draft.loads s ∙ (r.draft.draft.loads s (record { modules_are = refl; names_are = refl; entries_are = refl }) ∙ ap R same)
+    ∙ ap (λ x. T (contents (a.modules ++ record d { row = row } ∷ [])) (texts_of names) (suc a.entries) x) (sym (restood_read t changes a.goals))) in
+    r.draft.loads s ∙ (r.draft.draft.loads s (record { modules_are = refl; names_are = refl; full_is = refl }) ∙ ap R same)
 
 load_settled : (a : Account) (source : List ℕ) (d : Numbered) (old hooks : List Hook) (known : ℕ) (changes : List Change) (names : List Known) (row : List CellName) → IsKept a old known → IsReady a source d hooks changes names row →
     (f : Reading) → Fits names f → AreSettled f hooks a.held (with_last (program_of a) (record d { row = row })) a.shoens (restood changes a.goals)
@@ -289,8 +300,7 @@ load_kept a source d old hooks known changes names row i r =
       count = i.count;
       first = restood_holds (λ g. 0 < g.number) (λ g o p. p) changes a.goals i.first;
       last = restood_holds (λ g. g.number ≤ a.last_goal) (λ g o p. p) changes a.goals i.last;
-      few = (let few = i.few in omega arith);
-      most = (let room = r.draft.draft.room in omega arith);
+      most = more_entry a.entries (limits_of a.rules).entries r.draft.draft.room;
       settled = load_settled a source d old hooks known changes names row i r;
       enabled = restood_holds (IsEnabled a.shoens a.work) (λ g o p. p) changes a.goals i.enabled;
       rows = λ f fits. read_more f a.modules (record d { row = row }) (i.rows f (r.fits f fits)) (r.numbers f fits);
@@ -301,24 +311,24 @@ load_kept a source d old hooks known changes names row i r =
     }
 
 -- a module that was drafted
-drafted_at : {C R : Type 0} (ms : List Numbered) (names : List Known) (entries : ℕ) (source : List ℕ) (l : Loading C R) (d : Numbered) → LoadsAs ms names entries source l → l ≡ Drafted d → IsDraftOf ms names entries source d
-drafted_at {C} {R} ms names entries source l d is e = let P : Loading C R → Type 0 = λ x. LoadsAs ms names entries source x in subst P e is
+drafted_at : {C R : Type 0} (ms : List Numbered) (names : List Known) (full : Bool) (source : List ℕ) (l : Loading C R) (d : Numbered) → LoadsAs ms names full source l → l ≡ Drafted d → IsDraftOf ms names full source d
+drafted_at {C} {R} ms names full source l d is e = let P : Loading C R → Type 0 = λ x. LoadsAs ms names full source x in subst P e is
 
 -- its code stands where the loading says
 pub stands_at : {C R : Type 0} (has : ℕ × ℕ → Type 0) (l : Loading C R) (d : Numbered) → StandsIn has l → l ≡ Drafted d → has d.place
 stands_at {C} {R} has l d is e = let P : Loading C R → Type 0 = λ x. StandsIn has x in subst P e is
 
 -- a draft for which all that wants memory is done, and the names of which are published
-pub ready : {C R : Type 0} (a : Account) (source : List ℕ) (l : Loading C R) (d : Numbered) (hooks : List Hook) (found changes : List Change) (used names : List Known) (code : Module) (texts : List (List ℕ)) (items row : List CellName) →
-    LoadsAs a.modules a.names a.entries source l → l ≡ Drafted d → Settles (program_of a) d a.shoens hooks a.held a.goals found → changes ≡ found → used ≡ a.names → texts ≡ own_names code → code ≡ d.content →
+pub ready : {C R : Type 0} (a : Account) (full : Bool) (source : List ℕ) (l : Loading C R) (d : Numbered) (hooks : List Hook) (found changes : List Change) (used names : List Known) (code : Module) (texts : List (List ℕ)) (items row : List CellName) →
+    full ≡ has_no_room a → LoadsAs a.modules a.names full source l → l ≡ Drafted d → Settles (program_of a) d a.shoens hooks a.held a.goals found → changes ≡ found → used ≡ a.names → texts ≡ own_names code → code ≡ d.content →
     texts_of names ≡ with_texts (texts_of used) texts → AreNumbersOf names texts items → row ≡ items → AreSmall names → ((f : Reading) → Fits names f → Fits used f) → IsReady a source d hooks changes names row
-ready a source l d hooks found changes used names code texts items row loads is settles same_changes same_names are code_is put numbers same_row small fits =
+ready a full source l d hooks found changes used names code texts items row room loads is settles same_changes same_names are code_is put numbers same_row small fits =
     let own : texts ≡ own_names d.content = are ∙ ap own_names code_is in
     let S : List Change → Type 0 = λ cs. Settles (program_of a) d a.shoens hooks a.held a.goals cs in
     let N : List (List ℕ) → Type 0 = λ ts. AreNumbersOf names ts row in
     let R : List CellName → Type 0 = λ r. AreNumbersOf names texts r in
     record {
-      draft = drafted_at a.modules a.names a.entries source l d loads is;
+      draft = drafted_at a.modules a.names (has_no_room a) source l d (subst (λ b. LoadsAs a.modules a.names b source l) room loads) is;
       settles = subst S (sym same_changes) settles;
       texts = put ∙ (ap (λ (ks : List Known). with_texts (texts_of ks) texts) same_names ∙ ap (with_texts (texts_of a.names)) own);
       numbers = subst N own (subst R (sym same_row) numbers);
@@ -334,15 +344,16 @@ ready_new a source d hooks changes seen names ms row r rows one_to_one is same =
     ∙ still_new a.modules names d row (subst AreNames is one_to_one) (λ f p. rows f (r.fits f p)) r.numbers r.draft.draft.absent
 
 -- an account after a load, by what its parts are
-pub put_is : (a : Account) (d : Numbered) (row : List CellName) (names : List Known) (changes : List Change) (held : Held CellName) (old new : Tabled CellName) (before ms : List Numbered) →
-    held ≡ a.held → old.goals ≡ a.goals → new ≡ record old { goals = restood changes old.goals } → before ≡ a.modules → ms ≡ before ++ record d { row = row } ∷ [] →
-    with_load a d row names changes ≡ record a { held = held; goals = new.goals; modules = ms; names = names; entries = a.entries + 1 }
-put_is a d row names changes held old new before ms same was stood same_modules pushed =
-    let T : Held CellName → List (Goal CellName) → List Numbered → Account = λ h gs xs. record a { held = h; goals = gs; modules = xs; names = names; entries = a.entries + 1 } in
+pub put_is : (a : Account) (d : Numbered) (row : List CellName) (names : List Known) (changes : List Change) (held : Held CellName) (old new : Tabled CellName) (before ms : List Numbered) (entries run : ℕ) →
+    held ≡ a.held → old.goals ≡ a.goals → new ≡ record old { goals = restood changes old.goals } → before ≡ a.modules → ms ≡ before ++ record d { row = row } ∷ [] → entries ≡ suc a.entries → run ≡ 0 →
+    with_load a d row names changes ≡ record a { held = held; goals = new.goals; modules = ms; names = names; entries = entries; run = run }
+put_is a d row names changes held old new before ms entries run same was stood same_modules pushed counted ran =
+    let U : ℕ → ℕ → Account = λ e r. record a { held = held; goals = new.goals; modules = ms; names = names; entries = e; run = r } in
+    let T : Held CellName → List (Goal CellName) → List Numbered → Account = λ h gs xs. record a { held = h; goals = gs; modules = xs; names = names; entries = suc a.entries; run = 0 } in
     let goals : restood changes a.goals ≡ new.goals = sym (ap (λ (t : Tabled CellName). t.goals) stood ∙ ap (restood changes) was) in
     let modules : a.modules ++ record d { row = row } ∷ [] ≡ ms = sym (pushed ∙ ap (λ (xs : List Numbered). xs ++ record d { row = row } ∷ []) same_modules) in
     ap (λ h. T h (restood changes a.goals) (a.modules ++ record d { row = row } ∷ [])) (sym same)
-    ∙ (ap (λ gs. T held gs (a.modules ++ record d { row = row } ∷ [])) goals ∙ ap (T held new.goals) modules)
+    ∙ (ap (λ gs. T held gs (a.modules ++ record d { row = row } ∷ [])) goals ∙ (ap (T held new.goals) modules ∙ ap₂ U (sym counted) (sym ran)))
 
 -- what always holds of it
 pub put_kept : (a put : Account) (source : List ℕ) (d : Numbered) (old hooks : List Hook) (known now : ℕ) (changes : List Change) (names : List Known) (row : List CellName) → IsKept a old known → IsReady a source d hooks changes names row →
@@ -361,9 +372,13 @@ put_steps a self put source d hooks changes names row code name r same e code_is
     ∙ (load_steps a source d hooks changes names row r f
     ∙ (ap (λ (x : Account). R x d.content.name) e ∙ ap (R put) (sym (name_is ∙ ap (λ (m : Module). m.name) code_is))))
 
+-- whether its journal is full, as was found of an account
+pub full_of : (a b : Account) (full : Bool) → a ≡ b → ((f : Reading) → full ≡ is_full (state_of f b)) → full ≡ has_no_room a
+full_of a b full view is = is (λ c. []) ∙ ap has_no_room (sym view)
+
 -- an account refuses a load as was found by its modules, its names and its entries
-pub refused_load : {C R : Type 0} (a b : Account) (source : List ℕ) (l : Loading C R) (r : Refusal) → l ≡ Refused r → LoadsAs a.modules a.names a.entries source l → a ≡ b → (f : Reading) → step (state_of f b) (load source) ≡ refuse (state_of f b) (refusal_of r)
-refused_load {C} {R} a b source l r e loads view f =
-    let L : Loading C R → Type 0 = λ z. LoadsAs a.modules a.names a.entries source z in
+pub refused_load : {C R : Type 0} (a b : Account) (full : Bool) (source : List ℕ) (l : Loading C R) (r : Refusal) → l ≡ Refused r → full ≡ has_no_room a → LoadsAs a.modules a.names full source l → a ≡ b → (f : Reading) → step (state_of f b) (load source) ≡ refuse (state_of f b) (refusal_of r)
+refused_load {C} {R} a b full source l r e room loads view f =
+    let L : Loading C R → Type 0 = λ z. LoadsAs a.modules a.names (has_no_room a) source z in
     let P : Account → Type 0 = λ z. step (state_of f z) (load source) ≡ refuse (state_of f z) (refusal_of r) in
-    subst P view (subst L e loads (state_of f a) (record { modules_are = refl; names_are = refl; entries_are = refl }))
+    subst P view (subst L e (subst (λ b. LoadsAs a.modules a.names b source l) room loads) (state_of f a) (record { modules_are = refl; names_are = refl; full_is = refl }))

@@ -31,9 +31,9 @@ use Rattle.kl1_goals.specs.declared.goal.Goal.{Goal}
 use Rattle.kl1_shoen_paths.specs.declared.shoen.Shoen.{Shoen}
 use Rattle.kl1_model.specs.Tree.{path_within}
 use Rattle.kl1_shoen.specs.Shoens.{shoen_in, is_enabled_at}
-use Rattle.kl1_codes_modules.specs.Numbered.{Numbered}
-use Rattle.kl1_codes_modules.specs.Shelves.{Program}
-use Rattle.kl1_codes_modules.specs.Finding.{contents, Finds}
+use Rattle.kl1_codes.specs.Numbered.{Numbered}
+use Rattle.kl1_codes.specs.Shelves.{Program}
+use Rattle.kl1_codes.specs.Finding.{contents, Finds}
 use Rattle.kl1_store_hooks.specs.Hanging.{HangsOnEach}
 use Rattle.kl1_goals_moves.proofs.Hooked.{hangs_on_same}
 use Rattle.kl1_user_effects.specs.declared.draft.Change.{Change}

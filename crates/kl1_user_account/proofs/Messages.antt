@@ -1,17 +1,17 @@
 -- Messages from the console: when they are refused, and what becomes of the state.
-use Rattle.std.proofs.Common.{◌≡◌, ℕ, suc, ◌+◌, ◌-◌, ◌<◌, ◌≤◌, ◌==◌, ◌&&◌, Bool, true, false, if◌then◌else◌, List, [], ◌∷◌, map, refl, sym, ap, ap₂, ◌∙◌, arith, subst}
+use Rattle.std.proofs.Common.{◌≡◌, ℕ, suc, ◌+◌, ◌-◌, ◌<◌, ◌≤◌, ◌==◌, ◌&&◌, not, Bool, true, false, if◌then◌else◌, List, [], ◌∷◌, map, refl, sym, ap, ap₂, ◌∙◌, arith, subst}
 use Rattle.std.specs.Prelude.{nat_lt, nat_le, Option, Some, None, option_map, option_and_then, unwrap_or}
 use Rattle.std.proofs.lemmas.Bool.{le-leb, lt-leb, lt-ltb, le-ltb}
 use Rattle.kl1_model.specs.declared.message.Message.{Message}
-use Rattle.kl1_model.specs.declared.limits.TheConstants.{MOST_VARIABLES, MOST_NODES, MOST_ENTRIES}
+use Rattle.kl1_model.specs.declared.limits.Limits.{Limits}
 use Rattle.kl1_model.specs.Term.{Term, variable, integer, atom, structure, replace}
 use Rattle.kl1_model.specs.Meaning.{cell}
 use Rattle.kl1_model.specs.Control.{message_term, message_nodes}
 use Rattle.kl1_model.specs.State as model
-use Rattle.kl1_model.specs.State.{State, shoen_at, change_shoen, replace_in_state, is_living}
-use Rattle.kl1_model.specs.Event.{control, sent, syntax, no_shoen, shoen_ended, journal_full, refuse, with_entry, recorded, limited, Transition, is_number}
+use Rattle.kl1_model.specs.State.{State, limits_of, shoen_at, change_shoen, replace_in_state, is_living}
+use Rattle.kl1_model.specs.Event.{control, sent, syntax, no_shoen, shoen_ended, limit_passed, journal_full, refuse, is_full, with_entry, Transition, is_number}
 use Rattle.kl1_model.specs.code.Steps as model_sending
-use Rattle.kl1_model.specs.Sending.{is_message, may_send, has_room_to_send, with_control_tail, sent_on, send_to}
+use Rattle.kl1_model.specs.Sending.{is_message, has_room_to_send, with_control_tail, sent_on, send_to}
 use Rattle.kl1_model.specs.code.Steps.{send_by}
 use Rattle.kl1_model.specs.Step.{step}
 use Rattle.kl1_text.specs.declared.cell_name.CellName.{CellName}
@@ -46,20 +46,20 @@ sends ss n m t s last goals a b =
     ∙ ap (send_to S n m) (found_in t n ss)
 
 -- a number that isn't in range
-pub bad_number : (ss : List (Shoen CellName)) (v k e n : ℕ) (m : Message) → is_number n ≡ false → Refuses ss v k e n m Syntax
-bad_number ss v k e n m a t s last goals counts =
+pub bad_number : (ss : List (Shoen CellName)) (most : Limits) (v k e n : ℕ) (m : Message) → is_number n ≡ false → Refuses ss most v k e n m Syntax
+bad_number ss most v k e n m a t s last goals counts =
     let S = state_with s t last goals ss in
     ap (λ x. if x && is_message m then send_to S n m (shoen_at n S.shoens) else refuse S syntax) a
 
 -- a message whose number isn't in range
-pub bad_message : (ss : List (Shoen CellName)) (v k e n : ℕ) (m : Message) → is_number n ≡ true → is_message m ≡ false → Refuses ss v k e n m Syntax
-bad_message ss v k e n m a b t s last goals counts =
+pub bad_message : (ss : List (Shoen CellName)) (most : Limits) (v k e n : ℕ) (m : Message) → is_number n ≡ true → is_message m ≡ false → Refuses ss most v k e n m Syntax
+bad_message ss most v k e n m a b t s last goals counts =
     let S = state_with s t last goals ss in
     ap₂ (λ x y. if x && y then send_to S n m (shoen_at n S.shoens) else refuse S syntax) a b
 
 -- if the console keeps nothing of the shoen
-pub sends_none : (ss : List (Shoen CellName)) (v k e n : ℕ) (m : Message) → is_number n ≡ true → is_message m ≡ true → kept_at n ss ≡ None → Refuses ss v k e n m NoShoen
-sends_none ss v k e n m a b none t s last goals counts = sends ss n m t s last goals a b ∙ by_case (shoen_in n ss) none
+pub sends_none : (ss : List (Shoen CellName)) (most : Limits) (v k e n : ℕ) (m : Message) → is_number n ≡ true → is_message m ≡ true → kept_at n ss ≡ None → Refuses ss most v k e n m NoShoen
+sends_none ss most v k e n m a b none t s last goals counts = sends ss n m t s last goals a b ∙ by_case (shoen_in n ss) none
   where
     S : State
     S = state_with s t last goals ss
@@ -72,9 +72,13 @@ sends_none ss v k e n m a b none t s last goals counts = sends ss n m t s last g
     by_case None q = refl
     by_case (Some h) q = by_origin h h.origin q
 
+-- what comes of a message by whether there is room, and by whether the journal is full
+abbrev by_room : State → Bool → Transition → Transition
+by_room s c x = if not c then refuse s limit_passed else (if is_full s then refuse s journal_full else x)
+
 -- what comes of a message to a shoen of which the console keeps this, and which lives or doesn't
 abbrev after_life : State → ℕ → Message → Term → Bool → Transition
-after_life s n m t b = if b then limited s (has_room_to_send s m) (recorded s (record { state = with_entry (sent_on n m t s); reply = sent })) else refuse s shoen_ended
+after_life s n m t b = if b then by_room s (has_room_to_send s m) (record { state = with_entry (sent_on n m t s); reply = sent }) else refuse s shoen_ended
 
 sends_some : (ss : List (Shoen CellName)) (n : ℕ) (m : Message) (o : Origin CellName) (b : Bool) (t : Means) (s : State) (last : ℕ) (goals : List (Goal CellName)) → is_number n ≡ true → is_message m ≡ true → kept_at n ss ≡ Some o → lives_in ss n ≡ b →
     step (state_with s t last goals ss) (control n m) ≡ after_life (state_with s t last goals ss) n m (t o.control) b
@@ -94,44 +98,48 @@ sends_some ss n m o b t s last goals x y some lives = sends ss n m t s last goal
     by_case (Some h) q r = by_origin h h.origin q r
 
 -- if the shoen has ended
-pub sends_ended : (ss : List (Shoen CellName)) (v k e n : ℕ) (m : Message) (o : Origin CellName) → is_number n ≡ true → is_message m ≡ true → kept_at n ss ≡ Some o → lives_in ss n ≡ false → Refuses ss v k e n m Ended
-sends_ended ss v k e n m o a b some lives t s last goals counts = sends_some ss n m o false t s last goals a b some lives
+pub sends_ended : (ss : List (Shoen CellName)) (most : Limits) (v k e n : ℕ) (m : Message) (o : Origin CellName) → is_number n ≡ true → is_message m ≡ true → kept_at n ss ≡ Some o → lives_in ss n ≡ false → Refuses ss most v k e n m Ended
+sends_ended ss most v k e n m o a b some lives t s last goals counts = sends_some ss n m o false t s last goals a b some lives
 
 -- whether there is room
-abbrev room_for : ℕ → ℕ → Message → Bool
-room_for v k m = nat_le (suc v) MOST_VARIABLES && nat_le (k + message_nodes m) MOST_NODES
+abbrev room_for : Limits → ℕ → ℕ → Message → Bool
+room_for most v k m = nat_le (suc v) most.variables && nat_le (k + message_nodes m) most.nodes
 
-with_room : (ss : List (Shoen CellName)) (v k e n : ℕ) (m : Message) (o : Origin CellName) (b : Bool) (t : Means) (s : State) (last : ℕ) (goals : List (Goal CellName)) → is_number n ≡ true → is_message m ≡ true → kept_at n ss ≡ Some o → lives_in ss n ≡ true → Counts v k e s → room_for v k m ≡ b →
-    step (state_with s t last goals ss) (control n m) ≡ limited (state_with s t last goals ss) b (recorded (state_with s t last goals ss) (record { state = with_entry (sent_on n m (t o.control) (state_with s t last goals ss)); reply = sent }))
-with_room ss v k e n m o b t s last goals x y some lives counts room =
-    let S = state_with s t last goals ss in
-    let R : Transition = recorded S (record { state = with_entry (sent_on n m (t o.control) S); reply = sent }) in
-    sends_some ss n m o true t s last goals x y some lives
-    ∙ ap₂ (λ p q. limited S (room_for p q m) R) counts.variables_are counts.nodes_are
-    ∙ ap (λ c. limited S c R) room
-
--- if there is no room for a variable more
-pub sends_crowded : (ss : List (Shoen CellName)) (v k e n : ℕ) (m : Message) (o : Origin CellName) → is_number n ≡ true → is_message m ≡ true → kept_at n ss ≡ Some o → lives_in ss n ≡ true → MOST_VARIABLES ≤ v → Refuses ss v k e n m Limit
-sends_crowded ss v k e n m o a b some lives many t s last goals counts =
-    with_room ss v k e n m o false t s last goals a b some lives counts (ap (λ p. p && nat_le (k + message_nodes m) MOST_NODES) (lt-leb (suc v) MOST_VARIABLES (omega (arith, many))))
-
--- if there is no room for its structures
-pub sends_limited : (ss : List (Shoen CellName)) (v k e n : ℕ) (m : Message) (o : Origin CellName) → is_number n ≡ true → is_message m ≡ true → kept_at n ss ≡ Some o → lives_in ss n ≡ true → v < MOST_VARIABLES → MOST_NODES < k + message_nodes m → Refuses ss v k e n m Limit
-sends_limited ss v k e n m o a b some lives few many t s last goals counts =
-    with_room ss v k e n m o false t s last goals a b some lives counts (ap₂ (λ p q. p && q) (le-leb (suc v) MOST_VARIABLES few) (lt-leb (k + message_nodes m) MOST_NODES many))
-
--- if the journal is full
-pub sends_full : (ss : List (Shoen CellName)) (v k e n : ℕ) (m : Message) (o : Origin CellName) → is_number n ≡ true → is_message m ≡ true → kept_at n ss ≡ Some o → lives_in ss n ≡ true → v < MOST_VARIABLES → k + message_nodes m ≤ MOST_NODES → MOST_ENTRIES ≤ e → Refuses ss v k e n m Journal
-sends_full ss v k e n m o a b some lives variables nodes full t s last goals counts =
+with_room : (ss : List (Shoen CellName)) (most : Limits) (v k e n : ℕ) (m : Message) (o : Origin CellName) (b : Bool) (t : Means) (s : State) (last : ℕ) (goals : List (Goal CellName)) → is_number n ≡ true → is_message m ≡ true → kept_at n ss ≡ Some o → lives_in ss n ≡ true → Counts most v k e s → room_for most v k m ≡ b →
+    step (state_with s t last goals ss) (control n m) ≡ by_room (state_with s t last goals ss) b (record { state = with_entry (sent_on n m (t o.control) (state_with s t last goals ss)); reply = sent })
+with_room ss most v k e n m o b t s last goals x y some lives counts room =
     let S = state_with s t last goals ss in
     let R : Transition = record { state = with_entry (sent_on n m (t o.control) S); reply = sent } in
-    with_room ss v k e n m o true t s last goals a b some lives counts (ap₂ (λ p q. p && q) (le-leb (suc v) MOST_VARIABLES variables) (le-leb (k + message_nodes m) MOST_NODES nodes))
-    ∙ ap (λ p. if nat_lt p MOST_ENTRIES then R else refuse S journal_full) counts.entries_are
-    ∙ ap (λ p. if p then R else refuse S journal_full) (le-ltb e MOST_ENTRIES full)
+    sends_some ss n m o true t s last goals x y some lives
+    ∙ ap (λ (l : Limits). by_room S (room_for l s.variables s.nodes m) R) counts.most_are
+    ∙ ap₂ (λ p q. by_room S (room_for most p q m) R) counts.variables_are counts.nodes_are
+    ∙ ap (λ c. by_room S c R) room
+
+-- whether the journal is full, by what is counted
+fullness : (most : Limits) (v k e : ℕ) (s : State) (b : Bool) → Counts most v k e s → nat_lt e most.entries ≡ b → is_full s ≡ not b
+fullness most v k e s b counts is = ap₂ (λ (l : Limits) (n : ℕ). not (nat_lt n l.entries)) counts.most_are counts.entries_are ∙ ap not is
+
+-- if there is no room for a variable more
+pub sends_crowded : (ss : List (Shoen CellName)) (most : Limits) (v k e n : ℕ) (m : Message) (o : Origin CellName) → is_number n ≡ true → is_message m ≡ true → kept_at n ss ≡ Some o → lives_in ss n ≡ true → most.variables ≤ v → Refuses ss most v k e n m Limit
+sends_crowded ss most v k e n m o a b some lives many t s last goals counts =
+    with_room ss most v k e n m o false t s last goals a b some lives counts (ap (λ p. p && nat_le (k + message_nodes m) most.nodes) (lt-leb (suc v) most.variables (omega (arith, many))))
+
+-- if there is no room for its structures
+pub sends_limited : (ss : List (Shoen CellName)) (most : Limits) (v k e n : ℕ) (m : Message) (o : Origin CellName) → is_number n ≡ true → is_message m ≡ true → kept_at n ss ≡ Some o → lives_in ss n ≡ true → v < most.variables → most.nodes < k + message_nodes m → Refuses ss most v k e n m Limit
+sends_limited ss most v k e n m o a b some lives few many t s last goals counts =
+    with_room ss most v k e n m o false t s last goals a b some lives counts (ap₂ (λ p q. p && q) (le-leb (suc v) most.variables few) (lt-leb (k + message_nodes m) most.nodes many))
+
+-- if the journal is full
+pub sends_full : (ss : List (Shoen CellName)) (most : Limits) (v k e n : ℕ) (m : Message) (o : Origin CellName) → is_number n ≡ true → is_message m ≡ true → kept_at n ss ≡ Some o → lives_in ss n ≡ true → v < most.variables → k + message_nodes m ≤ most.nodes → most.entries ≤ e → Refuses ss most v k e n m Journal
+sends_full ss most v k e n m o a b some lives variables nodes full t s last goals counts =
+    let S = state_with s t last goals ss in
+    let R : Transition = record { state = with_entry (sent_on n m (t o.control) S); reply = sent } in
+    with_room ss most v k e n m o true t s last goals a b some lives counts (ap₂ (λ p q. p && q) (le-leb (suc v) most.variables variables) (le-leb (k + message_nodes m) most.nodes nodes))
+    ∙ ap (λ p. if p then refuse S journal_full else R) (fullness most v k e s false counts (le-ltb e most.entries full))
 
 -- if it may be sent
-pub sends_allowed : (ss : List (Shoen CellName)) (v k e n : ℕ) (m : Message) (o : Origin CellName) → is_number n ≡ true → is_message m ≡ true → kept_at n ss ≡ Some o → lives_in ss n ≡ true → v < MOST_VARIABLES → k + message_nodes m ≤ MOST_NODES → e < MOST_ENTRIES → Allows ss v k e n m o
-sends_allowed ss v k e n m o a b some lives variables nodes journal = record {
+pub sends_allowed : (ss : List (Shoen CellName)) (most : Limits) (v k e n : ℕ) (m : Message) (o : Origin CellName) → is_number n ≡ true → is_message m ≡ true → kept_at n ss ≡ Some o → lives_in ss n ≡ true → v < most.variables → k + message_nodes m ≤ most.nodes → e < most.entries → Allows ss most v k e n m o
+sends_allowed ss most v k e n m o a b some lives variables nodes journal = record {
   found = some;
   message = b;
   has_variables = variables;
@@ -140,9 +148,8 @@ sends_allowed ss v k e n m o a b some lives variables nodes journal = record {
   steps = λ t s last goals counts.
       let S = state_with s t last goals ss in
       let R : Transition = record { state = with_entry (sent_on n m (t o.control) S); reply = sent } in
-      with_room ss v k e n m o true t s last goals a b some lives counts (ap₂ (λ p q. p && q) (le-leb (suc v) MOST_VARIABLES variables) (le-leb (k + message_nodes m) MOST_NODES nodes))
-      ∙ ap (λ p. if nat_lt p MOST_ENTRIES then R else refuse S journal_full) counts.entries_are
-      ∙ ap (λ p. if p then R else refuse S journal_full) (lt-ltb e MOST_ENTRIES journal);
+      with_room ss most v k e n m o true t s last goals a b some lives counts (ap₂ (λ p q. p && q) (le-leb (suc v) most.variables variables) (le-leb (k + message_nodes m) most.nodes nodes))
+      ∙ ap (λ p. if p then refuse S journal_full else R) (fullness most v k e s true counts (lt-ltb e most.entries journal));
 }
 
 -- ---- a message is put on a control stream

@@ -24,7 +24,7 @@ use Rattle.kl1_store.specs.Meaning.{term_of}
 use Rattle.kl1_store.specs.Sound.{IsFormed, IsBoundTo}
 use Rattle.kl1_store.proofs.Terms.{term_of-Integer, term_of-Atom, term_of-unbound, term_of-Structure}
 use Rattle.kl1_store.proofs.Walking.{found_itself, bound_at}
-use Rattle.kl1_codes_modules.specs.Numbered.{Numbered, IsRead, AreRead}
+use Rattle.kl1_codes.specs.Numbered.{Numbered, IsRead, AreRead}
 use Rattle.kl1_user_effects.specs.Fitting.{Reading, Fits, built}
 use Rattle.kl1_user_effects.specs.Account.{meaning}
 use Rattle.kl1_user_effects.proofs.KnownNames.{not_known}

@@ -3,14 +3,14 @@ use Rattle.std.proofs.Common.{◌≡◌, ℕ, suc, ◌+◌, ◌<◌, ◌==◌, �
 use Rattle.std.specs.Prelude.{Option, Some, None, nat_lt}
 use Rattle.std.proofs.lemmas.Bool.{ne_eqb, eq-eqb}
 use Rattle.std.proofs.lemmas.List.{map-append}
-use Rattle.kl1_model.specs.declared.limits.TheConstants.{MONITOR_PRIORITY, MOST_REPORTS}
+use Rattle.kl1_model.specs.declared.limits.TheConstants.{MONITOR_PRIORITY}
 use Rattle.kl1_model.specs.Term.{Term, variable, occurs, replace}
 use Rattle.kl1_model.specs.Meaning.{cell, highest}
 use Rattle.kl1_model.specs.Nodes.{goal_nodes}
 use Rattle.kl1_model.specs.declared.life.Life.TheVariants.{Living}
 use Rattle.kl1_model.specs.State as model
-use Rattle.kl1_model.specs.State.{State, shoen_at, replace_in_goal, replace_in_shoen, replace_in_state, change_shoen, names_of, with_names}
-use Rattle.kl1_model.specs.Report.{report, reported_at, broken_at, started_report, exhausted_report}
+use Rattle.kl1_model.specs.State.{State, limits_of, shoen_at, replace_in_goal, replace_in_shoen, replace_in_state, change_shoen, names_of, with_names}
+use Rattle.kl1_model.specs.Report.{report, reported_on, reported_at, started_report, exhausted_report}
 use Rattle.kl1_model.specs.Opening.{started_shoen, with_next_variables, start_goal}
 use Rattle.kl1_model.specs.code.Steps.{report_of, opening_goals}
 use Rattle.kl1_text.specs.declared.cell_name.CellName.{CellName}
@@ -93,61 +93,55 @@ shoens_same old t goal C tail b n ss h s a i numbered lt number =
     (ap (λ (z : State). z.shoens) (replaced_state s b C t 0 [] ss) ∙ same_shoens old (λ y. replace b C (t y)) t (λ y z. replace_free b C (t y) (a.cells y z)) ss i)
     ∙ changes_last t (λ z. record z { tail = tail }) 0 n ss (replace_in_shoen b C h) numbered (omega arith) number
 
--- a report if nothing breaks the stream
-abbrev sent_at : ℕ → Term → ℕ → State → State
-sent_at b m n s =
-    let next = suc s.last_variable in
-    change_shoen n (λ h. record h { tail = variable next }) (record (replace_in_state b (cell m (variable next)) s) { last_variable = next; reports = suc s.reports })
-
 -- a report on the streams with this tail
 told_at : (old : Held CellName) (t : Means) (s : State) (gs : List (Goal CellName)) (ss : List (Shoen CellName)) (h : model.Shoen) (goal m : Term) (o : Opens) (b : ℕ) (y : Bool) → IsAbsent old t goal b → AreGoalsIn old gs → AreShoensIn old ss → AreNumbered 0 ss → length ss < h.number →
-    (occurs b m || not (nat_lt o.made MOST_REPORTS)) ≡ y →
+    (occurs b m || not (nat_lt o.made (limits_of s.rules).reports)) ≡ y →
     reported_at h.number m (variable b) (opening s t gs ss h goal o)
     ≡ opening s t gs ss h goal (let link = cell m (variable (suc o.last)) in if y then record o { is_broken = true } else record { control = replace b link o.control; reports = replace b link o.reports; tail = variable (suc o.last); is_broken = o.is_broken; last = suc o.last; made = suc o.made })
 told_at old t s gs ss h goal m o b true a i j numbered lt e =
-    ap (λ c. if c then broken_at h.number (opening s t gs ss h goal o) else sent_at b m h.number (opening s t gs ss h goal o)) e
+    ap (λ c. reported_on h.number m (if c then None else Some b) (opening s t gs ss h goal o)) e
     ∙ ap (λ (hs : List model.Shoen). let z : State = record (opening s t gs ss h goal o) { shoens = hs } in z) (changes_last t (λ z. record z { is_broken = true }) 0 h.number ss (streaming h goal o) numbered (omega arith) refl)
 told_at old t s gs ss h goal m o b false a i j numbered lt e =
     let C = cell m (variable (suc o.last)) in
     let S = opening s t gs ss h goal o in
     let H = streaming h goal o in
     let made : List model.Goal → List model.Shoen → State = λ goals shoens. record S { goals = goals; shoens = shoens; last_variable = suc o.last; reports = suc o.made } in
-    ap (λ c. if c then broken_at h.number S else sent_at b m h.number S) e
+    ap (λ c. reported_on h.number m (if c then None else Some b) S) e
     ∙ ap₂ made (goals_same old t goal C b s.last_goal gs h s a i)
     (shoens_same old t goal C (variable (suc o.last)) b h.number ss H s a j numbered lt refl
     ∙ ap (λ (g : Term). let z : model.Shoen = record h { control = replace b C o.control; tail = variable (suc o.last); is_broken = o.is_broken; origin = Some (record { goal = g; reports = replace b C o.reports; control = replace b C o.control }) } in map (shoen_with t) ss ++ z ∷ []) (replace_free b C goal a.goal_is))
 
 -- a report
 told : (old : Held CellName) (t : Means) (s : State) (gs : List (Goal CellName)) (ss : List (Shoen CellName)) (h : model.Shoen) (goal m : Term) (o : Opens) (b : ℕ) → IsAbsent old t goal b → AreGoalsIn old gs → AreShoensIn old ss → AreNumbered 0 ss → length ss < h.number → o.tail ≡ variable b →
-    report h.number m (opening s t gs ss h goal o) ≡ opening s t gs ss h goal (tells m o)
+    report h.number m (opening s t gs ss h goal o) ≡ opening s t gs ss h goal (tells (limits_of s.rules).reports m o)
 told old t s gs ss h goal m o b a i j numbered lt tail_is =
     ap (λ f. report_of f h.number m (opening s t gs ss h goal o)) (finds_last t 0 h.number ss (streaming h goal o) numbered (omega arith) refl)
     ∙ by_case o.is_broken refl
   where
-    by_case : (x : Bool) → o.is_broken ≡ x → (if x then opening s t gs ss h goal o else reported_at h.number m o.tail (opening s t gs ss h goal o)) ≡ opening s t gs ss h goal (if x then o else tells_at m o.tail o)
+    by_case : (x : Bool) → o.is_broken ≡ x → (if x then opening s t gs ss h goal o else reported_at h.number m o.tail (opening s t gs ss h goal o)) ≡ opening s t gs ss h goal (if x then o else tells_at (limits_of s.rules).reports m o.tail o)
     by_case true e = refl
     by_case false e =
         ap (λ (w : Term). reported_at h.number m w (opening s t gs ss h goal o)) tail_is
-        ∙ told_at old t s gs ss h goal m o b (occurs b m || not (nat_lt o.made MOST_REPORTS)) a i j numbered lt refl
-        ∙ ap (λ (w : Term). opening s t gs ss h goal (tells_at m w o)) (sym tail_is)
+        ∙ told_at old t s gs ss h goal m o b (occurs b m || not (nat_lt o.made (limits_of s.rules).reports)) a i j numbered lt refl
+        ∙ ap (λ (w : Term). opening s t gs ss h goal (tells_at (limits_of s.rules).reports m w o)) (sym tail_is)
 
 -- both reports
-both_told : (old : Held CellName) (t : Means) (s : State) (gs : List (Goal CellName)) (ss : List (Shoen CellName)) (h : model.Shoen) (goal : Term) (last made : ℕ) (b : Bool) → ((v : ℕ) → last < v → IsAbsent old t goal v) → AreGoalsIn old gs → AreShoensIn old ss → AreNumbered 0 ss → length ss < h.number → nat_lt made MOST_REPORTS ≡ b →
-    report h.number exhausted_report (report h.number started_report (opening s t gs ss h goal (first_streams last made))) ≡ opening s t gs ss h goal (tells exhausted_report (tells started_report (first_streams last made)))
+both_told : (old : Held CellName) (t : Means) (s : State) (gs : List (Goal CellName)) (ss : List (Shoen CellName)) (h : model.Shoen) (goal : Term) (last made : ℕ) (b : Bool) → ((v : ℕ) → last < v → IsAbsent old t goal v) → AreGoalsIn old gs → AreShoensIn old ss → AreNumbered 0 ss → length ss < h.number → nat_lt made (limits_of s.rules).reports ≡ b →
+    report h.number exhausted_report (report h.number started_report (opening s t gs ss h goal (first_streams last made))) ≡ opening s t gs ss h goal (tells (limits_of s.rules).reports exhausted_report (tells (limits_of s.rules).reports started_report (first_streams last made)))
 both_told old t s gs ss h goal last made b a i j numbered lt e =
     ap (report h.number exhausted_report) (told old t s gs ss h goal started_report (first_streams last made) (suc (suc last)) (a (suc (suc last)) (omega arith)) i j numbered lt refl)
-    ∙ by_case b (first_told last made b e)
+    ∙ by_case b (first_told (limits_of s.rules).reports last made b e)
   where
-    by_case : (c : Bool) → tells started_report (first_streams last made) ≡ (if c then started_on last made false else broken_first last made) →
-        report h.number exhausted_report (opening s t gs ss h goal (tells started_report (first_streams last made))) ≡ opening s t gs ss h goal (tells exhausted_report (tells started_report (first_streams last made)))
-    by_case true f = told old t s gs ss h goal exhausted_report (tells started_report (first_streams last made)) (suc (suc (suc last))) (a (suc (suc (suc last))) (omega arith)) i j numbered lt (ap (λ (o : Opens). o.tail) f)
-    by_case false f = told old t s gs ss h goal exhausted_report (tells started_report (first_streams last made)) (suc (suc last)) (a (suc (suc last)) (omega arith)) i j numbered lt (ap (λ (o : Opens). o.tail) f)
+    by_case : (c : Bool) → tells (limits_of s.rules).reports started_report (first_streams last made) ≡ (if c then started_on last made false else broken_first last made) →
+        report h.number exhausted_report (opening s t gs ss h goal (tells (limits_of s.rules).reports started_report (first_streams last made))) ≡ opening s t gs ss h goal (tells (limits_of s.rules).reports exhausted_report (tells (limits_of s.rules).reports started_report (first_streams last made)))
+    by_case true f = told old t s gs ss h goal exhausted_report (tells (limits_of s.rules).reports started_report (first_streams last made)) (suc (suc (suc last))) (a (suc (suc (suc last))) (omega arith)) i j numbered lt (ap (λ (o : Opens). o.tail) f)
+    by_case false f = told old t s gs ss h goal exhausted_report (tells (limits_of s.rules).reports started_report (first_streams last made)) (suc (suc last)) (a (suc (suc last)) (omega arith)) i j numbered lt (ap (λ (o : Opens). o.tail) f)
 
 -- the reports of a shoen that opens
 all_told : (old : Held CellName) (t : Means) (s : State) (gs : List (Goal CellName)) (ss : List (Shoen CellName)) (h : model.Shoen) (goal : Term) (allowance last made : ℕ) (z : Bool) → ((v : ℕ) → last < v → IsAbsent old t goal v) → AreGoalsIn old gs → AreShoensIn old ss → AreNumbered 0 ss → length ss < h.number →
     (let opened = report h.number started_report (opening s t gs ss h goal (first_streams last made)) in if z then report h.number exhausted_report opened else opened)
-    ≡ opening s t gs ss h goal (let opened = tells started_report (first_streams last made) in if z then tells exhausted_report opened else opened)
-all_told old t s gs ss h goal allowance last made true a i j numbered lt = both_told old t s gs ss h goal last made (nat_lt made MOST_REPORTS) a i j numbered lt refl
+    ≡ opening s t gs ss h goal (let opened = tells (limits_of s.rules).reports started_report (first_streams last made) in if z then tells (limits_of s.rules).reports exhausted_report opened else opened)
+all_told old t s gs ss h goal allowance last made true a i j numbered lt = both_told old t s gs ss h goal last made (nat_lt made (limits_of s.rules).reports) a i j numbered lt refl
 all_told old t s gs ss h goal allowance last made false a i j numbered lt = told old t s gs ss h goal started_report (first_streams last made) (suc (suc last)) (a (suc (suc last)) (omega arith)) i j numbered lt refl
 
 -- ---- what is read of the cells of a shoen that opens
@@ -179,7 +173,7 @@ read_as old t u s gs ss h goal o allowance low high final x st standing may agre
 -- the state after a start
 pub start_opens : (old : Held CellName) (t u : Means) (s : State) (last allowance low high final : ℕ) (goal : Term) (gs : List (Goal CellName)) (ss : List (Shoen CellName)) (x : Cell CellName) (st : Streams) (standing : Option ℕ) (may : Bool) →
     Agree old t u → ((v : ℕ) (y : Cell CellName) → last < v → IsIn old y → occurs v (t y) ≡ false) → AreGoalsIn old gs → AreShoensIn old ss → AreNumbered 0 ss → s.last_shoen ≡ length ss → u x ≡ with_next_variables last goal →
-    opens_with u final st ≡ streams_opened allowance (last + highest goal) s.reports →
+    opens_with u final st ≡ streams_opened (limits_of s.rules).reports allowance (last + highest goal) s.reports →
     start_goal (state_with s t last gs ss) allowance low high goal
     ≡ state_with (record s { names = with_names s.names (names_of goal); last_goal = suc (suc s.last_goal); last_shoen = suc s.last_shoen; variables = s.variables + suc (suc (highest goal)); nodes = s.nodes + goal_nodes goal; reports = st.made }) u final
     (gs ++ two_goals s.last_goal (suc s.last_shoen) may high x standing) (ss ++ shoen_opened (suc s.last_shoen) allowance low high x st ∷ [])
@@ -189,4 +183,4 @@ start_opens old t u s last allowance low high final goal gs ss x st standing may
     let base : State = record s { names = with_names s.names (names_of goal); variables = s.variables + suc (suc (highest goal)); nodes = s.nodes + goal_nodes goal } in
     let H : model.Shoen = started_shoen (state_with s t last gs ss) allowance low high G (variable (suc top)) (variable (suc (suc top))) in
     all_told old t base gs ss H G allowance top s.reports (allowance == 0) (λ v lt. record { cells = λ y k. absent v y (omega arith) k; goal_is = absent_next last v goal (omega arith) }) i j numbered (omega arith)
-    ∙ read_as old t u base gs ss H G (streams_opened allowance top s.reports) allowance low high final x st standing may agree i j means (sym is) refl
+    ∙ read_as old t u base gs ss H G (streams_opened (limits_of s.rules).reports allowance top s.reports) allowance low high final x st standing may agree i j means (sym is) refl

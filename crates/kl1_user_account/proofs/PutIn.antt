@@ -6,7 +6,7 @@ use Rattle.std.proofs.lemmas.Bool.{ne_eqb}
 use Rattle.std.proofs.lemmas.List.{append-nil}
 use Rattle.kl1_model.specs.declared.rules.Rules.{Rules}
 use Rattle.kl1_model.specs.State.{State, without_goal}
-use Rattle.kl1_model.specs.Event.{with_entry}
+use Rattle.kl1_model.specs.Event.{with_reduction}
 use Rattle.kl1_text.specs.declared.cell_name.CellName.{CellName}
 use Rattle.kl1_goals.specs.declared.goal.Goal.{Goal}
 use Rattle.kl1_goals.specs.Lists.{is_other, is_flagged}
@@ -66,17 +66,17 @@ begun_made a removed t d shoens work b =
     ∙ ap (λ n. let z : Made = record { rules = a.rules; goals = filter (is_other removed) a.goals; shoens = a.shoens; work = a.work; names = texts_of a.names; last_goal = a.last_goal; variables = a.variables; nodes = a.nodes; reports = n } in z) b.reports_are
 
 -- the state of an account without goal `removed` is what a draft that has begun makes of it
-pub begun_state : (f : Reading) (a : Account) (removed : ℕ) (t : Tree CellName) (d : Draft) → t.shoens ≡ a.shoens → t.work ≡ a.work → IsBegun removed a.rules a.last_goal a.variables a.nodes a.reports d →
-    without_goal removed (with_entry (state_of f a)) ≡ worked f (with_entry (state_of f a)) a.held (made_of a.goals (texts_of a.names) t d)
-begun_state f a removed t d shoens work b =
-    let s = with_entry (state_of f a) in
+pub begun_state : (f : Reading) (in_run : Bool) (a : Account) (removed : ℕ) (t : Tree CellName) (d : Draft) → t.shoens ≡ a.shoens → t.work ≡ a.work → IsBegun removed a.rules a.last_goal a.variables a.nodes a.reports d →
+    without_goal removed (with_reduction in_run (state_of f a)) ≡ worked f (with_reduction in_run (state_of f a)) a.held (made_of a.goals (texts_of a.names) t d)
+begun_state f in_run a removed t d shoens work b =
+    let s = with_reduction in_run (state_of f a) in
     ap (λ gs. let z : State = record s { goals = gs } in z) (others_read (meaning f a.held) removed a.goals)
     ∙ sym (ap (λ w. worked f s a.held w) (begun_made a removed t d shoens work b))
 
 -- if no goal has the number 0, the state of an account is what a draft makes of it that has begun and removes nothing
-pub begun_whole : (f : Reading) (a : Account) (t : Tree CellName) (d : Draft) → AllByRecursion (λ g. 0 < g.number) a.goals → t.shoens ≡ a.shoens → t.work ≡ a.work → IsBegun 0 a.rules a.last_goal a.variables a.nodes a.reports d →
-    with_entry (state_of f a) ≡ worked f (with_entry (state_of f a)) a.held (made_of a.goals (texts_of a.names) t d)
-begun_whole f a t d first shoens work b =
-    let s = with_entry (state_of f a) in
+pub begun_whole : (f : Reading) (in_run : Bool) (a : Account) (t : Tree CellName) (d : Draft) → AllByRecursion (λ g. 0 < g.number) a.goals → t.shoens ≡ a.shoens → t.work ≡ a.work → IsBegun 0 a.rules a.last_goal a.variables a.nodes a.reports d →
+    with_reduction in_run (state_of f a) ≡ worked f (with_reduction in_run (state_of f a)) a.held (made_of a.goals (texts_of a.names) t d)
+begun_whole f in_run a t d first shoens work b =
+    let s = with_reduction in_run (state_of f a) in
     ap (λ (gs : List (Goal CellName)). let z : State = record s { goals = map (goal_with (meaning f a.held)) gs } in z) (sym (none_goes a.goals first))
     ∙ sym (ap (λ w. worked f s a.held w) (begun_made a 0 t d shoens work b))

@@ -1,16 +1,17 @@
 -- An account with a reduction in place is what its step comes to, and keeps what always holds.
-use Rattle.std.proofs.Common.{◌≡◌, ◌<◌, ◌≤◌, ℕ, false, List, [], ◌++◌, length, map, refl, sym, ap, ◌∙◌, subst, arith}
-use Rattle.std.specs.Prelude.{Option, Some, None}
+use Rattle.std.proofs.Common.{◌≡◌, ◌<◌, ◌≤◌, ℕ, suc, Bool, true, false, not, ◌&&◌, if◌then◌else◌, List, [], ◌++◌, length, map, refl, sym, ap, ◌∙◌, subst, arith}
+use Rattle.std.specs.Prelude.{nat_lt, Option, Some, None}
+use Rattle.std.proofs.lemmas.Bool.{ltb-true}
 use Rattle.std.specs.List.{AllByRecursion}
-use Rattle.kl1_model.specs.declared.limits.TheConstants.{MOST_ENTRIES}
 use Rattle.kl1_model.specs.declared.rules.Rules.{Rules}
 use Rattle.kl1_model.specs.State as model
+use Rattle.kl1_model.specs.Rules.{limits_of}
 use Rattle.kl1_model.specs.State.{State}
-use Rattle.kl1_model.specs.Event.{reduce, reduced, Transition, with_entry}
+use Rattle.kl1_model.specs.Event.{reduce, reduced, Transition, is_full, needs_entry, with_reduction}
 use Rattle.kl1_model.specs.Step.{step}
 use Rattle.kl1_text.specs.declared.cell_name.CellName.{CellName}
 use Rattle.kl1_atoms.specs.declared.known.Known.{Known}
-use Rattle.kl1_atoms.specs.Names.{number_by}
+use Rattle.kl1_atoms.specs.Names.{number_by, AreNames}
 use Rattle.kl1_store.specs.Held.{Held}
 use Rattle.kl1_store.specs.Sound.{IsFormed, Grown}
 use Rattle.kl1_store.specs.Hooks.{Kept, point_of}
@@ -20,7 +21,7 @@ use Rattle.kl1_shoen_paths.specs.declared.shoen.Shoen.{Shoen}
 use Rattle.kl1_shoen.specs.Shoens.{Tree, is_enabled_at}
 use Rattle.kl1_user_effects.specs.declared.draft.Draft.{Draft}
 use Rattle.kl1_user_effects.specs.declared.draft.Spelled.{Spelled}
-use Rattle.kl1_user_effects.specs.Fitting.{Reading, Fits}
+use Rattle.kl1_user_effects.specs.Fitting.{Reading, Fits, reading_of, reading_fits}
 use Rattle.kl1_user_effects.specs.Account.{Account, program_of, meaning, goal_with, state_of, texts_of}
 use Rattle.kl1_user_effects.specs.Kept.{AreGoalsIn, AreOwned, AreUpTo, AreShoensIn}
 use Rattle.kl1_user_effects.specs.Works.{worked}
@@ -34,7 +35,7 @@ use Rattle.kl1_user_account.specs.Finishing.{SameFlags, Finishes}
 use Rattle.kl1_user_effects.specs.Leaving.{Leaves}
 use Rattle.kl1_user_effects.specs.Calling.{IsNewName, spare}
 use Rattle.kl1_user_steps.specs.Spelling.{IsSpelledIn, IsSparedIn, HasName, Respells, ReadsNew, IsPublished, IsPublishedBy}
-use Rattle.kl1_user_account.specs.Reducing.{named_in, IsReduced}
+use Rattle.kl1_user_account.specs.Reducing.{Suits, IsNotedSo, IsFullFor, needs_one, named_in, IsReduced}
 use Rattle.kl1_user_account.proofs.Effected.{IsEffect}
 use Rattle.kl1_user_effects.proofs.States.{goals_grown}
 use Rattle.kl1_user_account.proofs.Restood.{each_is}
@@ -65,15 +66,15 @@ pub record IsDrafted (a : Account) (n c : ℕ) (old mid new : Kept CellName) (t 
   pub has : HasName effected.spelled effected.name
   pub tells : told ≡ record effected { told = told.told }
   pub controls : KeepControls told.told.items a.shoens u.shoens a.goals
-  pub room : a.entries < MOST_ENTRIES
+  pub room : IsFullFor a n c false
   pub finishes : Finishes (program_of a) (point_of old) mid new u a.goals table reached told finished
 
 -- what a draft makes of an account is the account with the finished draft in place, and with the names that it has then
-placed_named : (f : Reading) (a : Account) (last : Held CellName) (u : Tree CellName) (d e : Draft) (more : List Known) → map (goal_with (meaning f last)) (goals_after a.goals e) ≡ map (goal_with (meaning f last)) (goals_left (a.goals ++ d.added.items) d) →
+placed_named : (f : Reading) (in_run : Bool) (a : Account) (last : Held CellName) (u : Tree CellName) (d e : Draft) (more : List Known) → map (goal_with (meaning f last)) (goals_after a.goals e) ≡ map (goal_with (meaning f last)) (goals_left (a.goals ++ d.added.items) d) →
     d.rules ≡ a.rules → texts_of more ≡ names_with (texts_of a.names) d.name → e.last_goal ≡ d.last_goal → e.variables ≡ d.variables → e.nodes ≡ d.nodes → e.reports ≡ d.reports →
-    worked f (with_entry (state_of f a)) last (made_of a.goals (texts_of a.names) u d) ≡ state_of f (named_in a last u e more)
-placed_named f a last u d e more goals rules texts goal_is variables nodes reports =
-    let s = state_of f (named_in a last u e more) in
+    worked f (with_reduction in_run (state_of f a)) last (made_of a.goals (texts_of a.names) u d) ≡ state_of f (named_in in_run a last u e more)
+placed_named f in_run a last u d e more goals rules texts goal_is variables nodes reports =
+    let s = state_of f (named_in in_run a last u e more) in
     ap (λ (r : Rules). let z : State = record s { rules = r; goals = map (goal_with (meaning f last)) (goals_left (a.goals ++ d.added.items) d); names = names_with (texts_of a.names) d.name; last_goal = d.last_goal; variables = d.variables; nodes = d.nodes; reports = d.reports } in z) rules
     ∙ ap (λ (gs : List model.Goal). let z : State = record s { goals = gs; names = names_with (texts_of a.names) d.name; last_goal = d.last_goal; variables = d.variables; nodes = d.nodes; reports = d.reports } in z) (sym goals)
     ∙ ap (λ (ns : List (List ℕ)). let z : State = record s { names = ns; last_goal = d.last_goal; variables = d.variables; nodes = d.nodes; reports = d.reports } in z) (sym texts)
@@ -128,19 +129,19 @@ module _ (a : Account) (n c : ℕ) (old mid new : Kept CellName) (t u : Tree Cel
         respells = subst H d.same (subst S spelled_is p.respells);
       }
 
-  steps_to : (more : List Known) (last : Held CellName) → IsPublishedBy a.names more effected mid.held last → (f : Reading) → Fits more f → step (state_of f a) (reduce n c) ≡ record { state = state_of f (named_in a last u finished more); reply = reduced }
-  steps_to more last p f fits =
-      (d.effect more last p f fits).step
+  steps_to : (in_run : Bool) (more : List Known) (last : Held CellName) → IsNotedSo a n c in_run → IsPublishedBy a.names more effected mid.held last → (f : Reading) → Fits more f → step (state_of f a) (reduce n c) ≡ record { state = state_of f (named_in in_run a last u finished more); reply = reduced }
+  steps_to in_run more last noted p f fits =
+      (d.effect in_run more last noted p f fits).step
       ∙ ap (λ (z : State). let y : Transition = record { state = z; reply = reduced } in y)
-      (placed_named f a last u effected finished more (goals_are f last) d.rules p.named.texts last_is variables_are nodes_are reports_are)
+      (placed_named f in_run a last u effected finished more (goals_are f last) d.rules p.named.texts last_is variables_are nodes_are reports_are)
 
   -- two readings, of names that were published in two ways, read the same state
-  same_states : (more less : List Known) (last first : Held CellName) → IsPublishedBy a.names more effected mid.held last → IsPublishedBy a.names less effected mid.held first → (f g : Reading) → Fits more f → Fits less g →
-      state_of f (named_in a last u finished more) ≡ state_of g (named_in a first u finished less)
-  same_states more less last first p q f g one two =
-      ap (λ (x : Transition). x.state) (sym (steps_to more last p f one))
+  same_states : (in_run : Bool) (more less : List Known) (last first : Held CellName) → IsNotedSo a n c in_run → IsPublishedBy a.names more effected mid.held last → IsPublishedBy a.names less effected mid.held first → (f g : Reading) → Fits more f → Fits less g →
+      state_of f (named_in in_run a last u finished more) ≡ state_of g (named_in in_run a first u finished less)
+  same_states in_run more less last first noted p q f g one two =
+      ap (λ (x : Transition). x.state) (sym (steps_to in_run more last noted p f one))
       ∙ ap (λ (x : State). (step x (reduce n c)).state) (d.kept.named f g (p.named.fits f one) (q.named.fits g two))
-      ∙ ap (λ (x : Transition). x.state) (steps_to less first q g two)
+      ∙ ap (λ (x : Transition). x.state) (steps_to in_run less first noted q g two)
 
   -- ---- goals that are settled
 
@@ -169,15 +170,15 @@ module _ (a : Account) (n c : ℕ) (old mid new : Kept CellName) (t u : Tree Cel
       }
 
   -- for a reading that fits the names after, if a name was drafted
-  settled_named : (more : List Known) (last : Held CellName) (text : List ℕ) → effected.name ≡ Some text → number_by a.names text ≡ None → IsPublishedBy a.names more effected mid.held last → (f : Reading) → Fits more f →
+  settled_named : (in_run : Bool) (more : List Known) (last : Held CellName) (text : List ℕ) → IsNotedSo a n c in_run → effected.name ≡ Some text → number_by a.names text ≡ None → IsPublishedBy a.names more effected mid.held last → (f : Reading) → Fits more f →
       AreSettled f new.hooks last (program_of a) u.shoens (goals_after a.goals finished)
-  settled_named more last text is new_text p f fits =
+  settled_named in_run more last text noted is new_text p f fits =
       let R : Option (List ℕ) → Type 0 = λ o. ReadsNew f p.number o in
       let H : Held CellName → Type 0 = λ h. AreSettled (exchanged spare p.number f) new.hooks h (program_of a) u.shoens (goals_after a.goals finished) in
       let less = with_spare a.names text in
       let g = exchanged spare p.number f in
       let two : Fits less g = exchanged_fits a.names text p.number f d.kept.small new_text (subst R is (p.named.reads f fits)) (p.named.fits f fits) in
-      let states = same_states less more mid.held last (spare_published text is new_text) p g f two fits in
+      let states = same_states in_run less more mid.held last noted (spare_published text is new_text) p g f two fits in
       settled_alike g f new.hooks mid.held last (program_of a) u.shoens (goals_after a.goals finished) (ap (λ (z : State). z.shoens) states) (ap (λ (z : State). z.goals) states)
       (subst H d.same (settled_before g (spare_fits a.names text new_text g two)))
 
@@ -189,15 +190,15 @@ module _ (a : Account) (n c : ℕ) (old mid new : Kept CellName) (t u : Tree Cel
       let stays : last ≡ mid.held = subst S (d.has is) p.respells in
       subst H (d.same ∙ sym stays) (settled_before f (p.named.fits f fits))
 
-  settled_after : (more : List Known) (last : Held CellName) → IsPublishedBy a.names more effected mid.held last → (f : Reading) → Fits more f → AreSettled f new.hooks last (program_of a) u.shoens (goals_after a.goals finished)
-  settled_after more last p f fits = by_name effected.name refl
+  settled_after : (in_run : Bool) (more : List Known) (last : Held CellName) → IsNotedSo a n c in_run → IsPublishedBy a.names more effected mid.held last → (f : Reading) → Fits more f → AreSettled f new.hooks last (program_of a) u.shoens (goals_after a.goals finished)
+  settled_after in_run more last noted p f fits = by_name effected.name refl
     where
       by_name : (o : Option (List ℕ)) → effected.name ≡ o → AreSettled f new.hooks last (program_of a) u.shoens (goals_after a.goals finished)
       by_name None is = settled_unnamed more last is p f fits
       by_name (Some text) is =
           let N : Option (List ℕ) → Type 0 = λ o. IsNewName a.names o in
           let name : IsNewName a.names (Some text) = subst N is d.name in
-          settled_named more last text is name.1.0 p f fits
+          settled_named in_run more last text noted is name.1.0 p f fits
 
   -- ---- what always holds
 
@@ -249,8 +250,28 @@ module _ (a : Account) (n c : ℕ) (old mid new : Kept CellName) (t u : Tree Cel
       ∙ ap (λ (ss : List (Shoen CellName)). is_enabled_at ss t.work k) d.shoens
       ∙ ap (λ (ws : List ℕ). is_enabled_at a.shoens ws k) d.work
 
-  keeps : (more : List Known) (last : Held CellName) → IsPublished a.names more finished new.held last → IsKept (named_in a last u finished more) new.hooks (length u.shoens)
-  keeps more last p =
+  -- if there was no room for one entry more, none was needed
+  most_entries : (in_run : Bool) → AreNames a.names → IsNotedSo a n c in_run → (if needs_one in_run a then suc a.entries else a.entries) ≤ (limits_of a.rules).entries
+  most_entries in_run names noted = by (needs_one in_run a) (nat_lt a.entries (limits_of a.rules).entries) refl no_room
+    where
+      f : Reading
+      f = reading_of a.names
+
+      fits : Fits a.names f
+      fits = reading_fits a.names names
+
+      no_room : (needs_one in_run a && not (nat_lt a.entries (limits_of a.rules).entries)) ≡ false
+      no_room =
+          let suits : Suits a f = (record { reads = fits.reads; rows = d.kept.rows f fits }, fits) in
+          ap (λ b. needs_entry b (state_of f a) && is_full (state_of f a)) (sym (noted f suits)) ∙ d.room f suits
+
+      by : (needs is_less : Bool) → nat_lt a.entries (limits_of a.rules).entries ≡ is_less → (needs && not is_less) ≡ false → (if needs then suc a.entries else a.entries) ≤ (limits_of a.rules).entries
+      by true true e r = ltb-true a.entries (limits_of a.rules).entries e
+      by true false e r = absurd (cc)
+      by false is_less e r = d.kept.most
+
+  keeps : (in_run : Bool) (more : List Known) (last : Held CellName) → AreNames a.names → IsNotedSo a n c in_run → IsPublished a.names more finished new.held last → IsKept (named_in in_run a last u finished more) new.hooks (length u.shoens)
+  keeps in_run more last names noted p =
       let q = published more last p in
       record {
         some =
@@ -265,16 +286,11 @@ module _ (a : Account) (n c : ℕ) (old mid new : Kept CellName) (t u : Tree Cel
         count = refl;
         first = d.finishes.first d.kept.first come_first;
         last = goals_up_to;
-        few =
-            let x = d.kept.few in
-            let y = d.leaves.work in
-            let e = ap (λ (ws : List ℕ). length ws) d.work in
-            omega (arith, x, y, e);
-        most = let x = d.room in omega (arith, x);
-        settled = λ f fits. settled_after more last q f fits;
+        most = most_entries in_run names noted;
+        settled = λ f fits. settled_after in_run more last noted q f fits;
         enabled = d.finishes.enables a.shoens a.work more_shoens d.kept.owned same_flags d.kept.enabled;
         rows = λ f fits. d.kept.rows f (p.named.fits f fits);
-        named = λ f g one two. same_states more more last last q q f g one two;
+        named = λ f g one two. same_states in_run more more last last noted q q f g one two;
         small = p.named.small;
       }
 
@@ -299,8 +315,12 @@ drafted_reduces a n c old mid new t u table number removed reached start effecte
       name = subst N (sym named) d.name;
       spelled = subst S (sym spells) (subst H (sym d.same) d.spelled);
       has = subst X (sym spells) (subst Y (sym named) d.has);
-      reduces = λ more last p. record {
-        step = λ f fits. steps_to a n c old mid new t u table number removed reached start effected told finished d more last (published a n c old mid new t u table number removed reached start effected told finished d more last p) f fits;
-        kept = keeps a n c old mid new t u table number removed reached start effected told finished d more last p;
+      charged =
+          (let y = d.leaves.work in
+          let e = ap (λ (ws : List ℕ). length ws) d.work in
+          omega (arith, y, e));
+      reduces = λ in_run more last names noted p. record {
+        step = λ f fits. steps_to a n c old mid new t u table number removed reached start effected told finished d in_run more last noted (published a n c old mid new t u table number removed reached start effected told finished d more last p) f fits;
+        kept = keeps a n c old mid new t u table number removed reached start effected told finished d in_run more last names noted p;
       };
     }

@@ -4,7 +4,6 @@ use Rattle.std.specs.Prelude.{Option, Some, None, filter, find, count_by}
 use Rattle.std.specs.List.{AllByRecursion}
 use Rattle.std.proofs.lemmas.Bool.{ne_eqb}
 use Rattle.std.proofs.lemmas.List.Sums.{length-filter}
-use Rattle.kl1_model.specs.declared.limits.TheConstants.{MOST_ENTRIES}
 use Rattle.kl1_model.specs.declared.rules.Rules.{Rules}
 use Rattle.kl1_text.specs.declared.cell_name.CellName.{CellName}
 use Rattle.kl1_atoms.specs.declared.known.Known.{Known}
@@ -43,7 +42,7 @@ use Rattle.kl1_user_steps.specs.Acting.{Reads}
 use Rattle.kl1_user_effects.specs.Calling.{keeps_names, name_of, IsNewName}
 use Rattle.kl1_user_effects.specs.Moving.{name_for}
 use Rattle.kl1_user_steps.specs.Spelling.{IsSpelledIn, IsSparedIn, HasName, Does}
-use Rattle.kl1_user_account.specs.Reducing.{IsSteppable, IsToMake, IsTaskFor, HeardAs, IsReduced}
+use Rattle.kl1_user_account.specs.Reducing.{IsSteppable, IsFullFor, IsToMake, IsTaskFor, HeardAs, IsReduced}
 use Rattle.kl1_user_account.proofs.PutIn.{begun_left}
 use Rattle.kl1_user_account.proofs.Steps.{found_holds}
 use Rattle.kl1_user_account.proofs.Effected.{does_effect, heard_effect}
@@ -188,12 +187,12 @@ is_new h p places text move.GivesWay known i = tt
 -- ---- reductions that are drafted
 
 -- what a monitor reads is drafted as it is to be
-pub heard_reduces : (a : Account) (n c known : ℕ) (g : Goal CellName) (k : Control CellName) (mark : Point) (old mid new : Kept CellName) (t u : Tree CellName) (table : Tabled CellName) (reached : List ℕ) (start effected told finished : Draft) →
-    IsKept a old.hooks known → IsSteppable a.goals n c g → g.task ≡ Monitor → HeardAs a.held a.shoens a.entries g c k → a.entries < MOST_ENTRIES → AreSingle a.goals →
+pub heard_reduces : (a : Account) (n c known : ℕ) (g : Goal CellName) (full : Bool) (k : Control CellName) (mark : Point) (old mid new : Kept CellName) (t u : Tree CellName) (table : Tabled CellName) (reached : List ℕ) (start effected told finished : Draft) →
+    IsKept a old.hooks known → IsSteppable a.goals n c g → g.task ≡ Monitor → HeardAs a.held a.shoens full g c k → full ≡ false → IsFullFor a n c full → AreSingle a.goals →
     old.held ≡ a.held → t.shoens ≡ a.shoens → t.work ≡ a.work → mark ≡ point_of old → IsFormed old.held → IsBegun 0 a.rules a.last_goal a.variables a.nodes a.reports start →
     Reads g.shoen k a.goals (texts_of a.names) a.held mid.held t u start effected → AreShoensIn mid.held u.shoens → Leaves g.shoen mid.held t u [] start effected → IsHeard start effected → Grown old.held mid.held → mid.hooks ≡ old.hooks →
     told ≡ record effected { told = told.told } → told.told.items ≡ effected.told.items ++ n ∷ [] → Finishes (program_of a) mark mid new u a.goals table reached told finished → new.held ≡ mid.held → table.shoens ≡ known → IsReduced a n c new u table finished
-heard_reduces a n c known g k mark old mid new t u table reached start effected told finished kept is task hears room single held shoens work at formed begun reads inside leaves rest grown hooks tells pushed finishes same count =
+heard_reduces a n c known g full k mark old mid new t u table reached start effected told finished kept is task hears none_full room single held shoens work at formed begun reads inside leaves rest grown hooks tells pushed finishes same count =
     let name : effected.name ≡ None = ap (λ (d : Draft). d.name) rest ∙ begun.name in
     let spelled : effected.spelled ≡ None = ap (λ (d : Draft). d.spelled) rest ∙ begun.spelled in
     let none : effected.told.items ≡ [] = ap (λ (d : Draft). d.told.items) rest ∙ begun.told in
@@ -217,25 +216,25 @@ heard_reduces a n c known g k mark old mid new t u table reached start effected 
       begun = begun;
       leaves = record { comes = leaves.comes; more = leaves.more; one_opens = leaves.one_opens; work = leaves.work; controls = leaves.controls; flags = λ s e r. leaves.flags s e refl };
       shoens_in = inside;
-      effect = heard_effect a old.hooks known n c g k mid.held t u start effected kept is task hears shoens work begun reads name spelled;
+      effect = heard_effect a old.hooks known n c g full k mid.held t u start effected kept is task hears room shoens work begun reads name spelled;
       name = subst N (sym name) tt;
       spelled = subst S (sym spelled) tt;
       spared = subst R (sym spelled) tt;
       has = λ e. spelled;
       tells = tells;
       controls = subst C shoens (one_told n g.shoen (length a.shoens) t.shoens u.shoens a.goals g told.told.items single is.found task refl (ap length (sym shoens)) kept.owned leaves.controls one);
-      room = room;
+      room = λ f knows. room f knows ∙ none_full;
       finishes = subst F at finishes;
     })
 
 -- what a goal does is drafted as it is to be
-pub does_reduces : (a : Account) (c known : ℕ) (g : Goal CellName) (x : Qualified CellName) (p : Predicate CellName) (places : List (Place CellName)) (text : List ℕ) (made : Move CellName) (mark : Point) (old mid new : Kept CellName) (t u : Tree CellName) (table : Tabled CellName) (reached : List ℕ) (start effected finished : Draft) →
-    IsKept a old.hooks known → IsSteppable a.goals g.number c g → IsToMake a.held (program_of a) a.entries g.task x c p places text made → MoveIn a.held p places text (Some made) →
+pub does_reduces : (a : Account) (c known : ℕ) (g : Goal CellName) (full : Bool) (x : Qualified CellName) (p : Predicate CellName) (places : List (Place CellName)) (text : List ℕ) (made : Move CellName) (mark : Point) (old mid new : Kept CellName) (t u : Tree CellName) (table : Tabled CellName) (reached : List ℕ) (start effected finished : Draft) →
+    IsKept a old.hooks known → IsSteppable a.goals g.number c g → IsToMake a.held (program_of a) full g.task x c p places text made → IsFullFor a g.number c full → MoveIn a.held p places text (Some made) →
     old.held ≡ a.held → t.shoens ≡ a.shoens → t.work ≡ a.work → mark ≡ point_of old → IsFormed a.held → IsBegun g.number a.rules a.last_goal a.variables a.nodes a.reports start →
     Does p made places text g x a.goals a.names a.held mid.held t u start effected → AreShoensIn mid.held u.shoens → Leaves 0 mid.held t u reached start effected → effected.name ≡ name_for made a.names text →
     IsSpelledIn effected.spelled mid.held → IsSparedIn effected.spelled mid.held → HasName effected.spelled effected.name → IsActed start effected → Grown old.held mid.held → mid.hooks ≡ old.hooks →
     Finishes (program_of a) mark mid new u a.goals table reached effected finished → new.held ≡ mid.held → table.shoens ≡ known → IsReduced a g.number c new u table finished
-does_reduces a c known g x p places text made mark old mid new t u table reached start effected finished kept is makes within held shoens work at formed begun does inside leaves name spelled spared has rest grown hooks finishes same count =
+does_reduces a c known g full x p places text made mark old mid new t u table reached start effected finished kept is makes room within held shoens work at formed begun does inside leaves name spelled spared has rest grown hooks finishes same count =
     let K : ℕ → Type 0 = λ m. IsKept a old.hooks m in
     let N : Option (List ℕ) → Type 0 = λ o. IsNewName a.names o in
     let H : Held CellName → Type 0 = λ h. IsFormed h in
@@ -254,14 +253,14 @@ does_reduces a c known g x p places text made mark old mid new t u table reached
       begun = begun;
       leaves = leaves;
       shoens_in = inside;
-      effect = does_effect a old.hooks known g.number c g x p places text made mid.held t u start effected kept is refl makes formed within shoens work begun does name;
+      effect = does_effect a old.hooks known g.number c g full x p places text made mid.held t u start effected kept is refl makes room formed within shoens work begun does name;
       name = subst N (sym name) (is_new a.held p places text made a.names within);
       spelled = spelled;
       spared = spared;
       has = has;
       tells = refl;
       controls = subst C shoens (all_keep (length a.shoens) t.shoens u.shoens a.goals effected.told.items (ap length (sym shoens)) kept.owned leaves.controls);
-      room = makes.room;
+      room = λ f knows. room f knows ∙ makes.room;
       finishes = subst F at finishes;
     })
 

@@ -9,6 +9,7 @@ use Rattle.kl1_model.specs.declared.rules.Rules.{Rules}
 use Rattle.kl1_model.specs.Module.{is_among as is_on}
 use Rattle.kl1_model.specs.Tree.{path_within}
 use Rattle.kl1_model.specs.State as model
+use Rattle.kl1_model.specs.Rules.{limits_of}
 use Rattle.kl1_model.specs.State.{State, is_living}
 use Rattle.kl1_model.specs.Event.{control, sent, refused, refuse, with_entry, Transition}
 use Rattle.kl1_model.specs.Step.{step}
@@ -27,7 +28,7 @@ use Rattle.kl1_shoen_paths.specs.declared.shoen.Origin.{Origin}
 use Rattle.kl1_shoen_paths.specs.declared.shoen.Shoen.{Shoen}
 use Rattle.kl1_shoen.specs.Shoens.{Tree, parents_in, path_in, is_blocking_at, is_enabled_at}
 use Rattle.kl1_shoen_paths.specs.Paths as shoens
-use Rattle.kl1_codes_modules.specs.Shelves.{Program}
+use Rattle.kl1_codes.specs.Shelves.{Program}
 use Rattle.kl1_user_events.specs.declared.refusal.Refusal.{Refusal}
 use Rattle.kl1_user_events.specs.Views.{refusal_of}
 use Rattle.kl1_user_effects.specs.declared.draft.Draft.{Draft}
@@ -200,10 +201,10 @@ leaves_all d removed aborted ended added shifts gs first =
 -- a message is drafted
 pub is_sent : (program : Program) (rules : Rules) (mark : Point) (old mid new : Kept CellName) (goals : List (Goal CellName)) (t u : Tree CellName) (variables nodes entries n last reports : ℕ) (m : Message) (o : Origin CellName) (begun put d : Draft) →
     mark ≡ point_of old → IsFormed old.held → 0 < old.held.variables → AreGoalsIn old.held goals → AreInOrder goals → AllByRecursion (λ g. 0 < g.number) goals → AreShoensIn old.held t.shoens →
-    Allows t.shoens variables nodes entries n m o → IsBegun 0 rules last variables nodes reports begun →
+    Allows t.shoens (limits_of rules) variables nodes entries n m o → IsBegun 0 rules last variables nodes reports begun →
     PutsOn n m o.control old.held mid.held t.shoens u.shoens begun put → AreShoensIn mid.held u.shoens → AreAlike t.shoens u.shoens → u.work ≡ t.work → put ≡ record begun { variables = put.variables; nodes = put.nodes } → Grown old.held mid.held → mid.hooks ≡ old.hooks →
     WakesTold program u.shoens mid.held mid.hooks new.hooks goals 0 (told_by (drop mark.sizes.bindings mid.held.bindings) mid.hooks) put.changes.items d.changes.items → d ≡ record put { told = d.told; changes = d.changes } → new.held ≡ mid.held →
-    IsSent program old new goals t u variables nodes entries n m d
+    IsSent program old new goals t u rules variables nodes entries n m d
 is_sent program rules mark old mid new goals t u variables nodes entries n last reports m o begun put d marked formed some inside order first shoens_in may is puts after alike work rest grown hooks wakes more same =
     let S : Held CellName → Type 0 = λ h. AreShoensIn h u.shoens in
     record {
@@ -222,7 +223,7 @@ is_sent program rules mark old mid new goals t u variables nodes entries n last 
       steps = λ f reads s counts.
           let V : d.variables ≡ put.variables = ap (λ (z : Draft). z.variables) more in
           let K : d.nodes ≡ put.nodes = ap (λ (z : Draft). z.nodes) more in
-          let R : ℕ → ℕ → ℕ → Held CellName → Transition = λ v k e h. record { state = with_kept f (record s { variables = v; nodes = k; entries = e }) h goals u.shoens; reply = sent } in
+          let R : ℕ → ℕ → ℕ → Held CellName → Transition = λ v k e h. record { state = with_kept f (record s { variables = v; nodes = k; entries = e; run = 0 }) h goals u.shoens; reply = sent } in
           may.steps (meaning f old.held) s (old.held.variables - 1) goals counts
           ∙ ap (λ (z : State). let y : Transition = record { state = with_entry z; reply = sent } in y) (puts f reads s goals some inside (counts.variables_are ∙ sym is.variables_are) (counts.nodes_are ∙ sym is.nodes_are))
           ∙ ap (λ e. R put.variables put.nodes (suc e) mid.held) counts.entries_are
@@ -234,26 +235,26 @@ is_sent program rules mark old mid new goals t u variables nodes entries n last 
 
 -- an account with a message in place
 abbrev pub with_message : Account → Held CellName → List (Shoen CellName) → Draft → Account
-with_message a h us d = record a { held = h; goals = restood d.changes.items a.goals; shoens = us; variables = d.variables; nodes = d.nodes; entries = suc a.entries }
+with_message a h us d = record a { held = h; goals = restood d.changes.items a.goals; shoens = us; variables = d.variables; nodes = d.nodes; entries = suc a.entries; run = 0 }
 
 pub knows_of : (a : Account) (hooks : List Hook) (known : ℕ) → IsKept a hooks known → (f : Reading) → Fits a.names f → Knows a.modules f
 knows_of a hooks known k f fits = record { reads = fits.reads; rows = k.rows f fits }
 
 -- the step to it
-sent_steps : (a : Account) (old new : Kept CellName) (t u : Tree CellName) (n : ℕ) (m : Message) (d : Draft) → a.held ≡ old.held → t.shoens ≡ a.shoens → IsSent (program_of a) old new a.goals t u a.variables a.nodes a.entries n m d →
+sent_steps : (a : Account) (old new : Kept CellName) (t u : Tree CellName) (n : ℕ) (m : Message) (d : Draft) → a.held ≡ old.held → t.shoens ≡ a.shoens → IsSent (program_of a) old new a.goals t u a.rules a.variables a.nodes a.entries n m d →
     (f : Reading) → Reads built f → step (state_of f a) (control n m) ≡ record { state = state_of f (with_message a new.held u.shoens d); reply = sent }
 sent_steps a old new t u n m d held same s f reads =
     let z : State = record (state_of f a) { goals = []; shoens = []; last_variable = 0 } in
     let alike : AreAlike a.shoens u.shoens = let P : List (Shoen CellName) → Type 0 = λ x. AreAlike x u.shoens in subst P same s.alike in
-    let R : ℕ → Transition = λ l. record { state = with_kept f (record z { variables = d.variables; nodes = d.nodes; entries = suc a.entries; last_shoen = l }) new.held a.goals u.shoens; reply = sent } in
+    let R : ℕ → Transition = λ l. record { state = with_kept f (record z { variables = d.variables; nodes = d.nodes; entries = suc a.entries; run = 0; last_shoen = l }) new.held a.goals u.shoens; reply = sent } in
     let S = state_of f (with_message a new.held u.shoens d) in
     ap₂ (λ (h : Held CellName) (ss : List (Shoen CellName)). step (with_kept f z h a.goals ss) (control n m)) held (sym same)
-    ∙ s.steps f reads z (record { variables_are = refl; nodes_are = refl; entries_are = refl })
+    ∙ s.steps f reads z (record { most_are = refl; variables_are = refl; nodes_are = refl; entries_are = refl })
     ∙ ap R (sym (alike_count a.shoens u.shoens alike))
     ∙ ap (λ (gs : List model.Goal). let y : Transition = record { state = record S { goals = gs }; reply = sent } in y) (sym (restood_read (meaning f new.held) d.changes.items a.goals))
 
 -- what always holds holds of it
-sent_keeps : (a : Account) (old new : Kept CellName) (t u : Tree CellName) (known n : ℕ) (m : Message) (d : Draft) → IsKept a old.hooks known → a.held ≡ old.held → t.shoens ≡ a.shoens → IsSent (program_of a) old new a.goals t u a.variables a.nodes a.entries n m d → Grown old.held new.held →
+sent_keeps : (a : Account) (old new : Kept CellName) (t u : Tree CellName) (known n : ℕ) (m : Message) (d : Draft) → IsKept a old.hooks known → a.held ≡ old.held → t.shoens ≡ a.shoens → IsSent (program_of a) old new a.goals t u a.rules a.variables a.nodes a.entries n m d → Grown old.held new.held →
     IsKept (with_message a new.held u.shoens d) new.hooks known
 sent_keeps a old new t u known n m d k held same s grown =
     let cs = d.changes.items in
@@ -270,7 +271,6 @@ sent_keeps a old new t u known n m d k held same s grown =
       count = k.count ∙ sym count;
       first = restood_holds (λ g. 0 < g.number) (λ g o p. p) cs a.goals k.first;
       last = restood_holds (λ g. g.number ≤ a.last_goal) (λ g o p. p) cs a.goals k.last;
-      few = let x = k.few in omega (arith, x);
       most = let x = s.journal in omega (arith, x);
       settled = λ f fits.
           let H : Held CellName → Type 0 = λ h. AreSettled f old.hooks h (program_of a) a.shoens a.goals in
@@ -294,35 +294,35 @@ kept_same a b hooks more known count e p q k =
     subst N (sym q) (subst H (sym p) (subst A (sym e) k))
 
 -- what came of a message that is sent
-pub sent_of : (program : Program) (old new : Kept CellName) (goals : List (Goal CellName)) (t u : Tree CellName) (v k e n : ℕ) (m : Message) (d : Draft) (p : Option Refusal) → p ≡ None → SendsAs program old new goals t u v k e n m d p → IsSent program old new goals t u v k e n m d
-sent_of program old new goals t u v k e n m d p is s = let P : Option Refusal → Type 0 = λ z. SendsAs program old new goals t u v k e n m d z in subst P is s
+pub sent_of : (program : Program) (old new : Kept CellName) (goals : List (Goal CellName)) (t u : Tree CellName) (rules : Rules) (v k e n : ℕ) (m : Message) (d : Draft) (p : Option Refusal) → p ≡ None → SendsAs program old new goals t u rules v k e n m d p → IsSent program old new goals t u rules v k e n m d
+sent_of program old new goals t u rules v k e n m d p is s = let P : Option Refusal → Type 0 = λ z. SendsAs program old new goals t u rules v k e n m d z in subst P is s
 
 -- what came of a message that is refused
-pub refused_of : (program : Program) (old new : Kept CellName) (goals : List (Goal CellName)) (t u : Tree CellName) (v k e n : ℕ) (m : Message) (d : Draft) (p : Option Refusal) (r : Refusal) → p ≡ Some r → SendsAs program old new goals t u v k e n m d p → IsRefused old new t u v k e n m r
-refused_of program old new goals t u v k e n m d p r is s = let P : Option Refusal → Type 0 = λ z. SendsAs program old new goals t u v k e n m d z in subst P is s
+pub refused_of : (program : Program) (old new : Kept CellName) (goals : List (Goal CellName)) (t u : Tree CellName) (rules : Rules) (v k e n : ℕ) (m : Message) (d : Draft) (p : Option Refusal) (r : Refusal) → p ≡ Some r → SendsAs program old new goals t u rules v k e n m d p → IsRefused old new t u rules v k e n m r
+refused_of program old new goals t u rules v k e n m d p r is s = let P : Option Refusal → Type 0 = λ z. SendsAs program old new goals t u rules v k e n m d z in subst P is s
 
 -- an account with a message in place, by what its parts are
-pub placed : (a : Account) (old new : Kept CellName) (t u : Tree CellName) (n : ℕ) (m : Message) (d : Draft) (gs : List (Goal CellName)) (entries : ℕ) → AllByRecursion (λ g. 0 < g.number) a.goals → t.work ≡ a.work → IsSent (program_of a) old new a.goals t u a.variables a.nodes a.entries n m d →
-    gs ≡ goals_after a.goals d → entries ≡ suc a.entries → record a { held = new.held; goals = gs; shoens = u.shoens; work = u.work; variables = d.variables; nodes = d.nodes; entries = entries } ≡ with_message a new.held u.shoens d
-placed a old new t u n m d gs entries first work s g e =
-    ap (λ (xs : List (Goal CellName)). let z : Account = record a { held = new.held; goals = xs; shoens = u.shoens; work = u.work; variables = d.variables; nodes = d.nodes; entries = entries } in z) (g ∙ s.leaves a.goals first)
-    ∙ ap (λ (ws : List ℕ). let z : Account = record (with_message a new.held u.shoens d) { work = ws; entries = entries } in z) (s.work ∙ work)
-    ∙ ap (λ x. let z : Account = record (with_message a new.held u.shoens d) { entries = x } in z) e
+pub placed : (a : Account) (old new : Kept CellName) (t u : Tree CellName) (n : ℕ) (m : Message) (d : Draft) (gs : List (Goal CellName)) (entries run : ℕ) → AllByRecursion (λ g. 0 < g.number) a.goals → t.work ≡ a.work → IsSent (program_of a) old new a.goals t u a.rules a.variables a.nodes a.entries n m d →
+    gs ≡ goals_after a.goals d → entries ≡ suc a.entries → run ≡ 0 → record a { held = new.held; goals = gs; shoens = u.shoens; work = u.work; variables = d.variables; nodes = d.nodes; entries = entries; run = run } ≡ with_message a new.held u.shoens d
+placed a old new t u n m d gs entries run first work s g e r =
+    ap (λ (xs : List (Goal CellName)). let z : Account = record a { held = new.held; goals = xs; shoens = u.shoens; work = u.work; variables = d.variables; nodes = d.nodes; entries = entries; run = run } in z) (g ∙ s.leaves a.goals first)
+    ∙ ap (λ (ws : List ℕ). let z : Account = record (with_message a new.held u.shoens d) { work = ws; entries = entries; run = run } in z) (s.work ∙ work)
+    ∙ ap₂ (λ x y. let z : Account = record (with_message a new.held u.shoens d) { entries = x; run = y } in z) e r
 
-pub sent_kept : (a : Account) (old new : Kept CellName) (t u : Tree CellName) (known count n : ℕ) (m : Message) (d : Draft) (gs : List (Goal CellName)) (entries : ℕ) → IsKept a old.hooks known → a.held ≡ old.held → t.shoens ≡ a.shoens → t.work ≡ a.work →
-    IsSent (program_of a) old new a.goals t u a.variables a.nodes a.entries n m d → Grown old.held new.held → gs ≡ goals_after a.goals d → entries ≡ suc a.entries → count ≡ known →
-    IsKept (record a { held = new.held; goals = gs; shoens = u.shoens; work = u.work; variables = d.variables; nodes = d.nodes; entries = entries }) new.hooks count
-sent_kept a old new t u known count n m d gs entries k held same work s grown g e c =
-    kept_same (with_message a new.held u.shoens d) (record a { held = new.held; goals = gs; shoens = u.shoens; work = u.work; variables = d.variables; nodes = d.nodes; entries = entries }) new.hooks new.hooks known count
-    (placed a old new t u n m d gs entries k.first work s g e) refl c (sent_keeps a old new t u known n m d k held same s grown)
+pub sent_kept : (a : Account) (old new : Kept CellName) (t u : Tree CellName) (known count n : ℕ) (m : Message) (d : Draft) (gs : List (Goal CellName)) (entries run : ℕ) → IsKept a old.hooks known → a.held ≡ old.held → t.shoens ≡ a.shoens → t.work ≡ a.work →
+    IsSent (program_of a) old new a.goals t u a.rules a.variables a.nodes a.entries n m d → Grown old.held new.held → gs ≡ goals_after a.goals d → entries ≡ suc a.entries → run ≡ 0 → count ≡ known →
+    IsKept (record a { held = new.held; goals = gs; shoens = u.shoens; work = u.work; variables = d.variables; nodes = d.nodes; entries = entries; run = run }) new.hooks count
+sent_kept a old new t u known count n m d gs entries run k held same work s grown g e r c =
+    kept_same (with_message a new.held u.shoens d) (record a { held = new.held; goals = gs; shoens = u.shoens; work = u.work; variables = d.variables; nodes = d.nodes; entries = entries; run = run }) new.hooks new.hooks known count
+    (placed a old new t u n m d gs entries run k.first work s g e r) refl c (sent_keeps a old new t u known n m d k held same s grown)
 
-pub sent_step : (a b : Account) (old new : Kept CellName) (t u : Tree CellName) (known n : ℕ) (m : Message) (d : Draft) (gs : List (Goal CellName)) (entries : ℕ) → a ≡ b → IsKept a old.hooks known → a.held ≡ old.held → t.shoens ≡ a.shoens → t.work ≡ a.work →
-    IsSent (program_of a) old new a.goals t u a.variables a.nodes a.entries n m d → gs ≡ goals_after a.goals d → entries ≡ suc a.entries →
-    (f : Reading) → Fits b.names f → step (state_of f b) (control n m) ≡ record { state = state_of f (record a { held = new.held; goals = gs; shoens = u.shoens; work = u.work; variables = d.variables; nodes = d.nodes; entries = entries }); reply = sent }
-sent_step a b old new t u known n m d gs entries view k held same work s g e f fits =
+pub sent_step : (a b : Account) (old new : Kept CellName) (t u : Tree CellName) (known n : ℕ) (m : Message) (d : Draft) (gs : List (Goal CellName)) (entries run : ℕ) → a ≡ b → IsKept a old.hooks known → a.held ≡ old.held → t.shoens ≡ a.shoens → t.work ≡ a.work →
+    IsSent (program_of a) old new a.goals t u a.rules a.variables a.nodes a.entries n m d → gs ≡ goals_after a.goals d → entries ≡ suc a.entries → run ≡ 0 →
+    (f : Reading) → Fits b.names f → step (state_of f b) (control n m) ≡ record { state = state_of f (record a { held = new.held; goals = gs; shoens = u.shoens; work = u.work; variables = d.variables; nodes = d.nodes; entries = entries; run = run }); reply = sent }
+sent_step a b old new t u known n m d gs entries run view k held same work s g e r f fits =
     sym (ap (λ (w : Account). step (state_of f w) (control n m)) view)
     ∙ sent_steps a old new t u n m d held same s f fits.reads
-    ∙ ap (λ (w : Account). let y : Transition = record { state = state_of f w; reply = sent } in y) (sym (placed a old new t u n m d gs entries k.first work s g e))
+    ∙ ap (λ (w : Account). let y : Transition = record { state = state_of f w; reply = sent } in y) (sym (placed a old new t u n m d gs entries run k.first work s g e r))
 
 -- ---- if nothing has changed
 
@@ -336,13 +336,13 @@ as_was a h ss ws p q r =
 pub still_kept : (a : Account) (hooks more : List Hook) (known count : ℕ) (h : Held CellName) (ss : List (Shoen CellName)) (ws : List ℕ) → IsKept a hooks known → h ≡ a.held → ss ≡ a.shoens → ws ≡ a.work → more ≡ hooks → count ≡ known → IsKept (record a { held = h; shoens = ss; work = ws }) more count
 still_kept a hooks more known count h ss ws k p q r x y = kept_same a (record a { held = h; shoens = ss; work = ws }) hooks more known count (as_was a h ss ws p q r) x y k
 
-pub refused_step : (a b : Account) (old new : Kept CellName) (t u : Tree CellName) (n : ℕ) (m : Message) (r : Refusal) → a ≡ b → a.held ≡ old.held → t.shoens ≡ a.shoens → t.work ≡ a.work → IsRefused old new t u a.variables a.nodes a.entries n m r →
+pub refused_step : (a b : Account) (old new : Kept CellName) (t u : Tree CellName) (n : ℕ) (m : Message) (r : Refusal) → a ≡ b → a.held ≡ old.held → t.shoens ≡ a.shoens → t.work ≡ a.work → IsRefused old new t u a.rules a.variables a.nodes a.entries n m r →
     (f : Reading) → step (state_of f b) (control n m) ≡ record { state = state_of f (record a { held = new.held; shoens = u.shoens; work = u.work }); reply = refused (refusal_of r) }
 refused_step a b old new t u n m r view held same work i f =
     let z : State = record (state_of f a) { goals = []; shoens = []; last_variable = 0 } in
     let back : record a { held = new.held; shoens = u.shoens; work = u.work } ≡ a = as_was a new.held u.shoens u.work (i.held ∙ sym held) (ap (λ (x : Tree CellName). x.shoens) i.tree ∙ same) (ap (λ (x : Tree CellName). x.work) i.tree ∙ work) in
     sym (ap (λ (w : Account). step (state_of f w) (control n m)) view)
     ∙ ap (λ (ss : List (Shoen CellName)). step (with_kept f z a.held a.goals ss) (control n m)) (sym same)
-    ∙ i.steps (meaning f a.held) z (a.held.variables - 1) a.goals (record { variables_are = refl; nodes_are = refl; entries_are = refl })
+    ∙ i.steps (meaning f a.held) z (a.held.variables - 1) a.goals (record { most_are = refl; variables_are = refl; nodes_are = refl; entries_are = refl })
     ∙ ap (λ (ss : List (Shoen CellName)). refuse (with_kept f z a.held a.goals ss) (refusal_of r)) same
     ∙ ap (λ (w : Account). refuse (state_of f w) (refusal_of r)) (sym back)

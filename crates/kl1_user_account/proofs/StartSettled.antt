@@ -9,11 +9,11 @@ use Rattle.kl1_model.specs.Term.{Term}
 use Rattle.kl1_model.specs.code.TermCode.{nodes_of}
 use Rattle.kl1_model.specs.Meaning.{highest, is_numbered}
 use Rattle.kl1_model.specs.Nodes.{goal_nodes}
-use Rattle.kl1_model.specs.declared.limits.TheConstants.{MONITOR_PRIORITY, MOST_ENTRIES, MOST_GOALS, MOST_VARIABLES, MOST_NODES, MOST_SHOENS}
+use Rattle.kl1_model.specs.declared.limits.TheConstants.{MONITOR_PRIORITY}
 use Rattle.kl1_model.specs.Control.{Control, awaits_message, control_of}
 use Rattle.kl1_model.specs.code.Waits.{term_clause, awaited_by_term}
 use Rattle.kl1_model.specs.State as model
-use Rattle.kl1_model.specs.State.{names_of, with_names}
+use Rattle.kl1_model.specs.State.{limits_of, names_of, with_names}
 use Rattle.kl1_model.specs.Event.{start, refuse}
 use Rattle.kl1_model.specs.Step.{step}
 use Rattle.kl1_text.specs.declared.cell_name.CellName.{CellName}
@@ -34,9 +34,9 @@ use Rattle.kl1_goals.specs.declared.goal.Goal.{Goal}
 use Rattle.kl1_goals.specs.Lists.{is_monitor}
 use Rattle.kl1_shoen_paths.specs.declared.shoen.Shoen.{Shoen}
 use Rattle.kl1_shoen.specs.Shoens.{shoen_in, AreNumbered, AreLower, is_enabled_at}
-use Rattle.kl1_codes_modules.specs.Numbered.{Numbered, AreRead}
-use Rattle.kl1_codes_modules.specs.Finding.{contents}
-use Rattle.kl1_codes_modules.specs.Shelves.{Program}
+use Rattle.kl1_codes.specs.Numbered.{Numbered, AreRead}
+use Rattle.kl1_codes.specs.Finding.{contents}
+use Rattle.kl1_codes.specs.Shelves.{Program}
 use Rattle.kl1_store_hooks.specs.Hanging.{HangsOnEach}
 use Rattle.kl1_goals_moves.proofs.Hooked.{hangs_on_same}
 use Rattle.kl1_user_events.specs.declared.refusal.Refusal.{Refusal}
@@ -132,7 +132,7 @@ front_new f k ss x v numbered e c unbound =
 -- ---- an account after a start
 
 pub started_kept : (a b : Account) (mid : Held CellName) (texts : List (List ℕ)) (row : List Instruction) (numbers : List CellName) (count : ℕ) (cells : List (Cell CellName)) (awaited : List ℕ) (o : Opening) (allowance low high : ℕ) (goal : Term) (hooks after : List Hook) (known next : ℕ) → IsKept a hooks known → AreNumbered 0 a.shoens → AreLower a.shoens → low ≤ MONITOR_PRIORITY → high ≤ MONITOR_PRIORITY →
-    IsStart a b mid texts row numbers count cells awaited o allowance low high goal → AreNames a.names → AreSmall b.names → a.entries < MOST_ENTRIES → after ≡ (hooks ++ hooks_on (o.streams.control ∷ []) (a.last_goal + 1)) ++ hooks_on awaited (a.last_goal + 2) → next ≡ suc known → IsKept b after next
+    IsStart a b mid texts row numbers count cells awaited o allowance low high goal → AreNames a.names → AreSmall b.names → a.entries < (limits_of a.rules).entries → after ≡ (hooks ++ hooks_on (o.streams.control ∷ []) (a.last_goal + 1)) ++ hooks_on awaited (a.last_goal + 2) → next ≡ suc known → IsKept b after next
 started_kept a b mid texts row numbers count cells awaited o allowance low high goal hooks after known next k numbered lower below also_below s once small room hung counted =
     let firm : IsFirm a = record { some = k.some; goals = k.goals; shoens = k.shoens; numbered = numbered } in
     let firm_then = started_firm a b mid texts row numbers count cells awaited o allowance low high goal firm below also_below s in
@@ -143,9 +143,8 @@ started_kept a b mid texts row numbers count cells awaited o allowance low high 
     let h = shoen_opened shoen allowance low high p.cell o.streams in
     let long : length b.shoens ≡ shoen = ap (λ (xs : List (Shoen CellName)). length xs) p.shoens_are ∙ omega (arith, length-append a.shoens (h ∷ [])) in
     let was = k.count in
-    let few = k.few in
-    let works : length b.work ≡ length a.work = ap (λ (ws : List ℕ). length ws) s.work in
     let entries = s.entries in
+    let limit : (limits_of b.rules).entries ≡ (limits_of a.rules).entries = ap (λ (r : Rules). (limits_of r).entries) s.rules in
     let control = o.streams.control in
     let hook : Hook = record { variable = control; number = a.last_goal + 1 } in
     let one = hooks ++ hook ∷ [] in
@@ -164,8 +163,7 @@ started_kept a b mid texts row numbers count cells awaited o allowance low high 
       count = counted ∙ omega (arith, was, long);
       first = subst F (sym p.goals_are) (each_append (λ g. 0 < g.number) a.goals two k.first (omega arith, (omega arith, tt)));
       last = started_last a b mid texts row numbers count cells awaited o allowance low high goal k.last s;
-      few = omega (arith, few, works, entries);
-      most = omega (arith, room, entries);
+      most = omega (arith, room, entries, limit);
       settled = λ f fits.
           let agree = old_read a b mid texts row numbers count cells awaited o allowance low high goal s f fits in
           let means = goal_read a b mid texts row numbers count cells awaited o allowance low high goal s f fits in
@@ -197,10 +195,10 @@ started_kept a b mid texts row numbers count cells awaited o allowance low high 
 -- ---- what is counted
 
 -- what an account has of what is counted
-pub counts : (a b : Account) (c : Counted) (f : Reading) → a ≡ b → c.goals ≡ count_by (λ g. not (is_monitor g)) a.goals → c.variables ≡ a.variables → c.nodes ≡ a.nodes → c.shoens ≡ length a.shoens → c.entries ≡ a.entries → HasNames (state_of f b) b.names c
-counts a b c f view goals variables nodes shoens entries =
+pub counts : (a b : Account) (c : Counted) (f : Reading) → a ≡ b → c.goals ≡ count_by (λ g. not (is_monitor g)) a.goals → c.variables ≡ a.variables → c.nodes ≡ a.nodes → c.shoens ≡ length a.shoens → c.entries ≡ a.entries → c.most ≡ limits_of a.rules → HasNames (state_of f b) b.names c
+counts a b c f view goals variables nodes shoens entries most =
     let P : Account → Type 0 = λ z. HasNames (state_of f z) z.names c in
-    subst P view (record { names_are = refl; goals_are = alive_read (meaning f a.held) a.goals ∙ sym goals; variables_are = sym variables; nodes_are = sym nodes; shoens_are = sym shoens; entries_are = sym entries })
+    subst P view (record { names_are = refl; goals_are = alive_read (meaning f a.held) a.goals ∙ sym goals; variables_are = sym variables; nodes_are = sym nodes; shoens_are = sym shoens; entries_are = sym entries; most_are = sym most })
 
 -- an account refuses a start as was found by its names and what is counted
 pub refused_start : (a : Account) (c : Counted) (allowance low high : ℕ) (goal : Term) (o : Starting) (r : Refusal) → o ≡ Refused r → StartsAs a.names c allowance low high goal o → (f : Reading) → HasNames (state_of f a) a.names c → step (state_of f a) (start allowance low high goal) ≡ refuse (state_of f a) (refusal_of r)
@@ -209,25 +207,25 @@ refused_start a c allowance low high goal o r e s f at =
     subst S e s (state_of f a) at
 
 -- room for a goal is within what there may be
-pub variables_within : (c : Counted) (variables nodes : ℕ) → has_room_beside c variables nodes ≡ true → c.variables + suc (suc variables) ≤ MOST_VARIABLES
+pub variables_within : (c : Counted) (variables nodes : ℕ) → has_room_beside c variables nodes ≡ true → c.variables + suc (suc variables) ≤ c.most.variables
 variables_within c variables nodes e =
-    let p = and_parts (nat_lt c.goals MOST_GOALS && nat_le (c.variables + suc (suc variables)) MOST_VARIABLES && nat_le (c.nodes + nodes) MOST_NODES) (nat_lt c.shoens MOST_SHOENS) e in
-    let q = and_parts (nat_lt c.goals MOST_GOALS && nat_le (c.variables + suc (suc variables)) MOST_VARIABLES) (nat_le (c.nodes + nodes) MOST_NODES) p.0 in
-    leb-true (c.variables + suc (suc variables)) MOST_VARIABLES (and_parts (nat_lt c.goals MOST_GOALS) (nat_le (c.variables + suc (suc variables)) MOST_VARIABLES) q.0).1
+    let p = and_parts (nat_lt c.goals c.most.goals && nat_le (c.variables + suc (suc variables)) c.most.variables && nat_le (c.nodes + nodes) c.most.nodes) (nat_lt c.shoens c.most.shoens) e in
+    let q = and_parts (nat_lt c.goals c.most.goals && nat_le (c.variables + suc (suc variables)) c.most.variables) (nat_le (c.nodes + nodes) c.most.nodes) p.0 in
+    leb-true (c.variables + suc (suc variables)) c.most.variables (and_parts (nat_lt c.goals c.most.goals) (nat_le (c.variables + suc (suc variables)) c.most.variables) q.0).1
 
-pub nodes_within : (c : Counted) (variables nodes : ℕ) → has_room_beside c variables nodes ≡ true → c.nodes + nodes ≤ MOST_NODES
+pub nodes_within : (c : Counted) (variables nodes : ℕ) → has_room_beside c variables nodes ≡ true → c.nodes + nodes ≤ c.most.nodes
 nodes_within c variables nodes e =
-    let p = and_parts (nat_lt c.goals MOST_GOALS && nat_le (c.variables + suc (suc variables)) MOST_VARIABLES && nat_le (c.nodes + nodes) MOST_NODES) (nat_lt c.shoens MOST_SHOENS) e in
-    leb-true (c.nodes + nodes) MOST_NODES (and_parts (nat_lt c.goals MOST_GOALS && nat_le (c.variables + suc (suc variables)) MOST_VARIABLES) (nat_le (c.nodes + nodes) MOST_NODES) p.0).1
+    let p = and_parts (nat_lt c.goals c.most.goals && nat_le (c.variables + suc (suc variables)) c.most.variables && nat_le (c.nodes + nodes) c.most.nodes) (nat_lt c.shoens c.most.shoens) e in
+    leb-true (c.nodes + nodes) c.most.nodes (and_parts (nat_lt c.goals c.most.goals && nat_le (c.variables + suc (suc variables)) c.most.variables) (nat_le (c.nodes + nodes) c.most.nodes) p.0).1
 
 -- ---- the start of a draft that was put in place
 
 pub is_start : (a b : Account) (mid : Held CellName) (texts : List (List ℕ)) (row : List Instruction) (numbers sliced : List CellName) (count : ℕ) (cells : List (Cell CellName)) (awaited : List ℕ) (o : Opening) (allowance low high : ℕ) (goal code : Term) (gs : List (Goal CellName)) (ss : List (Shoen CellName)) (work : List ℕ) (nodes : ℕ) →
     IsFormed a.held → IsDrafted (program_of a) a.names texts row count allowance a.reports a.held mid cells awaited o → Grown a.held mid → IsPlaced sliced row cells mid b.held gs b.goals ss b.shoens b.work a.last_goal allowance low high o → gs ≡ a.goals → ss ≡ a.shoens → sliced ≡ numbers → Grown mid b.held →
     code ≡ goal → texts ≡ with_names [] (names_of code) → IsRowOf (with_names [] (names_of code)) row (nodes_of code) → IsTrue (is_numbered goal) → count ≡ highest goal → texts_of b.names ≡ with_texts (texts_of a.names) texts → AreNumbersOf b.names texts numbers → ((f : Reading) → Fits b.names f → Fits a.names f) →
-    b.own_name ≡ a.own_name → b.rules ≡ a.rules → b.sessions ≡ a.sessions → b.modules ≡ a.modules → b.work ≡ work → work ≡ a.work → b.last_goal ≡ suc (suc a.last_goal) → b.variables ≡ a.variables + (count + 2) → nodes ≡ goal_nodes code → b.nodes ≡ a.nodes + nodes → b.reports ≡ o.streams.made → b.entries ≡ a.entries + 1 →
+    b.own_name ≡ a.own_name → b.rules ≡ a.rules → b.sessions ≡ a.sessions → b.modules ≡ a.modules → b.work ≡ work → work ≡ a.work → b.last_goal ≡ suc (suc a.last_goal) → b.variables ≡ a.variables + (count + 2) → nodes ≡ goal_nodes code → b.nodes ≡ a.nodes + nodes → b.reports ≡ o.streams.made → b.entries ≡ a.entries + 1 → b.run ≡ 0 →
     IsStart a b mid texts row numbers count cells awaited o allowance low high goal
-is_start a b mid texts row numbers sliced count cells awaited o allowance low high goal code gs ss work nodes formed d grown p e f h up same t is numbered many names are fits own rules sessions modules worked was last variables counted all reports entries =
+is_start a b mid texts row numbers sliced count cells awaited o allowance low high goal code gs ss work nodes formed d grown p e f h up same t is numbered many names are fits own rules sessions modules worked was last variables counted all reports entries run =
     let P : List (Goal CellName) → Type 0 = λ x. IsPlaced sliced row cells mid b.held x b.goals ss b.shoens b.work a.last_goal allowance low high o in
     let Q : List (Shoen CellName) → Type 0 = λ x. IsPlaced sliced row cells mid b.held a.goals b.goals x b.shoens b.work a.last_goal allowance low high o in
     let R : List CellName → Type 0 = λ x. IsPlaced x row cells mid b.held a.goals b.goals a.shoens b.shoens b.work a.last_goal allowance low high o in
@@ -255,4 +253,5 @@ is_start a b mid texts row numbers sliced count cells awaited o allowance low hi
       nodes = all ∙ ap (λ n. a.nodes + n) (counted ∙ ap goal_nodes same);
       reports = reports;
       entries = entries;
+      run = run;
     }

@@ -8,7 +8,7 @@ use Rattle.kl1_model.specs.code.TermCode.{nodes_of}
 use Rattle.kl1_model.specs.Meaning.{highest, is_numbered}
 use Rattle.kl1_model.specs.Nodes.{goal_nodes}
 use Rattle.kl1_model.specs.State as model
-use Rattle.kl1_model.specs.State.{State, names_of, with_names}
+use Rattle.kl1_model.specs.State.{State, limits_of, names_of, with_names}
 use Rattle.kl1_model.specs.Event.{Transition, start, opened, with_entry}
 use Rattle.kl1_model.specs.Step.{step}
 use Rattle.kl1_model.specs.Opening.{start_goal, with_next_variables}
@@ -23,7 +23,7 @@ use Rattle.kl1_clause.specs.NameList.{with_texts}
 use Rattle.kl1_match.specs.Variables.{with_variables}
 use Rattle.kl1_match.specs.GoalCells.{AreGoalVariables}
 use Rattle.kl1_match.proofs.Places.{kept_with}
-use Rattle.kl1_codes_modules.specs.Finding.{contents}
+use Rattle.kl1_codes.specs.Finding.{contents}
 use Rattle.kl1_shoen_paths.specs.declared.shoen.Shoen.{Shoen}
 use Rattle.kl1_shoen.specs.Shoens.{AreNumbered, is_enabled_at}
 use Rattle.kl1_user_account.specs.declared.counted.Counted.{Counted}
@@ -70,6 +70,7 @@ pub record IsStart (a b : Account) (mid : Held CellName) (texts : List (List ℕ
   pub nodes : b.nodes ≡ a.nodes + goal_nodes goal
   pub reports : b.reports ≡ o.streams.made
   pub entries : b.entries ≡ a.entries + 1
+  pub run : b.run ≡ 0
 
 one_longer : (ss : List (Shoen CellName)) (s : Shoen CellName) → length (ss ++ s ∷ []) ≡ suc (length ss)
 one_longer ss s = omega (arith, length-append ss (s ∷ []))
@@ -97,7 +98,7 @@ old_read a b mid texts row numbers count cells awaited o allowance low high goal
 -- the streams are read as the definitions have them
 pub streams_read : (a b : Account) (mid : Held CellName) (texts : List (List ℕ)) (row : List Instruction) (numbers : List CellName) (count : ℕ) (cells : List (Cell CellName)) (awaited : List ℕ) (o : Opening) (allowance low high : ℕ) (goal : Term) →
     0 < a.held.variables → IsStart a b mid texts row numbers count cells awaited o allowance low high goal → (f : Reading) → Fits b.names f →
-    opens_with (meaning f b.held) (b.held.variables - 1) o.streams ≡ streams_opened allowance ((a.held.variables - 1) + highest goal) a.reports
+    opens_with (meaning f b.held) (b.held.variables - 1) o.streams ≡ streams_opened (limits_of a.rules).reports allowance ((a.held.variables - 1) + highest goal) a.reports
 streams_read a b mid texts row numbers count cells awaited o allowance low high goal some s f fits =
     let st = s.drafted.streams in
     let many = s.many in
@@ -109,7 +110,7 @@ streams_read a b mid texts row numbers count cells awaited o allowance low high 
     opens_same (meaning f b.held control) (meaning f b.held o.streams.reports) (meaning f b.held o.streams.tail) (meaning f mid control) (meaning f mid o.streams.reports) (meaning f mid o.streams.tail) o.streams.is_broken o.streams.is_broken (b.held.variables - 1) (mid.variables - 1) o.streams.made o.streams.made
     (kept control (omega arith)) (kept o.streams.reports st.reports_in) (kept o.streams.tail st.tail_in) refl (omega arith) refl
     ∙ st.streams f fits.reads
-    ∙ ap (λ n. streams_opened allowance n a.reports) top
+    ∙ ap (λ n. streams_opened (limits_of a.rules).reports allowance n a.reports) top
 
 -- the state after a start
 pub started_state : (a b : Account) (mid : Held CellName) (texts : List (List ℕ)) (row : List Instruction) (numbers : List CellName) (count : ℕ) (cells : List (Cell CellName)) (awaited : List ℕ) (o : Opening) (allowance low high : ℕ) (goal : Term) → IsFirm a →
@@ -118,7 +119,7 @@ started_state a b mid texts row numbers count cells awaited o allowance low high
     let last = a.held.variables - 1 in
     let u = meaning f b.held in
     let some = k.some in
-    let base : State = record { own_name = a.own_name; rules = a.rules; goals = []; shoens = []; work = a.work; modules = contents a.modules; names = texts_of a.names; last_variable = 0; last_goal = a.last_goal; last_shoen = length a.shoens; variables = a.variables; nodes = a.nodes; reports = a.reports; entries = a.entries; sessions = a.sessions } in
+    let base : State = record { own_name = a.own_name; rules = a.rules; goals = []; shoens = []; work = a.work; modules = contents a.modules; names = texts_of a.names; last_variable = 0; last_goal = a.last_goal; last_shoen = length a.shoens; variables = a.variables; nodes = a.nodes; reports = a.reports; entries = a.entries; run = a.run; sessions = a.sessions } in
     let p = s.placed in
     let began = start_opens a.held (meaning f a.held) u base last allowance low high (b.held.variables - 1) goal a.goals a.shoens p.cell o.streams o.standing (is_enabled_at b.shoens b.work (suc (length a.shoens)))
     (old_read a b mid texts row numbers count cells awaited o allowance low high goal s f fits)
@@ -130,12 +131,12 @@ started_state a b mid texts row numbers count cells awaited o allowance low high
     let count_is : suc (length a.shoens) ≡ length b.shoens = sym (ap (λ (xs : List (Shoen CellName)). length xs) p.shoens_are ∙ one_longer a.shoens _) in
     let es : suc a.entries ≡ b.entries = let e = s.entries in omega arith in
     ap with_entry began
-    ∙ parts _ _ _ _ _ _ _ _ _ _ _ _ _ _ _ _ _ _ _ _ _ _ _ _ _ _ _ _ (b.held.variables - 1) (ap (map (goal_with u)) (sym p.goals_are)) (ap (map (shoen_with u)) (sym p.shoens_are)) names (sym s.last) count_is es (sym s.own) (sym s.rules) (ap contents (sym s.modules)) (sym s.work) (sym s.variables) (sym s.nodes) (sym s.reports) (sym s.sessions)
+    ∙ parts _ _ _ _ _ _ _ _ _ _ _ _ _ _ _ _ _ _ _ _ _ _ _ _ _ _ _ _ _ _ (b.held.variables - 1) (ap (map (goal_with u)) (sym p.goals_are)) (ap (map (shoen_with u)) (sym p.shoens_are)) names (sym s.last) count_is es (sym s.own) (sym s.rules) (ap contents (sym s.modules)) (sym s.work) (sym s.variables) (sym s.nodes) (sym s.reports) (sym s.run) (sym s.sessions)
   where
-    parts : (gs hs : List model.Goal) (ss ts : List model.Shoen) (ns ms : List (List ℕ)) (l m c d e g : ℕ) (x y : List ℕ) (u v1 : Rules) (q r : List Module) (w z : List ℕ) (i j : ℕ) (v : ℕ) (v2 : ℕ) (k k2 : ℕ) (o o2 last : ℕ) → gs ≡ hs → ss ≡ ts → ns ≡ ms → l ≡ m → c ≡ d → e ≡ g → x ≡ y → u ≡ v1 → q ≡ r → w ≡ z → i ≡ j → v ≡ v2 → k ≡ k2 → o ≡ o2 →
-        (let one : State = record { own_name = x; rules = u; goals = gs; shoens = ss; work = w; modules = q; names = ns; last_variable = last; last_goal = l; last_shoen = c; variables = i; nodes = v; reports = k; entries = e; sessions = o } in one)
-        ≡ record { own_name = y; rules = v1; goals = hs; shoens = ts; work = z; modules = r; names = ms; last_variable = last; last_goal = m; last_shoen = d; variables = j; nodes = v2; reports = k2; entries = g; sessions = o2 }
-    parts gs hs ss ts ns ms l m c d e g x y u v1 q r w z i j v v2 k k2 o o2 last e1 e2 e3 e4 e5 e6 e7 e8 e9 e10 e11 e12 e13 e14 = cc
+    parts : (gs hs : List model.Goal) (ss ts : List model.Shoen) (ns ms : List (List ℕ)) (l m c d e g : ℕ) (x y : List ℕ) (u v1 : Rules) (q r : List Module) (w z : List ℕ) (i j : ℕ) (v : ℕ) (v2 : ℕ) (k k2 : ℕ) (t t2 : ℕ) (o o2 last : ℕ) → gs ≡ hs → ss ≡ ts → ns ≡ ms → l ≡ m → c ≡ d → e ≡ g → x ≡ y → u ≡ v1 → q ≡ r → w ≡ z → i ≡ j → v ≡ v2 → k ≡ k2 → t ≡ t2 → o ≡ o2 →
+        (let one : State = record { own_name = x; rules = u; goals = gs; shoens = ss; work = w; modules = q; names = ns; last_variable = last; last_goal = l; last_shoen = c; variables = i; nodes = v; reports = k; entries = e; run = t; sessions = o } in one)
+        ≡ record { own_name = y; rules = v1; goals = hs; shoens = ts; work = z; modules = r; names = ms; last_variable = last; last_goal = m; last_shoen = d; variables = j; nodes = v2; reports = k2; entries = g; run = t2; sessions = o2 }
+    parts gs hs ss ts ns ms l m c d e g x y u v1 q r w z i j v v2 k k2 t t2 o o2 last e1 e2 e3 e4 e5 e6 e7 e8 e9 e10 e11 e12 e13 e14 e15 = cc
 
 -- the step of a start that is in place
 pub started_step : (a b : Account) (mid : Held CellName) (texts : List (List ℕ)) (row : List Instruction) (numbers : List CellName) (count : ℕ) (cells : List (Cell CellName)) (awaited : List ℕ) (o : Opening) (allowance low high : ℕ) (goal code : Term) (c : Counted) (n : ℕ) → IsFirm a →

@@ -21,8 +21,8 @@ use Rattle.kl1_goals.specs.declared.goal.Goal.{Goal}
 use Rattle.kl1_goals.specs.Lists.{is_monitor, is_monitor_task, is_flagged}
 use Rattle.kl1_shoen_paths.specs.declared.shoen.Shoen.{Shoen}
 use Rattle.kl1_shoen.specs.Shoens.{has_number, AreNumbered, parents_in, charged_in, is_on_path_in}
-use Rattle.kl1_codes_modules.specs.Numbered.{Numbered}
-use Rattle.kl1_codes_modules.specs.Finding.{contents}
+use Rattle.kl1_codes.specs.Numbered.{Numbered}
+use Rattle.kl1_codes.specs.Finding.{contents}
 use Rattle.kl1_user_effects.specs.Account.{Means, task_with, goal_with, shoen_with, state_with}
 use Rattle.kl1_user_effects.specs.Kept.{AreOwned}
 use Rattle.kl1_user_account.specs.Asked.{condition_at, condition_by}

@@ -1,15 +1,15 @@
 -- The step of a reduction, of an account as it is kept.
-use Rattle.std.proofs.Common.{◌≡◌, true, false, not, if◌then◌else◌, ℕ, ◌<◌, ◌≤◌, ◌==◌, ◌&&◌, Bool, List, [], ◌∷◌, map, refl, sym, ap, ◌∙◌, subst}
+use Rattle.std.proofs.Common.{◌≡◌, true, false, not, if◌then◌else◌, ℕ, ◌==◌, ◌&&◌, Bool, List, [], ◌∷◌, map, refl, sym, ap, ◌∙◌, subst}
 use Rattle.std.specs.Prelude.{Some, None, Option, option_map, find}
 use Rattle.std.specs.List.{AllByRecursion}
-use Rattle.std.proofs.lemmas.Bool.{lt-ltb, le-ltb, eq-eqb, ne_eqb}
-use Rattle.kl1_model.specs.declared.limits.TheConstants.{MOST_ENTRIES}
+use Rattle.std.proofs.lemmas.Bool.{eq-eqb, ne_eqb}
 use Rattle.kl1_model.specs.Term.{Term}
 use Rattle.kl1_model.specs.Look.{goal_look}
 use Rattle.kl1_model.specs.Control as model_control
 use Rattle.kl1_model.specs.State as model
 use Rattle.kl1_model.specs.State.{State, goal_at, shoen_at, without_goal}
-use Rattle.kl1_model.specs.Event.{reduce, refuse, syntax, step_refused, journal_full, reduced, is_number, with_entry}
+use Rattle.kl1_model.specs.Event.{reduce, refuse, syntax, step_refused, journal_full, reduced, is_number, with_reduction}
+use Rattle.kl1_model.specs.Choice.{is_in_run}
 use Rattle.kl1_model.specs.Step.{step}
 use Rattle.kl1_model.specs.Reduction as reduction
 use Rattle.kl1_model.specs.Reduction.{reads, moves, moved, heard, acted, read_action, task_action, reduce_goal}
@@ -28,11 +28,11 @@ use Rattle.kl1_goals.specs.declared.goal.Goal.{Goal}
 use Rattle.kl1_goals.specs.Lists.{has_number}
 use Rattle.kl1_shoen_paths.specs.declared.shoen.Shoen.{Shoen}
 use Rattle.kl1_shoen.specs.Shoens.{shoen_in}
-use Rattle.kl1_codes_modules.specs.Finding.{contents}
+use Rattle.kl1_codes.specs.Finding.{contents}
 use Rattle.kl1_user_effects.specs.Fitting.{Reading}
 use Rattle.kl1_user_effects.specs.Account.{Account, Means, meaning, task_with, goal_with, shoen_with, state_of, aim, aim_with}
 use Rattle.kl1_user_effects.specs.Settled.{IsEnabled, AreEnabled}
-use Rattle.kl1_user_account.specs.Reducing.{IsSteppable, is_read, IsTaskFor, task_move}
+use Rattle.kl1_user_account.specs.Reducing.{Suits, IsSteppable, IsFullFor, is_read, IsTaskFor, task_move}
 use Rattle.kl1_user_effects.proofs.States.{found_in}
 use Rattle.kl1_user_account.proofs.Choosing.{enabled_read}
 
@@ -63,24 +63,24 @@ finds_goal f a n o e = goal_read (meaning f a.held) n a.goals ∙ ap (option_map
 
 -- numbers that a command can't have are refused
 pub steps_syntax : (s : State) (n c : ℕ) → (is_number n && is_number c) ≡ false → step s (reduce n c) ≡ refuse s syntax
-steps_syntax s n c e = ap (λ b. if b then reduce_goal s c (goal_at n s.goals) else refuse s syntax) e
+steps_syntax s n c e = ap (λ b. if b then reduce_goal s (is_in_run s n c) c (goal_at n s.goals) else refuse s syntax) e
 
 -- a goal that isn't there is refused
 pub steps_nowhere : (f : Reading) (a : Account) (n c : ℕ) → (is_number n && is_number c) ≡ true → find (has_number n) a.goals ≡ None → step (state_of f a) (reduce n c) ≡ refuse (state_of f a) step_refused
 steps_nowhere f a n c e g =
     let s = state_of f a in
-    ap (λ b. if b then reduce_goal s c (goal_at n s.goals) else refuse s syntax) e ∙ ap (reduce_goal s c) (finds_goal f a n None g)
+    ap (λ b. if b then reduce_goal s (is_in_run s n c) c (goal_at n s.goals) else refuse s syntax) e ∙ ap (reduce_goal s (is_in_run s n c) c) (finds_goal f a n None g)
 
 -- a goal that is there does what its task can, if it may step
 steps_by : (f : Reading) (a : Account) (n c : ℕ) (g : Goal CellName) (may : Bool) → (is_number n && is_number c) ≡ true → find (has_number n) a.goals ≡ Some g → g.is_enabled ≡ may → AreEnabled a.shoens a.work a.goals →
     step (state_of f a) (reduce n c)
-    ≡ reduced_by (state_of f a) (goal_with (meaning f a.held) g) (if may then task_action (state_of f a) g.shoen (task_with (meaning f a.held) g.task) c else None)
+    ≡ reduced_by (state_of f a) (is_in_run (state_of f a) n c) (goal_with (meaning f a.held) g) (if may then task_action (state_of f a) g.shoen (task_with (meaning f a.held) g.task) c else None)
 steps_by f a n c g may numbers found enabled all =
     let s = state_of f a in
     let t = meaning f a.held in
-    ap (λ b. if b then reduce_goal s c (goal_at n s.goals) else refuse s syntax) numbers
-    ∙ ap (reduce_goal s c) (finds_goal f a n (Some g) found)
-    ∙ ap (λ b. reduced_by s (goal_with t g) (if b then task_action s g.shoen (task_with t g.task) c else None))
+    ap (λ b. if b then reduce_goal s (is_in_run s n c) c (goal_at n s.goals) else refuse s syntax) numbers
+    ∙ ap (reduce_goal s (is_in_run s n c) c) (finds_goal f a n (Some g) found)
+    ∙ ap (λ b. reduced_by s (is_in_run s n c) (goal_with t g) (if b then task_action s g.shoen (task_with t g.task) c else None))
     (enabled_read f a.held a.shoens a.work s g refl refl (found_holds (IsEnabled a.shoens a.work) n a.goals g all found) ∙ enabled)
 
 -- a goal that is held back is refused
@@ -89,31 +89,33 @@ steps_held f a n c g numbers found held all = steps_by f a n c g false numbers f
 
 -- a goal that may step does what its task can
 pub steps_to : (f : Reading) (a : Account) (n c : ℕ) (g : Goal CellName) → IsSteppable a.goals n c g → AreEnabled a.shoens a.work a.goals →
-    step (state_of f a) (reduce n c) ≡ reduced_by (state_of f a) (goal_with (meaning f a.held) g) (task_action (state_of f a) g.shoen (task_with (meaning f a.held) g.task) c)
+    step (state_of f a) (reduce n c) ≡ reduced_by (state_of f a) (is_in_run (state_of f a) n c) (goal_with (meaning f a.held) g) (task_action (state_of f a) g.shoen (task_with (meaning f a.held) g.task) c)
 steps_to f a n c g is all = steps_by f a n c g true is.numbers is.found is.enabled all
 
 -- a goal that can do nothing is refused
 pub steps_not : (f : Reading) (a : Account) (n c : ℕ) (g : Goal CellName) → IsSteppable a.goals n c g → AreEnabled a.shoens a.work a.goals → task_action (state_of f a) g.shoen (task_with (meaning f a.held) g.task) c ≡ None →
     step (state_of f a) (reduce n c) ≡ refuse (state_of f a) step_refused
-steps_not f a n c g is all e = steps_to f a n c g is all ∙ ap (reduced_by (state_of f a) (goal_with (meaning f a.held) g)) e
+steps_not f a n c g is all e = steps_to f a n c g is all ∙ ap (reduced_by (state_of f a) (is_in_run (state_of f a) n c) (goal_with (meaning f a.held) g)) e
 
--- an action is refused if the journal is full
-pub steps_full : (f : Reading) (a : Account) (n c : ℕ) (g : Goal CellName) (x : reduction.Action) → IsSteppable a.goals n c g → AreEnabled a.shoens a.work a.goals → task_action (state_of f a) g.shoen (task_with (meaning f a.held) g.task) c ≡ Some x → MOST_ENTRIES ≤ a.entries →
+-- an action is refused if it needs an entry and the journal is full
+pub steps_full : (f : Reading) (a : Account) (n c : ℕ) (g : Goal CellName) (x : reduction.Action) → IsSteppable a.goals n c g → AreEnabled a.shoens a.work a.goals → task_action (state_of f a) g.shoen (task_with (meaning f a.held) g.task) c ≡ Some x → IsFullFor a n c true → Suits a f →
     step (state_of f a) (reduce n c) ≡ refuse (state_of f a) journal_full
-steps_full f a n c g x is all e full =
+steps_full f a n c g x is all e full knows =
     let s = state_of f a in
     let k = goal_with (meaning f a.held) g in
-    steps_to f a n c g is all ∙ ap (reduced_by s k) e
-    ∙ ap (λ b. if b then record { state = acted k x (with_entry s); reply = reduced } else refuse s journal_full) (le-ltb a.entries MOST_ENTRIES full)
+    let in_run = is_in_run s n c in
+    steps_to f a n c g is all ∙ ap (reduced_by s in_run k) e
+    ∙ ap (λ b. if b then refuse s journal_full else record { state = acted k x (with_reduction in_run s); reply = reduced }) (full f knows)
 
 -- an action is done if there is room in the journal
-pub steps_on : (f : Reading) (a : Account) (n c : ℕ) (g : Goal CellName) (x : reduction.Action) → IsSteppable a.goals n c g → AreEnabled a.shoens a.work a.goals → task_action (state_of f a) g.shoen (task_with (meaning f a.held) g.task) c ≡ Some x → a.entries < MOST_ENTRIES →
-    step (state_of f a) (reduce n c) ≡ record { state = acted (goal_with (meaning f a.held) g) x (with_entry (state_of f a)); reply = reduced }
-steps_on f a n c g x is all e room =
+pub steps_on : (f : Reading) (a : Account) (n c : ℕ) (g : Goal CellName) (x : reduction.Action) → IsSteppable a.goals n c g → AreEnabled a.shoens a.work a.goals → task_action (state_of f a) g.shoen (task_with (meaning f a.held) g.task) c ≡ Some x → IsFullFor a n c false → Suits a f →
+    step (state_of f a) (reduce n c) ≡ record { state = acted (goal_with (meaning f a.held) g) x (with_reduction (is_in_run (state_of f a) n c) (state_of f a)); reply = reduced }
+steps_on f a n c g x is all e room knows =
     let s = state_of f a in
     let k = goal_with (meaning f a.held) g in
-    steps_to f a n c g is all ∙ ap (reduced_by s k) e
-    ∙ ap (λ b. if b then record { state = acted k x (with_entry s); reply = reduced } else refuse s journal_full) (lt-ltb a.entries MOST_ENTRIES room)
+    let in_run = is_in_run s n c in
+    steps_to f a n c g is all ∙ ap (reduced_by s in_run k) e
+    ∙ ap (λ b. if b then refuse s journal_full else record { state = acted k x (with_reduction in_run s); reply = reduced }) (room f knows)
 
 -- ---- what a monitor can do
 

@@ -2,7 +2,6 @@
 use Rattle.std.proofs.Common.{◌≡◌, ℕ, suc, ◌+◌, ◌-◌, ◌<◌, ◌≤◌, ◌==◌, Bool, true, false, if◌then◌else◌, [], ◌∷◌, length, length-append, refl, sym, ap, ◌∙◌, arith, subst}
 use Rattle.std.specs.Prelude.{nat_lt}
 use Rattle.std.proofs.lemmas.Bool.{eq-eqb, ne_eqb, lt-ltb, le-ltb}
-use Rattle.kl1_model.specs.declared.limits.TheConstants.{MOST_REPORTS}
 use Rattle.kl1_model.specs.declared.built_in.BuiltIn.{BuiltIn}
 use Rattle.kl1_model.specs.declared.built_in.BuiltIn.TheVariants.{ListCell, Started, Exhausted}
 use Rattle.kl1_model.specs.Text.{text_of}
@@ -76,47 +75,47 @@ exhausted_on last made = record {
   made = suc (suc made);
 }
 
-tells_started : (last made : ℕ) (b c d : Bool) → nat_lt made MOST_REPORTS ≡ b → (suc last == suc (suc last)) ≡ c → (suc (suc last) == suc (suc last)) ≡ d → c ≡ false → d ≡ true →
-    tells started_report (first_streams last made) ≡ (if b then started_on last made false else broken_first last made)
-tells_started last made true c d e g h cf dt = cc
-tells_started last made false c d e g h cf dt = cc
+tells_started : (most last made : ℕ) (b c d : Bool) → nat_lt made most ≡ b → (suc last == suc (suc last)) ≡ c → (suc (suc last) == suc (suc last)) ≡ d → c ≡ false → d ≡ true →
+    tells most started_report (first_streams last made) ≡ (if b then started_on last made false else broken_first last made)
+tells_started most last made true c d e g h cf dt = cc
+tells_started most last made false c d e g h cf dt = cc
 
-tells_exhausted : (last made : ℕ) (b c d : Bool) → nat_lt (suc made) MOST_REPORTS ≡ b → (suc last == suc (suc (suc last))) ≡ c → (suc (suc (suc last)) == suc (suc (suc last))) ≡ d → c ≡ false → d ≡ true →
-    tells exhausted_report (started_on last made false) ≡ (if b then exhausted_on last made else started_on last made true)
-tells_exhausted last made true c d e g h cf dt = cc
-tells_exhausted last made false c d e g h cf dt = cc
+tells_exhausted : (most last made : ℕ) (b c d : Bool) → nat_lt (suc made) most ≡ b → (suc last == suc (suc (suc last))) ≡ c → (suc (suc (suc last)) == suc (suc (suc last))) ≡ d → c ≡ false → d ≡ true →
+    tells most exhausted_report (started_on last made false) ≡ (if b then exhausted_on last made else started_on last made true)
+tells_exhausted most last made true c d e g h cf dt = cc
+tells_exhausted most last made false c d e g h cf dt = cc
 
-pub first_told : (last made : ℕ) (b : Bool) → nat_lt made MOST_REPORTS ≡ b → tells started_report (first_streams last made) ≡ (if b then started_on last made false else broken_first last made)
-first_told last made b e = tells_started last made b false true e (ne_eqb (suc last) (suc (suc last)) (λ q. omega arith)) (eq-eqb (suc (suc last)) (suc (suc last)) refl) refl refl
+pub first_told : (most last made : ℕ) (b : Bool) → nat_lt made most ≡ b → tells most started_report (first_streams last made) ≡ (if b then started_on last made false else broken_first last made)
+first_told most last made b e = tells_started most last made b false true e (ne_eqb (suc last) (suc (suc last)) (λ q. omega arith)) (eq-eqb (suc (suc last)) (suc (suc last)) refl) refl refl
 
-then_told : (last made : ℕ) (b : Bool) → nat_lt (suc made) MOST_REPORTS ≡ b → tells exhausted_report (started_on last made false) ≡ (if b then exhausted_on last made else started_on last made true)
-then_told last made b e = tells_exhausted last made b false true e (ne_eqb (suc last) (suc (suc (suc last))) (λ q. omega arith)) (eq-eqb (suc (suc (suc last))) (suc (suc (suc last))) refl) refl refl
+then_told : (most last made : ℕ) (b : Bool) → nat_lt (suc made) most ≡ b → tells most exhausted_report (started_on last made false) ≡ (if b then exhausted_on last made else started_on last made true)
+then_told most last made b e = tells_exhausted most last made b false true e (ne_eqb (suc last) (suc (suc (suc last))) (λ q. omega arith)) (eq-eqb (suc (suc (suc last))) (suc (suc (suc last))) refl) refl refl
 
 -- if the account has made its last report
-pub none_made : (allowance last made : ℕ) → MOST_REPORTS ≤ made → streams_opened allowance last made ≡ broken_first last made
-none_made allowance last made le =
-    ap (λ o. if allowance == 0 then tells exhausted_report o else o) (first_told last made false (le-ltb made MOST_REPORTS le))
+pub none_made : (most allowance last made : ℕ) → most ≤ made → streams_opened most allowance last made ≡ broken_first last made
+none_made most allowance last made le =
+    ap (λ o. if allowance == 0 then tells most exhausted_report o else o) (first_told most last made false (le-ltb made most le))
     ∙ same_either (allowance == 0) (broken_first last made)
 
 -- if the shoen isn't exhausted
-pub one_made : (allowance last made : ℕ) → made < MOST_REPORTS → (allowance == 0) ≡ false → streams_opened allowance last made ≡ started_on last made false
-one_made allowance last made lt some =
-    ap (λ o. if allowance == 0 then tells exhausted_report o else o) (first_told last made true (lt-ltb made MOST_REPORTS lt))
-    ∙ ap (λ b. if b then tells exhausted_report (started_on last made false) else started_on last made false) some
+pub one_made : (most allowance last made : ℕ) → made < most → (allowance == 0) ≡ false → streams_opened most allowance last made ≡ started_on last made false
+one_made most allowance last made lt some =
+    ap (λ o. if allowance == 0 then tells most exhausted_report o else o) (first_told most last made true (lt-ltb made most lt))
+    ∙ ap (λ b. if b then tells most exhausted_report (started_on last made false) else started_on last made false) some
 
 -- if it is, and its first report was the account's last
-pub last_made : (allowance last made : ℕ) → made < MOST_REPORTS → (allowance == 0) ≡ true → MOST_REPORTS ≤ suc made → streams_opened allowance last made ≡ started_on last made true
-last_made allowance last made lt zero_is le =
-    ap (λ o. if allowance == 0 then tells exhausted_report o else o) (first_told last made true (lt-ltb made MOST_REPORTS lt))
-    ∙ ap (λ b. if b then tells exhausted_report (started_on last made false) else started_on last made false) zero_is
-    ∙ then_told last made false (le-ltb (suc made) MOST_REPORTS le)
+pub last_made : (most allowance last made : ℕ) → made < most → (allowance == 0) ≡ true → most ≤ suc made → streams_opened most allowance last made ≡ started_on last made true
+last_made most allowance last made lt zero_is le =
+    ap (λ o. if allowance == 0 then tells most exhausted_report o else o) (first_told most last made true (lt-ltb made most lt))
+    ∙ ap (λ b. if b then tells most exhausted_report (started_on last made false) else started_on last made false) zero_is
+    ∙ then_told most last made false (le-ltb (suc made) most le)
 
 -- if it is, and both reports are made
-pub two_made : (allowance last made : ℕ) → (allowance == 0) ≡ true → suc made < MOST_REPORTS → streams_opened allowance last made ≡ exhausted_on last made
-two_made allowance last made zero_is lt =
-    ap (λ o. if allowance == 0 then tells exhausted_report o else o) (first_told last made true (lt-ltb made MOST_REPORTS (omega arith)))
-    ∙ ap (λ b. if b then tells exhausted_report (started_on last made false) else started_on last made false) zero_is
-    ∙ then_told last made true (lt-ltb (suc made) MOST_REPORTS lt)
+pub two_made : (most allowance last made : ℕ) → (allowance == 0) ≡ true → suc made < most → streams_opened most allowance last made ≡ exhausted_on last made
+two_made most allowance last made zero_is lt =
+    ap (λ o. if allowance == 0 then tells most exhausted_report o else o) (first_told most last made true (lt-ltb made most (omega arith)))
+    ∙ ap (λ b. if b then tells most exhausted_report (started_on last made false) else started_on last made false) zero_is
+    ∙ then_told most last made true (lt-ltb (suc made) most lt)
 
 -- ---- the cells that were built
 
@@ -149,10 +148,10 @@ pub opens_same : (a b c d e g : Term) (x y : Bool) (k l m n : ℕ) → a ≡ d �
 opens_same a b c d e g x y k l m n p q r s t u = cc
 
 -- the streams that nothing is reported on
-pub opens_broken : (allowance made : ℕ) (h a new : Held CellName) (control first : ℕ) → IsFormed h → 0 < h.variables → (control ≡ h.variables) × (a ≡ with_variable h) → (first ≡ a.variables) × (new ≡ with_variable a) →
-    streams_opened allowance (h.variables - 1) made ≡ broken_first (h.variables - 1) made →
-    OpensStreams allowance made h new (record { control = control; reports = Variable first; tail = Variable first; is_broken = true; made = made })
-opens_broken allowance made h a new control first p some ca fa is =
+pub opens_broken : (most allowance made : ℕ) (h a new : Held CellName) (control first : ℕ) → IsFormed h → 0 < h.variables → (control ≡ h.variables) × (a ≡ with_variable h) → (first ≡ a.variables) × (new ≡ with_variable a) →
+    streams_opened most allowance (h.variables - 1) made ≡ broken_first (h.variables - 1) made →
+    OpensStreams allowance made most h new (record { control = control; reports = Variable first; tail = Variable first; is_broken = true; made = made })
+opens_broken most allowance made h a new control first p some ca fa is =
     let w = follows_on h a new (follows_fresh h a ca.1) (follows_fresh a new fa.1) in
     let c0 = ca.0 in
     let f0 = fa.0 in
@@ -173,10 +172,10 @@ opens_broken allowance made h a new control first p some ca fa is =
     }
 
 -- the streams on which the start is reported
-pub opens_started : (allowance made : ℕ) (h a b c new : Held CellName) (control first second : ℕ) (x : Cell CellName) (is_broken : Bool) → IsFormed h → 0 < h.variables → (control ≡ h.variables) × (a ≡ with_variable h) → (first ≡ a.variables) × (b ≡ with_variable a) → (second ≡ b.variables) × (c ≡ with_variable b) →
-    Grown c new → IsLink c new Started (Variable second) x → streams_opened allowance (h.variables - 1) made ≡ started_on (h.variables - 1) made is_broken →
-    OpensStreams allowance made h new (record { control = control; reports = x; tail = Variable second; is_broken = is_broken; made = made + 1 })
-opens_started allowance made h a b c new control first second x is_broken p some ca fa sa g l is =
+pub opens_started : (most allowance made : ℕ) (h a b c new : Held CellName) (control first second : ℕ) (x : Cell CellName) (is_broken : Bool) → IsFormed h → 0 < h.variables → (control ≡ h.variables) × (a ≡ with_variable h) → (first ≡ a.variables) × (b ≡ with_variable a) → (second ≡ b.variables) × (c ≡ with_variable b) →
+    Grown c new → IsLink c new Started (Variable second) x → streams_opened most allowance (h.variables - 1) made ≡ started_on (h.variables - 1) made is_broken →
+    OpensStreams allowance made most h new (record { control = control; reports = x; tail = Variable second; is_broken = is_broken; made = made + 1 })
+opens_started most allowance made h a b c new control first second x is_broken p some ca fa sa g l is =
     let to = follows_on h b c (follows_on h a b (follows_fresh h a ca.1) (follows_fresh a b fa.1)) (follows_fresh b c sa.1) in
     let w = follows_on h c new to (follows_link c new Started (Variable second) x g l) in
     let c0 = ca.0 in
@@ -203,10 +202,10 @@ opens_started allowance made h a b c new control first second x is_broken p some
     }
 
 -- the streams on which both are reported
-pub opens_exhausted : (allowance made : ℕ) (h a b c d e new : Held CellName) (control first second third : ℕ) (x y : Cell CellName) → IsFormed h → 0 < h.variables → (control ≡ h.variables) × (a ≡ with_variable h) → (first ≡ a.variables) × (b ≡ with_variable a) → (second ≡ b.variables) × (c ≡ with_variable b) → (third ≡ c.variables) × (d ≡ with_variable c) →
-    Grown d e → IsLink d e Exhausted (Variable third) x → Grown e new → IsLink e new Started x y → streams_opened allowance (h.variables - 1) made ≡ exhausted_on (h.variables - 1) made →
-    OpensStreams allowance made h new (record { control = control; reports = y; tail = Variable third; is_broken = false; made = made + 2 })
-opens_exhausted allowance made h a b c d e new control first second third x y p some ca fa sa ta g l k m is =
+pub opens_exhausted : (most allowance made : ℕ) (h a b c d e new : Held CellName) (control first second third : ℕ) (x y : Cell CellName) → IsFormed h → 0 < h.variables → (control ≡ h.variables) × (a ≡ with_variable h) → (first ≡ a.variables) × (b ≡ with_variable a) → (second ≡ b.variables) × (c ≡ with_variable b) → (third ≡ c.variables) × (d ≡ with_variable c) →
+    Grown d e → IsLink d e Exhausted (Variable third) x → Grown e new → IsLink e new Started x y → streams_opened most allowance (h.variables - 1) made ≡ exhausted_on (h.variables - 1) made →
+    OpensStreams allowance made most h new (record { control = control; reports = y; tail = Variable third; is_broken = false; made = made + 2 })
+opens_exhausted most allowance made h a b c d e new control first second third x y p some ca fa sa ta g l k m is =
     let to = follows_on h c d (follows_on h b c (follows_on h a b (follows_fresh h a ca.1) (follows_fresh a b fa.1)) (follows_fresh b c sa.1)) (follows_fresh c d ta.1) in
     let w = follows_on h d new to (follows_on d e new (follows_link d e Exhausted (Variable third) x g l) (follows_link e new Started x y k m)) in
     let c0 = ca.0 in

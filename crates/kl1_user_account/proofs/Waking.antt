@@ -11,8 +11,8 @@ use Rattle.kl1_store.specs.Sound.{IsFormed, Grown}
 use Rattle.kl1_goals.specs.declared.task.Task.{Task}
 use Rattle.kl1_goals.specs.declared.goal.Goal.{Goal}
 use Rattle.kl1_shoen_paths.specs.declared.shoen.Shoen.{Shoen}
-use Rattle.kl1_codes_modules.specs.Shelves.{Program}
-use Rattle.kl1_codes_modules.specs.Finding.{contents}
+use Rattle.kl1_codes.specs.Shelves.{Program}
+use Rattle.kl1_codes.specs.Finding.{contents}
 use Rattle.kl1_store_hooks.specs.Hanging.{HangsOnEach, AreAmong}
 use Rattle.kl1_user_effects.specs.declared.draft.Change.{Change}
 use Rattle.kl1_user_effects.specs.Fitting.{Reading}

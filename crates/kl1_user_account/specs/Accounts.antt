@@ -1,7 +1,9 @@
 -- What the fields of an account stand for.
+use Rattle.std.specs.Prelude.{length}
 use Rattle.kl1_user_account.specs.declared.account.Account.TheInside.{Inside}
 use Rattle.kl1_user_effects.specs.Account.{Account}
 use Rattle.kl1_user_account.specs.Keeping as keeping
+use Rattle.kl1_user_account.specs.Keeping.{CountsWork}
 
 -- what an account keeps
 abbrev pub kept_in : {C R : Type 0} → Inside C R → Account
@@ -19,9 +21,10 @@ kept_in u = record {
   nodes = u.nodes;
   reports = u.reports;
   entries = u.entries;
+  run = u.run;
   sessions = u.sessions;
 }
 
 -- what always holds of the fields
 abbrev pub IsKept : {C R : Type 0} → Inside C R → Type 0
-IsKept u = keeping.IsKept (kept_in u) u.store.hooks u.goals.shoens
+IsKept u = keeping.IsKept (kept_in u) u.store.hooks u.goals.shoens × CountsWork (length u.shoens.work) u.entries u.run

@@ -2,7 +2,7 @@
 use Rattle.std.specs.Prelude.{◌≡◌, ℕ, ◌+◌, ◌-◌, ◌<◌, nat_lt, nat_le, ◌&&◌, Bool, true, false, List, [], length, map, Some}
 use Rattle.kl1_model.specs.declared.rules.Rules.{Rules}
 use Rattle.kl1_model.specs.declared.life.Life.TheVariants.{Living}
-use Rattle.kl1_model.specs.declared.limits.TheConstants.{MOST_VARIABLES, MOST_NODES, MOST_ENTRIES, MOST_NAMES}
+use Rattle.kl1_model.specs.declared.limits.TheConstants.{MOST_NAMES}
 use Rattle.kl1_model.specs.Term.{Term, replace}
 use Rattle.kl1_model.specs.Meaning.{highest}
 use Rattle.kl1_model.specs.Nodes.{structures_of}
@@ -26,7 +26,7 @@ use Rattle.kl1_shoen_paths.specs.declared.shoen.Origin.{Origin}
 use Rattle.kl1_shoen_paths.specs.declared.shoen.Shoen.{Shoen}
 use Rattle.kl1_shoen.specs.Shoens.{shoen_in}
 use Rattle.kl1_user_effects.specs.Fitting.{Reading, built}
-use Rattle.kl1_codes_modules.specs.Shelves.{Program}
+use Rattle.kl1_codes.specs.Shelves.{Program}
 use Rattle.kl1_user_effects.specs.declared.draft.Change.{Change}
 use Rattle.kl1_user_effects.specs.Account.{meaning, texts_of, with_kept}
 use Rattle.kl1_user_effects.specs.Works.{Knows}
@@ -40,7 +40,7 @@ use Rattle.kl1_user_account.specs.Exchanging.{AreSpared}
 
 -- whether a goal with `variables` variables and `nodes` structures can be an answer beside what is counted
 abbrev pub has_room_to_answer_beside : Counted → ℕ → ℕ → Bool
-has_room_to_answer_beside c variables nodes = nat_le (c.variables + variables) MOST_VARIABLES && nat_le (c.nodes + nodes) MOST_NODES
+has_room_to_answer_beside c variables nodes = nat_le (c.variables + variables) c.most.variables && nat_le (c.nodes + nodes) c.most.nodes
 
 -- an answer to a report of shoen `n` is refused for a reason, if this is counted
 abbrev pub RefusesAnswer : Rules → Held CellName → List (Shoen CellName) → List Known → Counted → ℕ → ℕ → Term → Refusal → Type 0
@@ -60,7 +60,7 @@ pub record IsAnswerable (rules : Rules) (h : Held CellName) (ss : List (Shoen Ce
   pub kept : shoen.origin ≡ Some origin
   pub few : nat_lt MOST_NAMES (length (with_texts (texts_of names) (with_names [] (names_of goal)))) ≡ false
   pub keeps : has_room_to_answer_beside counted (highest goal) (structures_of goal) ≡ true
-  pub room : counted.entries < MOST_ENTRIES
+  pub room : counted.entries < counted.most.entries
   pub unbound : IsUnbound h v
   pub waits : (f : Reading) → Reads built f → unanswered_at (meaning f h origin.reports) report ≡ Some v
 

@@ -22,5 +22,6 @@ begun own rules names sessions = record {
   nodes = 0;
   reports = 0;
   entries = 0;
+  run = 0;
   sessions = sessions;
 }

@@ -1,14 +1,22 @@
 -- What always holds of an account.
-use Rattle.std.specs.Prelude.{◌≡◌, ℕ, ◌<◌, ◌≤◌, List, length}
+use Rattle.std.specs.Prelude.{◌≡◌, ℕ, ◌+◌, ◌*◌, ◌<◌, ◌≤◌, List, length}
 use Rattle.std.specs.List.{AllByRecursion}
-use Rattle.kl1_model.specs.declared.limits.TheConstants.{MOST_ENTRIES}
+use Rattle.kl1_model.specs.declared.limits.TheConstants.{MOST_RUN}
+use Rattle.kl1_model.specs.Rules.{limits_of}
 use Rattle.kl1_store.specs.Hooks.{Hook}
-use Rattle.kl1_codes_modules.specs.Numbered.{AreRead}
+use Rattle.kl1_codes.specs.Numbered.{AreRead}
 use Rattle.kl1_user_effects.specs.Fitting.{Reading, Fits}
 use Rattle.kl1_user_effects.specs.Account.{Account, program_of, state_of}
 use Rattle.kl1_user_effects.specs.Kept.{AreGoalsIn, AreOwned, AreUpTo, AreShoensIn}
 use Rattle.kl1_user_effects.specs.Settled.{AreSettled, AreEnabled}
 use Rattle.kl1_user_effects.specs.Naming.{AreSmall}
+
+-- this number of charged reductions is counted in a journal of `entries` entries, of which the last is a run of `run` reductions, or none
+-- if that is 0: each entry has at most as many reductions as the longest run, and the last at most as many as it counts
+pub record CountsWork (work entries run : ℕ) : Type 0 where
+  pub longest : run ≤ MOST_RUN
+  pub all : work ≤ entries * MOST_RUN
+  pub last : 0 < run → work + MOST_RUN ≤ entries * MOST_RUN + run
 
 -- what always holds of an account, on whose variables these numbers hang, and whose table of goals knows `known` shoens; that its
 -- shoens are a tree is what the tree of shoens keeps
@@ -20,8 +28,7 @@ pub record IsKept (a : Account) (hooks : List Hook) (known : ℕ) : Type 0 where
   pub count : known ≡ length a.shoens
   pub first : AllByRecursion (λ g. 0 < g.number) a.goals
   pub last : AreUpTo a.last_goal a.goals
-  pub few : length a.work ≤ a.entries
-  pub most : a.entries ≤ MOST_ENTRIES
+  pub most : a.entries ≤ (limits_of a.rules).entries
   pub settled : (f : Reading) → Fits a.names f → AreSettled f hooks a.held (program_of a) a.shoens a.goals
   pub enabled : AreEnabled a.shoens a.work a.goals
   pub rows : (f : Reading) → Fits a.names f → AreRead f a.modules

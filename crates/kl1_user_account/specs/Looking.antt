@@ -25,9 +25,9 @@ use Rattle.kl1_goals.specs.declared.task.Task.TheVariants.{Reduces}
 use Rattle.kl1_goals.specs.declared.goal.Goal.{Goal}
 use Rattle.kl1_goals.specs.Lists.{has_number}
 use Rattle.kl1_shoen_paths.specs.declared.shoen.Shoen.{Shoen}
-use Rattle.kl1_codes_modules.specs.Numbered.{Numbered}
-use Rattle.kl1_codes_modules.specs.Finding.{contents, Asks}
-use Rattle.kl1_codes_modules.specs.Shelves.{Program}
+use Rattle.kl1_codes.specs.Numbered.{Numbered}
+use Rattle.kl1_codes.specs.Finding.{contents, Asks}
+use Rattle.kl1_codes.specs.Shelves.{Program}
 use Rattle.kl1_store_hooks.specs.Hanging.{HangsOnEach}
 use Rattle.kl1_user_effects.specs.declared.draft.Change.{Change}
 use Rattle.kl1_user_effects.specs.Fitting.{Reading, built}

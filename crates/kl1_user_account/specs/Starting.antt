@@ -5,11 +5,11 @@ use Rattle.kl1_model.specs.Text.{text_of}
 use Rattle.kl1_model.specs.declared.built_in.BuiltIn.{BuiltIn}
 use Rattle.kl1_model.specs.code.TermCode.{nodes_of}
 use Rattle.kl1_model.specs.Meaning.{cell, highest, is_numbered}
-use Rattle.kl1_model.specs.declared.limits.TheConstants.{MONITOR_PRIORITY, MOST_GOALS, MOST_VARIABLES, MOST_NODES, MOST_SHOENS, MOST_REPORTS, MOST_ENTRIES, MOST_NAMES}
+use Rattle.kl1_model.specs.declared.limits.TheConstants.{MONITOR_PRIORITY, MOST_NAMES}
 use Rattle.kl1_model.specs.Nodes.{goal_nodes}
 use Rattle.kl1_model.specs.Opening.{may_start, with_next_variables}
 use Rattle.kl1_model.specs.Report.{started_report, exhausted_report}
-use Rattle.kl1_model.specs.State.{State, names_of, with_names}
+use Rattle.kl1_model.specs.State.{State, limits_of, names_of, with_names}
 use Rattle.kl1_model.specs.Tree.{goals_alive}
 use Rattle.kl1_model.specs.Event.{start, refuse}
 use Rattle.kl1_model.specs.Step.{step}
@@ -33,9 +33,9 @@ use Rattle.kl1_goals.specs.declared.task.Task.TheVariants.{Monitor, Reduces}
 use Rattle.kl1_goals.specs.declared.goal.Goal.{Goal}
 use Rattle.kl1_shoen_paths.specs.declared.shoen.Shoen.{Shoen}
 use Rattle.kl1_shoen.specs.Shoens.{is_enabled_at}
-use Rattle.kl1_codes_modules.specs.Numbered.{AreRead}
-use Rattle.kl1_codes_modules.specs.Shelves.{Program}
-use Rattle.kl1_codes_modules.specs.Finding.{contents}
+use Rattle.kl1_codes.specs.Numbered.{AreRead}
+use Rattle.kl1_codes.specs.Shelves.{Program}
+use Rattle.kl1_codes.specs.Finding.{contents}
 use Rattle.kl1_user_events.specs.Views.{refusal_of}
 use Rattle.kl1_user_account.specs.declared.counted.Counted.{Counted}
 use Rattle.kl1_user_account.specs.declared.startable.Starting.{Starting}
@@ -55,11 +55,12 @@ pub record HasNames (s : State) (names : List Known) (counted : Counted) : Type 
   pub nodes_are : s.nodes ≡ counted.nodes
   pub shoens_are : s.last_shoen ≡ counted.shoens
   pub entries_are : s.entries ≡ counted.entries
+  pub most_are : limits_of s.rules ≡ counted.most
 
 -- whether a goal with `variables` variables and `nodes` structures can be started beside what is counted
 abbrev pub has_room_beside : Counted → ℕ → ℕ → Bool
 has_room_beside c variables nodes =
-    nat_lt c.goals MOST_GOALS && nat_le (c.variables + suc (suc variables)) MOST_VARIABLES && nat_le (c.nodes + nodes) MOST_NODES && nat_lt c.shoens MOST_SHOENS
+    nat_lt c.goals c.most.goals && nat_le (c.variables + suc (suc variables)) c.most.variables && nat_le (c.nodes + nodes) c.most.nodes && nat_lt c.shoens c.most.shoens
 
 -- a goal may be started, and this is its code
 pub record IsStartable (names : List Known) (counted : Counted) (allowance low high : ℕ) (goal code : Term) : Type 0 where
@@ -67,7 +68,7 @@ pub record IsStartable (names : List Known) (counted : Counted) (allowance low h
   pub may : may_start allowance low high goal ≡ true
   pub few : nat_lt MOST_NAMES (length (with_texts (texts_of names) (with_names [] (names_of goal)))) ≡ false
   pub keeps : has_room_beside counted (highest goal) (goal_nodes goal) ≡ true
-  pub room : counted.entries < MOST_ENTRIES
+  pub room : counted.entries < counted.most.entries
 
 -- what comes of a goal that is to be started
 abbrev pub StartsAs : List Known → Counted → ℕ → ℕ → ℕ → Term → Starting → Type 0
@@ -107,28 +108,28 @@ pub record Opens : Type 0 where
   pub last : ℕ
   pub made : ℕ
 
--- a report on the unbroken report stream with this tail
-abbrev pub tells_at : Term → Term → Opens → Opens
-tells_at message (variable v) o =
+-- a report on the unbroken report stream with this tail, of an account that may make `most` reports
+abbrev pub tells_at : ℕ → Term → Term → Opens → Opens
+tells_at most message (variable v) o =
     let next = suc o.last in
     let link = cell message (variable next) in
-    if occurs v message || not (nat_lt o.made MOST_REPORTS) then record o { is_broken = true }
+    if occurs v message || not (nat_lt o.made most) then record o { is_broken = true }
     else record { control = replace v link o.control; reports = replace v link o.reports; tail = variable next; is_broken = o.is_broken; last = next; made = suc o.made }
-tells_at message t o = record o { is_broken = true }
+tells_at most message t o = record o { is_broken = true }
 
 -- a report; on a broken stream it is dropped
-abbrev pub tells : Term → Opens → Opens
-tells message o = if o.is_broken then o else tells_at message o.tail o
+abbrev pub tells : ℕ → Term → Opens → Opens
+tells most message o = if o.is_broken then o else tells_at most message o.tail o
 
 -- the streams before the first report: their tails are the variables after the last, that of the control stream first
 abbrev pub first_streams : ℕ → ℕ → Opens
 first_streams last made = record { control = variable (suc last); reports = variable (suc (suc last)); tail = variable (suc (suc last)); is_broken = false; last = suc (suc last); made = made }
 
 -- the streams of a shoen that has reported that it has started, and, if its allowance is 0, that it is exhausted
-abbrev pub streams_opened : ℕ → ℕ → ℕ → Opens
-streams_opened allowance last made =
-    let opened = tells started_report (first_streams last made) in
-    if allowance == 0 then tells exhausted_report opened else opened
+abbrev pub streams_opened : ℕ → ℕ → ℕ → ℕ → Opens
+streams_opened most allowance last made =
+    let opened = tells most started_report (first_streams last made) in
+    if allowance == 0 then tells most exhausted_report opened else opened
 
 -- what these streams are with the cells of a store, for a reading
 abbrev pub streams_of : Reading → Held CellName → Streams → Opens
@@ -151,12 +152,12 @@ pub record IsLink (old new : Held CellName) (name : BuiltIn) (rest x : Cell Cell
   pub kept : (f : Reading) (y : Cell CellName) → IsIn old y → meaning f new y ≡ meaning f old y
 
 -- the streams of a shoen that opens were built of variables more, in an account that made `made` reports; no variable was bound
-pub record OpensStreams (allowance made : ℕ) (old new : Held CellName) (s : Streams) : Type 0 where
+pub record OpensStreams (allowance made most : ℕ) (old new : Held CellName) (s : Streams) : Type 0 where
   pub bindings : new.bindings ≡ old.bindings
   pub control : IsUnbound new s.control
   pub reports_in : IsIn new s.reports
   pub tail_in : IsIn new s.tail
-  pub streams : (f : Reading) → Reads built f → streams_of f new s ≡ streams_opened allowance (old.variables - 1) made
+  pub streams : (f : Reading) → Reads built f → streams_of f new s ≡ streams_opened most allowance (old.variables - 1) made
   pub kept : (f : Reading) (x : Cell CellName) → IsIn old x → meaning f new x ≡ meaning f old x
 
 -- by this clause the goal of a row can step, which waits for these variables, if its names have these numbers
@@ -168,7 +169,7 @@ Judges program names row cells h awaited standing =
 -- what is drafted of a goal of these texts and this row, for an account with these names and modules: its variables, the streams of
 -- its shoen, the clause by which it can step, and what it waits for
 pub record IsDrafted (program : Program) (names : List Known) (texts : List (List ℕ)) (row : List Instruction) (count allowance made : ℕ) (old new : Held CellName) (cells : List (Cell CellName)) (awaited : List ℕ) (o : Opening) : Type 0 where
-  pub streams : OpensStreams allowance made (with_variables old count) new o.streams
+  pub streams : OpensStreams allowance made (limits_of program.rules).reports (with_variables old count) new o.streams
   pub variables : AreGoalVariables new (old.variables - 1) count cells
   pub judged : AreNames names → AreSmall names → ((f : Reading) → Fits names f → AreRead f program.loaded) → (goal : Term) → IsRowOf texts row (nodes_of goal) → IsTrue (is_numbered goal) → count ≡ highest goal →
       StandsAs program.rules (contents program.loaded) (with_next_variables (old.variables - 1) goal) awaited o.standing

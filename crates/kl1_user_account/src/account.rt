@@ -3,16 +3,16 @@
 mod beginning;
 mod sessions;
 
-ghost use Rattle.std.specs.Prelude.{◌≡◌, ◌↔◌, ℕ, [], IfOk, OnErr, option_map};
+ghost use Rattle.std.specs.Prelude.{◌≡◌, ◌↔◌, ◌&&◌, ℕ, [], IfOk, OnErr, option_map};
 ghost use Rattle.kl1_model.specs.Step.{step};
-ghost use Rattle.kl1_model.specs.Choice.{first, quiet};
-ghost use Rattle.kl1_model.specs.Event.{load as load_event, start as start_event, answer as answer_event, control, reduce, read, value, status, reports, modules as modules_query};
+ghost use Rattle.kl1_model.specs.Choice.{first, is_in_run, quiet};
+ghost use Rattle.kl1_model.specs.Event.{load as load_event, start as start_event, answer as answer_event, control, reduce, read, value, status, reports, modules as modules_query, is_full, needs_entry};
 ghost use Rattle.kl1_user_effects.specs.Fitting.{Reading, Fits};
 ghost use Rattle.kl1_user_effects.specs.Account.{state_of, texts_of};
 ghost use Rattle.kl1_user_effects.specs.Naming.{Keeps};
 ghost use Rattle.kl1_user_account.specs.Starting.{HasNames};
 ghost use Rattle.kl1_user_events.specs.Views.{reply_of, reduced_or, chosen_of};
-ghost use Rattle.kl1_codes_modules.specs.Numbered.{ArePlaced};
+ghost use Rattle.kl1_codes.specs.Numbered.{ArePlaced};
 ghost use Rattle.kl1_user_events.specs.Whole.{whole_value};
 
 use crate::account_name::AccountName;
@@ -27,13 +27,13 @@ use crate::loading::{Loading, draft_module, install_module, prepare};
 use crate::naming::publish_drafted;
 use crate::printing::print_cell;
 use crate::reducing::draft_named;
+use crate::runs::{needs_entry, note_entry, note_reduction};
 use crate::sending::draft_message;
 use crate::startable::{Starting, code_of};
 use crate::starting::{next_goals, next_number, place, prepare_start};
 use kl1_atoms::AtomSource;
 use kl1_clause::structures_of;
-use kl1_codes::CodeSource;
-use kl1_codes_modules::{CodedModule, CodedModules, Modules};
+use kl1_codes::{CodeSource, CodedModule, CodedModules, Modules};
 use kl1_goals::{GoalTable, Rules};
 use kl1_goals_moves::Trial;
 use kl1_match::Scratch;
@@ -64,6 +64,7 @@ pub struct Account<C: CodeSource> {
     nodes: u64,
     reports: u64,
     entries: u64,
+    run: u32,
     sessions: u64,
     trial: Trial<CellName>,
     draft: Draft,
@@ -75,7 +76,7 @@ pub struct Account<C: CodeSource> {
 
 impl<C: CodeSource> Model for Account<C> {
     ghost use Rattle.std.specs.Coded.{codes};
-    ghost use Rattle.kl1_codes_modules.specs.Numbered.{numbered_code};
+    ghost use Rattle.kl1_codes.specs.Numbered.{numbered_code};
     ghost use Rattle.kl1_user_effects.specs.Account.{Account as Kept};
 
     ghost Value = { Kept };
@@ -95,6 +96,20 @@ impl<C: CodeSource> Account<C> {
         ensures { result.now ≡ texts_of self.now.names }
     {
         self.names.texts()
+    }
+
+    /// The rules that the account keeps to.
+    pub fn rules(&self) -> Rules
+        ensures { result ≡ self.now.rules }
+    {
+        self.rules
+    }
+
+    /// How many reductions the last entry of the journal has, if it is a run, or else 0.
+    pub fn run(&self) -> u32
+        ensures { (f : Reading) → result ≡ (state_of f self.now).run }
+    {
+        self.run
     }
 
     /// The first goal that can step, with the clause by which it steps.
@@ -124,7 +139,38 @@ impl<C: CodeSource> Account<C> {
             nodes: self.nodes,
             shoens: self.shoens.len(),
             entries: self.entries,
+            most: self.rules.limits(),
         }
+    }
+
+    /// Whether the journal has no room for one entry more.
+    fn is_full(&self) -> bool
+        ensures { (f : Reading) → result ≡ is_full (state_of f self.now) }
+    {
+        self.rules.limits().entries <= self.entries
+    }
+
+    /// Whether the reduction of goal `number` by this clause is noted in a run: it is the first, by rules with runs.
+    fn is_in_run(&self, number: u64, clause: u64) -> bool
+        ensures { (f : Reading) → Fits self.now.names f → result ≡ is_in_run (state_of f self.now) number clause }
+    {
+        if !self.rules.has_runs() {
+            return false;
+        }
+        match self.goals.pick() {
+            None => false,
+            Some((first, by)) => first == number && by == clause,
+        }
+    }
+
+    /// Whether a reduction, which is noted in a run or not, needs an entry for which the journal has no room.
+    fn has_no_room(&self, in_run: bool) -> bool
+        ensures { (f : Reading) → result ≡ (needs_entry in_run (state_of f self.now) && is_full (state_of f self.now)) }
+    {
+        if !needs_entry(in_run, self.run) {
+            return false;
+        }
+        self.is_full()
     }
 
     /// Reduces goal `number` by the clause numbered `clause`, or says why it is refused.
@@ -145,6 +191,8 @@ impl<C: CodeSource> Account<C> {
         ensures knows { A.knows seat.new ≡ self.new.names }
         ensures modules { self.new.modules ≡ self.old.modules }
     {
+        let in_run = self.is_in_run(number, clause);
+        let is_full = self.has_no_room(in_run);
         let mark = self.store.mark();
         // Only for the proof: the goals are in order of number.
         let _ordered = self.goals.shoens();
@@ -168,7 +216,7 @@ impl<C: CodeSource> Account<C> {
             &mut self.draft,
             &mut self.walk,
             &mut self.numbers,
-            self.entries,
+            is_full,
             number,
             clause,
         );
@@ -197,7 +245,7 @@ impl<C: CodeSource> Account<C> {
         self.variables = self.draft.variables;
         self.nodes = self.draft.nodes;
         self.reports = self.draft.reports;
-        self.entries += 1;
+        note_reduction(&mut self.entries, &mut self.run, in_run);
         Ok(None)
     }
 
@@ -243,7 +291,7 @@ impl<C: CodeSource> Account<C> {
         install(&mut self.goals, &self.draft, false);
         self.variables = self.draft.variables;
         self.nodes = self.draft.nodes;
-        self.entries += 1;
+        note_entry(&mut self.entries, &mut self.run);
         Ok(Reply::Sent)
     }
 
@@ -265,12 +313,13 @@ impl<C: CodeSource> Account<C> {
         ensures placed { ArePlaced (C.has codes.new) self.new.modules }
         ensures same { (p : ℕ × ℕ) → C.has codes.old p ↔ C.has codes.new p }
     {
+        let is_full = self.is_full();
         let draft = match draft_module(
             self.alloc,
             &self.modules,
             &self.names,
             codes,
-            self.entries,
+            is_full,
             source,
         )? {
             Loading::Refused(refusal) => return Ok(Reply::Refused(refusal)),
@@ -305,7 +354,7 @@ impl<C: CodeSource> Account<C> {
             row.as_slice(),
             self.draft.changes.as_slice(),
         );
-        self.entries += 1;
+        note_entry(&mut self.entries, &mut self.run);
         Ok(Reply::Loaded(name))
     }
 
@@ -375,7 +424,7 @@ impl<C: CodeSource> Account<C> {
         self.variables += variables + 2;
         self.nodes += code.nodes();
         self.reports = opening.streams.made;
-        self.entries += 1;
+        note_entry(&mut self.entries, &mut self.run);
         Ok(Reply::Opened(ShoenNo(shoen)))
     }
 
@@ -462,7 +511,7 @@ impl<C: CodeSource> Account<C> {
         install(&mut self.goals, &self.draft, false);
         self.variables = self.draft.variables;
         self.nodes = self.draft.nodes;
-        self.entries += 1;
+        note_entry(&mut self.entries, &mut self.run);
         Ok(Reply::Sent)
     }
 

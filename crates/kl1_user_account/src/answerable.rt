@@ -1,21 +1,20 @@
 // What may be answered.
 
-ghost use Rattle.std.specs.Prelude.{◌≡◌, codes, nat_le, IfOk, OnOk};
-ghost use Rattle.kl1_model.specs.Answering.{answer_line, may_answer};
+ghost use Rattle.std.specs.Prelude.{◌≡◌, nat_le, IfOk};
+ghost use Rattle.kl1_model.specs.Answering.{may_answer};
 ghost use Rattle.kl1_user_effects.specs.Kept.{AreShoensIn};
 ghost use Rattle.kl1_user_account.specs.Answering.{AnswersAs};
 
 use crate::counted::Counted;
 use crate::limits::are_numbers;
-use crate::startable::put_number;
+use crate::line_length::fits_answer;
 use kl1_clause::{GoalCode, structures_of};
 use kl1_goals::Rules;
-use kl1_model::limits::{MOST_ENTRIES, MOST_LINE_BYTES};
 use kl1_read::is_goal;
 use kl1_shoen::ShoenTree;
 use kl1_store::Store;
 use kl1_stream::unanswered_at;
-use kl1_term::{Term, put_whole};
+use kl1_term::Term;
 use kl1_text::CellName;
 use kl1_user_effects::AccountNames;
 use kl1_user_events::Refusal;
@@ -26,23 +25,6 @@ use std::alloc::{AllocError, Global};
 pub(crate) enum Answering {
     Refused(Refusal),
     Coded(GoalCode, u32),
-}
-
-/// Puts the rest of the line of a journal for an answer after its first word. After an error some of it may be there.
-#[tactic(auto, using(crate::proofs::StartLines::answer_is))]
-fn put_answer(
-    alloc: Global,
-    line: &mut Vec<u8>,
-    number: u64,
-    report: u64,
-    goal: &Term,
-) -> Result<(), AllocError>
-    requires { line.old.items ≡ codes "answer " }
-    ensures { OnOk result (line.new.items ≡ answer_line number report goal.now) }
-{
-    put_number(line, number)?;
-    put_number(line, report)?;
-    put_whole(alloc, line, goal)
 }
 
 /// Whether a report has this number: the first is 1.
@@ -62,9 +44,7 @@ fn may_answer(alloc: Global, number: u64, report: u64, goal: &Term) -> Result<bo
     if !goal.is_writable(alloc)? || !goal.is_numbered() {
         return Ok(false);
     }
-    let mut line = Vec::from_slice(alloc, b"answer ")?;
-    put_answer(alloc, &mut line, number, report, goal)?;
-    Ok(line.len() <= MOST_LINE_BYTES)
+    fits_answer(alloc, number, report, goal)
 }
 
 /// The code of the goal of an answer to a report of shoen `number`, in an account with these rules, names and counts, and the
@@ -102,7 +82,7 @@ pub(crate) fn code_of_answer(
     if !counted.has_room_to_answer(goal.highest(), structures_of(goal)) {
         return Ok(Answering::Refused(Refusal::Limit));
     }
-    if MOST_ENTRIES <= counted.entries {
+    if counted.is_full() {
         return Ok(Answering::Refused(Refusal::Journal));
     }
     match unanswered_at(store, origin.reports, report) {

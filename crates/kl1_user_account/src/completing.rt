@@ -12,8 +12,7 @@ ghost use Rattle.kl1_user_account.specs.Finishing.{LooksAgain, ShiftsFor, LetsSt
 
 use crate::looking::{wake_added, wake_told};
 use kl1_clause::Predicate;
-use kl1_codes::CodeSource;
-use kl1_codes_modules::CodedModules;
+use kl1_codes::{CodeSource, CodedModules};
 use kl1_goals::GoalTable;
 use kl1_goals_moves::{Kind, Trial};
 use kl1_shoen::ShoenTree;

@@ -13,8 +13,7 @@ ghost use Rattle.kl1_user_account.specs.Starting.{Judges, IsDrafted};
 use crate::looking::predicate_of;
 use crate::opening::{Opening, open_streams};
 use kl1_clause::Instruction;
-use kl1_codes::CodeSource;
-use kl1_codes_modules::CodedModules;
+use kl1_codes::{CodeSource, CodedModules};
 use kl1_goals_moves::{Trial, kind_of, standing_of};
 use kl1_match::{Scratch, put_goal, put_goal_variables, reserve_goal};
 use kl1_store::Store;
@@ -75,7 +74,7 @@ pub(crate) fn draft_start<C: CodeSource>(
     ensures grown { HasGrown store.old store.new }
 {
     put_goal_variables(store, count, scratch)?;
-    let streams = open_streams(store, allowance, made)?;
+    let streams = open_streams(store, allowance, made, modules.rules().limits().reports)?;
     draft_row(names, texts, numbers)?;
     let mark = store.mark();
     let judged = judge(store, modules, numbers.as_slice(), row, scratch, trial);

@@ -5,8 +5,8 @@ ghost use Rattle.kl1_model.specs.declared.limits.TheConstants.{MOST_SOURCE_BYTES
 ghost use Rattle.kl1_model.specs.Module.{read_module, good};
 ghost use Rattle.kl1_atoms.specs.Names.{AreNames};
 ghost use Rattle.kl1_store.specs.Hooks.{HasGrown};
-ghost use Rattle.kl1_codes_modules.specs.Numbered.{AreRead, ArePlaced, own_names, number_of};
-ghost use Rattle.kl1_codes_modules.specs.Finding.{is_numbered};
+ghost use Rattle.kl1_codes.specs.Numbered.{AreRead, ArePlaced, own_names, number_of};
+ghost use Rattle.kl1_codes.specs.Finding.{is_numbered};
 ghost use Rattle.kl1_user_effects.specs.Fitting.{Reading, Fits};
 ghost use Rattle.kl1_user_effects.specs.Kept.{AreGoalsIn, AreShoensIn};
 ghost use Rattle.kl1_user_effects.specs.Naming.{AreSmall, ReadsDraft};
@@ -15,11 +15,10 @@ ghost use Rattle.kl1_user_account.specs.Loadings.{DraftsAs, LoadsAs, StandsIn, S
 
 use crate::looking_beside::look_at_all;
 use kl1_clause::{Code, CodeFault};
-use kl1_codes::CodeSource;
-use kl1_codes_modules::{CodedModule, CodedModules, Loaded, Modules, number_by};
+use kl1_codes::{CodeSource, CodedModule, CodedModules, Loaded, Modules, number_by};
 use kl1_goals::{GoalTable, Rules};
 use kl1_goals_moves::Trial;
-use kl1_model::limits::{MOST_ENTRIES, MOST_MODULES, MOST_SOURCE_BYTES};
+use kl1_model::limits::{MOST_MODULES, MOST_SOURCE_BYTES};
 use kl1_shoen::ShoenTree;
 use kl1_store::Store;
 use kl1_text::CellName;
@@ -46,18 +45,18 @@ fn row_of(alloc: Global, names: &AccountNames, code: &Code) -> Result<Vec<CellNa
     Ok(row)
 }
 
-/// Why an account with these modules and names, whose journal has `entries` entries, refuses the module of a code whose names have
+/// Why an account with these modules and names, whose journal may be full, refuses the module of a code whose names have
 /// these numbers; nothing if it may be loaded.
 fn refusal_of<C: CodeSource>(
     modules: &Modules<C>,
     names: &AccountNames,
-    entries: u64,
+    is_full: bool,
     code: &Code,
     row: &[CellName],
 ) -> Option<Refusal>
     requires reads { ReadsDraft names.now.names (own_names code.now) row.now }
     requires rows { (f : Reading) → Fits names.now.names f → AreRead f modules.now.loaded }
-    ensures { (place : ℕ × ℕ) → DraftsAs modules.now.loaded names.now.names entries (record { content = code.now; row = row.now; place = place }) result }
+    ensures { (place : ℕ × ℕ) → DraftsAs modules.now.loaded names.now.names is_full (record { content = code.now; row = row.now; place = place }) result }
 {
     if modules.has(number_by(code, row)) {
         return Some(Refusal::Exists);
@@ -68,7 +67,7 @@ fn refusal_of<C: CodeSource>(
     if modules.len() >= MOST_MODULES {
         return Some(Refusal::Limit);
     }
-    if entries >= MOST_ENTRIES {
+    if is_full {
         return Some(Refusal::Journal);
     }
     None
@@ -80,7 +79,7 @@ fn draft_found<C: CodeSource>(
     modules: &Modules<C>,
     names: &AccountNames,
     codes: &C,
-    entries: u64,
+    is_full: bool,
     source: &[u8],
     found: C::Ref,
 ) -> Result<Loading<C>, AllocError>
@@ -90,12 +89,12 @@ fn draft_found<C: CodeSource>(
     requires few { length source.now ≤ MOST_SOURCE_BYTES }
     requires of { C.has codes.now (C.place found) }
     requires module { read_module source.now ≡ good (C.meaning found) }
-    ensures loads { IfOk result (LoadsAs modules.now.loaded names.now.names entries source.now) }
+    ensures loads { IfOk result (LoadsAs modules.now.loaded names.now.names is_full source.now) }
     ensures stands { IfOk result (StandsIn (C.has codes.now)) }
 {
     let code = codes.code(&found);
     let row = row_of(alloc, names, code)?;
-    match refusal_of(modules, names, entries, code, &row) {
+    match refusal_of(modules, names, is_full, code, &row) {
         Some(refusal) => Ok(Loading::Refused(refusal)),
         None => Ok(Loading::Drafted(Loaded::new(alloc, codes, found, row)?)),
     }
@@ -107,14 +106,14 @@ fn draft_new<C: CodeSource>(
     modules: &Modules<C>,
     names: &AccountNames,
     codes: &mut C,
-    entries: u64,
+    is_full: bool,
     source: &[u8],
 ) -> Result<Loading<C>, AllocError>
     requires names { AreNames names.now.names }
     requires small { AreSmall names.now.names }
     requires rows { (f : Reading) → Fits names.now.names f → AreRead f modules.now.loaded }
     requires few { length source.now ≤ MOST_SOURCE_BYTES }
-    ensures loads { IfOk result (LoadsAs modules.now.loaded names.now.names entries source.now) }
+    ensures loads { IfOk result (LoadsAs modules.now.loaded names.now.names is_full source.now) }
     ensures stands { IfOk result (StandsIn (C.has codes.new)) }
     ensures same { (p : ℕ × ℕ) → C.has codes.old p ↔ C.has codes.new p }
 {
@@ -126,7 +125,7 @@ fn draft_new<C: CodeSource>(
         Err(CodeFault::Memory) => return Err(AllocError),
     };
     let row = row_of(alloc, names, &code)?;
-    match refusal_of(modules, names, entries, &code, &row) {
+    match refusal_of(modules, names, is_full, &code, &row) {
         Some(refusal) => Ok(Loading::Refused(refusal)),
         None => {
             let pushed = codes.push(code)?;
@@ -135,20 +134,20 @@ fn draft_new<C: CodeSource>(
     }
 }
 
-/// Drafts the module of a source for an account with these modules and names, whose journal has `entries` entries. Its code is put
+/// Drafts the module of a source for an account with these modules and names, whose journal may be full. Its code is put
 /// in if it isn't found and the module isn't refused.
 pub(crate) fn draft_module<C: CodeSource>(
     alloc: Global,
     modules: &Modules<C>,
     names: &AccountNames,
     codes: &mut C,
-    entries: u64,
+    is_full: bool,
     source: &[u8],
 ) -> Result<Loading<C>, AllocError>
     requires names { AreNames names.now.names }
     requires small { AreSmall names.now.names }
     requires rows { (f : Reading) → Fits names.now.names f → AreRead f modules.now.loaded }
-    ensures loads { IfOk result (LoadsAs modules.now.loaded names.now.names entries source.now) }
+    ensures loads { IfOk result (LoadsAs modules.now.loaded names.now.names is_full source.now) }
     ensures stands { IfOk result (StandsIn (C.has codes.new)) }
     ensures same { (p : ℕ × ℕ) → C.has codes.old p ↔ C.has codes.new p }
 {
@@ -156,8 +155,8 @@ pub(crate) fn draft_module<C: CodeSource>(
         return Ok(Loading::Refused(Refusal::Syntax));
     }
     match codes.find(source) {
-        Some(found) => draft_found(alloc, modules, names, codes, entries, source, found),
-        None => draft_new(alloc, modules, names, codes, entries, source),
+        Some(found) => draft_found(alloc, modules, names, codes, is_full, source, found),
+        None => draft_new(alloc, modules, names, codes, is_full, source),
     }
 }
 

@@ -12,16 +12,15 @@ ghost use Rattle.kl1_goals.specs.declared.task.Task.TheVariants.{Monitor, Reduce
 ghost use Rattle.kl1_goals.specs.Lists.{is_monitor};
 ghost use Rattle.kl1_shoen.specs.Shoens.{is_enabled_at};
 ghost use Rattle.kl1_shoen_paths.specs.declared.shoen.Shoen.{Shoen};
-ghost use Rattle.kl1_codes_modules.specs.Finding.{contents};
-ghost use Rattle.kl1_codes_modules.specs.Shelves.{Program};
+ghost use Rattle.kl1_codes.specs.Finding.{contents};
+ghost use Rattle.kl1_codes.specs.Shelves.{Program};
 ghost use Rattle.kl1_user_effects.specs.Fitting.{Reading};
 ghost use Rattle.kl1_user_effects.specs.Kept.{IsTaskIn, AreGoalsIn, AreShoensIn};
 ghost use Rattle.kl1_user_effects.specs.Works.{Knows};
 ghost use Rattle.kl1_user_account.specs.Looking.{Serves, calls_same, StandsBy, HearsAt, StandsAt, FindsOut, Wakes, WakesTold, LooksAtOne, LooksAtAdded};
 
 use kl1_clause::Predicate;
-use kl1_codes::CodeSource;
-use kl1_codes_modules::CodedModules;
+use kl1_codes::{CodeSource, CodedModules};
 use kl1_goals::{Goal, GoalTable, Rules, Task};
 use kl1_goals_moves::{
     Call, Kind, Trial, kind_of_qualified, or_none, standing_of, substitute_standing,

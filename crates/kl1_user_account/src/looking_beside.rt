@@ -10,9 +10,9 @@ ghost use Rattle.kl1_goals_moves.specs.Kinds.{IsKind};
 ghost use Rattle.kl1_goals_moves.specs.Moves.{HasPredicate};
 ghost use Rattle.kl1_goals.specs.declared.task.Task.TheVariants.{Reduces};
 ghost use Rattle.kl1_shoen_paths.specs.declared.shoen.Shoen.{Shoen};
-ghost use Rattle.kl1_codes_modules.specs.Numbered.{number_of};
-ghost use Rattle.kl1_codes_modules.specs.Finding.{contents, is_numbered};
-ghost use Rattle.kl1_codes_modules.specs.Shelves.{with_last};
+ghost use Rattle.kl1_codes.specs.Numbered.{number_of};
+ghost use Rattle.kl1_codes.specs.Finding.{contents, is_numbered};
+ghost use Rattle.kl1_codes.specs.Shelves.{with_last};
 ghost use Rattle.kl1_user_effects.specs.Fitting.{Reading};
 ghost use Rattle.kl1_user_effects.specs.Kept.{IsTaskIn, AreGoalsIn, AreShoensIn};
 ghost use Rattle.kl1_user_effects.specs.Works.{Knows};
@@ -20,8 +20,7 @@ ghost use Rattle.kl1_user_account.specs.Looking.{StandsAt, FindsOut, LooksBelow,
 
 use crate::looking::{hung_standing, monitor_standing, substitute_hung};
 use kl1_clause::Predicate;
-use kl1_codes::CodeSource;
-use kl1_codes_modules::{CodedModule, CodedModules};
+use kl1_codes::{CodeSource, CodedModule, CodedModules};
 use kl1_goals::{Goal, GoalTable, Task};
 use kl1_goals_moves::{Kind, Trial, kind_of_qualified, or_none};
 use kl1_shoen::ShoenTree;

@@ -7,7 +7,6 @@ ghost use Rattle.kl1_store.specs.Hooks.{HasGrown};
 ghost use Rattle.kl1_user_account.specs.Starting.{OpensStreams, IsLink};
 
 use kl1_model::BuiltIn;
-use kl1_model::limits::MOST_REPORTS;
 use kl1_store::{Cell, Store};
 use kl1_text::{CellName, NameValue};
 use std::alloc::AllocError;
@@ -48,16 +47,17 @@ fn link(
     Ok(Cell::Structure(structure))
 }
 
-/// The streams of a shoen that opens, in an account that made `made` reports, and that reports that it has started, and, if its
+/// The streams of a shoen that opens, in an account that made `made` reports of at most `most`, and that reports that it has started, and, if its
 /// allowance is 0, that it is exhausted. Of their variables some take only a number: the cells of what is reported are there at
 /// once. If memory is refused, the store may have grown.
 pub(crate) fn open_streams(
     store: &mut Store<CellName>,
     allowance: u64,
     made: u64,
+    most: u64,
 ) -> Result<Streams, AllocError>
     requires { 0 < store.old.held.variables }
-    ensures ok { IfOk result (OpensStreams allowance made store.old.held store.new.held) }
+    ensures ok { IfOk result (OpensStreams allowance made most store.old.held store.new.held) }
     ensures grown { HasGrown store.old store.new }
     ensures hooks { store.new.hooks ≡ store.old.hooks }
 {
@@ -65,7 +65,7 @@ pub(crate) fn open_streams(
     let _formed = store.mark();
     let control = store.fresh()?;
     let first = store.fresh()?;
-    if MOST_REPORTS <= made {
+    if most <= made {
         let tail = Cell::Variable(first);
         return Ok(Streams {
             control,
@@ -76,7 +76,7 @@ pub(crate) fn open_streams(
         });
     }
     let second = store.fresh()?;
-    if allowance != 0 || MOST_REPORTS <= made + 1 {
+    if allowance != 0 || most <= made + 1 {
         let tail = Cell::Variable(second);
         let reports = link(store, BuiltIn::Started, tail)?;
         return Ok(Streams {

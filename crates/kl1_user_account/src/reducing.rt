@@ -1,12 +1,12 @@
 // Reductions that are drafted.
 
-ghost use Rattle.std.specs.Prelude.{◌≡◌, ◌<◌, ◌≤◌, ℕ, List, Some, None, IfOk, IfErr, OnOk, vec_capacity};
-ghost use Rattle.kl1_model.specs.declared.limits.TheConstants.{MOST_ENTRIES, MONITOR_PRIORITY};
+ghost use Rattle.std.specs.Prelude.{◌≡◌, false, ◌+◌, ◌<◌, ◌≤◌, ◌^◌, ℕ, List, length, Some, None, IfOk, IfErr, OnOk, vec_capacity};
+ghost use Rattle.kl1_model.specs.declared.limits.TheConstants.{MONITOR_PRIORITY};
 ghost use Rattle.kl1_clause.specs.Predicates.{AreSome};
 ghost use Rattle.kl1_goals_moves.specs.Kinds.{IsKind, KindIn};
 ghost use Rattle.kl1_goals_moves.specs.Moves.{HasPredicate, MoveIn, taken_places};
 ghost use Rattle.kl1_stream.specs.Controls.{ControlIn};
-ghost use Rattle.kl1_codes_modules.specs.Finding.{contents};
+ghost use Rattle.kl1_codes.specs.Finding.{contents};
 ghost use Rattle.kl1_model.specs.Term.{Term};
 ghost use Rattle.kl1_text.specs.declared.cell_name.CellName.{CellName};
 ghost use Rattle.kl1_store.specs.Held.{Held, IsIn};
@@ -17,7 +17,7 @@ ghost use Rattle.kl1_user_effects.specs.Account.{aim};
 ghost use Rattle.kl1_user_effects.specs.Kept.{AreShoensIn};
 ghost use Rattle.kl1_user_effects.specs.Works.{Knows};
 ghost use Rattle.kl1_user_account.specs.Looking.{Serves};
-ghost use Rattle.kl1_user_account.specs.Reducing.{HasRow, RefusesAmong, IsSteppable, is_read, NotHeard, HeardAs, NotMade, IsMade, IsToMake, account_at, IsReduced, ReducesAs};
+ghost use Rattle.kl1_user_account.specs.Reducing.{HasRow, MayHave, IsFullFor, RefusesAmong, IsSteppable, is_read, NotHeard, HeardAs, NotMade, IsMade, IsToMake, account_at, IsReduced, ReducesAs};
 ghost use Rattle.kl1_user_account.specs.Keeping.{IsKept};
 ghost use Rattle.kl1_user_effects.specs.Drafts.{CanGoBack};
 ghost use Rattle.kl1_user_effects.specs.Installing.{IsBegun};
@@ -27,11 +27,9 @@ use crate::completing::finish;
 use crate::limits::are_numbers;
 use crate::looking::predicate_of;
 use kl1_clause::Predicate;
-use kl1_codes::CodeSource;
-use kl1_codes_modules::CodedModules;
+use kl1_codes::{CodeSource, CodedModules};
 use kl1_goals::{Goal, GoalTable, Task};
 use kl1_goals_moves::{Kind, Move, Trial, kind_of_qualified, move_of, substitute_move};
-use kl1_model::limits::MOST_ENTRIES;
 use kl1_shoen::ShoenTree;
 use kl1_store::{Cell, Qualified, Store};
 use kl1_stream::{Control, read_control};
@@ -77,20 +75,20 @@ fn is_read(control: Control<CellName>) -> bool
     }
 }
 
-/// What a monitor, which may step, reads by clause `clause`, for an account with `entries` entries in its journal, or why that is
+/// What a monitor, which may step, reads by clause `clause`, for an account whose journal may be full, or why that is
 /// refused.
 fn control_to_read(
     store: &Store<CellName>,
     shoens: &ShoenTree<CellName>,
-    entries: u64,
+    is_full: bool,
     goal: Goal<CellName>,
     clause: u64,
 ) -> Result<Control<CellName>, Refusal>
     requires shoens { AreShoensIn store.now.held shoens.now.shoens }
-    ensures refused { IfErr result (NotHeard store.now.held shoens.now.shoens entries goal clause) }
-    ensures reads { IfOk result (HeardAs store.now.held shoens.now.shoens entries goal clause) }
+    ensures refused { IfErr result (NotHeard store.now.held shoens.now.shoens is_full goal clause) }
+    ensures reads { IfOk result (HeardAs store.now.held shoens.now.shoens is_full goal clause) }
     ensures inside { IfOk result (ControlIn store.now.held) }
-    ensures room { IfOk result (λ control. entries < MOST_ENTRIES) }
+    ensures room { IfOk result (λ control. is_full ≡ false) }
 {
     if clause != 0 {
         return Err(Refusal::Step);
@@ -102,21 +100,21 @@ fn control_to_read(
     if !is_read(control) {
         return Err(Refusal::Step);
     }
-    if MOST_ENTRIES <= entries {
+    if is_full {
         return Err(Refusal::Journal);
     }
     Ok(control)
 }
 
-/// What a goal for a cell, which may step and is of a kind, does by clause `clause` of its predicate, for an account with `entries`
-/// entries in its journal, or why that is refused.
+/// What a goal for a cell, which may step and is of a kind, does by clause `clause` of its predicate, for an account whose
+/// journal may be full, or why that is refused.
 fn move_to_make<C: CodeSource>(
     store: &Store<CellName>,
     modules: &CodedModules<'_, C>,
     kind: Kind<CellName>,
     predicate: Predicate<'_, CellName>,
     trial: &mut Trial<CellName>,
-    entries: u64,
+    is_full: bool,
     cell: Qualified<CellName>,
     clause: u64,
 ) -> Result<Result<Move<CellName>, Refusal>, AllocError>
@@ -124,20 +122,20 @@ fn move_to_make<C: CodeSource>(
     requires some { AreSome predicate.names.now predicate.clauses.now }
     requires is { (f : Reading) → Knows modules.now.loaded f → IsKind f store.now.held (aim f store.now.held cell) kind }
     requires has { (f : Reading) → Knows modules.now.loaded f → (h : Held CellName) (t : Term) → IsKind f h t kind → HasPredicate f h (contents modules.now.loaded) kind predicate }
-    ensures refused { IfOk result (λ o. IfErr o (NotMade store.now.held modules.now entries cell clause)) }
-    ensures makes { IfOk result (λ o. IfOk o (IsMade store.now.held modules.now entries cell clause predicate.entry (taken_places trial.new) trial.new.text)) }
+    ensures refused { IfOk result (λ o. IfErr o (NotMade store.now.held modules.now is_full cell clause)) }
+    ensures makes { IfOk result (λ o. IfOk o (IsMade store.now.held modules.now is_full cell clause predicate.entry (taken_places trial.new) trial.new.text)) }
     ensures inside { IfOk result (λ o. IfOk o (λ made. MoveIn store.now.held predicate.entry (taken_places trial.new) trial.new.text (Some made))) }
 {
     let Some(made) = move_of(store, modules.rules(), kind, predicate, clause, trial)? else {
         return Ok(Err(Refusal::Step));
     };
-    if MOST_ENTRIES <= entries {
+    if is_full {
         return Ok(Err(Refusal::Journal));
     }
     Ok(Ok(made))
 }
 
-/// Drafts what a monitor reads, which may step, by clause `clause`, for an account with `entries` entries in its journal, or says
+/// Drafts what a monitor reads, which may step, by clause `clause`, for an account whose journal may be full, or says
 /// why it is refused. The draft has begun with what the account has.
 #[inline(never)]
 fn draft_reading<C: CodeSource>(
@@ -149,22 +147,22 @@ fn draft_reading<C: CodeSource>(
     trial: &mut Trial<CellName>,
     draft: &mut Draft,
     walk: &mut Walk,
-    entries: u64,
+    is_full: bool,
     goal: Goal<CellName>,
     clause: u64,
 ) -> Result<Option<Refusal>, AllocError>
     requires steppable { IsSteppable goals.old.goals goal.number clause goal }
     requires monitor { goal.task ≡ Monitor }
     requires begun { IsBegun 0 modules.now.rules draft.old.last_goal draft.old.variables draft.old.nodes draft.old.reports draft.old }
-    requires kept { (own : List ℕ × ℕ) → IsKept (account_at own store.old.held goals.old.goals shoens.old modules.now names.now.names draft.old.last_goal draft.old.variables draft.old.nodes draft.old.reports entries) store.old.hooks goals.old.shoens }
-    ensures ok { IfOk result (λ refused. (own : List ℕ × ℕ) → ReducesAs (account_at own store.old.held goals.old.goals shoens.old modules.now names.now.names draft.old.last_goal draft.old.variables draft.old.nodes draft.old.reports entries) goal.number clause store.old store.new shoens.old shoens.new goals.new draft.new refused) }
+    requires kept { (own : List ℕ × ℕ) (entries : ℕ × ℕ) → MayHave modules.now.rules entries → IsKept (account_at own store.old.held goals.old.goals shoens.old modules.now names.now.names draft.old.last_goal draft.old.variables draft.old.nodes draft.old.reports entries) store.old.hooks goals.old.shoens }
+    ensures ok { IfOk result (λ refused. (own : List ℕ × ℕ) (entries : ℕ × ℕ) → MayHave modules.now.rules entries → IsFullFor (account_at own store.old.held goals.old.goals shoens.old modules.now names.now.names draft.old.last_goal draft.old.variables draft.old.nodes draft.old.reports entries) goal.number clause is_full → ReducesAs (account_at own store.old.held goals.old.goals shoens.old modules.now names.now.names draft.old.last_goal draft.old.variables draft.old.nodes draft.old.reports entries) goal.number clause store.old store.new shoens.old shoens.new goals.new draft.new refused) }
     ensures back { CanGoBack shoens.old shoens.new }
     ensures grown { HasGrown store.old store.new }
     ensures goals { goals.new.goals ≡ goals.old.goals }
     ensures shoens { goals.new.shoens ≡ goals.old.shoens }
     ensures unnamed { IfOk result (λ refused. refused ≡ None → draft.new.name ≡ None) }
 {
-    let control = match control_to_read(store, shoens, entries, goal, clause) {
+    let control = match control_to_read(store, shoens, is_full, goal, clause) {
         Err(refusal) => return Ok(Some(refusal)),
         Ok(control) => control,
     };
@@ -193,8 +191,8 @@ fn draft_reading<C: CodeSource>(
     Ok(None)
 }
 
-/// Drafts a move that a goal for a cell, which may step, is to make by clause `clause`, for an account with `entries` entries in its
-/// journal. The predicate of goals of a kind is known. The draft has begun with what the account has.
+/// Drafts a move that a goal for a cell, which may step, is to make by clause `clause`, for an account whose journal
+/// may be full. The predicate of goals of a kind is known. The draft has begun with what the account has.
 #[inline(always)]
 fn draft_made<C: CodeSource>(
     store: &mut Store<CellName>,
@@ -205,7 +203,7 @@ fn draft_made<C: CodeSource>(
     trial: &mut Trial<CellName>,
     draft: &mut Draft,
     walk: &mut Walk,
-    entries: u64,
+    is_full: bool,
     goal: Goal<CellName>,
     cell: Qualified<CellName>,
     clause: u64,
@@ -216,13 +214,14 @@ fn draft_made<C: CodeSource>(
     requires steppable { IsSteppable goals.old.goals goal.number clause goal }
     requires level { goal.priority ≤ MONITOR_PRIORITY }
     requires begun { IsBegun 0 modules.now.rules draft.old.last_goal draft.old.variables draft.old.nodes draft.old.reports draft.old }
-    requires kept { (own : List ℕ × ℕ) → IsKept (account_at own store.old.held goals.old.goals shoens.old modules.now names.old.names draft.old.last_goal draft.old.variables draft.old.nodes draft.old.reports entries) store.old.hooks goals.old.shoens }
+    requires kept { (own : List ℕ × ℕ) (entries : ℕ × ℕ) → MayHave modules.now.rules entries → IsKept (account_at own store.old.held goals.old.goals shoens.old modules.now names.old.names draft.old.last_goal draft.old.variables draft.old.nodes draft.old.reports entries) store.old.hooks goals.old.shoens }
+    requires few { length shoens.old.work + 1 < 2 ^ 63 }
     requires cell { IsIn store.old.held cell.cell }
     requires some { AreSome predicate.names.now predicate.clauses.now }
     requires serves { Serves modules.now.loaded kind predicate }
-    requires makes { IsToMake store.old.held modules.now entries goal.task cell clause predicate (taken_places trial.old) trial.old.text made }
+    requires makes { IsToMake store.old.held modules.now is_full goal.task cell clause predicate (taken_places trial.old) trial.old.text made }
     requires inside { MoveIn store.old.held predicate (taken_places trial.old) trial.old.text (Some made) }
-    ensures ok { OnOk result ((own : List ℕ × ℕ) → IsReduced (account_at own store.old.held goals.old.goals shoens.old modules.now names.old.names draft.old.last_goal draft.old.variables draft.old.nodes draft.old.reports entries) goal.number clause store.new shoens.new goals.new draft.new) }
+    ensures ok { OnOk result ((own : List ℕ × ℕ) (entries : ℕ × ℕ) → MayHave modules.now.rules entries → IsFullFor (account_at own store.old.held goals.old.goals shoens.old modules.now names.old.names draft.old.last_goal draft.old.variables draft.old.nodes draft.old.reports entries) goal.number clause is_full → IsReduced (account_at own store.old.held goals.old.goals shoens.old modules.now names.old.names draft.old.last_goal draft.old.variables draft.old.nodes draft.old.reports entries) goal.number clause store.new shoens.new goals.new draft.new) }
     ensures back { CanGoBack shoens.old shoens.new }
     ensures grown { HasGrown store.old store.new }
     ensures goals { goals.new.goals ≡ goals.old.goals }
@@ -245,8 +244,8 @@ fn draft_made<C: CodeSource>(
     )
 }
 
-/// Drafts what a substitute does, which may step, for what a cell is, by clause `clause`, for an account with `entries` entries in
-/// its journal, or says why it is refused. The draft has begun with what the account has.
+/// Drafts what a substitute does, which may step, for what a cell is, by clause `clause`, for an account whose journal
+/// may be full, or says why it is refused. The draft has begun with what the account has.
 fn draft_substitute<C: CodeSource>(
     store: &mut Store<CellName>,
     goals: &mut GoalTable<CellName>,
@@ -256,7 +255,7 @@ fn draft_substitute<C: CodeSource>(
     trial: &mut Trial<CellName>,
     draft: &mut Draft,
     walk: &mut Walk,
-    entries: u64,
+    is_full: bool,
     goal: Goal<CellName>,
     term: Cell<CellName>,
     clause: u64,
@@ -265,8 +264,9 @@ fn draft_substitute<C: CodeSource>(
     requires substitutes { goal.task ≡ Substitutes term }
     requires level { goal.priority ≤ MONITOR_PRIORITY }
     requires begun { IsBegun 0 modules.now.rules draft.old.last_goal draft.old.variables draft.old.nodes draft.old.reports draft.old }
-    requires kept { (own : List ℕ × ℕ) → IsKept (account_at own store.old.held goals.old.goals shoens.old modules.now names.old.names draft.old.last_goal draft.old.variables draft.old.nodes draft.old.reports entries) store.old.hooks goals.old.shoens }
-    ensures ok { IfOk result (λ refused. (own : List ℕ × ℕ) → ReducesAs (account_at own store.old.held goals.old.goals shoens.old modules.now names.old.names draft.old.last_goal draft.old.variables draft.old.nodes draft.old.reports entries) goal.number clause store.old store.new shoens.old shoens.new goals.new draft.new refused) }
+    requires kept { (own : List ℕ × ℕ) (entries : ℕ × ℕ) → MayHave modules.now.rules entries → IsKept (account_at own store.old.held goals.old.goals shoens.old modules.now names.old.names draft.old.last_goal draft.old.variables draft.old.nodes draft.old.reports entries) store.old.hooks goals.old.shoens }
+    requires few { length shoens.old.work + 1 < 2 ^ 63 }
+    ensures ok { IfOk result (λ refused. (own : List ℕ × ℕ) (entries : ℕ × ℕ) → MayHave modules.now.rules entries → IsFullFor (account_at own store.old.held goals.old.goals shoens.old modules.now names.old.names draft.old.last_goal draft.old.variables draft.old.nodes draft.old.reports entries) goal.number clause is_full → ReducesAs (account_at own store.old.held goals.old.goals shoens.old modules.now names.old.names draft.old.last_goal draft.old.variables draft.old.nodes draft.old.reports entries) goal.number clause store.old store.new shoens.old shoens.new goals.new draft.new refused) }
     ensures back { CanGoBack shoens.old shoens.new }
     ensures grown { HasGrown store.old store.new }
     ensures goals { goals.new.goals ≡ goals.old.goals }
@@ -277,7 +277,7 @@ fn draft_substitute<C: CodeSource>(
     let Some(made) = substitute_move(store, term, clause) else {
         return Ok(Some(Refusal::Step));
     };
-    if MOST_ENTRIES <= entries {
+    if is_full {
         return Ok(Some(Refusal::Journal));
     }
     let cell = Qualified {
@@ -294,7 +294,7 @@ fn draft_substitute<C: CodeSource>(
         trial,
         draft,
         walk,
-        entries,
+        is_full,
         goal,
         cell,
         clause,
@@ -305,8 +305,8 @@ fn draft_substitute<C: CodeSource>(
     Ok(None)
 }
 
-/// Drafts the move that a goal for a cell does, which may step, by clause `clause`, for an account with `entries` entries in its
-/// journal, or says why it is refused. The draft has begun with what the account has.
+/// Drafts the move that a goal for a cell does, which may step, by clause `clause`, for an account whose journal
+/// may be full, or says why it is refused. The draft has begun with what the account has.
 #[inline(always)]
 fn draft_move<C: CodeSource>(
     store: &mut Store<CellName>,
@@ -317,7 +317,7 @@ fn draft_move<C: CodeSource>(
     trial: &mut Trial<CellName>,
     draft: &mut Draft,
     walk: &mut Walk,
-    entries: u64,
+    is_full: bool,
     goal: Goal<CellName>,
     cell: Qualified<CellName>,
     clause: u64,
@@ -326,8 +326,9 @@ fn draft_move<C: CodeSource>(
     requires reduces { goal.task ≡ Reduces cell }
     requires level { goal.priority ≤ MONITOR_PRIORITY }
     requires begun { IsBegun 0 modules.now.rules draft.old.last_goal draft.old.variables draft.old.nodes draft.old.reports draft.old }
-    requires kept { (own : List ℕ × ℕ) → IsKept (account_at own store.old.held goals.old.goals shoens.old modules.now names.old.names draft.old.last_goal draft.old.variables draft.old.nodes draft.old.reports entries) store.old.hooks goals.old.shoens }
-    ensures ok { IfOk result (λ refused. (own : List ℕ × ℕ) → ReducesAs (account_at own store.old.held goals.old.goals shoens.old modules.now names.old.names draft.old.last_goal draft.old.variables draft.old.nodes draft.old.reports entries) goal.number clause store.old store.new shoens.old shoens.new goals.new draft.new refused) }
+    requires kept { (own : List ℕ × ℕ) (entries : ℕ × ℕ) → MayHave modules.now.rules entries → IsKept (account_at own store.old.held goals.old.goals shoens.old modules.now names.old.names draft.old.last_goal draft.old.variables draft.old.nodes draft.old.reports entries) store.old.hooks goals.old.shoens }
+    requires few { length shoens.old.work + 1 < 2 ^ 63 }
+    ensures ok { IfOk result (λ refused. (own : List ℕ × ℕ) (entries : ℕ × ℕ) → MayHave modules.now.rules entries → IsFullFor (account_at own store.old.held goals.old.goals shoens.old modules.now names.old.names draft.old.last_goal draft.old.variables draft.old.nodes draft.old.reports entries) goal.number clause is_full → ReducesAs (account_at own store.old.held goals.old.goals shoens.old modules.now names.old.names draft.old.last_goal draft.old.variables draft.old.nodes draft.old.reports entries) goal.number clause store.old store.new shoens.old shoens.new goals.new draft.new refused) }
     ensures back { CanGoBack shoens.old shoens.new }
     ensures grown { HasGrown store.old store.new }
     ensures goals { goals.new.goals ≡ goals.old.goals }
@@ -338,19 +339,19 @@ fn draft_move<C: CodeSource>(
     let kind = kind_of_qualified(store, cell);
     let predicate = predicate_of(modules, kind);
     let made = match move_to_make(
-        store, modules, kind, predicate, trial, entries, cell, clause,
+        store, modules, kind, predicate, trial, is_full, cell, clause,
     )? {
         Err(refusal) => return Ok(Some(refusal)),
         Ok(made) => made,
     };
     draft_made(
-        store, goals, shoens, modules, names, trial, draft, walk, entries, goal, cell, clause,
+        store, goals, shoens, modules, names, trial, draft, walk, is_full, goal, cell, clause,
         kind, predicate, made,
     )?;
     Ok(None)
 }
 
-/// Drafts the reduction of goal `number` by clause `clause`, for an account with `entries` entries in its journal, or says
+/// Drafts the reduction of goal `number` by clause `clause`, for an account whose journal may be full, or says
 /// why it is refused. The draft has begun with what the account has. If memory is refused, the store and the tree may have changed.
 #[inline(always)]
 fn draft_reduction<C: CodeSource>(
@@ -362,13 +363,14 @@ fn draft_reduction<C: CodeSource>(
     trial: &mut Trial<CellName>,
     draft: &mut Draft,
     walk: &mut Walk,
-    entries: u64,
+    is_full: bool,
     number: u64,
     clause: u64,
 ) -> Result<Option<Refusal>, AllocError>
     requires begun { IsBegun 0 modules.now.rules draft.old.last_goal draft.old.variables draft.old.nodes draft.old.reports draft.old }
-    requires kept { (own : List ℕ × ℕ) → IsKept (account_at own store.old.held goals.old.goals shoens.old modules.now names.old.names draft.old.last_goal draft.old.variables draft.old.nodes draft.old.reports entries) store.old.hooks goals.old.shoens }
-    ensures ok { IfOk result (λ refused. (own : List ℕ × ℕ) → ReducesAs (account_at own store.old.held goals.old.goals shoens.old modules.now names.old.names draft.old.last_goal draft.old.variables draft.old.nodes draft.old.reports entries) number clause store.old store.new shoens.old shoens.new goals.new draft.new refused) }
+    requires kept { (own : List ℕ × ℕ) (entries : ℕ × ℕ) → MayHave modules.now.rules entries → IsKept (account_at own store.old.held goals.old.goals shoens.old modules.now names.old.names draft.old.last_goal draft.old.variables draft.old.nodes draft.old.reports entries) store.old.hooks goals.old.shoens }
+    requires few { length shoens.old.work + 1 < 2 ^ 63 }
+    ensures ok { IfOk result (λ refused. (own : List ℕ × ℕ) (entries : ℕ × ℕ) → MayHave modules.now.rules entries → IsFullFor (account_at own store.old.held goals.old.goals shoens.old modules.now names.old.names draft.old.last_goal draft.old.variables draft.old.nodes draft.old.reports entries) number clause is_full → ReducesAs (account_at own store.old.held goals.old.goals shoens.old modules.now names.old.names draft.old.last_goal draft.old.variables draft.old.nodes draft.old.reports entries) number clause store.old store.new shoens.old shoens.new goals.new draft.new refused) }
     ensures back { CanGoBack shoens.old shoens.new }
     ensures grown { HasGrown store.old store.new }
     ensures goals { goals.new.goals ≡ goals.old.goals }
@@ -382,13 +384,13 @@ fn draft_reduction<C: CodeSource>(
     };
     match goal.task {
         Task::Monitor => draft_reading(
-            store, goals, shoens, modules, names, trial, draft, walk, entries, goal, clause,
+            store, goals, shoens, modules, names, trial, draft, walk, is_full, goal, clause,
         ),
         Task::Reduces(cell) => draft_move(
-            store, goals, shoens, modules, names, trial, draft, walk, entries, goal, cell, clause,
+            store, goals, shoens, modules, names, trial, draft, walk, is_full, goal, cell, clause,
         ),
         Task::Substitutes(term) => draft_substitute(
-            store, goals, shoens, modules, names, trial, draft, walk, entries, goal, term, clause,
+            store, goals, shoens, modules, names, trial, draft, walk, is_full, goal, term, clause,
         ),
     }
 }
@@ -416,13 +418,14 @@ pub(crate) fn draft_named<C: CodeSource>(
     draft: &mut Draft,
     walk: &mut Walk,
     row: &mut Vec<CellName>,
-    entries: u64,
+    is_full: bool,
     number: u64,
     clause: u64,
 ) -> Result<Option<Refusal>, AllocError>
     requires begun { IsBegun 0 modules.now.rules draft.old.last_goal draft.old.variables draft.old.nodes draft.old.reports draft.old }
-    requires kept { (own : List ℕ × ℕ) → IsKept (account_at own store.old.held goals.old.goals shoens.old modules.now names.old.names draft.old.last_goal draft.old.variables draft.old.nodes draft.old.reports entries) store.old.hooks goals.old.shoens }
-    ensures ok { IfOk result (λ refused. (own : List ℕ × ℕ) → ReducesAs (account_at own store.old.held goals.old.goals shoens.old modules.now names.old.names draft.old.last_goal draft.old.variables draft.old.nodes draft.old.reports entries) number clause store.old store.new shoens.old shoens.new goals.new draft.new refused) }
+    requires kept { (own : List ℕ × ℕ) (entries : ℕ × ℕ) → MayHave modules.now.rules entries → IsKept (account_at own store.old.held goals.old.goals shoens.old modules.now names.old.names draft.old.last_goal draft.old.variables draft.old.nodes draft.old.reports entries) store.old.hooks goals.old.shoens }
+    requires few { length shoens.old.work + 1 < 2 ^ 63 }
+    ensures ok { IfOk result (λ refused. (own : List ℕ × ℕ) (entries : ℕ × ℕ) → MayHave modules.now.rules entries → IsFullFor (account_at own store.old.held goals.old.goals shoens.old modules.now names.old.names draft.old.last_goal draft.old.variables draft.old.nodes draft.old.reports entries) number clause is_full → ReducesAs (account_at own store.old.held goals.old.goals shoens.old modules.now names.old.names draft.old.last_goal draft.old.variables draft.old.nodes draft.old.reports entries) number clause store.old store.new shoens.old shoens.new goals.new draft.new refused) }
     ensures back { CanGoBack shoens.old shoens.new }
     ensures grown { HasGrown store.old store.new }
     ensures goals { goals.new.goals ≡ goals.old.goals }
@@ -432,7 +435,7 @@ pub(crate) fn draft_named<C: CodeSource>(
     ensures row { IfOk result (λ refused. refused ≡ None → HasRow draft.new.name row.new.items (vec_capacity row.new)) }
 {
     let refused = draft_reduction(
-        store, goals, shoens, modules, names, trial, draft, walk, entries, number, clause,
+        store, goals, shoens, modules, names, trial, draft, walk, is_full, number, clause,
     )?;
     ready_row(row, draft)?;
     Ok(refused)

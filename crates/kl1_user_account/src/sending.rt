@@ -2,7 +2,7 @@
 
 ghost use Rattle.std.specs.Prelude.{◌≡◌, ◌+◌, ◌<◌, ◌≤◌, [], List, drop, IfOk, OnOk, IsTrue, MatchResult};
 ghost use Rattle.std.specs.List.{AllByRecursion};
-ghost use Rattle.kl1_model.specs.declared.limits.TheConstants.{MOST_VARIABLES, MOST_NODES, MOST_ENTRIES};
+ghost use Rattle.kl1_model.specs.Rules.{limits_of};
 ghost use Rattle.kl1_model.specs.Control.{message_nodes};
 ghost use Rattle.kl1_model.specs.Sending.{is_message};
 ghost use Rattle.kl1_store.specs.Held.{IsIn};
@@ -14,15 +14,14 @@ ghost use Rattle.kl1_user_effects.specs.Drafts.{CanGoBack};
 ghost use Rattle.kl1_user_account.specs.Looking.{WakesTold};
 ghost use Rattle.kl1_user_account.specs.Sending.{AreAlike, Allows, Refuses, PutsOn, SendsAs};
 
+use crate::counted::is_within;
 use crate::installing::begin_draft;
 use crate::limits::is_number;
 use crate::looking::{predicate_of, wake_told};
-use kl1_codes::CodeSource;
-use kl1_codes_modules::CodedModules;
+use kl1_codes::{CodeSource, CodedModules};
 use kl1_goals::{GoalTable, Rules};
 use kl1_goals_moves::{Kind, Trial};
-use kl1_model::Message;
-use kl1_model::limits::{MOST_ENTRIES, MOST_NODES, MOST_VARIABLES};
+use kl1_model::{Limits, Message};
 use kl1_shoen::{Origin, ShoenTree};
 use kl1_store::{Cell, Point, Store};
 use kl1_stream::send_message;
@@ -57,16 +56,17 @@ fn nodes_of(message: Message) -> u64
 }
 
 /// What the console keeps of shoen `number`, to which a message may be sent, if `variables`, `nodes` and `entries` are counted; or
-/// why it is refused.
+/// why it is refused, by these limits.
 fn origin_for(
     shoens: &ShoenTree<CellName>,
+    most: Limits,
     variables: u64,
     nodes: u64,
     entries: u64,
     number: u64,
     message: Message,
 ) -> Result<Origin<CellName>, Refusal>
-    ensures { MatchResult result (Allows shoens.now.shoens variables nodes entries number message) (Refuses shoens.now.shoens variables nodes entries number message) }
+    ensures { MatchResult result (Allows shoens.now.shoens most variables nodes entries number message) (Refuses shoens.now.shoens most variables nodes entries number message) }
 {
     if !is_number(number) {
         return Err(Refusal::Syntax);
@@ -80,13 +80,13 @@ fn origin_for(
     if !shoens.lives(number) {
         return Err(Refusal::Ended);
     }
-    if MOST_VARIABLES <= variables {
+    if most.variables <= variables {
         return Err(Refusal::Limit);
     }
-    if MOST_NODES - nodes_of(message) < nodes {
+    if !is_within(nodes, nodes_of(message), most.nodes) {
         return Err(Refusal::Limit);
     }
-    if MOST_ENTRIES <= entries {
+    if most.entries <= entries {
         return Err(Refusal::Journal);
     }
     Ok(origin)
@@ -105,8 +105,8 @@ fn put_message(
     requires tail { IsIn store.old.held tail }
     requires message { IsTrue (is_message message) }
     requires shoens { AreShoensIn store.old.held shoens.old.shoens }
-    requires variables { draft.old.variables < MOST_VARIABLES }
-    requires nodes { draft.old.nodes + message_nodes message ≤ MOST_NODES }
+    requires variables { draft.old.variables < (limits_of draft.old.rules).variables }
+    requires nodes { draft.old.nodes + message_nodes message ≤ (limits_of draft.old.rules).nodes }
     ensures puts { OnOk result (PutsOn number message tail store.old.held store.new.held shoens.old.shoens shoens.new.shoens draft.old draft.new) }
     ensures shoens { OnOk result (AreShoensIn store.new.held shoens.new.shoens) }
     ensures alike { OnOk result (AreAlike shoens.old.shoens shoens.new.shoens) }
@@ -182,12 +182,20 @@ pub(crate) fn draft_message<C: CodeSource>(
     requires order { AreInOrder goals.now.goals }
     requires first { AllByRecursion (λ g. 0 < g.number) goals.now.goals }
     requires shoens { AreShoensIn store.old.held shoens.old.shoens }
-    ensures ok { IfOk result (SendsAs modules.now store.old store.new goals.now.goals shoens.old shoens.new variables nodes entries number message draft.new) }
+    ensures ok { IfOk result (SendsAs modules.now store.old store.new goals.now.goals shoens.old shoens.new rules variables nodes entries number message draft.new) }
     ensures back { CanGoBack shoens.old shoens.new }
     ensures grown { HasGrown store.old store.new }
 {
     let mark = store.mark();
-    let origin = match origin_for(shoens, variables, nodes, entries, number, message) {
+    let origin = match origin_for(
+        shoens,
+        rules.limits(),
+        variables,
+        nodes,
+        entries,
+        number,
+        message,
+    ) {
         Ok(origin) => origin,
         Err(refusal) => return Ok(Some(refusal)),
     };

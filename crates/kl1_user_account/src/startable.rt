@@ -1,17 +1,17 @@
 // What may be started.
 
-ghost use Rattle.std.specs.Prelude.{◌≡◌, ◌++◌, ◌∷◌, [], codes, nat_lt, nat_le, ◌&&◌, decimal, IfOk, OnOk};
+ghost use Rattle.std.specs.Prelude.{◌≡◌, nat_lt, nat_le, ◌&&◌, IfOk};
 ghost use Rattle.kl1_model.specs.Event.{is_range};
-ghost use Rattle.kl1_model.specs.Opening.{start_line, may_start};
+ghost use Rattle.kl1_model.specs.Opening.{may_start};
 ghost use Rattle.kl1_user_account.specs.Starting.{StartsAs};
 
 use crate::counted::Counted;
 use crate::limits::is_number;
-use itoa::Buffer;
+use crate::line_length::fits_start;
 use kl1_clause::GoalCode;
-use kl1_model::limits::{MOST_ENTRIES, MOST_LINE_BYTES, MOST_PRIORITY};
+use kl1_model::limits::MOST_PRIORITY;
 use kl1_read::is_goal;
-use kl1_term::{Term, put_whole};
+use kl1_term::Term;
 use kl1_user_effects::AccountNames;
 use kl1_user_events::Refusal;
 use std::alloc::{AllocError, Global};
@@ -30,34 +30,6 @@ fn is_range(low: u64, high: u64) -> bool
     low <= high && high <= MOST_PRIORITY
 }
 
-/// Puts a number and a blank after bytes. After an error some of them may be there.
-pub(crate) fn put_number(line: &mut Vec<u8>, number: u64) -> Result<(), AllocError>
-    ensures { OnOk result (line.new.items ≡ line.old.items ++ decimal number ++ 32 ∷ []) }
-{
-    let mut buffer = Buffer::new();
-    line.extend_from_slice(buffer.format(number).as_bytes())?;
-    line.extend_from_slice(b" ")
-}
-
-/// Puts the rest of the line of a journal for a start after its first word. After an error some of it may be there.
-#[tactic(auto, using(crate::proofs::StartLines::line_is))]
-fn put_start(
-    alloc: Global,
-    line: &mut Vec<u8>,
-    allowance: u64,
-    low: u64,
-    high: u64,
-    goal: &Term,
-) -> Result<(), AllocError>
-    requires { line.old.items ≡ codes "start " }
-    ensures { OnOk result (line.new.items ≡ start_line allowance low high goal.now) }
-{
-    put_number(line, allowance)?;
-    put_number(line, low)?;
-    put_number(line, high)?;
-    put_whole(alloc, line, goal)
-}
-
 /// Whether a start has numbers in range, and a goal that can be written in a line of a journal and read back.
 fn may_start(
     alloc: Global,
@@ -74,9 +46,7 @@ fn may_start(
     if !goal.is_writable(alloc)? || !goal.is_numbered() {
         return Ok(false);
     }
-    let mut line = Vec::from_slice(alloc, b"start ")?;
-    put_start(alloc, &mut line, allowance, low, high, goal)?;
-    Ok(line.len() <= MOST_LINE_BYTES)
+    fits_start(alloc, allowance, low, high, goal)
 }
 
 /// The code of a goal that is to be started in an account with these names and counts, or why it is refused.
@@ -101,7 +71,7 @@ pub(crate) fn code_of(
     if !counted.has_room_to_start(goal.highest(), code.nodes()) {
         return Ok(Starting::Refused(Refusal::Limit));
     }
-    if MOST_ENTRIES <= counted.entries {
+    if counted.is_full() {
         return Ok(Starting::Refused(Refusal::Journal));
     }
     Ok(Starting::Coded(code))

@@ -1,13 +1,12 @@
 -- Terminations come apart: lives end first, and reports and closings come after.
-use Rattle.std.proofs.Common.{◌≡◌, ℕ, suc, ◌==◌, ◌||◌, not, Bool, true, false, if◌then◌else◌, List, [], ◌∷◌, refl, sym, ap, ap₂, ◌∙◌}
-use Rattle.std.specs.Prelude.{nat_lt, map, Option, Some, None, option_map}
-use Rattle.kl1_model.specs.declared.limits.TheConstants.{MOST_REPORTS}
+use Rattle.std.proofs.Common.{◌≡◌, ℕ, suc, ◌==◌, Bool, true, false, if◌then◌else◌, List, [], ◌∷◌, refl, sym, ap, ap₂, ◌∙◌}
+use Rattle.std.specs.Prelude.{map, Option, Some, None, option_map}
 use Rattle.kl1_model.specs.declared.life.Life.TheVariants.{Terminated}
-use Rattle.kl1_model.specs.Term.{Term, variable, integer, atom, structure, occurs}
+use Rattle.kl1_model.specs.Term.{Term, variable, integer, atom, structure}
 use Rattle.kl1_model.specs.Meaning.{nil, cell}
 use Rattle.kl1_model.specs.State.{Shoen, State, shoen_at, replace_in_shoen, replace_in_state, change_shoen}
 use Rattle.kl1_model.specs.Tree.{path}
-use Rattle.kl1_model.specs.Report.{broken_at, reported_at, report, report_each, closed_at, close, exhausted_report, terminated_report}
+use Rattle.kl1_model.specs.Report.{broken_at, has_made_last, report_tail, reported_on, reported_at, report, report_each, closed_at, close, exhausted_report, terminated_report}
 use Rattle.kl1_model.specs.code.Steps.{report_of, close_of}
 use Rattle.kl1_model.specs.Ending.{without_monitor, ended_at, terminate, terminate_each, ending_of, newly_exhausted, after_reduction}
 use Rattle.kl1_user_effects.specs.Endings.{ended_each, finished, finished_each}
@@ -87,19 +86,17 @@ if_ended false n s t s' t' a b = b
 broken_ended : (n m : ℕ) (s : State) → broken_at m (ended_at n s) ≡ ended_at n (broken_at m s)
 broken_ended n m s = change_both m n (λ h. record h { is_broken = true }) over s (λ h. refl) (λ h. refl) (λ h. refl)
 
-reported_ended : (n m : ℕ) (message t : Term) (s : State) → reported_at m message t (ended_at n s) ≡ ended_at n (reported_at m message t s)
-reported_ended n m message (variable v) s =
+told_ended : (n m : ℕ) (message : Term) (o : Option ℕ) (s : State) → reported_on m message o (ended_at n s) ≡ ended_at n (reported_on m message o s)
+told_ended n m message None s = broken_ended n m s
+told_ended n m message (Some v) s =
     let next = suc s.last_variable in
     let sent : State → State = λ z. record z { last_variable = next; reports = suc s.reports } in
     let by = cell message (variable next) in
-    if_ended (occurs v message || not (nat_lt s.reports MOST_REPORTS)) n (broken_at m s) (change_shoen m (λ h. record h { tail = variable next }) (sent (replace_in_state v by s)))
-    (broken_at m (ended_at n s)) (change_shoen m (λ h. record h { tail = variable next }) (sent (replace_in_state v by (ended_at n s))))
-    (broken_ended n m s)
-    (ap (λ z. change_shoen m (λ h. record h { tail = variable next }) (sent z)) (replace_ended n v by s)
-    ∙ change_both m n (λ h. record h { tail = variable next }) over (sent (replace_in_state v by s)) (λ h. refl) (λ h. refl) (λ h. refl))
-reported_ended n m message (integer i) s = broken_ended n m s
-reported_ended n m message (atom a) s = broken_ended n m s
-reported_ended n m message (structure f ts) s = broken_ended n m s
+    ap (λ z. change_shoen m (λ h. record h { tail = variable next }) (sent z)) (replace_ended n v by s)
+    ∙ change_both m n (λ h. record h { tail = variable next }) over (sent (replace_in_state v by s)) (λ h. refl) (λ h. refl) (λ h. refl)
+
+reported_ended : (n m : ℕ) (message t : Term) (s : State) → reported_at m message t (ended_at n s) ≡ ended_at n (reported_at m message t s)
+reported_ended n m message t s = told_ended n m message (report_tail (has_made_last s) message t) s
 
 reported_by : (c d : Bool) (n m : ℕ) (message : Term) (h : Shoen) (s : State) → (if (if c then over h else h).is_broken then ended_at n s else reported_at m message (if c then over h else h).tail (ended_at n s)) ≡ (if h.is_broken then ended_at n s else reported_at m message h.tail (ended_at n s))
 reported_by true d n m message h s = refl

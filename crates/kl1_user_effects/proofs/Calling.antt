@@ -21,7 +21,7 @@ use Rattle.kl1_store.specs.Held.{Held}
 use Rattle.kl1_store.proofs.Terms.{term_of-Atom}
 use Rattle.kl1_goals.specs.declared.goal.Goal.{Goal}
 use Rattle.kl1_shoen.specs.Shoens.{Tree}
-use Rattle.kl1_codes_modules.specs.Numbered.{Numbered}
+use Rattle.kl1_codes.specs.Numbered.{Numbered}
 use Rattle.kl1_user_effects.specs.declared.draft.Draft.{Draft}
 use Rattle.kl1_user_effects.specs.Fitting.{Reading}
 use Rattle.kl1_user_effects.specs.Account.{texts_of, meaning, goal_with, aim}

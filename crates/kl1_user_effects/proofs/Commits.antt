@@ -4,14 +4,13 @@ use Rattle.std.specs.Prelude.{cond, unwrap_or, nat_le, filter, find, count_by, O
 use Rattle.std.specs.List.{AllByRecursion}
 use Rattle.std.proofs.lemmas.List.{map-append, append-nil, drop_more, drop_all}
 use Rattle.std.proofs.lemmas.List.Sums.{sum_by-cons}
-use Rattle.kl1_model.specs.declared.limits.TheConstants.{MOST_GOALS, MOST_VARIABLES, MOST_NODES}
 use Rattle.kl1_model.specs.Term.{Term}
 use Rattle.kl1_model.specs.Module.{Clause, goals_of}
 use Rattle.kl1_model.specs.Match.{Candidate}
 use Rattle.kl1_model.specs.Instance.{body_instance, body_priorities, fresh_variables}
 use Rattle.kl1_model.specs.Nodes.{goals_nodes}
 use Rattle.kl1_model.specs.State as model
-use Rattle.kl1_model.specs.State.{State, shoen_at, without_goal}
+use Rattle.kl1_model.specs.State.{State, limits_of, shoen_at}
 use Rattle.kl1_model.specs.code.Steps.{clipped, priority_of}
 use Rattle.kl1_model.specs.Reduction.{goals_from, has_room_for, commits, or_exhaustion, committed, raised, moved}
 use Rattle.kl1_model.specs.Report.{exhaustion}
@@ -30,7 +29,7 @@ use Rattle.kl1_clause.specs.declared.predicate.Predicate.{Predicate}
 use Rattle.kl1_match.specs.declared.place.Place.{Place}
 use Rattle.kl1_goals_moves.specs.Moves.{IsCandidate}
 use Rattle.kl1_goals_moves.specs.Bodies.{IsBody}
-use Rattle.kl1_codes_modules.specs.Numbered.{Numbered}
+use Rattle.kl1_codes.specs.Numbered.{Numbered}
 use Rattle.kl1_user_effects.specs.declared.draft.Draft.{Draft}
 use Rattle.kl1_text.specs.Reading.{Reads}
 use Rattle.kl1_user_effects.specs.Fitting.{Reading, built}
@@ -166,12 +165,13 @@ alive_read t (g ∷ gs) =
 
 -- whether there is room for a body, by what is counted
 pub room_read : (f : Reading) (s : State) (h : Held CellName) (w : Made) (clause : Clause) (alive goals fresh nodes : ℕ) → alive ≡ count_by (λ g. not (is_monitor g)) w.goals → goals ≡ length clause.body → fresh ≡ fresh_variables clause → nodes ≡ goals_nodes (goals_of clause.body) →
-    has_room_for (worked f s h w) clause ≡ (nat_le (alive + goals) MOST_GOALS && nat_le (w.variables + fresh) MOST_VARIABLES && nat_le (w.nodes + nodes) MOST_NODES)
+    has_room_for (worked f s h w) clause ≡ (nat_le (alive + goals) (limits_of w.rules).goals && nat_le (w.variables + fresh) (limits_of w.rules).variables && nat_le (w.nodes + nodes) (limits_of w.rules).nodes)
 room_read f s h w clause alive goals fresh nodes a b c d =
-    ap (λ n. nat_le (n + length clause.body) MOST_GOALS && nat_le (w.variables + fresh_variables clause) MOST_VARIABLES && nat_le (w.nodes + goals_nodes (goals_of clause.body)) MOST_NODES) (alive_read (meaning f h) w.goals ∙ sym a)
-    ∙ ap (λ n. nat_le (alive + n) MOST_GOALS && nat_le (w.variables + fresh_variables clause) MOST_VARIABLES && nat_le (w.nodes + goals_nodes (goals_of clause.body)) MOST_NODES) (sym b)
-    ∙ ap (λ n. nat_le (alive + goals) MOST_GOALS && nat_le (w.variables + n) MOST_VARIABLES && nat_le (w.nodes + goals_nodes (goals_of clause.body)) MOST_NODES) (sym c)
-    ∙ ap (λ n. nat_le (alive + goals) MOST_GOALS && nat_le (w.variables + fresh) MOST_VARIABLES && nat_le (w.nodes + n) MOST_NODES) (sym d)
+    let most = limits_of w.rules in
+    ap (λ n. nat_le (n + length clause.body) most.goals && nat_le (w.variables + fresh_variables clause) most.variables && nat_le (w.nodes + goals_nodes (goals_of clause.body)) most.nodes) (alive_read (meaning f h) w.goals ∙ sym a)
+    ∙ ap (λ n. nat_le (alive + n) most.goals && nat_le (w.variables + fresh_variables clause) most.variables && nat_le (w.nodes + goals_nodes (goals_of clause.body)) most.nodes) (sym b)
+    ∙ ap (λ n. nat_le (alive + goals) most.goals && nat_le (w.variables + n) most.variables && nat_le (w.nodes + goals_nodes (goals_of clause.body)) most.nodes) (sym c)
+    ∙ ap (λ n. nat_le (alive + goals) most.goals && nat_le (w.variables + fresh) most.variables && nat_le (w.nodes + n) most.nodes) (sym d)
 
 -- ---- drafts
 
@@ -179,7 +179,7 @@ room_read f s h w clause alive goals fresh nodes a b c d =
 pub drafts_exhausted : (p : Predicate CellName) (place : ℕ) (places : List (Place CellName)) (goal : Goal CellName) (x : Qualified CellName) (goals : List (Goal CellName)) (h k : Held CellName) (t u : Tree CellName) (d e : Draft) (alive count fresh nodes : ℕ) →
     alive ≡ count_by (λ g. not (is_monitor g)) (goals_left (goals ++ d.added.items) d) →
     ((f : Reading) (c : Candidate) → IsCandidate f h p place places c → (count ≡ length c.clause.body) × ((fresh ≡ fresh_variables c.clause) × (nodes ≡ goals_nodes (goals_of c.clause.body)))) →
-    (nat_le (alive + count) MOST_GOALS && nat_le (d.variables + fresh) MOST_VARIABLES && nat_le (d.nodes + nodes) MOST_NODES) ≡ false →
+    (nat_le (alive + count) (limits_of d.rules).goals && nat_le (d.variables + fresh) (limits_of d.rules).variables && nat_le (d.nodes + nodes) (limits_of d.rules).nodes) ≡ false →
     DraftsAll (λ f. raised (goal_with (meaning f h) goal) exhaustion (aim f h x)) h k t u d e → Commits p place places goal x goals h k t u d e
 drafts_exhausted p place places goal x goals h k t u d e alive count fresh nodes there needs full raises ms c candidate names i =
     let w = made_of goals names t d in
@@ -194,7 +194,7 @@ drafts_exhausted p place places goal x goals h k t u d e alive count fresh nodes
 pub drafts_committed : (p : Predicate CellName) (place : ℕ) (places : List (Place CellName)) (goal : Goal CellName) (x : Qualified CellName) (goals : List (Goal CellName)) (h k : Held CellName) (t : Tree CellName) (d e : Draft) (alive count fresh nodes : ℕ) (sh : Shoen CellName) (ps : List (Option ℕ)) (cells : List (Qualified CellName)) →
     HasBegun d → Grown h k → alive ≡ count_by (λ g. not (is_monitor g)) (goals_left (goals ++ d.added.items) d) →
     ((f : Reading) (c : Candidate) → IsCandidate f h p place places c → (count ≡ length c.clause.body) × ((fresh ≡ fresh_variables c.clause) × (nodes ≡ goals_nodes (goals_of c.clause.body)))) →
-    (nat_le (alive + count) MOST_GOALS && nat_le (d.variables + fresh) MOST_VARIABLES && nat_le (d.nodes + nodes) MOST_NODES) ≡ true →
+    (nat_le (alive + count) (limits_of d.rules).goals && nat_le (d.variables + fresh) (limits_of d.rules).variables && nat_le (d.nodes + nodes) (limits_of d.rules).nodes) ≡ true →
     find (has_number goal.shoen) t.shoens ≡ Some sh → sh.number ≡ goal.shoen → IsOwned (length t.shoens) goal → AreQualifiedIn k cells →
     ((f : Reading) (c : Candidate) → IsCandidate f h p place places c → ps ≡ body_priorities c.clause) →
     ((f : Reading) → Reads built f → (c : Candidate) → IsCandidate f h p place places c → IsBody f c h k cells) →

@@ -1,6 +1,6 @@
 -- What messages to a shoen make of drafts.
 use Rattle.std.proofs.Common.{◌≡◌, ℕ, zero, suc, ◌+◌, ◌-◌, ◌<◌, not, ◌&&◌, true, false, if◌then◌else◌, Bool, List, [], ◌∷◌, ◌++◌, length, map, get_or, refl, sym, ap, ap₂, ◌∙◌, subst, arith}
-use Rattle.std.specs.Prelude.{min, filter, find, Option, Some, option_map}
+use Rattle.std.specs.Prelude.{filter, find, Option, Some, option_map}
 use Rattle.std.specs.List.{AllByRecursion}
 use Rattle.kl1_model.specs.declared.life.Life.TheVariants.{Aborted}
 use Rattle.kl1_model.specs.Module.{is_among}
@@ -11,7 +11,7 @@ use Rattle.kl1_model.specs.Report.{report, close, exception, illegal_input, stop
 use Rattle.kl1_model.specs.code.Steps as steps
 use Rattle.kl1_model.specs.Ending.{without_monitor, ended_below}
 use Rattle.kl1_model.specs.declared.message.Message.TheVariants.{Stop, Start, Abort, Allow}
-use Rattle.kl1_model.specs.declared.limits.TheConstants.{MOST_ALLOWANCE}
+use Rattle.kl1_model.specs.Reduction.{grown}
 use Rattle.kl1_model.specs.declared.message.Message.{Message}
 use Rattle.kl1_model.specs.Control.{awaits_message, tells, tells_other, breaks_off}
 use Rattle.kl1_model.specs.Reduction.{obeyed, heard, with_control}
@@ -23,7 +23,7 @@ use Rattle.kl1_goals.specs.declared.goal.Goal.{Goal}
 use Rattle.kl1_goals.specs.Lists.{is_other, is_flagged}
 use Rattle.kl1_shoen_paths.specs.declared.shoen.Shoen.{Shoen}
 use Rattle.kl1_shoen.specs.Shoens.{Tree, has_number, changed, is_on_path_in, aborted_below_in, AreNumbered}
-use Rattle.kl1_codes_modules.specs.Numbered.{Numbered}
+use Rattle.kl1_codes.specs.Numbered.{Numbered}
 use Rattle.kl1_user_effects.specs.declared.draft.Draft.{Draft}
 use Rattle.kl1_user_effects.specs.Fitting.{Reading}
 use Rattle.kl1_user_effects.specs.Account.{Means, meaning, goal_with, shoen_with}
@@ -186,7 +186,7 @@ shifted f h k t u d e b p ms goals names i = p ms goals names i
 
 -- a shoen whose allowance grows
 abbrev pub allowing : ℕ → Shoen CellName → Shoen CellName
-allowing extra h = record h { allowance = min (h.allowance + extra) MOST_ALLOWANCE }
+allowing extra h = record h { allowance = grown h.allowance extra }
 
 pub drafts_allowed : (h : Held CellName) (t u : Tree CellName) (d : Draft) (n extra : ℕ) (b : Bool) → u ≡ record t { shoens = changed n (allowing extra) t.shoens } → DraftsAll (λ f. obeyed n (Allow extra)) h h t u d (record d { shifts = b })
 drafts_allowed h t u d n extra b is ms goals names i = drafts_changed h t u d n (allowing extra) (allowed_more extra) is (λ s a. record { control = a.control; tail = a.tail; origin = a.origin; low = a.low; high = a.high }) (λ f s. refl) ms goals names i

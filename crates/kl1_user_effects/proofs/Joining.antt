@@ -5,11 +5,11 @@ use Rattle.std.specs.List.{AllByRecursion}
 use Rattle.std.proofs.lemmas.Bool.{ne_eqb}
 use Rattle.std.proofs.lemmas.List.{map-append, append_assoc}
 use Rattle.kl1_model.specs.declared.life.Life.TheVariants.{Living}
-use Rattle.kl1_model.specs.declared.limits.TheConstants.{MONITOR_PRIORITY, MOST_SHOENS, MOST_SHOEN_DEPTH}
+use Rattle.kl1_model.specs.declared.limits.TheConstants.{MONITOR_PRIORITY}
 use Rattle.kl1_model.specs.Look as model_look
 use Rattle.kl1_model.specs.Look.{number_of_term}
 use Rattle.kl1_model.specs.State as model
-use Rattle.kl1_model.specs.State.{State}
+use Rattle.kl1_model.specs.State.{State, limits_of}
 use Rattle.kl1_model.specs.Report.{report, exhaustion, started_report, exhausted_report}
 use Rattle.kl1_model.specs.Opening.{clipped_to, with_shoen, open_shoen, open_child}
 use Rattle.kl1_model.specs.code.Steps.{clipped}
@@ -25,7 +25,7 @@ use Rattle.kl1_goals.specs.declared.goal.Goal.{Goal}
 use Rattle.kl1_goals.specs.Lists.{is_other, is_flagged}
 use Rattle.kl1_shoen_paths.specs.declared.shoen.Shoen.{Shoen}
 use Rattle.kl1_shoen.specs.Shoens.{Tree, has_number, path_in}
-use Rattle.kl1_codes_modules.specs.Numbered.{Numbered}
+use Rattle.kl1_codes.specs.Numbered.{Numbered}
 use Rattle.kl1_user_effects.specs.declared.draft.Draft.{Draft}
 use Rattle.kl1_user_effects.specs.Fitting.{Reading}
 use Rattle.kl1_user_effects.specs.Account.{meaning, goal_with, shoen_with, aim}
@@ -144,14 +144,14 @@ drafts_opened_empty h k l t u v y d e a b sh x none p q r =
 -- ---- children
 
 -- a goal of a shoen that may open no child
-pub drafts_full : (s : ℕ) (goal : Goal CellName) (x : Qualified CellName) (h k : Held CellName) (t u : Tree CellName) (d e : Draft) → (nat_lt (length t.shoens) MOST_SHOENS && nat_lt (length (path_in t.shoens goal.shoen)) MOST_SHOEN_DEPTH) ≡ false →
+pub drafts_full : (s : ℕ) (goal : Goal CellName) (x : Qualified CellName) (h k : Held CellName) (t u : Tree CellName) (d e : Draft) → (nat_lt (length t.shoens) (limits_of d.rules).shoens && nat_lt (length (path_in t.shoens goal.shoen)) (limits_of d.rules).depth) ≡ false →
     DraftsAll (λ f. raised (goal_with (meaning f h) goal) exhaustion (aim f h x)) h k t u d e → OpensChild s goal x h k t u d e
 drafts_full s goal x h k t u d e full raises o order ms goals names i =
     let w = made_of goals names t d in
     turns_as ms (λ f. raised (goal_with (meaning f h) goal) exhaustion (aim f h x)) (λ f. moved (goal_with (meaning f h) goal) (aim f h x) (opens (order_at f h o))) h k w (made_of goals names u e)
     (λ f knows z.
     let S = worked f z h w in
-    ap (λ (ns : List ℕ). or_exhaustion (nat_lt (length t.shoens) MOST_SHOENS && nat_lt (length ns) MOST_SHOEN_DEPTH) (goal_with (meaning f h) goal) (aim f h x) (open_child S goal.shoen (order_at f h o)) S) (path_read (meaning f h) t.shoens goal.shoen)
+    ap (λ (ns : List ℕ). or_exhaustion (nat_lt (length t.shoens) (limits_of d.rules).shoens && nat_lt (length ns) (limits_of d.rules).depth) (goal_with (meaning f h) goal) (aim f h x) (open_child S goal.shoen (order_at f h o)) S) (path_read (meaning f h) t.shoens goal.shoen)
     ∙ ap (λ b. or_exhaustion b (goal_with (meaning f h) goal) (aim f h x) (open_child S goal.shoen (order_at f h o)) S) full)
     (raises ms goals names i)
 
@@ -173,7 +173,7 @@ child_of ss goal o allowance low high = record {
 
 -- a child that is opened
 pub drafts_child : (s : ℕ) (goal : Goal CellName) (x : Qualified CellName) (h k : Held CellName) (t u : Tree CellName) (d e : Draft) (parent : Shoen CellName) (o : ExecuteArguments CellName) (allowance low high : ℕ) →
-    (nat_lt (length t.shoens) MOST_SHOENS && nat_lt (length (path_in t.shoens goal.shoen)) MOST_SHOEN_DEPTH) ≡ true → find (has_number goal.shoen) t.shoens ≡ Some parent →
+    (nat_lt (length t.shoens) (limits_of d.rules).shoens && nat_lt (length (path_in t.shoens goal.shoen)) (limits_of d.rules).depth) ≡ true → find (has_number goal.shoen) t.shoens ≡ Some parent →
     ((f : Reading) → allowance ≡ number_of_term (meaning f h o.allowance)) → ((f : Reading) → low ≡ clipped parent.low parent.high (number_of_term (meaning f h o.low))) → ((f : Reading) → high ≡ clipped parent.low parent.high (number_of_term (meaning f h o.high))) →
     ((p : ExecuteArguments CellName) → IsOrder h s p → p ≡ o) →
     DraftsAll (λ f. open_shoen (shoen_with (meaning f h) (child_of t.shoens goal o allowance low high)) (meaning f h o.goal)) h k t u d e → OpensChild s goal x h k t u d e
@@ -198,7 +198,7 @@ drafts_child s goal x h k t u d e parent o allowance low high room there a b c o
     } in
     let kept : ℕ → ℕ → ℕ → model.Shoen = λ n l m. shoen_with (meaning f h) (child_of t.shoens goal o n l m) in
     ap (λ (y : ExecuteArguments CellName). moved (goal_with (meaning f h) goal) (aim f h x) (opens (order_at f h y)) S) (one p order)
-    ∙ ap (λ (ns : List ℕ). or_exhaustion (nat_lt (length t.shoens) MOST_SHOENS && nat_lt (length ns) MOST_SHOEN_DEPTH) (goal_with (meaning f h) goal) (aim f h x) (open_child S goal.shoen (q o)) S) (path_read (meaning f h) t.shoens goal.shoen)
+    ∙ ap (λ (ns : List ℕ). or_exhaustion (nat_lt (length t.shoens) (limits_of d.rules).shoens && nat_lt (length ns) (limits_of d.rules).depth) (goal_with (meaning f h) goal) (aim f h x) (open_child S goal.shoen (q o)) S) (path_read (meaning f h) t.shoens goal.shoen)
     ∙ ap (λ y. or_exhaustion y (goal_with (meaning f h) goal) (aim f h x) (open_child S goal.shoen (q o)) S) room
     ∙ ap (λ (y : Option model.Shoen). open_shoen (child y (number_of_term (meaning f h o.allowance)) (number_of_term (meaning f h o.low)) (number_of_term (meaning f h o.high))) (meaning f h o.goal) S) (finds z (meaning f h) (h.variables - 1) w goal.shoen (Some parent) there)
     ∙ ap (λ n. open_shoen (kept n (clipped parent.low parent.high (number_of_term (meaning f h o.low))) (clipped parent.low parent.high (number_of_term (meaning f h o.high)))) (meaning f h o.goal) S) (sym (a f))

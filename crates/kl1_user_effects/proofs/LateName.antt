@@ -1,16 +1,15 @@
 -- A variable becomes a name before what comes after a goal's effects, or after that: it makes no difference.
 use Rattle.std.proofs.Common.{◌≡◌, ℕ, suc, ◌≤◌, ◌==◌, ◌||◌, not, ◌&&◌, Bool, true, false, if◌then◌else◌, List, [], ◌∷◌, refl, sym, ap, ap₂, ◌∙◌, arith, eqb-true}
-use Rattle.std.specs.Prelude.{nat_lt, map, filter, codes, count_by, Option, Some, None, option_map, unwrap_or}
+use Rattle.std.specs.Prelude.{map, filter, codes, count_by, Option, Some, None, option_map, unwrap_or}
 use Rattle.std.specs.List.{list_any}
 use Rattle.std.proofs.lemmas.Bool.{ne_eqb}
-use Rattle.kl1_model.specs.declared.limits.TheConstants.{MOST_REPORTS}
 use Rattle.kl1_model.specs.declared.life.Life.TheVariants.{Terminated}
 use Rattle.kl1_model.specs.Module.{is_among}
 use Rattle.kl1_model.specs.Term.{Term, variable, integer, atom, structure, Terms, none, more, occurs, replace, replace_each}
 use Rattle.kl1_model.specs.Meaning.{nil, cell}
 use Rattle.kl1_model.specs.State.{Task, monitor, reduces, substitutes, Goal, Origin, Shoen, State, shoen_at, replace_in_task, replace_in_goal, replace_in_origin, replace_in_shoen, replace_in_state, change_shoen, is_monitor, is_living}
 use Rattle.kl1_model.specs.Tree.{parents_of, path_within, path, charge, is_living_child}
-use Rattle.kl1_model.specs.Report.{broken_at, reported_at, report, report_each, closed_at, close, exhausted_report, terminated_report}
+use Rattle.kl1_model.specs.Report.{broken_at, has_made_last, report_tail, reported_on, reported_at, report, report_each, closed_at, close, exhausted_report, terminated_report}
 use Rattle.kl1_model.specs.code.Steps.{report_of, close_of}
 use Rattle.kl1_model.specs.Ending.{has_goal, has_living_child, lives, ends_now, without_monitor, ended_at, ending_of, has_reached, newly_exhausted, after_reduction}
 use Rattle.kl1_user_effects.specs.Endings.{ended_each, finished, finished_each}
@@ -137,30 +136,28 @@ broken_replaced n v t s = change_replaced n v t no_more no_more s (λ h. refl)
 
 -- ---- reports
 
-state_if : (c : Bool) (v : ℕ) (t : Term) (s r s' r' : State) → s' ≡ replace_in_state v t s → r' ≡ replace_in_state v t r → (if c then s' else r') ≡ replace_in_state v t (if c then s else r)
-state_if true v t s r s' r' p q = p
-state_if false v t s r s' r' p q = q
-
 is_next : (v last : ℕ) → v ≤ last → (suc last == v) ≡ false
 is_next v last le = ne_eqb (suc last) v (λ q. absurd (omega (arith, q, le)))
 
--- a report on a stream whose tail is another variable, or none
-told_replaced : (n v : ℕ) (a b : List ℕ) (tail : Term) (s : State) → v ≤ s.last_variable → is_variable v tail ≡ false → reported_at n (atom b) (replace v (atom a) tail) (replace_in_state v (atom a) s) ≡ replace_in_state v (atom a) (reported_at n (atom b) tail s)
-told_replaced n v a b (variable w) s le e =
+-- a report on another variable, if it goes on
+told_on : (last : Bool) (n v w : ℕ) (a b : List ℕ) (s : State) → v ≤ s.last_variable → (w == v) ≡ false →
+    reported_on n (atom b) (if last then None else Some w) (replace_in_state v (atom a) s) ≡ replace_in_state v (atom a) (reported_on n (atom b) (if last then None else Some w) s)
+told_on true n v w a b s le e = sym (broken_replaced n v (atom a) s)
+told_on false n v w a b s le e =
     let next = suc s.last_variable in
     let by = cell (atom b) (variable next) in
     let fresh : (next == v) ≡ false = is_next v s.last_variable le in
     let sent : State → State = λ z. record z { last_variable = next; reports = suc s.reports } in
     let goes_on : Shoen → Shoen = λ h. record h { tail = variable next } in
-    ap (λ c. reported_at n (atom b) (if c then atom a else variable w) (replace_in_state v (atom a) s)) e
-    ∙ state_if (occurs w (atom b) || not (nat_lt s.reports MOST_REPORTS)) v (atom a)
-    (broken_at n s) (change_shoen n goes_on (sent (replace_in_state w by s)))
-    (broken_at n (replace_in_state v (atom a) s)) (change_shoen n goes_on (sent (replace_in_state w by (replace_in_state v (atom a) s))))
-    (sym (broken_replaced n v (atom a) s))
-    (ap (λ c. change_shoen n goes_on (sent (replace_in_state w (cell (atom b) (if c then atom a else variable next)) (replace_in_state v (atom a) s)))) (sym fresh)
+    ap (λ c. change_shoen n goes_on (sent (replace_in_state w (cell (atom b) (if c then atom a else variable next)) (replace_in_state v (atom a) s)))) (sym fresh)
     ∙ ap (λ z. change_shoen n goes_on (sent z)) (sym (swapped_state v w a by e s))
     ∙ sym (change_replaced n v (atom a) goes_on goes_on (sent (replace_in_state w by s))
-    (λ h. ap (λ c. let z : Shoen = record (replace_in_shoen v (atom a) h) { tail = if c then atom a else variable next } in z) fresh)))
+    (λ h. ap (λ c. let z : Shoen = record (replace_in_shoen v (atom a) h) { tail = if c then atom a else variable next } in z) fresh))
+
+-- a report on a stream whose tail is another variable, or none
+told_replaced : (n v : ℕ) (a b : List ℕ) (tail : Term) (s : State) → v ≤ s.last_variable → is_variable v tail ≡ false → reported_at n (atom b) (replace v (atom a) tail) (replace_in_state v (atom a) s) ≡ replace_in_state v (atom a) (reported_at n (atom b) tail s)
+told_replaced n v a b (variable w) s le e =
+    ap (λ c. reported_at n (atom b) (if c then atom a else variable w) (replace_in_state v (atom a) s)) e ∙ told_on (occurs w (atom b) || has_made_last s) n v w a b s le e
 told_replaced n v a b (integer i) s le e = sym (broken_replaced n v (atom a) s)
 told_replaced n v a b (atom c) s le e = sym (broken_replaced n v (atom a) s)
 told_replaced n v a b (structure f ts) s le e = sym (broken_replaced n v (atom a) s)
@@ -327,14 +324,12 @@ more_if : (c : Bool) (last : ℕ) (s t : State) → last ≤ s.last_variable →
 more_if true last s t a b = a
 more_if false last s t a b = b
 
+told_more : (n last : ℕ) (message : Term) (o : Option ℕ) (s : State) → last ≤ s.last_variable → last ≤ (reported_on n message o s).last_variable
+told_more n last message None s le = le
+told_more n last message (Some w) s le = omega (arith, le)
+
 reported_more : (n last : ℕ) (message tail : Term) (s : State) → last ≤ s.last_variable → last ≤ (reported_at n message tail s).last_variable
-reported_more n last message (variable w) s le =
-    let next = suc s.last_variable in
-    more_if (occurs w message || not (nat_lt s.reports MOST_REPORTS)) last (broken_at n s)
-    (change_shoen n (λ h. record h { tail = variable next }) (record (replace_in_state w (cell message (variable next)) s) { last_variable = next; reports = suc s.reports })) le (omega (arith, le))
-reported_more n last message (integer i) s le = le
-reported_more n last message (atom a) s le = le
-reported_more n last message (structure f ts) s le = le
+reported_more n last message tail s le = told_more n last message (report_tail (has_made_last s) message tail) s le
 
 report_more_of : (o : Option Shoen) (n last : ℕ) (message : Term) (s : State) → last ≤ s.last_variable → last ≤ (report_of o n message s).last_variable
 report_more_of None n last message s le = le

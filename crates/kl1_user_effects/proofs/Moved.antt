@@ -1,14 +1,16 @@
 -- What a move makes of a draft.
-use Rattle.std.proofs.Common.{◌≡◌, ℕ, List, [], length, refl, sym, ap, ◌∙◌, subst}
-use Rattle.std.specs.Prelude.{Option, Some}
+use Rattle.std.proofs.Common.{◌≡◌, ℕ, not, Bool, true, false, List, [], length, refl, sym, ap, ◌∙◌, subst}
+use Rattle.std.specs.Prelude.{nat_le, Option, Some}
+use Rattle.kl1_model.specs.declared.limits.TheConstants.{MOST_NAMES}
 use Rattle.kl1_model.specs.declared.built_in.BuiltIn.{BuiltIn}
 use Rattle.kl1_model.specs.Text.{text_of}
 use Rattle.kl1_model.specs.Term as term
 use Rattle.kl1_model.specs.Match.{Candidate}
-use Rattle.kl1_model.specs.State.{State, reduces}
+use Rattle.kl1_model.specs.State.{State, reduces, with_name}
 use Rattle.kl1_model.specs.Unify.{mgu}
 use Rattle.kl1_model.specs.Reduction as model
-use Rattle.kl1_model.specs.Reduction.{commits, raises, unifies, names, opens, goes, gives_way, moved, replaced_by, raised, unified, equation}
+use Rattle.kl1_model.specs.Reduction.{commits, raises, unifies, names, opens, goes, gives_way, moved, or_exhaustion, replaced_by, raised, unified, equation}
+use Rattle.kl1_model.specs.code.Steps.{named_by}
 use Rattle.kl1_text.specs.declared.cell_name.CellName.{CellName}
 use Rattle.kl1_store.specs.declared.qualified.Qualified.{Qualified}
 use Rattle.kl1_store.specs.declared.cell.Cell.{Cell}
@@ -22,7 +24,7 @@ use Rattle.kl1_goals_moves.specs.Moves.{IsCandidate}
 use Rattle.kl1_goals.specs.declared.goal.Goal.{Goal}
 use Rattle.kl1_shoen_paths.specs.declared.shoen.Shoen.{Shoen}
 use Rattle.kl1_shoen.specs.Shoens.{Tree}
-use Rattle.kl1_codes_modules.specs.Numbered.{Numbered}
+use Rattle.kl1_codes.specs.Numbered.{Numbered}
 use Rattle.kl1_user_effects.specs.declared.draft.Draft.{Draft}
 use Rattle.kl1_user_effects.specs.Fitting.{Reading}
 use Rattle.kl1_atoms.specs.declared.known.Known.{Known}
@@ -85,11 +87,22 @@ moves_by_order p places text s o goal x goals h k t u d e order opened known ms 
     moves_as ms goal x m (λ f. opens (order_at f h o)) goals (texts_of known) h k t u d e
     (λ f knows. found_is (m f) (opens (order_at f h o)) (Some (m f)) refl (as_found f knows o order)) (opened o order ms goals (texts_of known))
 
+not_twice : (b : Bool) → not (not b) ≡ b
+not_twice true = refl
+not_twice false = refl
+
 pub moves_by_name : (p : Predicate CellName) (places : List (Place CellName)) (text : List ℕ) (a : Cell CellName) (goal : Goal CellName) (x : Qualified CellName) (goals : List (Goal CellName)) (known : List Known) (h k : Held CellName) (t u : Tree CellName) (d e : Draft) →
     NamesTerm goal text known a x h k t u d e → Moves p (move.Names a) places text goal x goals known h k t u d e
 moves_by_name p places text a goal x goals known h k t u d e named ms m reads as_found =
+    let w = made_of goals (texts_of known) t d in
     moves_as ms goal x m (λ f. names text (meaning f h a)) goals (texts_of known) h k t u d e
-    (λ f knows. found_is (m f) (names text (meaning f h a)) (Some (m f)) refl (as_found f knows)) (named ms reads goals)
+    (λ f knows. found_is (m f) (names text (meaning f h a)) (Some (m f)) refl (as_found f knows))
+    (λ i. turns_as ms (λ f s. or_exhaustion (nat_le (length (with_name s.names text)) MOST_NAMES) (goal_with (meaning f h) goal) (aim f h x) (named_by (goal_with (meaning f h) goal) (aim f h x) text (meaning f h a) s) s)
+    (λ f. moved (goal_with (meaning f h) goal) (aim f h x) (names text (meaning f h a))) h k w (made_of goals (texts_of known) u e)
+    (λ f knows s.
+    let S = worked f s h w in
+    ap (λ b. or_exhaustion b (goal_with (meaning f h) goal) (aim f h x) (named_by (goal_with (meaning f h) goal) (aim f h x) text (meaning f h a) S) S) (not_twice (nat_le (length (with_name S.names text)) MOST_NAMES)))
+    (named ms reads goals i))
 
 pub moves_by_nothing : (p : Predicate CellName) (places : List (Place CellName)) (text : List ℕ) (goal : Goal CellName) (x : Qualified CellName) (goals : List (Goal CellName)) (h : Held CellName) (t : Tree CellName) (d : Draft) → (known : List Known) → Moves p move.Goes places text goal x goals known h h t t d d
 moves_by_nothing p places text goal x goals h t d known ms m reads as_found =

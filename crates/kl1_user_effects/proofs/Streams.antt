@@ -1,8 +1,7 @@
 -- Reports, the end of a stream, exceptions and unifications.
-use Rattle.std.proofs.Common.{◌≡◌, ℕ, suc, ◌-◌, not, true, false, if◌then◌else◌, Bool, List, refl, sym, ap, ◌∙◌, subst}
-use Rattle.std.specs.Prelude.{nat_lt, find, Some, None}
+use Rattle.std.proofs.Common.{◌≡◌, ℕ, suc, ◌-◌, true, false, if◌then◌else◌, Bool, List, refl, sym, ap, ◌∙◌, subst}
+use Rattle.std.specs.Prelude.{find, Some, None}
 use Rattle.kl1_model.specs.declared.built_in.BuiltIn.{BuiltIn}
-use Rattle.kl1_model.specs.declared.limits.TheConstants.{MOST_REPORTS}
 use Rattle.kl1_model.specs.Text.{text_of}
 use Rattle.kl1_model.specs.Term.{Term, variable, integer, atom, structure, replace}
 use Rattle.kl1_model.specs.code.Unifying.{replaced}
@@ -26,24 +25,24 @@ use Rattle.kl1_stream.specs.Exceptions.{IsException}
 use Rattle.kl1_goals.specs.declared.goal.Goal.{Goal}
 use Rattle.kl1_shoen_paths.specs.declared.shoen.Shoen.{Shoen}
 use Rattle.kl1_shoen.specs.Shoens.{Tree, has_number, changed}
-use Rattle.kl1_codes_modules.specs.Numbered.{Numbered}
+use Rattle.kl1_codes.specs.Numbered.{Numbered}
 use Rattle.kl1_user_effects.specs.declared.draft.Draft.{Draft}
 use Rattle.kl1_user_effects.specs.Fitting.{Reading, built}
 use Rattle.kl1_user_effects.specs.Account.{meaning, goal_with, aim}
 use Rattle.kl1_user_effects.specs.Drafts.{made_of, DraftsAll}
 use Rattle.kl1_user_effects.specs.Works.{Made, worked, IsMadeIn, Turns}
 use Rattle.kl1_user_effects.proofs.States.{replaced_state, all_replaced}
-use Rattle.kl1_user_effects.proofs.Works.{base, read_as, finds, rereads, turns_then, turns_as, turns_none, grown_made, torn, tailed, report_turns, no_report_turns}
+use Rattle.kl1_user_effects.proofs.Works.{base, read_as, finds, rereads, turns_then, turns_as, turns_none, grown_made, torn, tailed, last_made, report_turns, no_report_turns}
 
 -- ---- reports
 
 -- a report that was dropped
-pub drafts_dropped : (h k : Held CellName) (t : Tree CellName) (d : Draft) (n : ℕ) (sh : Shoen CellName) (m : Cell CellName) → Grown h k → find (has_number n) t.shoens ≡ Some sh → ToldAs built h k sh.tail sh.is_broken (not (nat_lt d.reports MOST_REPORTS)) m Dropped →
+pub drafts_dropped : (h k : Held CellName) (t : Tree CellName) (d : Draft) (n : ℕ) (sh : Shoen CellName) (m : Cell CellName) → Grown h k → find (has_number n) t.shoens ≡ Some sh → ToldAs built h k sh.tail sh.is_broken (last_made d.rules d.reports) m Dropped →
     DraftsAll (λ f. report n (meaning f h m)) h k t t d d
 drafts_dropped h k t d n sh m g e told ms goals names i = report_turns ms h k (made_of goals names t d) n sh m Dropped g i e told
 
 -- a report on which the stream broke
-pub drafts_broken : (h k : Held CellName) (t u : Tree CellName) (d : Draft) (n : ℕ) (sh : Shoen CellName) (m : Cell CellName) → Grown h k → find (has_number n) t.shoens ≡ Some sh → ToldAs built h k sh.tail sh.is_broken (not (nat_lt d.reports MOST_REPORTS)) m Broken →
+pub drafts_broken : (h k : Held CellName) (t u : Tree CellName) (d : Draft) (n : ℕ) (sh : Shoen CellName) (m : Cell CellName) → Grown h k → find (has_number n) t.shoens ≡ Some sh → ToldAs built h k sh.tail sh.is_broken (last_made d.rules d.reports) m Broken →
     u.shoens ≡ changed n torn t.shoens → u.work ≡ t.work → DraftsAll (λ f. report n (meaning f h m)) h k t u d d
 drafts_broken h k t u d n sh m g e told is same ms goals names i =
     let T : Made → Type 0 = λ w. Turns ms (λ f. report n (meaning f h m)) h k (made_of goals names t d) w in
@@ -55,7 +54,7 @@ drafts_broken h k t u d n sh m g e told is same ms goals names i =
         ∙ ap (λ (x : List ℕ). let z : Made = record w { shoens = u.shoens; work = x } in z) (sym b)
 
 -- a report that was made
-pub drafts_sent : (h k : Held CellName) (t u : Tree CellName) (d : Draft) (n next : ℕ) (sh : Shoen CellName) (m : Cell CellName) → Grown h k → find (has_number n) t.shoens ≡ Some sh → ToldAs built h k sh.tail sh.is_broken (not (nat_lt d.reports MOST_REPORTS)) m (Sent next) →
+pub drafts_sent : (h k : Held CellName) (t u : Tree CellName) (d : Draft) (n next : ℕ) (sh : Shoen CellName) (m : Cell CellName) → Grown h k → find (has_number n) t.shoens ≡ Some sh → ToldAs built h k sh.tail sh.is_broken (last_made d.rules d.reports) m (Sent next) →
     u.shoens ≡ changed n (tailed next) t.shoens → u.work ≡ t.work → DraftsAll (λ f. report n (meaning f h m)) h k t u d (record d { reports = suc d.reports })
 drafts_sent h k t u d n next sh m g e told is same ms goals names i =
     let T : Made → Type 0 = λ w. Turns ms (λ f. report n (meaning f h m)) h k (made_of goals names t d) w in

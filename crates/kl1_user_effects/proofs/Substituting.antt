@@ -1,17 +1,16 @@
 -- Exceptions: with a report alone, and with a substitute in the place of the goal.
 use Rattle.std.proofs.Common.{◌≡◌, ℕ, suc, ◌+◌, ◌-◌, ◌<◌, ◌≤◌, ◌==◌, not, ◌&&◌, ◌||◌, Bool, true, false, if◌then◌else◌, List, [], ◌∷◌, ◌++◌, length, map, take, refl, sym, ap, ◌∙◌, subst, arith}
-use Rattle.std.specs.Prelude.{nat_lt, find, Option, Some, None, option_map}
-use Rattle.std.specs.List.{AllByRecursion}
+use Rattle.std.specs.Prelude.{find, Option, Some, None, is_some, option_map}
 use Rattle.std.proofs.lemmas.Bool.{ne_eqb}
 use Rattle.std.proofs.lemmas.List.{map-append, take_all}
 use Rattle.kl1_model.specs.declared.built_in.BuiltIn.{BuiltIn}
-use Rattle.kl1_model.specs.declared.limits.TheConstants.{MOST_REPORTS, MONITOR_PRIORITY}
+use Rattle.kl1_model.specs.declared.limits.TheConstants.{MONITOR_PRIORITY}
 use Rattle.kl1_model.specs.Text.{text_of}
 use Rattle.kl1_model.specs.Term.{Term, variable, integer, atom, structure, occurs}
 use Rattle.kl1_model.specs.State as model
 use Rattle.kl1_model.specs.State.{State, has_substitutes}
-use Rattle.kl1_model.specs.Report.{report, is_reported, is_reported_at, exception, exception_with}
-use Rattle.kl1_model.specs.code.Steps.{is_reported_of}
+use Rattle.kl1_model.specs.Report.{report, is_reported, exception, exception_with}
+use Rattle.kl1_model.specs.code.Steps.{is_reported_at, is_reported_of}
 use Rattle.kl1_model.specs.Reduction.{replaced_by, substituted_by, raised}
 use Rattle.kl1_text.specs.Reading.{Reads}
 use Rattle.kl1_text.specs.declared.cell_name.CellName.{CellName}
@@ -25,17 +24,17 @@ use Rattle.kl1_store.specs.Hooks.{Kept, point_of, HasGrown}
 use Rattle.kl1_store.specs.Sound.{Bound, IsFormed, Grown}
 use Rattle.kl1_store.proofs.Terms.{term_of-variable, term_of-unbound}
 use Rattle.kl1_store.proofs.Grows.{Grown-variable, Grown-trans}
-use Rattle.kl1_stream.specs.Exceptions.{IsException, IsExceptionWith}
+use Rattle.kl1_stream.specs.Exceptions.{IsExceptionWith}
 use Rattle.kl1_goals.specs.declared.task.Task.{Task}
-use Rattle.kl1_goals.specs.declared.task.Task.TheVariants.{Reduces, Substitutes}
+use Rattle.kl1_goals.specs.declared.task.Task.TheVariants.{Substitutes}
 use Rattle.kl1_goals.specs.declared.goal.Goal.{Goal}
 use Rattle.kl1_goals.specs.Lists.{is_monitor_task}
 use Rattle.kl1_shoen_paths.specs.declared.shoen.Shoen.{Shoen}
 use Rattle.kl1_shoen.specs.Shoens.{Tree, has_number}
-use Rattle.kl1_codes_modules.specs.Numbered.{Numbered}
+use Rattle.kl1_codes.specs.Numbered.{Numbered}
 use Rattle.kl1_user_effects.specs.declared.draft.Draft.{Draft}
 use Rattle.kl1_user_effects.specs.Fitting.{Reading, built}
-use Rattle.kl1_user_effects.specs.Account.{Means, meaning, aim, task_with, goal_with, shoen_with, with_kept}
+use Rattle.kl1_user_effects.specs.Account.{meaning, aim, task_with, goal_with, shoen_with}
 use Rattle.kl1_user_effects.specs.Wholes.{IsWhole}
 use Rattle.kl1_user_effects.specs.Kept.{IsTaskIn, IsOwned, AreShoensIn}
 use Rattle.kl1_user_effects.specs.Drafts.{goals_left, made_of, DraftsAll, HasBegun, one_for}
@@ -44,7 +43,7 @@ use Rattle.kl1_user_effects.specs.Reports.{IsTold, IsDropped}
 use Rattle.kl1_user_effects.specs.Leaving.{Comes, AreMet}
 use Rattle.kl1_user_effects.specs.Works.{Made, worked, IsMadeIn, Knows, Turns}
 use Rattle.kl1_user_effects.proofs.States.{Agree, found_in, found_shoen_in}
-use Rattle.kl1_user_effects.proofs.Works.{read_as, rereads, grown_made, turns_then, turns_as}
+use Rattle.kl1_user_effects.proofs.Works.{read_as, rereads, grown_made, last_made, turns_then, turns_as}
 use Rattle.kl1_user_effects.proofs.Goals.{goals_in_append, owned_append}
 use Rattle.kl1_user_effects.proofs.Joining.{left_more}
 use Rattle.kl1_user_effects.proofs.Arriving.{comes_none, met_none, comes_one, met_one}
@@ -103,11 +102,11 @@ pub occurs_beside : (v w : ℕ) (kind : List ℕ) (goal : Term) → (v == w) ≡
 occurs_beside v w kind goal e = or_none (occurs v goal) (v == w) e
 
 -- such an exception is reported if the exception without the variable is
-reported_beside : (tail : Term) (kind : List ℕ) (goal : Term) (w made : ℕ) → ((v : ℕ) → tail ≡ variable v → (v == w) ≡ false) → is_reported_at (exception_with kind goal (variable w)) tail made ≡ is_reported_at (exception kind goal) tail made
-reported_beside (variable v) kind goal w made other = ap (λ b. not b && nat_lt made MOST_REPORTS) (occurs_beside v w kind goal (other v refl))
-reported_beside (integer i) kind goal w made other = refl
-reported_beside (atom a) kind goal w made other = refl
-reported_beside (structure g ts) kind goal w made other = refl
+reported_beside : (tail : Term) (kind : List ℕ) (goal : Term) (w : ℕ) (last : Bool) → ((v : ℕ) → tail ≡ variable v → (v == w) ≡ false) → is_reported_at last (exception_with kind goal (variable w)) tail ≡ is_reported_at last (exception kind goal) tail
+reported_beside (variable v) kind goal w last other = ap (λ b. is_some (if b || last then None else Some v)) (occurs_beside v w kind goal (other v refl))
+reported_beside (integer i) kind goal w last other = refl
+reported_beside (atom a) kind goal w last other = refl
+reported_beside (structure g ts) kind goal w last other = refl
 
 -- ---- a variable that is new to a store
 
@@ -134,17 +133,17 @@ never_new : (h : Held CellName) (f : Reading) (v : ℕ) (x : Cell CellName) → 
 never_new h f v x p i e = let lt = tail_lower h f v x p i e in ne_eqb v h.variables (λ q. omega (arith, lt, q))
 
 -- an exception with it is reported if the exception without it is
-pub reported_here : (f : Reading) (h k : Held CellName) (ss : List (Shoen CellName)) (n made : ℕ) (kind : List ℕ) (goal : Term) → IsFormed h → AreShoensIn h ss → Agree h (meaning f k) (meaning f h) →
-    is_reported_of (option_map (shoen_with (meaning f h)) (find (has_number n) ss)) (exception kind goal) made ≡ is_reported_of (option_map (shoen_with (meaning f k)) (find (has_number n) ss)) (exception_with kind goal (variable h.variables)) made
-reported_here f h k ss n made kind goal p i agree = by_case (find (has_number n) ss) refl
+pub reported_here : (f : Reading) (h k : Held CellName) (ss : List (Shoen CellName)) (n : ℕ) (last : Bool) (kind : List ℕ) (goal : Term) → IsFormed h → AreShoensIn h ss → Agree h (meaning f k) (meaning f h) →
+    is_reported_of (option_map (shoen_with (meaning f h)) (find (has_number n) ss)) (exception kind goal) last ≡ is_reported_of (option_map (shoen_with (meaning f k)) (find (has_number n) ss)) (exception_with kind goal (variable h.variables)) last
+reported_here f h k ss n last kind goal p i agree = by_case (find (has_number n) ss) refl
   where
     by_case : (o : Option (Shoen CellName)) → find (has_number n) ss ≡ o →
-        is_reported_of (option_map (shoen_with (meaning f h)) o) (exception kind goal) made ≡ is_reported_of (option_map (shoen_with (meaning f k)) o) (exception_with kind goal (variable h.variables)) made
+        is_reported_of (option_map (shoen_with (meaning f h)) o) (exception kind goal) last ≡ is_reported_of (option_map (shoen_with (meaning f k)) o) (exception_with kind goal (variable h.variables)) last
     by_case None e = refl
     by_case (Some sh) e =
         let inside = found_shoen_in h n ss sh i e in
-        ap (λ b. not sh.is_broken && b) (sym (reported_beside (meaning f h sh.tail) kind goal h.variables made (λ v q. never_new h f v sh.tail p inside.tail q)))
-        ∙ ap (λ (t : Term). not sh.is_broken && is_reported_at (exception_with kind goal (variable h.variables)) t made) (sym (agree sh.tail inside.tail))
+        ap (λ b. not sh.is_broken && b) (sym (reported_beside (meaning f h sh.tail) kind goal h.variables last (λ v q. never_new h f v sh.tail p inside.tail q)))
+        ∙ ap (λ (t : Term). not sh.is_broken && is_reported_at last (exception_with kind goal (variable h.variables)) t) (sym (agree sh.tail inside.tail))
 
 none_is : (v : ℕ) (t : Term) → ((w : ℕ) → t ≡ variable w → (w == v) ≡ false) → is_variable v t ≡ false
 none_is v (variable w) other = other w refl
@@ -237,10 +236,11 @@ pub told_here : (h mid k : Held CellName) (kind : BuiltIn) (term message : Cell 
 told_here h mid k kind term message t d n made a i told f reads s goals names =
     let E = exception (text_of kind) (meaning f h term) in
     let M = exception_with (text_of kind) (meaning f h term) (variable h.variables) in
-    ap (λ (p : Option model.Shoen). is_reported_of p E d.reports) (found_in (meaning f h) n t.shoens)
-    ∙ reported_here f h mid t.shoens n d.reports (text_of kind) (meaning f h term) a.formed i (asked_agree h mid kind term message a f)
-    ∙ ap (λ (p : Option model.Shoen). is_reported_of p M d.reports) (sym (found_in (meaning f mid) n t.shoens))
-    ∙ ap (λ (m : Term). is_reported_of (model.shoen_at n (map (shoen_with (meaning f mid)) t.shoens)) m d.reports) (sym (asked_means h mid kind term message a f reads))
+    let last = last_made d.rules d.reports in
+    ap (λ (p : Option model.Shoen). is_reported_of p E last) (found_in (meaning f h) n t.shoens)
+    ∙ reported_here f h mid t.shoens n last (text_of kind) (meaning f h term) a.formed i (asked_agree h mid kind term message a f)
+    ∙ ap (λ (p : Option model.Shoen). is_reported_of p M last) (sym (found_in (meaning f mid) n t.shoens))
+    ∙ ap (λ (m : Term). is_reported_of (model.shoen_at n (map (shoen_with (meaning f mid)) t.shoens)) m last) (sym (asked_means h mid kind term message a f reads))
     ∙ sym (told.is f reads s goals)
 
 -- ---- drafts after reports

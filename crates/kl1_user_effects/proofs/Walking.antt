@@ -15,7 +15,7 @@ use Rattle.kl1_store.specs.Held.{Held}
 use Rattle.kl1_goals.specs.Lists.{is_goal_of}
 use Rattle.kl1_shoen_paths.specs.declared.shoen.Shoen.{Shoen}
 use Rattle.kl1_shoen.specs.Shoens.{has_number, changed, parents_in, path_in, charged_in, is_living_child_of, lives_in, has_reached_in}
-use Rattle.kl1_codes_modules.specs.Numbered.{Numbered}
+use Rattle.kl1_codes.specs.Numbered.{Numbered}
 use Rattle.kl1_user_effects.specs.Fitting.{Reading}
 use Rattle.kl1_user_effects.specs.Account.{Means, meaning, shoen_with}
 use Rattle.kl1_user_effects.specs.Works.{Made, worked, IsMadeIn, Turns}

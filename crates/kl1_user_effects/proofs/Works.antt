@@ -1,12 +1,12 @@
 -- What is made of an account, one change after another.
 use Rattle.std.proofs.Common.{◌≡◌, ℕ, suc, ◌-◌, ◌||◌, not, Bool, true, false, if◌then◌else◌, List, length, map, refl, sym, ap, ◌∙◌, arith, subst}
 use Rattle.std.specs.Prelude.{nat_lt, find, Option, Some, None, option_map}
-use Rattle.kl1_model.specs.declared.limits.TheConstants.{MOST_REPORTS}
+use Rattle.kl1_model.specs.declared.rules.Rules.{Rules}
 use Rattle.kl1_model.specs.Term.{Term, variable, integer, atom, structure, replace, occurs}
 use Rattle.kl1_model.specs.Meaning.{cell}
 use Rattle.kl1_model.specs.State as model
-use Rattle.kl1_model.specs.State.{State, shoen_at, change_shoen, replace_in_state}
-use Rattle.kl1_model.specs.Report.{report, reported_at, broken_at}
+use Rattle.kl1_model.specs.State.{State, limits_of, shoen_at, change_shoen, replace_in_state}
+use Rattle.kl1_model.specs.Report.{has_made_last, reported_on, report, reported_at, broken_at}
 use Rattle.kl1_model.specs.code.Steps.{report_of}
 use Rattle.kl1_text.specs.Reading.{Reads}
 use Rattle.kl1_text.specs.declared.cell_name.CellName.{CellName}
@@ -19,7 +19,7 @@ use Rattle.kl1_stream.specs.declared.told.Told.TheVariants.{Dropped, Broken, Sen
 use Rattle.kl1_stream.specs.Reports.{Breaks, ToldAs}
 use Rattle.kl1_shoen_paths.specs.declared.shoen.Shoen.{Shoen}
 use Rattle.kl1_shoen.specs.Shoens.{has_number, changed}
-use Rattle.kl1_codes_modules.specs.Numbered.{Numbered}
+use Rattle.kl1_codes.specs.Numbered.{Numbered}
 use Rattle.kl1_user_effects.specs.Fitting.{Reading, built}
 use Rattle.kl1_user_effects.specs.Account.{Means, meaning, shoen_with, state_with}
 use Rattle.kl1_user_effects.specs.Kept.{AreOwned, IsShoenIn}
@@ -89,10 +89,13 @@ rereads s t u last h w a i = same_state (base s w) h t u last w.goals w.shoens a
 
 -- ---- reports
 
+-- whether an account that keeps to these rules and has made this number of reports has made its last
+abbrev pub last_made : Rules → ℕ → Bool
+last_made rules made = not (nat_lt made (limits_of rules).reports)
+
 -- a report that breaks the stream
-pub broken_by : (n : ℕ) (t m : Term) (s : State) → Breaks (not (nat_lt s.reports MOST_REPORTS)) t m → reported_at n m t s ≡ broken_at n s
-broken_by n (variable v) m s e =
-    ap (λ b. if b then broken_at n s else change_shoen n (λ h. record h { tail = variable (suc s.last_variable) }) (record (replace_in_state v (cell m (variable (suc s.last_variable))) s) { last_variable = suc s.last_variable; reports = suc s.reports })) e
+pub broken_by : (n : ℕ) (t m : Term) (s : State) → Breaks (has_made_last s) t m → reported_at n m t s ≡ broken_at n s
+broken_by n (variable v) m s e = ap (λ b. reported_on n m (if b then None else Some v) s) e
 broken_by n (integer i) m s e = refl
 broken_by n (atom a) m s e = refl
 broken_by n (structure f ts) m s e = refl
@@ -122,7 +125,7 @@ both_false true b e f = e
 both_false false b e f = f
 
 report_states : (h k : Held CellName) (w : Made) (n : ℕ) (sh : Shoen CellName) (m : Cell CellName) (told : Told) → IsMadeIn h w → find (has_number n) w.shoens ≡ Some sh →
-    ToldAs built h k sh.tail sh.is_broken (not (nat_lt w.reports MOST_REPORTS)) m told → (f : Reading) → Reads built f → (s : State) → report n (meaning f h m) (worked f s h w) ≡ worked f s k (after_report n w told)
+    ToldAs built h k sh.tail sh.is_broken (last_made w.rules w.reports) m told → (f : Reading) → Reads built f → (s : State) → report n (meaning f h m) (worked f s h w) ≡ worked f s k (after_report n w told)
 report_states h k w n sh m Dropped i e d f reads s =
     let S = read_as s (meaning f h) (h.variables - 1) w in
     reports_as s (meaning f h) (h.variables - 1) w n sh (meaning f h m) e
@@ -146,7 +149,7 @@ report_states h k w n sh m (Sent next) i e d f reads s =
     reports_as s (meaning f h) (h.variables - 1) w n sh M e
     ∙ ap (λ b. if b then S else reported_at n M (meaning f h sh.tail) S) d.whole
     ∙ ap (λ t. reported_at n M t S) (d.tail_is f)
-    ∙ ap (λ b. if b then broken_at n S else moved (suc (h.variables - 1))) (both_false (occurs d.number M) (not (nat_lt w.reports MOST_REPORTS)) sent.free d.more)
+    ∙ ap (λ b. reported_on n M (if b then None else Some d.number) S) (both_false (occurs d.number M) (last_made w.rules w.reports) sent.free d.more)
     ∙ ap moved N
     ∙ ap told (replaced_state (base s w) d.number (cell M (variable next)) (meaning f h) (h.variables - 1) w.goals w.shoens)
     ∙ ap told (rereads s (λ x. replace d.number (cell M (variable next)) (meaning f h x)) (meaning f k) (h.variables - 1) h w (λ x j. sym (sent.means x j)) i)
@@ -155,7 +158,7 @@ report_states h k w n sh m (Sent next) i e d f reads s =
 
 -- a report turns the state as the definitions' does
 pub report_turns : (ms : List Numbered) (h k : Held CellName) (w : Made) (n : ℕ) (sh : Shoen CellName) (m : Cell CellName) (told : Told) → Grown h k → IsMadeIn h w → find (has_number n) w.shoens ≡ Some sh →
-    ToldAs built h k sh.tail sh.is_broken (not (nat_lt w.reports MOST_REPORTS)) m told → Turns ms (λ f. report n (meaning f h m)) h k w (after_report n w told)
+    ToldAs built h k sh.tail sh.is_broken (last_made w.rules w.reports) m told → Turns ms (λ f. report n (meaning f h m)) h k w (after_report n w told)
 report_turns ms h k w n sh m told g i e d = record {
   inside = by_case told d;
   states = λ f knows s. report_states h k w n sh m told i e d f knows.reads s;
@@ -164,7 +167,7 @@ report_turns ms h k w n sh m told g i e d = record {
     j : IsMadeIn k w
     j = grown_made h k w g i
 
-    by_case : (r : Told) → ToldAs built h k sh.tail sh.is_broken (not (nat_lt w.reports MOST_REPORTS)) m r → IsMadeIn k (after_report n w r)
+    by_case : (r : Told) → ToldAs built h k sh.tail sh.is_broken (last_made w.rules w.reports) m r → IsMadeIn k (after_report n w r)
     by_case Dropped x = j
     by_case Broken x = changed_made k w n torn (λ s a. record { control = a.control; tail = a.tail; origin = a.origin; low = a.low; high = a.high }) j
     by_case (Sent next) x =

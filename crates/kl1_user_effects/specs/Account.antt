@@ -16,15 +16,16 @@ use Rattle.kl1_goals.specs.declared.task.Task.TheVariants.{Monitor, Reduces, Sub
 use Rattle.kl1_goals.specs.declared.goal.Goal.{Goal}
 use Rattle.kl1_shoen_paths.specs.declared.shoen.Origin.{Origin}
 use Rattle.kl1_shoen_paths.specs.declared.shoen.Shoen.{Shoen}
-use Rattle.kl1_codes_modules.specs.Numbered.{Numbered}
-use Rattle.kl1_codes_modules.specs.Finding.{contents}
-use Rattle.kl1_codes_modules.specs.Shelves.{Program}
+use Rattle.kl1_codes.specs.Numbered.{Numbered}
+use Rattle.kl1_codes.specs.Finding.{contents}
+use Rattle.kl1_codes.specs.Shelves.{Program}
 use Rattle.kl1_user_effects.specs.Fitting.{Reading}
 
 -- what an account keeps: its own name; its rules; what its cells are; its goals and its shoens; for each reduction that was charged, the number
 -- of its goal's shoen, the newest first; its modules, each with its row of numbers; its names with their numbers, in order of first
 -- use; the last number of a goal; how many variables and structures its starts, messages from the console and commits had; how many
--- reports it made; how many entries its journal has; and how many sessions are open
+-- reports it made; how many entries its journal has, and how many reductions the last of them if it is a run, or else 0; and how many
+-- sessions are open
 pub record Account : Type 0 where
   pub own_name : List ℕ
   pub rules : Rules
@@ -39,6 +40,7 @@ pub record Account : Type 0 where
   pub nodes : ℕ
   pub reports : ℕ
   pub entries : ℕ
+  pub run : ℕ
   pub sessions : ℕ
 
 -- what the goals of an account are reduced by
@@ -130,5 +132,6 @@ state_of f a =
       nodes = a.nodes;
       reports = a.reports;
       entries = a.entries;
+      run = a.run;
       sessions = a.sessions;
     }) a.held a.goals a.shoens

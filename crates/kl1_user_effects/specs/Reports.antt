@@ -15,7 +15,7 @@ use Rattle.kl1_user_effects.specs.Account.{meaning, with_kept}
 
 -- whether a report of shoen `n` is made is told, whatever goals there are
 pub record IsTold (n : ℕ) (message : Cell CellName) (old new : Held CellName) (shoens : List (Shoen CellName)) (before : Draft) (made : Bool) : Type 0 where
-  pub is : (f : Reading) → Reads built f → (s : State) (goals : List (Goal CellName)) → made ≡ is_reported n (meaning f old message) (record (with_kept f s old goals shoens) { reports = before.reports })
+  pub is : (f : Reading) → Reads built f → (s : State) (goals : List (Goal CellName)) → made ≡ is_reported n (meaning f old message) (record (with_kept f s old goals shoens) { rules = before.rules; reports = before.reports })
 
 -- shoens by a report of shoen `n`, which may be there, that isn't made: an unbroken stream of it is broken
 abbrev pub unheard : ℕ → Option (Shoen CellName) → List (Shoen CellName) → List (Shoen CellName)

@@ -7,7 +7,7 @@ use Rattle.kl1_text.specs.declared.cell_name.CellName.{CellName}
 use Rattle.kl1_store.specs.Held.{Held}
 use Rattle.kl1_goals.specs.declared.goal.Goal.{Goal}
 use Rattle.kl1_shoen_paths.specs.declared.shoen.Shoen.{Shoen}
-use Rattle.kl1_codes_modules.specs.Numbered.{Numbered, AreRead}
+use Rattle.kl1_codes.specs.Numbered.{Numbered, AreRead}
 use Rattle.kl1_user_effects.specs.Fitting.{Reading, built}
 use Rattle.kl1_user_effects.specs.Account.{with_kept}
 use Rattle.kl1_user_effects.specs.Kept.{AreGoalsIn, AreOwned, AreShoensIn}

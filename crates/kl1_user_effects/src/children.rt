@@ -1,7 +1,7 @@
 // Shoens that open, and the children that goals open.
 
 ghost use Rattle.std.specs.Prelude.{◌≡◌, ◌<◌, ◌≤◌, ◌+◌, ◌++◌, [], suc, length, ◌&&◌, nat_lt, OnOk};
-ghost use Rattle.kl1_model.specs.declared.limits.TheConstants.{MONITOR_PRIORITY, MOST_SHOENS, MOST_SHOEN_DEPTH};
+ghost use Rattle.kl1_model.specs.declared.limits.TheConstants.{MONITOR_PRIORITY};
 ghost use Rattle.kl1_model.specs.Opening.{open_shoen};
 ghost use Rattle.kl1_model.specs.code.Steps.{clipped};
 ghost use Rattle.kl1_store.specs.Held.{IsIn, arguments_of};
@@ -19,7 +19,7 @@ use crate::draft::Draft;
 use crate::reporting::{raise, report_name};
 use kl1_goals::{Goal, Task};
 use kl1_goals_moves::{number_at, order_at};
-use kl1_model::limits::{MONITOR_PRIORITY, MOST_SHOEN_DEPTH, MOST_SHOENS};
+use kl1_model::limits::{Limits, MONITOR_PRIORITY};
 use kl1_model::{BuiltIn, Life};
 use kl1_shoen::{Shoen, ShoenTree};
 use kl1_store::{Cell, Qualified, Store};
@@ -95,11 +95,11 @@ pub fn open_shoen(
     report_name(store, shoens, draft, shoen.number, BuiltIn::Exhausted)
 }
 
-/// Whether a shoen may open a child, within the limits on shoens and depth.
-fn may_open(shoens: &ShoenTree<CellName>, parent: u64) -> bool
-    ensures { result ≡ (nat_lt (length shoens.now.shoens) MOST_SHOENS && nat_lt (length (path_in shoens.now.shoens parent)) MOST_SHOEN_DEPTH) }
+/// Whether a shoen may open a child, within these limits on shoens and depth.
+fn may_open(shoens: &ShoenTree<CellName>, most: Limits, parent: u64) -> bool
+    ensures { result ≡ (nat_lt (length shoens.now.shoens) most.shoens && nat_lt (length (path_in shoens.now.shoens parent)) most.depth) }
 {
-    shoens.len() < MOST_SHOENS && shoens.depth(parent) < MOST_SHOEN_DEPTH as u64
+    shoens.len() < most.shoens && shoens.depth(parent) < most.depth as u64
 }
 
 /// A number clipped to the range of a shoen.
@@ -138,7 +138,7 @@ pub fn open_child(
     ensures grown { Grown store.old.held store.new.held }
     ensures hooks { store.new.hooks ≡ store.old.hooks }
 {
-    if !may_open(shoens, goal.shoen) {
+    if !may_open(shoens, draft.rules.limits(), goal.shoen) {
         return raise(store, shoens, draft, goal, BuiltIn::Exhaustion, cell);
     }
     let number = last_of(shoens.len(), 1)?;

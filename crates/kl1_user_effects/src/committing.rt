@@ -1,7 +1,8 @@
 // Goals that commit to clauses.
 
 ghost use Rattle.std.specs.Prelude.{◌≡◌, ◌+◌, ◌<◌, ◌≤◌, ◌^◌, [], ◌++◌, ◌&&◌, nat_le, not, List, ℕ, length, count_by, Some, option_map, unwrap_or, IfOk, OnOk};
-ghost use Rattle.kl1_model.specs.declared.limits.TheConstants.{MONITOR_PRIORITY, MOST_GOALS, MOST_VARIABLES, MOST_NODES};
+ghost use Rattle.kl1_model.specs.declared.limits.TheConstants.{MONITOR_PRIORITY};
+ghost use Rattle.kl1_model.specs.Rules.{limits_of};
 ghost use Rattle.kl1_store.specs.Held.{IsIn};
 ghost use Rattle.kl1_store.specs.Sound.{Grown};
 ghost use Rattle.kl1_clause.specs.Predicates.{AreSome};
@@ -21,7 +22,6 @@ use kl1_clause::Predicate;
 use kl1_goals::{Goal, GoalTable, Task, make_room};
 use kl1_goals_moves::{Needs, Trial, commit as put_body, needs_of, priorities_of};
 use kl1_model::BuiltIn;
-use kl1_model::limits::{MOST_GOALS, MOST_NODES, MOST_VARIABLES};
 use kl1_shoen::{Shoen, ShoenTree};
 use kl1_store::{Qualified, Store};
 use kl1_text::CellName;
@@ -39,11 +39,12 @@ fn keeps(most: u64, have: u64, more: u64) -> bool
 
 /// Whether what `needs` counts keeps to the limits on goals, variables and structures, if `alive` goals are there.
 fn has_room(draft: &Draft, alive: u64, needs: Needs) -> bool
-    ensures { result ≡ (nat_le (alive + needs.goals) MOST_GOALS && nat_le (draft.now.variables + needs.variables) MOST_VARIABLES && nat_le (draft.now.nodes + needs.nodes) MOST_NODES) }
+    ensures { result ≡ (nat_le (alive + needs.goals) (limits_of draft.now.rules).goals && nat_le (draft.now.variables + needs.variables) (limits_of draft.now.rules).variables && nat_le (draft.now.nodes + needs.nodes) (limits_of draft.now.rules).nodes) }
 {
-    keeps(MOST_GOALS, alive, needs.goals)
-        && keeps(MOST_VARIABLES, draft.variables, needs.variables)
-        && keeps(MOST_NODES, draft.nodes, needs.nodes)
+    let most = draft.rules.limits();
+    keeps(most.goals, alive, needs.goals)
+        && keeps(most.variables, draft.variables, needs.variables)
+        && keeps(most.nodes, draft.nodes, needs.nodes)
 }
 
 /// The priority of a body's goal: the one that it names, if any, clipped to the range of the shoen, or else this one.

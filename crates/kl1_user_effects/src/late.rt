@@ -8,7 +8,7 @@ ghost use Rattle.kl1_model.specs.Ending.{after_reduction};
 ghost use Rattle.kl1_store.specs.Held.{is_bound};
 ghost use Rattle.kl1_store.specs.Sound.{Grown};
 ghost use Rattle.kl1_shoen.specs.Shoens.{has_number};
-ghost use Rattle.kl1_codes_modules.specs.Numbered.{Numbered};
+ghost use Rattle.kl1_codes.specs.Numbered.{Numbered};
 ghost use Rattle.kl1_user_effects.specs.Fitting.{Reading};
 ghost use Rattle.kl1_user_effects.specs.Account.{meaning, shoen_with};
 ghost use Rattle.kl1_user_effects.specs.Kept.{AreShoensIn};

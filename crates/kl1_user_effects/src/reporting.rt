@@ -24,7 +24,6 @@ use crate::committing::last_of;
 use crate::draft::Draft;
 use kl1_goals::{Goal, Task};
 use kl1_model::BuiltIn;
-use kl1_model::limits::MOST_REPORTS;
 use kl1_shoen::ShoenTree;
 use kl1_store::{Cell, Qualified, Store, Unified};
 use kl1_stream::{Told, append_report, close_report, exception_of, exception_with};
@@ -58,7 +57,7 @@ fn tell(
         let _formed = store.mark();
         return Ok(false);
     };
-    let is_last = !(draft.reports < MOST_REPORTS);
+    let is_last = !(draft.reports < draft.rules.limits().reports);
     match append_report(store, shoen.tail, shoen.is_broken, is_last, message)? {
         Told::Dropped => Ok(false),
         Told::Broken => {

@@ -8,7 +8,7 @@ ghost use Rattle.kl1_text.specs.declared.cell_name.CellName.{CellName};
 ghost use Rattle.kl1_goals.specs.Lists.{is_goal_of, is_other};
 ghost use Rattle.kl1_store.specs.Sound.{Grown};
 ghost use Rattle.kl1_shoen.specs.Shoens.{path_in, lives_in, has_reached_in};
-ghost use Rattle.kl1_codes_modules.specs.Numbered.{Numbered};
+ghost use Rattle.kl1_codes.specs.Numbered.{Numbered};
 ghost use Rattle.kl1_user_effects.specs.Kept.{AreShoensIn};
 ghost use Rattle.kl1_user_effects.specs.Drafts.{goals_left, Drafts, DraftsAll, CanGoBack};
 ghost use Rattle.kl1_user_effects.specs.Endings.{finished, finished_each};

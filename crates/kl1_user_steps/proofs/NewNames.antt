@@ -1,11 +1,11 @@
 -- A goal's move, or a name that is new and comes of it.
-use Rattle.std.proofs.Common.{◌≡◌, ℕ, suc, ◌<◌, ◌-◌, Bool, true, false, if◌then◌else◌, List, [], ◌∷◌, length, refl, sym, ap, ◌∙◌, subst, arith, ℤ}
+use Rattle.std.proofs.Common.{◌≡◌, ℕ, suc, ◌<◌, ◌-◌, not, Bool, true, false, if◌then◌else◌, List, [], ◌∷◌, length, refl, sym, ap, ◌∙◌, subst, arith, ℤ}
 use Rattle.std.specs.Prelude.{Option, None, Some, option_map, is_some, nat_le, IsTrue, bytes_eq}
 use Rattle.std.proofs.lemmas.Slice.Eq.{bytes_eq-Decides}
 use Rattle.kl1_model.specs.declared.limits.TheConstants.{MOST_NAMES}
 use Rattle.kl1_model.specs.Text.{is_text}
 use Rattle.kl1_model.specs.Term.{Term, Terms, variable, integer, atom, structure, sizes, replace}
-use Rattle.kl1_model.specs.Unify.{Equation, highest_among, mgu_within, mgu, goes_on, fails, equations_size}
+use Rattle.kl1_model.specs.Unify.{Equation, highest_among, mgu_within, mgu, remains, conflicts, equations_size}
 use Rattle.kl1_model.specs.code.Unifying.{after}
 use Rattle.kl1_model.specs.State.{State, replace_in_state, with_name}
 use Rattle.kl1_model.specs.Tree.{charge}
@@ -31,7 +31,7 @@ use Rattle.kl1_goals_moves.specs.declared.moves.Move.{Move}
 use Rattle.kl1_goals_moves.specs.declared.moves.Move.TheVariants as move
 use Rattle.kl1_goals.specs.declared.goal.Goal.{Goal}
 use Rattle.kl1_shoen.specs.Shoens.{Tree}
-use Rattle.kl1_codes_modules.specs.Numbered.{Numbered}
+use Rattle.kl1_codes.specs.Numbered.{Numbered}
 use Rattle.kl1_user_effects.specs.declared.draft.Draft.{Draft}
 use Rattle.kl1_user_effects.specs.declared.draft.Spelled.{Spelled}
 use Rattle.kl1_user_effects.specs.Fitting.{Reading, built}
@@ -67,7 +67,7 @@ structure_unsolved g ts b =
 atom_unsolved : (a b : List ℕ) → (a ≡ b → ⊥) → mgu (equation (atom a) (atom b)) ≡ None
 unfolding mgu_within
 atom_unsolved a b other =
-    ap (λ (c : Bool). after (mgu_within 2 1) (λ to. mgu_within 1 (equations_size to) to) (if c then goes_on [] else fails)) (not_true (bytes_eq a b) (λ e. other ((bytes_eq-Decides a b).0 e)))
+    ap (λ (c : Bool). after (mgu_within 2 1) (λ to. mgu_within 1 (equations_size to) to) (if c then remains [] else conflicts)) (not_true (bytes_eq a b) (λ e. other ((bytes_eq-Decides a b).0 e)))
 
 -- an integer becomes no name
 pub integer_none : (h : Held CellName) (known : List Known) (text : List ℕ) (a x : Cell CellName) (i : ℤ) → x ≡ Integer i → ((f : Reading) → meaning f h x ≡ meaning f h a) → IsNoSpelling h known text a
@@ -140,7 +140,7 @@ variable_solved v text = refl
 becomes : (goal : Goal CellName) (t : Means) (x b : Term) (v : ℕ) (text : List ℕ) (s : State) → nat_le (length (with_name s.names text)) MOST_NAMES ≡ true → b ≡ variable v →
     moved (goal_with t goal) x (names text b) s ≡ replace_in_state v (atom text) (with_text text s)
 becomes goal t x b v text s keeps is =
-    ap (λ c. or_exhaustion c (goal_with t goal) x (named_by (goal_with t goal) x text b s) s) keeps
+    ap (λ c. or_exhaustion (not (not c)) (goal_with t goal) x (named_by (goal_with t goal) x text b s) s) keeps
     ∙ ap (λ (r : Term). unified (goal_with t goal) x (mgu (equation r (atom text))) (with_text text s)) is
     ∙ ap (λ o. unified (goal_with t goal) x o (with_text text s)) (variable_solved v text)
 

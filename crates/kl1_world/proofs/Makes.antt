@@ -6,7 +6,7 @@ use Rattle.std.proofs.lemmas.List.{length-append, length-map, map-append}
 use Rattle.std.proofs.lemmas.Bool.{cases_lt}
 use Rattle.kl1_model.specs.declared.rules.Rules.{Rules}
 use Rattle.kl1_atoms.specs.declared.known.Known.{Known}
-use Rattle.kl1_codes_modules.specs.Numbered.{ArePlaced}
+use Rattle.kl1_codes.specs.Numbered.{ArePlaced}
 use Rattle.kl1_model_server.specs.Journal.{fresh_kept}
 use Rattle.kl1_journal.specs.Keeping.{Reading, Held, kept_of}
 use Rattle.kl1_world.specs.Seating.{AreSeated, AreNewSeats}

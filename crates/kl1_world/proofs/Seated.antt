@@ -4,8 +4,8 @@ use Rattle.std.specs.Prelude.{slice_get, slice_set, Some, ◌↔◌}
 use Rattle.std.proofs.lemmas.List.{length-map, map-set}
 use Rattle.std.proofs.lemmas.Option.{slice_get_within, slice_get_read, same_Some, none-some}
 use Rattle.std.proofs.lemmas.Bool.{cases_eq}
-use Rattle.kl1_codes_modules.specs.Numbered.{ArePlaced}
-use Rattle.kl1_codes_modules.proofs.Placing.{placed_still}
+use Rattle.kl1_codes.specs.Numbered.{ArePlaced}
+use Rattle.kl1_codes.proofs.Placing.{placed_still}
 use Rattle.kl1_journal.specs.Keeping.{Held, nobody}
 use Rattle.kl1_world.specs.Seating.{AreSeated}
 use Rattle.kl1_world.specs.Worlds.{account_in}

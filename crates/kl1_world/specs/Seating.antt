@@ -1,6 +1,6 @@
 -- Accounts that stand in one table of names, each at its own place.
 use Rattle.std.specs.Prelude.{◌≡◌, ℕ, List, [], slice_get, Some}
-use Rattle.kl1_codes_modules.specs.Numbered.{ArePlaced}
+use Rattle.kl1_codes.specs.Numbered.{ArePlaced}
 use Rattle.kl1_atoms.specs.declared.known.Known.{Known}
 use Rattle.kl1_journal.specs.Keeping.{Held}
 

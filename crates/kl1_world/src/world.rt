@@ -37,7 +37,7 @@ pub struct World<A: AtomSource + Drop, C: CodeSource + Drop> {
 impl<A: AtomSource + Drop, C: CodeSource + Drop> Model for World<A, C> {
     ghost use Rattle.std.specs.Prelude.{List, ℕ, map, ◌<◌, length};
     ghost use Rattle.std.specs.Coded.{codes};
-    ghost use Rattle.kl1_codes_modules.specs.Numbered.{numbered_code};
+    ghost use Rattle.kl1_codes.specs.Numbered.{numbered_code};
     ghost use Rattle.kl1_journal_entries.specs.Codes.{journal_code};
     ghost use Rattle.kl1_journal.specs.Keeping.{Held};
     ghost use Rattle.kl1_world.specs.Seating.{AreSeated};

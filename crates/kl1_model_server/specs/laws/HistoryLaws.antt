@@ -1,10 +1,10 @@
 -- What holds of journals and replays.
-use Rattle.std.specs.Prelude.{◌≡◌, ℕ, List}
+use Rattle.std.specs.Prelude.{◌≡◌, ℕ, suc, List, [], ◌∷◌, ◌++◌}
 use Rattle.kl1_model.specs.declared.rules.Rules.{Rules}
 use Rattle.kl1_model.specs.State.{State}
 use Rattle.kl1_model.specs.Event.{Event, Transition}
 use Rattle.kl1_model.specs.Step.{step}
-use Rattle.kl1_model_server.specs.Journal.{Entry, event_in, replay, Kept, done, fresh_kept}
+use Rattle.kl1_model_server.specs.Journal.{Entry, runs, entry_step, without_last, replay, Kept, done, fresh_kept}
 
 -- an account with another own name and another number of sessions
 abbrev pub beside : List ℕ → ℕ → State → State
@@ -16,13 +16,18 @@ stepped_beside name n x = record { state = beside name n x.state; reply = x.repl
 
 -- what an entry does depends neither on the account's own name nor on the number of its open sessions
 abbrev pub StaysBeside : Type 0
-StaysBeside = (name : List ℕ) (n : ℕ) (s : State) (e : Entry) → step (beside name n s) (event_in e) ≡ stepped_beside name n (step s (event_in e))
+StaysBeside = (name : List ℕ) (n : ℕ) (s : State) (e : Entry) → entry_step (beside name n s) e ≡ stepped_beside name n (entry_step s e)
 
--- an account is the replay of its journal, and has its rules and sessions
+-- the last of entries is a run of this number of reductions, if that is at least 1
+abbrev pub EndsInRun : List Entry → ℕ → Type 0
+EndsInRun es n = (m : ℕ) → n ≡ suc m → without_last es ++ runs n ∷ [] ≡ es
+
+-- an account is the replay of its journal, has its rules and sessions, and counts the reductions of its last run
 pub record IsReplay (k : Kept) : Type 0 where
   pub is : replay k.state.own_name k.journal ≡ k.state
   pub rules : k.journal.rules ≡ k.state.rules
   pub sessions : k.journal.sessions ≡ k.state.sessions
+  pub run : EndsInRun k.journal.entries k.state.run
 
 -- a fresh account is the replay of its journal
 abbrev pub FreshIsReplay : Type 0

@@ -2,11 +2,9 @@
 use Rattle.std.specs.Prelude.{◌≡◌, not, ◌&&◌, Bool, true, ℕ, List, [], ◌∷◌, ◌++◌, length, IsTrue}
 use Rattle.kl1_model.specs.declared.rules.Rules.{Rules}
 use Rattle.kl1_model.specs.State.{State, fresh_with}
-use Rattle.kl1_model.specs.Event.{Event}
-use Rattle.kl1_model.specs.Step.{step}
-use Rattle.kl1_model.specs.laws.TreeLaws.{is_refused}
+use Rattle.kl1_model.specs.Event.{Event, is_refused}
 use Rattle.kl1_model_server.specs.Command.{reply_lines, written_lines}
-use Rattle.kl1_model_server.specs.Journal.{Entry, event_in, Journal, Kept, fresh_kept, done}
+use Rattle.kl1_model_server.specs.Journal.{Entry, entry_step, Journal, Kept, fresh_kept, done}
 use Rattle.kl1_model_server.specs.laws.HistoryLaws.{IsReplay}
 use Rattle.kl1_model_server.specs.laws.TextLaws.{IsWritten, journal_text}
 use Rattle.kl1_model_server.specs.Replay.{replay_name, written_end, replay_output}
@@ -14,12 +12,12 @@ use Rattle.kl1_model_server.specs.Replay.{replay_name, written_end, replay_outpu
 -- whether entries are all accepted, if they are done in order
 abbrev pub are_accepted : State → List Entry → Bool
 are_accepted s [] = true
-are_accepted s (e ∷ es) = not (is_refused (step s (event_in e)).reply) && are_accepted (step s (event_in e)).state es
+are_accepted s (e ∷ es) = not (is_refused (entry_step s e).reply) && are_accepted (entry_step s e).state es
 
 -- what is written for the replies to entries that are done in order
 abbrev pub written_replies : State → List Entry → List ℕ
 written_replies s [] = []
-written_replies s (e ∷ es) = written_lines (reply_lines (step s (event_in e)).reply) ++ written_replies (step s (event_in e)).state es
+written_replies s (e ∷ es) = written_lines (reply_lines (entry_step s e).reply) ++ written_replies (entry_step s e).state es
 
 -- the account from which a journal is replayed
 abbrev pub replayed_from : Journal → State

@@ -11,8 +11,8 @@ use Rattle.kl1_model.specs.Sending.{may_send}
 use Rattle.kl1_model.specs.Opening.{start_line}
 use Rattle.kl1_model.specs.Answering.{answer_line}
 use Rattle.kl1_model_server.specs.Command.{written_lines}
-use Rattle.kl1_model_server.specs.Journal.{Entry, loads, starts, sends, steps, answers, Journal, Kept, fresh_kept, done}
-use Rattle.kl1_model_server.specs.JournalText.{entry_line, name_line, first_line, journal_lines, entry_in, name_in, is_new_name, Heading, heading_in, lines_of, journal_in}
+use Rattle.kl1_model_server.specs.Journal.{Entry, loads, starts, sends, steps, answers, runs, Journal, Kept, fresh_kept, done}
+use Rattle.kl1_model_server.specs.JournalText.{entry_line, name_line, heading_line, journal_lines, entry_in, name_in, is_new_name, Heading, heading_in, lines_of, journal_in}
 
 -- each is a byte
 abbrev pub AreBytes : List ℕ → Type 0
@@ -27,6 +27,7 @@ HasLine (starts allowance low high t) =
 HasLine (sends n m) = IsTrue (may_send n m)
 HasLine (steps goal clause) = (goal < NUMBER_LIMIT) × (clause < NUMBER_LIMIT)
 HasLine (answers n report t) = (n < NUMBER_LIMIT) × (report < NUMBER_LIMIT) × IsTrue (is_goal t) × IsTrue (is_writable t) × IsTrue (is_numbered t) × (length (answer_line n report t) ≤ MOST_LINE_BYTES)
+HasLine (runs n) = (1 ≤ n) × (n < NUMBER_LIMIT)
 
 -- the line of an entry reads back
 abbrev pub EntriesReadBack : Type 0
@@ -46,11 +47,11 @@ StrictLinesAreNames = (line t : List ℕ) → name_in line ≡ Some t → IsTrue
 
 -- the first line of a journal reads back
 abbrev pub HeadingsReadBack : Type 0
-HeadingsReadBack = (rules : Rules) (sessions names : ℕ) → sessions ≤ MOST_SESSIONS → names ≤ MOST_NAMES → heading_in (first_line rules sessions names) ≡ Some (record { rules = rules; sessions = sessions; names = names })
+HeadingsReadBack = (rules : Rules) (sessions names : ℕ) → sessions ≤ MOST_SESSIONS → names ≤ MOST_NAMES → heading_in (heading_line rules sessions names) ≡ Some (record { rules = rules; sessions = sessions; names = names })
 
 -- a line that is read as the first of a journal is the first line of what it says
 abbrev pub StrictLinesAreHeadings : Type 0
-StrictLinesAreHeadings = (line : List ℕ) (h : Heading) → heading_in line ≡ Some h → (h.sessions ≤ MOST_SESSIONS) × (h.names ≤ MOST_NAMES) × (first_line h.rules h.sessions h.names ≡ line)
+StrictLinesAreHeadings = (line : List ℕ) (h : Heading) → heading_in line ≡ Some h → (h.sessions ≤ MOST_SESSIONS) × (h.names ≤ MOST_NAMES) × (heading_line h.rules h.sessions h.names ≡ line)
 
 -- whether bytes have no line feed among them
 abbrev pub is_unbroken : List ℕ → Bool

@@ -1,7 +1,7 @@
 // Changes of shoens.
 
 ghost use Rattle.std.specs.Prelude.{◌≡◌, ◌<◌, ◌≤◌, ◌+◌, ◌&&◌, if◌then◌else◌, min, map, length, get_or, set, option_map, true, OnOk, OnErr, find};
-ghost use Rattle.kl1_model.specs.declared.limits.TheConstants.{MOST_ALLOWANCE};
+ghost use Rattle.kl1_model.specs.Reduction.{grown};
 ghost use Rattle.kl1_model.specs.State.{is_living as living};
 ghost use Rattle.kl1_model.specs.declared.life.Life.TheVariants.{Aborted};
 ghost use Rattle.kl1_shoen.specs.Shoens.{has_number, changed, aborted_below_in, parents_in, AreNumbered, AreLower};
@@ -68,7 +68,7 @@ impl<N: NameValue> ShoenTree<N> {
 
     /// Raises a shoen's allowance by `extra` reductions, up to the greatest there is.
     pub fn allow(&mut self, number: u64, extra: u64) -> Result<(), AllocError>
-        ensures ok { OnOk result (self.new ≡ record self.old { shoens = changed number (λ h. record h { allowance = min (h.allowance + extra) MOST_ALLOWANCE }) self.old.shoens }) }
+        ensures ok { OnOk result (self.new ≡ record self.old { shoens = changed number (λ h. record h { allowance = grown h.allowance extra }) self.old.shoens }) }
         ensures err { OnErr result (self.new ≡ self.old) }
     {
         self.change(number, Change::Allows(extra))

@@ -1,8 +1,7 @@
 // Modules by the numbers of their names, and what is found in them.
 
 use kl1_clause::{Code, Predicate};
-use kl1_codes::{CodeSource, PlainCodes};
-use kl1_codes_modules::{CodedModule, CodedModules, Loaded, Modules};
+use kl1_codes::{CodeSource, CodedModule, CodedModules, Loaded, Modules, PlainCodes};
 use kl1_model::Rules;
 use kl1_tests_rows::Text;
 use kl1_text::CellName;

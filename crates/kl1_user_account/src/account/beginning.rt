@@ -14,8 +14,7 @@ ghost use Rattle.kl1_user_account.specs.Beginning.{begun};
 use crate::account::Account;
 use crate::account_name::AccountName;
 use kl1_atoms::AtomSource;
-use kl1_codes::CodeSource;
-use kl1_codes_modules::Modules;
+use kl1_codes::{CodeSource, Modules};
 use kl1_goals::{GoalTable, Rules};
 use kl1_goals_moves::Trial;
 use kl1_match::Scratch;
@@ -98,6 +97,7 @@ impl<C: CodeSource> Account<C> {
 
     /// An account that keeps to these rules, in which nothing has happened but that it has used these names, and that `sessions`
     /// sessions are open. Its cells are those of a store that holds one variable: the variables of the account are numbered from 1.
+    #[tactic(auto, using(crate::proofs::Begun::begun_kept, crate::proofs::Begun::begun_counts))]
     fn blank(
         alloc: Global,
         name: AccountName,
@@ -123,6 +123,7 @@ impl<C: CodeSource> Account<C> {
             nodes: 0,
             reports: 0,
             entries: 0,
+            run: 0,
             sessions,
             trial: Trial::new(alloc),
             draft: Draft::new(alloc),

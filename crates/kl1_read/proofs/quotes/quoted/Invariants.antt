@@ -2,7 +2,7 @@ use Rattle.std.proofs.Common.{◌≡◌, ◌≤◌, ◌+◌, false, [], length, 
 use Rattle.std.specs.List.{list_all}
 use Rattle.kl1_model.specs.declared.limits.TheConstants.{MOST_NAME_BYTES}
 use Rattle.kl1_model.specs.Text.{is_name_byte}
-use Rattle.kl1_model.specs.Token.{quoted_from}
+use Rattle.kl1_model.specs.code.Fronts.{quoted_from}
 use Rattle.kl1_read.proofs.quotes.quoted.Given as goal
 
 -- what is left, after the text so far, is read as the whole; the text so far is a name

@@ -12,7 +12,7 @@ returns-in-Ok-new-clause-runs g c =
     let new = c.run-ending.new.host in
     let named : c.unwrap-name.result ≡ account_name = search rules in
     let same : new.1 ≡ old.1 = ap (λ (p : List Held × ℕ). p.1) c.run-ending.ensures.beside in
-    world_alone old.0 new.0 old.1 new.1 c.unwrap-name.result (texts_of c.args.work.files.items) c.args.work.goal c.args.work.allowance c.args.work.steps c.args.wanted (seen g.W.Sink.contents g.W.Sink.failures c.args.out.now) (seen g.W.Sink.contents g.W.Sink.failures c.run-ending.new.out) (seen g.E.Sink.contents g.E.Sink.failures c.args.err.now) (seen g.E.Sink.contents g.E.Sink.failures c.run-ending.new.err) (seen_if g.J.Sink.contents g.J.Sink.failures c.args.journal.now) (seen_if g.J.Sink.contents g.J.Sink.failures c.write_journal-told.new.journal) c.run-ending.result c.write_journal-told.result named c.in-Ok-new.ensures.fresh c.in-Ok-new.ensures.at (same ∙ c.in-Ok-new.ensures.at) c.shows_names.ensures.names c.run-ending.ensures.does c.write_journal-told.ensures
+    world_alone c.args.lone.rules old.0 new.0 old.1 new.1 c.unwrap-name.result (texts_of c.args.lone.work.files.items) c.args.lone.work.goal c.args.lone.work.allowance c.args.lone.work.steps c.args.lone.wanted (seen g.W.Sink.contents g.W.Sink.failures c.args.out.now) (seen g.W.Sink.contents g.W.Sink.failures c.run-ending.new.out) (seen g.E.Sink.contents g.E.Sink.failures c.args.err.now) (seen g.E.Sink.contents g.E.Sink.failures c.run-ending.new.err) (seen_if g.J.Sink.contents g.J.Sink.failures c.args.journal.now) (seen_if g.J.Sink.contents g.J.Sink.failures c.write_journal-told.new.journal) c.run-ending.result c.write_journal-told.result named c.in-Ok-new.ensures.fresh c.in-Ok-new.ensures.at (same ∙ c.in-Ok-new.ensures.at) c.shows_names.ensures.names c.run-ending.ensures.does c.write_journal-told.ensures
 
 pub returns-in-Ok-new-clause-follows : goal.returns-in-Ok-new-clause-follows
 returns-in-Ok-new-clause-follows g c =
@@ -20,4 +20,4 @@ returns-in-Ok-new-clause-follows g c =
     let new = c.run-ending.new.host in
     let named : c.unwrap-name.result ≡ account_name = search rules in
     let same : new.1 ≡ old.1 = ap (λ (p : List Held × ℕ). p.1) c.run-ending.ensures.beside in
-    world_followed old.0 new.0 old.1 new.1 c.unwrap-name.result (texts_of c.args.work.files.items) c.args.work.goal c.args.work.allowance c.args.work.steps (g.T.Watch.told c.args.watch.now) (g.T.Watch.told c.run-ending.new.watch) named c.in-Ok-new.ensures.fresh c.in-Ok-new.ensures.at (same ∙ c.in-Ok-new.ensures.at) c.shows_names.ensures.names c.run-ending.ensures.follows
+    world_followed c.args.lone.rules old.0 new.0 old.1 new.1 c.unwrap-name.result (texts_of c.args.lone.work.files.items) c.args.lone.work.goal c.args.lone.work.allowance c.args.lone.work.steps (g.T.Watch.told c.args.watch.now) (g.T.Watch.told c.run-ending.new.watch) named c.in-Ok-new.ensures.fresh c.in-Ok-new.ensures.at (same ∙ c.in-Ok-new.ensures.at) c.shows_names.ensures.names c.run-ending.ensures.follows

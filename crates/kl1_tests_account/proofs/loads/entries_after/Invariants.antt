@@ -1,6 +1,6 @@
 use Rattle.std.proofs.Common.{◌≡◌}
 use Rattle.kl1_atoms.specs.Seats.{IsSharedSeat, face_in}
-use Rattle.kl1_codes_modules.specs.Numbered.{ArePlaced}
+use Rattle.kl1_codes.specs.Numbered.{ArePlaced}
 use Rattle.kl1_tests_account.proofs.loads.entries_after.Given as goal
 
 -- the seat is of the table and knows just the account's names, and the codes of its modules stand in the source

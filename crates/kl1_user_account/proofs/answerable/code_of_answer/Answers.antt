@@ -46,12 +46,12 @@ returns-then-not-has_room_to_answer c =
     let names = c.args.names.now.names in
     refused_limit c.args.rules h ss names c.args.counted c.args.number c.args.report c.args.goal.now c.in-Some.origin (ap₂ (λ x y. x && y) (sym c.has_substitutes.ensures ∙ c.if-not-has_substitutes.false) (sym c.in_ok-may_answer.ensures ∙ c.if-not-branch.false)) (sym c.origin_at.ensures ∙ c.in-Some.is) (sym c.lives.ensures ∙ c.if-not-lives.false) (few_code names c.args.goal.now c.in_ok-code.code c.names.result.now false c.names.ensures.value c.in_ok-code.ensures (sym c.are_too_many.ensures ∙ c.if-are_too_many.false)) (room_code c.args.counted c.args.goal.now c.highest.result c.structures_of.result false c.highest.ensures c.structures_of.ensures (sym c.has_room_to_answer.ensures ∙ c.if-not-has_room_to_answer.true))
 
-pub returns-then-counted-ge-MOST_ENTRIES : goal.returns-then-counted-ge-MOST_ENTRIES
-returns-then-counted-ge-MOST_ENTRIES c =
+pub returns-then-is_full : goal.returns-then-is_full
+returns-then-is_full c =
     let h = c.args.store.now.held in
     let ss = c.args.shoens.now.shoens in
     let names = c.args.names.now.names in
-    refused_full c.args.rules h ss names c.args.counted c.args.number c.args.report c.args.goal.now c.in-Some.origin (ap₂ (λ x y. x && y) (sym c.has_substitutes.ensures ∙ c.if-not-has_substitutes.false) (sym c.in_ok-may_answer.ensures ∙ c.if-not-branch.false)) (sym c.origin_at.ensures ∙ c.in-Some.is) (sym c.lives.ensures ∙ c.if-not-lives.false) (few_code names c.args.goal.now c.in_ok-code.code c.names.result.now false c.names.ensures.value c.in_ok-code.ensures (sym c.are_too_many.ensures ∙ c.if-are_too_many.false)) (room_code c.args.counted c.args.goal.now c.highest.result c.structures_of.result true c.highest.ensures c.structures_of.ensures (sym c.has_room_to_answer.ensures ∙ c.if-not-has_room_to_answer.false)) c.if-counted-ge-MOST_ENTRIES.true
+    refused_full c.args.rules h ss names c.args.counted c.args.number c.args.report c.args.goal.now c.in-Some.origin (ap₂ (λ x y. x && y) (sym c.has_substitutes.ensures ∙ c.if-not-has_substitutes.false) (sym c.in_ok-may_answer.ensures ∙ c.if-not-branch.false)) (sym c.origin_at.ensures ∙ c.in-Some.is) (sym c.lives.ensures ∙ c.if-not-lives.false) (few_code names c.args.goal.now c.in_ok-code.code c.names.result.now false c.names.ensures.value c.in_ok-code.ensures (sym c.are_too_many.ensures ∙ c.if-are_too_many.false)) (room_code c.args.counted c.args.goal.now c.highest.result c.structures_of.result true c.highest.ensures c.structures_of.ensures (sym c.has_room_to_answer.ensures ∙ c.if-not-has_room_to_answer.false)) (sym c.is_full.ensures ∙ c.if-is_full.true)
 
 pub unanswered_at-requires-clause-reports : goal.unanswered_at-requires-clause-reports
 unanswered_at-requires-clause-reports c =
@@ -72,11 +72,11 @@ returns-in-None c =
     let h = c.args.store.now.held in
     let ss = c.args.shoens.now.shoens in
     let names = c.args.names.now.names in
-    refused_answered c.args.rules h ss names c.args.counted c.args.number c.args.report c.args.goal.now c.in-Some.origin (ap₂ (λ x y. x && y) (sym c.has_substitutes.ensures ∙ c.if-not-has_substitutes.false) (sym c.in_ok-may_answer.ensures ∙ c.if-not-branch.false)) (sym c.origin_at.ensures ∙ c.in-Some.is) (sym c.lives.ensures ∙ c.if-not-lives.false) (few_code names c.args.goal.now c.in_ok-code.code c.names.result.now false c.names.ensures.value c.in_ok-code.ensures (sym c.are_too_many.ensures ∙ c.if-are_too_many.false)) (room_code c.args.counted c.args.goal.now c.highest.result c.structures_of.result true c.highest.ensures c.structures_of.ensures (sym c.has_room_to_answer.ensures ∙ c.if-not-has_room_to_answer.false)) c.if-counted-ge-MOST_ENTRIES.false (λ f reads. c.unanswered_at.ensures.variable f reads ∙ c.in-None.is)
+    refused_answered c.args.rules h ss names c.args.counted c.args.number c.args.report c.args.goal.now c.in-Some.origin (ap₂ (λ x y. x && y) (sym c.has_substitutes.ensures ∙ c.if-not-has_substitutes.false) (sym c.in_ok-may_answer.ensures ∙ c.if-not-branch.false)) (sym c.origin_at.ensures ∙ c.in-Some.is) (sym c.lives.ensures ∙ c.if-not-lives.false) (few_code names c.args.goal.now c.in_ok-code.code c.names.result.now false c.names.ensures.value c.in_ok-code.ensures (sym c.are_too_many.ensures ∙ c.if-are_too_many.false)) (room_code c.args.counted c.args.goal.now c.highest.result c.structures_of.result true c.highest.ensures c.structures_of.ensures (sym c.has_room_to_answer.ensures ∙ c.if-not-has_room_to_answer.false)) (sym c.is_full.ensures ∙ c.if-is_full.false) (λ f reads. c.unanswered_at.ensures.variable f reads ∙ c.in-None.is)
 
 pub returns-in-Some-unanswered_at : goal.returns-in-Some-unanswered_at
 returns-in-Some-unanswered_at c =
     let h = c.args.store.now.held in
     let ss = c.args.shoens.now.shoens in
     let names = c.args.names.now.names in
-    answerable c.args.rules h ss names c.args.counted c.args.number c.args.report c.args.goal.now c.in-Some.origin c.in_ok-code.code c.in-Some-unanswered_at.variable (ap₂ (λ x y. x && y) (sym c.has_substitutes.ensures ∙ c.if-not-has_substitutes.false) (sym c.in_ok-may_answer.ensures ∙ c.if-not-branch.false)) (sym c.origin_at.ensures ∙ c.in-Some.is) (sym c.lives.ensures ∙ c.if-not-lives.false) (few_code names c.args.goal.now c.in_ok-code.code c.names.result.now false c.names.ensures.value c.in_ok-code.ensures (sym c.are_too_many.ensures ∙ c.if-are_too_many.false)) (room_code c.args.counted c.args.goal.now c.highest.result c.structures_of.result true c.highest.ensures c.structures_of.ensures (sym c.has_room_to_answer.ensures ∙ c.if-not-has_room_to_answer.false)) c.if-counted-ge-MOST_ENTRIES.false c.in_ok-code.ensures (rw c.in-Some-unanswered_at.is at c.unanswered_at.ensures.unbound) (λ f reads. c.unanswered_at.ensures.variable f reads ∙ c.in-Some-unanswered_at.is)
+    answerable c.args.rules h ss names c.args.counted c.args.number c.args.report c.args.goal.now c.in-Some.origin c.in_ok-code.code c.in-Some-unanswered_at.variable (ap₂ (λ x y. x && y) (sym c.has_substitutes.ensures ∙ c.if-not-has_substitutes.false) (sym c.in_ok-may_answer.ensures ∙ c.if-not-branch.false)) (sym c.origin_at.ensures ∙ c.in-Some.is) (sym c.lives.ensures ∙ c.if-not-lives.false) (few_code names c.args.goal.now c.in_ok-code.code c.names.result.now false c.names.ensures.value c.in_ok-code.ensures (sym c.are_too_many.ensures ∙ c.if-are_too_many.false)) (room_code c.args.counted c.args.goal.now c.highest.result c.structures_of.result true c.highest.ensures c.structures_of.ensures (sym c.has_room_to_answer.ensures ∙ c.if-not-has_room_to_answer.false)) (sym c.is_full.ensures ∙ c.if-is_full.false) c.in_ok-code.ensures (rw c.in-Some-unanswered_at.is at c.unanswered_at.ensures.unbound) (λ f reads. c.unanswered_at.ensures.variable f reads ∙ c.in-Some-unanswered_at.is)

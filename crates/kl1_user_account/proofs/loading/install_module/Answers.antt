@@ -1,7 +1,7 @@
 use Rattle.std.proofs.Common.{◌∙◌, ap}
 use Rattle.std.specs.Prelude.{None}
-use Rattle.kl1_codes_modules.specs.Numbered.{number_of}
-use Rattle.kl1_codes_modules.specs.Finding.{is_numbered}
+use Rattle.kl1_codes.specs.Numbered.{number_of}
+use Rattle.kl1_codes.specs.Finding.{is_numbered}
 use Rattle.kl1_user_effects.specs.declared.draft.Change.{Change}
 use Rattle.kl1_user_account.proofs.Loads.{one_more_change}
 use Rattle.kl1_user_account.proofs.loading.install_module.Goals as goal

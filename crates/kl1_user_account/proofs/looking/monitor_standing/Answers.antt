@@ -1,10 +1,10 @@
-use Rattle.std.proofs.Common.{ℕ, List, sym, ap}
+use Rattle.std.proofs.Common.{ℕ, sym, ap}
 use Rattle.std.specs.Prelude.{Option, option_map}
 use Rattle.std.proofs.lemmas.Result.{IfOk-weaker}
 use Rattle.kl1_text.specs.declared.cell_name.CellName.{CellName}
 use Rattle.kl1_goals.specs.declared.task.Task.TheVariants.{Monitor}
 use Rattle.kl1_shoen_paths.specs.declared.shoen.Shoen.{Shoen}
-use Rattle.kl1_codes_modules.specs.Shelves.{Program}
+use Rattle.kl1_codes.specs.Shelves.{Program}
 use Rattle.kl1_user_effects.specs.declared.draft.Change.{Change}
 use Rattle.kl1_user_account.specs.Looking.{HearsAt, StandsAt}
 use Rattle.kl1_user_account.proofs.SettledStays.{control_in}

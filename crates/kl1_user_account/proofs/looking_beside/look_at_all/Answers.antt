@@ -1,9 +1,9 @@
-use Rattle.std.proofs.Common.{◌++◌, ◌∷◌, [], sym, subst, ◌∙◌}
+use Rattle.std.proofs.Common.{sym, subst, ◌∙◌}
 use Rattle.kl1_text.specs.declared.cell_name.CellName.{CellName}
 use Rattle.kl1_store.specs.Held.{Held}
 use Rattle.kl1_goals.specs.Lists.{is_after}
 use Rattle.kl1_user_effects.specs.Kept.{IsTaskIn}
-use Rattle.kl1_codes_modules.specs.Shelves.{with_last}
+use Rattle.kl1_codes.specs.Shelves.{with_last}
 use Rattle.kl1_user_account.proofs.Told.{task_in}
 use Rattle.kl1_user_account.proofs.Reached.{next_looks, all_looked}
 use Rattle.kl1_user_account.proofs.looking_beside.look_at_all.Goals as goal

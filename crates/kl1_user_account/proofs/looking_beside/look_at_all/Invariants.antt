@@ -1,6 +1,6 @@
 -- the goals up to a number were looked at
-use Rattle.std.proofs.Common.{◌-◌, ◌++◌, ◌∷◌, []}
-use Rattle.kl1_codes_modules.specs.Shelves.{with_last}
+use Rattle.std.proofs.Common.{◌-◌}
+use Rattle.kl1_codes.specs.Shelves.{with_last}
 use Rattle.kl1_user_account.proofs.Reached.{StillLooks}
 use Rattle.kl1_user_account.proofs.looking_beside.look_at_all.Given as goal
 

@@ -1,8 +1,7 @@
-use Rattle.std.proofs.Common.{◌++◌, ◌∷◌, []}
 use Rattle.std.proofs.lemmas.Result.{on_ok_weaker}
 use Rattle.kl1_goals.specs.Lists.{has_number}
 use Rattle.kl1_store_hooks.proofs.Hooked.{grown_among}
-use Rattle.kl1_codes_modules.specs.Shelves.{with_last}
+use Rattle.kl1_codes.specs.Shelves.{with_last}
 use Rattle.kl1_user_account.proofs.Told.{task_in}
 use Rattle.kl1_user_account.proofs.Reached.{looks_at_zero, looks_at_none}
 use Rattle.kl1_user_account.proofs.looking_beside.look_at_first.Goals as goal

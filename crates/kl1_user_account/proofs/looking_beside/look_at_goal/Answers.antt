@@ -1,5 +1,4 @@
-use Rattle.std.proofs.Common.{◌++◌, ◌∷◌, []}
-use Rattle.kl1_codes_modules.specs.Shelves.{with_last}
+use Rattle.kl1_codes.specs.Shelves.{with_last}
 use Rattle.kl1_user_account.proofs.Looks.{finds_out}
 use Rattle.kl1_user_account.proofs.looking_beside.look_at_goal.Goals as goal
 

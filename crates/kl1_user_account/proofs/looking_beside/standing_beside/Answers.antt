@@ -1,11 +1,11 @@
-use Rattle.std.proofs.Common.{ℕ, List, ◌++◌, ◌∷◌, []}
+use Rattle.std.proofs.Common.{ℕ, List}
 use Rattle.std.specs.Prelude.{Option}
 use Rattle.std.proofs.lemmas.Result.{IfOk-weaker}
 use Rattle.kl1_text.specs.declared.cell_name.CellName.{CellName}
 use Rattle.kl1_goals.specs.declared.task.Task.TheVariants.{Reduces}
 use Rattle.kl1_shoen_paths.specs.declared.shoen.Shoen.{Shoen}
 use Rattle.kl1_user_effects.specs.declared.draft.Change.{Change}
-use Rattle.kl1_codes_modules.specs.Shelves.{with_last}
+use Rattle.kl1_codes.specs.Shelves.{with_last}
 use Rattle.kl1_user_account.specs.Looking.{StandsBy, StandsAt}
 use Rattle.kl1_user_account.proofs.Looks.{stands_at}
 use Rattle.kl1_user_account.proofs.looking_beside.standing_beside.Goals as goal

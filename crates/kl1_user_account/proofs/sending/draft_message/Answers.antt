@@ -15,4 +15,4 @@ returns-clause-ok g c =
     let w = c.in_ok-wake_bound.ensures in
     is_sent c.args.modules.now c.args.rules c.mark-mark.result c.args.store.now c.put_message.new.store c.wake_bound.new.store c.args.goals.now.goals c.args.shoens.now c.put_message.new.shoens c.args.variables c.args.nodes c.args.entries c.args.number c.args.last_goal c.args.reports c.args.message c.in-Ok.origin c.begin_draft.new.draft c.put_message.new.draft c.wake_bound.new.draft
     c.mark-mark.ensures.point c.mark-mark.ensures.formed c.requires.some c.requires.goals c.requires.order c.requires.first c.requires.shoens
-    c.in-Ok.ensures c.begin_draft.ensures p.puts p.shoens p.alike p.work p.rest p.grown p.hooks w.wakes w.rest w.held
+    (rw c.limits.ensures.value at c.in-Ok.ensures) c.begin_draft.ensures p.puts p.shoens p.alike p.work p.rest p.grown p.hooks w.wakes w.rest w.held

@@ -1,7 +1,10 @@
-use Rattle.std.proofs.Common.{◌≡◌, ℕ, suc, length, sym, ap, ◌∙◌, arith, subst}
+use Rattle.std.proofs.Common.{◌≡◌, ℕ, suc, ◌&&◌, length, sym, ap, ◌∙◌, arith, subst}
+use Rattle.std.specs.Prelude.{nat_lt}
 use Rattle.std.proofs.lemmas.Result.{on_ok_weaker}
+use Rattle.kl1_model.specs.declared.limits.Limits.{Limits}
 use Rattle.kl1_model.specs.Opening.{open_shoen}
 use Rattle.kl1_model.specs.code.Steps.{clipped}
+use Rattle.kl1_shoen.specs.Shoens.{path_in}
 use Rattle.kl1_user_effects.specs.Account.{meaning, shoen_with}
 use Rattle.kl1_user_effects.specs.Drafts.{DraftsAll}
 use Rattle.kl1_user_effects.proofs.TreesIn.{never_absent}
@@ -15,7 +18,7 @@ use Rattle.kl1_user_effects.proofs.children.open_child.Goals as goal
 pub returns-then-not-may_open-clause-ok : goal.returns-then-not-may_open-clause-ok
 returns-then-not-may_open-clause-ok c =
     on_ok_weaker c.raise.result
-    (λ raised. drafts_full c.args.structure c.args.goal c.args.cell c.args.store.now.held c.raise.new.store.held c.args.shoens.now c.raise.new.shoens c.args.draft.now c.raise.new.draft (sym c.may_open.ensures ∙ c.if-not-may_open.true) raised)
+    (λ raised. drafts_full c.args.structure c.args.goal c.args.cell c.args.store.now.held c.raise.new.store.held c.args.shoens.now c.raise.new.shoens c.args.draft.now c.raise.new.draft (ap (λ (l : Limits). nat_lt (length c.args.shoens.now.shoens) l.shoens && nat_lt (length (path_in c.args.shoens.now.shoens c.args.goal.shoen)) l.depth) (sym c.limits.ensures.value) ∙ sym c.may_open.ensures ∙ c.if-not-may_open.true) raised)
     c.raise.ensures.ok
 
 pub unreachable-requires : goal.unreachable-requires
@@ -37,7 +40,7 @@ returns-clause-ok c =
     let number : c.in_ok-number.number ≡ suc (length t.shoens) = omega (arith, c.in_ok-number.ensures, c.len.ensures.value) in
     let P : ℕ → Type 0 = λ n. DraftsAll (λ f. open_shoen (shoen_with (meaning f h) (record (child_of t.shoens c.args.goal o allowance low high) { number = n })) (meaning f h o.goal)) h c.open_shoen.new.store.held t c.open_shoen.new.shoens d c.open_shoen.new.draft in
     on_ok_weaker c.open_shoen.result
-    (λ opened. drafts_child c.args.structure c.args.goal c.args.cell h c.open_shoen.new.store.held t c.open_shoen.new.shoens d c.open_shoen.new.draft parent o allowance low high (sym c.may_open.ensures ∙ c.if-not-may_open.false) (sym c.lend.ensures.value ∙ (sym c.copied.ensures ∙ c.in-Some.is))
+    (λ opened. drafts_child c.args.structure c.args.goal c.args.cell h c.open_shoen.new.store.held t c.open_shoen.new.shoens d c.open_shoen.new.draft parent o allowance low high (ap (λ (l : Limits). nat_lt (length t.shoens) l.shoens && nat_lt (length (path_in t.shoens c.args.goal.shoen)) l.depth) (sym c.limits.ensures.value) ∙ sym c.may_open.ensures ∙ c.if-not-may_open.false) (sym c.lend.ensures.value ∙ (sym c.copied.ensures ∙ c.in-Some.is))
     (λ f. c.number_at.ensures f) (λ f. c.clipped_in.ensures ∙ ap (clipped parent.low parent.high) (c.number_at-2.ensures f)) (λ f. c.clipped_in-2.ensures ∙ ap (clipped parent.low parent.high) (c.number_at-3.ensures f))
     (λ p order. one_order h c.args.structure p o c.order_at-order.ensures.order order) (subst P number opened))
     c.open_shoen.ensures.ok

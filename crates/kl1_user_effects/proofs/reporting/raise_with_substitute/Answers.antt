@@ -1,4 +1,4 @@
-use Rattle.std.proofs.Common.{◌≡◌, ℕ, Bool, length, refl, sym, ◌∙◌, subst}
+use Rattle.std.proofs.Common.{ℕ, Bool, length, refl, sym, ◌∙◌, subst}
 use Rattle.kl1_model.specs.Text.{text_of}
 use Rattle.kl1_model.specs.Reduction.{raised}
 use Rattle.kl1_text.specs.declared.cell_name.CellName.{CellName}

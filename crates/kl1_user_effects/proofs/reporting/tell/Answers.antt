@@ -31,7 +31,7 @@ pub returns-in_ok-break_stream-in-Broken-clause-ok : goal.returns-in_ok-break_st
 returns-in_ok-break_stream-in-Broken-clause-ok c =
     let is = c.in_ok-break_stream-in-Broken.ensures.ok in
     drafts_broken c.args.store.now.held c.append_report.new.store.held c.args.shoens.now c.break_stream.new.self c.args.draft.now c.args.number c.in-Some.shoen c.args.message c.in_ok-append_report.ensures.grown (sym c.lend.ensures.value ∙ (sym c.copied.ensures ∙ c.in-Some.is))
-    (rw c.in-Broken.is at c.in_ok-append_report.ensures.told) (ap (λ (x : Tree CellName). x.shoens) is) (ap (λ (x : Tree CellName). x.work) is)
+    (rw c.limits.ensures.value at (rw c.in-Broken.is at c.in_ok-append_report.ensures.told)) (ap (λ (x : Tree CellName). x.shoens) is) (ap (λ (x : Tree CellName). x.work) is)
 
 pub returns-in_ok-break_stream-in-Broken-clause-shoens : goal.returns-in_ok-break_stream-in-Broken-clause-shoens
 returns-in_ok-break_stream-in-Broken-clause-shoens c =
@@ -47,7 +47,7 @@ returns-in_ok-set_tail-in-Sent-clause-ok c =
     let one : suc d.reports ≡ d.reports + 1 = omega arith in
     subst P one
     (drafts_sent h k c.args.shoens.now c.set_tail.new.self d c.args.number c.in-Sent.next c.in-Some.shoen c.args.message c.in_ok-append_report.ensures.grown (sym c.lend.ensures.value ∙ (sym c.copied.ensures ∙ c.in-Some.is))
-    (rw c.in-Sent.is at c.in_ok-append_report.ensures.told) (ap (λ (x : Tree CellName). x.shoens) is) (ap (λ (x : Tree CellName). x.work) is))
+    (rw c.limits.ensures.value at (rw c.in-Sent.is at c.in_ok-append_report.ensures.told)) (ap (λ (x : Tree CellName). x.shoens) is) (ap (λ (x : Tree CellName). x.work) is))
 
 pub returns-in_ok-set_tail-in-Sent-clause-shoens : goal.returns-in_ok-set_tail-in-Sent-clause-shoens
 returns-in_ok-set_tail-in-Sent-clause-shoens c =
@@ -104,12 +104,12 @@ returns-in-Dropped-clause-told c =
 pub returns-in_ok-break_stream-in-Broken-clause-told : goal.returns-in_ok-break_stream-in-Broken-clause-told
 returns-in_ok-break_stream-in-Broken-clause-told c =
     told_broken c.args.store.now.held c.append_report.new.store.held c.args.shoens.now.shoens c.args.draft.now c.args.number c.args.message c.in-Some.shoen (sym c.lend.ensures.value ∙ (sym c.copied.ensures ∙ c.in-Some.is))
-    (rw c.in-Broken.is at c.in_ok-append_report.ensures.told)
+    (rw c.limits.ensures.value at (rw c.in-Broken.is at c.in_ok-append_report.ensures.told))
 
 pub returns-in_ok-set_tail-in-Sent-clause-told : goal.returns-in_ok-set_tail-in-Sent-clause-told
 returns-in_ok-set_tail-in-Sent-clause-told c =
     told_sent c.args.store.now.held c.append_report.new.store.held c.args.shoens.now.shoens c.args.draft.now c.args.number c.in-Sent.next c.args.message c.in-Some.shoen (sym c.lend.ensures.value ∙ (sym c.copied.ensures ∙ c.in-Some.is))
-    (rw c.in-Sent.is at c.in_ok-append_report.ensures.told)
+    (rw c.limits.ensures.value at (rw c.in-Sent.is at c.in_ok-append_report.ensures.told))
 
 pub returns-in_default-clause-dropped : goal.returns-in_default-clause-dropped
 returns-in_default-clause-dropped c = λ e. dropped_unheard c.args.shoens.now c.args.draft.now c.args.number (sym c.lend.ensures.value ∙ (sym c.copied.ensures ∙ c.in_default.is))

@@ -1,5 +1,5 @@
 use Rattle.std.proofs.Common.{◌≡◌, if◌then◌else◌, ap, sym, ◌∙◌, subst}
-use Rattle.kl1_model.specs.laws.TreeLaws.{is_refused}
+use Rattle.kl1_model.specs.Event.{is_refused}
 use Rattle.kl1_model_server.specs.Journal.{Journal, done}
 use Rattle.kl1_atoms.specs.Names.{AreNames}
 use Rattle.kl1_user.specs.Accounts.{Reading, Fits}
@@ -7,7 +7,7 @@ use Rattle.kl1_user.specs.Accounts.{Account}
 use Rattle.kl1_user_events.specs.Views.{event_of, reply_of}
 use Rattle.kl1_journal.specs.Changes.{IsChange, SessionsFit, changed}
 use Rattle.kl1_journal.specs.Keeping.{kept_of}
-use Rattle.kl1_user.specs.Readings.{fits_before, grows_as}
+use Rattle.kl1_user.specs.Readings.{reading_of, fits_before, grows_as}
 use Rattle.kl1_journal.proofs.Keeps.{done_change, kept_change, fits_change}
 use Rattle.kl1_journal.proofs.journaled_account.JournaledAccount.apply.Goals as goal
 
@@ -36,7 +36,7 @@ invariant_of-self-2 g c =
     let before : (f : Reading) → Fits new.names f → Fits old.names f = λ f fits. fits_before old.names new.names f (grows_as (g.A.AtomSource.knows c.self.inside.seat) (g.A.AtomSource.knows c.apply.new.seat) old.names new.names c.self.invariant.0 c.apply.ensures.knows c.apply.ensures.keeps.grows) fits in
     let names = subst AreNames c.apply.ensures.knows (g.met.A.AtomSource.one_to_one c.apply.new.names c.apply.new.seat c.apply.ensures.keeps.of) in
     let h = subst (λ ns. IsChange ns j e d) c.name_texts.ensures c.in_ok-change.ensures.change in
-    let k_is : k ≡ (if is_refused r then j else changed j d r) = c.note.ensures ∙ ap (λ (i : Journal). if is_refused r then i else changed i d r) c.prepare.ensures.same in
+    let k_is : k ≡ (if is_refused r then j else changed j d new.run r) = c.note.ensures ∙ ap (λ (i : Journal). if is_refused r then i else changed i d c.run.result r) c.prepare.ensures.same ∙ ap (λ n. if is_refused r then j else changed j d n r) (c.run.ensures (reading_of new.names)) in
     (c.apply.ensures.knows, kept_change old new j k e r d c.self.invariant.1 names c.in_ok-reply.ensures.step before h k_is, names)
 
 pub returns-clause-step : goal.returns-clause-step
@@ -50,7 +50,7 @@ returns-clause-step g c = λ f fits.
     let d = c.in_ok-change.change in
     let fits_old = fits_before old.names new.names f (grows_as (g.A.AtomSource.knows c.self.inside.seat) (g.A.AtomSource.knows c.apply.new.seat) old.names new.names c.self.invariant.0 c.apply.ensures.knows c.apply.ensures.keeps.grows) fits in
     let h = subst (λ ns. IsChange ns j e d) c.name_texts.ensures c.in_ok-change.ensures.change in
-    let k_is : k ≡ (if is_refused r then j else changed j d r) = c.note.ensures ∙ ap (λ (i : Journal). if is_refused r then i else changed i d r) c.prepare.ensures.same in
+    let k_is : k ≡ (if is_refused r then j else changed j d new.run r) = c.note.ensures ∙ ap (λ (i : Journal). if is_refused r then i else changed i d c.run.result r) c.prepare.ensures.same ∙ ap (λ n. if is_refused r then j else changed j d n r) (c.run.ensures (reading_of new.names)) in
     subst (λ (p : Account × Journal). done (kept_of f p) e ≡ record { kept = kept_of f (new, k); reply = r }) (ap (λ x. x.1) c.self.view_is)
     (done_change f old new j k e r d (c.self.invariant.1.replay f fits_old) (c.in_ok-reply.ensures.step f fits) h k_is)
 

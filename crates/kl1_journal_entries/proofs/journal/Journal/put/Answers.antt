@@ -1,5 +1,5 @@
 use Rattle.std.proofs.Common.{◌≡◌, ap, ap₂, sym, subst, ◌∙◌, List, Option, length, map, arith}
-use Rattle.kl1_model_server.specs.Journal.{Entry, Journal, with_entry}
+use Rattle.kl1_model_server.specs.Journal.{Entry, Journal, entered}
 use Rattle.kl1_journal_entries.specs.declared.packed_entry.PackedEntry.{PackedEntry}
 use Rattle.kl1_journal_entries.specs.declared.long_entry.LongEntry.{LongEntry}
 use Rattle.kl1_journal_entries.specs.declared.pending_entry.EntryForm.{EntryForm}
@@ -28,6 +28,6 @@ returns-in-Long c =
     let place : c.len-place.result ≡ length ws = (let o = c.self.inside.wholes.ok in let e = c.len-place.ensures in omega (arith, o, e)) in
     ap₂ (λ (xs : List LongEntry) (ys : List PackedEntry). J (map (entry_at xs) ys)) c.push_reserved-in-Long.ensures.items c.push_reserved-in-Long-2.ensures.items
     ∙ ap J (row_more ws c.in-Long.whole ss _ c.self.invariant.places place)
-    ∙ ap (λ (r : Rows). with_entry r.journal (entry_of_whole c.in-Long.whole)) c.self.view_is
+    ∙ ap (λ (r : Rows). entered r.journal (entry_of_whole c.in-Long.whole)) c.self.view_is
     ∙ ap (λ (f : EntryForm). with_prepared c.args.self.now.journal (entry_in f)) (sym c.in-Long.is)
     ∙ ap (λ (o : Option Entry). with_prepared c.args.self.now.journal o) c.prepared.view_is

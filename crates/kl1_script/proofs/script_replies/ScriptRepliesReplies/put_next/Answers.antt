@@ -1,4 +1,4 @@
-use Rattle.std.proofs.Common.{true, false, [], refl}
+use Rattle.std.proofs.Common.{true, false, refl}
 use Rattle.kl1_model.specs.Record.{Record}
 use Rattle.kl1_lines.specs.Records.{request_of}
 use Rattle.kl1_script.proofs.RecordReplies.{record_put, record_end}

@@ -1,8 +1,8 @@
 use Rattle.std.proofs.Common.{sym, ap, ◌∙◌}
-use Rattle.kl1_codes_modules.specs.Finding.{is_numbered}
-use Rattle.kl1_codes_modules.specs.Numbered.{Numbered, number_of}
-use Rattle.kl1_codes_modules.specs.Shelves.{Program}
-use Rattle.kl1_codes_modules.proofs.Placing.{placed_anywhere}
+use Rattle.kl1_codes.specs.Finding.{is_numbered}
+use Rattle.kl1_codes.specs.Numbered.{Numbered, number_of}
+use Rattle.kl1_codes.specs.Shelves.{Program}
+use Rattle.kl1_codes.proofs.Placing.{placed_anywhere}
 use Rattle.kl1_tests_goals.proofs.beside.modules.put_beside.Goals as goal
 
 pub over-coded-requires : goal.over-coded-requires

@@ -10,6 +10,7 @@ use Rattle.kl1_user_effects.specs.Account.{Account, state_of}
 use Rattle.kl1_user_account.specs.Accounts.{kept_in}
 use Rattle.kl1_user_account.specs.Starting.{HasNames}
 use Rattle.kl1_user_account.specs.Exchanging.{held_exchanged, AreSpared}
+use Rattle.kl1_user_account.proofs.ReducePut.{counts_entry, counts_as, few_more, low_limits}
 use Rattle.kl1_user_account.proofs.AnswerSteps.{right_goal, right_numbered, refused_by, answerable_by, few_published}
 use Rattle.kl1_user_account.proofs.Exchanges.{spared_count}
 use Rattle.kl1_user_account.proofs.AnswerKept.{is_put, draft_leaves, draft_fits, answer_kept, answer_step, refused_answer, variables_within, nodes_within}
@@ -31,7 +32,8 @@ overflow_add-self-inside g c =
     let within = variables_within c.counted-counted.result (highest c.args.goal.now) (structures_of c.args.goal.now) may.keeps in
     let top = c.highest.ensures in
     let same : u.variables ≡ c.counted-counted.result.variables = (at (λ x. [])).variables_are in
-    omega (arith, within, top, same)
+    let low = (low_limits u.rules c.counted-counted.result.most (sym (at (λ x. [])).most_are)).variables in
+    omega (arith, within, top, same, low)
 
 pub overflow_add-self-inside-2 : goal.overflow_add-self-inside-2
 overflow_add-self-inside-2 g c =
@@ -42,25 +44,19 @@ overflow_add-self-inside-2 g c =
     let within = nodes_within c.counted-counted.result (highest c.args.goal.now) (structures_of c.args.goal.now) may.keeps in
     let all = c.structures_of.ensures in
     let same : u.nodes ≡ c.counted-counted.result.nodes = (at (λ x. [])).nodes_are in
-    omega (arith, within, all, same)
+    let low = (low_limits u.rules c.counted-counted.result.most (sym (at (λ x. [])).most_are)).nodes in
+    omega (arith, within, all, same, low)
 
-pub overflow_add-self : goal.overflow_add-self
-overflow_add-self g c =
-    let u = c.self.inside in
-    let a = kept_in u in
-    let at : (f : Reading) → HasNames (state_of f a) a.names c.counted-counted.result = λ f. (let H : Account → Type 0 = λ z. HasNames (state_of f z) z.names c.counted-counted.result in subst H (sym c.self.view_is) (c.counted-counted.ensures f)) in
-    let may = answerable_by u.rules u.store.held u.shoens.shoens u.names.names c.counted-counted.result c.args.number c.args.report c.args.goal.now c.in-Coded.code c.in-Coded.variable c.in_ok-answering.answering c.in-Coded.is c.in_ok-answering.ensures in
-    let room = may.room in
-    let same : u.entries ≡ c.counted-counted.result.entries = (at (λ x. [])).entries_are in
-    omega (arith, room, same)
+pub note_entry-requires : goal.note_entry-requires
+note_entry-requires g c = few_more c.self.inside.rules c.self.inside.entries c.self.invariant.0.most
 
 pub draft_answer-drafted-requires-clause-some : goal.draft_answer-drafted-requires-clause-some
 draft_answer-drafted-requires-clause-some g c =
-    c.self.invariant.some
+    c.self.invariant.0.some
 
 pub draft_answer-drafted-requires-clause-goals : goal.draft_answer-drafted-requires-clause-goals
 draft_answer-drafted-requires-clause-goals g c =
-    c.self.invariant.goals
+    c.self.invariant.0.goals
 
 pub draft_answer-drafted-requires-clause-order : goal.draft_answer-drafted-requires-clause-order
 draft_answer-drafted-requires-clause-order g c =
@@ -68,11 +64,11 @@ draft_answer-drafted-requires-clause-order g c =
 
 pub draft_answer-drafted-requires-clause-first : goal.draft_answer-drafted-requires-clause-first
 draft_answer-drafted-requires-clause-first g c =
-    c.self.invariant.first
+    c.self.invariant.0.first
 
 pub draft_answer-drafted-requires-clause-shoens : goal.draft_answer-drafted-requires-clause-shoens
 draft_answer-drafted-requires-clause-shoens g c =
-    c.self.invariant.shoens
+    c.self.invariant.0.shoens
 
 pub draft_answer-drafted-requires-clause-unbound : goal.draft_answer-drafted-requires-clause-unbound
 draft_answer-drafted-requires-clause-unbound g c =
@@ -139,9 +135,11 @@ invariant_of-self-2 g c =
     let p = is_put a c.args.number c.args.report c.in-Coded.variable c.args.goal.now c.in-Coded.code c.counted-counted.result spares numbers texts known more old new (u.variables + c.highest.result) (u.nodes + c.structures_of.result) c.begin_draft.new.draft d
     refl may (rw c.over.ensures at c.in-Ok.ensures.ok) c.draft_answer-drafted.ensures.grown.held c.names.ensures.value c.names.ensures.names c.draft_answer-drafted.ensures.names c.publish.ensures.texts c.publish.ensures.row c.publish.ensures.fits one c.publish.ensures.small c.begin_draft.ensures c.draft_answer-drafted.ensures.rest vs ns in
     let held = c.exchange.ensures.held ∙ ap₂ (λ (xs ys : List CellName). held_exchanged xs ys new.held) c.as_slice.ensures.value c.as_slice-2.ensures.value in
-    let goals = c.install.ensures.goals ∙ draft_leaves a (u.variables + c.highest.result) (u.nodes + c.structures_of.result) c.begin_draft.new.draft d c.begin_draft.ensures c.draft_answer-drafted.ensures.rest c.self.invariant.first in
-    let entry : u.entries + 1 ≡ suc u.entries = omega arith in
-    answer_kept a u.store.hooks c.exchange.new.store.hooks u.goals.shoens c.install.new.goals.shoens c.args.number c.args.report c.in-Coded.variable c.args.goal.now c.in-Coded.code c.counted-counted.result spares numbers more old new d c.exchange.new.store.held c.install.new.goals.goals d.variables d.nodes (u.entries + 1) c.self.invariant p at refl held goals refl refl entry c.exchange.ensures.hooks c.install.ensures.count
+    let goals = c.install.ensures.goals ∙ draft_leaves a (u.variables + c.highest.result) (u.nodes + c.structures_of.result) c.begin_draft.new.draft d c.begin_draft.ensures c.draft_answer-drafted.ensures.rest c.self.invariant.0.first in
+    let w = counts_entry (length u.shoens.work) u.entries u.run c.self.invariant.1 in (
+      answer_kept a u.store.hooks c.exchange.new.store.hooks u.goals.shoens c.install.new.goals.shoens c.args.number c.args.report c.in-Coded.variable c.args.goal.now c.in-Coded.code c.counted-counted.result spares numbers more old new d c.exchange.new.store.held c.install.new.goals.goals d.variables d.nodes c.note_entry.new.entries c.note_entry.new.run c.self.invariant.0 p at refl held goals refl refl c.note_entry.ensures.entries c.note_entry.ensures.run c.exchange.ensures.hooks c.install.ensures.count,
+      counts_as (length u.shoens.work) (suc u.entries) c.note_entry.new.entries 0 c.note_entry.new.run c.note_entry.ensures.entries c.note_entry.ensures.run w,
+    )
 
 pub returns-clause-step : goal.returns-clause-step
 returns-clause-step g c =
@@ -163,6 +161,5 @@ returns-clause-step g c =
     let p = is_put a c.args.number c.args.report c.in-Coded.variable c.args.goal.now c.in-Coded.code c.counted-counted.result spares numbers texts known more old new (u.variables + c.highest.result) (u.nodes + c.structures_of.result) c.begin_draft.new.draft d
     refl may (rw c.over.ensures at c.in-Ok.ensures.ok) c.draft_answer-drafted.ensures.grown.held c.names.ensures.value c.names.ensures.names c.draft_answer-drafted.ensures.names c.publish.ensures.texts c.publish.ensures.row c.publish.ensures.fits one c.publish.ensures.small c.begin_draft.ensures c.draft_answer-drafted.ensures.rest vs ns in
     let held = c.exchange.ensures.held ∙ ap₂ (λ (xs ys : List CellName). held_exchanged xs ys new.held) c.as_slice.ensures.value c.as_slice-2.ensures.value in
-    let goals = c.install.ensures.goals ∙ draft_leaves a (u.variables + c.highest.result) (u.nodes + c.structures_of.result) c.begin_draft.new.draft d c.begin_draft.ensures c.draft_answer-drafted.ensures.rest c.self.invariant.first in
-    let entry : u.entries + 1 ≡ suc u.entries = omega arith in
-    answer_step a c.args.self.now u.store.hooks u.goals.shoens c.args.number c.args.report c.in-Coded.variable c.args.goal.now c.in-Coded.code c.counted-counted.result spares numbers more old new d c.exchange.new.store.held c.install.new.goals.goals d.variables d.nodes (u.entries + 1) c.self.view_is c.self.invariant p at held goals refl refl entry
+    let goals = c.install.ensures.goals ∙ draft_leaves a (u.variables + c.highest.result) (u.nodes + c.structures_of.result) c.begin_draft.new.draft d c.begin_draft.ensures c.draft_answer-drafted.ensures.rest c.self.invariant.0.first in
+    answer_step a c.args.self.now u.store.hooks u.goals.shoens c.args.number c.args.report c.in-Coded.variable c.args.goal.now c.in-Coded.code c.counted-counted.result spares numbers more old new d c.exchange.new.store.held c.install.new.goals.goals d.variables d.nodes c.note_entry.new.entries c.note_entry.new.run c.self.view_is c.self.invariant.0 p at held goals refl refl c.note_entry.ensures.entries c.note_entry.ensures.run

@@ -5,8 +5,8 @@ use Rattle.kl1_model.specs.Event.{read, modules as modules_query}
 use Rattle.kl1_model.specs.Step.{step}
 use Rattle.kl1_user_events.specs.declared.reply.Reply.{Reply}
 use Rattle.kl1_user_events.specs.Views.{reply_of}
-use Rattle.kl1_codes_modules.specs.Finding.{contents}
-use Rattle.kl1_codes_modules.specs.Shelves.{Program}
+use Rattle.kl1_codes.specs.Finding.{contents}
+use Rattle.kl1_codes.specs.Shelves.{Program}
 use Rattle.kl1_user_effects.specs.Fitting.{Reading, Fits}
 use Rattle.kl1_user_effects.specs.Account.{Account, state_of}
 use Rattle.kl1_user_account.proofs.account.Account.modules.Goals as goal

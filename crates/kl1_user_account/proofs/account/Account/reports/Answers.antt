@@ -13,4 +13,4 @@ reports_of-requires-clause-named g c =
     λ f k a b.
     let F : List Known → Type 0 = λ ks. Fits ks f in
     let K : List Known → Type 0 = λ ks. Fits ks k in
-    ap (λ (s : State). s.shoens) (c.self.invariant.named f k (subst F names a) (subst K names b))
+    ap (λ (s : State). s.shoens) (c.self.invariant.0.named f k (subst F names a) (subst K names b))

@@ -12,7 +12,7 @@ pub print_cell-requires-clause-cell : goal.print_cell-requires-clause-cell
 print_cell-requires-clause-cell g c =
     let u = c.self.inside in
     let e : kept_at c.args.number u.shoens.shoens ≡ Some c.in-Some.origin = sym c.origin_at.ensures ∙ c.in-Some.is in
-    (origin_in u.store.held c.args.number u.shoens.shoens c.in-Some.origin c.self.invariant.shoens e).goal
+    (origin_in u.store.held c.args.number u.shoens.shoens c.in-Some.origin c.self.invariant.0.shoens e).goal
 
 pub print_cell-requires-clause-named : goal.print_cell-requires-clause-named
 print_cell-requires-clause-named g c =
@@ -22,7 +22,7 @@ print_cell-requires-clause-named g c =
     λ f k a b.
     let F : List Known → Type 0 = λ ks. Fits ks f in
     let K : List Known → Type 0 = λ ks. Fits ks k in
-    goal_named f k (kept_in u) c.args.number c.in-Some.origin e (c.self.invariant.named f k (subst F names a) (subst K names b))
+    goal_named f k (kept_in u) c.args.number c.in-Some.origin e (c.self.invariant.0.named f k (subst F names a) (subst K names b))
 
 pub returns-in-None-clause-whole : goal.returns-in-None-clause-whole
 returns-in-None-clause-whole g c =

@@ -1,7 +1,7 @@
 use Rattle.std.proofs.Common.{◌≡◌, ◌<◌, ◌+◌, [], ◌∷◌, ap, sym, ◌∙◌, subst, length, get_or, arith}
 use Rattle.std.specs.Prelude.{slice_get}
 use Rattle.std.proofs.lemmas.List.{length-append, length-map}
-use Rattle.kl1_codes_modules.specs.Numbered.{ArePlaced}
+use Rattle.kl1_codes.specs.Numbered.{ArePlaced}
 use Rattle.kl1_world.specs.Seating.{AreSeated}
 use Rattle.kl1_world.proofs.Makes.{AreSeatsFrom, seats_left, seats_all, seated_none, seated_more, fresh_none, fresh_next, same_within}
 use Rattle.kl1_world.proofs.world.World.new.Goals as goal

@@ -3,7 +3,7 @@ use Rattle.std.specs.Prelude.{IfOk, slice_set}
 use Rattle.kl1_model.specs.Event as model
 use Rattle.kl1_model_server.specs.Journal.{done}
 use Rattle.kl1_user_events.specs.Views.{reduced_or}
-use Rattle.kl1_codes_modules.specs.Numbered.{ArePlaced}
+use Rattle.kl1_codes.specs.Numbered.{ArePlaced}
 use Rattle.kl1_journal.specs.Keeping.{Reading, Fits}
 use Rattle.kl1_journal.specs.Keeping.{Held, kept_of}
 use Rattle.kl1_world.specs.Worlds.{account_in}

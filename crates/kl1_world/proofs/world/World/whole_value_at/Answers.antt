@@ -1,7 +1,7 @@
 use Rattle.std.proofs.Common.{◌≡◌, List, ap, sym, ◌∙◌, subst, refl}
 use Rattle.std.specs.Prelude.{IfOk, option_map}
 use Rattle.kl1_user_events.specs.Whole.{whole_value}
-use Rattle.kl1_codes_modules.specs.Numbered.{ArePlaced}
+use Rattle.kl1_codes.specs.Numbered.{ArePlaced}
 use Rattle.kl1_journal.specs.Keeping.{Reading, Fits}
 use Rattle.kl1_journal.specs.Keeping.{Held, kept_of}
 use Rattle.kl1_world.proofs.Seated.{accounts_of, as_many, stands, seated_set, changed_at, changed_none}
