@@ -81,11 +81,12 @@ fn command<'a>(alloc: Global) -> Result<Command<'a>, AllocError> {
         .arg(words)
 }
 
-/// The most steps of a task: a script's `run` takes no more than its limit, and a run ends at its allowance.
-fn most_steps(task: Task) -> u64 {
-    match task {
-        Task::Script => MOST_STEPS,
-        Task::Check | Task::Run => MOST_ALLOWANCE,
+/// The most steps of a task. A script's `run` takes no more than its limit, and by the third rules a journal has no more entries; by
+/// the fourth rules a run ends at its allowance.
+fn most_steps(task: Task, rules: Rules) -> u64 {
+    match (task, rules) {
+        (Task::Check | Task::Run, Rules::Four) => MOST_ALLOWANCE,
+        _ => MOST_STEPS,
     }
 }
 
@@ -99,21 +100,22 @@ pub fn asked_in<'a>(alloc: Global, words: &'a [String]) -> Result<Asked<'a>, Err
     } else {
         Task::Run
     };
+    let rules = if matches.get_one::<u64>("rules") == Some(3) {
+        Rules::Three
+    } else {
+        Rules::Four
+    };
     Ok(Asked {
         words: Vec::from_slice(alloc, matches.get_strs("words").unwrap_or(&[]))?,
         task,
         steps: matches
             .get_one::<u64>("steps")
             .unwrap_or(MOST_ALLOWANCE)
-            .min(most_steps(task)),
+            .min(most_steps(task, rules)),
         allowance: matches
             .get_one::<u64>("allowance")
             .unwrap_or(MOST_ALLOWANCE),
-        rules: if matches.get_one::<u64>("rules") == Some(3) {
-            Rules::Three
-        } else {
-            Rules::Four
-        },
+        rules,
         wanted: Wanted {
             reports: matches.get_flag("reports"),
             whole: matches.get_flag("whole"),
