@@ -25,7 +25,7 @@ pub set_rank-requires-2 : goal.set_rank-requires-2
 set_rank-requires-2 c = place_in c.self.inside.bits_rank c.self.inside.bits c.self.inside.tree c.args.place (rw (← c.self.view_is) at c.requires.place)
 
 pub invariant_of-self-2 : goal.invariant_of-self-2
-invariant_of-self-2 c = wide_removed c.self.inside.bits_rank c.self.inside.bits c.remove.new.self c.self.inside.tree c.set_rank-2.new.self c.args.place c.args.rank c.self.invariant c.remove.ensures c.set_rank-2.ensures
+invariant_of-self-2 c = wide_removed c.self.inside.bits_rank c.self.inside.bits c.remove.new.self c.self.inside.tree c.set_rank-2.new.self c.args.place c.args.rank c.self.invariant c.remove.ensures.cleared c.set_rank-2.ensures
 
 pub returns : goal.returns
-returns c = rw (← c.self.view_is) (laid_removed c.self.inside.bits_rank c.self.inside.bits c.remove.new.self c.self.inside.tree c.set_rank-2.new.self c.args.place c.args.rank c.self.invariant (rw (← c.self.view_is) at c.requires.place) c.remove.ensures c.set_rank-2.ensures)
+returns c = rw (← c.self.view_is) (laid_removed c.self.inside.bits_rank c.self.inside.bits c.remove.new.self c.self.inside.tree c.set_rank-2.new.self c.args.place c.args.rank c.self.invariant (rw (← c.self.view_is) at c.requires.place) c.remove.ensures.cleared c.set_rank-2.ensures)
