@@ -1,9 +1,8 @@
 -- A set of places over ranks.
-use Rattle.std.proofs.Common.{◌≡◌, ◌≢◌, ℕ, zero, suc, ◌+◌, ◌-◌, ◌*◌, ◌/◌, ◌%◌, ◌<◌, ◌≤◌, ◌==◌, ◌⊎◌, if◌then◌else◌, List, [], ◌∷◌, ◌++◌, length, get_or, set, take, length-append, refl, sym, ◌∙◌, ap, subst, arith, inl, inr}
+use Rattle.std.proofs.Common.{◌≡◌, ◌≢◌, ℕ, zero, suc, ◌+◌, ◌-◌, ◌*◌, ◌%◌, ◌<◌, ◌≤◌, if◌then◌else◌, List, [], ◌∷◌, ◌++◌, length, get_or, set, take, length-append, refl, sym, ◌∙◌, ap, arith, inl, inr}
 use Rattle.std.proofs.lemmas.List.{set-get_or, get_or-set_same, get_or-set_other, get_or_past, get_or_append_left, get_or-take, length-set, length-take-le}
-use Rattle.std.proofs.Math.Seq.{get_or-append_seam}
 use Rattle.std.proofs.lemmas.Bool.{cases_lt, cases_eq, eq-eqb, ne_eqb}
-use Rattle.kl1_queue.specs.Bits.{bit, bit_of, IsSetAt, IsClearedAt, IsLeast, IsEmpty}
+use Rattle.kl1_queue.specs.Bits.{bit_of, IsSetAt, IsClearedAt, IsLeast, IsEmpty}
 use Rattle.kl1_queue.proofs.Words.{bit_zero}
 use Rattle.kl1_queue.specs.Ranks.{Queued, AreNone, IsFirst}
 use Rattle.kl1_queue.specs.Over.{overlay, IsOver, IsWide}
@@ -159,14 +158,6 @@ grown_ranks rank ws ws' rs o e =
       | inr b ↦ over_clear rank ws' rs j (λ c. b (sym (e j) ∙ c)) ∙ sym (over_clear rank ws rs j b)
     ])
 
--- ---- the first
-
-pub none_first : (rank : ℕ) (ws rs : List ℕ) → IsEmpty ws → AreNone rs → AreNone (overlay rank ws 0 rs)
-none_first rank ws rs e n = λ j. over_clear rank ws rs j (λ f. omega (arith, f, e j)) ∙ n j
-
-pub tree_first : (rank : ℕ) (ws rs : List ℕ) (k : ℕ) → IsEmpty ws → IsFirst rs k → IsFirst (overlay rank ws 0 rs) k
-tree_first rank ws rs k e f = rw (empty_ranks rank ws rs e) f
-
 -- the least of the set goes first where no rank beside it is as great, or only at later places
 pub set_first : (rank : ℕ) (ws rs : List ℕ) (k : ℕ) → IsOver rank ws rs → IsLeast ws k → ((j : ℕ) → get_or rs j 0 ≤ rank) → ((j : ℕ) → j < k → get_or rs j 0 < rank) → IsFirst (overlay rank ws 0 rs) k
 set_first rank ws rs k o l most less = record {
@@ -199,8 +190,6 @@ other_first rank ws rs k t o l f ge tie =
         | inr b ↦ omega (arith, over_clear rank ws rs j b, here, f.least j h)
       ];
     }
-
--- ---- the queue
 
 -- a queue, as contracts see it
 abbrev pub laid : ℕ → List ℕ → Queued → Queued
