@@ -4,7 +4,7 @@ use Rattle.std.proofs.lemmas.List.{set-get_or, get_or-set_same, get_or-set_other
 use Rattle.std.proofs.lemmas.Bool.{cases_lt, cases_eq, eq-eqb, ne_eqb}
 use Rattle.kl1_queue.specs.Bits.{bit_of, IsSetAt, IsClearedAt, IsLeast, IsEmpty}
 use Rattle.kl1_queue.proofs.Words.{bit_zero}
-use Rattle.kl1_queue.specs.Ranks.{Queued, AreNone, IsFirst}
+use Rattle.kl1_queue.specs.Ranks.{Queued, IsFirst}
 use Rattle.kl1_queue.specs.Over.{overlay, IsOver, IsWide}
 
 -- lists with the same elements
