@@ -31,6 +31,7 @@ use crate::runs::{needs_entry, note_entry, note_reduction};
 use crate::sending::draft_message;
 use crate::startable::{Starting, code_of};
 use crate::starting::{next_goals, next_number, place, prepare_start};
+use crate::swaps::Swaps;
 use kl1_atoms::AtomSource;
 use kl1_clause::structures_of;
 use kl1_codes::{CodeSource, CodedModule, CodedModules, Modules};
@@ -464,6 +465,7 @@ impl<C: CodeSource> Account<C> {
             Answering::Refused(refusal) => return Ok(Reply::Refused(refusal)),
             Answering::Coded(code, variable) => (code, variable),
         };
+        let mut swaps = Swaps::with_room(self.alloc, code.names().len())?;
         let mark = self.store.mark();
         // Only for the proof: the goals are in order of number.
         let _ordered = self.goals.shoens();
@@ -507,7 +509,12 @@ impl<C: CodeSource> Account<C> {
             code.names(),
             &mut self.numbers,
         );
-        exchange(&mut self.store, spares.as_slice(), self.numbers.as_slice());
+        exchange(
+            &mut self.store,
+            spares.as_slice(),
+            self.numbers.as_slice(),
+            &mut swaps,
+        );
         install(&mut self.goals, &self.draft, false);
         self.variables = self.draft.variables;
         self.nodes = self.draft.nodes;

@@ -1,8 +1,11 @@
 // Spare numbers that stand for names which are new, and numbers that take their places.
 
 ghost use Rattle.std.specs.Prelude.{◌≡◌, ◌+◌, [], length, IfOk, OnOk};
-ghost use Rattle.kl1_user_account.specs.Exchanging.{IsSpared, AreSpared, held_with_two, held_exchanged};
+ghost use Rattle.kl1_user_account.specs.Exchanging.{IsSpared, AreSpared, held_exchanged};
+ghost use Rattle.kl1_user_account.specs.Swaps.{HasRoomFor};
 
+use crate::exchange::Exchange;
+use crate::swaps::Swaps;
 use kl1_store::Store;
 use kl1_text::{AtomText, CellName};
 use kl1_user_effects::AccountNames;
@@ -43,28 +46,32 @@ fn next_place(place: u32) -> Result<u32, AllocError>
     place.checked_add(1).ok_or(AllocError)
 }
 
-/// Lets two numbers stand for one another wherever they stand in a store, without memory. What hangs on variables stays.
-fn exchange_two(store: &mut Store<CellName>, spare: CellName, number: CellName)
-    ensures held { store.new.held ≡ held_with_two spare number store.old.held }
+/// Lets the spare numbers that stand for names and the numbers that these have got stand for one another wherever they stand in a store,
+/// in one pass and without memory: what was read by a spare number is read by the other then. What hangs on variables stays. There is
+/// room for the swaps.
+pub(crate) fn exchange(
+    store: &mut Store<CellName>,
+    spares: &[CellName],
+    numbers: &[CellName],
+    swaps: &mut Swaps,
+)
+    requires length { length numbers.now ≡ length spares.now }
+    requires room { HasRoomFor (length spares.now) swaps.old }
+    ensures held { store.new.held ≡ held_exchanged spares.now numbers.now store.old.held }
     ensures hooks { store.new.hooks ≡ store.old.hooks }
 {
-    if spare.number == number.number {
+    swaps.fill(spares, numbers);
+    if swaps.row.is_empty() {
         return;
     }
     let mut beginning = store.mark();
     beginning.sizes.structures = 0;
     beginning.sizes.bindings = 0;
-    store.rename(beginning, &[spare, number], &[number, spare]);
-}
-
-/// Lets the spare numbers that stand for names and the numbers that these have got stand for one another wherever they stand in a store,
-/// without memory: what was read by a spare number is read by the other then. What hangs on variables stays.
-pub(crate) fn exchange(store: &mut Store<CellName>, spares: &[CellName], numbers: &[CellName])
-    requires { length numbers.now ≡ length spares.now }
-    ensures held { store.new.held ≡ held_exchanged spares.now numbers.now store.old.held }
-    ensures hooks { store.new.hooks ≡ store.old.hooks }
-{
-    for place in 0..spares.len() {
-        exchange_two(store, spares[place], numbers[place]);
-    }
+    let exchange = Exchange {
+        spares,
+        numbers,
+        row: swaps.row.as_slice(),
+        targets: swaps.targets.as_slice(),
+    };
+    store.rename(beginning, &exchange);
 }

@@ -8,6 +8,7 @@ mod answering;
 mod asking;
 mod completing;
 mod counted;
+mod exchange;
 mod exchanging;
 mod installing;
 mod judging;
@@ -25,6 +26,7 @@ mod runs;
 mod sending;
 mod startable;
 mod starting;
+mod swaps;
 mod top;
 
 pub use account::Account;
