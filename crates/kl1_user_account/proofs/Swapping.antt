@@ -1,20 +1,19 @@
 -- Many numbers that stand for one another, two by two, as one renaming, and the numbers that it can change.
-use Rattle.std.proofs.Common.{◌≡◌, ℕ, zero, suc, ◌+◌, ◌<◌, ◌≤◌, ◌==◌, Bool, true, false, if◌then◌else◌, List, [], ◌∷◌, ◌++◌, length, map, take, get_or, refl, sym, ap, ap₂, ◌∙◌, arith, inl, inr, add-one}
+use Rattle.std.proofs.Common.{◌≡◌, ℕ, zero, suc, ◌+◌, ◌<◌, ◌≤◌, ◌==◌, Bool, true, false, if◌then◌else◌, List, [], ◌∷◌, ◌++◌, length, map, take, get_or, refl, sym, ap, ap₂, ◌∙◌, arith, subst, inl, inr, add-one}
 use Rattle.std.specs.List.{Contains}
-use Rattle.std.specs.List.Sorted.{IsBinarySearchResult}
-use Rattle.std.specs.Ordering.{nat_cmp}
-use Rattle.std.specs.Prelude.{Result, Ok, Err, is_ok}
-use Rattle.std.proofs.lemmas.Bool.{eq-eqb, eqb-true, eqb-false, ne_eqb, cases_lt}
-use Rattle.std.proofs.lemmas.List.{get_or_default, get_or-map}
-use Rattle.std.proofs.lemmas.List.Sorted.{searched}
+use Rattle.std.specs.List.Sorted.{IsPermutation, IsNonDecreasing}
+use Rattle.std.specs.Prelude.{Result, Ok, Err, MatchResult, is_ok}
+use Rattle.std.proofs.lemmas.Bool.{eq-eqb, ne_eqb, cases_lt}
+use Rattle.std.proofs.lemmas.List.{get_or_default}
+use Rattle.std.proofs.lemmas.List.Sorted.{Contains-permutation}
 use Rattle.kl1_text.specs.declared.cell_name.CellName.{CellName}
 use Rattle.kl1_store.specs.declared.cell.Cell.{Cell}
 use Rattle.kl1_store.specs.declared.cell.Cell.TheVariants.{Variable, Integer, Atom, Structure}
 use Rattle.kl1_store.specs.declared.binding.Binding.{Binding}
 use Rattle.kl1_store.specs.Held.{Held, Shape}
 use Rattle.kl1_store.specs.Renames.{cell_renamed, shape_renamed, binding_renamed, held_renamed}
-use Rattle.kl1_user_account.specs.Exchanging.{swapped, swapped_one, swapped_all, touched, held_with_two, held_exchanged}
-use Rattle.kl1_user_account.proofs.Exchanged.{same_name, swap_other}
+use Rattle.kl1_user_account.specs.Exchanging.{swapped, swapped_one, swapped_all, touched, IsRowOf, held_with_two, held_exchanged}
+use Rattle.kl1_user_account.proofs.Exchanged.{swap_other}
 
 -- ---- two renamings are one
 
@@ -156,22 +155,28 @@ untouched (s ∷ ss) (n ∷ ns) c h = by_case (s.number == n.number) h
         ap (swapped_all ss ns) (swap_other s n c (λ e. none (first s.number n.number e)) (λ e. none (second s.number n.number e)))
         ∙ untouched ss ns c (λ t. none (in_rest s.number (n.number ∷ rest) c.number (in_rest n.number rest c.number t)))
 
+-- nor does what isn't in a row of them
+pub not_in_row : (ss ns : List CellName) (row : List ℕ) (c : CellName) → IsRowOf ss ns row → (Contains row c.number → ⊥) → c ≡ swapped_all ss ns c
+not_in_row ss ns row c r none = sym (untouched ss ns c (λ t. none (r.all c.number t)))
+
 -- if no number can change, nothing that is held does
-pub none_exchanged : (ss ns : List CellName) (row : List ℕ) (h : Held CellName) → row ≡ [] → ((n : ℕ) → (Contains row n → ⊥) → Contains (touched ss ns) n → ⊥) → h ≡ held_exchanged ss ns h
-none_exchanged ss ns row h empty others =
-    let absent : (n : ℕ) → Contains row n → ⊥ = λ n t. (let long : length row ≡ 0 = ap length empty in omega (arith, t.1, long)) in
-    sym (as_one ss ns h ∙ held_same (swapped_all ss ns) (λ c. untouched ss ns c (others c.number (absent c.number))) h)
+pub none_exchanged : (ss ns : List CellName) (row : List ℕ) (h : Held CellName) → row ≡ [] → IsRowOf ss ns row → h ≡ held_exchanged ss ns h
+none_exchanged ss ns row h empty r =
+    let absent : (n : ℕ) → Contains row n → ⊥ = λ n t. (let long : length row ≡ 0 = ap (λ (l : List ℕ). length l) empty in omega (arith, t.1, long)) in
+    sym (as_one ss ns h ∙ held_same (swapped_all ss ns) (λ c. sym (not_in_row ss ns row c r (absent c.number))) h)
+
+-- numbers in order, of what they were in
+pub row_sorted : (ss ns : List CellName) (given sorted : List ℕ) → given ≡ touched ss ns → IsPermutation given sorted → IsNonDecreasing sorted → IsRowOf ss ns sorted
+row_sorted ss ns given sorted is moved up =
+    let P : List ℕ → Type 0 = λ l. (n : ℕ) → Contains l n → Contains sorted n in
+    record { rises = λ i j a b. up i j 0 a b; all = subst P is (λ n t. Contains-permutation given sorted n moved t) }
 
 -- ---- a search among them
 
--- what was found becomes what stands at its place
-pub found_becomes : (g : CellName → CellName) (row : List ℕ) (targets : List CellName) (c d : CellName) (i : ℕ) → i < length row → get_or row i 0 ≡ c.number → targets ≡ map (λ n. g (record { number = n })) row → get_or targets i d ≡ g c
-found_becomes g row targets c d i within at is =
-    let of : ℕ → CellName = λ n. g (record { number = n }) in
-    ap (λ (l : List CellName). get_or l i d) is ∙ get_or-map of row i 0 d within ∙ ap of at ∙ ap g (same_name (record { number = c.number }) c refl)
-
--- what wasn't found isn't there
-pub not_found : (xs : List ℕ) (x i : ℕ) → (i ≤ length xs) × (((k : ℕ) → k < i → get_or xs k 0 < x) × ((k : ℕ) → i ≤ k → k < length xs → x < get_or xs k 0)) → Contains xs x → ⊥
-not_found xs x i m c =
+-- a number that wasn't found isn't there
+pub not_found : (xs : List ℕ) (x : ℕ) (r : Result ℕ ℕ) → MatchResult r (λ i. (i < length xs) × (get_or xs i 0 ≡ x)) (λ i. (i ≤ length xs) × ((k : ℕ) → k < i → get_or xs k 0 < x) × ((k : ℕ) → i ≤ k → k < length xs → x < get_or xs k 0)) →
+    is_ok r ≡ false → Contains xs x → ⊥
+not_found xs x (Ok i) m e c = absurd (cc)
+not_found xs x (Err i) m e c =
     let at : get_or xs c.0 0 ≡ x = get_or_default xs c.0 0 x c.1 ∙ c.2 in
-    elim (cases_lt c.0 i) [ inl a ↦ (let low = m.1.0 c.0 a in omega (arith, at, low)) | inr a ↦ (let high = m.1.1 c.0 a c.1 in omega (arith, at, high)) ]
+    elim (cases_lt c.0 i) [ inl a ↦ omega (arith, at, m.1 c.0 a) | inr a ↦ omega (arith, at, m.2 c.0 a c.1) ]

@@ -1,5 +1,5 @@
 -- Numbers and spare numbers that stand for one another.
-use Rattle.std.specs.Prelude.{◌≡◌, ℕ, suc, ◌+◌, ◌<◌, ◌≤◌, ◌==◌, ◌^◌, ◌⊎◌, if◌then◌else◌, List, [], ◌∷◌, length, map, get_or, Some, None}
+use Rattle.std.specs.Prelude.{◌≡◌, ℕ, suc, ◌+◌, ◌<◌, ◌≤◌, ◌==◌, ◌^◌, ◌⊎◌, if◌then◌else◌, List, [], ◌∷◌, length, get_or, Some, None}
 use Rattle.std.specs.List.{Contains}
 use Rattle.kl1_text.specs.declared.cell_name.CellName.{CellName}
 use Rattle.kl1_atoms.specs.declared.known.Known.{Known}
@@ -42,11 +42,10 @@ touched [] ns = []
 touched (s ∷ ss) [] = []
 touched (s ∷ ss) (n ∷ ns) = if s.number == n.number then touched ss ns else s.number ∷ n.number ∷ touched ss ns
 
--- numbers in order, among which all are that these exchanges can change, and what each of them becomes
-pub record AreSwaps (ss ns : List CellName) (row : List ℕ) (targets : List CellName) : Type 0 where
+-- numbers in order, among which all are that these exchanges can change
+pub record IsRowOf (ss ns : List CellName) (row : List ℕ) : Type 0 where
   pub rises : (i j : ℕ) → i ≤ j → j < length row → get_or row i 0 ≤ get_or row j 0
-  pub others : (c : CellName) → (Contains row c.number → ⊥) → swapped_all ss ns c ≡ c
-  pub become : targets ≡ map (λ n. swapped_all ss ns (record { number = n })) row
+  pub all : (n : ℕ) → Contains (touched ss ns) n → Contains row n
 
 -- a reading that reads each of two numbers as the other, if they are two
 abbrev pub read_with_two : CellName → CellName → Reading → Reading

@@ -11,5 +11,4 @@ pub mod Finishing
 pub mod Sending
 pub mod Beginning
 pub mod Exchanging
-pub mod Swaps
 pub mod Answering

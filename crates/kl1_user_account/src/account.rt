@@ -20,7 +20,7 @@ use crate::answerable::{Answering, code_of_answer};
 use crate::answering::draft_answer;
 use crate::asking::{modules_of, reports_of, status_of};
 use crate::counted::Counted;
-use crate::exchanging::exchange;
+use crate::exchanging::{exchange, row_for_pairs};
 use crate::installing::{begin_draft, install};
 use crate::limits::is_number;
 use crate::loading::{Loading, draft_module, install_module, prepare};
@@ -31,7 +31,6 @@ use crate::runs::{needs_entry, note_entry, note_reduction};
 use crate::sending::draft_message;
 use crate::startable::{Starting, code_of};
 use crate::starting::{next_goals, next_number, place, prepare_start};
-use crate::swaps::Swaps;
 use kl1_atoms::AtomSource;
 use kl1_clause::structures_of;
 use kl1_codes::{CodeSource, CodedModule, CodedModules, Modules};
@@ -465,7 +464,7 @@ impl<C: CodeSource> Account<C> {
             Answering::Refused(refusal) => return Ok(Reply::Refused(refusal)),
             Answering::Coded(code, variable) => (code, variable),
         };
-        let mut swaps = Swaps::with_room(self.alloc, code.names().len())?;
+        let mut row = row_for_pairs(self.alloc, code.names().len())?;
         let mark = self.store.mark();
         // Only for the proof: the goals are in order of number.
         let _ordered = self.goals.shoens();
@@ -513,7 +512,7 @@ impl<C: CodeSource> Account<C> {
             &mut self.store,
             spares.as_slice(),
             self.numbers.as_slice(),
-            &mut swaps,
+            &mut row,
         );
         install(&mut self.goals, &self.draft, false);
         self.variables = self.draft.variables;

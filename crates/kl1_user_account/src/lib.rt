@@ -26,7 +26,6 @@ mod runs;
 mod sending;
 mod startable;
 mod starting;
-mod swaps;
 mod top;
 
 pub use account::Account;

@@ -1,6 +1,6 @@
 use Rattle.std.proofs.Common.{◌≡◌, ◌≤◌, ◌*◌, length, take, vec_len, vec_capacity}
 use Rattle.kl1_user_account.specs.Exchanging.{touched}
-use Rattle.kl1_user_account.proofs.swaps.push_touched.Given as goal
+use Rattle.kl1_user_account.proofs.exchanging.fill_row.Given as goal
 
 -- the row has the numbers that the exchanges so far can change
 abbrev pub invariant-loop-place : goal.invariant-loop-place
