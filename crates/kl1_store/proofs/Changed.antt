@@ -1,5 +1,5 @@
 -- Lists of which each element from one on becomes a function of itself, one after another.
-use Rattle.std.proofs.Common.{◌≡◌, ℕ, zero, suc, ◌+◌, ◌<◌, ◌≤◌, List, [], ◌∷◌, length, get_or, set, map, refl, sym, ap, ◌∙◌, arith, add-one}
+use Rattle.std.proofs.Common.{◌≡◌, ℕ, zero, suc, ◌+◌, ◌<◌, ◌≤◌, List, [], ◌∷◌, length, get_or, set, map, refl, ap, ◌∙◌, arith, add-one}
 use Rattle.kl1_store.specs.Renames.{mapped_from}
 
 -- one element more is what it becomes: the rest makes of the list what all made of it

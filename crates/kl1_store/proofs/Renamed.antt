@@ -1,5 +1,5 @@
 -- What is held under other names means what was held, each name read as the other one.
-use Rattle.std.proofs.Common.{◌≡◌, ℕ, List, [], ◌∷◌, ◌++◌, take, drop, map, refl, sym, ap, ap₂, ◌∙◌}
+use Rattle.std.proofs.Common.{◌≡◌, ℕ, List, [], ◌∷◌, ◌++◌, map, refl, ap, ap₂, ◌∙◌}
 use Rattle.kl1_model.specs.Term.{Term, structure, more, Replacement}
 use Rattle.kl1_model.specs.code.Unifying.{replaced}
 use Rattle.kl1_store.specs.declared.cell.Cell.{Cell}
