@@ -10,11 +10,11 @@ use Rattle.kl1_store.specs.declared.mark.Mark.{Mark}
 use Rattle.kl1_store.specs.Held.{Held, Shape, is_bound, found}
 use Rattle.kl1_store.specs.Slots.{AreSlotted, AreOnce}
 use Rattle.kl1_store.specs.Inside.{shapes_in, AreLaid, held_in, IsInside}
-use Rattle.kl1_store.specs.Renames.{Renames, cell_renamed, node_renamed, shape_renamed, binding_renamed, held_renamed, renamed_since, unnamed, IsCellRenamed, IsNodeRenamed, IsBindingRenamed, AreChanged}
+use Rattle.kl1_store.specs.Renames.{cell_renamed, node_renamed, shape_renamed, binding_renamed, held_renamed, mapped_from, renamed_since, unnamed}
 use Rattle.kl1_store.proofs.Meanings.{if_same, if_other}
 use Rattle.kl1_store.proofs.Laid.{count_fits, rest_laid}
-use Rattle.kl1_store.proofs.Changed.{mapped_from, mapped_parts, changed_by, changed_bare}
-use Rattle.kl1_store.proofs.Bare.{formed_alike}
+use Rattle.kl1_store.proofs.Changed.{length-mapped}
+use Rattle.kl1_store.proofs.Bare.{formed_alike, bare_since}
 
 -- where the arguments of the structures from one on begin
 abbrev pub start_in : {N : Type 0} → List (Node N) → ℕ → ℕ → ℕ
@@ -81,66 +81,55 @@ shapes_in-mapped {N = N} g s (n ∷ ns) xs (suc i) k h e =
     (ap (λ l. shapes_in l (mapped_from (node_renamed g) i ns)) (drop_mapped (cell_renamed g) n.count k xs le)
     ∙ shapes_in-mapped g (s + n.count) ns (drop n.count xs) i (k - n.count) (rest_laid s n ns xs h) rest)
 
-laid_to : {N M : Type 0} (g : N → M) (s : ℕ) (ns : List (Node N)) (end : ℕ) → AreLaid s ns end → AreLaid s (map (node_renamed g) ns) end
-laid_to g s [] end h = h
-laid_to g s (n ∷ ns) end h = (h.0, laid_to g (s + n.count) ns end h.1)
+laid_mapped : {N : Type 0} (g : N → N) (s i : ℕ) (ns : List (Node N)) (end : ℕ) → AreLaid s ns end → AreLaid s (mapped_from (node_renamed g) i ns) end
+laid_mapped g s zero [] end h = h
+laid_mapped g s zero (n ∷ ns) end h = (h.0, laid_mapped g (s + n.count) zero ns end h.1)
+laid_mapped g s (suc i) [] end h = h
+laid_mapped g s (suc i) (n ∷ ns) end h = (h.0, laid_mapped g (s + n.count) i ns end h.1)
 
-laid_from : {N M : Type 0} (g : N → M) (s : ℕ) (ns : List (Node N)) (end : ℕ) → AreLaid s (map (node_renamed g) ns) end → AreLaid s ns end
-laid_from g s [] end h = h
-laid_from g s (n ∷ ns) end h = (h.0, laid_from g (s + n.count) ns end h.1)
-
--- the lists after names took the places of others
-pub record AreRenamed {N : Type 0} (from to : List N) (mark : Mark) (slots : List (Cell N)) (nodes : List (Node N)) (arguments : List (Cell N)) (bindings : List (Binding N)) (old : Held N) : Type 0 where
+-- the lists after names became others
+pub record AreRenamed {N : Type 0} (g : N → N) (mark : Mark) (slots : List (Cell N)) (nodes : List (Node N)) (arguments : List (Cell N)) (bindings : List (Binding N)) (old : Held N) : Type 0 where
   pub inside : IsInside slots nodes arguments bindings
-  pub held : (g : N → N) → Renames from to g → held_in slots nodes arguments bindings ≡ renamed_since g mark old
-  pub alike : held_renamed unnamed (held_in slots nodes arguments bindings) ≡ held_renamed unnamed old
+  pub held : held_in slots nodes arguments bindings ≡ renamed_since g mark old
 
-pub are_renamed : {N : Type 0} (from to : List N) (mark : Mark) (start : ℕ) (slots slots' : List (Cell N)) (nodes nodes' : List (Node N)) (arguments arguments' : List (Cell N)) (bindings bindings' : List (Binding N)) →
-    IsInside slots nodes arguments bindings → AreSlotted slots' bindings' → length slots' ≡ length slots → start ≡ start_in nodes mark.structures (length arguments) →
-    AreChanged (IsBindingRenamed from to) mark.bindings (length bindings) bindings bindings' →
-    AreChanged (IsCellRenamed from to) start (length arguments) arguments arguments' →
-    AreChanged (IsNodeRenamed from to) mark.structures (length nodes) nodes nodes' →
-    AreRenamed from to mark slots' nodes' arguments' bindings' (held_in slots nodes arguments bindings)
-are_renamed {N = N} from to mark start slots slots' nodes nodes' arguments arguments' bindings bindings' inside slotted many begins bs xs ns =
+are_mapped : {N : Type 0} (g : N → N) (mark : Mark) (start : ℕ) (slots slots' : List (Cell N)) (nodes : List (Node N)) (arguments : List (Cell N)) (bindings bindings' : List (Binding N)) →
+    IsInside slots nodes arguments bindings → AreSlotted slots' bindings' → length slots' ≡ length slots → start ≡ start_in nodes mark.structures (length arguments) → bindings' ≡ mapped_from (binding_renamed g) mark.bindings bindings →
+    AreRenamed g mark slots' (mapped_from (node_renamed g) mark.structures nodes) (mapped_from (cell_renamed g) start arguments) bindings' (held_in slots nodes arguments bindings)
+are_mapped {N = N} g mark start slots slots' nodes arguments bindings bindings' inside slotted many begins bs =
     let old = held_in slots nodes arguments bindings in
+    let nodes' = mapped_from (node_renamed g) mark.structures nodes in
+    let arguments' = mapped_from (cell_renamed g) start arguments in
     let new = held_in slots' nodes' arguments' bindings' in
-    let bare_xs = changed_bare (λ g. cell_renamed g) (cell_renamed unnamed) from to start arguments arguments' xs in
-    let bare_ns = changed_bare (λ g. node_renamed g) (node_renamed unnamed) from to mark.structures nodes nodes' ns in
-    let bare_bs = changed_bare (λ g. binding_renamed g) (binding_renamed unnamed) from to mark.bindings bindings bindings' bs in
-    let bare_ss : map (shape_renamed unnamed) (shapes_in arguments' nodes') ≡ map (shape_renamed unnamed) (shapes_in arguments nodes) =
-    sym (shapes_in-map unnamed arguments' nodes') ∙ ap₂ shapes_in bare_xs bare_ns ∙ shapes_in-map unnamed arguments nodes in
-    let held : ℕ → List (Shape (Unit {0})) → List (Binding (Unit {0})) → Held (Unit {0}) = λ n ss ps. record { variables = n; structures = ss; bindings = ps } in
-    let alike : held_renamed unnamed new ≡ held_renamed unnamed old =
-    ap (λ n. held n (map (shape_renamed unnamed) (shapes_in arguments' nodes')) (map (binding_renamed unnamed) bindings')) many
-    ∙ ap₂ (held (length slots)) bare_ss bare_bs in
-    let L : List (Node (Unit {0})) → Type 0 = λ l. AreLaid 0 l (length arguments) in
+    let make : ℕ → List (Shape N) → List (Binding N) → Held N = λ n ss ps. record { variables = n; structures = ss; bindings = ps } in
+    let D : ℕ → Type 0 = λ n. AreLaid 0 nodes n in
     let E : ℕ → Type 0 = λ n. AreLaid 0 nodes' n in
+    let laid : AreLaid 0 nodes (0 + length arguments) = subst D (omega arith) inside.laid in
+    let at : 0 + start ≡ start_in nodes mark.structures (0 + length arguments) = (let q : 0 + start ≡ start = omega arith in q) ∙ begins ∙ ap (start_in nodes mark.structures) (omega arith) in
+    let held : new ≡ renamed_since g mark old =
+    ap (λ n. make n (shapes_in arguments' nodes') bindings') many ∙ ap₂ (make (length slots)) (shapes_in-mapped g 0 nodes arguments mark.structures start laid at) bs in
+    let long_xs = length-mapped (cell_renamed g) start arguments in
+    let long_ns = length-mapped (node_renamed g) mark.structures nodes in
     record {
       inside = record {
-        formed = formed_alike old new alike inside.formed;
-        laid = subst E (sym xs.count) (laid_from unnamed 0 nodes' (length arguments) (subst L (sym bare_ns) (laid_to unnamed 0 nodes (length arguments) inside.laid)));
+        formed = formed_alike old new (ap (held_renamed unnamed) held ∙ bare_since g mark old) inside.formed;
+        laid = subst E (sym long_xs) (laid_mapped g 0 mark.structures nodes (length arguments) inside.laid);
         slotted = slotted;
         variables_fit = omega (arith, many, inside.variables_fit);
-        structures_fit = omega (arith, ns.count, inside.structures_fit);
-        arguments_fit = omega (arith, xs.count, inside.arguments_fit);
+        structures_fit = omega (arith, long_ns, inside.structures_fit);
+        arguments_fit = omega (arith, long_xs, inside.arguments_fit);
       };
-      held = λ g r. held_by g r;
-      alike = alike;
+      held = held;
     }
-  where
-    held_by : (g : N → N) → Renames from to g → held_in slots' nodes' arguments' bindings' ≡ renamed_since g mark (held_in slots nodes arguments bindings)
-    held_by g r =
-        let make : ℕ → List (Shape N) → List (Binding N) → Held N = λ n ss ps. record { variables = n; structures = ss; bindings = ps } in
-        let D : ℕ → Type 0 = λ n. AreLaid 0 nodes n in
-        let laid : AreLaid 0 nodes (0 + length arguments) = subst D (omega arith) inside.laid in
-        let at : 0 + start ≡ start_in nodes mark.structures (0 + length arguments) = (let q : 0 + start ≡ start = omega arith in q) ∙ begins ∙ ap (start_in nodes mark.structures) (omega arith) in
-        let ss : shapes_in arguments' nodes' ≡ take mark.structures (shapes_in arguments nodes) ++ map (shape_renamed g) (drop mark.structures (shapes_in arguments nodes)) =
-        ap₂ shapes_in (changed_by (λ h. cell_renamed h) (cell_renamed unnamed) from to start arguments arguments' g xs r) (changed_by (λ h. node_renamed h) (node_renamed unnamed) from to mark.structures nodes nodes' g ns r)
-        ∙ shapes_in-mapped g 0 nodes arguments mark.structures start laid at
-        ∙ mapped_parts (shape_renamed g) mark.structures (shapes_in arguments nodes) in
-        let ps : bindings' ≡ take mark.bindings bindings ++ map (binding_renamed g) (drop mark.bindings bindings) =
-        changed_by (λ h. binding_renamed h) (binding_renamed unnamed) from to mark.bindings bindings bindings' g bs r ∙ mapped_parts (binding_renamed g) mark.bindings bindings in
-        ap (λ n. make n (shapes_in arguments' nodes') bindings') many ∙ ap₂ (make (length slots)) ss ps
+
+pub are_renamed : {N : Type 0} (g : N → N) (mark : Mark) (start : ℕ) (slots slots' : List (Cell N)) (nodes nodes' : List (Node N)) (arguments arguments' : List (Cell N)) (bindings bindings' : List (Binding N)) →
+    IsInside slots nodes arguments bindings → AreSlotted slots' bindings' → length slots' ≡ length slots → start ≡ start_in nodes mark.structures (length arguments) →
+    bindings' ≡ mapped_from (binding_renamed g) mark.bindings bindings → arguments' ≡ mapped_from (cell_renamed g) start arguments → nodes' ≡ mapped_from (node_renamed g) mark.structures nodes →
+    AreRenamed g mark slots' nodes' arguments' bindings' (held_in slots nodes arguments bindings)
+are_renamed {N = N} g mark start slots slots' nodes nodes' arguments arguments' bindings bindings' inside slotted many begins bs xs ns =
+    let old = held_in slots nodes arguments bindings in
+    let P : List (Cell N) → Type 0 = λ l. AreRenamed g mark slots' nodes' l bindings' old in
+    let Q : List (Node N) → Type 0 = λ l. AreRenamed g mark slots' l (mapped_from (cell_renamed g) start arguments) bindings' old in
+    subst P (sym xs) (subst Q (sym ns) (are_mapped g mark start slots slots' nodes arguments bindings bindings' inside slotted many begins bs))
 
 is_bound-set : {N : Type 0} (v : ℕ) (bs : List (Binding N)) (i : ℕ) (b : Binding N) → b.variable ≡ (get_or bs i b).variable → is_bound v (set bs i b) ≡ is_bound v bs
 is_bound-set v [] i b e = refl
@@ -222,14 +211,3 @@ rebound {N = N} slots bs i b d slotted once lt e =
         subst P same (get_or-set_same slots b.variable b.value (Variable b.variable) inside ∙ sym (found-set_here b.variable (length slots) [] bs i b d once lt refl (sym e)))
     by v (inr ne) le inside =
         get_or-set_other slots b.variable v b.value (Variable v) (λ q. ne (sym q)) ∙ slotted v le ∙ sym (found-set_other v bs i b d lt e ne)
-
--- a binding of a variable to a cell with other names is that binding with other names
-pub binding_changed : {N : Type 0} (from to : List N) (b : Binding N) (x : Cell N) → IsCellRenamed from to b.value x → IsBindingRenamed from to b (record { variable = b.variable; value = x })
-binding_changed {N = N} from to b x r =
-    let bind : Cell N → Binding N = λ y. record { variable = b.variable; value = y } in
-    let bare : Cell (Unit {0}) → Binding (Unit {0}) = λ y. record { variable = b.variable; value = y } in
-    record { by = λ g n. ap bind (r.by g n); same = ap bare r.same }
-
--- a structure as the store keeps it with another name
-pub node_changed : {N : Type 0} (from to : List N) (n : Node N) (name : N) → ((g : N → N) → Renames from to g → name ≡ g n.name) → IsNodeRenamed from to n (record { name = name; start = n.start; count = n.count })
-node_changed {N = N} from to n name r = record { by = λ g is. ap (λ (a : N). record { name = a; start = n.start; count = n.count }) (r g is); same = refl }
