@@ -433,9 +433,10 @@ pair_done {N = N} f h ws p formed pair le alike =
       awaited = alike_awaited ws p.next ts us alike nt nu;
     }))
 
-pub left_closes : {N : Type 0} (built : BuiltIn → N) (h : Held N) (l r : Cell N) (start waits : List ℕ) (ds es : List (List ℕ)) (before ps : List Frame) (p : Frame) → IsFormed h →
-    IsLeft built h l r start waits ds before → before ≡ ps ++ p ∷ [] → p.count ≤ p.next → IsAdded p.left p.right ds es → IsLeft built h l r start waits es ps × (work h ps < work h before)
-left_closes {N = N} built h l r start waits ds es before ps p formed i e le is = (
+left_closes_with : {N : Type 0} (built : BuiltIn → N) (h : Held N) (l r : Cell N) (start waits : List ℕ) (ds es : List (List ℕ)) (before ps : List Frame) (p : Frame) → IsFormed h →
+    IsLeft built h l r start waits ds before → before ≡ ps ++ p ∷ [] → p.count ≤ p.next →
+    ((f : N → List ℕ) → Reads built f → IsDone waits (structure_term f h p.left) (structure_term f h p.right) → EachDone (structure_term f h) waits es) → IsLeft built h l r start waits es ps × (work h ps < work h before)
+left_closes_with {N = N} built h l r start waits ds es before ps p formed i e le each = (
   record {
     pairs = closed.pairs;
     clash = λ f reads w. i.clash f reads (ap clash_among (same f) ∙ w);
@@ -443,7 +444,7 @@ left_closes {N = N} built h l r start waits ds es before ps p formed i e le is =
     rest = λ f reads v a. let L : List Equation → Type 0 = λ k. IsOf v (awaited_among k) in i.rest f reads v (subst L (sym (same f)) a);
     kept = i.kept;
     under = λ f reads. under_pop (IsDone waits) (structure_term f h) (argument_terms f h) (term_of f h l) (term_of f h r) ps p (under f reads) (done f reads);
-    done = λ f reads. each_added (structure_term f h) waits ds es p.left p.right is (i.done f reads) (done f reads);
+    done = λ f reads. each f reads (done f reads);
   },
   closed.less,
 )
@@ -459,6 +460,17 @@ left_closes {N = N} built h l r start waits ds es before ps p formed i e le is =
 
     done : (f : N → List ℕ) → Reads built f → IsDone waits (structure_term f h p.left) (structure_term f h p.right)
     done f reads = pair_done f h waits p formed (pair_popped h before ps p i.pairs e) le (under_top (IsDone waits) (structure_term f h) (argument_terms f h) (term_of f h l) (term_of f h r) ps p (under f reads))
+
+-- a pair is closed and put down
+pub left_closes : {N : Type 0} (built : BuiltIn → N) (h : Held N) (l r : Cell N) (start waits : List ℕ) (ds es : List (List ℕ)) (before ps : List Frame) (p : Frame) → IsFormed h →
+    IsLeft built h l r start waits ds before → before ≡ ps ++ p ∷ [] → p.count ≤ p.next → IsAdded p.left p.right ds es → IsLeft built h l r start waits es ps × (work h ps < work h before)
+left_closes built h l r start waits ds es before ps p formed i e le is =
+    left_closes_with built h l r start waits ds es before ps p formed i e le (λ f reads d. each_added (structure_term f h) waits ds es p.left p.right is (i.done f reads) d)
+
+-- a pair is closed and not put down
+pub left_spared : {N : Type 0} (built : BuiltIn → N) (h : Held N) (l r : Cell N) (start waits : List ℕ) (ds : List (List ℕ)) (before ps : List Frame) (p : Frame) → IsFormed h →
+    IsLeft built h l r start waits ds before → before ≡ ps ++ p ∷ [] → p.count ≤ p.next → IsLeft built h l r start waits ds ps × (work h ps < work h before)
+left_spared built h l r start waits ds before ps p formed i e le = left_closes_with built h l r start waits ds ds before ps p formed i e le (λ f reads d. i.done f reads)
 
 -- ---- the start and the end
 

@@ -19,6 +19,10 @@ use kl1_text::NameValue;
 use std::alloc::{AllocError, Global};
 use std::collections::HashSet;
 
+/// The pairs of structures that are compared before one is put down as known, of the first level, and for each level more.
+const FIRST_SPARED: usize = 64;
+const SPARED_BY_LEVEL: usize = 4;
+
 /// Puts a variable on the list of those that are waited for, and says yes.
 fn wait_for(waits: &mut Vec<u32>, variable: u32) -> Result<bool, AllocError>
     ensures { IfOk result (λ found. (found ≡ true) × (waits.new.items ≡ waits.old.items ++ variable ∷ [])) }
@@ -99,8 +103,11 @@ pub fn compare<N: NameValue>(
     // Only for the proof: what the cells hold is formed.
     let _ = cells.mark();
     frames.clear();
-    // The structures, by number, that were compared. To empty a set that was large would cost what it once held.
+    // The structures, by number, that were compared. To empty a set that was large would cost what it once held. Up to some pairs for
+    // each level that they reach none is put down: in lists none ever is, and what is looked at twice is no more than that.
     let mut pairs = HashSet::new(alloc);
+    let mut deepest: usize = 0;
+    let mut spared = FIRST_SPARED;
     let first = cells.walk(left);
     let second = cells.walk(right);
     if !compare_sides(cells, frames, waits, first, second)? {
@@ -108,8 +115,17 @@ pub fn compare<N: NameValue>(
     }
     while let Some(frame) = frames.pop() {
         if frame.next >= frame.count {
+            if spared > 0 {
+                spared -= 1;
+                continue;
+            }
             pairs.insert([frame.left, frame.right])?;
             continue;
+        }
+        let depth = frames.len();
+        if depth > deepest {
+            deepest = depth;
+            spared = spared.saturating_add(SPARED_BY_LEVEL);
         }
         let Sides { left, right } = turn(cells, frame);
         frames.push(frame.onward())?;

@@ -24,6 +24,7 @@ mod node;
 mod occurs;
 mod point;
 mod qualified;
+mod remembering;
 mod room;
 mod same;
 mod same_scratch;
