@@ -2,8 +2,8 @@
 use Rattle.std.proofs.Common.{◌≡◌, ℕ, ◌-◌, ◌≤◌, Bool, true, false, List, [], ◌∷◌, ◌++◌, length, take, drop, get_or, refl, sym, ap, ◌∙◌, arith, subst}
 use Rattle.std.specs.List.{All}
 use Rattle.std.proofs.lemmas.List.{append-nil, take_all}
-use Rattle.std.proofs.lemmas.List.Elements.{All-append}
-use Rattle.std.specs.Prelude.{Contains, ◌↔◌}
+use Rattle.std.proofs.lemmas.List.Elements.{All-head, All-tail}
+use Rattle.std.specs.Prelude.{Contains, ◌↔◌, Option, None}
 use Rattle.kl1_model.specs.Term.{Term}
 use Rattle.kl1_model.specs.Same.{clash}
 use Rattle.kl1_model.specs.code.Awaited.{awaited}
@@ -17,7 +17,7 @@ use Rattle.kl1_store.specs.Meaning.{term_of}
 use Rattle.kl1_store.specs.Compares.{ComparedAs}
 use Rattle.kl1_store.specs.Unbound.{AreUnbound}
 use Rattle.kl1_store.specs.Sameness.{AlikeAs}
-use Rattle.kl1_store.specs.Remembers.{IsRemembered}
+use Rattle.kl1_store.specs.Remembers.{IsRemembered, RecalledAs}
 use Rattle.kl1_store.proofs.Answering.{alike_from}
 
 -- what was found alone is put after other variables
@@ -48,12 +48,12 @@ alike_alone built h x y start found none_first unbound compared = alike_from bui
 -- of what is remembered, the first
 pub first_remembered : {N : Type 0} (built : BuiltIn → N) (h : Held N) (r : Remembered) (rest : List Remembered) → 1 ≤ length rest → r ≡ get_or rest 0 r → All (IsRemembered built h) rest → IsRemembered built h r
 first_remembered built h r [] le e a = absurd (omega arith)
-first_remembered built h r (z ∷ zs) le e a = let P : Remembered → Type 0 = λ y. IsRemembered built h y in subst P (sym e) a.0
+first_remembered built h r (z ∷ zs) le e a = let P : Remembered → Type 0 = λ y. IsRemembered built h y in subst P (sym e) (All-head (IsRemembered built h) z zs a)
 
 -- of what is remembered, all but the first
 pub others_remembered : {N : Type 0} (built : BuiltIn → N) (h : Held N) (rest : List Remembered) → 1 ≤ length rest → All (IsRemembered built h) rest → All (IsRemembered built h) (take (length rest - 1) (drop 1 rest))
 others_remembered built h [] le a = absurd (omega arith)
-others_remembered built h (z ∷ zs) le a = let P : List Remembered → Type 0 = λ l. All (IsRemembered built h) l in subst P (sym (take_all (length (z ∷ zs) - 1) zs (omega arith))) a.1
+others_remembered built h (z ∷ zs) le a = let P : List Remembered → Type 0 = λ l. All (IsRemembered built h) l in subst P (sym (take_all (length (z ∷ zs) - 1) zs (omega arith))) (All-tail (IsRemembered built h) z zs a)
 
 -- what is remembered of two structures, by their numbers, is what comparing them gives
 pub recalled : {N : Type 0} (built : BuiltIn → N) (h : Held N) (r : Remembered) (left right : ℕ) (waits before after : List ℕ) → IsRemembered built h r → r.left ≡ left → r.right ≡ right → waits ≡ r.waits.items → after ≡ before ++ waits →
@@ -63,10 +63,6 @@ recalled {N = N} built h r left right waits before after is left_is right_is wai
     let Q : ℕ → Type 0 = λ n. AlikeAs built h (Structure left) (Structure n) before after r.alike in
     subst Q right_is (subst P left_is (alike_after built h (Structure r.left) (Structure r.right) r.waits.items before after r.alike is (e ∙ ap (λ l. before ++ l) waits_is)))
 
--- one more is remembered
-pub one_more : {N : Type 0} (built : BuiltIn → N) (h : Held N) (r : Remembered) (before after : List Remembered) → after ≡ before ++ r ∷ [] → All (IsRemembered built h) before → IsRemembered built h r → All (IsRemembered built h) after
-one_more built h r before after e a is = let P : List Remembered → Type 0 = λ l. All (IsRemembered built h) l in subst P (sym e) (All-append (IsRemembered built h) before (r ∷ []) a (is, tt))
-
--- nothing is remembered
-pub nothing_remembered : {N : Type 0} (built : BuiltIn → N) (h : Held N) (rs : List Remembered) → rs ≡ [] → All (IsRemembered built h) rs
-nothing_remembered built h rs e = let P : List Remembered → Type 0 = λ l. All (IsRemembered built h) l in subst P (sym e) tt
+-- if nothing is recalled, nothing was added
+pub not_recalled : {N : Type 0} (built : BuiltIn → N) (h : Held N) (left right : ℕ) (before after : List ℕ) (o : Option Bool) → o ≡ None → RecalledAs built h left right before after o → after ≡ before
+not_recalled built h left right before after o e a = let P : Option Bool → Type 0 = λ p. RecalledAs built h left right before after p in subst P e a

@@ -1,7 +1,7 @@
 // Two cells side by side, without binding anything.
 
 ghost use Rattle.std.specs.Prelude.{◌≡◌, ℕ, true, List, [], ◌∷◌, ◌++◌, IfOk, OnOk, IsTrue};
-ghost use Rattle.kl1_store.specs.Done.{IsKnown};
+ghost use Rattle.kl1_store.specs.Done.{IsKnown, MayHave};
 ghost use Rattle.kl1_store.specs.Held.{Held, IsIn, IsWalked};
 ghost use Rattle.kl1_store.specs.Sound.{IsFormed};
 ghost use Rattle.kl1_store.specs.Waiting.{ArePairs};
@@ -21,6 +21,7 @@ use std::collections::HashSet;
 
 /// The pairs of structures that are compared before one is put down as known, of the first level, and for each level more.
 const FIRST_SPARED: usize = 64;
+
 const SPARED_BY_LEVEL: usize = 4;
 
 /// Puts a variable on the list of those that are waited for, and says yes.
@@ -86,6 +87,24 @@ fn is_known<N: Copy>(pairs: &HashSet<[u32; 2]>, left: Cell<N>, right: Cell<N>) -
     false
 }
 
+/// Puts a pair that was compared down as known, unless some are still to be spared.
+#[inline]
+#[tactic(auto, using(crate::proofs::Comparing::pair_kept))]
+fn put_down(
+    pairs: &mut HashSet<[u32; 2]>,
+    spared: &mut usize,
+    frame: Frame,
+) -> Result<(), AllocError>
+    ensures { OnOk result (MayHave frame.left frame.right pairs.old.keys pairs.new.keys) }
+{
+    if *spared > 0 {
+        *spared -= 1;
+        return Ok(());
+    }
+    pairs.insert([frame.left, frame.right])?;
+    Ok(())
+}
+
 /// Compares two cells: false if they clash; `waits` gets the variables for which they wait, and `frames` is scratch.
 pub fn compare<N: NameValue>(
     cells: &Cells<N>,
@@ -115,11 +134,7 @@ pub fn compare<N: NameValue>(
     }
     while let Some(frame) = frames.pop() {
         if frame.next >= frame.count {
-            if spared > 0 {
-                spared -= 1;
-                continue;
-            }
-            pairs.insert([frame.left, frame.right])?;
+            put_down(&mut pairs, &mut spared, frame)?;
             continue;
         }
         let depth = frames.len();

@@ -129,8 +129,8 @@ pub fn compare_once<N: NameValue>(
         &mut scratch.frames,
         alloc,
         &mut scratch.waits,
-        first,
-        second,
+        left,
+        right,
     )?;
     waits.extend_from_slice(scratch.waits.as_slice())?;
     Ok(alike)

@@ -13,9 +13,11 @@ compare_pair-requires-clause-pair g c = pair_inside g.N.NameValue.built (tests_o
 pub loop-rest-preserved : goal.loop-rest-preserved
 loop-rest-preserved g c =
     let t = tests_of c.args.view.now in
-    let P : Bool → Type 0 = λ b. PairsCome g.N.NameValue.built t (c.first-item.result ∷ []) c.loop-rest.awaited.items c.compare_pair.new.awaited.items b in
-    (c.in_ok-compare_pair.ensures.remembers, pairs_step g.N.NameValue.built t c.first-item.result c.args.pairs.now c.loop-rest.rest.now c.args.awaited.now.items c.loop-rest.awaited.items c.compare_pair.new.awaited.items c.in-len1-up.len_at_least c.first-item.is c.loop-rest.invariant.1
-    (subst P c.if-not-branch.false c.in_ok-compare_pair.ensures.comes))
+    let P : Bool → Type 0 = λ b. PairsCome g.N.NameValue.built t (c.first-item.result ∷ []) c.loop-rest.awaited.items c.compare_pair.new.awaited.items b in (
+      c.in_ok-compare_pair.ensures.remembers,
+      pairs_step g.N.NameValue.built t c.first-item.result c.args.pairs.now c.loop-rest.rest.now c.args.awaited.now.items c.loop-rest.awaited.items c.compare_pair.new.awaited.items c.in-len1-up.len_at_least c.first-item.is c.loop-rest.invariant.1
+          (subst P c.if-not-branch.false c.in_ok-compare_pair.ensures.comes),
+    )
 
 pub returns-then-not-branch-clause-comes : goal.returns-then-not-branch-clause-comes
 returns-then-not-branch-clause-comes g c =

@@ -10,9 +10,11 @@ loop-place-init g c = (c.requires.remembers, tests_begin g.N.NameValue.built (te
 pub loop-place-preserved : goal.loop-place-preserved
 loop-place-preserved g c =
     let t = tests_of c.args.view.now in
-    let P : Bool → Type 0 = λ b. TestComes g.N.NameValue.built t c.loop-place.place c.loop-place.awaited.items c.run_test.new.awaited.items b in
-    (c.in_ok-run_test.ensures.remembers, tests_step g.N.NameValue.built t c.loop-place.place c.behind_term-place.result c.args.awaited.now.items c.loop-place.awaited.items c.run_test.new.awaited.items c.loop-place-test.true c.behind_term-place.ensures.read c.loop-place.invariant.1
-    (subst P c.if-not-branch.false c.in_ok-run_test.ensures.comes))
+    let P : Bool → Type 0 = λ b. TestComes g.N.NameValue.built t c.loop-place.place c.loop-place.awaited.items c.run_test.new.awaited.items b in (
+      c.in_ok-run_test.ensures.remembers,
+      tests_step g.N.NameValue.built t c.loop-place.place c.behind_term-place.result c.args.awaited.now.items c.loop-place.awaited.items c.run_test.new.awaited.items c.loop-place-test.true c.behind_term-place.ensures.read c.loop-place.invariant.1
+          (subst P c.if-not-branch.false c.in_ok-run_test.ensures.comes),
+    )
 
 pub returns-then-not-branch-clause-come : goal.returns-then-not-branch-clause-come
 returns-then-not-branch-clause-come g c =

@@ -15,9 +15,11 @@ compare_one-requires-clause-others g c = (one_inside c.args.store.now.held c.fir
 
 pub loop-rest-preserved : goal.loop-rest-preserved
 loop-rest-preserved g c =
-    let P : Bool → Type 0 = λ b. OneComes g.N.NameValue.built c.args.store.now.held c.first-item.result (take (length c.loop-rest.rest.now - 1) (drop 1 c.loop-rest.rest.now)) c.loop-rest.awaited.items c.compare_one.new.awaited.items b in
-    (c.in_ok-compare_one.ensures.remembers, each_steps g.N.NameValue.built c.args.store.now.held c.first-item.result c.args.places.now c.loop-rest.rest.now c.args.awaited.now.items c.loop-rest.awaited.items c.compare_one.new.awaited.items c.in-len1-up.len_at_least c.first-item.is c.loop-rest.invariant.1
-    (subst P c.if-not-branch.false c.in_ok-compare_one.ensures.comes))
+    let P : Bool → Type 0 = λ b. OneComes g.N.NameValue.built c.args.store.now.held c.first-item.result (take (length c.loop-rest.rest.now - 1) (drop 1 c.loop-rest.rest.now)) c.loop-rest.awaited.items c.compare_one.new.awaited.items b in (
+      c.in_ok-compare_one.ensures.remembers,
+      each_steps g.N.NameValue.built c.args.store.now.held c.first-item.result c.args.places.now c.loop-rest.rest.now c.args.awaited.now.items c.loop-rest.awaited.items c.compare_one.new.awaited.items c.in-len1-up.len_at_least c.first-item.is c.loop-rest.invariant.1
+          (subst P c.if-not-branch.false c.in_ok-compare_one.ensures.comes),
+    )
 
 pub returns-then-not-branch-clause-comes : goal.returns-then-not-branch-clause-comes
 returns-then-not-branch-clause-comes g c =

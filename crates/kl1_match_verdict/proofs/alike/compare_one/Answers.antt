@@ -11,9 +11,11 @@ compare_two-requires-clause-right g c = (one_inside c.args.store.now.held c.othe
 
 pub loop-rest-preserved : goal.loop-rest-preserved
 loop-rest-preserved g c =
-    let P : Bool → Type 0 = λ b. TwoCome g.N.NameValue.built c.args.store.now.held c.args.place c.other-item.result c.loop-rest.awaited.items c.compare_two.new.awaited.items b in
-    (c.in_ok-compare_two.ensures.remembers, one_steps g.N.NameValue.built c.args.store.now.held c.args.place c.other-item.result c.args.others.now c.loop-rest.rest.now c.args.awaited.now.items c.loop-rest.awaited.items c.compare_two.new.awaited.items c.in-len1-up.len_at_least c.other-item.is c.loop-rest.invariant.1
-    (subst P c.if-not-branch.false c.in_ok-compare_two.ensures.come))
+    let P : Bool → Type 0 = λ b. TwoCome g.N.NameValue.built c.args.store.now.held c.args.place c.other-item.result c.loop-rest.awaited.items c.compare_two.new.awaited.items b in (
+      c.in_ok-compare_two.ensures.remembers,
+      one_steps g.N.NameValue.built c.args.store.now.held c.args.place c.other-item.result c.args.others.now c.loop-rest.rest.now c.args.awaited.now.items c.loop-rest.awaited.items c.compare_two.new.awaited.items c.in-len1-up.len_at_least c.other-item.is c.loop-rest.invariant.1
+          (subst P c.if-not-branch.false c.in_ok-compare_two.ensures.come),
+    )
 
 pub returns-then-not-branch-clause-comes : goal.returns-then-not-branch-clause-comes
 returns-then-not-branch-clause-comes g c =

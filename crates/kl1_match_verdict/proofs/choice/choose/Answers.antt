@@ -31,18 +31,22 @@ pub loop-tried-preserved-in-Rejects : goal.loop-tried-preserved-in-Rejects
 loop-tried-preserved-in-Rejects g c =
     let x = c.nth-clause.result.now in
     let P : CompiledClause → Type 0 = λ k. IsVerdict g.N.NameValue.built c.args.names.now k c.args.store.now.held c.args.goal c.in_ok-judge.ensures.judged.taken c.loop-tried.awaited.items c.judge.new.awaited.items c.in_ok-judge.field-0 in
-    let Q : Verdict → Type 0 = λ v. IsVerdict g.N.NameValue.built c.args.names.now (get_or c.args.clauses.now c.loop-tried.tried x) c.args.store.now.held c.args.goal c.in_ok-judge.ensures.judged.taken c.loop-tried.awaited.items c.judge.new.awaited.items v in
-    (c.in_ok-judge.ensures.remembers, rejected_there g.N.NameValue.built c.args.names.now c.args.clauses.now c.args.store.now.held c.args.goal c.args.awaited.now.items c.loop-tried.awaited.items c.judge.new.awaited.items c.loop-tried.tried c.loop-tried.waiting x c.in_ok-judge.ensures.judged.taken
-    c.loop-tried-test.true (sym (ap (λ (k : CompiledClause). is_past c.loop-tried.waiting k.section) c.nth-clause.ensures) ∙ (sym c.is_past.ensures ∙ c.if-is_past.false)) c.loop-tried.invariant.1 (subst Q c.in-Rejects.is (subst P c.nth-clause.ensures c.in_ok-judge.ensures.judged.holds)))
+    let Q : Verdict → Type 0 = λ v. IsVerdict g.N.NameValue.built c.args.names.now (get_or c.args.clauses.now c.loop-tried.tried x) c.args.store.now.held c.args.goal c.in_ok-judge.ensures.judged.taken c.loop-tried.awaited.items c.judge.new.awaited.items v in (
+      c.in_ok-judge.ensures.remembers,
+      rejected_there g.N.NameValue.built c.args.names.now c.args.clauses.now c.args.store.now.held c.args.goal c.args.awaited.now.items c.loop-tried.awaited.items c.judge.new.awaited.items c.loop-tried.tried c.loop-tried.waiting x c.in_ok-judge.ensures.judged.taken
+          c.loop-tried-test.true (sym (ap (λ (k : CompiledClause). is_past c.loop-tried.waiting k.section) c.nth-clause.ensures) ∙ (sym c.is_past.ensures ∙ c.if-is_past.false)) c.loop-tried.invariant.1 (subst Q c.in-Rejects.is (subst P c.nth-clause.ensures c.in_ok-judge.ensures.judged.holds)),
+    )
 
 pub loop-tried-preserved : goal.loop-tried-preserved
 loop-tried-preserved g c =
     let x = c.nth-clause.result.now in
     let P : CompiledClause → Type 0 = λ k. IsVerdict g.N.NameValue.built c.args.names.now k c.args.store.now.held c.args.goal c.in_ok-judge.ensures.judged.taken c.loop-tried.awaited.items c.judge.new.awaited.items c.in_ok-judge.field-0 in
     let Q : Verdict → Type 0 = λ v. IsVerdict g.N.NameValue.built c.args.names.now (get_or c.args.clauses.now c.loop-tried.tried x) c.args.store.now.held c.args.goal c.in_ok-judge.ensures.judged.taken c.loop-tried.awaited.items c.judge.new.awaited.items v in
-    let R : CompiledClause → Type 0 = λ k. ChoosesFrom g.N.NameValue.built c.args.names.now c.args.clauses.now c.args.store.now.held c.args.goal c.args.awaited.now.items c.judge.new.awaited.items (c.loop-tried.tried + 1) (Some k.section) in
-    (c.in_ok-judge.ensures.remembers, subst R (sym c.nth-clause.ensures) (suspended_there g.N.NameValue.built c.args.names.now c.args.clauses.now c.args.store.now.held c.args.goal c.args.awaited.now.items c.loop-tried.awaited.items c.judge.new.awaited.items c.loop-tried.tried c.loop-tried.waiting x c.in_ok-judge.ensures.judged.taken
-    c.loop-tried-test.true (sym (ap (λ (k : CompiledClause). is_past c.loop-tried.waiting k.section) c.nth-clause.ensures) ∙ (sym c.is_past.ensures ∙ c.if-is_past.false)) c.loop-tried.invariant.1 (subst Q c.in-Suspends.is (subst P c.nth-clause.ensures c.in_ok-judge.ensures.judged.holds))))
+    let R : CompiledClause → Type 0 = λ k. ChoosesFrom g.N.NameValue.built c.args.names.now c.args.clauses.now c.args.store.now.held c.args.goal c.args.awaited.now.items c.judge.new.awaited.items (c.loop-tried.tried + 1) (Some k.section) in (
+      c.in_ok-judge.ensures.remembers,
+      subst R (sym c.nth-clause.ensures) (suspended_there g.N.NameValue.built c.args.names.now c.args.clauses.now c.args.store.now.held c.args.goal c.args.awaited.now.items c.loop-tried.awaited.items c.judge.new.awaited.items c.loop-tried.tried c.loop-tried.waiting x c.in_ok-judge.ensures.judged.taken
+          c.loop-tried-test.true (sym (ap (λ (k : CompiledClause). is_past c.loop-tried.waiting k.section) c.nth-clause.ensures) ∙ (sym c.is_past.ensures ∙ c.if-is_past.false)) c.loop-tried.invariant.1 (subst Q c.in-Suspends.is (subst P c.nth-clause.ensures c.in_ok-judge.ensures.judged.holds))),
+    )
 
 pub returns : goal.returns
 returns g c =
