@@ -1,5 +1,7 @@
 // What passive equality of two cells works with.
 
+ghost use Rattle.std.specs.Prelude.{◌≡◌, []};
+
 use crate::frame::Frame;
 use std::alloc::Global;
 
@@ -29,5 +31,13 @@ impl SameScratch {
             waits: Vec::new(alloc),
             remembered: Vec::new(alloc),
         }
+    }
+
+    /// Lets go of all that is remembered. It stands apart, since what calls it is put in place of its own calls.
+    #[inline(never)]
+    pub(crate) fn let_go(&mut self)
+        ensures { self.new.remembered.items ≡ [] }
+    {
+        self.remembered.clear();
     }
 }

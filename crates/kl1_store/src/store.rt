@@ -282,9 +282,9 @@ impl<N: NameValue> Store<N> {
     pub fn forget(&self, scratch: &mut SameScratch)
         ensures { Remembers N.built self.now.held scratch.new }
     {
-        // Most goals compare nothing, and to empty an empty list costs more than this test.
+        // Most goals compare nothing.
         if !scratch.remembered.is_empty() {
-            scratch.remembered.clear();
+            scratch.let_go();
         }
     }
 
