@@ -8,7 +8,6 @@ use Rattle.kl1_model.specs.Term.{Term}
 use Rattle.kl1_model.specs.Same.{clash}
 use Rattle.kl1_model.specs.code.Awaited.{awaited}
 use Rattle.kl1_model.specs.declared.built_in.BuiltIn.{BuiltIn}
-use Rattle.kl1_text.specs.Reading.{Reads}
 use Rattle.kl1_store.specs.declared.cell.Cell.{Cell}
 use Rattle.kl1_store.specs.declared.cell.Cell.TheVariants.{Structure}
 use Rattle.kl1_store.specs.declared.same_scratch.Remembered.{Remembered}

@@ -1,4 +1,4 @@
-use Rattle.std.proofs.Common.{◌≡◌, Bool, [], ◌∷◌, arith, subst}
+use Rattle.std.proofs.Common.{◌≡◌, Bool, [], arith, subst}
 use Rattle.std.proofs.lemmas.List.{nil_from_length}
 use Rattle.kl1_store.specs.Compares.{ComparesAs}
 use Rattle.kl1_store.proofs.Advancing.{pair_popped, onward_pushed}

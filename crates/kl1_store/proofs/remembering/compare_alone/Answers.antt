@@ -1,4 +1,4 @@
-use Rattle.std.proofs.Common.{Bool, subst, refl}
+use Rattle.std.proofs.Common.{Bool, subst}
 use Rattle.kl1_store.specs.Compares.{ComparedAs}
 use Rattle.kl1_store.proofs.Recalling.{alike_alone}
 use Rattle.kl1_store.proofs.remembering.compare_alone.Goals as goal

@@ -1,4 +1,4 @@
-use Rattle.std.proofs.Common.{List, ◌++◌, ap, ◌∙◌}
+use Rattle.std.proofs.Common.{◌++◌, ap, ◌∙◌}
 use Rattle.kl1_store.proofs.Recalling.{first_remembered, others_remembered, recalled}
 use Rattle.kl1_store.proofs.remembering.recall.Goals as goal
 
