@@ -32,3 +32,4 @@ pub mod Changed
 pub mod Bare
 pub mod OtherNames
 pub mod Renamed
+pub mod Recalling

@@ -24,6 +24,7 @@ mod node;
 mod occurs;
 mod point;
 mod qualified;
+mod remembering;
 mod renaming;
 mod room;
 mod same;
