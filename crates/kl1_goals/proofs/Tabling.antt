@@ -9,7 +9,8 @@ use Rattle.kl1_goals.specs.declared.tally.Tally.{Tally}
 use Rattle.kl1_goals.specs.Lists.{has_number, is_other, is_after, is_goal_of, number_of, stood_by}
 use Rattle.kl1_goals.specs.Tables.{Ascend, IsKnown}
 use Rattle.kl1_goals.specs.Slots.{goals_in, level_in, AreLow}
-use Rattle.kl1_goals.specs.Tallies.{nothing, tally_at, IsTally, IsTable}
+use Rattle.kl1_goals.specs.Tallies.{nothing, tally_at, IsTally}
+use Rattle.kl1_goals.specs.Keeping.{IsTable}
 use Rattle.kl1_goals.proofs.Shoens.{opened_tally, shoen_known, any_counted, any_beside}
 
 nothing_at : (n : ℕ) → tally_at [] n ≡ nothing
