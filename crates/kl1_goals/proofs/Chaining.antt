@@ -12,7 +12,7 @@ use Rattle.kl1_goals.specs.Slots.{goals_in, numbers_of, level_in, rank_in, let_i
 use Rattle.kl1_goals.specs.Tallies.{tally_at, unlinked, left}
 use Rattle.kl1_goals.specs.Chains.{Shape, shoen_in, before_in, holds_in, is_due, shape_in, unlinked_in, shoen_at, before_at, last_at, Holds, IsLink, IsEmptyLink, AreLinked, AreKnown, AreChained, HoldsLess, HaveSameCounts}
 use Rattle.kl1_goals.proofs.Changing.{standing_by}
-use Rattle.kl1_goals.proofs.Linking.{known_at, link_less, less_length, linked_less, less_less, link_past, link_nearer, chained_take, no_link}
+use Rattle.kl1_goals.proofs.Linking.{known_at, link_less, less_length, linked_less, chained_less, less_less, link_past, link_nearer, chained_take, no_link}
 
 -- what a list of a function of the places has at a place that was read
 pub read_at : {N X : Type 0} (f : Slot N → X) (ss : List (Slot N)) (k : ℕ) (s : Slot N) (d : X) → k < length ss → s ≡ get_or ss k s → get_or (map f ss) k d ≡ f s
@@ -309,10 +309,13 @@ forget_next ss ts us vs place s h own here other = λ n. elim (cases_eq n s) [
   | inl e ↦ inl (rw e here)
   | inr e ↦ elim (h n) [
     | inl z ↦ inl (other n e ∙ z)
-    | inr p ↦ inr (other n e ∙ p.0, λ j w f. elim (cases_eq j place) [
-      | inl c ↦ e (sym f ∙ ap (shoen_at ss) c ∙ sym own)
-      | inr c ↦ p.1 j (omega (arith, w, c)) f
-    ])
+    | inr p ↦ inr (
+      other n e ∙ p.0,
+      λ j w f. elim (cases_eq j place) [
+        | inl c ↦ e (sym f ∙ ap (shoen_at ss) c ∙ sym own)
+        | inr c ↦ p.1 j (omega (arith, w, c)) f
+      ],
+    )
   ]
 ]
 
@@ -404,3 +407,12 @@ read_known old now most k x a e w r =
     let read = read_at shoen_in now k x 0 w r in
     let known = known_at most (map shoen_in now) k (rw shoens a) (omega (arith, w, length-map now shoen_in)) in
     (omega (arith, known.0, read), omega (arith, known.1, read))
+
+pub chained_emptied : {N : Type 0} (ss ts : List (Slot N)) (k : ℕ) (us : List Tally) → AreChained ss us → ts ≡ changed_at emptied k ss → AreChained ts us
+chained_emptied ss ts k us h e =
+    let new = changed_at emptied k ss in
+    let less = changed_less emptied k ss (λ s. refl) (λ n s f. absurd (false≢true f)) in
+    rw e (chained_less ss new us less (linked_less ss new less (changed_same before_in emptied (λ s. refl) k ss) h.links) h)
+
+pub chained_shaped : {N : Type 0} (ss ts : List (Slot N)) (us : List Tally) → AreChained ss us → map shape_in ts ≡ map shape_in ss → map before_in ts ≡ map before_in ss → AreChained ts us
+chained_shaped ss ts us h e b = let less = less_shaped ss ts e in chained_less ss ts us less (linked_less ss ts less b h.links) h

@@ -118,13 +118,13 @@ all_left m n p of ne (g ∷ gs) = all_left_on p (p g) (is_in n g) g (filter (λ 
 pub left_tally : {N : Type 0} (m n : ℕ) (gs : List (Goal N)) (t : Tally) → IsTally m gs t → IsTally m (filter (λ g. not (is_in n g)) gs) (cond (m == n) nothing t)
 left_tally {N = N} m n gs t h = elim (cases_eq m n) [
   | inl e ↦ rw (eq-eqb m n e, e) (record {
-      goals = sym (ap length (none_left n (is_goal_of {N = N} n) (λ g f. shoen_if g.shoen n (not (is_monitor g)) f) gs));
-      monitor = ap (map number_of) (none_left n (is_monitor_of {N = N} n) (λ g f. shoen_if g.shoen n (is_monitor g) f) gs);
-    })
+    goals = sym (ap length (none_left n (is_goal_of {N = N} n) (λ g f. shoen_if g.shoen n (not (is_monitor g)) f) gs));
+    monitor = ap (map number_of) (none_left n (is_monitor_of {N = N} n) (λ g f. shoen_if g.shoen n (is_monitor g) f) gs);
+  })
   | inr e ↦ rw (ne_eqb m n e) (record {
-      goals = h.goals ∙ sym (ap length (all_left m n (is_goal_of {N = N} m) (λ g f. shoen_if g.shoen m (not (is_monitor g)) f) e gs));
-      monitor = ap (map number_of) (all_left m n (is_monitor_of {N = N} m) (λ g f. shoen_if g.shoen m (is_monitor g) f) e gs) ∙ h.monitor;
-    })
+    goals = h.goals ∙ sym (ap length (all_left m n (is_goal_of {N = N} m) (λ g f. shoen_if g.shoen m (not (is_monitor g)) f) e gs));
+    monitor = ap (map number_of) (all_left m n (is_monitor_of {N = N} m) (λ g f. shoen_if g.shoen m (is_monitor g) f) e gs) ∙ h.monitor;
+  })
 ]
 
 -- places of which one is changed

@@ -1,14 +1,16 @@
 -- Links, as places come, change and go.
-use Rattle.std.proofs.Common.{◌≡◌, ℕ, zero, suc, ◌+◌, ◌-◌, ◌^◌, ◌<◌, ◌≤◌, ◌==◌, ◌&&◌, not, Bool, true, false, cond, List, [], ◌∷◌, ◌++◌, length, get_or, set, take, map, refl, sym, ◌∙◌, ap, subst, arith, inl, inr, eq-eqb}
+use Rattle.std.proofs.Common.{◌≡◌, ℕ, zero, suc, ◌+◌, ◌-◌, ◌^◌, ◌<◌, ◌≤◌, ◌==◌, ◌&&◌, not, Bool, true, false, cond, List, [], ◌∷◌, ◌++◌, Option, Some, None, length, get_or, take, map, refl, sym, ◌∙◌, ap, subst, arith, inl, inr, eq-eqb}
 use Rattle.std.specs.List.{filter}
+use Rattle.std.specs.Option.{option_to_list}
 use Rattle.std.proofs.lemmas.Bool.{false≢true, ne_eqb, cases_lt, cases_eq, eqb-true}
 use Rattle.std.proofs.lemmas.List.{get_or_append_left, get_or-take, get_or_past, length-map, length_push, length-take-le, map_push, take-map}
 use Rattle.std.proofs.Math.Seq.{get_or-append_seam}
 use Rattle.kl1_goals.specs.declared.goal.Goal.{Goal}
 use Rattle.kl1_goals.specs.declared.slot.Slot.{Slot}
 use Rattle.kl1_goals.specs.declared.tally.Tally.{Tally}
-use Rattle.kl1_goals.specs.Slots.{held_in, changed_at}
-use Rattle.kl1_goals.specs.Tallies.{nothing, tally_at, unlinked}
+use Rattle.kl1_goals.specs.Lists.{is_monitor}
+use Rattle.kl1_goals.specs.Slots.{held_in}
+use Rattle.kl1_goals.specs.Tallies.{nothing, tally_at, unlinked, raised, lowered, IsTally}
 use Rattle.kl1_goals.specs.Chains.{shoen_in, before_in, holds_in, shoen_at, before_at, last_at, Holds, IsLink, IsEmptyLink, AreLinked, AreKnown, AreChained, HoldsLess, HaveSameCounts}
 
 -- what a list of a function of the places has, after a place more and without the last ones
@@ -69,9 +71,13 @@ chained_less ss ts us w b h = record {
 pub less_less : {N : Type 0} (ss ts us : List (Slot N)) → HoldsLess ss ts → HoldsLess ts us → HoldsLess ss us
 less_less ss ts us v w = record { shoens = w.shoens ∙ v.shoens; holds = λ n k h. v.holds n k (w.holds n k h) }
 
--- links stay where other links to last places stay
-pub chained_lasts : {N : Type 0} (ss : List (Slot N)) (ts us : List Tally) → AreChained ss ts → length us ≡ length ts → ((n : ℕ) → last_at us n ≡ last_at ts n) → AreChained ss us
-chained_lasts ss ts us h e l = record { few = h.few; known = rw e h.known; links = h.links; lasts = λ n. rw (l n) (h.lasts n) }
+known_more : (most more : ℕ) (ns : List ℕ) → AreKnown most ns → most ≤ more → AreKnown more ns
+known_more most more [] a w = tt
+known_more most more (n ∷ ns) a w = (a.0, (omega (arith, a.1.0, w), known_more most more ns a.1.1 w))
+
+-- links stay where the links to last places stay
+pub chained_more : {N : Type 0} (ss : List (Slot N)) (ts us : List Tally) → AreChained ss ts → length ts ≤ length us → ((n : ℕ) → last_at us n ≡ last_at ts n) → AreChained ss us
+chained_more ss ts us h e l = record { few = h.few; known = known_more (length ts) (length us) (map shoen_in ss) h.known e; links = h.links; lasts = λ n. rw (l n) (h.lasts n) }
 
 -- another link to the last place of one shoen
 pub chained_one : {N : Type 0} (ss : List (Slot N)) (ts us : List Tally) (s l : ℕ) → AreChained ss ts → length us ≡ length ts → IsLink ss s (length ss) l → last_at us s ≡ l → ((n : ℕ) → (n ≡ s → ⊥) → last_at us n ≡ last_at ts n) → AreChained ss us
@@ -213,3 +219,42 @@ pub chained_next : {N : Type 0} (ss : List (Slot N)) (t : Slot N) (ts us : List 
 chained_next ss t ts us k h w few low high before is count =
     let many : length (take k ss) ≡ k = length-take-le k ss w in
     chained_push (take k ss) t ts us h (omega (arith, many, few)) low high before count (last_here ts us t.goal.shoen (k + 1) is ∙ ap (λ n. n + 1) (sym many)) (last_other ts us t.goal.shoen (k + 1) is)
+
+-- a shoen that is linked to a place is known
+pub last_known : (ts : List Tally) (n : ℕ) → (last_at ts n ≡ 0 → ⊥) → (0 < n) × (n ≤ length ts)
+last_known ts n ne = elim (cases_eq n 0) [
+  | inl e ↦ absurd (ne (ap (last_at ts) e))
+  | inr e ↦ elim (cases_lt (length ts) n) [
+    | inl a ↦ absurd (ne (ap (λ (t : Tally). t.last) (get_or_past (nothing ∷ ts) n nothing (omega (arith, a)))))
+    | inr a ↦ (omega (arith, e), a)
+  ]
+]
+
+-- what is kept of a shoen, with another link
+pub tally_counts : {N : Type 0} (n : ℕ) (gs : List (Goal N)) (t u : Tally) → IsTally n gs t → unlinked u ≡ unlinked t → IsTally n gs u
+tally_counts n gs t u h e = record {
+  goals = ap (λ (v : Tally). v.goals) e ∙ h.goals;
+  monitor = h.monitor ∙ sym (ap (λ (v : Tally). option_to_list v.monitor) e);
+}
+
+-- links stay as goals are counted
+raised_last_if : {N : Type 0} (b m : Bool) (g : Goal N) (t : Tally) → (cond b (cond m (record t { monitor = Some g.number }) (record t { goals = t.goals + 1 })) t).last ≡ t.last
+raised_last_if false m g t = refl
+raised_last_if true false g t = refl
+raised_last_if true true g t = refl
+
+lowered_last_if : (b m : Bool) (t : Tally) → (cond b (cond m (record t { monitor = None }) (record t { goals = t.goals - 1 })) t).last ≡ t.last
+lowered_last_if false m t = refl
+lowered_last_if true false t = refl
+lowered_last_if true true t = refl
+
+pub chained_raised : {N : Type 0} (ss : List (Slot N)) (ts us : List Tally) (g : Goal N) → AreChained ss ts → length us ≡ length ts → ((n : ℕ) → tally_at us n ≡ cond (n == g.shoen) (raised g (tally_at ts n)) (tally_at ts n)) → AreChained ss us
+chained_raised ss ts us g h e is = chained_more ss ts us h (omega (arith, e)) (λ n. ap (λ (t : Tally). t.last) (is n) ∙ raised_last_if (n == g.shoen) (is_monitor g) g (tally_at ts n))
+
+pub chained_lowered : {N : Type 0} (ss : List (Slot N)) (ts us : List Tally) (g : Goal N) → AreChained ss ts → length us ≡ length ts → ((n : ℕ) → tally_at us n ≡ cond (n == g.shoen) (lowered g (tally_at ts n)) (tally_at ts n)) → AreChained ss us
+chained_lowered ss ts us g h e is = chained_more ss ts us h (omega (arith, e)) (λ n. ap (λ (t : Tally). t.last) (is n) ∙ lowered_last_if (n == g.shoen) (is_monitor g) (tally_at ts n))
+
+-- a shoen whose goals went is linked to no place
+pub chained_forgotten : {N : Type 0} (ss : List (Slot N)) (ts us : List Tally) (s : ℕ) → AreChained ss ts → IsLink ss s (length ss) 0 → length us ≡ length ts → ((n : ℕ) → tally_at us n ≡ cond (n == s) nothing (tally_at ts n)) → AreChained ss us
+chained_forgotten ss ts us s h link e is =
+    chained_one ss ts us s 0 h e link (ap (λ (t : Tally). t.last) (is s) ∙ rw (eq-eqb s s refl) refl) (λ n ne. ap (λ (t : Tally). t.last) (is n) ∙ rw (ne_eqb n s ne) refl)

@@ -11,7 +11,9 @@ use crate::goal::Goal;
 use crate::places::{append, bury, count_upto, first_held, held_place, make_end, stand, tidy};
 use crate::room::make_room;
 use crate::slot::Slot;
-use crate::tally::{Tally, exchange_last, forget, lower, lower_alive, raise, raise_alive, tally_of};
+use crate::tally::{
+    Tally, exchange_last, forget, lower, lower_alive, raise, raise_alive, tally_of,
+};
 use kl1_queue::ReadyQueue;
 use kl1_text::NameValue;
 use std::alloc::{AllocError, Global};
@@ -223,13 +225,7 @@ impl<N: NameValue> GoalTable<N> {
         }
         let last = held_link(&self.slots, tally.last);
         exchange_last(&mut self.tallies, shoen, last);
-        let_all_step(
-            &mut self.slots,
-            &mut self.queue,
-            last,
-            shoen,
-            is_enabled,
-        );
+        let_all_step(&mut self.slots, &mut self.queue, last, shoen, is_enabled);
     }
 
     /// Removes the goals of a shoen, its monitor too.
