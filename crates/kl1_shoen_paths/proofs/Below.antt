@@ -3,32 +3,34 @@ use Rattle.std.proofs.Common.{◌≡◌, ◌≢◌, ℕ, zero, suc, ◌+◌, ◌
 use Rattle.std.specs.Prelude.{Contains, All, filter, cond}
 use Rattle.std.specs.List.{AllPairs}
 use Rattle.std.proofs.lemmas.Bool.{false≢true, eq-eqb, ne_eqb, eqb-true, or_cases, or_left, or_right, cases_eq, cases_Bool}
-use Rattle.std.proofs.lemmas.List.{take_all, take_more, take-append-le, length-append, get_or_append_left, get_or-append_right, get_or_default, get_or-take}
+use Rattle.std.proofs.lemmas.List.{take_all, take_more, take-append-le, length-append, length-map, get_or_append_left, get_or-append_right, get_or_default, get_or-take}
 use Rattle.std.proofs.lemmas.List.Elements.{Contains-get_or, Contains-append_left, Contains-append_right, Contains-push, Contains-push_cases, Contains-append_cases}
 use Rattle.std.proofs.lemmas.List.Kept.{AllPairs-cons, AllPairs-filter}
 use Rattle.kl1_model.specs.Module.{is_among}
 use Rattle.kl1_model.specs.Tree.{path_within}
 use Rattle.kl1_model.specs.laws.TreeLaws.{ParentsAreLower}
-use Rattle.kl1_shoen_paths.specs.Below.{AreLinked, children_from}
-use Rattle.kl1_shoen_paths.proofs.Paths.{beyond_path}
-use Rattle.kl1_shoen_paths.proofs.Children.{children_none, children_step}
+use Rattle.kl1_shoen_paths.specs.declared.shoen.Shoen.{Shoen}
+use Rattle.kl1_shoen_paths.specs.Paths.{AreLower, parents_in, is_on_path_in}
+use Rattle.kl1_shoen_paths.specs.Below.{AreBelow, children_from}
+use Rattle.kl1_shoen_paths.proofs.Paths.{beyond_path, go_on, zero_off_path}
+use Rattle.kl1_shoen_paths.proofs.Linking.{children_none, children_step}
 
 -- what a list contains is among it, and what is among it it contains
 pub among_contains : (n : ℕ) (ns : List ℕ) → Contains ns n → is_among n ns ≡ true
 among_contains n [] c = let l = c.1 in absurd (omega (arith, l))
-among_contains n (m ∷ ns) c = by_place c.0 c.1 c.2
+among_contains n (m ∷ ns) c = by_place (λ k. among_contains n ns k) c.0 c.1 c.2
   where
-    by_place : (k : ℕ) → k < suc (length ns) → get_or (m ∷ ns) k n ≡ n → is_among n (m ∷ ns) ≡ true
-    by_place zero l e = or_left (n == m) (is_among n ns) (eq-eqb n m (sym e))
-    by_place (suc k) l e = or_right (n == m) (is_among n ns) (among_contains n ns (k, omega (arith, l), e))
+    by_place : (Contains ns n → is_among n ns ≡ true) → (k : ℕ) → k < suc (length ns) → get_or (m ∷ ns) k n ≡ n → is_among n (m ∷ ns) ≡ true
+    by_place rest zero l e = or_left (n == m) (is_among n ns) (eq-eqb n m (sym e))
+    by_place rest (suc k) l e = or_right (n == m) (is_among n ns) (rest (k, omega (arith, l), e))
 
 pub contains_among : (n : ℕ) (ns : List ℕ) → is_among n ns ≡ true → Contains ns n
 contains_among n [] h = absurd (false≢true h)
-contains_among n (m ∷ ns) h = by_case (or_cases (n == m) (is_among n ns) h)
+contains_among n (m ∷ ns) h = by_case (λ e. contains_among n ns e) (or_cases (n == m) (is_among n ns) h)
   where
-    by_case : ((n == m) ≡ true) ⊎ (is_among n ns ≡ true) → Contains (m ∷ ns) n
-    by_case (inl e) = (0, omega arith, sym (eqb-true n m e))
-    by_case (inr e) = let c = contains_among n ns e in (suc c.0, (let l = c.1 in omega (arith, l)), c.2)
+    by_case : (is_among n ns ≡ true → Contains ns n) → ((n == m) ≡ true) ⊎ (is_among n ns ≡ true) → Contains (m ∷ ns) n
+    by_case rest (inl e) = (0, omega arith, sym (eqb-true n m e))
+    by_case rest (inr e) = let c = rest e in (suc c.0, (let l = c.1 in omega (arith, l)), c.2)
 
 -- the numbers that come from a child are each lower than the one before
 pub children_once : (next : List ℕ) (most n : ℕ) → ParentsAreLower next → n ≤ most → AllPairs (λ a b. a ≢ b) (children_from next n)
@@ -39,7 +41,7 @@ children_once next (suc most) (suc n) lower few =
     let low = lower n in
     let away : All (λ b. suc n ≢ b) (children_from next up) = λ k d within e.
     false≢true (sym (beyond_path next lower up up (suc n) (omega (arith, low))) ∙ among_contains (suc n) (children_from next up) (subst (λ (m : ℕ). Contains (children_from next up) m) (sym e) (Contains-get_or (children_from next up) k d within))) in
-    subst (λ (ns : List ℕ). AllPairs (λ a b. a ≢ b) ns) (sym (children_step next (suc n) lower (omega arith)))
+    subst (λ (ns : List ℕ). AllPairs (λ a b. a ≢ b) ns) (sym (go_on next lower n))
     (AllPairs-cons (λ a b. a ≢ b) (suc n) (children_from next up) away (children_once next most up lower (omega (arith, low, few))))
 
 
@@ -57,29 +59,29 @@ others_all m (n ∷ ns) away =
 
 others_few : (m : ℕ) (ns : List ℕ) → AllPairs (λ a b. a ≢ b) ns → length ns ≤ suc (length (others m ns))
 others_few m [] once = omega arith
-others_few m (n ∷ ns) once = by_case (n == m) refl
+others_few m (n ∷ ns) once = by_case (others_few m ns rest) (n == m) refl
   where
     rest : AllPairs (λ a b. a ≢ b) ns
     rest = λ i j d lt within. once (suc i) (suc j) d (omega (arith, lt)) (omega (arith, within))
-    by_case : (b : Bool) → (n == m) ≡ b → suc (length ns) ≤ suc (length (cond (not b) (n ∷ others m ns) (others m ns)))
-    by_case true e =
+    by_case : length ns ≤ suc (length (others m ns)) → (b : Bool) → (n == m) ≡ b → suc (length ns) ≤ suc (length (cond (not b) (n ∷ others m ns) (others m ns)))
+    by_case few true e =
         let is = eqb-true n m e in
         let l = others_all m ns (λ k d lt. λ f. once 0 (suc k) d (omega arith) (omega (arith, lt)) (is ∙ f)) in
         omega (arith, l)
-    by_case false e = let l = others_few m ns rest in omega (arith, l)
+    by_case few false e = omega (arith, few)
 
 others_among : (m n : ℕ) (ns : List ℕ) → is_among n (others m ns) ≡ true → (is_among n ns ≡ true) × (n ≢ m)
 others_among m n [] h = absurd (false≢true h)
-others_among m n (k ∷ ns) h = by_case (k == m) refl h
+others_among m n (k ∷ ns) h = by_case (λ f. others_among m n ns f) (k == m) refl h
   where
-    rest : is_among n (others m ns) ≡ true → (is_among n (k ∷ ns) ≡ true) × (n ≢ m)
-    rest f = let o = others_among m n ns f in (or_right (n == k) (is_among n ns) o.0, o.1)
-    by_head : (k == m) ≡ false → ((n == k) ≡ true) ⊎ (is_among n (others m ns) ≡ true) → (is_among n (k ∷ ns) ≡ true) × (n ≢ m)
-    by_head e (inl f) = (or_left (n == k) (is_among n ns) f, λ g. false≢true (sym e ∙ eq-eqb k m (sym (eqb-true n k f) ∙ g)))
-    by_head e (inr f) = rest f
-    by_case : (b : Bool) → (k == m) ≡ b → is_among n (cond (not b) (k ∷ others m ns) (others m ns)) ≡ true → (is_among n (k ∷ ns) ≡ true) × (n ≢ m)
-    by_case true e g = rest g
-    by_case false e g = by_head e (or_cases (n == k) (is_among n (others m ns)) g)
+    later : ((is_among n ns ≡ true) × (n ≢ m)) → (is_among n (k ∷ ns) ≡ true) × (n ≢ m)
+    later o = (or_right (n == k) (is_among n ns) o.0, o.1)
+    by_head : (is_among n (others m ns) ≡ true → (is_among n ns ≡ true) × (n ≢ m)) → (k == m) ≡ false → ((n == k) ≡ true) ⊎ (is_among n (others m ns) ≡ true) → (is_among n (k ∷ ns) ≡ true) × (n ≢ m)
+    by_head rest e (inl f) = (or_left (n == k) (is_among n ns) f, λ g. false≢true (sym e ∙ eq-eqb k m (sym (eqb-true n k f) ∙ g)))
+    by_head rest e (inr f) = later (rest f)
+    by_case : (is_among n (others m ns) ≡ true → (is_among n ns ≡ true) × (n ≢ m)) → (b : Bool) → (k == m) ≡ b → is_among n (cond (not b) (k ∷ others m ns) (others m ns)) ≡ true → (is_among n (k ∷ ns) ≡ true) × (n ≢ m)
+    by_case rest true e g = later (rest g)
+    by_case rest false e g = by_head rest e (or_cases (n == k) (is_among n (others m ns)) g)
 
 -- distinct numbers from 1 up to a number are no more than that
 pub distinct_few : (most : ℕ) (ns : List ℕ) → AllPairs (λ a b. a ≢ b) ns → ((n : ℕ) → Contains ns n → (0 < n) × (n ≤ most)) → length ns ≤ most
@@ -217,16 +219,18 @@ closes_more parents root found added i x lower c lt at distinct are = record {
 -- a list that is closed has all that are below
 reached : (parents : List ℕ) (root : ℕ) (found : List ℕ) (i : ℕ) → ParentsAreLower parents → Closes parents root found i → length found ≤ i → (most n : ℕ) → n ≤ most → 0 < n → n ≤ length parents → on_in parents root n ≡ true → Contains found n
 reached parents root found i lower c all zero n few lt within on = absurd (omega (arith, few, lt))
-reached parents root found i lower c all (suc most) n few lt within on = by_case (or_cases (root == n) (on_in parents root (up_in parents n)) (sym (on_step parents root n lower lt) ∙ on))
+reached parents root found i lower c all (suc most) n few lt within on =
+    by_case (λ l some w up. reached parents root found i lower c all most (up_in parents n) l some w up) (or_cases (root == n) (on_in parents root (up_in parents n)) (sym (on_step parents root n lower lt) ∙ on))
   where
     up_some : (m : ℕ) → up_in parents n ≡ m → on_in parents root (up_in parents n) ≡ true → 0 < up_in parents n
     up_some zero e on = absurd (false≢true (sym (ap (is_among root) (children_none parents (up_in parents n) e)) ∙ on))
     up_some (suc m) e on = omega (arith, e)
-    by_case : ((root == n) ≡ true) ⊎ (on_in parents root (up_in parents n) ≡ true) → Contains found n
-    by_case (inl e) = subst (λ (m : ℕ). Contains found m) (eqb-true root n e) c.has_root
-    by_case (inr up) =
+    by_case : (up_in parents n ≤ most → 0 < up_in parents n → up_in parents n ≤ length parents → on_in parents root (up_in parents n) ≡ true → Contains found (up_in parents n)) →
+        ((root == n) ≡ true) ⊎ (on_in parents root (up_in parents n) ≡ true) → Contains found n
+    by_case rest (inl e) = subst (λ (m : ℕ). Contains found m) (eqb-true root n e) c.has_root
+    by_case rest (inr up) =
         let low = lower (n - 1) in
-        let k = reached parents root found i lower c all most (up_in parents n) (omega (arith, low, few, lt)) (up_some (up_in parents n) refl up) (omega (arith, low, within, lt)) up in
+        let k = rest (omega (arith, low, few, lt)) (up_some (up_in parents n) refl up) (omega (arith, low, within, lt)) up in
         c.closed n lt within (subst (λ (ns : List ℕ). Contains ns (up_in parents n)) (sym (take_all i found all)) k)
 
 -- so it has just those, each once
@@ -236,3 +240,28 @@ closed_among parents root found i lower c all n = (c.sound n, λ h. reached pare
 -- and is no longer than the shoens are
 pub closes_few : (parents : List ℕ) (root : ℕ) (found : List ℕ) (i : ℕ) → Closes parents root found i → length found ≤ length parents
 closes_few parents root found i c = distinct_few (length parents) found c.once (λ n k. let s = c.sound n k in (s.0, s.1))
+
+-- a list that is closed has just the shoens that are below
+pub below_closed : {N : Type 0} (ss : List (Shoen N)) (root : ℕ) (found : List ℕ) (i : ℕ) → AreLower ss → Closes (parents_in ss) root found i → length found ≤ i → AreBelow ss root found
+below_closed {N = N} ss root found i lower c all =
+    let len = length-map ss (λ (h : Shoen N). h.parent) in
+    record {
+      among = λ n.
+          let is = closed_among (parents_in ss) root found i lower c all n in
+          (λ k. let s = is.0 k in (s.0, (let w = s.1 in omega (arith, w, len)), s.2), λ h. is.1 (h.0, (let w = h.1 in omega (arith, w, len)), h.2));
+      once = c.once;
+    }
+
+none_below : {N : Type 0} (ss : List (Shoen N)) (root : ℕ) (found : List ℕ) → found ≡ [] → ((n : ℕ) → n ≤ length ss → is_on_path_in ss root n ≡ false) → AreBelow ss root found
+none_below ss root found e off = record {
+  among = λ n. (λ k. absurd (none_there n found e k), λ h. absurd (false≢true (sym (off n h.1) ∙ h.2)));
+  once = subst (λ (ns : List ℕ). AllPairs (λ a b. a ≢ b) ns) (sym e) (λ i j d lt within. absurd (omega (arith, within)));
+}
+
+-- none is below the number 0
+pub below_zero : {N : Type 0} (ss : List (Shoen N)) (root : ℕ) (found : List ℕ) → root ≡ 0 → found ≡ [] → AreBelow ss root found
+below_zero ss root found z e = none_below ss root found e (λ n few. ap (λ (a : ℕ). is_on_path_in ss a n) z ∙ zero_off_path (parents_in ss) n n)
+
+-- nor below a number that no shoen has
+pub below_beyond : {N : Type 0} (ss : List (Shoen N)) (root : ℕ) (found : List ℕ) → AreLower ss → length ss < root → found ≡ [] → AreBelow ss root found
+below_beyond ss root found lower lt e = none_below ss root found e (λ n few. beyond_path (parents_in ss) lower n n root (omega (arith, lt, few)))

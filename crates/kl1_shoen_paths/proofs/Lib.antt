@@ -4,5 +4,5 @@ pub mod Numbered
 pub mod Paths
 pub mod Charges
 pub mod Flags
-pub mod Children
+pub mod Linking
 pub mod Below

@@ -89,3 +89,12 @@ path_among ps qs lower (suc m) (suc n) few =
     let l : n < length ps = omega (arith, few) in
     ap (λ (k : ℕ). suc n ∷ path_within m (ps ++ qs) k) (get_or_append_left ps qs 0 n l)
     ∙ ap (λ (ks : List ℕ). suc n ∷ ks) (path_among ps qs lower m (get_or ps n 0) (omega (arith, lower n, l)))
+
+-- the number 0 is on no path
+pub zero_off_path : (parents : List ℕ) (m n : ℕ) → is_among 0 (path_within m parents n) ≡ false
+unfolding path_within
+zero_off_path parents zero n = refl
+zero_off_path parents (suc m) zero = refl
+zero_off_path parents (suc m) (suc n) =
+    ap (λ b. b || is_among 0 (path_within m parents (get_or parents n 0))) (ne_eqb 0 (suc n) (λ e. omega (arith, e)))
+    ∙ zero_off_path parents m (get_or parents n 0)

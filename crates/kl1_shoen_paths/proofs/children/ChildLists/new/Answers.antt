@@ -1,4 +1,4 @@
-use Rattle.kl1_shoen_paths.proofs.Children.{linked_none}
+use Rattle.kl1_shoen_paths.proofs.Linking.{linked_none}
 use Rattle.kl1_shoen_paths.proofs.children.ChildLists.new.Goals as goal
 
 pub returns-clause-linked : goal.returns-clause-linked

@@ -48,7 +48,8 @@ first_few parents first next a p = by_case (get_or first p 0) refl
     by_case (suc c) e =
         let lt : 0 < get_or first p 0 = omega (arith, e) in
         let step = children_step next (get_or first p 0) a.lower lt in
-        (a.among p (get_or first p 0)).0 (ap (is_among (get_or first p 0)) step ∙ head_among (get_or first p 0) (children_from next (get_or next (get_or first p 0 - 1) 0))) .1
+        let child = (a.among p (get_or first p 0)).0 (ap (is_among (get_or first p 0)) step ∙ head_among (get_or first p 0) (children_from next (get_or next (get_or first p 0 - 1) 0))) in
+        child.1
 
 none_from : (next : List ℕ) (c n : ℕ) → c ≡ 0 → is_among n (children_from next c) ≡ true → ⊥
 none_from next c n e h = false≢true (sym (ap (is_among n) (children_none next c e)) ∙ h)
