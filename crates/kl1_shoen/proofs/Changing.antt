@@ -58,7 +58,8 @@ found_get n s ss a e = sym (found_at n ss a (number_some n s ss a e)) ∙ e
 pub place_within : {N : Type 0} (n : ℕ) (s : Shoen N) (ss : List (Shoen N)) → AreNumbered 0 ss → find (has_number n) ss ≡ Some s → n - 1 < length ss
 place_within n s ss a e = get_within ss (n - 1) s (found_get n s ss a e)
 
-got_found : {A : Type 0} (xs : List A) (i : ℕ) (x y : A) → slice_get xs i ≡ Some x → get_or xs i y ≡ x
+-- what is found at a place is got from it
+pub got_found : {A : Type 0} (xs : List A) (i : ℕ) (x y : A) → slice_get xs i ≡ Some x → get_or xs i y ≡ x
 got_found [] i x y e = absurd (none-some x e)
 got_found (z ∷ xs) zero x y e = same_Some z x e
 got_found (z ∷ xs) (suc i) x y e = got_found xs i x y e

@@ -56,27 +56,37 @@ blocks_same {N = N} t charges kept_charges trail charge_trail shifts n a k some 
   where
     longer : length t.kept ≤ length t.shoens
     longer = k.changes.few
+
     found : (h : Shoen N) × (slice_get t.shoens (a - 1) ≡ Some h)
     found = some_at t.shoens (a - 1) (omega (arith, lt, within, longer))
+
     before : (h : Shoen N) × (slice_get t.kept (a - 1) ≡ Some h)
     before = some_at t.kept (a - 1) (omega (arith, lt, within))
+
     s : Shoen N
     s = found.0
+
     was : Shoen N
     was = before.0
+
     got : get_or t.shoens (a - 1) s ≡ s
     got = got_found t.shoens (a - 1) s s found.1
+
     got_was : get_or t.kept (a - 1) s ≡ was
     got_was = got_found t.kept (a - 1) was s before.1
+
     number : s.number ≡ a
     number = number_is a s t.shoens k.now.numbered lt (found_at a t.shoens k.now.numbered lt ∙ found.1)
+
     uncovered : Covers t s.number shifts → ⊥
     uncovered c = away (subst (λ (m : ℕ). Covers t m shifts) number c up n some (omega (arith, few, longer)) on)
+
     by_trail : (get_or t.kept (a - 1) s ≡ get_or t.shoens (a - 1) s) ⊎ Contains trail (record { place = a - 1; value = get_or t.kept (a - 1) s }) → HoldAlike was s ⊎ Covers t s.number shifts
     by_trail (inl e) = inl (alike_itself was s (sym got_was ∙ e ∙ got))
     by_trail (inr c) =
         subst (λ (h : Shoen N). HoldAlike h s ⊎ Covers t s.number shifts) got_was
         (All-contains (CoversChange t shifts) trail (record { place = a - 1; value = get_or t.kept (a - 1) s }) k.covers c s found.1)
+
     by_charge : HoldAlike was s → (nat_le s.allowance (get_or kept_charges (a - 1) 0) ≡ nat_le s.allowance (get_or charges (a - 1) 0)) ⊎ Covers t s.number shifts → is_blocking_at t.shoens t.work a ≡ is_blocking_at t.kept t.kept_work a
     by_charge alike (inr c) = absurd (uncovered c)
     by_charge alike (inl e) =
@@ -85,14 +95,17 @@ blocks_same {N = N} t charges kept_charges trail charge_trail shifts n a k some 
         ∙ ap (λ (m : ℕ). s.is_stopped || not (is_living s.life) || nat_le m (get_or kept_charges (a - 1) 0)) (sym alike.allowance)
         ∙ ap₂ (λ (b c : Bool). b || not c || nat_le was.allowance (get_or kept_charges (a - 1) 0)) (sym alike.stopped) (sym alike.living)
         ∙ sym (blocks_by t.kept kept_charges t.kept_work a was k.kept lt before.1)
+
     exhausted : is_exhausted_in t.shoens t.work s ≡ nat_le s.allowance (get_or charges (a - 1) 0)
     exhausted = ap (λ (m : ℕ). nat_le s.allowance m) (ap (charged_in t.shoens t.work) (number ∙ omega (arith, lt)) ∙ sym (k.now.charged (a - 1)))
+
     charge_case : (get_or kept_charges (a - 1) 0 ≡ get_or charges (a - 1) 0) ⊎ Contains charge_trail (record { place = a - 1; value = get_or kept_charges (a - 1) 0 }) →
         (nat_le s.allowance (get_or kept_charges (a - 1) 0) ≡ nat_le s.allowance (get_or charges (a - 1) 0)) ⊎ Covers t s.number shifts
     charge_case (inl e) = inl (ap (nat_le s.allowance) e)
     charge_case (inr c) =
         subst (λ (b : Bool). (nat_le s.allowance (get_or kept_charges (a - 1) 0) ≡ b) ⊎ Covers t s.number shifts) exhausted
         (All-contains (CoversCharge t shifts) charge_trail (record { place = a - 1; value = get_or kept_charges (a - 1) 0 }) k.covers_charges c s found.1)
+
     by_change : HoldAlike was s ⊎ Covers t s.number shifts → is_blocking_at t.shoens t.work a ≡ is_blocking_at t.kept t.kept_work a
     by_change (inr c) = absurd (uncovered c)
     by_change (inl alike) = by_charge alike (charge_case (k.charged.was (a - 1) 0 (let c = k.kept.count in omega (arith, lt, within, c))))

@@ -90,7 +90,7 @@ pub record IsCounted {N : Type 0} (shoens : Tracked (Shoen N)) (children : Track
   pub changes : room ≤ children.changes
 
 -- the children of each are linked, now and as they were when the event began, and since then shoens were only opened
-pub record AreLinkedSince {N : Type 0} (shoens kept : List (Shoen N)) (l : Links) : Type 0 where
+pub record AreLinkedSince {N : Type 0} (shoens before : List (Shoen N)) (l : Links) : Type 0 where
   pub now : AreLinked (parents_in shoens) l.first l.next
-  pub kept : AreLinked (parents_in kept) l.kept_first l.kept_next
-  pub grown : parents_in kept ≡ take (length kept) (parents_in shoens)
+  pub kept : AreLinked (parents_in before) l.kept_first l.kept_next
+  pub grown : parents_in before ≡ take (length before) (parents_in shoens)
