@@ -6,7 +6,7 @@ use Rattle.std.specs.List.{list_any}
 use Rattle.std.proofs.lemmas.Bool.{false≢true, or_left, or_right, eq-eqb, cases_Bool}
 use Rattle.std.proofs.lemmas.Option.{none-some, same_Some}
 use Rattle.std.proofs.lemmas.List.{get_or-take, map_push}
-use Rattle.std.proofs.lemmas.List.Elements.{All-contains, All-push, Contains-append_left}
+use Rattle.std.proofs.lemmas.List.Elements.{All-contains, All-push, All-weaker, Contains-append_left}
 use Rattle.kl1_model.specs.Module.{is_among}
 use Rattle.kl1_model.specs.State.{is_living}
 use Rattle.kl1_shoen_paths.specs.declared.shoen.Shoen.{Shoen}
@@ -16,19 +16,27 @@ use Rattle.kl1_shoen_paths.proofs.Numbered.{found_at}
 use Rattle.kl1_shoen_paths.proofs.Paths.{path_zero, path_parent, parent_below, parent_at}
 use Rattle.kl1_shoen.specs.declared.shift.Shift.{Shift}
 use Rattle.kl1_shoen.specs.Shoens.{Tree, AreCharged, has_number, AreNumbered, AreLower, parents_in, path_in, is_on_path_in, charged_in, is_blocking_in, is_blocking_at, is_enabled_at, is_exhausted_in}
-use Rattle.kl1_shoen.specs.Shifts.{Adds, Covers, CoversChange, CoversCharge, HoldAlike, parent_in, shoens_of}
+use Rattle.kl1_shoen.specs.Shifts.{Adds, AreShifts, Covers, CoversChange, CoversCharge, HoldAlike, parent_in, shoens_of}
 use Rattle.kl1_shoen.proofs.Numbered.{number_is}
 use Rattle.kl1_shoen.proofs.Changing.{got_found}
 
--- what is known of a tree, of its charges and trails, and of those that it is told of
-pub record Told {N : Type 0} (t : Tree N) (charges kept_charges : List ℕ) (trail : List (Was (Shoen N))) (charge_trail : List (Was ℕ)) (shifts : List Shift) : Type 0 where
+-- what is known of a tree, of its charges and its trails
+pub record Told {N : Type 0} (t : Tree N) (charges kept_charges : List ℕ) (trail : List (Was (Shoen N))) (charge_trail : List (Was ℕ)) : Type 0 where
   pub now : AreCharged t.shoens charges t.work
   pub kept : AreCharged t.kept kept_charges t.kept_work
   pub grown : parents_in t.kept ≡ take (length t.kept) (parents_in t.shoens)
   pub changes : IsTrail t.shoens t.kept trail
   pub charged : IsTrail charges kept_charges charge_trail
-  pub covers : All (CoversChange t shifts) trail
-  pub covers_charges : All (CoversCharge t shifts) charge_trail
+
+-- and of those that it is told of
+record ToldOf {N : Type 0} (t : Tree N) (charges kept_charges : List ℕ) (trail : List (Was (Shoen N))) (charge_trail : List (Was ℕ)) (shifts : List Shift) : Type 0 where
+  now : AreCharged t.shoens charges t.work
+  kept : AreCharged t.kept kept_charges t.kept_work
+  grown : parents_in t.kept ≡ take (length t.kept) (parents_in t.shoens)
+  changes : IsTrail t.shoens t.kept trail
+  charged : IsTrail charges kept_charges charge_trail
+  covers : All (CoversChange t shifts) trail
+  covers_charges : All (CoversCharge t shifts) charge_trail
 
 some_at : {A : Type 0} (xs : List A) (i : ℕ) → i < length xs → (x : A) × (slice_get xs i ≡ Some x)
 some_at [] i lt = absurd (omega (arith, lt))
@@ -50,7 +58,7 @@ alike_itself a b e = record { stopped = ap (λ (h : Shoen _). h.is_stopped) e; l
 
 -- a shoen on the path of one that isn't told of, whose parent's goals are enabled, holds back goals as it did
 blocks_same : {N : Type 0} (t : Tree N) (charges kept_charges : List ℕ) (trail : List (Was (Shoen N))) (charge_trail : List (Was ℕ)) (shifts : List Shift) (n a : ℕ) →
-    Told t charges kept_charges trail charge_trail shifts → 0 < n → n ≤ length t.kept → (Contains (shoens_of shifts) n → ⊥) → 0 < a → a ≤ length t.kept → is_on_path_in t.shoens a n ≡ true →
+    ToldOf t charges kept_charges trail charge_trail shifts → 0 < n → n ≤ length t.kept → (Contains (shoens_of shifts) n → ⊥) → 0 < a → a ≤ length t.kept → is_on_path_in t.shoens a n ≡ true →
     is_enabled_at t.shoens t.work (parent_in t.shoens a) ≡ true → is_blocking_at t.shoens t.work a ≡ is_blocking_at t.kept t.kept_work a
 blocks_same {N = N} t charges kept_charges trail charge_trail shifts n a k some few away lt within on up = by_change (by_trail (k.changes.was (a - 1) s (omega (arith, lt, within))))
   where
@@ -152,7 +160,7 @@ enabled_same t charges kept_charges now kept grown (suc most) (suc n) few within
     ∙ sym (ap (λ (ns : List ℕ). not (list_any (is_blocking_at t.kept t.kept_work) ns)) kept_path)
 
 -- goals of a shoen that isn't told of are enabled as they were
-pub untold_same : {N : Type 0} (t : Tree N) (charges kept_charges : List ℕ) (trail : List (Was (Shoen N))) (charge_trail : List (Was ℕ)) (shifts : List Shift) → Told t charges kept_charges trail charge_trail shifts →
+untold_same : {N : Type 0} (t : Tree N) (charges kept_charges : List ℕ) (trail : List (Was (Shoen N))) (charge_trail : List (Was ℕ)) (shifts : List Shift) → ToldOf t charges kept_charges trail charge_trail shifts →
     (n : ℕ) → 0 < n → n ≤ length t.kept → (Contains (shoens_of shifts) n → ⊥) → is_enabled_at t.shoens t.work n ≡ is_enabled_at t.kept t.kept_work n
 untold_same t charges kept_charges trail charge_trail shifts k n lt few away =
     enabled_same t charges kept_charges k.now k.kept k.grown n n (omega arith) few (λ a some within on up. blocks_same t charges kept_charges trail charge_trail shifts n a k lt few away some within on up)
@@ -194,3 +202,19 @@ lent_none {N = N} ss i o e z h f = none-some h (sym (ap (λ (b : Option (Bor (Sh
 
 pub lent_some : {N : Type 0} (ss : List (Shoen N)) (i : ℕ) (o : Option (Bor (Shoen N))) (b : Bor (Shoen N)) → option_copied o ≡ slice_get ss i → o ≡ Some b → (h : Shoen N) → slice_get ss i ≡ Some h → b.now ≡ h
 lent_some {N = N} ss i o b e z h f = same_Some b.now h (sym (ap (λ (c : Option (Bor (Shoen N))). option_copied c) z) ∙ e ∙ f)
+
+-- what is told, from nothing on, is whole
+pub told_whole : {N : Type 0} (t : Tree N) (charges kept_charges : List ℕ) (trail : List (Was (Shoen N))) (charge_trail : List (Was ℕ)) (start mid after : List Shift) → Told t charges kept_charges trail charge_trail → start ≡ [] →
+    Adds t start mid → Adds t mid after → All (CoversChange t mid) trail → All (CoversCharge t after) charge_trail → AreShifts t after
+told_whole t charges kept_charges trail charge_trail start mid after k none first second covers covers_charges = record {
+  right = second.right (first.right (subst (λ (l : List Shift). All (λ (s : Shift). s.is_enabled ≡ is_enabled_at t.shoens t.work s.shoen) l) (sym none) (λ i d lt. absurd (omega (arith, lt)))));
+  whole = untold_same t charges kept_charges trail charge_trail after (record {
+    now = k.now;
+    kept = k.kept;
+    grown = k.grown;
+    changes = k.changes;
+    charged = k.charged;
+    covers = All-weaker (CoversChange t mid) (CoversChange t after) (change_more t mid after second) trail covers;
+    covers_charges = covers_charges;
+  });
+}
