@@ -104,8 +104,11 @@ blocks_same {N = N} t charges kept_charges trail charge_trail shifts n a k some 
         ∙ ap₂ (λ (b c : Bool). b || not c || nat_le was.allowance (get_or kept_charges (a - 1) 0)) (sym alike.stopped) (sym alike.living)
         ∙ sym (blocks_by t.kept kept_charges t.kept_work a was k.kept lt before.1)
 
+    place : s.number ≡ suc (a - 1)
+    place = omega (arith, number, lt)
+
     exhausted : is_exhausted_in t.shoens t.work s ≡ nat_le s.allowance (get_or charges (a - 1) 0)
-    exhausted = ap (λ (m : ℕ). nat_le s.allowance m) (ap (charged_in t.shoens t.work) (number ∙ omega (arith, lt)) ∙ sym (k.now.charged (a - 1)))
+    exhausted = ap (λ (m : ℕ). nat_le s.allowance m) (ap (charged_in t.shoens t.work) place ∙ sym (k.now.charged (a - 1)))
 
     charge_case : (get_or kept_charges (a - 1) 0 ≡ get_or charges (a - 1) 0) ⊎ Contains charge_trail (record { place = a - 1; value = get_or kept_charges (a - 1) 0 }) →
         (nat_le s.allowance (get_or kept_charges (a - 1) 0) ≡ nat_le s.allowance (get_or charges (a - 1) 0)) ⊎ Covers t s.number shifts

@@ -1,6 +1,6 @@
-use Rattle.std.proofs.Common.{ℕ, inl, inr, subst}
+use Rattle.std.proofs.Common.{inr, subst}
 use Rattle.kl1_shoen_paths.specs.declared.shoen.Shoen.{Shoen}
-use Rattle.kl1_shoen.specs.Shifts.{Covers, HoldAlike}
+use Rattle.kl1_shoen.specs.Shifts.{Covers}
 use Rattle.kl1_shoen.proofs.Shifting.{adds_none, lent_none, lent_some}
 use Rattle.kl1_shoen.proofs.tree.ShoenTree.add_change.Goals as goal
 
