@@ -221,3 +221,8 @@ told_whole t charges kept_charges trail charge_trail start mid after k none firs
     covers_charges = covers_charges;
   });
 }
+
+-- a shoen is exhausted as it was, by the charge that is looked up
+pub exhausted_alike : {N : Type 0} (t : Tree N) (was : ℕ) (x h : Shoen N) → x ≡ h → (charged : ℕ) → charged ≡ charged_in t.shoens t.work x.number → nat_le x.allowance was ≡ nat_le x.allowance charged → nat_le h.allowance was ≡ is_exhausted_in t.shoens t.work h
+exhausted_alike {N = N} t was x h e charged is same =
+    subst (λ (y : Shoen N). nat_le y.allowance was ≡ is_exhausted_in t.shoens t.work y) e (same ∙ ap (nat_le x.allowance) is)

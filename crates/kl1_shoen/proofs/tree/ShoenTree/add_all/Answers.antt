@@ -1,4 +1,4 @@
-use Rattle.std.proofs.Common.{◌≡◌, ◌+◌, ◌++◌, ◌∷◌, [], ℕ, List, take, sym, ap, ◌∙◌, arith, subst}
+use Rattle.std.proofs.Common.{◌≡◌, ◌+◌, ◌++◌, ◌∷◌, [], ℕ, List, get_or, take, sym, ap, ◌∙◌, arith, subst}
 use Rattle.std.proofs.lemmas.List.{append_assoc, append-nil, map_push, take_all, take_more}
 use Rattle.kl1_shoen.specs.declared.shift.Shift.{Shift}
 use Rattle.kl1_shoen.specs.Shifts.{Adds, shoens_of}
@@ -15,8 +15,8 @@ pub loop-number-preserved : goal.loop-number-preserved
 loop-number-preserved g c =
     let t = c.args.self.now in
     let ns = c.args.numbers.now in
-    let x = c.number-item.result in
     let k = c.loop-number.number-index in
+    let x = get_or ns k 0 in
     let old = c.args.out.now.items in
     let before = c.loop-number.out.items in
     let i = c.loop-number.invariant in
@@ -27,7 +27,7 @@ loop-number-preserved g c =
       numbers =
           ap shoens_of is ∙ map_push (λ (y : Shift). y.shoen) before s ∙ ap (λ (l : List ℕ). l ++ x ∷ []) i.numbers
           ∙ append_assoc (shoens_of old) (take k ns) (x ∷ [])
-          ∙ ap (λ (l : List ℕ). shoens_of old ++ l) (sym (take_more ns k x (omega (arith, c.loop-number-test.true)) ∙ ap (λ (m : ℕ). take k ns ++ m ∷ []) (sym c.number-item.is)));
+          ∙ ap (λ (l : List ℕ). shoens_of old ++ l) (sym (take_more ns k 0 (omega (arith, c.loop-number-test.true))));
     }
 
 pub returns-clause-numbers : goal.returns-clause-numbers

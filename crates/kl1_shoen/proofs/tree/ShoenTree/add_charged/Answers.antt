@@ -1,7 +1,8 @@
-use Rattle.std.proofs.Common.{List, take, refl, sym, arith, subst}
+use Rattle.std.proofs.Common.{ℕ, List, take, refl, sym, arith, subst}
 use Rattle.std.specs.Prelude.{All}
 use Rattle.std.proofs.lemmas.List.{take_all}
 use Rattle.std.proofs.lemmas.List.Elements.{All-more, All-same, All-weaker}
+use Rattle.kl1_shoen_paths.specs.declared.tracked.Was.{Was}
 use Rattle.kl1_shoen.specs.Shifts.{CoversCharge}
 use Rattle.kl1_shoen.proofs.Shifting.{adds_none, adds_more, charge_more}
 use Rattle.kl1_shoen.proofs.tree.ShoenTree.add_charged.Goals as goal
@@ -18,11 +19,11 @@ loop-was-preserved g c =
     let after = c.add_charge.new.out.items in
     let adds = c.in_ok-add_charge.ensures.adds in
     let i = c.loop-was.invariant in
-    let x = c.was-item.result in
+    let none : Was ℕ = record { place = 0; value = 0 } in
     record {
       adds = adds_more t c.args.out.now.items before after i.adds adds;
-      covers = All-more (CoversCharge t after) trail k x (omega (arith, c.loop-was-test.true)) (All-weaker (CoversCharge t before) (CoversCharge t after) (charge_more t before after adds) (take k trail) i.covers)
-          (subst (CoversCharge t after) c.was-item.is c.in_ok-add_charge.ensures.covers);
+      covers = All-more (CoversCharge t after) trail k none (omega (arith, c.loop-was-test.true)) (All-weaker (CoversCharge t before) (CoversCharge t after) (charge_more t before after adds) (take k trail) i.covers)
+          c.in_ok-add_charge.ensures.covers;
     }
 
 pub returns-clause-covers : goal.returns-clause-covers
