@@ -1,5 +1,6 @@
-use Rattle.std.proofs.Common.{◌≡◌, ℕ, ◌+◌, ◌<◌, ◌^◌, ◌==◌, Bool, cond, [], ◌∷◌, ◌++◌, length, ap, arith, ◌∙◌}
+use Rattle.std.proofs.Common.{◌≡◌, ℕ, ◌+◌, ◌<◌, ◌^◌, ◌==◌, Bool, cond, [], ◌∷◌, ◌++◌, ◌-◌, min, length, vec_len, vec_capacity, ap, arith, ◌∙◌}
 use Rattle.kl1_goals.specs.declared.goal.Goal.{Goal}
+use Rattle.std.proofs.Math.Nat.{min-le_right}
 use Rattle.std.proofs.lemmas.List.Sums.{length-filter, count_by-le-length}
 use Rattle.kl1_goals.specs.Lists.{is_goal_of}
 use Rattle.kl1_goals.specs.Slots.{goals_in}
@@ -49,7 +50,9 @@ invariant_of-self g c =
     let count : c.len.result ≡ length ss = omega (arith, c.len.ensures, c.make_end.new.slots.ok.0) in
     let is : (n : ℕ) → tally_at us n ≡ cond (n == goal.shoen) (record (tally_at ts n) { last = length ss + 1 }) (tally_at ts n) = λ n. c.exchange_last-before.ensures.tallies n ∙ ap (λ l. cond (n == goal.shoen) (record (tally_at ts n) { last = l + 1 }) (tally_at ts n)) count in
     let same = counts_counts s.tallies.items ts us c.make_end.ensures.counts (counts_exchanged ts us goal.shoen _ is c.exchange_last-before.ensures.length) in
-    let room : length ss + 1 < 2 ^ 32 = omega arith in
+    let some = rw (← c.self.view_is) at c.requires.room in
+    let few = min-le_right (min (vec_capacity s.slots - vec_len s.slots) s.queue.room) (2 ^ 32 - 1 - vec_len s.slots) in
+    let room : length ss + 1 < 2 ^ 32 = omega (arith, some, few, c.make_end.ensures.len, c.make_end.new.slots.ok.0) in
     let place = linked_to c.exchange_last-before.result goal in
     let chained = chained_push ss place ts us c.make_end.ensures.chained room next.low (omega (arith, next.high, c.make_end.ensures.counts.length)) c.exchange_last-before.ensures.was c.exchange_last-before.ensures.length (last_here ts us goal.shoen _ is) (last_other ts us goal.shoen _ is) in
     record {
