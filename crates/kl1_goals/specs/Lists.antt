@@ -53,3 +53,11 @@ is_counted_by flags g = not (is_monitor g) && is_flagged flags g
 -- a goal, which may step from now on if it is a monitor or the flag of its shoen is set
 abbrev pub enabled_by : {N : Type 0} → List Bool → Goal N → Goal N
 enabled_by flags g = record g { is_enabled = is_monitor g || is_flagged flags g }
+
+-- whether a goal is of a shoen, as its monitor too
+abbrev pub is_in : {N : Type 0} → ℕ → Goal N → Bool
+is_in n g = g.shoen == n
+
+-- a goal, which may step from now on, or may not, if it is of a shoen and not its monitor
+abbrev pub enabled_in : {N : Type 0} → ℕ → Bool → Goal N → Goal N
+enabled_in n b g = record g { is_enabled = if is_goal_of n g then b else g.is_enabled }

@@ -2,7 +2,7 @@
 
 ghost use Rattle.std.specs.Prelude.{◌≡◌, ◌+◌, ◌<◌, ◌≤◌, ◌&&◌, ℕ, not, List, [], ◌∷◌, ◌++◌, None, map, option_map, IfSome, OnOk};
 ghost use Rattle.std.specs.List.{filter, find, list_any, count_by};
-ghost use Rattle.kl1_goals.specs.Lists.{has_number, is_other, is_after, is_monitor, is_monitor_of, is_goal_of, is_flagged, stood_by, enabled_by};
+ghost use Rattle.kl1_goals.specs.Lists.{has_number, is_other, is_after, is_monitor, is_monitor_of, is_goal_of, is_in, is_flagged, stood_by, enabled_by, enabled_in};
 ghost use Rattle.kl1_goals.specs.Readies.{first_from, chosen, stands};
 ghost use Rattle.kl1_goals.specs.Tables.{Tabled, IsNext, IsKnown, AreInOrder, AreSingle};
 
@@ -216,6 +216,44 @@ impl<N: NameValue> GoalTable<N> {
         ensures { self.new ≡ record self.old { goals = map (enabled_by flags.now) self.old.goals } }
     {
         enable_all(&mut self.slots, self.empty, &mut self.queue, flags);
+    }
+
+    /// From now on the goals of a shoen other than its monitor may step, or may not.
+    pub fn enable(&mut self, shoen: u64, is_enabled: bool)
+        ensures { self.new ≡ record self.old { goals = map (enabled_in shoen is_enabled) self.old.goals } }
+    {
+        for place in 0..self.slots.len() {
+            let slot = &mut self.slots[place];
+            if slot.goal.is_goal_of(shoen) {
+                slot.goal.is_enabled = is_enabled;
+                match slot.priority() {
+                    None => self.queue.remove(place),
+                    Some(priority) => self.queue.put(place, priority),
+                }
+            }
+        }
+    }
+
+    /// Removes the goals of a shoen, its monitor too.
+    pub fn remove_all(&mut self, shoen: u64)
+        ensures goals { self.new.goals ≡ filter (λ g. not (is_in shoen g)) self.old.goals }
+        ensures shoens { self.new.shoens ≡ self.old.shoens }
+        ensures room { self.old.room ≤ self.new.room }
+        ensures shoen_room { self.new.shoen_room ≡ self.old.shoen_room }
+    {
+        for place in 0..self.slots.len() {
+            let goal = self.slots[place].goal;
+            if goal.shoen == shoen {
+                self.remove(goal.number);
+            }
+        }
+    }
+
+    /// How many goals a shoen has other than its monitor.
+    pub fn count(&self, shoen: u64) -> u64
+        ensures { result ≡ count_by (is_goal_of shoen) self.now.goals }
+    {
+        tally_of(&self.tallies, shoen).goals as u64
     }
 
     /// From now on goal `number` has this clause by which it could step, or none.
