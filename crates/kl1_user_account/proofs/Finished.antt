@@ -73,11 +73,7 @@ Rests P = (g : Goal CellName) (b : Bool) → P g → P (record g { is_enabled = 
 
 enabled_holds : (P : Goal CellName → Type 0) → Rests P → (n : ℕ) (b : Bool) (gs : List (Goal CellName)) → AllByRecursion P gs → AllByRecursion P (map (enabled_in n b) gs)
 enabled_holds P all n b [] a = tt
-enabled_holds P all n b (g ∷ gs) a = (by_case (is_goal_of n g), enabled_holds P all n b gs a.1)
-  where
-    by_case : (c : Bool) → P (if c then record g { is_enabled = b } else g)
-    by_case true = all g b a.0
-    by_case false = a.0
+enabled_holds P all n b (g ∷ gs) a = (all g (if is_goal_of n g then b else g.is_enabled) a.0, enabled_holds P all n b gs a.1)
 
 each_shifted : (P : Goal CellName → Type 0) → Rests P → (shifts : List Shift) (gs : List (Goal CellName)) → AllByRecursion P gs → AllByRecursion P (shifted_by shifts gs)
 each_shifted P all [] gs a = a
@@ -103,11 +99,7 @@ after_holds P all goals added d e a b =
 
 enabled_read : (t : Means) (n : ℕ) (b : Bool) (gs : List (Goal CellName)) → map (goal_with t) (map (enabled_in n b) gs) ≡ map (goal_with t) gs
 enabled_read t n b [] = refl
-enabled_read t n b (g ∷ gs) = ap (λ (k : model.Goal). k ∷ map (goal_with t) (map (enabled_in n b) gs)) (by_case (is_goal_of n g)) ∙ ap (λ (ks : List model.Goal). goal_with t g ∷ ks) (enabled_read t n b gs)
-  where
-    by_case : (c : Bool) → goal_with t (if c then record g { is_enabled = b } else g) ≡ goal_with t g
-    by_case true = refl
-    by_case false = refl
+enabled_read t n b (g ∷ gs) = ap (λ (ks : List model.Goal). goal_with t g ∷ ks) (enabled_read t n b gs)
 
 each_read : (t : Means) (shifts : List Shift) (gs : List (Goal CellName)) → map (goal_with t) (shifted_by shifts gs) ≡ map (goal_with t) gs
 each_read t [] gs = refl
@@ -231,7 +223,7 @@ right_next tree s shifts g right r = by_case (g.shoen == s.shoen) (is_monitor g)
     unless : (a b c d : Bool) → a ≡ d → b ≡ false → (d || not c) ≡ true → (a || not (b || c)) ≡ true
     unless a b c d e f g = ap (λ x. x || not (b || c)) e ∙ ap (λ x. d || not (x || c)) f ∙ g
 
-    by_case : (b m : Bool) → (g.shoen == s.shoen) ≡ b → is_monitor g ≡ m → IsRightBut tree shifts (if b && not m then record g { is_enabled = s.is_enabled } else g)
+    by_case : (b m : Bool) → (g.shoen == s.shoen) ≡ b → is_monitor g ≡ m → IsRightBut tree shifts (record g { is_enabled = if b && not m then s.is_enabled else g.is_enabled })
     by_case true true p q = λ e. r (ap (λ x. x || not (is_shifted g.shoen (s ∷ shifts))) q)
     by_case true false p q = λ e. right ∙ ap F (sym (eqb-true g.shoen s.shoen p)) ∙ ap (λ x. x || F g.shoen) (sym q)
     by_case false m p q = λ e. r (unless (is_monitor g) (g.shoen == s.shoen) (is_shifted g.shoen shifts) (is_monitor g) refl p e)
