@@ -7,6 +7,7 @@ use Rattle.kl1_model.specs.State.{is_living}
 use Rattle.kl1_shoen_paths.specs.declared.shoen.Shoen.{Shoen}
 use Rattle.kl1_shoen_paths.specs.Tracked.{Tracked}
 pub use Rattle.kl1_shoen_paths.specs.Paths.{has_number, AreNumbered, parents_in, AreLower, path_in, is_on_path_in}
+pub use Rattle.kl1_shoen_paths.specs.Below.{AreBelow}
 
 -- the shoens of an account in order of number, from 1; for each charged reduction the number of its shoen, the newest first; both as
 -- they were when the event began; and how many more shoens can be opened without asking for memory

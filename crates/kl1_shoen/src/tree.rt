@@ -3,6 +3,7 @@
 mod changing;
 mod charging;
 mod marking;
+mod shifting;
 mod walking;
 
 ghost use Rattle.std.specs.Prelude.{◌≡◌, ◌<◌, ◌≤◌, ◌+◌, ◌-◌, [], ◌∷◌, ◌++◌, suc, min, length, find, option_and_then, option_copied, option_map, unwrap_or, None, IfSome, OnOk};
