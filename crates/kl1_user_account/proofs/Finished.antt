@@ -2,7 +2,7 @@
 use Rattle.std.proofs.Common.{◌≡◌, ℕ, zero, suc, ◌+◌, ◌-◌, ◌<◌, ◌≤◌, ◌==◌, ◌||◌, ◌&&◌, not, nat_lt, Bool, true, false, if◌then◌else◌, List, [], ◌∷◌, ◌++◌, length, map, refl, sym, ap, ◌∙◌, arith, subst}
 use Rattle.std.specs.Prelude.{Option, None, Result, Ok, Err, OnOk, filter}
 use Rattle.std.specs.List.{AllByRecursion, list_any}
-use Rattle.std.proofs.lemmas.List.{map-append}
+use Rattle.std.proofs.lemmas.List.{map-append, recursion_from_All}
 use Rattle.std.proofs.lemmas.Bool.{ltb-true, ltb-false, eqb-true}
 use Rattle.kl1_model.specs.Module.{is_among}
 use Rattle.kl1_model.specs.State as model
@@ -13,7 +13,8 @@ use Rattle.kl1_goals.specs.declared.goal.Goal.{Goal}
 use Rattle.kl1_goals.specs.Lists.{is_other, is_monitor, is_monitor_of, is_goal_of, enabled_in}
 use Rattle.kl1_goals.specs.Tables.{Tabled, AreBefore, IsNext}
 use Rattle.kl1_shoen_paths.specs.declared.shoen.Shoen.{Shoen}
-use Rattle.kl1_shoen.specs.Shoens.{Tree, is_enabled_at, AreShifts}
+use Rattle.kl1_shoen.specs.Shoens.{Tree, is_enabled_at}
+use Rattle.kl1_shoen.specs.Shifts.{shoens_of, AreShifts}
 use Rattle.kl1_shoen.specs.declared.shift.Shift.{Shift}
 use Rattle.kl1_codes.specs.Shelves.{Program}
 use Rattle.kl1_user_effects.specs.declared.draft.Draft.{Draft}
@@ -207,7 +208,7 @@ known_after known count low high = by_case (nat_lt known count) refl
 
 -- whether one of these shifts is of a shoen
 abbrev is_shifted : ℕ → List Shift → Bool
-is_shifted n shifts = is_among n (map (λ (s : Shift). s.shoen) shifts)
+is_shifted n shifts = is_among n (shoens_of shifts)
 
 -- a goal may step as a tree has it, if it is a monitor or none of these shifts is of its shoen
 abbrev IsRightBut : Tree CellName → List Shift → Goal CellName → Type 0
@@ -244,7 +245,7 @@ right_since tree shifts g s o e = by_case (is_monitor g) (is_shifted g.shoen shi
     by_case : (m c : Bool) → is_monitor g ≡ m → is_shifted g.shoen shifts ≡ c → (m || not c) ≡ true → IsEnabled tree.shoens tree.work g
     by_case true c p q u = e ∙ ap (λ x. x || is_enabled_at tree.kept tree.kept_work g.shoen) p ∙ ap (λ x. x || is_enabled_at tree.shoens tree.work g.shoen) (sym p)
     by_case false true p q u = absurd (cc)
-    by_case false false p q u = let high = o.high in e ∙ ap (λ x. is_monitor g || x) (sym (s.whole g.shoen o.low (omega (arith, high)) (λ c. let f = among_contained g.shoen (map (λ (x : Shift). x.shoen) shifts) c in cc)))
+    by_case false false p q u = let high = o.high in e ∙ ap (λ x. is_monitor g || x) (sym (s.whole g.shoen o.low (omega (arith, high)) (λ c. let f = among_contained g.shoen (shoens_of shifts) c in cc)))
 
 rights_since : (tree : Tree CellName) (shifts : List Shift) (gs : List (Goal CellName)) → AreShifts tree shifts → AreOwned (length tree.kept) gs → AreEnabled tree.kept tree.kept_work gs → AllByRecursion (IsRightBut tree shifts) gs
 rights_since tree shifts [] s o a = tt
@@ -273,7 +274,7 @@ enables_to tree goals d found come before work le own began same a = by_case d.s
     by_case : (b : Bool) → d.shifts ≡ b → AreEnabled tree.shoens tree.work (if b then shifted_by d.enabled.items (goals_placed goals d) else goals_placed goals d)
     by_case true q =
         let R : Goal CellName → Type 0 = λ g. IsRightBut tree d.enabled.items g in
-        all_shifted tree d.enabled.items (goals_placed goals d) (found q).right
+        all_shifted tree d.enabled.items (goals_placed goals d) (recursion_from_All (λ (s : Shift). s.is_enabled ≡ is_enabled_at tree.shoens tree.work s.shoen) d.enabled.items (found q).right)
         (each_append R (restood d.changes.items (goals_left goals d)) d.added.items
         (restood_holds R (λ g o p. p) d.changes.items (goals_left goals d) (all_left R d goals (since q)))
         (each_is (IsEnabled tree.shoens tree.work) R d.added.items (λ g e u. e) come))

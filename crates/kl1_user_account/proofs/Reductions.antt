@@ -30,13 +30,13 @@ use Rattle.kl1_user_effects.specs.declared.draft.Draft.{Draft}
 use Rattle.kl1_user_effects.specs.declared.draft.Spelled.{Spelled}
 use Rattle.kl1_user_effects.specs.Account.{Account, program_of, texts_of}
 use Rattle.kl1_user_effects.specs.Kept.{AreOwned, AreShoensIn}
-use Rattle.kl1_user_effects.specs.Drafts.{goals_left}
+use Rattle.kl1_user_effects.specs.Drafts.{goals_left, CanGoBack}
 use Rattle.kl1_user_effects.specs.Installing.{IsBegun}
 use Rattle.kl1_user_effects.specs.Settled.{IsEnabled}
 use Rattle.kl1_user_account.specs.Waking.{is_among, KeepControls}
 use Rattle.kl1_user_effects.specs.Outlines.{KeepsOthers}
 use Rattle.kl1_user_effects.specs.Leaving.{Leaves, IsActed, IsHeard}
-use Rattle.kl1_user_account.specs.Finishing.{Finishes}
+use Rattle.kl1_user_account.specs.Finishing.{BeganWith, Finishes}
 use Rattle.kl1_user_account.specs.Keeping.{IsKept}
 use Rattle.kl1_user_steps.specs.Acting.{Reads}
 use Rattle.kl1_user_effects.specs.Calling.{keeps_names, name_of, IsNewName}

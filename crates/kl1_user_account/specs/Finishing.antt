@@ -9,7 +9,8 @@ use Rattle.kl1_store.specs.Sound.{IsFormed, Grown}
 use Rattle.kl1_goals.specs.declared.goal.Goal.{Goal}
 use Rattle.kl1_goals.specs.Tables.{Tabled}
 use Rattle.kl1_shoen_paths.specs.declared.shoen.Shoen.{Shoen}
-use Rattle.kl1_shoen.specs.Shoens.{Tree, is_enabled_at, AreShifts}
+use Rattle.kl1_shoen.specs.Shoens.{Tree, is_enabled_at}
+use Rattle.kl1_shoen.specs.Shifts.{AreShifts}
 use Rattle.kl1_codes.specs.Shelves.{Program}
 use Rattle.kl1_user_effects.specs.declared.draft.Draft.{Draft}
 use Rattle.kl1_user_effects.specs.Fitting.{Reading}

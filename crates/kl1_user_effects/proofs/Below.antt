@@ -19,20 +19,20 @@ or_true false = refl
 -- a number that is in a list is found there
 pub among_contained : (n : ℕ) (ns : List ℕ) → Contains ns n → is_among n ns ≡ true
 among_contained n [] c = absurd (let lt = c.1 in omega (arith, lt))
-among_contained n (m ∷ ns) c = by_case c.0 c.1 c.2
+among_contained n (m ∷ ns) c = by_case (among_contained n ns) c.0 c.1 c.2
   where
-    by_case : (k : ℕ) → k < length (m ∷ ns) → get_or (m ∷ ns) k n ≡ n → is_among n (m ∷ ns) ≡ true
-    by_case zero lt e = ap (λ b. b || is_among n ns) (eq-eqb n m (sym e))
-    by_case (suc k) lt e = ap (λ b. n == m || b) (among_contained n ns (k, (omega arith, e))) ∙ or_true (n == m)
+    by_case : (Contains ns n → is_among n ns ≡ true) → (k : ℕ) → k < length (m ∷ ns) → get_or (m ∷ ns) k n ≡ n → is_among n (m ∷ ns) ≡ true
+    by_case later zero lt e = ap (λ b. b || is_among n ns) (eq-eqb n m (sym e))
+    by_case later (suc k) lt e = ap (λ b. n == m || b) (later (k, omega arith, e)) ∙ or_true (n == m)
 
 -- and one that is found is in it
 pub contained_among : (n : ℕ) (ns : List ℕ) → is_among n ns ≡ true → Contains ns n
 contained_among n [] e = absurd (cc)
-contained_among n (m ∷ ns) e = by_case (n == m) refl e
+contained_among n (m ∷ ns) e = by_case (contained_among n ns) (n == m) refl e
   where
-    by_case : (b : Bool) → (n == m) ≡ b → (b || is_among n ns) ≡ true → Contains (m ∷ ns) n
-    by_case true p q = (0, (omega arith, sym (eqb-true n m p)))
-    by_case false p q = let c = contained_among n ns q in (suc c.0, (let lt = c.1 in omega (arith, lt), c.2))
+    by_case : (is_among n ns ≡ true → Contains ns n) → (b : Bool) → (n == m) ≡ b → (b || is_among n ns) ≡ true → Contains (m ∷ ns) n
+    by_case later true p q = (0, omega arith, sym (eqb-true n m p))
+    by_case later false p q = let c = later q in (suc c.0, (let lt = c.1 in omega (arith, lt)), c.2)
 
 -- of the shoens that are there those are found that are below one
 pub below_is : (n m : ℕ) (ss : List (Shoen CellName)) (below : List ℕ) → AreBelow ss n below → 0 < m → m ≤ length ss → is_on_path_in ss n m ≡ is_among m below

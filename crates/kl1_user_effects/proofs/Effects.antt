@@ -22,7 +22,7 @@ use Rattle.kl1_store.specs.Held.{Held, IsIn}
 use Rattle.kl1_goals.specs.declared.goal.Goal.{Goal}
 use Rattle.kl1_goals.specs.Lists.{is_other}
 use Rattle.kl1_shoen_paths.specs.declared.shoen.Shoen.{Shoen}
-use Rattle.kl1_shoen.specs.Shoens.{Tree, has_number, changed, is_on_path_in, aborted_below_in, AreNumbered}
+use Rattle.kl1_shoen.specs.Shoens.{Tree, has_number, changed, is_on_path_in, aborted_below_in, AreBelow}
 use Rattle.kl1_codes.specs.Numbered.{Numbered}
 use Rattle.kl1_user_effects.specs.declared.draft.Draft.{Draft}
 use Rattle.kl1_user_effects.specs.Fitting.{Reading}
