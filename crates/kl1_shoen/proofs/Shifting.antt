@@ -1,8 +1,10 @@
 -- Which goals may be let step, or held back, otherwise than when an event began.
 use Rattle.std.proofs.Common.{◌≡◌, ℕ, zero, suc, ◌+◌, ◌-◌, ◌<◌, ◌≤◌, ◌⊎◌, inl, inr, Bool, true, false, not, nat_le, ◌==◌, ◌&&◌, ◌||◌, List, [], ◌∷◌, ◌++◌, map, length, get_or, take, refl, sym, ap, ap₂, ◌∙◌, arith, subst}
-use Rattle.std.specs.Prelude.{Option, Some, None, find, slice_get, option_map, unwrap_or, All, Contains}
+use Rattle.std.specs.Prelude.{Option, Some, None, find, slice_get, option_copied, option_map, unwrap_or, All, Contains}
+use Rattle.std.specs.Borrow.{Bor}
 use Rattle.std.specs.List.{list_any}
 use Rattle.std.proofs.lemmas.Bool.{false≢true, or_left, or_right, eq-eqb, cases_Bool}
+use Rattle.std.proofs.lemmas.Option.{none-some, same_Some}
 use Rattle.std.proofs.lemmas.List.{get_or-take, map_push}
 use Rattle.std.proofs.lemmas.List.Elements.{All-contains, All-push, Contains-append_left}
 use Rattle.kl1_model.specs.Module.{is_among}
@@ -172,3 +174,10 @@ adds_one t before s e = record {
   right = λ r. All-push (λ (x : Shift). x.is_enabled ≡ is_enabled_at t.shoens t.work x.shoen) before s r e;
   keeps = λ n c. subst (λ (ns : List ℕ). Contains ns n) (sym (map_push (λ (x : Shift). x.shoen) before s)) (Contains-append_left (shoens_of before) (s.shoen ∷ []) n c);
 }
+
+-- a shoen that is lent from a place stands there
+pub lent_none : {N : Type 0} (ss : List (Shoen N)) (i : ℕ) (o : Option (Bor (Shoen N))) → option_copied o ≡ slice_get ss i → o ≡ None → (h : Shoen N) → slice_get ss i ≡ Some h → ⊥
+lent_none {N = N} ss i o e z h f = none-some h (sym (ap (λ (b : Option (Bor (Shoen N))). option_copied b) z) ∙ e ∙ f)
+
+pub lent_some : {N : Type 0} (ss : List (Shoen N)) (i : ℕ) (o : Option (Bor (Shoen N))) (b : Bor (Shoen N)) → option_copied o ≡ slice_get ss i → o ≡ Some b → (h : Shoen N) → slice_get ss i ≡ Some h → b.now ≡ h
+lent_some {N = N} ss i o b e z h f = same_Some b.now h (sym (ap (λ (c : Option (Bor (Shoen N))). option_copied c) z) ∙ e ∙ f)

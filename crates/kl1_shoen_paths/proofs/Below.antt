@@ -2,12 +2,11 @@
 use Rattle.std.proofs.Common.{◌≡◌, ◌≢◌, ℕ, zero, suc, ◌+◌, ◌-◌, ◌<◌, ◌≤◌, ◌⊎◌, ◌↔◌, inl, inr, Bool, true, false, not, ◌==◌, ◌||◌, List, [], ◌∷◌, ◌++◌, length, get_or, take, refl, sym, ap, ◌∙◌, arith, subst}
 use Rattle.std.specs.Prelude.{Contains, All, filter, cond}
 use Rattle.std.specs.List.{AllPairs}
-use Rattle.std.proofs.lemmas.Bool.{false≢true, eq-eqb, ne_eqb, eqb-true, or_cases, or_left, or_right, cases_eq, cases_Bool}
-use Rattle.std.proofs.lemmas.List.{take_all, take_more, take-append-le, length-append, length-map, get_or_append_left, get_or-append_right, get_or_default, get_or-take}
+use Rattle.std.proofs.lemmas.Bool.{false≢true, eq-eqb, ne_eqb, eqb-true, or_cases, or_left, or_right, cases_eq}
+use Rattle.std.proofs.lemmas.List.{take_all, take_more, take-append-le, length-append, length-map, get_or-take}
 use Rattle.std.proofs.lemmas.List.Elements.{Contains-get_or, Contains-append_left, Contains-append_right, Contains-push, Contains-push_cases, Contains-append_cases}
 use Rattle.std.proofs.lemmas.List.Kept.{AllPairs-cons, AllPairs-filter}
 use Rattle.kl1_model.specs.Module.{is_among}
-use Rattle.kl1_model.specs.Tree.{path_within}
 use Rattle.kl1_model.specs.laws.TreeLaws.{ParentsAreLower}
 use Rattle.kl1_shoen_paths.specs.declared.shoen.Shoen.{Shoen}
 use Rattle.kl1_shoen_paths.specs.Paths.{AreLower, parents_in, is_on_path_in}
@@ -44,7 +43,6 @@ children_once next (suc most) (suc n) lower few =
     subst (λ (ns : List ℕ). AllPairs (λ a b. a ≢ b) ns) (sym (go_on next lower n))
     (AllPairs-cons (λ a b. a ≢ b) (suc n) (children_from next up) away (children_once next most up lower (omega (arith, low, few))))
 
-
 -- ---- distinct numbers up to a number are no more than that
 
 -- those of a list that aren't this number
@@ -63,6 +61,7 @@ others_few m (n ∷ ns) once = by_case (others_few m ns rest) (n == m) refl
   where
     rest : AllPairs (λ a b. a ≢ b) ns
     rest = λ i j d lt within. once (suc i) (suc j) d (omega (arith, lt)) (omega (arith, within))
+
     by_case : length ns ≤ suc (length (others m ns)) → (b : Bool) → (n == m) ≡ b → suc (length ns) ≤ suc (length (cond (not b) (n ∷ others m ns) (others m ns)))
     by_case few true e =
         let is = eqb-true n m e in
@@ -76,9 +75,11 @@ others_among m n (k ∷ ns) h = by_case (λ f. others_among m n ns f) (k == m) r
   where
     later : ((is_among n ns ≡ true) × (n ≢ m)) → (is_among n (k ∷ ns) ≡ true) × (n ≢ m)
     later o = (or_right (n == k) (is_among n ns) o.0, o.1)
+
     by_head : (is_among n (others m ns) ≡ true → (is_among n ns ≡ true) × (n ≢ m)) → (k == m) ≡ false → ((n == k) ≡ true) ⊎ (is_among n (others m ns) ≡ true) → (is_among n (k ∷ ns) ≡ true) × (n ≢ m)
     by_head rest e (inl f) = (or_left (n == k) (is_among n ns) f, λ g. false≢true (sym e ∙ eq-eqb k m (sym (eqb-true n k f) ∙ g)))
     by_head rest e (inr f) = later (rest f)
+
     by_case : (is_among n (others m ns) ≡ true → (is_among n ns ≡ true) × (n ≢ m)) → (b : Bool) → (k == m) ≡ b → is_among n (cond (not b) (k ∷ others m ns) (others m ns)) ≡ true → (is_among n (k ∷ ns) ≡ true) × (n ≢ m)
     by_case rest true e g = later (rest g)
     by_case rest false e g = by_head rest e (or_cases (n == k) (is_among n (others m ns)) g)
@@ -174,27 +175,35 @@ closes_more parents root found added i x lower c lt at distinct are = record {
   where
     here : Contains found x
     here = (i, lt, sym at)
+
     taken : take (i + 1) (found ++ added) ≡ take i found ++ x ∷ []
     taken = take-append-le (i + 1) found added (omega (arith, lt)) ∙ take_more found i x lt ∙ ap (λ (m : ℕ). take i found ++ m ∷ []) (sym at)
+
     child : (n : ℕ) → Contains added n → (0 < n) × (n ≤ length parents) × (up_in parents n ≡ x)
     child n k = (are n).0 (among_contains n added k)
+
     sound_case : (n : ℕ) → Contains found n ⊎ Contains added n → (0 < n) × (n ≤ length parents) × (on_in parents root n ≡ true)
     sound_case n (inl k) = c.sound n k
     sound_case n (inr k) =
         let d = child n k in
         let s = c.sound x here in
         (d.0, d.1, on_step parents root n lower d.0 ∙ or_right (root == n) (on_in parents root (up_in parents n)) (ap (on_in parents root) d.2 ∙ s.2))
+
     closed_case : (n : ℕ) → 0 < n → n ≤ length parents → Contains (take i found) (up_in parents n) ⊎ (x ≡ up_in parents n) → Contains (found ++ added) n
     closed_case n l f (inl k) = Contains-append_left found added n (c.closed n l f k)
     closed_case n l f (inr e) = Contains-append_right found added n (contains_among n added ((are n).1 (l, f, sym e)))
+
     in_taken : (m : ℕ) → Contains (take i found ++ x ∷ []) m → Contains (take (i + 1) (found ++ added)) m
     in_taken m k = subst (λ (ns : List ℕ). Contains ns m) (sym taken) k
+
     comes_old : (n : ℕ) → (n ≡ root) ⊎ Contains (take i found) (up_in parents n) → (n ≡ root) ⊎ Contains (take (i + 1) (found ++ added)) (up_in parents n)
     comes_old n (inl e) = inl e
     comes_old n (inr k) = inr (in_taken (up_in parents n) (Contains-append_left (take i found) (x ∷ []) (up_in parents n) k))
+
     comes_case : (n : ℕ) → Contains found n ⊎ Contains added n → (n ≡ root) ⊎ Contains (take (i + 1) (found ++ added)) (up_in parents n)
     comes_case n (inl k) = comes_old n (c.comes n k)
     comes_case n (inr k) = inr (in_taken (up_in parents n) (subst (λ (m : ℕ). Contains (take i found ++ x ∷ []) m) (sym (child n k).2) (Contains-push (take i found) x)))
+
     apart_case : (n : ℕ) → (0 < n) × (n ≤ length parents) × (up_in parents n ≡ x) → (n ≡ root) ⊎ Contains (take i found) (up_in parents n) → ⊥
     apart_case n d (inl e) =
         let s = c.sound x here in
@@ -213,6 +222,7 @@ closes_more parents root found added i x lower c lt at distinct are = record {
         lib_take (suc i) [] j l = absurd (omega (arith, l))
         lib_take (suc i) (y ∷ xs) zero l = omega arith
         lib_take (suc i) (y ∷ xs) (suc j) l = let m = lib_take i xs j (omega (arith, l)) in omega (arith, m)
+
     apart : (n : ℕ) → Contains found n → (0 < n) × (n ≤ length parents) × (up_in parents n ≡ x) → ⊥
     apart n k d = apart_case n d (c.comes n k)
 
@@ -225,6 +235,7 @@ reached parents root found i lower c all (suc most) n few lt within on =
     up_some : (m : ℕ) → up_in parents n ≡ m → on_in parents root (up_in parents n) ≡ true → 0 < up_in parents n
     up_some zero e on = absurd (false≢true (sym (ap (is_among root) (children_none parents (up_in parents n) e)) ∙ on))
     up_some (suc m) e on = omega (arith, e)
+
     by_case : (up_in parents n ≤ most → 0 < up_in parents n → up_in parents n ≤ length parents → on_in parents root (up_in parents n) ≡ true → Contains found (up_in parents n)) →
         ((root == n) ≡ true) ⊎ (on_in parents root (up_in parents n) ≡ true) → Contains found n
     by_case rest (inl e) = subst (λ (m : ℕ). Contains found m) (eqb-true root n e) c.has_root

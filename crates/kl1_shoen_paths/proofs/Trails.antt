@@ -1,5 +1,5 @@
 -- What a list was, by the trail of what was put into it.
-use Rattle.std.proofs.Common.{◌≡◌, ℕ, zero, suc, ◌<◌, ◌≤◌, ◌⊎◌, inl, inr, List, [], ◌∷◌, length, get_or, take, set, refl, sym, ap, ◌∙◌, arith, subst}
+use Rattle.std.proofs.Common.{◌≡◌, ℕ, suc, ◌<◌, ◌≤◌, ◌⊎◌, inl, inr, List, [], ◌∷◌, length, get_or, take, set, refl, sym, ap, ◌∙◌, arith, subst}
 use Rattle.std.specs.Prelude.{Contains}
 use Rattle.std.proofs.lemmas.Bool.{cases_eq}
 use Rattle.std.proofs.lemmas.List.{length-set, length-take-le, get_or-take, get_or-set_same, get_or-set_other}
@@ -20,11 +20,14 @@ put_from {A = A} (w ∷ ws) xs place a lt = by_case (put_from ws xs place a lt) 
   where
     back : List A
     back = put_back ws xs
+
     Noted : List (Was A) → A → Type 0
     Noted vs b = Contains vs (record { place = place; value = b })
+
     later : (get_or back place a ≡ get_or xs place a) ⊎ Noted ws (get_or back place a) → (get_or back place a ≡ get_or xs place a) ⊎ Noted (w ∷ ws) (get_or back place a)
     later (inl e) = inl e
     later (inr c) = inr (contains_later (record { place = place; value = get_or back place a }) w ws c)
+
     by_case : (get_or back place a ≡ get_or xs place a) ⊎ Noted ws (get_or back place a) → (place ≡ w.place) ⊎ (place ≡ w.place → ⊥) → (get_or (set back w.place w.value) place a ≡ get_or xs place a) ⊎ Noted (w ∷ ws) (get_or (set back w.place w.value) place a)
     by_case rest (inl e) =
         let len = length_back ws xs in
@@ -42,8 +45,10 @@ is_trail {A = A} xs ws mark few = record {
   where
     back : length (put_back ws (take mark xs)) ≡ length (take mark xs)
     back = length_back ws (take mark xs)
+
     count : length (put_back ws (take mark xs)) ≡ mark
     count = back ∙ length-take-le mark xs few
+
     by_taken : (place : ℕ) (a : A) → place < mark → (get_or (put_back ws (take mark xs)) place a ≡ get_or (take mark xs) place a) ⊎ Contains ws (record { place = place; value = get_or (put_back ws (take mark xs)) place a }) →
         (get_or (put_back ws (take mark xs)) place a ≡ get_or xs place a) ⊎ Contains ws (record { place = place; value = get_or (put_back ws (take mark xs)) place a })
     by_taken place a lt (inl e) = inl (e ∙ get_or-take mark xs place a lt)

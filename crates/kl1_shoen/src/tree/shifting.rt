@@ -1,6 +1,6 @@
 // Whose goals may be let step, or held back, otherwise than when an event began.
 
-ghost use Rattle.std.specs.Prelude.{◌≡◌, ◌++◌, true, All, OnOk};
+ghost use Rattle.std.specs.Prelude.{◌≡◌, ◌++◌, true, All, OnOk, option_copied, slice_get};
 ghost use Rattle.kl1_shoen.specs.Shifts.{Adds, AreShifts, Covers, CoversChange, CoversCharge, HoldAlike, shoens_of};
 
 use crate::counted::is_living;
@@ -19,7 +19,8 @@ impl<N: NameValue> ShoenTree<N> {
         out.clear();
         let mut below = Vec::new(*out.allocator());
         self.add_changed(self.shoens.trail(), &mut below, out)?;
-        self.add_charged(self.charges.trail(), &mut below, out)
+        self.add_charged(self.charges.trail(), &mut below, out)?;
+        Ok(())
     }
 
     /// Adds what the changes of a trail come to.
@@ -48,13 +49,14 @@ impl<N: NameValue> ShoenTree<N> {
         ensures adds { OnOk result (Adds self.now out.old.items out.new.items) }
         ensures covers { OnOk result (CoversChange self.now out.new.items was.now) }
     {
-        let Some(shoen) = self.shoens.items().get(was.place) else {
+        let Some(shoen) = self.shoen_at(was.place) else {
             return Ok(());
         };
         if hold_alike(&was.value, shoen) {
             return Ok(());
         }
-        self.add_below(shoen.number, below, out)
+        self.add_below(shoen.number, below, out)?;
+        Ok(())
     }
 
     /// Adds what the charges of a trail come to.
@@ -83,7 +85,7 @@ impl<N: NameValue> ShoenTree<N> {
         ensures adds { OnOk result (Adds self.now out.old.items out.new.items) }
         ensures covers { OnOk result (CoversCharge self.now out.new.items was.now) }
     {
-        let Some(shoen) = self.shoens.items().get(was.place) else {
+        let Some(shoen) = self.shoen_at(was.place) else {
             return Ok(());
         };
         let was_exhausted = shoen.allowance <= was.value;
@@ -91,11 +93,12 @@ impl<N: NameValue> ShoenTree<N> {
         if was_exhausted == is_exhausted {
             return Ok(());
         }
-        self.add_below(shoen.number, below, out)
+        self.add_below(shoen.number, below, out)?;
+        Ok(())
     }
 
-    /// Adds shoen `number` and all below it, unless goals of its parent are held back: then goals below that are so, whatever
-    /// became of the shoen, or another shoen that changed holds them back.
+    /// Adds shoen `number` and all below it, unless goals of its parent are held back: whatever becomes of the shoen, goals in it and
+    /// below it are held back then.
     fn add_below(
         &self,
         number: u64,
@@ -109,7 +112,15 @@ impl<N: NameValue> ShoenTree<N> {
             return Ok(());
         }
         self.below(number, below)?;
-        self.add_all(below, out)
+        self.add_all(below, out)?;
+        Ok(())
+    }
+
+    /// Shoen `place + 1`, lent.
+    fn shoen_at(&self, place: usize) -> Option<&Shoen<N>>
+        ensures { option_copied result ≡ slice_get self.now.shoens place }
+    {
+        self.shoens.items().get(place)
     }
 
     /// Adds these shoens.
