@@ -108,13 +108,13 @@ count_both n ns (g ∷ gs) e =
 pub alive_all : (gs : List (Goal CellName)) (ns : List ℕ) → AllPairs (λ a b. a ≢ b) ns → alive_each gs ns ≡ count_by (is_alive_in ns) gs
 alive_all gs [] once = none gs
   where
+    unless : (b : Bool) → false ≡ (not b && false)
+    unless true = refl
+    unless false = refl
+
     none : (ks : List (Goal CellName)) → 0 ≡ count_by (is_alive_in []) ks
     none [] = refl
-    none (k ∷ ks) = none ks ∙ ap (λ b. cond b 1 0 + count_by (is_alive_in []) ks) (no (is_monitor k)) ∙ sym (sum_by-cons (λ (g : Goal CellName). cond (is_alive_in [] g) 1 0) k ks)
-
-    no : (b : Bool) → false ≡ (not b && false)
-    no true = refl
-    no false = refl
+    none (k ∷ ks) = none ks ∙ ap (λ b. cond b 1 0 + count_by (is_alive_in []) ks) (unless (is_monitor k)) ∙ sym (sum_by-cons (λ (g : Goal CellName). cond (is_alive_in [] g) 1 0) k ks)
 alive_all gs (n ∷ ns) once = ap (λ m. count_by (is_goal_of n) gs + m) (alive_all gs ns (once_rest n ns once)) ∙ count_both n ns gs (once_first n ns once)
 
 -- they are no more than all goals but monitors
