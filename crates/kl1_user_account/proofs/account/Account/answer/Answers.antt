@@ -111,17 +111,20 @@ install-requires g c =
     let a = kept_in u in
     draft_fits a (u.variables + c.highest.result) (u.nodes + c.structures_of.result) c.begin_draft.new.draft c.draft_answer-drafted.new.draft c.begin_draft.ensures c.draft_answer-drafted.ensures.rest u.goals.goals u.goals.shoens u.goals.room u.goals.shoen_room
 
--- there is a spare number for each name
-spares_count : (g : _) (c : goal.After-publish g) → length c.draft_answer-drafted.new.spares.items ≡ length c.names-texts.result.now
-spares_count g c =
-    spared_count _ 0 c.names-texts.result.now c.draft_answer-drafted.new.spares.items (let T : List (List ℕ) → Type 0 = λ ts. AreSpared c.self.inside.names.names 0 ts c.draft_answer-drafted.new.spares.items in subst T (sym c.names-texts.ensures.value) c.in-Ok.ensures.ok.spared)
-
 pub exchange-requires-clause-length : goal.exchange-requires-clause-length
 exchange-requires-clause-length g c =
-    ap length c.as_slice-2.ensures.value ∙ c.publish.ensures.count ∙ sym (ap length c.as_slice.ensures.value ∙ spares_count g c.before)
+    let spares = c.draft_answer-drafted.new.spares.items in
+    let T : List (List ℕ) → Type 0 = λ ts. AreSpared c.self.inside.names.names 0 ts spares in
+    let many : length spares ≡ length c.names-texts.result.now = spared_count _ 0 c.names-texts.result.now spares (subst T (sym c.names-texts.ensures.value) c.in-Ok.ensures.ok.spared) in
+    ap length c.as_slice-2.ensures.value ∙ c.publish.ensures.count ∙ sym (ap length c.as_slice.ensures.value ∙ many)
 
 pub exchange-requires-clause-room : goal.exchange-requires-clause-room
-exchange-requires-clause-room g c = ?
+exchange-requires-clause-room g c =
+    let spares = c.draft_answer-drafted.new.spares.items in
+    let T : List (List ℕ) → Type 0 = λ ts. AreSpared c.self.inside.names.names 0 ts spares in
+    let many : length spares ≡ length c.names-texts.result.now = spared_count _ 0 c.names-texts.result.now spares (subst T (sym c.names-texts.ensures.value) c.in-Ok.ensures.ok.spared) in
+    let same : length c.as_slice.result.now ≡ length spares = ap length c.as_slice.ensures.value in
+    omega (arith, c.in_ok-row.ensures.room, same, many)
 
 pub invariant_of-self-2 : goal.invariant_of-self-2
 invariant_of-self-2 g c =
