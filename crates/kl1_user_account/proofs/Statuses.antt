@@ -110,10 +110,10 @@ alive_none [] = refl
 alive_none (g ∷ gs) =
     let a = sum_by-cons (λ (k : Goal CellName). cond (is_alive_in [] k) 1 0) g gs in
     let rest = alive_none gs in
-    let one : cond (is_alive_in [] g) 1 0 ≡ 0 = by_case (is_monitor g) in
+    let one : ◌≡◌ {A = ℕ} (cond (is_alive_in [] g) 1 0) 0 = by_case (is_monitor g) in
     omega (arith, a, rest, one)
   where
-    by_case : (b : Bool) → cond (not b && false) 1 0 ≡ 0
+    by_case : (b : Bool) → ◌≡◌ {A = ℕ} (cond (not b && false) 1 0) 0
     by_case true = refl
     by_case false = refl
 
