@@ -1,5 +1,5 @@
 -- Walks along the places of a shoen.
-use Rattle.std.proofs.Common.{◌≡◌, ℕ, zero, suc, ◌+◌, ◌-◌, ◌^◌, ◌<◌, ◌≤◌, ◌==◌, ◌&&◌, ◌⊎◌, not, Bool, true, false, cond, List, [], ◌∷◌, ◌++◌, Option, length, get_or, set, take, map, refl, sym, ◌∙◌, ap, subst, arith, inl, inr}
+use Rattle.std.proofs.Common.{◌≡◌, ℕ, zero, suc, ◌+◌, ◌<◌, ◌≤◌, ◌==◌, ◌&&◌, ◌⊎◌, not, Bool, true, false, cond, List, [], ◌∷◌, Option, length, get_or, set, take, map, refl, sym, ◌∙◌, ap, subst, arith, inl, inr}
 use Rattle.std.specs.List.{filter}
 use Rattle.std.proofs.lemmas.Bool.{false≢true, cases_lt, cases_eq, ne_eqb, eq-eqb}
 use Rattle.std.proofs.lemmas.List.{get_or-map, get_or_past, set-get_or, length-map}
@@ -8,7 +8,7 @@ use Rattle.kl1_goals.specs.declared.slot.Slot.{Slot}
 use Rattle.kl1_goals.specs.declared.tally.Tally.{Tally}
 use Rattle.kl1_goals.specs.Lists.{is_in, is_goal_of, enabled_in}
 use Rattle.kl1_goals.specs.Tables.{Ascend}
-use Rattle.kl1_goals.specs.Slots.{goals_in, numbers_of, level_in, rank_in, let_in, emptied, changed_at, AreLow, AreSlots}
+use Rattle.kl1_goals.specs.Slots.{goals_in, level_in, rank_in, let_in, emptied, changed_at, AreLow, AreSlots}
 use Rattle.kl1_goals.specs.Tallies.{tally_at, unlinked, left}
 use Rattle.kl1_goals.specs.Chains.{Shape, shoen_in, before_in, holds_in, is_due, shape_in, unlinked_in, shoen_at, before_at, last_at, Holds, IsLink, IsEmptyLink, AreLinked, AreKnown, AreChained, HoldsLess, HaveSameCounts}
 use Rattle.kl1_goals.proofs.Changing.{standing_by}

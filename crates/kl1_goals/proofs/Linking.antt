@@ -1,5 +1,5 @@
 -- Links, as places come, change and go.
-use Rattle.std.proofs.Common.{◌≡◌, ℕ, zero, suc, ◌+◌, ◌-◌, ◌^◌, ◌<◌, ◌≤◌, ◌==◌, ◌&&◌, not, Bool, true, false, cond, List, [], ◌∷◌, ◌++◌, Option, Some, None, length, get_or, take, map, refl, sym, ◌∙◌, ap, subst, arith, inl, inr, eq-eqb}
+use Rattle.std.proofs.Common.{◌≡◌, ℕ, zero, suc, ◌+◌, ◌-◌, ◌^◌, ◌<◌, ◌≤◌, ◌==◌, ◌&&◌, Bool, true, false, cond, List, [], ◌∷◌, ◌++◌, Some, None, length, get_or, take, map, refl, sym, ◌∙◌, ap, subst, arith, inl, inr, eq-eqb}
 use Rattle.std.specs.List.{filter}
 use Rattle.std.specs.Option.{option_to_list}
 use Rattle.std.proofs.lemmas.Bool.{false≢true, ne_eqb, cases_lt, cases_eq, eqb-true}
@@ -11,7 +11,7 @@ use Rattle.kl1_goals.specs.declared.tally.Tally.{Tally}
 use Rattle.kl1_goals.specs.Lists.{is_monitor}
 use Rattle.kl1_goals.specs.Slots.{held_in}
 use Rattle.kl1_goals.specs.Tallies.{nothing, tally_at, unlinked, raised, lowered, IsTally}
-use Rattle.kl1_goals.specs.Chains.{shoen_in, before_in, holds_in, shoen_at, before_at, last_at, Holds, IsLink, IsEmptyLink, AreLinked, AreKnown, AreChained, HoldsLess, HaveSameCounts}
+use Rattle.kl1_goals.specs.Chains.{shoen_in, before_in, holds_in, shoen_at, before_at, last_at, Holds, IsLink, AreLinked, AreKnown, AreChained, HoldsLess, HaveSameCounts}
 
 -- what a list of a function of the places has, after a place more and without the last ones
 push_old : {N X : Type 0} (f : Slot N → X) (ss : List (Slot N)) (t : Slot N) (d : X) (k : ℕ) → k < length ss → get_or (map f (ss ++ t ∷ [])) k d ≡ get_or (map f ss) k d

@@ -1,6 +1,5 @@
 -- The places of each shoen, linked from the last to the first: a link to place `k` is `k + 1`, and 0 leads nowhere.
 use Rattle.std.specs.Prelude.{◌≡◌, ℕ, suc, ◌^◌, ◌<◌, ◌≤◌, ◌==◌, ◌&&◌, not, Bool, true, false, if◌then◌else◌, List, [], ◌∷◌, map, length, get_or}
-use Rattle.kl1_goals.specs.declared.goal.Goal.{Goal}
 use Rattle.kl1_goals.specs.declared.slot.Slot.{Slot}
 use Rattle.kl1_goals.specs.declared.tally.Tally.{Tally}
 use Rattle.kl1_goals.specs.Lists.{is_goal_of}

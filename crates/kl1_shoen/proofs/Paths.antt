@@ -1,12 +1,7 @@
 -- Paths of shoens that are lent, and of shoens among more.
-use Rattle.std.proofs.Common.{◌≡◌, ℕ, zero, suc, ◌<◌, ◌≤◌, false, ◌||◌, List, [], ◌∷◌, ◌++◌, length, refl, sym, ap, ◌∙◌, arith}
-use Rattle.std.specs.Prelude.{Option, Some, None, IfSome, find, get_or, option_copied, option_map, unwrap_or}
+use Rattle.std.proofs.Common.{◌≡◌, ℕ, ◌<◌, List, [], ◌∷◌, refl, sym, ap, ◌∙◌}
+use Rattle.std.specs.Prelude.{Option, Some, None, IfSome, find, option_copied, option_map, unwrap_or}
 use Rattle.std.specs.Borrow.{Bor}
-use Rattle.std.proofs.lemmas.Bool.{ne_eqb}
-use Rattle.std.proofs.lemmas.List.{get_or_append_left}
-use Rattle.kl1_model.specs.Module.{is_among}
-use Rattle.kl1_model.specs.Tree.{path_within}
-use Rattle.kl1_model.specs.laws.TreeLaws.{ParentsAreLower}
 use Rattle.kl1_shoen_paths.specs.declared.shoen.Shoen.{Shoen}
 use Rattle.kl1_shoen.specs.Shoens.{has_number, AreNumbered, AreLower, path_in}
 use Rattle.kl1_shoen_paths.proofs.Paths.{path_zero, parent_below, path_parent}

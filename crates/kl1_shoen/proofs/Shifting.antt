@@ -1,9 +1,10 @@
 -- Which goals may be let step, or held back, otherwise than when an event began.
-use Rattle.std.proofs.Common.{◌≡◌, ℕ, zero, suc, ◌+◌, ◌-◌, ◌<◌, ◌≤◌, ◌⊎◌, inl, inr, Bool, true, false, not, nat_le, ◌==◌, ◌&&◌, ◌||◌, List, [], ◌∷◌, ◌++◌, map, length, get_or, take, refl, sym, ap, ap₂, ◌∙◌, arith, subst}
+use Rattle.std.proofs.Common.{◌≡◌, ℕ, zero, suc, ◌-◌, ◌<◌, ◌≤◌, ◌⊎◌, inl, inr, Bool, true, false, not, nat_le, ◌==◌, ◌||◌, List, [], ◌∷◌, ◌++◌, length, get_or, take, refl, sym, ap, ap₂, ◌∙◌, arith, subst}
 use Rattle.std.specs.Prelude.{Option, Some, None, find, slice_get, option_copied, option_map, unwrap_or, All, Contains}
+use mathlib.Core.Bool.{beq}
 use Rattle.std.specs.Borrow.{Bor}
 use Rattle.std.specs.List.{list_any}
-use Rattle.std.proofs.lemmas.Bool.{false≢true, or_left, or_right, eq-eqb, cases_Bool}
+use Rattle.std.proofs.lemmas.Bool.{false≢true, or_left, or_right, eq-eqb}
 use Rattle.std.proofs.lemmas.Option.{none-some, same_Some}
 use Rattle.std.proofs.lemmas.List.{get_or-take, map_push}
 use Rattle.std.proofs.lemmas.List.Elements.{All-contains, All-push, All-weaker, Contains-append_left}
@@ -15,7 +16,7 @@ use Rattle.kl1_shoen_paths.specs.Tracked.{IsTrail}
 use Rattle.kl1_shoen_paths.proofs.Numbered.{found_at}
 use Rattle.kl1_shoen_paths.proofs.Paths.{path_zero, path_parent, parent_below, parent_at}
 use Rattle.kl1_shoen.specs.declared.shift.Shift.{Shift}
-use Rattle.kl1_shoen.specs.Shoens.{Tree, AreCharged, has_number, AreNumbered, AreLower, parents_in, path_in, is_on_path_in, charged_in, is_blocking_in, is_blocking_at, is_enabled_at, is_exhausted_in}
+use Rattle.kl1_shoen.specs.Shoens.{Tree, AreCharged, has_number, AreNumbered, parents_in, path_in, is_on_path_in, charged_in, is_blocking_in, is_blocking_at, is_enabled_at, is_exhausted_in}
 use Rattle.kl1_shoen.specs.Shifts.{Adds, AreShifts, Covers, CoversChange, CoversCharge, HoldAlike, parent_in, shoens_of}
 use Rattle.kl1_shoen.proofs.Numbered.{number_is}
 use Rattle.kl1_shoen.proofs.Changing.{got_found}
@@ -222,7 +223,13 @@ told_whole t charges kept_charges trail charge_trail start mid after k none firs
   });
 }
 
+same_bool : (b c : Bool) → beq b c ≡ true → b ≡ c
+same_bool true true e = refl
+same_bool true false e = absurd (false≢true e)
+same_bool false true e = absurd (false≢true e)
+same_bool false false e = refl
+
 -- a shoen is exhausted as it was, by the charge that is looked up
-pub exhausted_alike : {N : Type 0} (t : Tree N) (was : ℕ) (x h : Shoen N) → x ≡ h → (charged : ℕ) → charged ≡ charged_in t.shoens t.work x.number → nat_le x.allowance was ≡ nat_le x.allowance charged → nat_le h.allowance was ≡ is_exhausted_in t.shoens t.work h
+pub exhausted_alike : {N : Type 0} (t : Tree N) (was : ℕ) (x h : Shoen N) → x ≡ h → (charged : ℕ) → charged ≡ charged_in t.shoens t.work x.number → beq (nat_le x.allowance was) (nat_le x.allowance charged) ≡ true → nat_le h.allowance was ≡ is_exhausted_in t.shoens t.work h
 exhausted_alike {N = N} t was x h e charged is same =
-    subst (λ (y : Shoen N). nat_le y.allowance was ≡ is_exhausted_in t.shoens t.work y) e (same ∙ ap (nat_le x.allowance) is)
+    subst (λ (y : Shoen N). nat_le y.allowance was ≡ is_exhausted_in t.shoens t.work y) e (same_bool (nat_le x.allowance was) (nat_le x.allowance charged) same ∙ ap (nat_le x.allowance) is)

@@ -1,5 +1,5 @@
 -- What becomes of one shoen.
-use Rattle.std.specs.Prelude.{◌+◌, min, true, if◌then◌else◌, option_map}
+use Rattle.std.specs.Prelude.{true, if◌then◌else◌, option_map}
 use Rattle.kl1_model.specs.declared.life.Life.TheVariants.{Aborted}
 use Rattle.kl1_model.specs.State.{is_living}
 use Rattle.kl1_model.specs.Reduction.{grown}

@@ -1,5 +1,5 @@
 -- Shoens whose goals may be let step, or held back, otherwise than when the event began.
-use Rattle.std.specs.Prelude.{◌≡◌, ◌≤◌, ◌<◌, ◌⊎◌, ℕ, nat_le, true, Option, Some, List, map, length, slice_get, option_map, unwrap_or, All, Contains}
+use Rattle.std.specs.Prelude.{◌≡◌, ◌≤◌, ◌<◌, ◌⊎◌, ℕ, nat_le, true, Some, List, map, length, slice_get, option_map, unwrap_or, All, Contains}
 use Rattle.kl1_model.specs.State.{is_living}
 use Rattle.kl1_shoen_paths.specs.declared.shoen.Shoen.{Shoen}
 use Rattle.kl1_shoen_paths.specs.declared.tracked.Was.{Was}

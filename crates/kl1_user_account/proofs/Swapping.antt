@@ -3,8 +3,9 @@ use Rattle.std.proofs.Common.{◌≡◌, ℕ, zero, suc, ◌+◌, ◌<◌, ◌�
 use Rattle.std.specs.List.{Contains}
 use Rattle.std.specs.List.Sorted.{IsPermutation, IsNonDecreasing}
 use Rattle.std.specs.Prelude.{Result, Ok, Err, MatchResult, is_ok}
-use Rattle.std.proofs.lemmas.Bool.{eq-eqb, ne_eqb, cases_lt}
-use Rattle.std.proofs.lemmas.List.{get_or_default}
+use Rattle.std.proofs.lemmas.Bool.{cases_lt}
+use Rattle.std.proofs.lemmas.List.{get_or_default, append-nil, append_assoc}
+use Rattle.std.proofs.lemmas.List.Elements.{Contains-append_left, Contains-append_right}
 use Rattle.std.proofs.lemmas.List.Sorted.{Contains-permutation}
 use Rattle.kl1_text.specs.declared.cell_name.CellName.{CellName}
 use Rattle.kl1_store.specs.declared.cell.Cell.{Cell}
@@ -12,7 +13,7 @@ use Rattle.kl1_store.specs.declared.cell.Cell.TheVariants.{Variable, Integer, At
 use Rattle.kl1_store.specs.declared.binding.Binding.{Binding}
 use Rattle.kl1_store.specs.Held.{Held, Shape}
 use Rattle.kl1_store.specs.Renames.{cell_renamed, shape_renamed, binding_renamed, held_renamed}
-use Rattle.kl1_user_account.specs.Exchanging.{swapped, swapped_one, swapped_all, touched, IsRowOf, held_with_two, held_exchanged}
+use Rattle.kl1_user_account.specs.Exchanging.{swapped, swapped_one, swapped_all, pair_of, touched, IsRowOf, held_with_two, held_exchanged}
 use Rattle.kl1_user_account.proofs.Exchanged.{swap_other}
 
 -- ---- two renamings are one
@@ -83,93 +84,52 @@ swapped_more (t ∷ ss) (m ∷ ns) (suc i) c d e w l = swapped_more ss ns i (swa
 
 -- ---- numbers that no exchange changes
 
--- both of two numbers, and none if they are one
-abbrev pub pair_of : CellName → CellName → List ℕ
-pair_of s n = if s.number == n.number then [] else s.number ∷ n.number ∷ []
-
 touched_more : (ss ns : List CellName) (i : ℕ) (d e : CellName) → i < length ss → length ns ≡ length ss → touched (take (suc i) ss) (take (suc i) ns) ≡ touched (take i ss) (take i ns) ++ pair_of (get_or ss i d) (get_or ns i e)
 touched_more [] ns i d e w l = absurd (omega (arith, w))
 touched_more (s ∷ ss) [] i d e w l = absurd (omega (arith, l))
-touched_more (s ∷ ss) (n ∷ ns) zero d e w l = refl
-touched_more (s ∷ ss) (n ∷ ns) (suc i) d e w l = by_case (s.number == n.number) (touched_more ss ns i d e (omega (arith, w)) (omega (arith, l)))
-  where
-    by_case : (c : Bool) → touched (take (suc i) ss) (take (suc i) ns) ≡ touched (take i ss) (take i ns) ++ pair_of (get_or ss i d) (get_or ns i e) →
-        (if c then touched (take (suc i) ss) (take (suc i) ns) else s.number ∷ n.number ∷ touched (take (suc i) ss) (take (suc i) ns))
-        ≡ (if c then touched (take i ss) (take i ns) else s.number ∷ n.number ∷ touched (take i ss) (take i ns)) ++ pair_of (get_or ss i d) (get_or ns i e)
-    by_case true rest = rest
-    by_case false rest = ap (λ l. s.number ∷ n.number ∷ l) rest
+touched_more (s ∷ ss) (n ∷ ns) zero d e w l = append-nil (pair_of s n)
+touched_more (s ∷ ss) (n ∷ ns) (suc i) d e w l =
+    ap (λ r. pair_of s n ++ r) (touched_more ss ns i d e (omega (arith, w)) (omega (arith, l)))
+    ∙ sym (append_assoc (pair_of s n) (touched (take i ss) (take i ns)) (pair_of (get_or ss i d) (get_or ns i e)))
 
--- two numbers more
-pub touched_two : (ss ns : List CellName) (i : ℕ) (d e : CellName) (row now : List ℕ) → i < length ss → length ns ≡ length ss → ((get_or ss i d).number ≡ (get_or ns i e).number → ⊥) →
-    row ≡ touched (take i ss) (take i ns) → now ≡ (row ++ (get_or ss i d).number ∷ []) ++ (get_or ns i e).number ∷ [] → now ≡ touched (take (i + 1) ss) (take (i + 1) ns)
-touched_two ss ns i d e row now w l ne is pushed =
-    let s = (get_or ss i d).number in
-    let n = (get_or ns i e).number in
+-- a turn of a loop: one pair more
+pub touched_next : (ss ns : List CellName) (i : ℕ) (d e : CellName) (row now : List ℕ) → i < length ss → length ns ≡ length ss → row ≡ touched (take i ss) (take i ns) → now ≡ row ++ pair_of (get_or ss i d) (get_or ns i e) → now ≡ touched (take (i + 1) ss) (take (i + 1) ns)
+touched_next ss ns i d e row now w l is pushed =
     pushed
-    ∙ after row s n
-    ∙ ap₂ (λ (xs ys : List ℕ). xs ++ ys) is (sym (ap (λ c. if c then [] else s ∷ n ∷ []) (ne_eqb s n ne)))
+    ∙ ap (λ r. r ++ pair_of (get_or ss i d) (get_or ns i e)) is
     ∙ sym (ap (λ m. touched (take m ss) (take m ns)) (add-one i) ∙ touched_more ss ns i d e w l)
+
+one_other : (s n c : CellName) → (Contains (pair_of s n) c.number → ⊥) → swapped_one s n c ≡ c
+one_other s n c h = by_case (s.number == n.number) h
   where
-    after : (xs : List ℕ) (s n : ℕ) → (xs ++ s ∷ []) ++ n ∷ [] ≡ xs ++ s ∷ n ∷ []
-    after [] s n = refl
-    after (x ∷ xs) s n = ap (λ l. x ∷ l) (after xs s n)
-
--- none more
-pub touched_none : (ss ns : List CellName) (i : ℕ) (d e : CellName) (row : List ℕ) → i < length ss → length ns ≡ length ss → (get_or ss i d).number ≡ (get_or ns i e).number → row ≡ touched (take i ss) (take i ns) → row ≡ touched (take (i + 1) ss) (take (i + 1) ns)
-touched_none ss ns i d e row w l same is =
-    let s = (get_or ss i d).number in
-    let n = (get_or ns i e).number in
-    is
-    ∙ nothing (touched (take i ss) (take i ns))
-    ∙ sym (ap (λ c. touched (take i ss) (take i ns) ++ (if c then [] else s ∷ n ∷ [])) (eq-eqb s n same))
-    ∙ sym (ap (λ m. touched (take m ss) (take m ns)) (add-one i) ∙ touched_more ss ns i d e w l)
-  where
-    nothing : (xs : List ℕ) → xs ≡ xs ++ []
-    nothing [] = refl
-    nothing (x ∷ xs) = ap (λ l. x ∷ l) (nothing xs)
-
-in_first : (x : ℕ) (xs : List ℕ) → Contains (x ∷ xs) x
-in_first x xs = (0, omega arith, refl)
-
-in_rest : (x : ℕ) (xs : List ℕ) (n : ℕ) → Contains xs n → Contains (x ∷ xs) n
-in_rest x xs n c = (suc c.0, omega (arith, c.1), c.2)
+    by_case : (t : Bool) → (Contains (if t then [] else s.number ∷ n.number ∷ []) c.number → ⊥) → (if t then c else swapped s n c) ≡ c
+    by_case true none = refl
+    by_case false none = swap_other s n c (λ e. none (0, omega arith, sym e)) (λ e. none (1, omega arith, sym e))
 
 -- what isn't among the numbers that can change stays
-pub untouched : (ss ns : List CellName) (c : CellName) → (Contains (touched ss ns) c.number → ⊥) → swapped_all ss ns c ≡ c
+untouched : (ss ns : List CellName) (c : CellName) → (Contains (touched ss ns) c.number → ⊥) → swapped_all ss ns c ≡ c
 untouched [] ns c h = refl
 untouched (s ∷ ss) [] c h = refl
-untouched (s ∷ ss) (n ∷ ns) c h = by_case (s.number == n.number) h
-  where
-    rest : List ℕ
-    rest = touched ss ns
-
-    first : (a b : ℕ) → c.number ≡ a → Contains (a ∷ b ∷ rest) c.number
-    first a b e = (0, omega arith, sym e)
-
-    second : (a b : ℕ) → c.number ≡ b → Contains (a ∷ b ∷ rest) c.number
-    second a b e = (1, omega arith, sym e)
-
-    by_case : (t : Bool) → (Contains (if t then rest else s.number ∷ n.number ∷ rest) c.number → ⊥) → swapped_all ss ns (if t then c else swapped s n c) ≡ c
-    by_case true none = untouched ss ns c none
-    by_case false none =
-        ap (swapped_all ss ns) (swap_other s n c (λ e. none (first s.number n.number e)) (λ e. none (second s.number n.number e)))
-        ∙ untouched ss ns c (λ t. none (in_rest s.number (n.number ∷ rest) c.number (in_rest n.number rest c.number t)))
+untouched (s ∷ ss) (n ∷ ns) c h =
+    ap (swapped_all ss ns) (one_other s n c (λ t. h (Contains-append_left (pair_of s n) (touched ss ns) c.number t)))
+    ∙ untouched ss ns c (λ t. h (Contains-append_right (pair_of s n) (touched ss ns) c.number t))
 
 -- nor does what isn't in a row of them
 pub not_in_row : (ss ns : List CellName) (row : List ℕ) (c : CellName) → IsRowOf ss ns row → (Contains row c.number → ⊥) → c ≡ swapped_all ss ns c
-not_in_row ss ns row c r none = sym (untouched ss ns c (λ t. none (r.all c.number t)))
+not_in_row ss ns row c r none = sym (untouched ss ns c (r.others c.number none))
 
 -- if no number can change, nothing that is held does
-pub none_exchanged : (ss ns : List CellName) (row : List ℕ) (h : Held CellName) → row ≡ [] → IsRowOf ss ns row → h ≡ held_exchanged ss ns h
+pub none_exchanged : (ss ns : List CellName) (row : List ℕ) (h : Held CellName) → length row ≡ 0 → IsRowOf ss ns row → h ≡ held_exchanged ss ns h
 none_exchanged ss ns row h empty r =
-    let absent : (n : ℕ) → Contains row n → ⊥ = λ n t. (let long : length row ≡ 0 = ap (λ (l : List ℕ). length l) empty in omega (arith, t.1, long)) in
+    let absent : (n : ℕ) → Contains row n → ⊥ = λ n t. omega (arith, t.1, empty) in
     sym (as_one ss ns h ∙ held_same (swapped_all ss ns) (λ c. sym (not_in_row ss ns row c r (absent c.number))) h)
 
 -- numbers in order, of what they were in
 pub row_sorted : (ss ns : List CellName) (given sorted : List ℕ) → given ≡ touched ss ns → IsPermutation given sorted → IsNonDecreasing sorted → IsRowOf ss ns sorted
 row_sorted ss ns given sorted is moved up =
     let P : List ℕ → Type 0 = λ l. (n : ℕ) → Contains l n → Contains sorted n in
-    record { rises = λ i j a b. up i j 0 a b; all = subst P is (λ n t. Contains-permutation given sorted n moved t) }
+    let all : (n : ℕ) → Contains (touched ss ns) n → Contains sorted n = subst P is (λ n t. Contains-permutation given sorted n moved t) in
+    record { rises = λ i j a b. up i j 0 a b; others = λ n none t. none (all n t) }
 
 -- ---- a search among them
 

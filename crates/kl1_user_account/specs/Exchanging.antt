@@ -1,5 +1,5 @@
 -- Numbers and spare numbers that stand for one another.
-use Rattle.std.specs.Prelude.{◌≡◌, ℕ, suc, ◌+◌, ◌<◌, ◌≤◌, ◌==◌, ◌^◌, ◌⊎◌, if◌then◌else◌, List, [], ◌∷◌, length, get_or, Some, None}
+use Rattle.std.specs.Prelude.{◌≡◌, ℕ, suc, ◌+◌, ◌<◌, ◌≤◌, ◌==◌, ◌^◌, ◌⊎◌, if◌then◌else◌, List, [], ◌∷◌, ◌++◌, length, get_or, Some, None}
 use Rattle.std.specs.List.{Contains}
 use Rattle.kl1_text.specs.declared.cell_name.CellName.{CellName}
 use Rattle.kl1_atoms.specs.declared.known.Known.{Known}
@@ -36,16 +36,20 @@ swapped_all [] ns c = c
 swapped_all (s ∷ ss) [] c = c
 swapped_all (s ∷ ss) (n ∷ ns) c = swapped_all ss ns (swapped_one s n c)
 
--- the numbers that these exchanges can change: of each two that stand for one another both, and of a number that stands for itself none
+-- both of two numbers, and none if they are one
+abbrev pub pair_of : CellName → CellName → List ℕ
+pair_of a b = if a.number == b.number then [] else a.number ∷ b.number ∷ []
+
+-- the numbers that these exchanges can change
 abbrev pub touched : List CellName → List CellName → List ℕ
 touched [] ns = []
 touched (s ∷ ss) [] = []
-touched (s ∷ ss) (n ∷ ns) = if s.number == n.number then touched ss ns else s.number ∷ n.number ∷ touched ss ns
+touched (s ∷ ss) (n ∷ ns) = pair_of s n ++ touched ss ns
 
 -- numbers in order, among which all are that these exchanges can change
 pub record IsRowOf (ss ns : List CellName) (row : List ℕ) : Type 0 where
   pub rises : (i j : ℕ) → i ≤ j → j < length row → get_or row i 0 ≤ get_or row j 0
-  pub all : (n : ℕ) → Contains (touched ss ns) n → Contains row n
+  pub others : (n : ℕ) → (Contains row n → ⊥) → Contains (touched ss ns) n → ⊥
 
 -- a reading that reads each of two numbers as the other, if they are two
 abbrev pub read_with_two : CellName → CellName → Reading → Reading

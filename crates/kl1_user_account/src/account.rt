@@ -464,7 +464,8 @@ impl<C: CodeSource> Account<C> {
             Answering::Refused(refusal) => return Ok(Reply::Refused(refusal)),
             Answering::Coded(code, variable) => (code, variable),
         };
-        let mut row = row_for_pairs(self.alloc, code.names().len())?;
+        let texts = code.names();
+        let mut row = row_for_pairs(self.alloc, texts.len())?;
         let mark = self.store.mark();
         // Only for the proof: the goals are in order of number.
         let _ordered = self.goals.shoens();
@@ -501,13 +502,7 @@ impl<C: CodeSource> Account<C> {
             }
             Ok(()) => {}
         }
-        publish(
-            names,
-            seat,
-            &mut self.names,
-            code.names(),
-            &mut self.numbers,
-        );
+        publish(names, seat, &mut self.names, texts, &mut self.numbers);
         exchange(
             &mut self.store,
             spares.as_slice(),

@@ -117,7 +117,11 @@ fn look_again<C: CodeSource>(
 
 /// Finds which shoens may let or hold back their goals other than before, if any may.
 #[inline(always)]
-fn find_shifts(shoens: &ShoenTree<CellName>, draft: &mut Draft, walk: &Walk) -> Result<(), AllocError>
+fn find_shifts(
+    shoens: &ShoenTree<CellName>,
+    draft: &mut Draft,
+    walk: &Walk,
+) -> Result<(), AllocError>
     ensures shifts { OnOk result (ShiftsFor shoens.now walk.now.reached.items draft.old draft.new) }
     ensures rest { OnOk result (draft.new ≡ record draft.old { enabled = draft.new.enabled; shifts = draft.new.shifts }) }
 {

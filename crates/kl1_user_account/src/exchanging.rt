@@ -1,7 +1,7 @@
 // Spare numbers that stand for names which are new, and numbers that take their places.
 
-ghost use Rattle.std.specs.Prelude.{◌≡◌, ◌+◌, ◌*◌, ◌≤◌, [], length, IfOk, OnOk, vec_capacity};
-ghost use Rattle.kl1_user_account.specs.Exchanging.{IsSpared, AreSpared, IsRowOf, held_exchanged};
+ghost use Rattle.std.specs.Prelude.{◌≡◌, ◌+◌, ◌*◌, ◌≤◌, [], ◌++◌, length, IfOk, OnOk, vec_len, vec_capacity};
+ghost use Rattle.kl1_user_account.specs.Exchanging.{IsSpared, AreSpared, pair_of, IsRowOf, held_exchanged};
 
 use crate::exchange::Exchange;
 use kl1_store::Store;
@@ -53,6 +53,19 @@ pub(crate) fn row_for_pairs(alloc: Global, pairs: usize) -> Result<Vec<u64>, All
     Vec::with_capacity(alloc, room)
 }
 
+/// Adds both of two numbers to a row with room for them, and none if they are one.
+fn push_pair(spare: u64, number: u64, row: &mut Vec<u64>)
+    requires room { vec_len row.old + 2 ≤ vec_capacity row.old }
+    ensures items { row.new.items ≡ row.old.items ++ pair_of (record { number = spare }) (record { number = number }) }
+    ensures few { vec_len row.new ≤ vec_len row.old + 2 }
+    ensures capacity { vec_capacity row.new ≡ vec_capacity row.old }
+{
+    if spare != number {
+        row.push_reserved(spare);
+        row.push_reserved(number);
+    }
+}
+
 /// Puts the numbers that exchanges can change into an empty row with room for them, in order.
 fn fill_row(spares: &[CellName], numbers: &[CellName], row: &mut Vec<u64>)
     requires length { length numbers.now ≡ length spares.now }
@@ -61,12 +74,7 @@ fn fill_row(spares: &[CellName], numbers: &[CellName], row: &mut Vec<u64>)
     ensures { IsRowOf spares.now numbers.now row.new.items }
 {
     for place in 0..spares.len() {
-        let spare = spares[place].number;
-        let number = numbers[place].number;
-        if spare != number {
-            row.push_reserved(spare);
-            row.push_reserved(number);
-        }
+        push_pair(spares[place].number, numbers[place].number, row);
     }
     row.sort_unstable();
 }

@@ -1,4 +1,4 @@
-use Rattle.std.proofs.Common.{◌≡◌, ◌-◌, ◌+◌, ◌<◌, ℕ, length, sym, arith}
+use Rattle.std.proofs.Common.{◌≡◌, ◌-◌, ◌+◌, ◌<◌, length, sym, arith}
 use Rattle.kl1_goals.specs.Chains.{before_in, before_at}
 use Rattle.kl1_goals.proofs.Changing.{field_read}
 use Rattle.kl1_goals.proofs.Chaining.{past_empty}

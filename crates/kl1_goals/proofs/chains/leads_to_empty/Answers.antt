@@ -1,4 +1,4 @@
-use Rattle.std.proofs.Common.{◌≡◌, ◌-◌, ◌+◌, ◌<◌, length, arith}
+use Rattle.std.proofs.Common.{◌-◌, arith}
 use Rattle.kl1_goals.proofs.Changing.{not_true}
 use Rattle.kl1_goals.proofs.Chaining.{empty_link}
 use Rattle.kl1_goals.proofs.chains.leads_to_empty.Goals as goal

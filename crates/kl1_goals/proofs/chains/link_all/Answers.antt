@@ -1,9 +1,8 @@
-use Rattle.std.proofs.Common.{◌≡◌, ◌+◌, ◌<◌, ◌≤◌, length, take, map, refl, sym, ap, ◌∙◌, arith}
-use Rattle.std.proofs.lemmas.List.{length-map, length-take-le, take_more_set, take_all}
-use Rattle.kl1_goals.specs.Chains.{shoen_in, unlinked_in}
-use Rattle.kl1_goals.proofs.Changing.{field_read}
+use Rattle.std.proofs.Common.{◌≡◌, ◌+◌, ◌<◌, length, refl, sym, ap, ◌∙◌, arith}
+use Rattle.std.proofs.lemmas.List.{length-map, take_more_set}
+use Rattle.kl1_goals.specs.Chains.{unlinked_in}
 use Rattle.kl1_goals.proofs.Linking.{chained_next, counts_counts, counts_exchanged}
-use Rattle.kl1_goals.proofs.Chaining.{same_fields, relinked, changed_set, changed_same, read_known}
+use Rattle.kl1_goals.proofs.Chaining.{relinked, changed_set, changed_same, read_known}
 use Rattle.kl1_goals.proofs.chains.link_all.Goals as goal
 
 pub exchange_last-slot-requires-clause-low : goal.exchange_last-slot-requires-clause-low

@@ -1,5 +1,4 @@
 use Rattle.std.proofs.Common.{rules, refl, map, ◌∙◌, arith}
-use Rattle.std.specs.List.{filter}
 use Rattle.std.proofs.lemmas.Fn.{filter_same}
 use Rattle.std.proofs.lemmas.List.Sums.{length-filter, count_by-le-length}
 use Rattle.kl1_goals.specs.Slots.{held_in, rank_in, number_in}

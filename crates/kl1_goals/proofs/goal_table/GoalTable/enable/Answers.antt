@@ -1,9 +1,8 @@
-use Rattle.std.proofs.Common.{◌≡◌, ◌≤◌, length, map, refl, sym, ap, ◌∙◌, arith}
+use Rattle.std.proofs.Common.{◌≡◌, length, refl, sym, ap, ◌∙◌, arith}
 use Rattle.kl1_goals.specs.declared.tally.Tally.{Tally}
-use Rattle.kl1_goals.specs.Lists.{enabled_in}
 use Rattle.kl1_goals.specs.Slots.{goals_in}
 use Rattle.kl1_goals.specs.Tallies.{tally_at}
-use Rattle.kl1_goals.specs.Chains.{IsLink, last_at}
+use Rattle.kl1_goals.specs.Chains.{last_at}
 use Rattle.kl1_goals.proofs.Flagging.{enabled_tally, alive_enabled}
 use Rattle.kl1_goals.proofs.Linking.{chained_one, chained_less, counts_exchanged, last_here, last_other, last_known, tally_counts}
 use Rattle.kl1_goals.proofs.Chaining.{let_first, let_last, less_shaped, slots_shaped}

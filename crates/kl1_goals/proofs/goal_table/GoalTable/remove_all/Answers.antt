@@ -1,8 +1,8 @@
-use Rattle.std.proofs.Common.{◌≡◌, length, sym, ap, ◌∙◌, arith}
+use Rattle.std.proofs.Common.{◌≡◌, sym, ap, ◌∙◌}
 use Rattle.kl1_goals.specs.declared.tally.Tally.{Tally}
 use Rattle.kl1_goals.specs.Slots.{goals_in}
 use Rattle.kl1_goals.specs.Tallies.{tally_at}
-use Rattle.kl1_goals.specs.Chains.{IsLink, last_at}
+use Rattle.kl1_goals.specs.Chains.{last_at}
 use Rattle.kl1_goals.proofs.Flagging.{left_tally, alive_left}
 use Rattle.kl1_goals.proofs.Linking.{linked_less, chained_less, chained_forgotten, last_known, tally_counts}
 use Rattle.kl1_goals.proofs.Chaining.{emptied_first, emptied_last}

@@ -1,7 +1,7 @@
 use Rattle.std.proofs.Common.{inr, subst}
 use Rattle.kl1_shoen_paths.specs.declared.shoen.Shoen.{Shoen}
 use Rattle.kl1_shoen.specs.Shifts.{Covers}
-use Rattle.kl1_shoen.proofs.Shifting.{adds_none, lent_none, lent_some}
+use Rattle.kl1_shoen.proofs.Shifting.{lent_none, lent_some}
 use Rattle.kl1_shoen.proofs.tree.ShoenTree.add_change.Goals as goal
 
 pub returns-in_default-clause-covers : goal.returns-in_default-clause-covers

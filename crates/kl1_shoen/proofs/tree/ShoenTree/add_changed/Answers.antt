@@ -1,5 +1,4 @@
-use Rattle.std.proofs.Common.{List, take, refl, sym, arith, subst}
-use Rattle.std.specs.Prelude.{All}
+use Rattle.std.proofs.Common.{take, sym, arith, subst}
 use Rattle.std.proofs.lemmas.List.{take_all}
 use Rattle.std.proofs.lemmas.List.Elements.{All-more, All-same, All-weaker}
 use Rattle.kl1_shoen.specs.Shifts.{CoversChange}

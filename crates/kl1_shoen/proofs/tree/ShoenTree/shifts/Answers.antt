@@ -1,12 +1,7 @@
-use Rattle.std.proofs.Common.{◌≡◌, ℕ, List, length, take, ap, sym, arith, subst}
-use Rattle.std.specs.Prelude.{All}
+use Rattle.std.proofs.Common.{◌≡◌, length, take, subst}
 use Rattle.kl1_shoen_paths.specs.Tracked.{IsTrail}
-use Rattle.kl1_shoen_paths.specs.declared.shoen.Shoen.{Shoen}
-use Rattle.kl1_shoen_paths.specs.declared.tracked.Was.{Was}
-use Rattle.kl1_shoen.specs.declared.shift.Shift.{Shift}
 use Rattle.kl1_shoen.specs.Shoens.{Tree, AreCharged, parents_in}
-use Rattle.kl1_shoen.specs.Shifts.{AreRight}
-use Rattle.kl1_shoen.proofs.Shifting.{Told, told_whole}
+use Rattle.kl1_shoen.proofs.Shifting.{told_whole}
 use Rattle.kl1_shoen.proofs.tree.ShoenTree.shifts.Goals as goal
 
 pub returns : goal.returns

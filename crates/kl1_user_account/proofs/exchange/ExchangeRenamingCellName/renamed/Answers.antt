@@ -1,5 +1,5 @@
 use Rattle.kl1_user_account.proofs.Swapping.{not_in_row}
-use Rattle.kl1_user_account.proofs.exchange.Exchange.renamed.Goals as goal
+use Rattle.kl1_user_account.proofs.exchange.ExchangeRenamingCellName.renamed.Goals as goal
 
 pub returns-then-not-is_in_row : goal.returns-then-not-is_in_row
 returns-then-not-is_in_row c =
