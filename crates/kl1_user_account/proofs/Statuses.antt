@@ -104,17 +104,22 @@ count_both n ns (g ∷ gs) e =
     by_case false false true f = refl
     by_case false false false f = refl
 
+-- no shoens have no goals
+alive_none : (gs : List (Goal CellName)) → 0 ≡ count_by (is_alive_in []) gs
+alive_none [] = refl
+alive_none (g ∷ gs) =
+    let a = sum_by-cons (λ (k : Goal CellName). cond (is_alive_in [] k) 1 0) g gs in
+    let rest = alive_none gs in
+    let one : ◌≡◌ {A = ℕ} (cond (is_alive_in [] g) 1 0) 0 = by_case (is_monitor g) in
+    omega (arith, a, rest, one)
+  where
+    by_case : (b : Bool) → ◌≡◌ {A = ℕ} (cond (not b && false) 1 0) 0
+    by_case true = refl
+    by_case false = refl
+
 -- goals of shoens, none of which stands twice
 pub alive_all : (gs : List (Goal CellName)) (ns : List ℕ) → AllPairs (λ a b. a ≢ b) ns → alive_each gs ns ≡ count_by (is_alive_in ns) gs
-alive_all gs [] once = none gs
-  where
-    unless : (b : Bool) → false ≡ (not b && false)
-    unless true = refl
-    unless false = refl
-
-    none : (ks : List (Goal CellName)) → 0 ≡ count_by (is_alive_in []) ks
-    none [] = refl
-    none (k ∷ ks) = none ks ∙ ap (λ b. cond b 1 0 + count_by (is_alive_in []) ks) (unless (is_monitor k)) ∙ sym (sum_by-cons (λ (g : Goal CellName). cond (is_alive_in [] g) 1 0) k ks)
+alive_all gs [] once = alive_none gs
 alive_all gs (n ∷ ns) once = ap (λ m. count_by (is_goal_of n) gs + m) (alive_all gs ns (once_rest n ns once)) ∙ count_both n ns gs (once_first n ns once)
 
 -- they are no more than all goals but monitors

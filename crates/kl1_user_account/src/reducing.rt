@@ -156,6 +156,7 @@ fn draft_reading<C: CodeSource>(
     requires monitor { goal.task ≡ Monitor }
     requires begun { IsBegun 0 modules.now.rules draft.old.last_goal draft.old.variables draft.old.nodes draft.old.reports draft.old }
     requires kept { (own : List ℕ × ℕ) (entries : ℕ × ℕ) → MayHave modules.now.rules entries → IsKept (account_at own store.old.held goals.old.goals shoens.old modules.now names.now.names draft.old.last_goal draft.old.variables draft.old.nodes draft.old.reports entries) store.old.hooks goals.old.shoens }
+    requires begins { BeganWith shoens.old shoens.old.shoens shoens.old.work }
     ensures ok { IfOk result (λ refused. (own : List ℕ × ℕ) (entries : ℕ × ℕ) → MayHave modules.now.rules entries → IsFullFor (account_at own store.old.held goals.old.goals shoens.old modules.now names.now.names draft.old.last_goal draft.old.variables draft.old.nodes draft.old.reports entries) goal.number clause is_full → ReducesAs (account_at own store.old.held goals.old.goals shoens.old modules.now names.now.names draft.old.last_goal draft.old.variables draft.old.nodes draft.old.reports entries) goal.number clause store.old store.new shoens.old shoens.new goals.new draft.new refused) }
     ensures back { CanGoBack shoens.old shoens.new }
     ensures grown { HasGrown store.old store.new }
