@@ -36,13 +36,9 @@ pub fn put_ready_checks(out: &mut Text) {
         done,
     );
     let done = goals_wait_until_they_are_let(alloc);
-    put_check(out, b"ready goals_of_shoens_without_their_flags_wait", done);
+    put_check(out, b"ready goals_of_a_shoen_that_is_held_back_wait", done);
     let done = goals_of_a_shoen_are_removed(alloc);
-    put_check(
-        out,
-        b"ready goals_of_shoens_with_their_flags_are_removed",
-        done,
-    );
+    put_check(out, b"ready goals_of_a_shoen_are_counted_and_removed", done);
     let done = a_shoen_of_three_is_let_alone(alloc);
     put_check(out, b"ready goals_of_one_shoen_of_three_wait_alone", done);
     let done = empty_places_are_passed_over(alloc);
