@@ -31,4 +31,8 @@ pub mod Constants
 pub mod Changed
 pub mod Bare
 pub mod Renaming
+pub mod Packing
+pub mod Ordering
+pub mod Listing
+pub mod Placed
 pub mod Renamed

@@ -1,6 +1,10 @@
 // Variables, and what they are bound to.
 
-ghost use Rattle.std.specs.Prelude.{◌≡◌, ◌+◌, ◌<◌, ◌≤◌, [], ◌∷◌, ◌++◌, length, take, drop, OnOk, IsOk};
+ghost use Rattle.std.specs.Prelude.{◌≡◌, ◌+◌, ◌<◌, ◌≤◌, suc, false, [], ◌∷◌, ◌++◌, length, take, drop, IfOk, OnOk, OnErr, IsOk, vec_capacity};
+ghost use Rattle.kl1_store.specs.Held.{is_bound, found};
+ghost use Rattle.kl1_store.specs.Inside.{most};
+ghost use Rattle.kl1_store.specs.Renames.{IsBindingRenamed, AreChanged};
+ghost use Rattle.kl1_store.specs.Slots.{variables_of, ArePlaced, AreBelow};
 
 use crate::cell::Cell;
 use crate::room::make_room;
@@ -20,9 +24,31 @@ pub struct Bindings<N: NameValue> {
     values: Words<N>,
 }
 
+impl<N: NameValue> Model for Bindings<N> {
+    ghost use Rattle.std.specs.Prelude.{◌-◌, min, length, vec_len, vec_capacity};
+    ghost use Rattle.kl1_store.specs.Slots.{Trail};
+
+    ghost Value = { Trail N };
+
+    ghost use Rattle.kl1_store.specs.Inside.{room_in};
+    ghost use Rattle.kl1_store.specs.Slots.{bindings_in, AreBindings};
+
+    ghost view = { λ b. record {
+      variables = length b.places.items;
+      bindings = bindings_in b.variables.items b.values.cells;
+      room = room_in (vec_capacity b.places) (vec_len b.places);
+      binding_room = min (vec_capacity b.variables - vec_len b.variables) b.values.room;
+    } };
+
+    ghost invariant = { λ b. AreBindings b.places.items b.variables.items b.values.cells };
+}
+
 impl<N: NameValue> Bindings<N> {
     /// No variables.
-    pub fn new(alloc: Global) -> Self {
+    pub fn new(alloc: Global) -> Self
+        ensures variables { result.variables ≡ 0 }
+        ensures bindings { result.bindings ≡ [] }
+    {
         Bindings {
             places: Vec::new(alloc),
             variables: Vec::new(alloc),
@@ -32,19 +58,30 @@ impl<N: NameValue> Bindings<N> {
 
     /// How many variables there are.
     #[inline]
-    pub fn variables(&self) -> usize {
+    pub fn variables(&self) -> usize
+        ensures { result ≡ self.now.variables }
+    {
         self.places.len()
     }
 
     /// How many of them are bound.
     #[inline]
-    pub fn count(&self) -> usize {
+    pub fn count(&self) -> usize
+        ensures { result ≡ length self.now.bindings }
+    {
         self.variables.len()
     }
 
     /// A new variable, unbound.
     #[inline]
-    pub fn fresh(&mut self) -> Result<u32, AllocError> {
+    pub fn fresh(&mut self) -> Result<u32, AllocError>
+        ensures ok { IfOk result (λ v. (v ≡ self.old.variables) × ((self.new.variables ≡ self.old.variables + 1) × (self.new.variables ≤ most))) }
+        ensures err { OnErr result (self.new.variables ≡ self.old.variables) }
+        ensures same { self.new.bindings ≡ self.old.bindings }
+        ensures succeeds { 0 < self.old.room → IsOk result }
+        ensures room { self.old.room ≤ self.new.room + 1 }
+        ensures binding_room { self.new.binding_room ≡ self.old.binding_room }
+    {
         let number = self.places.len();
         if number >= MOST {
             return Err(AllocError);
@@ -55,7 +92,13 @@ impl<N: NameValue> Bindings<N> {
     }
 
     /// Makes room for `variables` variables and `bindings` bindings more.
-    pub fn reserve(&mut self, variables: usize, bindings: usize) -> Result<(), AllocError> {
+    pub fn reserve(&mut self, variables: usize, bindings: usize) -> Result<(), AllocError>
+        ensures ok { OnOk result ((variables ≤ self.new.room) × (bindings ≤ self.new.binding_room)) }
+        ensures variables { self.new.variables ≡ self.old.variables }
+        ensures bindings { self.new.bindings ≡ self.old.bindings }
+        ensures room { self.old.room ≤ self.new.room }
+        ensures binding_room { self.old.binding_room ≤ self.new.binding_room }
+    {
         if variables > MOST - self.places.len() {
             return Err(AllocError);
         }
@@ -66,7 +109,16 @@ impl<N: NameValue> Bindings<N> {
 
     /// A binding more.
     #[inline]
-    pub fn bind(&mut self, variable: u32, value: Cell<N>) -> Result<(), AllocError> {
+    pub fn bind(&mut self, variable: u32, value: Cell<N>) -> Result<(), AllocError>
+        requires inside { variable < self.old.variables }
+        requires unbound { is_bound variable self.old.bindings ≡ false }
+        ensures ok { OnOk result (self.new.bindings ≡ self.old.bindings ++ record { variable = variable; value = value } ∷ []) }
+        ensures err { OnErr result (self.new.bindings ≡ self.old.bindings) }
+        ensures same { self.new.variables ≡ self.old.variables }
+        ensures succeeds { 0 < self.old.binding_room → IsOk result }
+        ensures room { self.old.room ≤ self.new.room }
+        ensures binding_room { length self.old.bindings + self.old.binding_room ≤ length self.new.bindings + self.new.binding_room }
+    {
         make_room(&mut self.variables, 1)?;
         self.values.make_room(1)?;
         self.variables.push_reserved(variable);
@@ -77,7 +129,10 @@ impl<N: NameValue> Bindings<N> {
 
     /// What a variable is bound to, or the variable itself.
     #[inline(always)]
-    pub fn value(&self, variable: u32) -> Cell<N> {
+    pub fn value(&self, variable: u32) -> Cell<N>
+        requires { variable < self.now.variables }
+        ensures { result ≡ found variable self.now.bindings }
+    {
         let place = self.places[variable as usize];
         if place == 0 {
             return Cell::Variable(variable);
@@ -86,13 +141,22 @@ impl<N: NameValue> Bindings<N> {
     }
 
     /// The variables that were bound after the first `from` ones.
-    pub fn bound_from(&self, from: usize) -> &[u32] {
+    pub fn bound_from(&self, from: usize) -> &[u32]
+        ensures { result.now ≡ variables_of (drop from self.now.bindings) }
+    {
         let first = from.min(self.variables.len());
         &self.variables[first..]
     }
 
     /// Keeps the first `variables` variables and the first `bindings` bindings.
-    pub fn keep(&mut self, variables: usize, bindings: usize) {
+    pub fn keep(&mut self, variables: usize, bindings: usize)
+        requires variables { variables ≤ self.old.variables }
+        requires below { AreBelow variables (take bindings self.old.bindings) }
+        ensures variables { self.new.variables ≡ variables }
+        ensures bindings { self.new.bindings ≡ take bindings self.old.bindings }
+        ensures room { self.old.variables + self.old.room ≤ self.new.variables + self.new.room }
+        ensures binding_room { length self.old.bindings + self.old.binding_room ≤ length self.new.bindings + self.new.binding_room }
+    {
         unbind(&mut self.places, &mut self.variables, bindings);
         self.values.truncate(bindings);
         self.places.truncate(variables);
@@ -100,13 +164,25 @@ impl<N: NameValue> Bindings<N> {
 
     /// Puts names in the places of others in the bindings from `first` on. It takes no memory.
     pub fn rename(&mut self, first: usize, from: &[N], to: &[N])
+        requires { length from.now ≤ length to.now }
+        ensures bindings { AreChanged (IsBindingRenamed from.now to.now) first (length self.old.bindings) self.old.bindings self.new.bindings }
+        ensures variables { self.new.variables ≡ self.old.variables }
+        ensures room { self.new.room ≡ self.old.room }
+        ensures binding_room { self.new.binding_room ≡ self.old.binding_room }
     {
         self.values.rename(first, from, to);
     }
 }
 
 /// Takes back the bindings after the first `keep`.
-fn unbind(places: &mut Vec<u32>, variables: &mut Vec<u32>, keep: usize) {
+fn unbind(places: &mut Vec<u32>, variables: &mut Vec<u32>, keep: usize)
+    requires placed { ArePlaced places.old.items variables.old.items }
+    ensures placed { ArePlaced places.new.items variables.new.items }
+    ensures variables { variables.new.items ≡ take keep variables.old.items }
+    ensures places { length places.new.items ≡ length places.old.items }
+    ensures places_capacity { vec_capacity places.new ≡ vec_capacity places.old }
+    ensures variables_capacity { vec_capacity variables.new ≡ vec_capacity variables.old }
+{
     while variables.len() > keep {
         if let Some(variable) = variables.pop() {
             places[variable as usize] = 0;

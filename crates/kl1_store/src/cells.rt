@@ -7,7 +7,7 @@ ghost use Rattle.kl1_store.specs.Meaning.{term_of};
 ghost use Rattle.kl1_store.specs.Spending.{Spends, SpendsOnBindings, FreesRoom};
 ghost use Rattle.kl1_store.specs.Sound.{IsFormed, Grown, IsBoundTo};
 ghost use Rattle.kl1_store.specs.Places.{all_arguments, StandFrom};
-ghost use Rattle.kl1_store.specs.Slots.{AreSlotted, AreOnce};
+ghost use Rattle.kl1_store.specs.Slots.{variables_of};
 ghost use Rattle.kl1_store.specs.Tops.{firsts, others};
 
 mod renaming;
@@ -35,7 +35,7 @@ pub struct Cells<N: NameValue> {
 }
 
 impl<N: NameValue> Model for Cells<N> {
-    ghost use Rattle.std.specs.Prelude.{◌≡◌, ℕ, ◌-◌, vec_len, vec_capacity, length};
+    ghost use Rattle.std.specs.Prelude.{vec_len, vec_capacity};
     ghost use Rattle.kl1_store.specs.Held.{Stored};
 
     ghost Value = { Stored N };
@@ -43,16 +43,16 @@ impl<N: NameValue> Model for Cells<N> {
     ghost use Rattle.kl1_store.specs.Inside.{shapes_in, room_in, IsInside};
 
     ghost view = { λ s. record {
-      held = record { variables = length s.slots.items; structures = shapes_in s.arguments.items s.nodes.items; bindings = s.bindings.items };
+      held = record { variables = s.bindings.variables; structures = shapes_in s.arguments.cells s.nodes.items; bindings = s.bindings.bindings };
       room = record {
-        variables = room_in (vec_capacity s.slots) (vec_len s.slots);
+        variables = s.bindings.room;
         structures = room_in (vec_capacity s.nodes) (vec_len s.nodes);
-        arguments = room_in (vec_capacity s.arguments) (vec_len s.arguments);
-        bindings = vec_capacity s.bindings - vec_len s.bindings;
+        arguments = s.arguments.room;
+        bindings = s.bindings.binding_room;
       };
     } };
 
-    ghost invariant = { λ s. IsInside s.slots.items s.nodes.items s.arguments.items s.bindings.items };
+    ghost invariant = { λ s. IsInside s.bindings.variables s.nodes.items s.arguments.cells s.bindings.bindings };
 }
 
 impl<N: NameValue> Cells<N> {
@@ -290,7 +290,7 @@ impl<N: NameValue> Cells<N> {
 
     /// The variables of the bindings after the first `from`.
     pub fn bound_from(&self, from: usize) -> &[u32]
-        ensures { result.now ≡ map variable_of (drop from self.now.held.bindings) }
+        ensures { result.now ≡ variables_of (drop from self.now.held.bindings) }
     {
         self.bindings.bound_from(from)
     }

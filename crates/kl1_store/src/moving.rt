@@ -9,9 +9,9 @@ use kl1_text::NameValue;
 
 /// Puts cells after those of a list with room for them.
 pub(crate) fn put_all<N: NameValue>(list: &mut Words<N>, cells: &[Cell<N>])
-    requires room { length list.old.cells + length cells.now ≤ list.old.memory }
+    requires room { length cells.now ≤ list.old.room }
     ensures cells { list.new.cells ≡ list.old.cells ++ cells.now }
-    ensures memory { list.new.memory ≡ list.old.memory }
+    ensures room { list.new.room + length cells.now ≡ list.old.room }
 {
     let mut rest = cells;
     while let [first, more @ ..] = rest {
@@ -28,11 +28,11 @@ pub(crate) fn move_top<N: NameValue>(
     missing: Cell<N>,
     count: usize,
 )
-    requires room { length list.old.cells + count ≤ list.old.memory }
+    requires room { count ≤ list.old.room }
     ensures moved { list.new.cells ≡ list.old.cells ++ firsts missing count (reverse stack.old.items) }
     ensures left { reverse stack.new.items ≡ others count (reverse stack.old.items) }
     ensures more { length list.new.cells ≡ length list.old.cells + count }
-    ensures list_memory { list.new.memory ≡ list.old.memory }
+    ensures list_room { list.new.room + count ≡ list.old.room }
     ensures height { length stack.new.items ≤ length stack.old.items }
     ensures stack_capacity { vec_capacity stack.new ≡ vec_capacity stack.old }
 {
@@ -46,9 +46,9 @@ pub(crate) fn move_top<N: NameValue>(
 
 /// Puts cells after those of a list with room for them, the last of them first.
 fn put_reversed<N: NameValue>(list: &mut Words<N>, cells: &[Cell<N>])
-    requires room { length list.old.cells + length cells.now ≤ list.old.memory }
-    ensures items { list.new.cells ≡ list.old.cells ++ reverse cells.now }
-    ensures memory { list.new.memory ≡ list.old.memory }
+    requires room { length cells.now ≤ list.old.room }
+    ensures cells { list.new.cells ≡ list.old.cells ++ reverse cells.now }
+    ensures room { list.new.room + length cells.now ≡ list.old.room }
 {
     let mut left = cells.len();
     while 0 < left {
@@ -64,11 +64,11 @@ fn move_or_fill<N: NameValue>(
     missing: Cell<N>,
     count: usize,
 )
-    requires room { length list.old.cells + count ≤ list.old.memory }
+    requires room { count ≤ list.old.room }
     ensures moved { list.new.cells ≡ list.old.cells ++ firsts missing count (reverse stack.old.items) }
     ensures left { reverse stack.new.items ≡ others count (reverse stack.old.items) }
     ensures more { length list.new.cells ≡ length list.old.cells + count }
-    ensures list_memory { list.new.memory ≡ list.old.memory }
+    ensures list_room { list.new.room + count ≡ list.old.room }
     ensures height { length stack.new.items ≤ length stack.old.items }
     ensures stack_capacity { vec_capacity stack.new ≡ vec_capacity stack.old }
 {

@@ -1,11 +1,13 @@
 // Lists of cells, as words.
 
-ghost use Rattle.std.specs.Prelude.{◌≡◌, ◌+◌, ◌<◌, ◌≤◌, [], ◌∷◌, ◌++◌, Some, length, take, OnOk, IsOk, slice_get};
+ghost use Rattle.std.specs.Prelude.{◌≡◌, ◌+◌, ◌<◌, ◌≤◌, [], ◌∷◌, ◌++◌, length, take, get_or, OnOk, IsOk};
+ghost use Rattle.kl1_store.specs.Inside.{most};
+ghost use Rattle.kl1_store.specs.Words.{AreInOrder, Splits};
 
 pub(crate) mod renaming;
 
 use crate::cell::Cell;
-use crate::word::{is_small, small, unpack};
+use crate::word::{pack, unpack};
 use kl1_text::NameValue;
 use std::alloc::{AllocError, Global};
 use std::marker::Model;
@@ -20,9 +22,24 @@ pub struct Words<N: NameValue> {
     memory: usize,
 }
 
+impl<N: NameValue> Model for Words<N> {
+    ghost use Rattle.std.specs.Prelude.{◌-◌, map, length, vec_capacity};
+    ghost use Rattle.kl1_store.specs.Words.{Listed};
+
+    ghost Value = { Listed N };
+
+    ghost use Rattle.kl1_store.specs.Words.{unpacked, AreWords};
+
+    ghost view = { λ w. record { cells = map (unpacked w.wide.items) w.words.items; room = w.memory - length w.words.items } };
+
+    ghost invariant = { λ w. AreWords w.words.items w.wide.items w.memory (vec_capacity w.words) (vec_capacity w.wide) };
+}
+
 impl<N: NameValue> Words<N> {
     /// No cells.
-    pub fn new(alloc: Global) -> Self {
+    pub fn new(alloc: Global) -> Self
+        ensures { result.cells ≡ [] }
+    {
         Words {
             words: Vec::new(alloc),
             wide: Vec::new(alloc),
@@ -32,19 +49,30 @@ impl<N: NameValue> Words<N> {
 
     /// How many cells there are.
     #[inline]
-    pub fn len(&self) -> usize {
+    pub fn len(&self) -> usize
+        ensures is { result ≡ length self.now.cells }
+        ensures few { result ≤ most }
+    {
         self.words.len()
     }
 
     /// A cell by its place, from 0.
     #[inline(always)]
-    pub fn get(&self, place: usize) -> Cell<N> {
+    pub fn get(&self, place: usize) -> Cell<N>
+        requires { place < length self.now.cells }
+        ensures { result ≡ get_or self.now.cells place result }
+    {
         unpack(self.words[place], &self.wide)
     }
 
     /// Makes room for `more` cells more. It is small enough to be put in place: if there is room, nothing is called.
-    #[inline]
-    pub fn make_room(&mut self, more: usize) -> Result<(), AllocError> {
+    #[inline(always)]
+    pub fn make_room(&mut self, more: usize) -> Result<(), AllocError>
+        ensures ok { OnOk result (more ≤ self.new.room) }
+        ensures same { self.new.cells ≡ self.old.cells }
+        ensures room { self.old.room ≤ self.new.room }
+        ensures succeeds { more ≤ self.old.room → IsOk result }
+    {
         if more <= self.memory - self.words.len() {
             return Ok(());
         }
@@ -52,7 +80,12 @@ impl<N: NameValue> Words<N> {
     }
 
     /// Asks for memory for `more` cells more, each of which may be one that stands beside the words.
-    fn grow(&mut self, more: usize) -> Result<(), AllocError> {
+    #[inline(never)]
+    fn grow(&mut self, more: usize) -> Result<(), AllocError>
+        ensures ok { OnOk result (more ≤ self.new.room) }
+        ensures same { self.new.cells ≡ self.old.cells }
+        ensures room { self.old.room ≤ self.new.room }
+    {
         if more > MOST - self.words.len() {
             return Err(AllocError);
         }
@@ -65,47 +98,39 @@ impl<N: NameValue> Words<N> {
 
     /// One cell more.
     #[inline]
-    pub fn push(&mut self, cell: Cell<N>) {
-        let word = match cell {
-            Cell::Variable(variable) => 4 * (variable as u64),
-            Cell::Structure(structure) => 4 * (structure as u64) + 1,
-            Cell::Integer(integer) => {
-                if is_small(integer) {
-                    small(integer)
-                } else {
-                    self.put_beside(cell)
-                }
-            }
-            Cell::Atom(_) => self.put_beside(cell),
-        };
+    pub fn push(&mut self, cell: Cell<N>)
+        requires { 0 < self.old.room }
+        ensures cells { self.new.cells ≡ self.old.cells ++ cell ∷ [] }
+        ensures room { self.new.room + 1 ≡ self.old.room }
+    {
+        let word = pack(cell, &mut self.wide);
         self.words.push_reserved(word);
     }
 
-    /// Puts a cell into the list beside the words: the word that stands for it.
-    #[inline]
-    fn put_beside(&mut self, cell: Cell<N>) -> u64 {
-        let place = self.wide.len() as u64;
-        self.wide.push_reserved(cell);
-        4 * place + 2
-    }
-
-    /// How many of the first `count` cells stand beside the words.
-    fn wide_before(&self, count: usize) -> usize {
-        for place in count..self.words.len() {
-            let word = self.words[place];
-            if word % 4 == 2 {
-                return (word / 4) as usize;
-            }
-        }
-        self.wide.len()
-    }
-
     /// Keeps the first `count` cells.
-    pub fn truncate(&mut self, count: usize) {
+    pub fn truncate(&mut self, count: usize)
+        ensures cells { self.new.cells ≡ take count self.old.cells }
+        ensures room { length self.old.cells + self.old.room ≡ length self.new.cells + self.new.room }
+    {
         if count < self.words.len() {
-            let wide = self.wide_before(count);
+            let wide = wide_before(&self.words, self.wide.len(), count);
             self.wide.truncate(wide);
             self.words.truncate(count);
         }
     }
+}
+
+/// How many of the first `count` cells stand beside the words, of which all do `all`.
+fn wide_before(words: &Vec<u64>, all: usize, count: usize) -> usize
+    requires order { AreInOrder 0 words.now.items all }
+    requires count { count ≤ length words.now.items }
+    ensures { Splits words.now.items count all result }
+{
+    for place in count..words.len() {
+        let word = words[place];
+        if word % 4 == 2 {
+            return (word / 4) as usize;
+        }
+    }
+    all
 }

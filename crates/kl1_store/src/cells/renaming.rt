@@ -1,7 +1,6 @@
 // Names that take the places of others in what came since a mark.
 
 ghost use Rattle.std.specs.Prelude.{◌≡◌, ◌≤◌, [], length, vec_capacity};
-ghost use Rattle.kl1_store.specs.Slots.{AreSlotted, AreOnce};
 ghost use Rattle.kl1_store.specs.Renames.{Renames, held_renamed, renamed_since, unnamed, IsCellRenamed, IsNodeRenamed, IsBindingRenamed, AreChanged};
 
 use crate::cells::Cells;

@@ -4,7 +4,7 @@ ghost use Rattle.std.specs.Prelude.{◌≡◌, ◌≤◌, length, vec_capacity};
 ghost use Rattle.kl1_store.specs.Renames.{Renames, IsCellRenamed, AreChanged};
 
 use crate::cell::Cell;
-use crate::words::Words;
+use crate::words::{wide_before, Words};
 use kl1_text::NameValue;
 
 /// The name that takes the place of one: what stands at its place among others, if it is one of these, and else itself.
@@ -48,9 +48,12 @@ fn rename_cells<N: NameValue>(cells: &mut Vec<Cell<N>>, first: usize, from: &[N]
 impl<N: NameValue> Words<N> {
     /// Puts names in the places of others in the cells from `first` on. It takes no memory.
     pub fn rename(&mut self, first: usize, from: &[N], to: &[N])
+        requires { length from.now ≤ length to.now }
+        ensures cells { AreChanged (IsCellRenamed from.now to.now) first (length self.old.cells) self.old.cells self.new.cells }
+        ensures room { self.new.room ≡ self.old.room }
     {
         if first < self.words.len() {
-            let wide = self.wide_before(first);
+            let wide = wide_before(&self.words, self.wide.len(), first);
             rename_cells(&mut self.wide, wide, from, to);
         }
     }

@@ -10,25 +10,25 @@ use Rattle.kl1_store.proofs.Lists.{AreOnce-bound, IsBack, cut_at, not_cut, taken
 pub unbind-requires-clause-once : goal.unbind-requires-clause-once
 unbind-requires-clause-once g c =
     let s = c.self.inside in
-    AreOnce-bound (length s.slots.items) (shapes_in s.arguments.items s.nodes.items) [] s.bindings.items c.self.invariant.formed.bound
+    AreOnce-bound (s.bindings.variables) (shapes_in s.arguments.cells s.nodes.items) [] s.bindings.bindings c.self.invariant.formed.bound
 
 cut : (g : _) (c : goal.After-truncate-then-structures-len-2 g) (h : Held g.row.N.Denot) → c.args.mark ≡ sizes_of h → IsFormed h → Grown h c.args.self.now.held →
     IsBack c.truncate.new.self.items c.truncate-then-structures-len-2.new.self.items c.truncate-then-structures-len.new.self.items c.unbind.new.bindings.items h
 cut g c h p q r =
     let s = c.self.inside in
     let e = ap (λ (v : Stored g.row.N.Denot). v.held) c.self.view_is in
-    taken_back s.slots.items c.unbind.new.slots.items c.truncate.new.self.items s.nodes.items c.truncate-then-structures-len-2.new.self.items s.arguments.items c.truncate-then-structures-len.new.self.items s.bindings.items c.unbind.new.bindings.items c.args.self.now.held h c.args.mark
+    taken_back s.bindings.variables c.unbind.new.slots.items c.truncate.new.self.items s.nodes.items c.truncate-then-structures-len-2.new.self.items s.arguments.cells c.truncate-then-structures-len.new.self.items s.bindings.bindings c.unbind.new.bindings.items c.args.self.now.held h c.args.mark
     c.self.invariant e p q r c.unbind.ensures.slotted c.unbind.ensures.slots c.unbind.ensures.bindings c.truncate.ensures.items
-    (cut_at s.slots.items s.nodes.items c.truncate-then-structures-len-2.new.self.items s.arguments.items c.truncate-then-structures-len.new.self.items s.bindings.items c.args.mark.structures c.index.result.now c.self.invariant (omega (arith, s.nodes.ok.0)) c.index.ensures c.truncate-then-structures-len-2.ensures.items c.truncate-then-structures-len.ensures.items)
+    (cut_at s.bindings.variables s.nodes.items c.truncate-then-structures-len-2.new.self.items s.arguments.cells c.truncate-then-structures-len.new.self.items s.bindings.bindings c.args.mark.structures c.index.result.now c.self.invariant (omega (arith, s.nodes.ok.0)) c.index.ensures c.truncate-then-structures-len-2.ensures.items c.truncate-then-structures-len.ensures.items)
 
 whole : (g : _) (c : goal.Else-structures-len g) (h : Held g.row.N.Denot) → c.args.mark ≡ sizes_of h → IsFormed h → Grown h c.args.self.now.held →
-    IsBack c.truncate.new.self.items c.self.inside.nodes.items c.self.inside.arguments.items c.unbind.new.bindings.items h
+    IsBack c.truncate.new.self.items c.self.inside.nodes.items c.self.inside.arguments.cells c.unbind.new.bindings.items h
 whole g c h p q r =
     let s = c.self.inside in
     let e = ap (λ (v : Stored g.row.N.Denot). v.held) c.self.view_is in
-    taken_back s.slots.items c.unbind.new.slots.items c.truncate.new.self.items s.nodes.items s.nodes.items s.arguments.items s.arguments.items s.bindings.items c.unbind.new.bindings.items c.args.self.now.held h c.args.mark
+    taken_back s.bindings.variables c.unbind.new.slots.items c.truncate.new.self.items s.nodes.items s.nodes.items s.arguments.cells s.arguments.cells s.bindings.bindings c.unbind.new.bindings.items c.args.self.now.held h c.args.mark
     c.self.invariant e p q r c.unbind.ensures.slotted c.unbind.ensures.slots c.unbind.ensures.bindings c.truncate.ensures.items
-    (not_cut s.slots.items s.nodes.items s.arguments.items s.bindings.items c.args.mark.structures c.self.invariant (omega (arith, s.nodes.ok.0)))
+    (not_cut s.bindings.variables s.nodes.items s.arguments.cells s.bindings.bindings c.args.mark.structures c.self.invariant (omega (arith, s.nodes.ok.0)))
 
 pub invariant_of-self : goal.invariant_of-self
 invariant_of-self g c = (cut g c c.requires.0 c.requires.1.0 c.requires.1.1.0 c.requires.1.1.1).inside
@@ -64,7 +64,7 @@ returns-then-structures-len-clause-room g c =
       bindings = (s.bindings.ok.1, omega (arith, c.unbind.ensures.bindings_capacity));
     } in
     subst P c.self.view_is
-    (frees_lists z s.slots.items s.nodes.items s.arguments.items s.bindings.items z' slots.items nodes.items arguments.items bindings.items
+    (frees_lists z s.bindings.variables s.nodes.items s.arguments.cells s.bindings.bindings z' slots.items nodes.items arguments.items bindings.items
     c.self.invariant (cut g c c.requires.0 q.0 q.1.0 q.1.1).inside
     (record { slots = s.slots.ok.0; nodes = s.nodes.ok.0; arguments = s.arguments.ok.0; bindings = s.bindings.ok.0 })
     (record { slots = slots.ok.0; nodes = nodes.ok.0; arguments = arguments.ok.0; bindings = bindings.ok.0 })
@@ -88,7 +88,7 @@ returns-else-structures-len-clause-room g c =
       bindings = (s.bindings.ok.1, omega (arith, c.unbind.ensures.bindings_capacity));
     } in
     subst P c.self.view_is
-    (frees_lists z s.slots.items s.nodes.items s.arguments.items s.bindings.items z' slots.items nodes.items arguments.items bindings.items
+    (frees_lists z s.bindings.variables s.nodes.items s.arguments.cells s.bindings.bindings z' slots.items nodes.items arguments.items bindings.items
     c.self.invariant (whole g c c.requires.0 q.0 q.1.0 q.1.1).inside
     (record { slots = s.slots.ok.0; nodes = s.nodes.ok.0; arguments = s.arguments.ok.0; bindings = s.bindings.ok.0 })
     (record { slots = slots.ok.0; nodes = nodes.ok.0; arguments = arguments.ok.0; bindings = bindings.ok.0 })

@@ -8,5 +8,5 @@ invariant_of-self-2 g c =
     let s = c.self.inside in
     let e = ap (λ (v : Stored g.row.N.Denot). v.held) c.self.view_is in
     let r = c.requires in
-    bound_at s.slots.items s.nodes.items s.arguments.items s.bindings.items _ c.args.variable c.args.value c.args.self.now.held
+    bound_at s.bindings.variables s.nodes.items s.arguments.cells s.bindings.bindings _ c.args.variable c.args.value c.args.self.now.held
     c.self.invariant e (c.push_reserved.ensures.items ∙ ap (λ l. l ++ record { variable = c.args.variable; value = c.args.value } ∷ []) c.in_ok-make_room.ensures.items) r.inside r.known r.unbound r.lower r.free

@@ -12,30 +12,30 @@ use Rattle.kl1_store.proofs.cells.Cells.rename.Goals as goal
 pub rename_bindings-requires-clause-once : goal.rename_bindings-requires-clause-once
 rename_bindings-requires-clause-once g c =
     let s = c.self.inside in
-    AreOnce-bound (length s.slots.items) (shapes_in s.arguments.items s.nodes.items) [] s.bindings.items c.self.invariant.formed.bound
+    AreOnce-bound (s.bindings.variables) (shapes_in s.arguments.cells s.nodes.items) [] s.bindings.bindings c.self.invariant.formed.bound
 
 -- the lists, if structures came since the mark
 since : (g : _) (c : goal.After-rename_nodes g) →
     AreRenamed c.args.from.now c.args.to.now c.args.mark c.rename_bindings.new.slots.items c.rename_nodes.new.nodes.items c.rename_cells.new.cells.items c.rename_bindings.new.bindings.items
-    (held_in c.self.inside.slots.items c.self.inside.nodes.items c.self.inside.arguments.items c.self.inside.bindings.items)
+    (held_in c.self.inside.bindings.variables c.self.inside.nodes.items c.self.inside.arguments.cells c.self.inside.bindings.bindings)
 since g c =
     let s = c.self.inside in
     let lt : c.args.mark.structures < length s.nodes.items = omega (arith, c.if-first-len.true, c.len.ensures, s.nodes.ok.0) in
-    are_renamed c.args.from.now c.args.to.now c.args.mark c.index.result.now.start s.slots.items c.rename_bindings.new.slots.items s.nodes.items c.rename_nodes.new.nodes.items s.arguments.items c.rename_cells.new.cells.items s.bindings.items c.rename_bindings.new.bindings.items
-    c.self.invariant c.rename_bindings.ensures.slotted c.rename_bindings.ensures.slots (sym (start_there s.nodes.items c.args.mark.structures (length s.arguments.items) c.index.result.now lt c.index.ensures))
+    are_renamed c.args.from.now c.args.to.now c.args.mark c.index.result.now.start s.bindings.variables c.rename_bindings.new.slots.items s.nodes.items c.rename_nodes.new.nodes.items s.arguments.cells c.rename_cells.new.cells.items s.bindings.bindings c.rename_bindings.new.bindings.items
+    c.self.invariant c.rename_bindings.ensures.slotted c.rename_bindings.ensures.slots (sym (start_there s.nodes.items c.args.mark.structures (length s.arguments.cells) c.index.result.now lt c.index.ensures))
     c.rename_bindings.ensures.items c.rename_cells.ensures.items c.rename_nodes.ensures.items
 
 -- and if none came
 none : (g : _) (c : goal.Else-first-len g) →
-    AreRenamed c.args.from.now c.args.to.now c.args.mark c.rename_bindings.new.slots.items c.self.inside.nodes.items c.self.inside.arguments.items c.rename_bindings.new.bindings.items
-    (held_in c.self.inside.slots.items c.self.inside.nodes.items c.self.inside.arguments.items c.self.inside.bindings.items)
+    AreRenamed c.args.from.now c.args.to.now c.args.mark c.rename_bindings.new.slots.items c.self.inside.nodes.items c.self.inside.arguments.cells c.rename_bindings.new.bindings.items
+    (held_in c.self.inside.bindings.variables c.self.inside.nodes.items c.self.inside.arguments.cells c.self.inside.bindings.bindings)
 none g c =
     let s = c.self.inside in
     let le : length s.nodes.items ≤ c.args.mark.structures = omega (arith, c.if-first-len.false, c.len.ensures, s.nodes.ok.0) in
-    are_renamed c.args.from.now c.args.to.now c.args.mark (length s.arguments.items) s.slots.items c.rename_bindings.new.slots.items s.nodes.items s.nodes.items s.arguments.items s.arguments.items s.bindings.items c.rename_bindings.new.bindings.items
-    c.self.invariant c.rename_bindings.ensures.slotted c.rename_bindings.ensures.slots (sym (start_past s.nodes.items c.args.mark.structures (length s.arguments.items) le))
+    are_renamed c.args.from.now c.args.to.now c.args.mark (length s.arguments.cells) s.bindings.variables c.rename_bindings.new.slots.items s.nodes.items s.nodes.items s.arguments.cells s.arguments.cells s.bindings.bindings c.rename_bindings.new.bindings.items
+    c.self.invariant c.rename_bindings.ensures.slotted c.rename_bindings.ensures.slots (sym (start_past s.nodes.items c.args.mark.structures (length s.arguments.cells) le))
     c.rename_bindings.ensures.items
-    (past_changed (λ (x y : Cell g.row.N.Denot). IsCellRenamed c.args.from.now c.args.to.now x y) (length s.arguments.items) s.arguments.items (omega arith))
+    (past_changed (λ (x y : Cell g.row.N.Denot). IsCellRenamed c.args.from.now c.args.to.now x y) (length s.arguments.cells) s.arguments.cells (omega arith))
     (past_changed (λ (x y : Node g.row.N.Denot). IsNodeRenamed c.args.from.now c.args.to.now x y) c.args.mark.structures s.nodes.items le)
 
 pub invariant_of-self : goal.invariant_of-self

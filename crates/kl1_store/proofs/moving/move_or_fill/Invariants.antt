@@ -1,7 +1,7 @@
 use Rattle.std.proofs.Common.{◌≡◌, ◌+◌, ◌≤◌, length, reverse, ◌++◌}
 use Rattle.std.specs.Vec.{vec_capacity}
 use Rattle.kl1_store.specs.Tops.{firsts, others}
-use Rattle.kl1_store.proofs.cells.move_or_fill.Given as goal
+use Rattle.kl1_store.proofs.moving.move_or_fill.Given as goal
 
 -- what is moved and what is to be moved are the first `count`, and what will be left are the others
 abbrev pub invariant-loop-left : goal.invariant-loop-left

@@ -1,6 +1,6 @@
 use Rattle.std.proofs.Common.{◌≡◌, vec_capacity}
 use Rattle.kl1_store.specs.Renames.{IsCellRenamed, AreChanged}
-use Rattle.kl1_store.proofs.cells.renaming.rename_cells.Given as goal
+use Rattle.kl1_store.proofs.words.renaming.rename_cells.Given as goal
 
 -- the cells so far have the other names
 abbrev pub invariant-loop-place : goal.invariant-loop-place

@@ -2,7 +2,7 @@ use Rattle.std.proofs.Common.{◌≡◌, ◌∙◌, ◌++◌, ◌-◌, ap, lengt
 use Rattle.std.specs.Prelude.{option_to_list}
 use Rattle.kl1_store.specs.Tops.{first_or, firsts}
 use Rattle.kl1_store.proofs.Tops.{popped, moved_one, left_one}
-use Rattle.kl1_store.proofs.cells.move_or_fill.Goals as goal
+use Rattle.kl1_store.proofs.moving.move_or_fill.Goals as goal
 
 pub loop-left-preserved : goal.loop-left-preserved
 loop-left-preserved g c =

@@ -1,7 +1,7 @@
 use Rattle.std.proofs.Common.{◌≡◌, ◌-◌, ◌+◌, ◌++◌, ◌∙◌, ap, arith, length, length-drop, reverse, take, drop}
 use Rattle.std.proofs.lemmas.List.{take_all}
 use Rattle.kl1_store.proofs.Tops.{top_reversed}
-use Rattle.kl1_store.proofs.cells.move_top.Goals as goal
+use Rattle.kl1_store.proofs.moving.move_top.Goals as goal
 
 pub returns-clause-moved : goal.returns-clause-moved
 returns-clause-moved g c =

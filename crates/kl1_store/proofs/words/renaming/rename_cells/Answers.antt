@@ -2,7 +2,7 @@ use Rattle.std.proofs.Common.{◌<◌, length, arith}
 use Rattle.kl1_store.specs.declared.cell.Cell.{Cell}
 use Rattle.kl1_store.specs.Renames.{IsCellRenamed}
 use Rattle.kl1_store.proofs.Changed.{one_changed, read_changed}
-use Rattle.kl1_store.proofs.cells.renaming.rename_cells.Goals as goal
+use Rattle.kl1_store.proofs.words.renaming.rename_cells.Goals as goal
 
 pub loop-place-preserved : goal.loop-place-preserved
 loop-place-preserved g c =

@@ -1,6 +1,6 @@
 use Rattle.std.proofs.Common.{◌≡◌, ◌+◌, ◌≤◌, length, reverse, take, ◌++◌}
 use Rattle.std.specs.Vec.{vec_capacity}
-use Rattle.kl1_store.proofs.cells.put_reversed.Given as goal
+use Rattle.kl1_store.proofs.moving.put_reversed.Given as goal
 
 -- what was put and what is left to put are all cells, and there is room for what is left
 abbrev pub invariant-loop-left : goal.invariant-loop-left

@@ -1,6 +1,6 @@
 use Rattle.std.proofs.Common.{◌≡◌, ◌<◌, ℕ}
 use Rattle.std.specs.Prelude.{Some, slice_get}
-use Rattle.kl1_store.proofs.cells.renaming.renamed.Given as goal
+use Rattle.kl1_store.proofs.words.renaming.renamed.Given as goal
 
 -- none of the names so far is the one that is asked for
 abbrev pub invariant-loop-place : goal.invariant-loop-place
