@@ -143,3 +143,10 @@ cells_renamed {N = N} from to words wide new first place le s h =
         let P : Cell N → Type 0 = λ x. IsCellRenamed from to x (get_or (map (unpacked new) words) k d) in
         let Q : Cell N → Type 0 = λ y. IsCellRenamed from to (unpacked wide (get_or words k 0)) y in
         subst P (sym (read wide k d inside)) (subst Q (sym (read new k d inside)) (since_place from to wide new place (get_or words k 0) h (high k ge inside)))
+
+pub words_renamed : {N : Type 0} (words : List ℕ) (wide new : List (Cell N)) (memory words_capacity wide_capacity : ℕ) →
+    AreWords words wide memory words_capacity wide_capacity → length new ≡ length wide → AreWords words new memory words_capacity wide_capacity
+words_renamed words wide new memory words_capacity wide_capacity h e =
+    let A : ℕ → Type 0 = λ n. All (IsPacked n) words in
+    let O : ℕ → Type 0 = λ n. AreInOrder 0 words n in
+    record { packed = subst A (sym e) h.packed; order = subst O (sym e) h.order; held = h.held; few = h.few; words_serve = h.words_serve; wide_serve = h.wide_serve }

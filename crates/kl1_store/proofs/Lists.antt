@@ -15,7 +15,7 @@ use Rattle.kl1_store.specs.Sound.{Bound, IsFormed, Grown}
 use Rattle.kl1_store.specs.Slots.{AreBelow}
 use Rattle.kl1_store.specs.Inside.{shapes_in, AreLaid, held_in, IsInside, most}
 use Rattle.kl1_store.proofs.Meanings.{if_same, if_other}
-use Rattle.kl1_store.proofs.Growing.{IsFormed-variable, IsFormed-structure, IsFormed-binding}
+use Rattle.kl1_store.proofs.Growing.{IsFormed-more, IsFormed-structure, IsFormed-binding}
 use Rattle.kl1_store.proofs.Laid.{length-shapes_in, slice_get-part, shapes_in-push, shapes_in-take, AreLaid-push, StandsAt, shape_stands}
 
 pub found_unbound : {N : Type 0} (v : ℕ) (bs : List (Binding N)) → is_bound v bs ≡ false → found v bs ≡ Variable v
@@ -34,17 +34,18 @@ pub found-push_other : {N : Type 0} (v : ℕ) (bs : List (Binding N)) (b : Bindi
 found-push_other v [] b ne = if_other b.value (Variable v) b.variable v ne
 found-push_other {N = N} v (x ∷ bs) b ne = ap (λ (y : Cell N). if x.variable == v then x.value else y) (found-push_other v bs b ne)
 
-pub IsInside-variable : {N : Type 0} (variables more : ℕ) (nodes : List (Node N)) (arguments : List (Cell N)) (bindings : List (Binding N)) →
-    IsInside variables nodes arguments bindings → more ≡ variables + 1 → more ≤ most → IsInside more nodes arguments bindings
-IsInside-variable variables more nodes arguments bindings h e fits =
-    let P : ℕ → Type 0 = λ n. IsFormed (held_in n nodes arguments bindings) in
-    record {
-      formed = subst P (sym e) (IsFormed-variable (held_in variables nodes arguments bindings) h.formed);
+-- with more variables
+pub IsInside-more : {N : Type 0} (variables more : ℕ) (nodes : List (Node N)) (arguments : List (Cell N)) (bindings after : List (Binding N)) →
+    IsInside variables nodes arguments bindings → variables ≤ more → more ≤ most → after ≡ bindings → IsInside more nodes arguments after
+IsInside-more {N = N} variables more nodes arguments bindings after h le fits e =
+    let P : List (Binding N) → Type 0 = λ l. IsInside more nodes arguments l in
+    subst P (sym e) (record {
+      formed = IsFormed-more (held_in variables nodes arguments bindings) more le h.formed;
       laid = h.laid;
       variables_fit = fits;
       structures_fit = h.structures_fit;
       arguments_fit = h.arguments_fit;
-    }
+    })
 
 -- variables below a number
 bound_below : {N : Type 0} (vs : ℕ) (ss : List (Shape N)) (before bs : List (Binding N)) → Bound vs ss before bs → AreBelow vs bs

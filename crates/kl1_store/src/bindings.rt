@@ -75,8 +75,10 @@ impl<N: NameValue> Bindings<N> {
     /// A new variable, unbound.
     #[inline]
     pub fn fresh(&mut self) -> Result<u32, AllocError>
-        ensures ok { IfOk result (λ v. (v ≡ self.old.variables) × ((self.new.variables ≡ self.old.variables + 1) × (self.new.variables ≤ most))) }
+        ensures ok { IfOk result (λ v. (v ≡ self.old.variables) × (self.new.variables ≡ self.old.variables + 1)) }
         ensures err { OnErr result (self.new.variables ≡ self.old.variables) }
+        ensures more { self.old.variables ≤ self.new.variables }
+        ensures few { self.new.variables ≤ most }
         ensures same { self.new.bindings ≡ self.old.bindings }
         ensures succeeds { 0 < self.old.room → IsOk result }
         ensures room { self.old.room ≤ self.new.room + 1 }
@@ -116,14 +118,15 @@ impl<N: NameValue> Bindings<N> {
         ensures err { OnErr result (self.new.bindings ≡ self.old.bindings) }
         ensures same { self.new.variables ≡ self.old.variables }
         ensures succeeds { 0 < self.old.binding_room → IsOk result }
-        ensures room { self.old.room ≤ self.new.room }
-        ensures binding_room { length self.old.bindings + self.old.binding_room ≤ length self.new.bindings + self.new.binding_room }
+        ensures room { self.new.room ≡ self.old.room }
+        ensures spends { self.old.binding_room ≤ self.new.binding_room + 1 }
+        ensures keeps { OnErr result (self.old.binding_room ≤ self.new.binding_room) }
     {
         make_room(&mut self.variables, 1)?;
         self.values.make_room(1)?;
         self.variables.push_reserved(variable);
         self.values.push(value);
-        self.places[variable as usize] = self.variables.len() as u32;
+        self.places[variable as usize] = self.values.len() as u32;
         Ok(())
     }
 
@@ -144,8 +147,7 @@ impl<N: NameValue> Bindings<N> {
     pub fn bound_from(&self, from: usize) -> &[u32]
         ensures { result.now ≡ variables_of (drop from self.now.bindings) }
     {
-        let first = from.min(self.variables.len());
-        &self.variables[first..]
+        drop_first(&self.variables, from)
     }
 
     /// Keeps the first `variables` variables and the first `bindings` bindings.
@@ -172,6 +174,15 @@ impl<N: NameValue> Bindings<N> {
     {
         self.values.rename(first, from, to);
     }
+}
+
+/// The numbers after the first `from`.
+#[tactic(auto, using(std::proofs::lemmas::List::drop_min))]
+fn drop_first(numbers: &Vec<u32>, from: usize) -> &[u32]
+    ensures { result.now ≡ drop from numbers.now.items }
+{
+    let first = from.min(numbers.len());
+    &numbers[first..]
 }
 
 /// Takes back the bindings after the first `keep`.

@@ -210,7 +210,8 @@ impl<N: NameValue> Cells<N> {
         ensures room { 0 < self.old.room.bindings → IsOk result }
         ensures spends { SpendsOnBindings self.old.held self.old.room self.new.held self.new.room }
     {
-        self.bindings.bind(variable, value)
+        self.bindings.bind(variable, value)?;
+        Ok(())
     }
 
     /// What a variable is bound to, or the variable itself.

@@ -113,18 +113,18 @@ impl<N: NameValue> Words<N> {
         ensures room { length self.old.cells + self.old.room ≡ length self.new.cells + self.new.room }
     {
         if count < self.words.len() {
-            let wide = wide_before(&self.words, self.wide.len(), count);
+            let wide = wide_before(&self.words, &self.wide, count);
             self.wide.truncate(wide);
             self.words.truncate(count);
         }
     }
 }
 
-/// How many of the first `count` cells stand beside the words, of which all do `all`.
-fn wide_before(words: &Vec<u64>, all: usize, count: usize) -> usize
-    requires order { AreInOrder 0 words.now.items all }
+/// How many of the first `count` cells stand beside the words.
+fn wide_before<N: Copy>(words: &Vec<u64>, wide: &Vec<Cell<N>>, count: usize) -> usize
+    requires order { AreInOrder 0 words.now.items (length wide.now.items) }
     requires count { count ≤ length words.now.items }
-    ensures { Splits words.now.items count all result }
+    ensures { Splits words.now.items count (length wide.now.items) result }
 {
     for place in count..words.len() {
         let word = words[place];
@@ -132,5 +132,5 @@ fn wide_before(words: &Vec<u64>, all: usize, count: usize) -> usize
             return (word / 4) as usize;
         }
     }
-    all
+    wide.len()
 }

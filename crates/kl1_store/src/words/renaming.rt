@@ -53,7 +53,7 @@ impl<N: NameValue> Words<N> {
         ensures room { self.new.room ≡ self.old.room }
     {
         if first < self.words.len() {
-            let wide = wide_before(&self.words, self.wide.len(), first);
+            let wide = wide_before(&self.words, &self.wide, first);
             rename_cells(&mut self.wide, wide, from, to);
         }
     }

@@ -23,16 +23,16 @@ overflow_add-node g c =
     let read = read_at s.bindings.variables s.nodes.items s.arguments.cells s.bindings.bindings c.args.structure c.index-node.result.now c.args.self.now.held c.self.invariant e c.requires.structure c.index-node.ensures in
     omega (arith, read.fits, read.count, c.self.invariant.arguments_fit)
 
-pub index-requires : goal.index-requires
-index-requires g c =
+pub get-requires : goal.get-requires
+get-requires g c =
     let s = c.self.inside in
     let e = ap (λ (v : Stored g.row.N.Denot). v.held) c.self.view_is in
     let read = read_at s.bindings.variables s.nodes.items s.arguments.cells s.bindings.bindings c.args.structure c.index-node.result.now c.args.self.now.held c.self.invariant e c.requires.structure c.index-node.ensures in
-    omega (arith, read.fits, read.count, s.arguments.ok.0)
+    omega (arith, read.fits, read.count)
 
 pub returns-clause-is : goal.returns-clause-is
 returns-clause-is g c =
     let s = c.self.inside in
     let e = ap (λ (v : Stored g.row.N.Denot). v.held) c.self.view_is in
     let read = read_at s.bindings.variables s.nodes.items s.arguments.cells s.bindings.bindings c.args.structure c.index-node.result.now c.args.self.now.held c.self.invariant e c.requires.structure c.index-node.ensures in
-    argument_read c.args.self.now.held s.arguments.cells c.args.structure c.args.index c.index-node.result.now c.index.result.now read c.requires.index c.index.ensures
+    argument_read c.args.self.now.held s.arguments.cells c.args.structure c.args.index c.index-node.result.now c.get.result read c.requires.index c.get.ensures
