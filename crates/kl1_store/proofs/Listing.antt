@@ -1,6 +1,6 @@
 -- Lists of cells as words: after a growth, cut, and with other names.
-use Rattle.std.proofs.Common.{◌≡◌, ℕ, suc, ◌+◌, ◌/◌, ◌%◌, ◌-◌, ◌<◌, ◌≤◌, List, [], ◌∷◌, ◌++◌, length, length-append, length-take, length-drop, length-map, get_or, take, drop, map, All, ℤ, pos, ◌-ℤ◌, ◌^◌, refl, sym, ◌∙◌, ap, subst, arith, ◌⊎◌, inl, inr}
-use Rattle.std.proofs.lemmas.List.{take-map, get_or-map, get_or-take, get_or-drop, get_or_past, length-take-le, take_all}
+use Rattle.std.proofs.Common.{◌≡◌, ℕ, suc, ◌+◌, ◌/◌, ◌%◌, ◌-◌, ◌<◌, ◌≤◌, List, [], ◌∷◌, ◌++◌, length, length-append, length-take, length-drop, get_or, take, drop, map, All, ℤ, pos, ◌-ℤ◌, ◌^◌, refl, sym, ◌∙◌, ap, subst, arith, ◌⊎◌, inl, inr}
+use Rattle.std.proofs.lemmas.List.{take-map, get_or-map, get_or-take, get_or-drop, get_or_past, length-take-le, length-map}
 use Rattle.std.proofs.lemmas.List.Elements.{All-push, All-take}
 use Rattle.std.proofs.lemmas.Bool.{cases_eq, cases_lt}
 use Rattle.kl1_store.specs.declared.cell.Cell.{Cell}
@@ -9,6 +9,10 @@ use Rattle.kl1_store.specs.Renames.{Renames, cell_renamed, unnamed, IsCellRename
 use Rattle.kl1_store.specs.Words.{unpacked, IsPacked, AreInOrder, AreWords, Packs, Splits, next_place}
 use Rattle.kl1_store.proofs.Packing.{unpacked_variable, unpacked_structure, unpacked_small, unpacked_wide, map_unpacked_grown, all_packed_grown, map_pushed}
 use Rattle.kl1_store.proofs.Ordering.{order_up, order_few, order_push, order_at, kept_packed}
+
+-- a place of a cell is one of its word
+pub place_inside : {N : Type 0} (words : List ℕ) (wide cells : List (Cell N)) (place : ℕ) → map (unpacked wide) words ≡ cells → place < length cells → place < length words
+place_inside words wide cells place e lt = omega (arith, lt, ap length e, length-map words (unpacked wide))
 
 -- ---- one cell more
 

@@ -2,7 +2,7 @@
 use Rattle.std.proofs.Common.{◌≡◌, ℕ, zero, suc, ◌+◌, ◌-◌, ◌<◌, ◌≤◌, ◌==◌, ◌||◌, false, List, [], ◌∷◌, ◌++◌, length, length-append, length-set, length-take, length-drop, get_or, set, take, drop, map, refl, sym, ◌∙◌, ap, ap₂, subst, arith, ◌⊎◌, inl, inr, get_or-set_same, get_or-set_other}
 use Rattle.std.specs.Prelude.{Option, Some, None, slice_get, unwrap_or}
 use Rattle.std.proofs.lemmas.Bool.{cases_eq, cases_lt, ne_eqb, eqb-false, or_parts, or_from}
-use Rattle.std.proofs.lemmas.List.{get_or-take, get_or_append_left, get_or-append_right, get_or_at, get_or_past, length-take-le, drop-map, take-map}
+use Rattle.std.proofs.lemmas.List.{get_or-take, get_or_append_left, get_or-append_right, get_or_at, get_or_past, get_or_default, drop-map}
 use Rattle.std.proofs.lemmas.Option.{slice_get_within, slice_get-get_or, get_or_from_slice_get, slice_get_past}
 use Rattle.kl1_store.specs.declared.cell.Cell.{Cell}
 use Rattle.kl1_store.specs.declared.cell.Cell.TheVariants.{Variable}
@@ -104,6 +104,14 @@ value_bound places vs xs v p d h e s =
 pub place_within : (places vs : List ℕ) (v p : ℕ) → ArePlaced places vs → get_or places v 0 ≡ suc p → p < length vs
 place_within places vs v p h s = slice_get_within vs p v ((h v p).0 s)
 
+-- a place that was read
+pub place_read : (places : List ℕ) (v place : ℕ) → v < length places → place ≡ get_or places v place → get_or places v 0 ≡ place
+place_read places v place lt e = get_or_default places v 0 place lt ∙ sym e
+
+pub place_bound : (places : List ℕ) (v place : ℕ) → v < length places → place ≡ get_or places v place → (place ≡ 0 → ⊥) → get_or places v 0 ≡ suc (place - 1)
+place_bound places v zero lt e ne = absurd (ne refl)
+place_bound places v (suc p) lt e ne = place_read places v (suc p) lt e ∙ (let q : suc p ≡ suc (suc p - 1) = omega arith in q)
+
 -- ---- changes
 
 placed_inside : (places vs : List ℕ) (v p : ℕ) → ArePlaced places vs → slice_get vs p ≡ Some v → v < length places
@@ -121,7 +129,7 @@ placed_more places more vs e h =
       (λ s. get_or_append_left places (0 ∷ []) 0 v (placed_inside places vs v p h s) ∙ (h v p).1 s),
     ))
   where
-    one : (n : ℕ) → get_or (0 ∷ []) n 0 ≡ 0
+    one : (n : ℕ) → ◌≡◌ {A = ℕ} (get_or (0 ∷ []) n 0) 0
     one zero = refl
     one (suc n) = refl
 
@@ -162,6 +170,12 @@ placed_pop places all vs v h e =
     let lt = placed_inside places (vs ++ v ∷ []) v (length vs) k (at_end vs v) in
     (lt, λ w p. (to k lt w p (cases_eq w v), from k lt w p))
   where
+    not_last : (w p : ℕ) → (w ≡ v → ⊥) → slice_get (vs ++ v ∷ []) p ≡ Some w → p ≤ length vs → p < length vs
+    not_last w p ne there le = elim (cases_eq p (length vs)) [
+      | inl last ↦ absurd (ne (some_same w v (sym there ∙ (ap (slice_get (vs ++ v ∷ [])) last ∙ at_end vs v))))
+      | inr other ↦ omega arith
+    ]
+
     to : ArePlaced places (vs ++ v ∷ []) → v < length places → (w p : ℕ) → (w ≡ v) ⊎ (w ≡ v → ⊥) → get_or (set places v 0) w 0 ≡ suc p → slice_get vs p ≡ Some w
     to k lt w p (inl same) s =
         let here : get_or (set places v 0) w 0 ≡ 0 = ap (λ m. get_or (set places v 0) m 0) same ∙ get_or-set_same places v 0 0 lt in
@@ -171,12 +185,6 @@ placed_pop places all vs v h e =
         let there = (k w p).0 old in
         let within = slice_get_within (vs ++ v ∷ []) p w there in
         front_only vs v p w (not_last w p ne there (omega (arith, within, length-append vs (v ∷ [])))) there
-
-    not_last : (w p : ℕ) → (w ≡ v → ⊥) → slice_get (vs ++ v ∷ []) p ≡ Some w → p ≤ length vs → p < length vs
-    not_last w p ne there le = elim (cases_eq p (length vs)) [
-      | inl last ↦ absurd (ne (some_same w v (sym there ∙ (ap (slice_get (vs ++ v ∷ [])) last ∙ at_end vs v))))
-      | inr other ↦ omega arith
-    ]
 
     from : ArePlaced places (vs ++ v ∷ []) → v < length places → (w p : ℕ) → slice_get vs p ≡ Some w → get_or (set places v 0) w 0 ≡ suc p
     from k lt w p s =

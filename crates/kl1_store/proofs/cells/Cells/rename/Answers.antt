@@ -10,14 +10,14 @@ use Rattle.kl1_store.proofs.cells.Cells.rename.Goals as goal
 
 -- the lists, if structures came since the mark
 since : (g : _) (c : goal.After-rename_nodes g) →
-    AreRenamed c.args.from.now c.args.to.now c.args.mark c.rename.new.self.variables c.rename_nodes.new.nodes.items c.rename-2.new.self.cells c.rename.new.self.bindings
+    AreRenamed c.args.from.now c.args.to.now c.args.mark c.rename.new.self.variables c.rename_nodes.new.nodes.items c.rename-then-first-len.new.self.cells c.rename.new.self.bindings
     (held_in c.self.inside.bindings.variables c.self.inside.nodes.items c.self.inside.arguments.cells c.self.inside.bindings.bindings)
 since g c =
     let s = c.self.inside in
     let lt : c.args.mark.structures < length s.nodes.items = omega (arith, c.if-first-len.true, c.len.ensures, s.nodes.ok.0) in
-    are_renamed c.args.from.now c.args.to.now c.args.mark c.index.result.now.start s.bindings.variables c.rename.new.self.variables s.nodes.items c.rename_nodes.new.nodes.items s.arguments.cells c.rename-2.new.self.cells s.bindings.bindings c.rename.new.self.bindings
+    are_renamed c.args.from.now c.args.to.now c.args.mark c.index.result.now.start s.bindings.variables c.rename.new.self.variables s.nodes.items c.rename_nodes.new.nodes.items s.arguments.cells c.rename-then-first-len.new.self.cells s.bindings.bindings c.rename.new.self.bindings
     c.self.invariant c.rename.ensures.variables (sym (start_there s.nodes.items c.args.mark.structures (length s.arguments.cells) c.index.result.now lt c.index.ensures))
-    c.rename.ensures.bindings c.rename-2.ensures.cells c.rename_nodes.ensures.items
+    c.rename.ensures.bindings c.rename-then-first-len.ensures.cells c.rename_nodes.ensures.items
 
 -- and if none came
 none : (g : _) (c : goal.Else-first-len g) →

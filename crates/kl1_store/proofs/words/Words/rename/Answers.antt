@@ -1,10 +1,11 @@
-use Rattle.std.proofs.Common.{◌≡◌, ◌<◌, ◌≤◌, List, length, length-map, map, sym, ap, ◌∙◌, subst, arith}
+use Rattle.std.proofs.Common.{◌≡◌, ◌<◌, ◌≤◌, List, length, map, sym, ap, ◌∙◌, subst, arith}
+use Rattle.std.proofs.lemmas.List.{length-map}
 use Rattle.kl1_store.specs.declared.cell.Cell.{Cell}
 use Rattle.kl1_store.specs.Renames.{IsCellRenamed, AreChanged}
 use Rattle.kl1_store.specs.Words.{unpacked, Listed, AreInOrder, IsPacked}
 use Rattle.kl1_store.proofs.Changed.{past_changed}
 use Rattle.kl1_store.proofs.Listing.{cells_renamed, words_renamed}
-use Rattle.kl1_store.proofs.words.renaming.Words.rename.Goals as goal
+use Rattle.kl1_store.proofs.words.Words.rename.Goals as goal
 
 pub invariant_of-self : goal.invariant_of-self
 invariant_of-self g c =
