@@ -30,7 +30,7 @@ pub mod InModules
 pub mod Constants
 pub mod Changed
 pub mod Bare
-pub mod Renaming
+pub mod OtherNames
 pub mod Packing
 pub mod Ordering
 pub mod Listing

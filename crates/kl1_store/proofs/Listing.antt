@@ -1,14 +1,14 @@
 -- Lists of cells as words: after a growth, cut, and with other names.
-use Rattle.std.proofs.Common.{◌≡◌, ℕ, suc, ◌+◌, ◌/◌, ◌%◌, ◌-◌, ◌<◌, ◌≤◌, List, [], ◌∷◌, ◌++◌, length, length-append, length-take, length-drop, get_or, take, drop, map, All, ℤ, pos, ◌-ℤ◌, ◌^◌, refl, sym, ◌∙◌, ap, subst, arith, ◌⊎◌, inl, inr}
-use Rattle.std.proofs.lemmas.List.{take-map, get_or-map, get_or-take, get_or-drop, get_or_past, length-take-le, length-map}
+use Rattle.std.proofs.Common.{◌≡◌, ℕ, zero, suc, ◌+◌, ◌/◌, ◌%◌, ◌-◌, ◌<◌, ◌≤◌, List, [], ◌∷◌, ◌++◌, length, length-append, length-take, get_or, take, drop, map, All, ℤ, pos, ◌-ℤ◌, ◌^◌, refl, sym, ◌∙◌, ap, ap₂, subst, arith, ◌⊎◌, inl, inr}
+use Rattle.std.proofs.lemmas.List.{take-map, get_or-map, length-take-le, length-map}
 use Rattle.std.proofs.lemmas.List.Elements.{All-push, All-take}
-use Rattle.std.proofs.lemmas.Bool.{cases_eq, cases_lt}
+use Rattle.std.proofs.lemmas.Bool.{cases_eq}
 use Rattle.kl1_store.specs.declared.cell.Cell.{Cell}
 use Rattle.kl1_store.specs.declared.cell.Cell.TheVariants.{Variable, Integer, Atom, Structure}
-use Rattle.kl1_store.specs.Renames.{Renames, cell_renamed, unnamed, IsCellRenamed, AreChanged}
+use Rattle.kl1_store.specs.Renames.{cell_renamed, mapped_from}
 use Rattle.kl1_store.specs.Words.{unpacked, IsPacked, AreInOrder, AreWords, Packs, Splits, next_place}
-use Rattle.kl1_store.proofs.Packing.{unpacked_variable, unpacked_structure, unpacked_small, unpacked_wide, map_unpacked_grown, all_packed_grown, map_pushed}
-use Rattle.kl1_store.proofs.Ordering.{order_up, order_few, order_push, order_at, kept_packed}
+use Rattle.kl1_store.proofs.Packing.{unpacked_variable, unpacked_structure, unpacked_small, unpacked_wide, map_unpacked_grown, all_packed_grown, map_pushed, next_same}
+use Rattle.kl1_store.proofs.Ordering.{next_up, order_up, order_push, kept_packed}
 
 -- a place of a cell is one of its word
 pub place_inside : {N : Type 0} (words : List ℕ) (wide cells : List (Cell N)) (place : ℕ) → map (unpacked wide) words ≡ cells → place < length cells → place < length words
@@ -65,88 +65,80 @@ cells_cut {N = N} words cut wide rest count place packed s e f =
 
 -- ---- other names
 
--- the same cell, if it is no atom
-renamed_itself : {N : Type 0} (from to : List N) (x y : Cell N) → ((g : N → N) → cell_renamed g x ≡ x) → y ≡ x → IsCellRenamed from to x y
-renamed_itself from to x y h e = record { by = λ g r. e ∙ sym (h g); same = ap (cell_renamed unnamed) e }
+before_one : {X : Type 0} (f : X → X) (n : ℕ) (xs : List X) (k : ℕ) (d : X) → k < n → get_or (mapped_from f n xs) k d ≡ get_or xs k d
+before_one f zero xs k d h = absurd (omega arith)
+before_one f (suc n) [] k d h = refl
+before_one f (suc n) (x ∷ xs) zero d h = refl
+before_one f (suc n) (x ∷ xs) (suc k) d h = before_one f n xs k d (omega arith)
 
--- a cell that stands beside the words, or is another one whatever stands there
-cell_at : {N : Type 0} (w : ℕ) → (w % 4 ≡ 2) ⊎ ((x : Cell N) × (((wide : List (Cell N)) → unpacked wide w ≡ x) × ((g : N → N) → cell_renamed g x ≡ x)))
-cell_at {N = N} w = elim (cases_eq (w % 4) 0) [
-  | inl a ↦ inr (Variable (w / 4), ((λ wide. unpacked_variable wide w a), (λ g. refl)))
+since_one : {X : Type 0} (f : X → X) (n : ℕ) (xs : List X) (k : ℕ) (d : X) → n ≤ k → k < length xs → get_or (mapped_from f n xs) k d ≡ f (get_or xs k d)
+since_one f zero xs k d h lt = get_or-map f xs k d d lt
+since_one f (suc n) [] k d h lt = absurd (omega arith)
+since_one f (suc n) (x ∷ xs) zero d h lt = absurd (omega arith)
+since_one f (suc n) (x ∷ xs) (suc k) d h lt = since_one f n xs k d (omega arith) (omega arith)
+
+-- a cell that stands beside the words, or is another one, without a name, whatever stands there
+record StandsAlone {N : Type 0} (w : ℕ) : Type 0 where
+  cell : Cell N
+  is : (wide : List (Cell N)) → unpacked wide w ≡ cell
+  unnamed : (g : N → N) → cell_renamed g cell ≡ cell
+
+stands_where : {N : Type 0} (w : ℕ) → (w % 4 ≡ 2) ⊎ StandsAlone {N = N} w
+stands_where {N = N} w = elim (cases_eq (w % 4) 0) [
+  | inl a ↦ inr (record { cell = Variable (w / 4); is = λ wide. unpacked_variable wide w a; unnamed = λ g. refl })
   | inr a ↦ elim (cases_eq (w % 4) 1) [
-    | inl b ↦ inr (Structure (w / 4), ((λ wide. unpacked_structure wide w b), (λ g. refl)))
+    | inl b ↦ inr (record { cell = Structure (w / 4); is = λ wide. unpacked_structure wide w b; unnamed = λ g. refl })
     | inr b ↦ elim (cases_eq (w % 4) 3) [
-      | inl c ↦ inr (Integer (pos (w / 4) -ℤ pos (2 ^ 61)), ((λ wide. unpacked_small wide w c), (λ g. refl)))
+      | inl c ↦ inr (record { cell = Integer (pos (w / 4) -ℤ pos (2 ^ 61)); is = λ wide. unpacked_small wide w c; unnamed = λ g. refl })
       | inr c ↦ inl (omega arith)
     ]
   ]
 ]
 
--- the word of a cell before a place stands for the cell that it stood for
-before_place : {N : Type 0} (from to : List N) (wide new : List (Cell N)) (place w : ℕ) →
-    AreChanged (IsCellRenamed from to) place (length wide) wide new → (w % 4 ≡ 2 → w / 4 < place) → unpacked new w ≡ unpacked wide w
-before_place {N = N} from to wide new place w h low = by (cell_at w)
+-- the word of a cell before a place stands for what it stood for
+word_before : {N : Type 0} (g : N → N) (wide : List (Cell N)) (place w : ℕ) → (w % 4 ≡ 2 → w / 4 < place) → unpacked (mapped_from (cell_renamed g) place wide) w ≡ unpacked wide w
+word_before {N = N} g wide place w low = by (stands_where w)
   where
-    by : (w % 4 ≡ 2) ⊎ ((x : Cell N) × (((wide : List (Cell N)) → unpacked wide w ≡ x) × ((g : N → N) → cell_renamed g x ≡ x))) → unpacked new w ≡ unpacked wide w
-    by (inl two) = unpacked_wide new w two ∙ (h.before (w / 4) (Variable 0) (low two) ∙ sym (unpacked_wide wide w two))
-    by (inr x) = x.1.0 new ∙ sym (x.1.0 wide)
-
--- and since a place for one with other names
-since_place : {N : Type 0} (from to : List N) (wide new : List (Cell N)) (place w : ℕ) →
-    AreChanged (IsCellRenamed from to) place (length wide) wide new → (w % 4 ≡ 2 → (place ≤ w / 4) × (w / 4 < length wide)) → IsCellRenamed from to (unpacked wide w) (unpacked new w)
-since_place {N = N} from to wide new place w h high = by (cell_at w)
-  where
-    by : (w % 4 ≡ 2) ⊎ ((x : Cell N) × (((wide : List (Cell N)) → unpacked wide w ≡ x) × ((g : N → N) → cell_renamed g x ≡ x))) → IsCellRenamed from to (unpacked wide w) (unpacked new w)
+    by : (w % 4 ≡ 2) ⊎ StandsAlone {N = N} w → unpacked (mapped_from (cell_renamed g) place wide) w ≡ unpacked wide w
     by (inl two) =
-        let r = h.since (w / 4) (Variable 0) (high two).0 (high two).1 (high two).1 in
-        let P : Cell N → Type 0 = λ x. IsCellRenamed from to x (unpacked new w) in
-        let Q : Cell N → Type 0 = λ y. IsCellRenamed from to (get_or wide (w / 4) (Variable 0)) y in
-        subst P (sym (unpacked_wide wide w two)) (subst Q (sym (unpacked_wide new w two)) r)
-    by (inr x) =
-        let P : Cell N → Type 0 = λ y. IsCellRenamed from to y (unpacked new w) in
-        subst P (sym (x.1.0 wide)) (renamed_itself from to x.0 (unpacked new w) x.1.1 (x.1.0 new))
+        unpacked_wide (mapped_from (cell_renamed g) place wide) w two
+        ∙ (before_one (cell_renamed g) place wide (w / 4) (Variable 0) (low two) ∙ sym (unpacked_wide wide w two))
+    by (inr x) = x.is (mapped_from (cell_renamed g) place wide) ∙ sym (x.is wide)
+
+-- and from a place on for that with another name
+word_since : {N : Type 0} (g : N → N) (wide : List (Cell N)) (place w : ℕ) → (w % 4 ≡ 2 → (place ≤ w / 4) × (w / 4 < length wide)) → unpacked (mapped_from (cell_renamed g) place wide) w ≡ cell_renamed g (unpacked wide w)
+word_since {N = N} g wide place w high = by (stands_where w)
+  where
+    by : (w % 4 ≡ 2) ⊎ StandsAlone {N = N} w → unpacked (mapped_from (cell_renamed g) place wide) w ≡ cell_renamed g (unpacked wide w)
+    by (inl two) =
+        unpacked_wide (mapped_from (cell_renamed g) place wide) w two
+        ∙ (since_one (cell_renamed g) place wide (w / 4) (Variable 0) (high two).0 (high two).1 ∙ ap (cell_renamed g) (sym (unpacked_wide wide w two)))
+    by (inr x) = x.is (mapped_from (cell_renamed g) place wide) ∙ (sym (x.unnamed g) ∙ ap (cell_renamed g) (sym (x.is wide)))
+
+words_since : {N : Type 0} (g : N → N) (wide : List (Cell N)) (place p : ℕ) (ws : List ℕ) (q : ℕ) → AreInOrder p ws q → place ≤ p → q ≤ length wide →
+    map (unpacked (mapped_from (cell_renamed g) place wide)) ws ≡ map (cell_renamed g) (map (unpacked wide) ws)
+words_since g wide place p [] q h le fits = refl
+words_since {N = N} g wide place p (w ∷ ws) q h le fits =
+    let up = order_up (next_place p w) ws q h.1 in
+    let one = word_since g wide place w (λ two. (omega (arith, h.0 two), omega (arith, h.0 two, next_same p w two, up))) in
+    let rest = words_since g wide place (next_place p w) ws q h.1 (omega (arith, next_up p w)) fits in
+    ap₂ (λ (x : Cell N) (xs : List (Cell N)). x ∷ xs) one rest
+
+words_mapped : {N : Type 0} (g : N → N) (wide : List (Cell N)) (place p : ℕ) (ws : List ℕ) (n q : ℕ) → AreInOrder p (take n ws) place → AreInOrder place (drop n ws) q → q ≤ length wide →
+    map (unpacked (mapped_from (cell_renamed g) place wide)) ws ≡ mapped_from (cell_renamed g) n (map (unpacked wide) ws)
+words_mapped g wide place p ws zero q h k fits = words_since g wide place place ws q k (omega arith) fits
+words_mapped g wide place p [] (suc n) q h k fits = refl
+words_mapped {N = N} g wide place p (w ∷ ws) (suc n) q h k fits =
+    let up = order_up (next_place p w) (take n ws) place h.1 in
+    let one = word_before g wide place w (λ two. omega (arith, h.0 two, next_same p w two, up)) in
+    let rest = words_mapped g wide place (next_place p w) ws n q h.1 k fits in
+    ap₂ (λ (x : Cell N) (xs : List (Cell N)). x ∷ xs) one rest
 
 -- cells whose words stay and beside which other names stand
-pub cells_renamed : {N : Type 0} (from to : List N) (words : List ℕ) (wide new : List (Cell N)) (first place : ℕ) →
-    first ≤ length words → Splits words first (length wide) place → AreChanged (IsCellRenamed from to) place (length wide) wide new →
-    AreChanged (IsCellRenamed from to) first (length (map (unpacked wide) words)) (map (unpacked wide) words) (map (unpacked new) words)
-cells_renamed {N = N} from to words wide new first place le s h =
-    record {
-      count = length-map words (unpacked new) ∙ sym (length-map words (unpacked wide));
-      before = before;
-      since = since;
-      after = λ k d ge. get_or_past (map (unpacked new) words) k d (omega (arith, length-map words (unpacked new), length-map words (unpacked wide))) ∙ sym (get_or_past (map (unpacked wide) words) k d ge);
-    }
-  where
-    read : (l : List (Cell N)) (k : ℕ) (d : Cell N) → k < length words → get_or (map (unpacked l) words) k d ≡ unpacked l (get_or words k 0)
-    read l k d lt = get_or-map (unpacked l) words k 0 d lt
-
-    low : (k : ℕ) → k < first → (get_or words k 0) % 4 ≡ 2 → (get_or words k 0) / 4 < place
-    low k less two =
-        let same = get_or-take first words k 0 less in
-        let P : ℕ → Type 0 = λ w. w / 4 < place in
-        let Q : ℕ → Type 0 = λ w. w % 4 ≡ 2 in
-        subst P same (order_at 0 (take first words) place k 0 s.before (omega (arith, length-take-le first words le)) (subst Q (sym same) two)).1
-
-    high : (k : ℕ) → first ≤ k → k < length words → (get_or words k 0) % 4 ≡ 2 → (place ≤ (get_or words k 0) / 4) × ((get_or words k 0) / 4 < length wide)
-    high k ge lt two =
-        let j = k - first in
-        let here : get_or (drop first words) j 0 ≡ get_or words k 0 = get_or-drop first words j 0 ∙ ap (λ n. get_or words n 0) (let p : first + j ≡ k = omega arith in p) in
-        let P : ℕ → Type 0 = λ w. (place ≤ w / 4) × (w / 4 < length wide) in
-        let Q : ℕ → Type 0 = λ w. w % 4 ≡ 2 in
-        subst P here (order_at place (drop first words) (length wide) j 0 s.after (omega (arith, length-drop first words)) (subst Q (sym here) two))
-
-    before : (k : ℕ) (d : Cell N) → k < first → get_or (map (unpacked new) words) k d ≡ get_or (map (unpacked wide) words) k d
-    before k d less =
-        let lt : k < length words = omega arith in
-        read new k d lt ∙ (before_place from to wide new place (get_or words k 0) h (low k less) ∙ sym (read wide k d lt))
-
-    since : (k : ℕ) (d : Cell N) → first ≤ k → k < length (map (unpacked wide) words) → k < length (map (unpacked wide) words) → IsCellRenamed from to (get_or (map (unpacked wide) words) k d) (get_or (map (unpacked new) words) k d)
-    since k d ge less lt =
-        let inside : k < length words = omega (arith, lt, length-map words (unpacked wide)) in
-        let P : Cell N → Type 0 = λ x. IsCellRenamed from to x (get_or (map (unpacked new) words) k d) in
-        let Q : Cell N → Type 0 = λ y. IsCellRenamed from to (unpacked wide (get_or words k 0)) y in
-        subst P (sym (read wide k d inside)) (subst Q (sym (read new k d inside)) (since_place from to wide new place (get_or words k 0) h (high k ge inside)))
+pub cells_renamed : {N : Type 0} (g : N → N) (words : List ℕ) (wide new : List (Cell N)) (first place : ℕ) →
+    Splits words first (length wide) place → new ≡ mapped_from (cell_renamed g) place wide → map (unpacked new) words ≡ mapped_from (cell_renamed g) first (map (unpacked wide) words)
+cells_renamed g words wide new first place s e =
+    ap (λ l. map (unpacked l) words) e ∙ words_mapped g wide place 0 words first (length wide) s.before s.after (omega arith)
 
 pub words_renamed : {N : Type 0} (words : List ℕ) (wide new : List (Cell N)) (memory words_capacity wide_capacity : ℕ) →
     AreWords words wide memory words_capacity wide_capacity → length new ≡ length wide → AreWords words new memory words_capacity wide_capacity

@@ -9,7 +9,7 @@ use Rattle.kl1_store.proofs.Packing.{next_same}
 pub next_narrow : (p w : ℕ) → (w % 4 ≡ 2 → ⊥) → next_place p w ≡ p
 next_narrow p w ne = rw (ne_eqb (w % 4) 2 ne) refl
 
-next_up : (p w : ℕ) → p ≤ next_place p w
+pub next_up : (p w : ℕ) → p ≤ next_place p w
 next_up p w = elim (cases_eq (w % 4) 2) [
   | inl e ↦ omega (arith, next_same p w e)
   | inr ne ↦ omega (arith, next_narrow p w ne)

@@ -8,7 +8,7 @@ use Rattle.kl1_store.specs.declared.cell.Cell.{Cell}
 use Rattle.kl1_store.specs.declared.cell.Cell.TheVariants.{Variable}
 use Rattle.kl1_store.specs.declared.binding.Binding.{Binding}
 use Rattle.kl1_store.specs.Held.{is_bound, found}
-use Rattle.kl1_store.specs.Renames.{Renames, IsCellRenamed, IsBindingRenamed, AreChanged}
+use Rattle.kl1_store.specs.Renames.{cell_renamed, binding_renamed, mapped_from}
 use Rattle.kl1_store.specs.Slots.{bindings_in, variables_of, ArePlaced, AreBelow}
 use Rattle.kl1_store.proofs.Meanings.{if_same, if_other}
 use Rattle.kl1_store.proofs.Lists.{found_unbound}
@@ -208,38 +208,20 @@ placed_cut places cut vs xs n h e size below =
 
 -- ---- other names
 
-read_binding : {N : Type 0} (vs : List ℕ) (xs : List (Cell N)) (k : ℕ) (d : Binding N) (c : Cell N) → length vs ≡ length xs → k < length vs → get_or (bindings_in vs xs) k d ≡ record { variable = get_or vs k 0; value = get_or xs k c }
-read_binding [] xs k d c e lt = absurd (omega arith)
-read_binding (v ∷ vs) [] k d c e lt = absurd (omega (arith, e))
-read_binding (v ∷ vs) (x ∷ xs) zero d c e lt = refl
-read_binding (v ∷ vs) (x ∷ xs) (suc k) d c e lt = read_binding vs xs k d c (omega (arith, e)) (omega arith)
+bindings_in-map : {N : Type 0} (g : N → N) (vs : List ℕ) (xs : List (Cell N)) → bindings_in vs (map (cell_renamed g) xs) ≡ map (binding_renamed g) (bindings_in vs xs)
+bindings_in-map g [] xs = refl
+bindings_in-map g (v ∷ vs) [] = refl
+bindings_in-map {N = N} g (v ∷ vs) (x ∷ xs) =
+    let b : Binding N = record { variable = v; value = cell_renamed g x } in
+    ap (λ l. b ∷ l) (bindings_in-map g vs xs)
 
-pub bindings_renamed_in : {N : Type 0} (from to : List N) (vs : List ℕ) (xs ys : List (Cell N)) (first : ℕ) → length vs ≡ length xs → AreChanged (IsCellRenamed from to) first (length xs) xs ys →
-    AreChanged (IsBindingRenamed from to) first (length (bindings_in vs xs)) (bindings_in vs xs) (bindings_in vs ys)
-bindings_renamed_in {N = N} from to vs xs ys first e h =
-    let f : length vs ≡ length ys = e ∙ sym h.count in
-    record {
-      count = length-bindings_in vs ys f ∙ sym (length-bindings_in vs xs e);
-      before = λ k d less. before f k d less (cases_lt k (length vs));
-      since = λ k d ge less lt. since f k d ge (omega (arith, lt, length-bindings_in vs xs e));
-      after = λ k d ge. get_or_past (bindings_in vs ys) k d (omega (arith, ge, length-bindings_in vs ys f, length-bindings_in vs xs e)) ∙ sym (get_or_past (bindings_in vs xs) k d ge);
-    }
-  where
-    bind : ℕ → Cell N → Binding N
-    bind v x = record { variable = v; value = x }
+bindings_in-mapped : {N : Type 0} (g : N → N) (n : ℕ) (vs : List ℕ) (xs : List (Cell N)) → bindings_in vs (mapped_from (cell_renamed g) n xs) ≡ mapped_from (binding_renamed g) n (bindings_in vs xs)
+bindings_in-mapped g zero vs xs = bindings_in-map g vs xs
+bindings_in-mapped g (suc n) [] xs = refl
+bindings_in-mapped g (suc n) (v ∷ vs) [] = refl
+bindings_in-mapped {N = N} g (suc n) (v ∷ vs) (x ∷ xs) =
+    let b : Binding N = record { variable = v; value = x } in
+    ap (λ l. b ∷ l) (bindings_in-mapped g n vs xs)
 
-    before : length vs ≡ length ys → (k : ℕ) (d : Binding N) → k < first → (k < length vs) ⊎ (length vs ≤ k) → get_or (bindings_in vs ys) k d ≡ get_or (bindings_in vs xs) k d
-    before f k d less (inl lt) =
-        read_binding vs ys k d d.value f lt
-        ∙ (ap (bind (get_or vs k 0)) (h.before k d.value less) ∙ sym (read_binding vs xs k d d.value e lt))
-    before f k d less (inr ge) =
-        get_or_past (bindings_in vs ys) k d (omega (arith, ge, length-bindings_in vs ys f)) ∙ sym (get_or_past (bindings_in vs xs) k d (omega (arith, ge, length-bindings_in vs xs e)))
-
-    since : length vs ≡ length ys → (k : ℕ) (d : Binding N) → first ≤ k → k < length vs → IsBindingRenamed from to (get_or (bindings_in vs xs) k d) (get_or (bindings_in vs ys) k d)
-    since f k d ge lt =
-        let r = h.since k d.value ge (omega (arith, lt, e)) (omega (arith, lt, e)) in
-        let P : Binding N → Type 0 = λ b. IsBindingRenamed from to b (get_or (bindings_in vs ys) k d) in
-        let Q : Binding N → Type 0 = λ b. IsBindingRenamed from to (bind (get_or vs k 0) (get_or xs k d.value)) b in
-        let B : Cell (Unit {0}) → Binding (Unit {0}) = λ x. record { variable = get_or vs k 0; value = x } in
-        subst P (sym (read_binding vs xs k d d.value e lt)) (subst Q (sym (read_binding vs ys k d d.value f lt))
-            (record { by = λ g n. ap (bind (get_or vs k 0)) (r.by g n); same = ap B r.same }))
+pub bindings_renamed_in : {N : Type 0} (g : N → N) (vs : List ℕ) (xs ys : List (Cell N)) (first : ℕ) → ys ≡ mapped_from (cell_renamed g) first xs → bindings_in vs ys ≡ mapped_from (binding_renamed g) first (bindings_in vs xs)
+bindings_renamed_in g vs xs ys first e = ap (bindings_in vs) e ∙ bindings_in-mapped g first vs xs

@@ -3,10 +3,11 @@
 ghost use Rattle.std.specs.Prelude.{◌≡◌, ◌+◌, ◌<◌, ◌≤◌, suc, false, [], ◌∷◌, ◌++◌, length, take, drop, IfOk, OnOk, OnErr, IsOk, vec_capacity};
 ghost use Rattle.kl1_store.specs.Held.{is_bound, found};
 ghost use Rattle.kl1_store.specs.Inside.{most};
-ghost use Rattle.kl1_store.specs.Renames.{IsBindingRenamed, AreChanged};
+ghost use Rattle.kl1_store.specs.Renames.{binding_renamed, mapped_from};
 ghost use Rattle.kl1_store.specs.Slots.{variables_of, ArePlaced, AreBelow};
 
 use crate::cell::Cell;
+use crate::renaming::Renaming;
 use crate::room::make_room;
 use crate::words::Words;
 use kl1_text::NameValue;
@@ -164,15 +165,14 @@ impl<N: NameValue> Bindings<N> {
         self.places.truncate(variables);
     }
 
-    /// Puts names in the places of others in the bindings from `first` on. It takes no memory.
-    pub fn rename(&mut self, first: usize, from: &[N], to: &[N])
-        requires { length from.now ≤ length to.now }
-        ensures bindings { AreChanged (IsBindingRenamed from.now to.now) first (length self.old.bindings) self.old.bindings self.new.bindings }
+    /// Puts what each name becomes in its place in the bindings from `first` on. It takes no memory.
+    pub fn rename<R: Renaming<N>>(&mut self, first: usize, names: &R)
+        ensures bindings { self.new.bindings ≡ mapped_from (binding_renamed (R.becomes names.now)) first self.old.bindings }
         ensures variables { self.new.variables ≡ self.old.variables }
         ensures room { self.new.room ≡ self.old.room }
         ensures binding_room { self.new.binding_room ≡ self.old.binding_room }
     {
-        self.values.rename(first, from, to);
+        self.values.rename(first, names);
     }
 }
 

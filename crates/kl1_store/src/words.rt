@@ -4,7 +4,7 @@ ghost use Rattle.std.specs.Prelude.{◌≡◌, ◌+◌, ◌<◌, ◌≤◌, [], 
 ghost use Rattle.kl1_store.specs.Inside.{most};
 ghost use Rattle.kl1_store.specs.Words.{AreInOrder, Splits};
 
-pub(crate) mod renaming;
+mod renaming;
 
 use crate::cell::Cell;
 use crate::word::{pack, unpack};
