@@ -78,12 +78,12 @@ since_one f (suc n) (x ∷ xs) zero d h lt = absurd (omega arith)
 since_one f (suc n) (x ∷ xs) (suc k) d h lt = since_one f n xs k d (omega arith) (omega arith)
 
 -- a cell that stands beside the words, or is another one, without a name, whatever stands there
-record StandsAlone {N : Type 0} (w : ℕ) : Type 0 where
+record StandsAlone (N : Type 0) (w : ℕ) : Type 0 where
   cell : Cell N
   is : (wide : List (Cell N)) → unpacked wide w ≡ cell
   unnamed : (g : N → N) → cell_renamed g cell ≡ cell
 
-stands_where : {N : Type 0} (w : ℕ) → (w % 4 ≡ 2) ⊎ StandsAlone {N = N} w
+stands_where : {N : Type 0} (w : ℕ) → (w % 4 ≡ 2) ⊎ StandsAlone N w
 stands_where {N = N} w = elim (cases_eq (w % 4) 0) [
   | inl a ↦ inr (record { cell = Variable (w / 4); is = λ wide. unpacked_variable wide w a; unnamed = λ g. refl })
   | inr a ↦ elim (cases_eq (w % 4) 1) [
@@ -99,7 +99,7 @@ stands_where {N = N} w = elim (cases_eq (w % 4) 0) [
 word_before : {N : Type 0} (g : N → N) (wide : List (Cell N)) (place w : ℕ) → (w % 4 ≡ 2 → w / 4 < place) → unpacked (mapped_from (cell_renamed g) place wide) w ≡ unpacked wide w
 word_before {N = N} g wide place w low = by (stands_where w)
   where
-    by : (w % 4 ≡ 2) ⊎ StandsAlone {N = N} w → unpacked (mapped_from (cell_renamed g) place wide) w ≡ unpacked wide w
+    by : (w % 4 ≡ 2) ⊎ StandsAlone N w → unpacked (mapped_from (cell_renamed g) place wide) w ≡ unpacked wide w
     by (inl two) =
         unpacked_wide (mapped_from (cell_renamed g) place wide) w two
         ∙ (before_one (cell_renamed g) place wide (w / 4) (Variable 0) (low two) ∙ sym (unpacked_wide wide w two))
@@ -109,7 +109,7 @@ word_before {N = N} g wide place w low = by (stands_where w)
 word_since : {N : Type 0} (g : N → N) (wide : List (Cell N)) (place w : ℕ) → (w % 4 ≡ 2 → (place ≤ w / 4) × (w / 4 < length wide)) → unpacked (mapped_from (cell_renamed g) place wide) w ≡ cell_renamed g (unpacked wide w)
 word_since {N = N} g wide place w high = by (stands_where w)
   where
-    by : (w % 4 ≡ 2) ⊎ StandsAlone {N = N} w → unpacked (mapped_from (cell_renamed g) place wide) w ≡ cell_renamed g (unpacked wide w)
+    by : (w % 4 ≡ 2) ⊎ StandsAlone N w → unpacked (mapped_from (cell_renamed g) place wide) w ≡ cell_renamed g (unpacked wide w)
     by (inl two) =
         unpacked_wide (mapped_from (cell_renamed g) place wide) w two
         ∙ (since_one (cell_renamed g) place wide (w / 4) (Variable 0) (high two).0 (high two).1 ∙ ap (cell_renamed g) (sym (unpacked_wide wide w two)))

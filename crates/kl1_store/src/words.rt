@@ -51,7 +51,7 @@ impl<N: NameValue> Words<N> {
     #[inline]
     pub fn len(&self) -> usize
         ensures is { result ≡ length self.now.cells }
-        ensures few { result ≤ most }
+        ensures few { result + self.now.room ≤ most }
     {
         self.words.len()
     }

@@ -4,13 +4,12 @@ use Rattle.kl1_store.specs.Slots.{bindings_in, Trail}
 use Rattle.kl1_store.specs.declared.binding.Binding.{Binding}
 use Rattle.kl1_store.proofs.Placed.{placed_push, unbound_absent, bindings_in-push}
 use Rattle.kl1_store.proofs.bindings.Bindings.bind.Goals as goal
-use Rattle.kl1_store.proofs.bindings.Bindings.bind.Goals.{After-push}
 
 -- the lists after a growth
-pushed_variables : (g : _) (c : After-push g) → c.push_reserved.new.self.items ≡ c.self.inside.variables.items ++ c.args.variable ∷ []
+pushed_variables : (g : _) (c : goal.After-self-1 g) → c.push_reserved.new.self.items ≡ c.self.inside.variables.items ++ c.args.variable ∷ []
 pushed_variables g c = c.push_reserved.ensures.items ∙ ap (λ l. l ++ c.args.variable ∷ []) c.in_ok-make_room.ensures.items
 
-pushed_values : (g : _) (c : After-push g) → c.push.new.self.cells ≡ c.self.inside.values.cells ++ c.args.value ∷ []
+pushed_values : (g : _) (c : goal.After-self-1 g) → c.push.new.self.cells ≡ c.self.inside.values.cells ++ c.args.value ∷ []
 pushed_values g c = c.push.ensures.cells ∙ ap (λ l. l ++ c.args.value ∷ []) c.in_ok-make_room-2.ensures.same
 
 pub index_mut-requires : goal.index_mut-requires

@@ -74,7 +74,7 @@ returns-then-structures-len-clause-room g c =
     let spared = spare_most s.nodes.len s.nodes.cap nodes.len nodes.cap s.nodes.ok.1 (omega (arith, c.self.invariant.structures_fit, s.nodes.ok.0)) (omega (arith, c.truncate-then-structures-len.ensures.capacity)) in
     subst P c.self.view_is
     (frees_lists s.bindings.variables s.nodes.items s.arguments.cells s.bindings.bindings (record { variables = s.bindings.room; structures = room_in s.nodes.cap s.nodes.len; arguments = s.arguments.room; bindings = s.bindings.binding_room })
-    bindings.variables nodes.items arguments.cells bindings.bindings room c.self.invariant inside c.keep.ensures.room (omega (arith, spared, s.nodes.ok.0, nodes.ok.0)) c.truncate.ensures.room c.keep.ensures.binding_room)
+    bindings.variables nodes.items arguments.cells bindings.bindings room c.self.invariant inside c.keep.ensures.room (omega (arith, spared, s.nodes.ok.0, nodes.ok.0)) (omega (arith, c.truncate.ensures.room)) c.keep.ensures.binding_room)
 
 pub returns-else-structures-len-clause-room : goal.returns-else-structures-len-clause-room
 returns-else-structures-len-clause-room g c =

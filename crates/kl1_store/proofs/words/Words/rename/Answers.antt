@@ -32,5 +32,4 @@ returns-else-first-len-clause-cells g c =
     let s = c.self.inside in
     let h = g.R.Renaming.becomes c.args.names.now in
     let e = ap (λ (v : Listed g.row.N.Denot). length v.cells) c.self.view_is in
-    ap (λ (v : Listed g.row.N.Denot). v.cells) c.self.view_is
-    ∙ sym (mapped_past (cell_renamed h) c.args.first c.args.self.now.cells (omega (arith, e, length-map s.words.items (unpacked s.wide.items), c.if-first-len.false, c.len.ensures, s.words.ok.0)))
+    sym (mapped_past (cell_renamed h) c.args.first c.args.self.now.cells (omega (arith, e, length-map s.words.items (unpacked s.wide.items), c.if-first-len.false, c.len.ensures, s.words.ok.0)))
