@@ -115,9 +115,9 @@ unpacked_grown old new w e p = elim (cases_eq (w % 4) 0) [
     | inr b ↦ elim (cases_eq (w % 4) 3) [
       | inl c ↦ unpacked_small new w c ∙ sym (unpacked_small old w c)
       | inr c ↦
-        let two : w % 4 ≡ 2 = omega arith in
-        let same : get_or new (w / 4) (Variable 0) ≡ get_or old (w / 4) (Variable 0) = sym (get_or-take (length old) new (w / 4) (Variable 0) (p.wide two)) ∙ ap (λ l. get_or l (w / 4) (Variable 0)) e in
-        unpacked_wide new w two ∙ (same ∙ sym (unpacked_wide old w two))
+          let two : w % 4 ≡ 2 = omega arith in
+          let same : get_or new (w / 4) (Variable 0) ≡ get_or old (w / 4) (Variable 0) = sym (get_or-take (length old) new (w / 4) (Variable 0) (p.wide two)) ∙ ap (λ l. get_or l (w / 4) (Variable 0)) e in
+          unpacked_wide new w two ∙ (same ∙ sym (unpacked_wide old w two))
     ]
   ]
 ]

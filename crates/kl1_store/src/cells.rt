@@ -330,8 +330,7 @@ impl<N: NameValue> Cells<N> {
         ensures held { (h : Held N) → mark ≡ sizes_of h → Grown h self.old.held → self.new.held ≡ h }
         ensures room { FreesRoom self.old.held self.old.room self.new.held self.new.room }
     {
-        self.bindings
-            .keep(mark.variables as usize, mark.bindings);
+        self.bindings.keep(mark.variables as usize, mark.bindings);
         let structures = mark.structures as usize;
         if structures < self.nodes.len() {
             let start = self.nodes[structures].start;

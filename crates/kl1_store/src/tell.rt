@@ -7,11 +7,7 @@ use crate::hooks::Hooks;
 use std::alloc::AllocError;
 
 /// Adds the numbers that hang on these variables.
-pub fn tell_all(
-    variables: &[u32],
-    hooks: &Hooks,
-    told: &mut Vec<u64>,
-) -> Result<(), AllocError>
+pub fn tell_all(variables: &[u32], hooks: &Hooks, told: &mut Vec<u64>) -> Result<(), AllocError>
     ensures { OnOk result (told.new.items ≡ told.old.items ++ told_on variables.now hooks.now.hooks) }
 {
     let mut rest = variables;

@@ -5,7 +5,7 @@ ghost use Rattle.kl1_store.specs.Renames.{cell_renamed, mapped_from};
 
 use crate::cell::Cell;
 use crate::renaming::Renaming;
-use crate::words::{wide_before, Words};
+use crate::words::{Words, wide_before};
 use kl1_text::NameValue;
 
 /// A cell, with what its name becomes if it is an atom.
