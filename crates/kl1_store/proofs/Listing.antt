@@ -1,13 +1,13 @@
 -- Lists of cells as words: after a growth, cut, and with other names.
-use Rattle.std.proofs.Common.{◌≡◌, ℕ, zero, suc, ◌+◌, ◌/◌, ◌%◌, ◌-◌, ◌<◌, ◌≤◌, List, [], ◌∷◌, ◌++◌, length, length-append, length-take, get_or, take, drop, map, All, ℤ, pos, ◌-ℤ◌, ◌^◌, refl, sym, ◌∙◌, ap, ap₂, subst, arith, ◌⊎◌, inl, inr}
+use Rattle.std.proofs.Common.{◌≡◌, ℕ, zero, suc, ◌/◌, ◌%◌, ◌<◌, ◌≤◌, List, [], ◌∷◌, ◌++◌, length, length-append, length-take, get_or, take, drop, map, All, pos, ◌-ℤ◌, ◌^◌, refl, sym, ◌∙◌, ap, ap₂, subst, arith, ◌⊎◌, inl, inr}
 use Rattle.std.proofs.lemmas.List.{take-map, get_or-map, length-take-le, length-map}
 use Rattle.std.proofs.lemmas.List.Elements.{All-push, All-take}
 use Rattle.std.proofs.lemmas.Bool.{cases_eq}
 use Rattle.kl1_store.specs.declared.cell.Cell.{Cell}
-use Rattle.kl1_store.specs.declared.cell.Cell.TheVariants.{Variable, Integer, Atom, Structure}
+use Rattle.kl1_store.specs.declared.cell.Cell.TheVariants.{Variable, Integer, Structure}
 use Rattle.kl1_store.specs.Renames.{cell_renamed, mapped_from}
 use Rattle.kl1_store.specs.Words.{unpacked, IsPacked, AreInOrder, AreWords, Packs, Splits, next_place}
-use Rattle.kl1_store.proofs.Packing.{unpacked_variable, unpacked_structure, unpacked_small, unpacked_wide, map_unpacked_grown, all_packed_grown, map_pushed, next_same}
+use Rattle.kl1_store.proofs.Packing.{unpacked_variable, unpacked_structure, unpacked_small, unpacked_wide, map_unpacked_grown, all_packed_grown, next_same}
 use Rattle.kl1_store.proofs.Ordering.{next_up, order_up, order_push, kept_packed}
 
 -- a place of a cell is one of its word

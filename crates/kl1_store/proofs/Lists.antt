@@ -1,15 +1,15 @@
 -- The lists of a store after each growth.
-use Rattle.std.proofs.Common.{◌≡◌, ℕ, suc, ◌+◌, ◌-◌, ◌<◌, ◌≤◌, ◌==◌, false, if◌then◌else◌, List, [], ◌∷◌, ◌++◌, length, get_or, set, take, drop, refl, sym, ap, ◌∙◌, ◌⊎◌, inl, inr, arith, subst, append_assoc, length-append, length-drop}
+use Rattle.std.proofs.Common.{◌≡◌, ℕ, suc, ◌+◌, ◌-◌, ◌<◌, ◌≤◌, ◌==◌, false, if◌then◌else◌, List, [], ◌∷◌, ◌++◌, length, get_or, take, drop, refl, sym, ap, ◌∙◌, arith, subst, length-append, length-drop}
 use Rattle.std.specs.Prelude.{Option, Some, slice_get}
-use Rattle.std.proofs.lemmas.Bool.{cases_eq, ne_eqb, eqb-false, or_parts, or_from, cases_lt}
-use Rattle.std.proofs.lemmas.List.{get_or_append_left, get_or_at, length-take-le, append-nil, take_all, get_or-take}
+use Rattle.std.proofs.lemmas.Bool.{eqb-false, or_parts}
+use Rattle.std.proofs.lemmas.List.{length-take-le, take_all}
 use Rattle.kl1_model.specs.Term.{occurs}
 use Rattle.kl1_store.specs.declared.cell.Cell.{Cell}
 use Rattle.kl1_store.specs.declared.cell.Cell.TheVariants.{Variable}
 use Rattle.kl1_store.specs.declared.binding.Binding.{Binding}
 use Rattle.kl1_store.specs.declared.node.Node.{Node}
 use Rattle.kl1_store.specs.declared.mark.Mark.{Mark}
-use Rattle.kl1_store.specs.Held.{Shape, Held, with_structure, with_binding, is_bound, found, IsIn, AreIn, IsLower, arguments_of, shape_arguments, sizes_of}
+use Rattle.kl1_store.specs.Held.{Shape, Held, with_structure, is_bound, found, IsIn, AreIn, IsLower, arguments_of, shape_arguments, sizes_of}
 use Rattle.kl1_store.specs.Meaning.{term_of}
 use Rattle.kl1_store.specs.Sound.{Bound, IsFormed, Grown}
 use Rattle.kl1_store.specs.Slots.{AreBelow}

@@ -1,5 +1,5 @@
 -- Room that is used up, and room that is left again.
-use Rattle.std.proofs.Common.{◌≡◌, ℕ, ◌+◌, ◌-◌, ◌≤◌, List, length, ap, arith, subst}
+use Rattle.std.proofs.Common.{◌≡◌, ℕ, ◌+◌, ◌≤◌, List, length, ap, arith, subst}
 use Rattle.kl1_store.specs.declared.cell.Cell.{Cell}
 use Rattle.kl1_store.specs.declared.node.Node.{Node}
 use Rattle.kl1_store.specs.declared.binding.Binding.{Binding}

@@ -1,5 +1,4 @@
 use Rattle.std.proofs.Common.{◌≡◌, ◌+◌, ◌≤◌, length, reverse, take, ◌++◌}
-use Rattle.std.specs.Vec.{vec_capacity}
 use Rattle.kl1_store.proofs.moving.put_reversed.Given as goal
 
 -- what was put and what is left to put are all cells, and room was used up for what was put

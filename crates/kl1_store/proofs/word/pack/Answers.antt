@@ -1,4 +1,4 @@
-use Rattle.std.proofs.Common.{◌≡◌, ◌+◌, ◌*◌, ℤ, w64, sym, subst, rules, arith}
+use Rattle.std.proofs.Common.{◌+◌, ◌*◌, ℤ, w64, sym, subst, rules, arith}
 use Rattle.std.proofs.lemmas.Int.{to_z-of_z}
 use mir.Val.{SFits}
 use Rattle.kl1_store.specs.declared.cell.Cell.{Cell}

@@ -1,4 +1,4 @@
-use Rattle.std.proofs.Common.{◌≡◌, ℕ, ◌+◌, ◌*◌, length, sym, subst, arith}
+use Rattle.std.proofs.Common.{◌≡◌, ℕ, ◌+◌, ◌*◌, length, subst, arith}
 use Rattle.kl1_store.specs.Words.{Packs}
 use Rattle.kl1_store.proofs.Packing.{packs_beside}
 use Rattle.kl1_store.proofs.word.put_beside.Goals as goal

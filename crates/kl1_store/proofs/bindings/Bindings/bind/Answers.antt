@@ -1,4 +1,4 @@
-use Rattle.std.proofs.Common.{◌≡◌, ◌<◌, ◌≤◌, ◌+◌, false, List, [], ◌∷◌, ◌++◌, length, length-append, length-set, ap, sym, ◌∙◌, subst, arith}
+use Rattle.std.proofs.Common.{◌≡◌, [], ◌∷◌, ◌++◌, length, length-append, length-set, ap, sym, ◌∙◌, arith}
 use Rattle.kl1_store.specs.Held.{is_bound}
 use Rattle.kl1_store.specs.Slots.{bindings_in, Trail}
 use Rattle.kl1_store.specs.declared.binding.Binding.{Binding}

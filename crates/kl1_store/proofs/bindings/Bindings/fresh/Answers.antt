@@ -1,4 +1,4 @@
-use Rattle.std.proofs.Common.{[], ◌∷◌, ◌++◌, ap, ◌∙◌, arith, length-append}
+use Rattle.std.proofs.Common.{[], ◌∷◌, ◌++◌, ap, ◌∙◌, arith}
 use Rattle.kl1_store.proofs.Placed.{placed_more}
 use Rattle.kl1_store.proofs.bindings.Bindings.fresh.Goals as goal
 

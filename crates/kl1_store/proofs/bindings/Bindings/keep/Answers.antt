@@ -1,8 +1,7 @@
-use Rattle.std.proofs.Common.{◌≡◌, ℕ, ◌≤◌, ◌+◌, List, length, length-take, take, sym, ap, ◌∙◌, subst, arith}
+use Rattle.std.proofs.Common.{◌≡◌, List, length, length-take, take, sym, ap, ◌∙◌, subst, arith}
 use Rattle.std.proofs.lemmas.List.{length-take-le}
-use Rattle.kl1_store.specs.declared.cell.Cell.{Cell}
 use Rattle.kl1_store.specs.declared.binding.Binding.{Binding}
-use Rattle.kl1_store.specs.Slots.{bindings_in, AreBelow, AreBindings, Trail}
+use Rattle.kl1_store.specs.Slots.{bindings_in, AreBelow, Trail}
 use Rattle.kl1_store.proofs.Placed.{placed_cut, length-bindings_in, bindings_in-take}
 use Rattle.kl1_store.proofs.bindings.Bindings.keep.Goals as goal
 use Rattle.kl1_store.proofs.bindings.Bindings.keep.Goals.{After-truncate-2}

@@ -1,4 +1,4 @@
-use Rattle.std.proofs.Common.{◌≡◌, ℕ, suc, ◌-◌, ◌<◌, length, get_or, sym, ap, ◌∙◌, arith}
+use Rattle.std.proofs.Common.{◌-◌, ap, ◌∙◌, arith}
 use Rattle.kl1_store.specs.Held.{found}
 use Rattle.kl1_store.specs.Slots.{Trail}
 use Rattle.kl1_store.proofs.Placed.{value_unbound, value_bound, place_within, place_read, place_bound}

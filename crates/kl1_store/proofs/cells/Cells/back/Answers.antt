@@ -1,4 +1,4 @@
-use Rattle.std.proofs.Common.{◌≡◌, ◌≤◌, ◌+◌, length, [], sym, ap, ◌∙◌, arith, subst}
+use Rattle.std.proofs.Common.{◌≡◌, sym, ap, ◌∙◌, arith, subst}
 use Rattle.kl1_store.specs.Held.{Held, Stored, Room, sizes_of}
 use Rattle.kl1_store.specs.Inside.{held_in, room_in, IsInside}
 use Rattle.kl1_store.specs.Sound.{IsFormed, Grown}

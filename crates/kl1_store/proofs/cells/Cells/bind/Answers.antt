@@ -1,4 +1,4 @@
-use Rattle.std.proofs.Common.{ℕ, [], ◌∷◌, ◌++◌, sym, ap, ◌∙◌, subst}
+use Rattle.std.proofs.Common.{ℕ, sym, ap, subst}
 use Rattle.kl1_store.specs.Held.{Stored}
 use Rattle.kl1_store.specs.Inside.{IsInside}
 use Rattle.kl1_store.proofs.Lists.{bound_at}

@@ -1,4 +1,4 @@
-use Rattle.std.proofs.Common.{◌<◌, ◌≤◌, [], length, sym, ap, ◌∙◌, arith}
+use Rattle.std.proofs.Common.{◌<◌, ◌≤◌, length, sym, ap, ◌∙◌, arith}
 use Rattle.kl1_store.specs.Held.{Stored}
 use Rattle.kl1_store.specs.Inside.{held_in}
 use Rattle.kl1_store.specs.Renames.{cell_renamed, node_renamed, renamed_since}

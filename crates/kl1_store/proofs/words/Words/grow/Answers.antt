@@ -1,4 +1,4 @@
-use Rattle.std.proofs.Common.{◌≤◌, length, arith}
+use Rattle.std.proofs.Common.{length, arith}
 use Rattle.kl1_store.proofs.Ordering.{order_few}
 use Rattle.kl1_store.proofs.words.Words.grow.Goals as goal
 

@@ -1,4 +1,4 @@
-use Rattle.std.proofs.Common.{◌≤◌, ◌+◌, ap, arith}
+use Rattle.std.proofs.Common.{ap, arith}
 use Rattle.kl1_store.specs.Words.{Listed}
 use Rattle.kl1_store.proofs.words.Words.len.Goals as goal
 

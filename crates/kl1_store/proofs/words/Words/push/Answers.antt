@@ -1,5 +1,4 @@
-use Rattle.std.proofs.Common.{◌≡◌, ◌+◌, ◌-◌, ◌<◌, ◌≤◌, List, [], ◌∷◌, ◌++◌, length, map, sym, ap, ◌∙◌, subst, arith}
-use Rattle.kl1_store.specs.declared.cell.Cell.{Cell}
+use Rattle.std.proofs.Common.{List, [], ◌∷◌, ◌++◌, length, map, sym, ap, ◌∙◌, subst, arith}
 use Rattle.kl1_store.specs.Words.{unpacked, AreWords, Listed}
 use Rattle.kl1_store.proofs.Packing.{map_pushed}
 use Rattle.kl1_store.proofs.Ordering.{order_few}

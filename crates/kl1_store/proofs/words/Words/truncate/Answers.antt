@@ -1,6 +1,5 @@
-use Rattle.std.proofs.Common.{◌≡◌, ◌+◌, ◌-◌, ◌<◌, ◌≤◌, List, length, take, map, ap, ◌∙◌, arith}
-use Rattle.kl1_store.specs.declared.cell.Cell.{Cell}
-use Rattle.kl1_store.specs.Words.{unpacked, AreWords, Listed}
+use Rattle.std.proofs.Common.{take, ap, ◌∙◌, arith}
+use Rattle.kl1_store.specs.Words.{Listed}
 use Rattle.kl1_store.proofs.Listing.{words_cut, cells_cut}
 use Rattle.kl1_store.proofs.words.Words.truncate.Goals as goal
 
