@@ -15,10 +15,12 @@ use Rattle.kl1_clause.specs.declared.name.Name.{Name}
 use Rattle.kl1_clause.specs.NameList.{with_text, with_texts}
 use Rattle.kl1_clause.specs.Instructions.{text_in, IsPlaced, IsRowOf, code_in}
 use Rattle.kl1_clause.specs.BareGoals.{module_of, bare, whole_each, module_text, AreModulesOf}
+use Rattle.kl1_clause.specs.Checks.{paths_in, AreChecksOf}
 use Rattle.kl1_clause.specs.Plain.{IsPlain}
 use Rattle.kl1_clause.specs.Clauses.{priorities_of, goals_with, clause_in, terms_in, IsCompiled, AreCompiled}
 use Rattle.kl1_clause.proofs.BareGoals.{whole_each_again}
 use Rattle.kl1_clause.proofs.Bodies.{modules_of_stay}
+use Rattle.kl1_clause.proofs.HeadRows.{checks_stay}
 use Rattle.kl1_clause.proofs.Growth.{Grows, joined, one_grows, all_grow, with_more, with_both, name_stays, row_stays}
 
 -- names with others after them, if it is known which
@@ -49,6 +51,8 @@ clause_stays names new c d g i =
       name = n.1;
       count = i.count;
       patterns = row_of_stays names new c.patterns.items (nodes_of_all d.patterns) g i.patterns;
+      checks = checks_stay names new c.checks.items d.patterns g i.checks;
+      paths = i.paths;
       tests = row_of_stays names new c.tests.items (nodes_of_all (terms_of d.tests)) g i.tests;
       section = i.section;
       goals = row_of_stays names new c.goals.items (nodes_of_all (terms_of (map bare (goals_of d.body)))) g i.goals;
@@ -128,6 +132,8 @@ pub record IsMade (names a b c d : List (List ℕ)) (compiled : CompiledClause) 
   pub placed : IsPlaced (length a) compiled.name
   pub name : text_in a compiled.name ≡ clause.name
   pub patterns : IsRowOf b compiled.patterns.items (nodes_of_all clause.patterns)
+  pub checks : AreChecksOf b compiled.checks.items clause.patterns
+  pub paths : compiled.paths.items ≡ paths_in 0 0 1 clause.patterns
   pub tests : IsRowOf c compiled.tests.items (nodes_of_all (terms_of clause.tests))
   pub section : compiled.section ≡ clause.section
   pub goals : IsRowOf d compiled.goals.items (nodes_of_all (terms_of (map bare (goals_of clause.body))))
@@ -154,6 +160,8 @@ made names a b c d compiled clause m =
         name = n.1;
         count = m.count;
         patterns = row_of_stays b d compiled.patterns.items (nodes_of_all clause.patterns) from_b m.patterns;
+        checks = checks_stay b d compiled.checks.items clause.patterns from_b m.checks;
+        paths = m.paths;
         tests = row_of_stays c d compiled.tests.items (nodes_of_all (terms_of clause.tests)) to_d m.tests;
         section = m.section;
         goals = m.goals;

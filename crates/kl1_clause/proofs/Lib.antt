@@ -13,3 +13,4 @@ pub mod Guards
 pub mod BareGoals
 pub mod Bodies
 pub mod NodeCounts
+pub mod HeadRows

@@ -10,6 +10,7 @@ use Rattle.kl1_clause.specs.declared.compiled_clause.CompiledClause.{CompiledCla
 use Rattle.kl1_clause.specs.declared.instruction.Instruction.{Instruction}
 use Rattle.kl1_clause.specs.Instructions.{text_in, IsPlaced, IsRowOf, code_in}
 use Rattle.kl1_clause.specs.BareGoals.{module_of, bare, whole_each, module_text, AreModulesOf}
+use Rattle.kl1_clause.specs.Checks.{paths_in, AreChecksOf}
 use Rattle.kl1_clause.specs.Plain.{IsPlain}
 
 -- the terms of a row, one after another, if the names of the code are these
@@ -36,6 +37,8 @@ pub record IsCompiled (names : List (List ℕ)) (compiled : CompiledClause) (cla
   pub name : text_in names compiled.name ≡ clause.name
   pub count : compiled.count ≡ count_of clause.patterns
   pub patterns : IsRowOf names compiled.patterns.items (nodes_of_all clause.patterns)
+  pub checks : AreChecksOf names compiled.checks.items clause.patterns
+  pub paths : compiled.paths.items ≡ paths_in 0 0 1 clause.patterns
   pub tests : IsRowOf names compiled.tests.items (nodes_of_all (terms_of clause.tests))
   pub section : compiled.section ≡ clause.section
   pub goals : IsRowOf names compiled.goals.items (nodes_of_all (terms_of (map bare (goals_of clause.body))))

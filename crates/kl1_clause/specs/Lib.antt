@@ -11,3 +11,5 @@ pub mod NodeCounts
 pub mod Plain
 pub mod Predicates
 pub mod Putting
+pub mod Checks
+pub mod Linking

@@ -13,10 +13,13 @@ ghost use Rattle.kl1_read.specs.Sources.{clause_of_parts, goal_of_parts};
 ghost use Rattle.kl1_clause.specs.Clauses.{IsCompiled, priorities_of};
 
 use crate::body::body_of;
+use crate::head_check::HeadCheck;
 use crate::instruction::Instruction;
+use crate::linking::linked_of;
 use crate::name::Name;
 use crate::names::Names;
 use crate::node_count::goals_nodes;
+use crate::path::Path;
 use crate::plain::is_plain;
 use crate::rows::row_of;
 use kl1_read::{ClauseParts, GoalParts};
@@ -35,6 +38,8 @@ pub struct CompiledClause {
     pub count: usize,
     pub section: u64,
     pub patterns: Vec<Instruction>,
+    pub checks: Vec<HeadCheck>,
+    pub paths: Vec<Path>,
     pub tests: Vec<Instruction>,
     pub goals: Vec<Instruction>,
     pub modules: Vec<Option<Name>>,
@@ -65,11 +70,14 @@ pub(crate) fn compiled_of(
     let nodes = goals_nodes(&parts.body);
     let count = parts.patterns.len();
     let is_plain = is_plain(patterns.as_slice(), tests.as_slice());
+    let linked = linked_of(alloc, patterns.as_slice(), count)?;
     Ok(CompiledClause {
         name,
         count,
         section: parts.section,
         patterns,
+        checks: linked.checks,
+        paths: linked.paths,
         tests,
         goals: body.goals,
         modules: body.modules,

@@ -7,14 +7,11 @@ ghost use Rattle.kl1_match.specs.Instances.{IsClause};
 ghost use Rattle.kl1_match.specs.Matching.{Keeps};
 ghost use Rattle.kl1_match.specs.Verdicts.{IsVerdict, IsTried};
 
-use crate::arguments::{is_left, span_of};
-use crate::meets::{meet, take_place};
-use crate::met::Met;
+use crate::checking::{put_reached, run_checks};
 use crate::place::Place;
-use crate::skips::behind_term;
 use crate::span::Span;
 use crate::verdict::Verdict;
-use kl1_clause::{CompiledClause, Instruction};
+use kl1_clause::CompiledClause;
 use kl1_store::{Cell, Store};
 use kl1_text::NameValue;
 use std::alloc::AllocError;
@@ -28,7 +25,7 @@ pub fn judge_plain<N: NameValue, const KEEP: bool>(
     names: &[N],
     clause: &CompiledClause,
     goal: Cell<N>,
-    behind: &mut Vec<Span>,
+    frames: &mut Vec<Span>,
     places: &mut Vec<Place<N>>,
     awaited: &mut Vec<u32>,
 ) -> Result<Verdict, AllocError>
@@ -38,7 +35,7 @@ pub fn judge_plain<N: NameValue, const KEEP: bool>(
     ensures { IfOk result (λ v. Keeps KEEP places.new.items (λ ps. IsVerdict N.built names.now clause.now store.now.held goal ps awaited.old.items awaited.new.items v)) }
 {
     let before = awaited.len();
-    match find_match::<_, KEEP>(store, names, clause, goal, behind, places, awaited)? {
+    match find_match::<_, KEEP>(store, names, clause, goal, frames, places, awaited)? {
         Verdict::Accepts => Ok(Verdict::Accepts),
         Verdict::Suspends => Ok(Verdict::Suspends),
         Verdict::Rejects => {
@@ -74,7 +71,7 @@ pub fn find_match<N: NameValue, const KEEP: bool>(
     names: &[N],
     clause: &CompiledClause,
     goal: Cell<N>,
-    behind: &mut Vec<Span>,
+    frames: &mut Vec<Span>,
     places: &mut Vec<Place<N>>,
     awaited: &mut Vec<u32>,
 ) -> Result<Verdict, AllocError>
@@ -83,32 +80,20 @@ pub fn find_match<N: NameValue, const KEEP: bool>(
     ensures { IfOk result (λ v. Keeps KEEP places.new.items (λ ps. IsTried N.built names.now clause.now store.now.held goal ps awaited.old.items awaited.new.items v)) }
 {
     let before = awaited.len();
-    let row = clause.patterns.as_slice();
-    clear_places::<_, KEEP>(places, row.len())?;
-    behind.clear();
-    behind.reserve(row.len())?;
-    let mut span = span_of(store, goal);
-    let mut at: usize = 0;
-    while at < row.len() {
-        if !is_left(store, &mut span, behind) {
-            return Ok(Verdict::Rejects);
-        }
-        if let Instruction::Variable(variable) = row[at] {
-            take_place::<_, KEEP>(store, variable, &mut span, places);
-            at += 1;
-            continue;
-        }
-        match meet::<_, KEEP>(store, names, row[at], &mut span, behind, places) {
-            Met::Agrees => at += 1,
-            Met::Waits(variable) => {
-                awaited.push(variable)?;
-                at = behind_term(row, at);
-            }
-            Met::Clashes => return Ok(Verdict::Rejects),
-        }
-    }
-    if is_left(store, &mut span, behind) {
+    clear_places::<_, KEEP>(places, clause.paths.len())?;
+    if !run_checks(
+        store,
+        names,
+        clause.checks.as_slice(),
+        goal,
+        clause.count,
+        frames,
+        awaited,
+    )? {
         return Ok(Verdict::Rejects);
+    }
+    if KEEP {
+        put_reached(store, clause.paths.as_slice(), frames.as_slice(), places);
     }
     if awaited.len() == before {
         return Ok(Verdict::Accepts);

@@ -16,6 +16,7 @@ pub struct Scratch<N: NameValue> {
     pub spans: Vec<Span>,
     pub places: Vec<Place<N>>,
     pub(crate) variables: Vec<Cell<N>>,
+    pub(crate) awaited: Vec<u32>,
     pub same: SameScratch,
     pub tests: TestScratch<N>,
 }
@@ -28,6 +29,7 @@ impl<N: NameValue> Scratch<N> {
             spans: Vec::new(alloc),
             places: Vec::new(alloc),
             variables: Vec::new(alloc),
+            awaited: Vec::new(alloc),
             same: SameScratch::new(alloc),
             tests: TestScratch::new(alloc),
         }

@@ -15,7 +15,7 @@ returns c =
     let head : c.highest_among-head_variables.result ≡ highest_in (terms_of p.patterns.items) = c.highest_among-head_variables.ensures ∙ ap (λ x. highest_in (terms_of x)) c.deref-5.ensures.value in
     let fresh : c.fresh_among-fresh_variables.result ≡ highest_in (terms_of (goals_of (map goal_of_parts p.body.items))) - highest_in (terms_of p.patterns.items) = c.fresh_among-fresh_variables.ensures ∙ (ap (λ x. highest_in (terms_of (goals_of (map goal_of_parts x))) - c.highest_among-head_variables.result) c.deref-6.ensures.value ∙ ap (λ n. highest_in (terms_of (goals_of (map goal_of_parts p.body.items))) - n) head) in
     let all = made c.args.names.now c.placed.new.self c.row_of.new.names c.row_of-2.new.names c.body_of.new.names
-    (record { name = c.in_ok-name.name; count = c.len-count.result; section = p.section; patterns = c.in_ok-patterns.patterns; tests = c.in_ok-tests.tests; goals = c.in_ok-body.body.goals; modules = c.in_ok-body.body.modules; priorities = c.in_ok-priorities.priorities; head_variables = c.highest_among-head_variables.result; fresh_variables = c.fresh_among-fresh_variables.result; nodes = c.goals_nodes-nodes.result; is_plain = c.is_plain-is_plain.result })
+    (record { name = c.in_ok-name.name; count = c.len-count.result; section = p.section; patterns = c.in_ok-patterns.patterns; checks = c.in_ok-linked.linked.checks; paths = c.in_ok-linked.linked.paths; tests = c.in_ok-tests.tests; goals = c.in_ok-body.body.goals; modules = c.in_ok-body.body.modules; priorities = c.in_ok-priorities.priorities; head_variables = c.highest_among-head_variables.result; fresh_variables = c.fresh_among-fresh_variables.result; nodes = c.goals_nodes-nodes.result; is_plain = c.is_plain-is_plain.result })
     (clause_of_parts p)
     (record {
       parted = record {
@@ -26,7 +26,9 @@ returns c =
       };
       placed = c.in_ok-name.ensures.placed;
       name = c.in_ok-name.ensures.text;
-      patterns = rw c.deref.ensures.value at c.in_ok-patterns.ensures.row;
+      patterns = row;
+      checks = rw (← linked_checks) (row_is_checks c.row_of.new.names c.in_ok-patterns.patterns.items (terms_of p.patterns.items) row);
+      paths = linked_paths ∙ row_is_paths c.row_of.new.names c.in_ok-patterns.patterns.items (terms_of p.patterns.items) row;
       tests = rw c.deref-2.ensures.value at c.in_ok-tests.ensures.row;
       section = refl;
       goals = rw c.deref-3.ensures.value at c.in_ok-body.ensures.row_is;
