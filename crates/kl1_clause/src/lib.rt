@@ -16,6 +16,8 @@ mod path;
 mod plain;
 mod predicate;
 mod rows;
+mod source;
+mod sourcing;
 
 pub use code::Code;
 pub use code_fault::CodeFault;
@@ -27,3 +29,4 @@ pub use name::Name;
 pub use node_count::structures_of;
 pub use path::Path;
 pub use predicate::Predicate;
+pub use source::{Build, Source};

@@ -12,7 +12,7 @@ ghost use Rattle.kl1_match.specs.Matching.{MeetsFirst};
 ghost use Rattle.kl1_match.specs.Verdicts.{IsVerdict};
 ghost use Rattle.kl1_match.specs.Kept.{places_behind, kept_places};
 
-use crate::checking::{put_cells, run_checks};
+use crate::checking::run_checks;
 use crate::scratch::Scratch;
 use kl1_clause::CompiledClause;
 use kl1_store::{Cell, Store};
@@ -47,12 +47,7 @@ fn plain_accepts_in_order<N: NameValue>(
         scratch.awaited.clear();
         return Ok(false);
     }
-    put_cells(
-        store,
-        clause.paths.as_slice(),
-        scratch.spans.as_slice(),
-        &mut scratch.variables,
-    )
+    Ok(true)
 }
 
 /// Whether a clause without tests but `true` accepts a goal, and the variables of its head stand in order of their numbers, each once, if

@@ -7,7 +7,6 @@ use crate::place::Place;
 use crate::scratch::Scratch;
 use crate::span::Span;
 use kl1_clause::{Asks, CompiledClause, HeadCheck, Path};
-use kl1_model::BuiltIn;
 use kl1_store::{Cell, Store};
 use kl1_text::NameValue;
 use std::alloc::AllocError;
@@ -175,34 +174,6 @@ fn find_frames<N: NameValue>(
     Ok(true)
 }
 
-/// Puts the cells at the paths after the cells that are kept, if the paths are of the variables that come next, one of each in order:
-/// whether they are.
-#[inline(always)]
-pub(crate) fn put_cells<N: NameValue>(
-    store: &Store<N>,
-    paths: &[Path],
-    frames: &[Span],
-    cells: &mut Vec<Cell<N>>,
-) -> Result<bool, AllocError> {
-    let count = paths.len().checked_add(1).ok_or(AllocError)?;
-    cells.clear();
-    cells.reserve(count)?;
-    cells.push_reserved(Cell::Atom(N::of(BuiltIn::EmptyList)));
-    let mut rest = paths;
-    while let [path, more @ ..] = rest {
-        let path = *path;
-        if path.variable as usize != cells.len() {
-            return Ok(false);
-        }
-        let Some(place) = place_in(frames, path.frame, path.index) else {
-            return Ok(false);
-        };
-        cells.push_reserved(store.argument_at(place));
-        rest = more;
-    }
-    Ok(true)
-}
-
 /// The places of a head that agrees.
 pub fn locate<N: NameValue>(
     store: &Store<N>,
@@ -210,15 +181,7 @@ pub fn locate<N: NameValue>(
     goal: Cell<N>,
     scratch: &mut Scratch<N>,
 ) -> Result<bool, AllocError> {
-    if !find_frames(store, clause.checks.as_slice(), goal, &mut scratch.spans)? {
-        return Ok(false);
-    }
-    put_cells(
-        store,
-        clause.paths.as_slice(),
-        scratch.spans.as_slice(),
-        &mut scratch.variables,
-    )
+    find_frames(store, clause.checks.as_slice(), goal, &mut scratch.spans)
 }
 
 /// Puts the cells at the paths that lead to some.
