@@ -1,6 +1,6 @@
 -- Rows as checks and paths.
-use Rattle.std.proofs.Common.{◌≡◌, ℕ, zero, suc, ◌+◌, ◌-◌, List, [], ◌∷◌, ◌++◌, length, map, reverse, refl, sym, ap, ◌∙◌, subst, arith, inl, inr, append_assoc, append-nil, Option, Some, None}
-use Rattle.std.proofs.lemmas.List.{map-append}
+use Rattle.std.proofs.Common.{◌≡◌, ℕ, zero, suc, ◌+◌, ◌-◌, ◌<◌, ◌≤◌, List, [], ◌∷◌, ◌++◌, length, map, reverse, drop, drop-cons, get_or, refl, sym, ap, ◌∙◌, subst, arith, inl, inr, append_assoc, append-nil, Option, Some, None}
+use Rattle.std.proofs.lemmas.List.{reverse-append, drop_all}
 use Rattle.kl1_model.specs.Term.{Term, variable, integer, atom, structure, Terms, none, more, count_of}
 use Rattle.kl1_model.specs.Nodes.{structures_of, structures_in}
 use Rattle.kl1_model.specs.code.TermCode.{NodeCode, nodes_of, nodes_of_all}
@@ -10,9 +10,10 @@ use Rattle.kl1_clause.specs.declared.head_check.Asks.TheVariants as asks
 use Rattle.kl1_clause.specs.declared.head_check.HeadCheck.{HeadCheck}
 use Rattle.kl1_clause.specs.declared.path.Path.{Path}
 use Rattle.kl1_clause.specs.declared.linking.Open.{Open}
+use Rattle.kl1_clause.specs.declared.linking.Linked.{Linked}
 use Rattle.kl1_clause.specs.Instructions.{code_in, AreNamed, IsRowOf}
 use Rattle.kl1_clause.specs.Checks.{Check, an_integer, an_atom, a_structure, checks_of, checks_in, paths_of, paths_in, check_in, IsNamedIn, AreNamedIn, AreChecksOf}
-use Rattle.kl1_clause.specs.Linking.{with_open, behind_first, behind, next_frame, check_at, path_at, row_checks, row_paths}
+use Rattle.kl1_clause.specs.Linking.{with_open, behind_first, row_checks, row_paths, Links}
 use Rattle.kl1_clause.proofs.Growth.{Grows, name_stays}
 
 -- what is left behind a node
@@ -159,3 +160,57 @@ checks_stay names new cs ps g i =
     let P : List (List ℕ) → Type 0 = λ x. AreNamedIn (length x) cs × (map (check_in x) cs ≡ map (check_in names) cs) in
     let s = subst P (sym g.is) (stay_behind names g.added cs i.named) in
     record { named = s.0; checks_are = s.1 ∙ i.checks_are }
+
+-- ---- a row, one instruction after another
+
+-- what is left behind the first, with the numbers that the code has
+pub taken : (o : Open) (old new pushed : List Open) (index left : ℕ) → old ≡ new ++ o ∷ [] → index ≡ o.index + 1 → left ≡ o.left - 1 → reverse pushed ≡ with_open o.frame index left (reverse new) → (os : List Open) × ((reverse old ≡ o ∷ os) × (reverse pushed ≡ behind_first o os))
+taken o old new pushed index left popped e f is =
+    let next : index ≡ suc o.index = omega (arith, e) in (
+      reverse new,
+      ap reverse popped ∙ reverse-append new (o ∷ []),
+      is ∙ (ap (λ n. with_open o.frame n left (reverse new)) next ∙ ap (λ n. with_open o.frame (suc o.index) n (reverse new)) f),
+    )
+
+no_checks : (next : ℕ) (is : List Instruction) → row_checks next [] is ≡ []
+no_checks next [] = refl
+no_checks next (i ∷ is) = refl
+
+no_paths : (next : ℕ) (is : List Instruction) → row_paths next [] is ≡ []
+no_paths next [] = refl
+no_paths next (i ∷ is) = refl
+
+-- no argument is left for an instruction
+pub links_none : (next : ℕ) (linked : Linked) (left rest : List Open) (i : Instruction) → left ≡ [] → rest ≡ [] → Links next next linked linked left rest i
+links_none next linked left rest i e f = record {
+  checks = λ is. ap (λ l. linked.checks.items ++ l) (ap (λ os. row_checks next os is) f ∙ (no_checks next is ∙ ap (λ os. row_checks next os (i ∷ is)) (sym e)));
+  paths = λ is. ap (λ l. linked.paths.items ++ l) (ap (λ os. row_paths next os is) f ∙ (no_paths next is ∙ ap (λ os. row_paths next os (i ∷ is)) (sym e)));
+}
+
+-- the instructions from a place on are left to link
+pub record AreLinked (count : ℕ) (row : List Instruction) (next : ℕ) (linked : Linked) (left : List Open) (at : ℕ) : Type 0 where
+  pub checks : linked.checks.items ++ row_checks next left (drop at row) ≡ row_checks 1 (with_open 0 0 count []) row
+  pub paths : linked.paths.items ++ row_paths next left (drop at row) ≡ row_paths 1 (with_open 0 0 count []) row
+
+pub links_next : (count : ℕ) (row : List Instruction) (next after : ℕ) (old new : Linked) (left rest : List Open) (at : ℕ) (i : Instruction) → at < length row → i ≡ get_or row at i → AreLinked count row next old left at → Links next after old new left rest i → AreLinked count row after new rest (at + 1)
+links_next count row next after old new left rest at i lt is a l =
+    let one : suc at ≡ at + 1 = omega arith in
+    let split : i ∷ drop (at + 1) row ≡ drop at row = sym (drop-cons row at i lt ∙ (ap (λ x. x ∷ drop (suc at) row) (sym is) ∙ ap (λ n. i ∷ drop n row) one)) in
+    record {
+      checks = l.checks (drop (at + 1) row) ∙ (ap (λ x. old.checks.items ++ row_checks next left x) split ∙ a.checks);
+      paths = l.paths (drop (at + 1) row) ∙ (ap (λ x. old.paths.items ++ row_paths next left x) split ∙ a.paths);
+    }
+
+pub links_first : (count : ℕ) (row : List Instruction) (linked : Linked) (left : List Open) → linked.checks.items ≡ [] → linked.paths.items ≡ [] → left ≡ with_open 0 0 count [] → AreLinked count row 1 linked left 0
+links_first count row linked left e f g = record {
+  checks = ap (λ l. l ++ row_checks 1 left row) e ∙ ap (λ os. row_checks 1 os row) g;
+  paths = ap (λ l. l ++ row_paths 1 left row) f ∙ ap (λ os. row_paths 1 os row) g;
+}
+
+pub links_done : (count : ℕ) (row : List Instruction) (next : ℕ) (linked : Linked) (left : List Open) (at : ℕ) → length row ≤ at → AreLinked count row next linked left at →
+    (linked.checks.items ≡ row_checks 1 (with_open 0 0 count []) row) × (linked.paths.items ≡ row_paths 1 (with_open 0 0 count []) row)
+links_done count row next linked left at le a =
+    let none : drop at row ≡ [] = drop_all at row (omega (arith, le)) in (
+      sym (append-nil linked.checks.items) ∙ (ap (λ l. linked.checks.items ++ row_checks next left l) (sym none) ∙ a.checks),
+      sym (append-nil linked.paths.items) ∙ (ap (λ l. linked.paths.items ++ row_paths next left l) (sym none) ∙ a.paths),
+    )

@@ -22,8 +22,6 @@ use crate::node_count::goals_nodes;
 use crate::path::Path;
 use crate::plain::is_plain;
 use crate::rows::row_of;
-use crate::source::{Build, Source};
-use crate::sourcing::sourced_of;
 use kl1_read::{ClauseParts, GoalParts};
 use kl1_term::highest_among;
 use std::alloc::{AllocError, Global};
@@ -44,9 +42,6 @@ pub struct CompiledClause {
     pub paths: Vec<Path>,
     pub tests: Vec<Instruction>,
     pub goals: Vec<Instruction>,
-    pub builds: Vec<Build>,
-    pub sources: Vec<Source>,
-    pub starts: Vec<Source>,
     pub modules: Vec<Option<Name>>,
     pub priorities: Vec<Option<u64>>,
     pub head_variables: u64,
@@ -76,12 +71,6 @@ pub(crate) fn compiled_of(
     let count = parts.patterns.len();
     let is_plain = is_plain(patterns.as_slice(), tests.as_slice());
     let linked = linked_of(alloc, patterns.as_slice(), count)?;
-    let sourced = sourced_of(
-        alloc,
-        body.goals.as_slice(),
-        linked.paths.as_slice(),
-        head_variables,
-    )?;
     Ok(CompiledClause {
         name,
         count,
@@ -91,9 +80,6 @@ pub(crate) fn compiled_of(
         paths: linked.paths,
         tests,
         goals: body.goals,
-        builds: sourced.builds,
-        sources: sourced.sources,
-        starts: sourced.starts,
         modules: body.modules,
         priorities,
         head_variables,

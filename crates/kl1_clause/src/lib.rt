@@ -16,8 +16,6 @@ mod path;
 mod plain;
 mod predicate;
 mod rows;
-mod source;
-mod sourcing;
 
 pub use code::Code;
 pub use code_fault::CodeFault;
@@ -29,4 +27,3 @@ pub use name::Name;
 pub use node_count::structures_of;
 pub use path::Path;
 pub use predicate::Predicate;
-pub use source::{Build, Source};

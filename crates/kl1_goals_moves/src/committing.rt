@@ -13,7 +13,7 @@ ghost use Rattle.kl1_goals_moves.specs.Bodies.{IsBody};
 use crate::needs::nth;
 use crate::trial::Trial;
 use kl1_clause::Predicate;
-use kl1_match::{put_framed_instance, put_instance};
+use kl1_match::{put_instance, put_kept_instance};
 use kl1_store::{Qualified, Store};
 use kl1_text::NameValue;
 use std::alloc::AllocError;
@@ -39,7 +39,7 @@ pub fn commit<N: NameValue>(
     ensures goals { OnOk result ((f : N → List ℕ) → Reads N.built f → (k : Candidate) → IsCandidate f store.old.held predicate.entry place (taken_places trial.old) k → IsBody f k store.old.held store.new.held goals.new.items) }
 {
     if trial.is_in_order {
-        return put_framed_instance(
+        return put_kept_instance(
             store,
             predicate.names,
             nth(predicate.clauses, place),

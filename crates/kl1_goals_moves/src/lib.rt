@@ -26,7 +26,7 @@ pub use call::Call;
 pub use committing::commit;
 pub use kind::{Kind, kind_of, kind_of_qualified};
 pub use look::Look;
-pub use moves::{Move, move_of, standing_move};
+pub use moves::{Move, move_of};
 pub use needs::{Needs, needs_of, priorities_of};
 pub use order::{ExecuteArguments, look_at_order, number_at, order_at};
 pub use predicates::or_none;

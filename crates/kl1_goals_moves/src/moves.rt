@@ -19,7 +19,6 @@ use crate::order::{look_at_order, order_at};
 use crate::spelling::spell;
 use crate::trial::Trial;
 use kl1_clause::Predicate;
-use kl1_match::locate;
 use kl1_match_guard::evaluate_cell;
 use kl1_match_verdict::{choose, is_candidate, takes_in_order};
 use kl1_model::{BuiltIn, Rules};
@@ -99,27 +98,6 @@ pub fn move_of<N: NameValue>(
         Kind::Waits(_) => Ok(None),
         Kind::Nothing => Ok(None),
     }
-}
-
-/// What a goal of a kind can do by the clause by which it is known to stand.
-pub fn standing_move<N: NameValue>(
-    store: &Store<N>,
-    rules: Rules,
-    kind: Kind<N>,
-    predicate: Predicate<'_, N>,
-    clause: u64,
-    trial: &mut Trial<N>,
-) -> Result<Option<Move<N>>, AllocError> {
-    if let Kind::Calls(call) = kind {
-        if clause > 0 && clause <= predicate.clauses.len() as u64 {
-            let place = (clause - 1) as usize;
-            if locate(store, &predicate.clauses[place], call.cell(), &mut trial.scratch)? {
-                trial.is_in_order = true;
-                return Ok(Some(Move::Commits(place)));
-            }
-        }
-    }
-    move_of(store, rules, kind, predicate, clause, trial)
 }
 
 /// The move of a call that fails, or nothing.

@@ -7,21 +7,8 @@ use Rattle.kl1_model.specs.Nodes.{structures_of, structures_in}
 use Rattle.kl1_model.specs.code.Outcome.{Outcome, agrees, clashes, waits, both, match_term, match_terms}
 use Rattle.kl1_clause.specs.declared.path.Path.{Path}
 use Rattle.kl1_clause.specs.Checks.{Wanted, an_integer, an_atom, a_structure, Check, checks_of, checks_in, paths_of, paths_in}
+use Rattle.kl1_match.proofs.Answered.{both-agrees, both-group}
 use Rattle.kl1_match.specs.HeadChecks.{nth, reached, top_outcome, opened_in, outcome_at, frames_at, outcome_from, frames_from, place_of, places_at, IsMatchOf}
-
-both_group : (a b c : Outcome) → both (both a b) c ≡ both a (both b c)
-both_group agrees b c = refl
-both_group clashes b c = refl
-both_group (waits us) agrees c = refl
-both_group (waits us) clashes c = refl
-both_group (waits us) (waits vs) agrees = refl
-both_group (waits us) (waits vs) clashes = refl
-both_group (waits us) (waits vs) (waits ws) = ap waits (append_assoc us vs ws)
-
-pub both_agrees : (a : Outcome) → both a agrees ≡ a
-both_agrees agrees = refl
-both_agrees clashes = refl
-both_agrees (waits us) = refl
 
 places_append : (fs : List Terms) (ps qs : List Path) → places_at fs (ps ++ qs) ≡ places_at fs ps ++ places_at fs qs
 places_append fs [] qs = refl
@@ -58,7 +45,7 @@ two_checked o p rs ss m n fs xs ys ws vs a b =
           ap (outcome_from fs) (append_assoc xs ys cs)
           ∙ (a.outcome (ys ++ cs)
           ∙ (ap (both o) (b.outcome cs)
-          ∙ (sym (both_group o p (outcome_from ((fs ++ a.opened) ++ b.opened) cs))
+          ∙ (sym (both-group o p (outcome_from ((fs ++ a.opened) ++ b.opened) cs))
           ∙ ap (λ l. both (both o p) (outcome_from l cs)) same)));
       frames = λ cs.
           ap (frames_from fs) (append_assoc xs ys cs)
@@ -83,7 +70,7 @@ opened_checked o p rs n fs c us xs ws e f a =
           ap (λ x. both x (outcome_from (fs ++ frames_at c.wanted (reached fs c.frame c.index)) (xs ++ cs))) e
           ∙ (ap (λ l. both o (outcome_from (fs ++ l) (xs ++ cs))) f
           ∙ (ap (both o) (a.outcome cs)
-          ∙ (sym (both_group o p (outcome_from ((fs ++ us ∷ []) ++ a.opened) cs))
+          ∙ (sym (both-group o p (outcome_from ((fs ++ us ∷ []) ++ a.opened) cs))
           ∙ ap (λ l. both (both o p) (outcome_from l cs)) same)));
       frames = λ cs. ap (λ l. frames_from (fs ++ l) (xs ++ cs)) f ∙ (a.frames cs ∙ ap (λ l. frames_from l cs) same);
       places = λ gs. subst (λ (l : List Terms). places_at (l ++ gs) ws ≡ rs) same (a.places gs);
@@ -183,7 +170,7 @@ not_found f ps t o fr ix fs w e top open =
         (ap (outcome_at (a_structure f (count_of ps))) e ∙ top) (ap (frames_at (a_structure f (count_of ps))) e ∙ ap (λ us. us ∷ []) open)
         (next_checked agrees [] (structures_in ps) (length (fs ++ none ∷ [])) (suc (length fs)) (length fs) 0 (fs ++ none ∷ []) ps long inner) in
     let P : Outcome → Type 0 = λ x. Checked x [] (suc (structures_in ps)) fs (checks_of fr ix (length fs) (structure f ps)) (paths_of fr ix (length fs) (structure f ps)) in
-    subst P (both_agrees o) all
+    subst P (both-agrees o) all
 
 counted : (f g : List ℕ) (m n : ℕ) → (bytes_eq f g && m == n) ≡ true → m ≡ n
 counted f g m n e = grind arith
@@ -239,6 +226,6 @@ is_match_of ps ts n =
     let xs = checks_in 0 0 1 ps in
     let ends : frames_from (ts ∷ []) xs ≡ ((ts ∷ []) ++ c.opened) ++ [] = ap (frames_from (ts ∷ [])) (sym (append-nil xs)) ∙ (c.frames [] ∙ sym (append-nil ((ts ∷ []) ++ c.opened))) in
     record {
-      outcome = ap (outcome_from (ts ∷ [])) (sym (append-nil xs)) ∙ (c.outcome [] ∙ both_agrees (match_terms ps ts).outcome);
+      outcome = ap (outcome_from (ts ∷ [])) (sym (append-nil xs)) ∙ (c.outcome [] ∙ both-agrees (match_terms ps ts).outcome);
       places = ap (λ l. places_at l (paths_in 0 0 1 ps)) ends ∙ c.places [];
     }

@@ -6,7 +6,6 @@ pub mod Places
 pub mod Kept
 pub mod Bodies
 pub mod Cells
-pub mod Skipping
 pub mod Reading
 pub mod TestForms
 pub mod Answered
@@ -24,3 +23,5 @@ pub mod TestSteps
 pub mod AtOnce
 pub mod Stays
 pub mod GoalCells
+pub mod HeadChecks
+pub mod Frames

@@ -18,3 +18,5 @@ pub mod Testing
 pub mod AtOnce
 pub mod Qualifying
 pub mod Bodies
+pub mod HeadChecks
+pub mod Frames

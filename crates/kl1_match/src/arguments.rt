@@ -1,10 +1,10 @@
-// The cells that are still to be matched, in order: what is left of the arguments of structures within one another.
+// The arguments of structures and of goals, as rows.
 
-ghost use Rattle.std.specs.Prelude.{◌≡◌, ◌<◌, ℕ, List, [], ◌∷◌, ◌≤◌, IsTrue, false, length, vec_len, vec_capacity};
+ghost use Rattle.std.specs.Prelude.{◌≡◌, ◌<◌, ℕ, List, length};
 ghost use Rattle.kl1_store.specs.Held.{IsIn, arguments_of};
 ghost use Rattle.kl1_store.specs.Meaning.{term_of, terms_of};
 ghost use Rattle.kl1_match.specs.Verdicts.{arguments_of_goal};
-ghost use Rattle.kl1_match.specs.Spans.{span_cells, cells_left, IsSpan, AreSpans};
+ghost use Rattle.kl1_match.specs.Spans.{span_cells, IsSpan};
 
 use crate::span::Span;
 use kl1_store::{Cell, Store};
@@ -39,44 +39,4 @@ pub(crate) fn span_of<N: NameValue>(store: &Store<N>, goal: Cell<N>) -> Span
         Cell::Atom(_) => Span { next: 0, end: 0 },
         Cell::Structure(structure) => span_in(store, structure),
     }
-}
-
-/// Whether a cell is left; if one is, it is the next of `span` then.
-#[inline]
-pub(crate) fn is_left<N: NameValue>(
-    store: &Store<N>,
-    span: &mut Span,
-    behind: &mut Vec<Span>,
-) -> bool
-    requires span { IsSpan store.now.held span.old }
-    requires behind { AreSpans store.now.held behind.old.items }
-    ensures span { IsSpan store.now.held span.new }
-    ensures behind { AreSpans store.now.held behind.new.items }
-    ensures same { cells_left store.now.held span.new behind.new.items ≡ cells_left store.now.held span.old behind.old.items }
-    ensures some { IsTrue result → span.new.next < span.new.end }
-    ensures capacity { vec_capacity behind.new ≡ vec_capacity behind.old }
-    ensures len { vec_len behind.new ≤ vec_len behind.old }
-    ensures none { result ≡ false → cells_left store.now.held span.new behind.new.items ≡ [] }
-{
-    while span.next >= span.end {
-        let Some(outer) = behind.pop() else {
-            return false;
-        };
-        *span = outer;
-    }
-    true
-}
-
-/// Takes the next cell of a span.
-#[inline]
-pub(crate) fn take_cell<N: NameValue>(store: &Store<N>, span: &mut Span) -> Cell<N>
-    requires span { IsSpan store.now.held span.old }
-    requires some { span.old.next < span.old.end }
-    ensures span { IsSpan store.now.held span.new }
-    ensures cells { span_cells store.now.held span.old ≡ result ∷ span_cells store.now.held span.new }
-    ensures inside { IsIn store.now.held result }
-{
-    let place = span.next;
-    span.next = place + 1;
-    store.argument_at(place)
 }

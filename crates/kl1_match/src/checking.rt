@@ -1,206 +1,171 @@
-// The checks of a head beside the arguments of a goal and of structures in them.
+// The checks of a head, one after another.
 
-use crate::arguments::{span_in, span_of};
+ghost use Rattle.std.specs.Prelude.{◌≡◌, ◌<◌, ◌≤◌, ◌+◌, ℕ, List, Some, None, ◌++◌, length, map, IfOk, vec_len, vec_capacity};
+ghost use Rattle.kl1_text.specs.Reading.{Reads};
+ghost use Rattle.kl1_store.specs.Held.{IsIn, IsWalked};
+ghost use Rattle.kl1_store.specs.Meaning.{term_of};
+ghost use Rattle.kl1_clause.specs.Checks.{wanted_in, IsNamedIn, AreNamedIn};
+ghost use Rattle.kl1_match.specs.Spans.{IsSpan, AreSpans};
+ghost use Rattle.kl1_match.specs.Matching.{outcome_of, WaitsAt, MetUnbound};
+ghost use Rattle.kl1_match.specs.HeadChecks.{outcome_at, frames_at};
+ghost use Rattle.kl1_match.specs.Frames.{cell_reached, places_found, frames_by, GoesOn, HasMet, HasRun};
+
+use crate::meets::{meet_atom, meet_integer, meet_structure};
 use crate::met::Met;
 use crate::name_in::name_at;
 use crate::place::Place;
-use crate::scratch::Scratch;
-use crate::span::Span;
-use kl1_clause::{Asks, CompiledClause, HeadCheck, Path};
+use crate::span::{Span, UNREACHED};
+use kl1_clause::{Asks, HeadCheck, Path};
 use kl1_store::{Cell, Store};
 use kl1_text::NameValue;
 use std::alloc::AllocError;
 
-/// A frame that has no arguments.
-const UNREACHED: Span = Span { next: 0, end: 0 };
-
-/// The place of an argument of a frame among those of all structures, if there is one.
+/// The cell at a place of a frame, if it is reached.
 #[inline(always)]
-pub(crate) fn place_in(frames: &[Span], frame: u32, index: u32) -> Option<u32> {
-    let frame = frame as usize;
-    if frame >= frames.len() {
-        return None;
-    }
-    let span = frames[frame];
-    if index >= span.end - span.next {
-        return None;
-    }
-    Some(span.next + index)
-}
-
-#[inline(always)]
-fn check_integer<N: NameValue>(integer: i64, cell: Cell<N>) -> Met {
-    match cell {
-        Cell::Integer(other) => {
-            if integer == other {
-                return Met::Agrees;
-            }
-            Met::Clashes
-        }
-        Cell::Variable(variable) => Met::Waits(variable),
-        Cell::Atom(_) => Met::Clashes,
-        Cell::Structure(_) => Met::Clashes,
-    }
-}
-
-#[inline(always)]
-fn check_atom<N: NameValue>(name: N, cell: Cell<N>) -> Met {
-    match cell {
-        Cell::Atom(other) => {
-            if name.same(&other) {
-                return Met::Agrees;
-            }
-            Met::Clashes
-        }
-        Cell::Variable(variable) => Met::Waits(variable),
-        Cell::Integer(_) => Met::Clashes,
-        Cell::Structure(_) => Met::Clashes,
-    }
-}
-
-#[inline(always)]
-fn check_structure<N: NameValue>(
+pub(crate) fn cell_at<N: NameValue>(
     store: &Store<N>,
-    name: N,
-    count: u32,
-    cell: Cell<N>,
-    frames: &mut Vec<Span>,
-) -> Met {
-    match cell {
-        Cell::Structure(structure) => {
-            let head = store.look(structure);
-            if head.count != count {
-                return Met::Clashes;
-            }
-            if !name.same(&head.name) {
-                return Met::Clashes;
-            }
-            frames.push_reserved(span_in(store, structure));
-            Met::Agrees
-        }
-        Cell::Variable(variable) => {
-            frames.push_reserved(UNREACHED);
-            Met::Waits(variable)
-        }
-        Cell::Integer(_) => Met::Clashes,
-        Cell::Atom(_) => Met::Clashes,
+    frames: &[Span],
+    frame: u32,
+    index: u32,
+) -> Option<Cell<N>>
+    requires { AreSpans store.now.held frames.now }
+    ensures { result ≡ cell_reached store.now.held frames.now frame index }
+{
+    let place = frame as usize;
+    if place >= frames.len() {
+        return None;
     }
+    let span = frames[place];
+    if index >= span.end.saturating_sub(span.next) {
+        return None;
+    }
+    Some(store.argument_at(span.next + index))
 }
 
-/// Passes over a check of what isn't reached.
+/// Passes over a check of what isn't reached: a structure that isn't there has no arguments.
 #[inline(always)]
-fn pass(asks: Asks, frames: &mut Vec<Span>) -> Met {
+fn pass<N: NameValue>(store: &Store<N>, asks: Asks, frames: &mut Vec<Span>)
+    requires frames { AreSpans store.now.held frames.old.items }
+    requires room { vec_len frames.old < vec_capacity frames.old }
+    ensures passes { (f : N → List ℕ) (texts : List (List ℕ)) → frames_by f store.now.held frames.new.items ≡ frames_by f store.now.held frames.old.items ++ frames_at (wanted_in texts asks) None }
+    ensures frames { AreSpans store.now.held frames.new.items }
+    ensures capacity { vec_capacity frames.new ≡ vec_capacity frames.old }
+    ensures len { vec_len frames.new ≤ vec_len frames.old + 1 }
+{
     if let Asks::Structure(_, _) = asks {
         frames.push_reserved(UNREACHED);
     }
-    Met::Agrees
 }
 
-/// What comes of a check.
+/// What is asked for beside a cell.
+#[inline(always)]
+fn meet<N: NameValue>(
+    store: &Store<N>,
+    names: &[N],
+    asks: Asks,
+    cell: Cell<N>,
+    frames: &mut Vec<Span>,
+) -> Met
+    requires named { IsNamedIn (length names.now) asks }
+    requires cell { IsIn store.now.held cell }
+    requires walked { IsWalked store.now.held cell }
+    requires frames { AreSpans store.now.held frames.old.items }
+    requires room { vec_len frames.old < vec_capacity frames.old }
+    ensures outcome { (f : N → List ℕ) → Reads N.built f → outcome_at (wanted_in (map f names.now) asks) (Some (term_of f store.now.held cell)) ≡ outcome_of result }
+    ensures opens { GoesOn result → (f : N → List ℕ) → Reads N.built f → frames_by f store.now.held frames.new.items ≡ frames_by f store.now.held frames.old.items ++ frames_at (wanted_in (map f names.now) asks) (Some (term_of f store.now.held cell)) }
+    ensures waits { WaitsAt cell result }
+    ensures frames { AreSpans store.now.held frames.new.items }
+    ensures capacity { vec_capacity frames.new ≡ vec_capacity frames.old }
+    ensures len { vec_len frames.new ≤ vec_len frames.old + 1 }
+{
+    match asks {
+        Asks::Integer(integer) => meet_integer(store, integer, cell),
+        Asks::Atom(name) => meet_atom(store, name_at(names, name), cell),
+        Asks::Structure(name, count) => {
+            meet_structure(store, name_at(names, name), count, cell, frames)
+        }
+    }
+}
+
+/// Does one check: what it comes to. A check of a structure adds a frame.
 #[inline(always)]
 fn check<N: NameValue>(
     store: &Store<N>,
     names: &[N],
-    check: &HeadCheck,
+    check: HeadCheck,
     frames: &mut Vec<Span>,
-) -> Met {
-    let Some(place) = place_in(frames.as_slice(), check.frame, check.index) else {
-        return pass(check.asks, frames);
-    };
-    let cell = store.walk(store.argument_at(place));
-    match check.asks {
-        Asks::Structure(name, count) => {
-            check_structure(store, name_at(names, name), count, cell, frames)
+) -> Met
+    requires named { IsNamedIn (length names.now) check.asks }
+    requires frames { AreSpans store.now.held frames.old.items }
+    requires room { vec_len frames.old < vec_capacity frames.old }
+    ensures met { HasMet N.built store.now.held names.now check frames.old.items frames.new.items result }
+    ensures unbound { MetUnbound store.now.held result }
+    ensures frames { AreSpans store.now.held frames.new.items }
+    ensures capacity { vec_capacity frames.new ≡ vec_capacity frames.old }
+    ensures len { vec_len frames.new ≤ vec_len frames.old + 1 }
+{
+    // Only for the proof: what the store holds is formed.
+    let _ = store.mark();
+    match cell_at(store, frames.as_slice(), check.frame, check.index) {
+        None => {
+            pass(store, check.asks, frames);
+            Met::Agrees
         }
-        Asks::Atom(name) => check_atom(name_at(names, name), cell),
-        Asks::Integer(integer) => check_integer(integer, cell),
+        Some(cell) => meet(store, names, check.asks, store.walk(cell), frames),
     }
 }
 
-/// Does the checks of a head beside the arguments of a goal: false if one clashes.
+/// Does the checks of a head beside a row of arguments, which is the first of the frames that are left: false if one clashes. `awaited`
+/// gets the variables for which they wait, after those in it.
 pub(crate) fn run_checks<N: NameValue>(
     store: &Store<N>,
     names: &[N],
     checks: &[HeadCheck],
-    goal: Cell<N>,
-    count: usize,
+    span: Span,
     frames: &mut Vec<Span>,
     awaited: &mut Vec<u32>,
-) -> Result<bool, AllocError> {
-    let span = span_of(store, goal);
-    if (span.end - span.next) as usize != count {
-        return Ok(false);
-    }
+) -> Result<bool, AllocError>
+    requires named { AreNamedIn (length names.now) checks.now }
+    requires span { IsSpan store.now.held span }
+    ensures { IfOk result (HasRun N.built store.now.held names.now checks.now span frames.new.items awaited.old.items awaited.new.items) }
+{
     let most = checks.len().checked_add(1).ok_or(AllocError)?;
     frames.clear();
     frames.reserve(most)?;
     frames.push_reserved(span);
-    let mut rest = checks;
-    while let [first, more @ ..] = rest {
-        match check(store, names, first, frames) {
+    let mut at: usize = 0;
+    while at < checks.len() {
+        match check(store, names, checks[at], frames) {
             Met::Agrees => {}
             Met::Waits(variable) => awaited.push(variable)?,
             Met::Clashes => return Ok(false),
         }
-        rest = more;
+        at += 1;
     }
     Ok(true)
 }
 
-/// Finds the frames of a head whose checks agree with a goal, or says that they don't.
-fn find_frames<N: NameValue>(
-    store: &Store<N>,
-    checks: &[HeadCheck],
-    goal: Cell<N>,
-    frames: &mut Vec<Span>,
-) -> Result<bool, AllocError> {
-    let most = checks.len().checked_add(1).ok_or(AllocError)?;
-    frames.clear();
-    frames.reserve(most)?;
-    frames.push_reserved(span_of(store, goal));
-    let mut rest = checks;
-    while let [first, more @ ..] = rest {
-        if let Asks::Structure(_, _) = first.asks {
-            let Some(place) = place_in(frames.as_slice(), first.frame, first.index) else {
-                return Ok(false);
-            };
-            let Cell::Structure(structure) = store.walk(store.argument_at(place)) else {
-                return Ok(false);
-            };
-            frames.push_reserved(span_in(store, structure));
-        }
-        rest = more;
-    }
-    Ok(true)
-}
-
-/// The places of a head that agrees.
-pub fn locate<N: NameValue>(
-    store: &Store<N>,
-    clause: &CompiledClause,
-    goal: Cell<N>,
-    scratch: &mut Scratch<N>,
-) -> Result<bool, AllocError> {
-    find_frames(store, clause.checks.as_slice(), goal, &mut scratch.spans)
-}
-
-/// Puts the cells at the paths that lead to some.
+/// Puts the places to which paths lead after others; there is room for them.
 #[inline(always)]
-pub(crate) fn put_reached<N: NameValue>(
+pub(crate) fn put_found<N: NameValue>(
     store: &Store<N>,
     paths: &[Path],
     frames: &[Span],
     places: &mut Vec<Place<N>>,
-) {
-    let mut rest = paths;
-    while let [path, more @ ..] = rest {
-        let path = *path;
-        if let Some(place) = place_in(frames, path.frame, path.index) {
+)
+    requires frames { AreSpans store.now.held frames.now }
+    requires room { vec_len places.old + length paths.now ≤ vec_capacity places.old }
+    ensures { places.new.items ≡ places.old.items ++ places_found store.now.held frames.now paths.now }
+{
+    let mut at: usize = 0;
+    while at < paths.len() {
+        let path = paths[at];
+        if let Some(cell) = cell_at(store, frames, path.frame, path.index) {
             places.push_reserved(Place {
                 variable: path.variable,
-                cell: store.argument_at(place),
+                cell,
             });
         }
-        rest = more;
+        at += 1;
     }
 }

@@ -7,7 +7,8 @@ ghost use Rattle.kl1_match.specs.Instances.{IsClause};
 ghost use Rattle.kl1_match.specs.Matching.{Keeps};
 ghost use Rattle.kl1_match.specs.Verdicts.{IsVerdict, IsTried};
 
-use crate::checking::{put_reached, run_checks};
+use crate::arguments::span_of;
+use crate::checking::{put_found, run_checks};
 use crate::place::Place;
 use crate::span::Span;
 use crate::verdict::Verdict;
@@ -80,20 +81,19 @@ pub fn find_match<N: NameValue, const KEEP: bool>(
     ensures { IfOk result (λ v. Keeps KEEP places.new.items (λ ps. IsTried N.built names.now clause.now store.now.held goal ps awaited.old.items awaited.new.items v)) }
 {
     let before = awaited.len();
+    // Only for the proof: what the store holds is formed.
+    let _ = store.mark();
     clear_places::<_, KEEP>(places, clause.paths.len())?;
-    if !run_checks(
-        store,
-        names,
-        clause.checks.as_slice(),
-        goal,
-        clause.count,
-        frames,
-        awaited,
-    )? {
+    let span = span_of(store, goal);
+    if span.end.saturating_sub(span.next) as usize != clause.count {
+        return Ok(Verdict::Rejects);
+    }
+    let checks = clause.checks.as_slice();
+    if !run_checks(store, names, checks, span, frames, awaited)? {
         return Ok(Verdict::Rejects);
     }
     if KEEP {
-        put_reached(store, clause.paths.as_slice(), frames.as_slice(), places);
+        put_found(store, clause.paths.as_slice(), frames.as_slice(), places);
     }
     if awaited.len() == before {
         return Ok(Verdict::Accepts);

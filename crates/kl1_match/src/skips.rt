@@ -1,11 +1,9 @@
 // Places in rows after terms.
 
-ghost use Rattle.std.specs.Prelude.{◌≡◌, ℕ, ◌<◌, ◌≤◌, List, length, map, drop};
-ghost use Rattle.kl1_model.specs.Term.{Term, Terms, more, count_of};
-ghost use Rattle.kl1_model.specs.code.TermCode.{nodes_of_all, behind, behind_first};
+ghost use Rattle.std.specs.Prelude.{◌≡◌, ℕ, ◌<◌, ◌≤◌, List, length, drop};
+ghost use Rattle.kl1_model.specs.code.TermCode.{behind, behind_first};
 ghost use Rattle.kl1_clause.specs.declared.name.Name.{Name};
-ghost use Rattle.kl1_clause.specs.Instructions.{code_in};
-ghost use Rattle.kl1_match.specs.Matching.{arguments_after, joined};
+ghost use Rattle.kl1_match.specs.Matching.{arguments_after};
 ghost use Rattle.kl1_match.specs.TestTerms.{terms_from};
 
 use kl1_clause::Instruction;
@@ -28,7 +26,6 @@ pub(crate) fn behind_terms(row: &[Instruction], from: usize, terms: usize) -> us
     requires { from ≤ length row.now }
     ensures above { from ≤ result }
     ensures below { result ≤ length row.now }
-    ensures behind { (names : List (List ℕ)) (qs ps : Terms) → count_of qs ≡ terms → map (code_in names) (drop from row.now) ≡ nodes_of_all (joined qs ps) → map (code_in names) (drop result row.now) ≡ nodes_of_all ps }
     ensures read { (named : Name → List ℕ) → terms_from named (drop result row.now) ≡ behind terms (terms_from named (drop from row.now)) }
 {
     let end = row.len();
@@ -50,7 +47,6 @@ pub(crate) fn behind_term(row: &[Instruction], from: usize) -> usize
     requires { from < length row.now }
     ensures above { from < result }
     ensures below { result ≤ length row.now }
-    ensures behind { (names : List (List ℕ)) (p : Term) (ps : Terms) → map (code_in names) (drop from row.now) ≡ nodes_of_all (more p ps) → map (code_in names) (drop result row.now) ≡ nodes_of_all ps }
     ensures read { (named : Name → List ℕ) → terms_from named (drop result row.now) ≡ behind_first (terms_from named (drop from row.now)) }
 {
     behind_terms(row, from + 1, arguments_of(row[from]))

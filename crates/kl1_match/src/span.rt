@@ -6,3 +6,6 @@ pub struct Span {
     pub next: u32,
     pub end: u32,
 }
+
+/// No arguments: what a check finds where it doesn't reach.
+pub(crate) const UNREACHED: Span = Span { next: 0, end: 0 };

@@ -29,7 +29,7 @@ use crate::looking::predicate_of;
 use kl1_clause::Predicate;
 use kl1_codes::{CodeSource, CodedModules};
 use kl1_goals::{Goal, GoalTable, Task};
-use kl1_goals_moves::{Kind, Move, Trial, kind_of_qualified, standing_move, substitute_move};
+use kl1_goals_moves::{Kind, Move, Trial, kind_of_qualified, move_of, substitute_move};
 use kl1_shoen::ShoenTree;
 use kl1_store::{Cell, Qualified, Store};
 use kl1_stream::{Control, read_control};
@@ -126,7 +126,7 @@ fn move_to_make<C: CodeSource>(
     ensures makes { IfOk result (λ o. IfOk o (IsMade store.now.held modules.now is_full cell clause predicate.entry (taken_places trial.new) trial.new.text)) }
     ensures inside { IfOk result (λ o. IfOk o (λ made. MoveIn store.now.held predicate.entry (taken_places trial.new) trial.new.text (Some made))) }
 {
-    let Some(made) = standing_move(store, modules.rules(), kind, predicate, clause, trial)? else {
+    let Some(made) = move_of(store, modules.rules(), kind, predicate, clause, trial)? else {
         return Ok(Err(Refusal::Step));
     };
     if is_full {

@@ -1,16 +1,12 @@
 use Rattle.std.proofs.Common.{◌<◌, length, drop, refl, arith, rules, ap, ◌∙◌}
 use Rattle.std.specs.Prelude.{◌^◌, ◌-◌, ◌+◌, min}
 use Rattle.kl1_clause.specs.declared.instruction.Instruction.TheVariants.{Variable}
-use Rattle.kl1_match.proofs.Skipping.{goes_ahead_at, none_ahead_at, all_skipped}
 use Rattle.kl1_match.proofs.Reading.{step_read, none_read, none_left}
 use Rattle.kl1_match.specs.TestTerms.{terms_from}
 use Rattle.kl1_match.proofs.skips.behind_terms.Goals as goal
 
 pub loop-left-init : goal.loop-left-init
-loop-left-init c = record { end_is = refl; above = omega arith; below = c.requires; behind = λ names qs ps e is. record { terms = qs; counted = e; row_is = is }; read = λ named. refl }
-
-pub returns-then-at-end-clause-behind : goal.returns-then-at-end-clause-behind
-returns-then-at-end-clause-behind c = λ names qs ps e is. absurd (none_ahead_at names c.args.row.now c.loop-left.at c.loop-left.left ps (omega (arith, c.loop-left.invariant.end_is)) c.loop-left-test.true (c.loop-left.invariant.behind names qs ps e is))
+loop-left-init c = record { end_is = refl; above = omega arith; below = c.requires; read = λ named. refl }
 
 pub loop-left-preserved : goal.loop-left-preserved
 loop-left-preserved c =
@@ -20,12 +16,8 @@ loop-left-preserved c =
       end_is = i.end_is;
       above = omega arith;
       below = omega (arith, i.end_is);
-      behind = λ names qs ps e is. goes_ahead_at names c.args.row.now c.loop-left.at c.loop-left.left c.saturating_add-left.result (Variable 0) ps short (omega (arith, i.end_is)) c.loop-left-test.true (c.saturating_add-left.ensures ∙ ap (λ n. min (c.loop-left.left - 1 + n) (2 ^ 64 - 1)) c.arguments_of.ensures) (i.behind names qs ps e is);
       read = λ named. step_read named c.args.row.now c.loop-left.at c.loop-left.left c.saturating_add-left.result (Variable 0) short (omega (arith, i.end_is)) c.loop-left-test.true (c.saturating_add-left.ensures ∙ ap (λ n. min (c.loop-left.left - 1 + n) (2 ^ 64 - 1)) c.arguments_of.ensures) ∙ i.read named;
     }
-
-pub returns-clause-behind : goal.returns-clause-behind
-returns-clause-behind c = λ names qs ps e is. all_skipped names (drop c.loop-left.at c.args.row.now) c.loop-left.left ps (omega arith) (c.loop-left.invariant.behind names qs ps e is)
 
 pub returns-then-at-end-clause-read : goal.returns-then-at-end-clause-read
 returns-then-at-end-clause-read c = λ named. none_read named c.args.row.now c.loop-left.at c.loop-left.left (omega (arith, c.if-at-end.true, c.loop-left.invariant.end_is)) ∙ c.loop-left.invariant.read named
