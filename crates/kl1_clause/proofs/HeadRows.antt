@@ -6,45 +6,46 @@ use Rattle.kl1_model.specs.Nodes.{structures_of, structures_in}
 use Rattle.kl1_model.specs.code.TermCode.{NodeCode, nodes_of, nodes_of_all}
 use Rattle.kl1_clause.specs.declared.instruction.Instruction.{Instruction}
 use Rattle.kl1_clause.specs.declared.instruction.Instruction.TheVariants.{Variable, Integer, Atom, Structure}
+use Rattle.kl1_clause.specs.declared.head_check.Asks.{Asks}
 use Rattle.kl1_clause.specs.declared.head_check.Asks.TheVariants as asks
 use Rattle.kl1_clause.specs.declared.head_check.HeadCheck.{HeadCheck}
 use Rattle.kl1_clause.specs.declared.path.Path.{Path}
 use Rattle.kl1_clause.specs.declared.linking.Open.{Open}
 use Rattle.kl1_clause.specs.declared.linking.Linked.{Linked}
-use Rattle.kl1_clause.specs.Instructions.{code_in, AreNamed, IsRowOf}
+use Rattle.kl1_clause.specs.Instructions.{text_in, code_in, AreNamed, IsRowOf}
 use Rattle.kl1_clause.specs.Checks.{Check, an_integer, an_atom, a_structure, checks_of, checks_in, paths_of, paths_in, check_in, IsNamedIn, AreNamedIn, AreChecksOf}
 use Rattle.kl1_clause.specs.Linking.{with_open, behind_first, row_checks, row_paths, Links}
 use Rattle.kl1_clause.proofs.Growth.{Grows, name_stays}
 
 -- what is left behind a node
-node_behind : ℕ → Open → List Open → NodeCode → List Open
+abbrev node_behind : ℕ → Open → List Open → NodeCode → List Open
 node_behind next o os (inl x) = behind_first o os
 node_behind next o os (inr (inl a)) = behind_first o os
 node_behind next o os (inr (inr p)) = with_open next 0 p.1 (behind_first o os)
 
-node_frame : ℕ → NodeCode → ℕ
+abbrev node_frame : ℕ → NodeCode → ℕ
 node_frame next (inl x) = next
 node_frame next (inr (inl a)) = next
 node_frame next (inr (inr p)) = suc next
 
-node_check : Open → NodeCode → List Check
+abbrev node_check : Open → NodeCode → List Check
 node_check o (inl (inl v)) = []
 node_check o (inl (inr i)) = record { frame = o.frame; index = o.index; wanted = an_integer i } ∷ []
 node_check o (inr (inl a)) = record { frame = o.frame; index = o.index; wanted = an_atom a } ∷ []
 node_check o (inr (inr p)) = record { frame = o.frame; index = o.index; wanted = a_structure p.0 p.1 } ∷ []
 
-node_path : Open → NodeCode → List Path
+abbrev node_path : Open → NodeCode → List Path
 node_path o (inl (inl v)) = record { variable = v; frame = o.frame; index = o.index } ∷ []
 node_path o (inl (inr i)) = []
 node_path o (inr x) = []
 
 -- the checks of nodes that stand at the arguments that are left
-node_checks : ℕ → List Open → List NodeCode → List Check
+abbrev node_checks : ℕ → List Open → List NodeCode → List Check
 node_checks next os [] = []
 node_checks next [] (c ∷ cs) = []
 node_checks next (o ∷ os) (c ∷ cs) = node_check o c ++ node_checks (node_frame next c) (node_behind next o os c) cs
 
-node_paths : ℕ → List Open → List NodeCode → List Path
+abbrev node_paths : ℕ → List Open → List NodeCode → List Path
 node_paths next os [] = []
 node_paths next [] (c ∷ cs) = []
 node_paths next (o ∷ os) (c ∷ cs) = node_path o c ++ node_paths (node_frame next c) (node_behind next o os c) cs
@@ -55,8 +56,8 @@ row_as_nodes names next os [] = refl
 row_as_nodes names next [] (i ∷ is) = refl
 row_as_nodes names next (o ∷ os) (Variable v ∷ is) = row_as_nodes names next (behind_first o os) is
 row_as_nodes names next (o ∷ os) (Integer n ∷ is) = ap (λ (l : List Check). record { frame = o.frame; index = o.index; wanted = an_integer n } ∷ l) (row_as_nodes names next (behind_first o os) is)
-row_as_nodes names next (o ∷ os) (Atom a ∷ is) = ap (λ (l : List Check). check_in names (record { frame = o.frame; index = o.index; asks = _ }) ∷ l) (row_as_nodes names next (behind_first o os) is)
-row_as_nodes names next (o ∷ os) (Structure a n ∷ is) = ap (λ (l : List Check). check_in names (record { frame = o.frame; index = o.index; asks = _ }) ∷ l) (row_as_nodes names (suc next) (with_open next 0 n (behind_first o os)) is)
+row_as_nodes names next (o ∷ os) (Atom a ∷ is) = ap (λ (l : List Check). record { frame = o.frame; index = o.index; wanted = an_atom (text_in names a) } ∷ l) (row_as_nodes names next (behind_first o os) is)
+row_as_nodes names next (o ∷ os) (Structure a n ∷ is) = ap (λ (l : List Check). record { frame = o.frame; index = o.index; wanted = a_structure (text_in names a) n } ∷ l) (row_as_nodes names (suc next) (with_open next 0 n (behind_first o os)) is)
 
 paths_as_nodes : (names : List (List ℕ)) (next : ℕ) (os : List Open) (is : List Instruction) → row_paths next os is ≡ node_paths next os (map (code_in names) is)
 paths_as_nodes names next os [] = refl
@@ -141,7 +142,7 @@ row_is_paths names row ps r =
 asks_stay : (names added : List (List ℕ)) (c : HeadCheck) → IsNamedIn (length names) c.asks → IsNamedIn (length (names ++ added)) c.asks × (check_in (names ++ added) c ≡ check_in names c)
 asks_stay names added c p = by c.frame c.index c.asks p
   where
-    by : (fr ix : ℕ) (a : _) → IsNamedIn (length names) a → IsNamedIn (length (names ++ added)) a × (check_in (names ++ added) (record { frame = fr; index = ix; asks = a }) ≡ check_in names (record { frame = fr; index = ix; asks = a }))
+    by : (fr ix : ℕ) (a : Asks) → IsNamedIn (length names) a → IsNamedIn (length (names ++ added)) a × (check_in (names ++ added) (record { frame = fr; index = ix; asks = a }) ≡ check_in names (record { frame = fr; index = ix; asks = a }))
     by fr ix (asks.Integer i) p = (tt, refl)
     by fr ix (asks.Atom a) p = let s = name_stays names added a p in (s.0, ap (λ x. record { frame = fr; index = ix; wanted = an_atom x }) s.1)
     by fr ix (asks.Structure a n) p = let s = name_stays names added a p in (s.0, ap (λ x. record { frame = fr; index = ix; wanted = a_structure x n }) s.1)
@@ -168,8 +169,7 @@ pub taken : (o : Open) (old new pushed : List Open) (index left : ℕ) → old �
 taken o old new pushed index left popped e f is =
     let next : index ≡ suc o.index = omega (arith, e) in (
       reverse new,
-      ap reverse popped ∙ reverse-append new (o ∷ []),
-      is ∙ (ap (λ n. with_open o.frame n left (reverse new)) next ∙ ap (λ n. with_open o.frame (suc o.index) n (reverse new)) f),
+      (ap reverse popped ∙ reverse-append new (o ∷ []), is ∙ (ap (λ n. with_open o.frame n left (reverse new)) next ∙ ap (λ n. with_open o.frame (suc o.index) n (reverse new)) f)),
     )
 
 no_checks : (next : ℕ) (is : List Instruction) → row_checks next [] is ≡ []
@@ -192,10 +192,10 @@ pub record AreLinked (count : ℕ) (row : List Instruction) (next : ℕ) (linked
   pub checks : linked.checks.items ++ row_checks next left (drop at row) ≡ row_checks 1 (with_open 0 0 count []) row
   pub paths : linked.paths.items ++ row_paths next left (drop at row) ≡ row_paths 1 (with_open 0 0 count []) row
 
-pub links_next : (count : ℕ) (row : List Instruction) (next after : ℕ) (old new : Linked) (left rest : List Open) (at : ℕ) (i : Instruction) → at < length row → i ≡ get_or row at i → AreLinked count row next old left at → Links next after old new left rest i → AreLinked count row after new rest (at + 1)
-links_next count row next after old new left rest at i lt is a l =
+pub links_next : (count : ℕ) (row : List Instruction) (next after : ℕ) (old new : Linked) (left rest : List Open) (at : ℕ) (d : Instruction) → at < length row → AreLinked count row next old left at → Links next after old new left rest (get_or row at d) → AreLinked count row after new rest (at + 1)
+links_next count row next after old new left rest at d lt a l =
     let one : suc at ≡ at + 1 = omega arith in
-    let split : i ∷ drop (at + 1) row ≡ drop at row = sym (drop-cons row at i lt ∙ (ap (λ x. x ∷ drop (suc at) row) (sym is) ∙ ap (λ n. i ∷ drop n row) one)) in
+    let split : get_or row at d ∷ drop (at + 1) row ≡ drop at row = sym (drop-cons row at d lt ∙ ap (λ n. get_or row at d ∷ drop n row) one) in
     record {
       checks = l.checks (drop (at + 1) row) ∙ (ap (λ x. old.checks.items ++ row_checks next left x) split ∙ a.checks);
       paths = l.paths (drop (at + 1) row) ∙ (ap (λ x. old.paths.items ++ row_paths next left x) split ∙ a.paths);

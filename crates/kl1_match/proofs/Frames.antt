@@ -1,18 +1,21 @@
 -- Checks and paths over the frames of a store.
-use Rattle.std.proofs.Common.{◌≡◌, ℕ, zero, suc, ◌+◌, ◌-◌, ◌<◌, ◌≤◌, Bool, true, false, List, [], ◌∷◌, ◌++◌, length, get_or, map, take, drop, Option, Some, None, refl, sym, ap, ◌∙◌, subst, arith, append_assoc, append-nil, length-append, length-drop}
+use Rattle.std.proofs.Common.{◌≡◌, ℕ, zero, suc, ◌+◌, ◌-◌, ◌<◌, ◌≤◌, ◌==◌, ◌&&◌, Bool, true, false, List, [], ◌∷◌, ◌++◌, length, get_or, map, take, drop, bytes_eq, Option, Some, None, refl, sym, ap, ◌∙◌, subst, arith, append_assoc, append-nil, length-append, length-drop}
 use Rattle.std.specs.Prelude.{slice_get, option_map}
-use Rattle.std.proofs.lemmas.List.{map-append, drop_all, length-map, length-take-le}
+use Rattle.std.proofs.lemmas.List.{map-append, drop_all, take_all, length-take-le}
+use Rattle.std.proofs.lemmas.Bool.{ne_eqb, eq-eqb, cond-true, cond-false, and_left, and_right, and_from}
 use Rattle.std.proofs.lemmas.Option.{slice_get_past}
 use Rattle.kl1_model.specs.declared.built_in.BuiltIn.{BuiltIn}
-use Rattle.kl1_model.specs.Term.{Term, Terms, none, more, count_of, Replacement}
+use Rattle.kl1_model.specs.Term.{Term, structure, Terms, none, more, count_of, Replacement}
 use Rattle.kl1_model.specs.Module.{Clause}
 use Rattle.kl1_model.specs.code.Outcome.{Outcome, agrees, clashes, waits, both, Matched, match_term, match_terms}
 use Rattle.kl1_text.specs.Reading.{Reads}
 use Rattle.kl1_store.specs.declared.cell.Cell.{Cell}
-use Rattle.kl1_store.specs.Held.{Held, IsWithin, AreWithin, IsIn}
+use Rattle.kl1_store.specs.declared.cell.Cell.TheVariants.{Structure}
+use Rattle.kl1_store.specs.Held.{Held, IsWithin, AreWithin, IsIn, arguments_of}
 use Rattle.kl1_store.specs.Meaning.{term_of, terms_of}
 use Rattle.kl1_store.specs.Places.{all_arguments}
 use Rattle.kl1_store.specs.Sound.{IsFormed}
+use Rattle.kl1_store.proofs.Terms.{term_of-Structure}
 use Rattle.kl1_store.proofs.Meetings.{count_of-terms_of}
 use Rattle.kl1_store.proofs.Placing.{all_in}
 use Rattle.kl1_clause.specs.declared.compiled_clause.CompiledClause.{CompiledClause}
@@ -31,9 +34,9 @@ use Rattle.kl1_match.specs.Spans.{span_cells, IsSpan, AreSpans}
 use Rattle.kl1_match.specs.Matching.{outcome_of, Keeps}
 use Rattle.kl1_match.specs.Waiting.{IsUnbound, AreUnbound}
 use Rattle.kl1_match.specs.Verdicts.{arguments_of_goal, NamesAs, GivesMatch, IsTried}
-use Rattle.kl1_match.specs.HeadChecks.{nth, reached, outcome_at, frames_at, outcome_from, frames_from, place_of, places_at}
+use Rattle.kl1_match.specs.HeadChecks.{nth, reached, top_outcome, opened_in, outcome_at, frames_at, outcome_from, frames_from, place_of, places_at}
 use Rattle.kl1_match.specs.Frames.{frame_by, frames_by, no_span, cell_reached, place_found, places_found, GoesOn, HasMet, waiting, RunsTo, HasRun}
-use Rattle.kl1_match.proofs.Cells.{no_arguments, AreSpans-push}
+use Rattle.kl1_match.proofs.Cells.{names_same, names_differ, no_arguments, AreSpans-push}
 use Rattle.kl1_match.proofs.Answered.{both-agrees, both-clashes, both-group}
 use Rattle.kl1_match.proofs.HeadChecks.{is_match_of}
 
@@ -367,3 +370,85 @@ tried_suspends built names compiled h goal span frames before after formed withi
       awaited = r.awaited;
       gives = λ f reads clause is. let m = matches built names compiled h goal span frames before after r within means e f reads clause is in (m.0 ∙ waits_some r.named some, m.1);
     }
+
+-- ---- a structure beside a cell
+
+-- a structure with this name and number of arguments
+pub found_structure : {N : Type 0} (f : N → List ℕ) (h : Held N) (name called : N) (count s : ℕ) (x : Cell N) → IsFormed h → x ≡ Structure s → slice_get h.structures s ≡ Some (record { name = called; arguments = arguments_of h s }) →
+    length (arguments_of h s) ≡ count → name ≡ called → (top_outcome (f name) count (term_of f h x) ≡ agrees) × (opened_in (f name) count (term_of f h x) ≡ terms_of f h (arguments_of h s))
+found_structure f h name called count s x p e at counted same =
+    let us = terms_of f h (arguments_of h s) in
+    let is : term_of f h x ≡ structure (f called) us = ap (term_of f h) e ∙ term_of-Structure f h s called p at in
+    let q = and_from (bytes_eq (f name) (f called)) (count == count_of us) (names_same f name called same) (eq-eqb count (count_of us) (sym (count_of-terms_of f h (arguments_of h s) ∙ counted))) in (
+      ap (top_outcome (f name) count) is ∙ cond-true (bytes_eq (f name) (f called) && count == count_of us) agrees clashes q,
+      ap (opened_in (f name) count) is ∙ cond-true (bytes_eq (f name) (f called) && count == count_of us) us none q,
+    )
+
+-- one with another name
+pub other_name : {N : Type 0} (built : BuiltIn → N) (f : N → List ℕ) (h : Held N) (name called : N) (count s : ℕ) (x : Cell N) → Reads built f → IsFormed h → x ≡ Structure s → slice_get h.structures s ≡ Some (record { name = called; arguments = arguments_of h s }) →
+    (name ≡ called → ⊥) → top_outcome (f name) count (term_of f h x) ≡ clashes
+other_name built f h name called count s x reads p e at ne =
+    let us = terms_of f h (arguments_of h s) in
+    ap (top_outcome (f name) count) (ap (term_of f h) e ∙ term_of-Structure f h s called p at)
+    ∙ cond-false (bytes_eq (f name) (f called) && count == count_of us) agrees clashes
+    (and_left (bytes_eq (f name) (f called)) (count == count_of us) (names_differ built f name called reads ne))
+
+-- one with another number of arguments
+pub other_count : {N : Type 0} (f : N → List ℕ) (h : Held N) (name called : N) (count s : ℕ) (x : Cell N) → IsFormed h → x ≡ Structure s → slice_get h.structures s ≡ Some (record { name = called; arguments = arguments_of h s }) →
+    (length (arguments_of h s) ≡ count → ⊥) → top_outcome (f name) count (term_of f h x) ≡ clashes
+other_count f h name called count s x p e at ne =
+    let us = terms_of f h (arguments_of h s) in
+    ap (top_outcome (f name) count) (ap (term_of f h) e ∙ term_of-Structure f h s called p at)
+    ∙ cond-false (bytes_eq (f name) (f called) && count == count_of us) agrees clashes
+    (and_right (bytes_eq (f name) (f called)) (count == count_of us) (ne_eqb count (count_of us) (λ q. ne (sym (count_of-terms_of f h (arguments_of h s)) ∙ sym q))))
+
+-- a frame past the last reaches nothing
+pub past_frames : {N : Type 0} (h : Held N) (fs : List Span) (frame index : ℕ) → length fs ≤ frame → cell_reached h fs frame index ≡ None
+past_frames h [] frame index le = ap (λ l. slice_get l index) (nothing (all_arguments h))
+  where
+    nothing : {A : Type 0} (xs : List A) → drop 0 (take 0 xs) ≡ []
+    nothing [] = refl
+    nothing (x ∷ xs) = refl
+past_frames h (s ∷ fs) zero index le = absurd (omega (arith, le))
+past_frames h (s ∷ fs) (suc frame) index le = past_frames h fs frame index (omega (arith, le))
+
+pub frame_is : (fs : List Span) (frame : ℕ) (s : Span) → frame < length fs → s ≡ get_or fs frame s → get_or fs frame no_span ≡ s
+frame_is [] frame s lt e = absurd (omega (arith, lt))
+frame_is (t ∷ fs) zero s lt e = sym e
+frame_is (t ∷ fs) (suc frame) s lt e = frame_is fs frame s (omega (arith, lt)) e
+
+-- past the end of a frame nothing is reached
+pub past_end : {N : Type 0} (h : Held N) (fs : List Span) (frame index : ℕ) (s : Span) → AreSpans h fs → frame < length fs → s ≡ get_or fs frame s → s.end - s.next ≤ index → cell_reached h fs frame index ≡ None
+past_end {N = N} h fs frame index s inside lt e le =
+    let same = frame_is fs frame s lt e in
+    let P : Span → Type 0 = λ t. IsSpan h t in
+    ap (λ t. slice_get (span_cells h t) index) same ∙ past_span h s index (subst P same (are_spans_at h fs frame inside)) le
+
+-- before it a cell is
+pub there_in : {N : Type 0} (h : Held N) (fs : List Span) (frame index place : ℕ) (s : Span) (x : Cell N) → frame < length fs → s ≡ get_or fs frame s → index < s.end - s.next → place ≡ s.next + index → slice_get (all_arguments h) place ≡ Some x →
+    cell_reached h fs frame index ≡ Some x
+there_in h fs frame index place s x lt e below is at =
+    ap (λ t. slice_get (span_cells h t) index) (frame_is fs frame s lt e)
+    ∙ (span_found (all_arguments h) s.next s.end index (omega (arith, below)) ∙ (ap (slice_get (all_arguments h)) (sym is) ∙ at))
+
+-- the places of a row of arguments stand among those of the store
+pub place_below : {N : Type 0} (h : Held N) (fs : List Span) (frame index : ℕ) (s : Span) → AreSpans h fs → frame < length fs → s ≡ get_or fs frame s → index < s.end - s.next → s.next + index < length (all_arguments h)
+place_below {N = N} h fs frame index s inside lt e below =
+    let P : Span → Type 0 = λ t. IsSpan h t in
+    omega (arith, below, subst P (frame_is fs frame s lt e) (are_spans_at h fs frame inside))
+
+-- ---- places that are kept
+
+pub found_more : {N : Type 0} (h : Held N) (fs : List Span) (ps : List Path) (at : ℕ) (p : Path) → at < length ps → p ≡ get_or ps at p →
+    places_found h fs (take (at + 1) ps) ≡ places_found h fs (take at ps) ++ place_found p.variable (cell_reached h fs p.frame p.index)
+found_more h fs [] at p lt e = absurd (omega (arith, lt))
+found_more h fs (q ∷ ps) zero p lt e =
+    let o = cell_reached h fs q.frame q.index in
+    append-nil (place_found q.variable o) ∙ ap (λ (x : Path). place_found x.variable (cell_reached h fs x.frame x.index)) (sym e)
+found_more h fs (q ∷ ps) (suc at) p lt e =
+    let first = place_found q.variable (cell_reached h fs q.frame q.index) in
+    ap (λ l. first ++ l) (found_more h fs ps at p (omega (arith, lt)) e)
+    ∙ sym (append_assoc first (places_found h fs (take at ps)) (place_found p.variable (cell_reached h fs p.frame p.index)))
+
+pub found_all : {N : Type 0} (h : Held N) (fs : List Span) (ps : List Path) (at : ℕ) → length ps ≤ at → places_found h fs (take at ps) ≡ places_found h fs ps
+found_all h fs ps at le = ap (places_found h fs) (take_all at ps (omega (arith, le)))

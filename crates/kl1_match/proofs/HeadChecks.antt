@@ -131,7 +131,7 @@ mutual
       (next_checked agrees [] (structures_in ps) (length (fs ++ a.opened)) (length fs + structures_of p) fr (suc ix) (fs ++ a.opened) ps long b)
 
 -- the arguments from one on
-rest_of : Terms → ℕ → Terms
+abbrev rest_of : Terms → ℕ → Terms
 rest_of ts zero = ts
 rest_of none (suc k) = none
 rest_of (more t ts) (suc k) = rest_of ts k

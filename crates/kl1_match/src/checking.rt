@@ -89,7 +89,7 @@ fn meet<N: NameValue>(
 
 /// Does one check: what it comes to. A check of a structure adds a frame.
 #[inline(always)]
-fn check<N: NameValue>(
+fn do_check<N: NameValue>(
     store: &Store<N>,
     names: &[N],
     check: HeadCheck,
@@ -135,7 +135,7 @@ pub(crate) fn run_checks<N: NameValue>(
     frames.push_reserved(span);
     let mut at: usize = 0;
     while at < checks.len() {
-        match check(store, names, checks[at], frames) {
+        match do_check(store, names, checks[at], frames) {
             Met::Agrees => {}
             Met::Waits(variable) => awaited.push(variable)?,
             Met::Clashes => return Ok(false),
