@@ -80,46 +80,50 @@ row_named count next (o ∷ os) (Structure a n ∷ is) p = (p.0, row_named count
 mutual
   term_checks : (p : Term) (fr ix left next : ℕ) (os : List Open) (cs : List NodeCode) →
       node_checks next (record { frame = fr; index = ix; left = suc left } ∷ os) (nodes_of p ++ cs) ≡ checks_of fr ix next p ++ node_checks (next + structures_of p) (with_open fr (suc ix) left os) cs
-  term_checks (variable v) fr ix left next os cs = ap (λ n. node_checks n (with_open fr (suc ix) left os) cs) (omega arith)
-  term_checks (integer i) fr ix left next os cs = ap (λ n. record { frame = fr; index = ix; wanted = an_integer i } ∷ node_checks n (with_open fr (suc ix) left os) cs) (omega arith)
-  term_checks (atom a) fr ix left next os cs = ap (λ n. record { frame = fr; index = ix; wanted = an_atom a } ∷ node_checks n (with_open fr (suc ix) left os) cs) (omega arith)
+  term_checks (variable v) fr ix left next os cs = let same : next ≡ next + 0 = omega arith in ap (λ n. node_checks n (with_open fr (suc ix) left os) cs) same
+  term_checks (integer i) fr ix left next os cs = let same : next ≡ next + 0 = omega arith in ap (λ n. record { frame = fr; index = ix; wanted = an_integer i } ∷ node_checks n (with_open fr (suc ix) left os) cs) same
+  term_checks (atom a) fr ix left next os cs = let same : next ≡ next + 0 = omega arith in ap (λ n. record { frame = fr; index = ix; wanted = an_atom a } ∷ node_checks n (with_open fr (suc ix) left os) cs) same
   term_checks (structure f ps) fr ix left next os cs =
+      let same : suc next + structures_in ps ≡ next + suc (structures_in ps) = omega arith in
       let rest = with_open fr (suc ix) left os in
       ap (λ (l : List Check). record { frame = fr; index = ix; wanted = a_structure f (count_of ps) } ∷ l)
-      (terms_checks ps next 0 (suc next) rest cs ∙ ap (λ n. checks_in next 0 (suc next) ps ++ node_checks n rest cs) (omega arith))
+      (terms_checks ps next 0 (suc next) rest cs ∙ ap (λ n. checks_in next 0 (suc next) ps ++ node_checks n rest cs) same)
 
   terms_checks : (ps : Terms) (fr ix next : ℕ) (os : List Open) (cs : List NodeCode) →
       node_checks next (with_open fr ix (count_of ps) os) (nodes_of_all ps ++ cs) ≡ checks_in fr ix next ps ++ node_checks (next + structures_in ps) os cs
-  terms_checks none fr ix next os cs = ap (λ n. node_checks n os cs) (omega arith)
+  terms_checks none fr ix next os cs = let same : next ≡ next + 0 = omega arith in ap (λ n. node_checks n os cs) same
   terms_checks (more p ps) fr ix next os cs =
+      let same : next + structures_of p + structures_in ps ≡ next + (structures_of p + structures_in ps) = omega arith in
       let later = checks_in fr (suc ix) (next + structures_of p) ps in
       let first = record { frame = fr; index = ix; left = suc (count_of ps) } in
       ap (node_checks next (first ∷ os)) (append_assoc (nodes_of p) (nodes_of_all ps) cs)
       ∙ (term_checks p fr ix (count_of ps) next os (nodes_of_all ps ++ cs)
       ∙ (ap (λ l. checks_of fr ix next p ++ l) (terms_checks ps fr (suc ix) (next + structures_of p) os cs)
-      ∙ (ap (λ n. checks_of fr ix next p ++ (later ++ node_checks n os cs)) (omega arith)
+      ∙ (ap (λ n. checks_of fr ix next p ++ (later ++ node_checks n os cs)) same
       ∙ sym (append_assoc (checks_of fr ix next p) later (node_checks (next + (structures_of p + structures_in ps)) os cs)))))
 
 mutual
   term_paths : (p : Term) (fr ix left next : ℕ) (os : List Open) (cs : List NodeCode) →
       node_paths next (record { frame = fr; index = ix; left = suc left } ∷ os) (nodes_of p ++ cs) ≡ paths_of fr ix next p ++ node_paths (next + structures_of p) (with_open fr (suc ix) left os) cs
-  term_paths (variable v) fr ix left next os cs = ap (λ n. record { variable = v; frame = fr; index = ix } ∷ node_paths n (with_open fr (suc ix) left os) cs) (omega arith)
-  term_paths (integer i) fr ix left next os cs = ap (λ n. node_paths n (with_open fr (suc ix) left os) cs) (omega arith)
-  term_paths (atom a) fr ix left next os cs = ap (λ n. node_paths n (with_open fr (suc ix) left os) cs) (omega arith)
+  term_paths (variable v) fr ix left next os cs = let same : next ≡ next + 0 = omega arith in ap (λ n. record { variable = v; frame = fr; index = ix } ∷ node_paths n (with_open fr (suc ix) left os) cs) same
+  term_paths (integer i) fr ix left next os cs = let same : next ≡ next + 0 = omega arith in ap (λ n. node_paths n (with_open fr (suc ix) left os) cs) same
+  term_paths (atom a) fr ix left next os cs = let same : next ≡ next + 0 = omega arith in ap (λ n. node_paths n (with_open fr (suc ix) left os) cs) same
   term_paths (structure f ps) fr ix left next os cs =
+      let same : suc next + structures_in ps ≡ next + suc (structures_in ps) = omega arith in
       let rest = with_open fr (suc ix) left os in
-      terms_paths ps next 0 (suc next) rest cs ∙ ap (λ n. paths_in next 0 (suc next) ps ++ node_paths n rest cs) (omega arith)
+      terms_paths ps next 0 (suc next) rest cs ∙ ap (λ n. paths_in next 0 (suc next) ps ++ node_paths n rest cs) same
 
   terms_paths : (ps : Terms) (fr ix next : ℕ) (os : List Open) (cs : List NodeCode) →
       node_paths next (with_open fr ix (count_of ps) os) (nodes_of_all ps ++ cs) ≡ paths_in fr ix next ps ++ node_paths (next + structures_in ps) os cs
-  terms_paths none fr ix next os cs = ap (λ n. node_paths n os cs) (omega arith)
+  terms_paths none fr ix next os cs = let same : next ≡ next + 0 = omega arith in ap (λ n. node_paths n os cs) same
   terms_paths (more p ps) fr ix next os cs =
+      let same : next + structures_of p + structures_in ps ≡ next + (structures_of p + structures_in ps) = omega arith in
       let later = paths_in fr (suc ix) (next + structures_of p) ps in
       let first = record { frame = fr; index = ix; left = suc (count_of ps) } in
       ap (node_paths next (first ∷ os)) (append_assoc (nodes_of p) (nodes_of_all ps) cs)
       ∙ (term_paths p fr ix (count_of ps) next os (nodes_of_all ps ++ cs)
       ∙ (ap (λ l. paths_of fr ix next p ++ l) (terms_paths ps fr (suc ix) (next + structures_of p) os cs)
-      ∙ (ap (λ n. paths_of fr ix next p ++ (later ++ node_paths n os cs)) (omega arith)
+      ∙ (ap (λ n. paths_of fr ix next p ++ (later ++ node_paths n os cs)) same
       ∙ sym (append_assoc (paths_of fr ix next p) later (node_paths (next + (structures_of p + structures_in ps)) os cs)))))
 
 -- a row of patterns gives their checks

@@ -62,7 +62,11 @@ fn put_instruction(
     let index = open.index;
     match instruction {
         Instruction::Variable(variable) => {
-            linked.paths.push(Path { variable, frame, index })?;
+            linked.paths.push(Path {
+                variable,
+                frame,
+                index,
+            })?;
             Ok(next)
         }
         Instruction::Integer(integer) => {

@@ -1,7 +1,7 @@
 -- Checks and paths over the frames of a store.
-use Rattle.std.proofs.Common.{◌≡◌, ℕ, zero, suc, ◌+◌, ◌-◌, ◌<◌, ◌≤◌, ◌==◌, ◌&&◌, Bool, true, false, List, [], ◌∷◌, ◌++◌, length, get_or, map, take, drop, bytes_eq, Option, Some, None, refl, sym, ap, ◌∙◌, subst, arith, append_assoc, append-nil, length-append, length-drop}
+use Rattle.std.proofs.Common.{◌≡◌, ℕ, zero, suc, ◌+◌, ◌-◌, ◌<◌, ◌≤◌, ◌==◌, ◌&&◌, Bool, true, false, List, [], ◌∷◌, ◌++◌, length, get_or, map, take, drop, drop-cons, bytes_eq, Option, Some, None, refl, sym, ap, ◌∙◌, subst, arith, append_assoc, append-nil, length-append, length-drop}
 use Rattle.std.specs.Prelude.{slice_get, option_map}
-use Rattle.std.proofs.lemmas.List.{map-append, drop_all, take_all, length-take-le}
+use Rattle.std.proofs.lemmas.List.{map-append, drop_all, take_all, take_more, length-take-le}
 use Rattle.std.proofs.lemmas.Bool.{ne_eqb, eq-eqb, cond-true, cond-false, and_left, and_right, and_from}
 use Rattle.std.proofs.lemmas.Option.{slice_get_past}
 use Rattle.kl1_model.specs.declared.built_in.BuiltIn.{BuiltIn}
@@ -23,6 +23,7 @@ use Rattle.kl1_clause.specs.declared.head_check.HeadCheck.{HeadCheck}
 use Rattle.kl1_clause.specs.declared.path.Path.{Path}
 use Rattle.kl1_clause.specs.Checks.{Check, checks_in, paths_in, wanted_in, check_in, IsNamedIn, AreNamedIn}
 use Rattle.kl1_clause.specs.Clauses.{IsCompiled}
+use Rattle.kl1_clause.specs.Plain.{IsPlain}
 use Rattle.kl1_match.specs.declared.place.Place.{Place}
 use Rattle.kl1_match.specs.declared.span.Span.{Span}
 use Rattle.kl1_match.specs.declared.met.Met.{Met}
@@ -33,12 +34,13 @@ use Rattle.kl1_match.specs.Instances.{IsClause, AreThere, replacement_of, replac
 use Rattle.kl1_match.specs.Spans.{span_cells, IsSpan, AreSpans}
 use Rattle.kl1_match.specs.Matching.{outcome_of, Keeps}
 use Rattle.kl1_match.specs.Waiting.{IsUnbound, AreUnbound}
-use Rattle.kl1_match.specs.Verdicts.{arguments_of_goal, NamesAs, GivesMatch, IsTried}
+use Rattle.kl1_match.specs.Verdicts.{arguments_of_goal, IsTried, IsVerdict}
 use Rattle.kl1_match.specs.HeadChecks.{nth, reached, top_outcome, opened_in, outcome_at, frames_at, outcome_from, frames_from, place_of, places_at}
 use Rattle.kl1_match.specs.Frames.{frame_by, frames_by, no_span, cell_reached, place_found, places_found, GoesOn, HasMet, waiting, RunsTo, HasRun}
 use Rattle.kl1_match.proofs.Cells.{names_same, names_differ, no_arguments, AreSpans-push}
 use Rattle.kl1_match.proofs.Answered.{both-agrees, both-clashes, both-group}
 use Rattle.kl1_match.proofs.HeadChecks.{is_match_of}
+use Rattle.kl1_match.proofs.Whole.{accepts_as}
 
 -- ---- cells of a row
 
@@ -50,12 +52,14 @@ drop_none : {A : Type 0} (n : ℕ) → drop n (let l : List A = [] in l) ≡ []
 drop_none zero = refl
 drop_none (suc n) = refl
 
-pub span_found : {A : Type 0} (xs : List A) (n m i : ℕ) → n + i < m → slice_get (drop n (take m xs)) i ≡ slice_get xs (n + i)
-span_found [] n m i lt = ap (λ l. slice_get (drop n l) i) (take_none m) ∙ ap (λ l. slice_get l i) (drop_none n)
-span_found (x ∷ xs) n zero i lt = absurd (omega (arith, lt))
-span_found (x ∷ xs) zero (suc m) zero lt = refl
-span_found (x ∷ xs) zero (suc m) (suc i) lt = span_found xs zero m i (omega (arith, lt))
-span_found (x ∷ xs) (suc n) (suc m) i lt = span_found xs n m i (omega (arith, lt))
+pub span_found : {A : Type 0} (xs : List A) (n m i k : ℕ) → k ≡ n + i → k < m → slice_get (drop n (take m xs)) i ≡ slice_get xs k
+span_found [] n m i k e lt = ap (λ l. slice_get (drop n l) i) (take_none m) ∙ ap (λ l. slice_get l i) (drop_none n)
+span_found (x ∷ xs) n zero i k e lt = absurd (omega (arith, lt))
+span_found (x ∷ xs) zero (suc m) zero k e lt = let same : zero ≡ k = omega (arith, e) in ap (λ j. slice_get (x ∷ xs) j) same
+span_found (x ∷ xs) zero (suc m) (suc i) zero e lt = absurd (omega (arith, e))
+span_found (x ∷ xs) zero (suc m) (suc i) (suc k) e lt = span_found xs zero m i k (omega (arith, e)) (omega (arith, lt))
+span_found (x ∷ xs) (suc n) (suc m) i zero e lt = absurd (omega (arith, e))
+span_found (x ∷ xs) (suc n) (suc m) i (suc k) e lt = span_found xs n m i k (omega (arith, e)) (omega (arith, lt))
 
 -- past the end of a row there is no cell
 pub past_span : {N : Type 0} (h : Held N) (s : Span) (i : ℕ) → IsSpan h s → s.end - s.next ≤ i → slice_get (span_cells h s) i ≡ None
@@ -174,9 +178,9 @@ waiting_both (v ∷ vs) [] = ap waits (sym (append-nil (v ∷ vs)))
 waiting_both (v ∷ vs) (w ∷ ws) = refl
 
 drop_check : (texts : List (List ℕ)) (cs : List HeadCheck) (at : ℕ) (c : HeadCheck) → at < length cs → c ≡ get_or cs at c → map (check_in texts) (drop at cs) ≡ check_in texts c ∷ map (check_in texts) (drop (at + 1) cs)
-drop_check texts [] at c w e = absurd (omega (arith, w))
-drop_check texts (d ∷ cs) zero c w e = ap (λ x. check_in texts x ∷ map (check_in texts) cs) (sym e)
-drop_check texts (d ∷ cs) (suc at) c w e = drop_check texts cs at c (omega (arith, w)) e
+drop_check texts cs at c w e =
+    let one : suc at ≡ at + 1 = omega arith in
+    ap (map (check_in texts)) (drop-cons cs at c w ∙ (ap (λ x. x ∷ drop (suc at) cs) (sym e) ∙ ap (λ n. c ∷ drop n cs) one))
 
 -- the checks from a place on, after those before it
 pub record Going {N : Type 0} (built : BuiltIn → N) (h : Held N) (names : List N) (checks : List HeadCheck) (span : Span) (frames : List Span) (before after : List ℕ) (at : ℕ) : Type 0 where
@@ -213,9 +217,9 @@ going_on {N = N} built h names checks span frames gs before after now ws at c me
       let texts = map f names in
       let rest = map (check_in texts) (drop (at + 1) checks) in
       let one : outcome_from (frames_by f h frames) (map (check_in texts) (drop at checks)) ≡ both (waiting ws) (outcome_from (frames_by f h gs) rest) =
-          ap (outcome_from (frames_by f h frames)) (drop_check texts checks at c lt e)
-          ∙ (ap (λ o. both o (outcome_from (frames_by f h frames ++ frames_at (wanted_in texts c.asks) (reached (frames_by f h frames) c.frame c.index)) rest)) (m.outcome f reads ∙ is)
-          ∙ ap (λ l. both (waiting ws) (outcome_from l rest)) (sym (m.frames g f reads))) in
+      ap (outcome_from (frames_by f h frames)) (drop_check texts checks at c lt e)
+      ∙ (ap (λ o. both o (outcome_from (frames_by f h frames ++ frames_at (wanted_in texts c.asks) (reached (frames_by f h frames) c.frame c.index)) rest)) (m.outcome f reads ∙ is)
+      ∙ ap (λ l. both (waiting ws) (outcome_from l rest)) (sym (m.frames g f reads))) in
       p.outcome f reads
       ∙ (ap (both (waiting p.named)) one
       ∙ (sym (both-group (waiting p.named) (waiting ws) (outcome_from (frames_by f h gs) rest))
@@ -247,8 +251,8 @@ going_clashes built h names checks span frames gs before after at c p lt e m ins
       let texts = map f names in
       let rest = map (check_in texts) (drop (at + 1) checks) in
       let one : outcome_from (frames_by f h frames) (map (check_in texts) (drop at checks)) ≡ clashes =
-          ap (outcome_from (frames_by f h frames)) (drop_check texts checks at c lt e)
-          ∙ ap (λ o. both o (outcome_from (frames_by f h frames ++ frames_at (wanted_in texts c.asks) (reached (frames_by f h frames) c.frame c.index)) rest)) (m.outcome f reads) in
+      ap (outcome_from (frames_by f h frames)) (drop_check texts checks at c lt e)
+      ∙ ap (λ o. both o (outcome_from (frames_by f h frames ++ frames_at (wanted_in texts c.asks) (reached (frames_by f h frames) c.frame c.index)) rest)) (m.outcome f reads) in
       p.outcome f reads ∙ (ap (both (waiting p.named)) one ∙ both-clashes (waiting p.named));
 }
 
@@ -259,8 +263,7 @@ going_done built h names checks span frames before after at p le = record {
   awaited = p.awaited;
   unbound = p.unbound;
   runs = λ f reads.
-      let none_left : drop at checks ≡ [] = drop_all at checks (omega (arith, le)) in
-      (
+      let none_left : drop at checks ≡ [] = drop_all at checks (omega (arith, le)) in (
         p.outcome f reads ∙ (ap (λ l. both (waiting p.named) (outcome_from (frames_by f h frames) (map (check_in (map f names)) l))) none_left ∙ both-agrees (waiting p.named)),
         p.frames_are f reads ∙ ap (λ l. frames_from (frames_by f h frames) (map (check_in (map f names)) l)) none_left,
       );
@@ -326,13 +329,12 @@ matches : {N : Type 0} (built : BuiltIn → N) (names : List N) (compiled : Comp
 matches built names compiled h goal span frames before after r within means e f reads clause is =
     let us = frame_by f h span in
     let m = is_match_of clause.patterns us (counted_same f h goal span compiled.count clause.patterns within (means f) e is.count) in
-    let ends : frames_from (us ∷ []) (checks_in 0 0 1 clause.patterns) ≡ frames_by f h frames = ap (frames_from (us ∷ [])) (sym is.checks.checks_are) ∙ (r.runs f reads).1 in
-    (
+    let ends : frames_from (us ∷ []) (checks_in 0 0 1 clause.patterns) ≡ frames_by f h frames = ap (frames_from (us ∷ [])) (sym is.checks.checks_are) ∙ (r.runs f reads).1 in (
       ap (λ ts. (match_terms clause.patterns ts).outcome) (sym (means f)) ∙ (sym m.outcome ∙ (ap (outcome_from (us ∷ [])) (sym is.checks.checks_are) ∙ (r.runs f reads).0)),
       ap (λ ts. (match_terms clause.patterns ts).places) (sym (means f))
-      ∙ (sym m.places
-      ∙ (ap (λ l. places_at l (paths_in 0 0 1 clause.patterns)) ends
-      ∙ (ap (places_at (frames_by f h frames)) (sym is.paths) ∙ sym (found_are f h frames compiled.paths.items)))),
+          ∙ (sym m.places
+          ∙ (ap (λ l. places_at l (paths_in 0 0 1 clause.patterns)) ends
+          ∙ (ap (places_at (frames_by f h frames)) (sym is.paths) ∙ sym (found_are f h frames compiled.paths.items)))),
     )
 
 no_names : (before named after : List ℕ) → after ≡ before ++ named → length after ≡ length before → named ≡ []
@@ -429,7 +431,7 @@ pub there_in : {N : Type 0} (h : Held N) (fs : List Span) (frame index place : �
     cell_reached h fs frame index ≡ Some x
 there_in h fs frame index place s x lt e below is at =
     ap (λ t. slice_get (span_cells h t) index) (frame_is fs frame s lt e)
-    ∙ (span_found (all_arguments h) s.next s.end index (omega (arith, below)) ∙ (ap (slice_get (all_arguments h)) (sym is) ∙ at))
+    ∙ (span_found (all_arguments h) s.next s.end index place is (omega (arith, below, is)) ∙ at)
 
 -- the places of a row of arguments stand among those of the store
 pub place_below : {N : Type 0} (h : Held N) (fs : List Span) (frame index : ℕ) (s : Span) → AreSpans h fs → frame < length fs → s ≡ get_or fs frame s → index < s.end - s.next → s.next + index < length (all_arguments h)
@@ -439,16 +441,30 @@ place_below {N = N} h fs frame index s inside lt e below =
 
 -- ---- places that are kept
 
+found_append : {N : Type 0} (h : Held N) (fs : List Span) (ps qs : List Path) → places_found h fs (ps ++ qs) ≡ places_found h fs ps ++ places_found h fs qs
+found_append h fs [] qs = refl
+found_append h fs (p ∷ ps) qs =
+    let first = place_found p.variable (cell_reached h fs p.frame p.index) in
+    ap (λ l. first ++ l) (found_append h fs ps qs) ∙ sym (append_assoc first (places_found h fs ps) (places_found h fs qs))
+
 pub found_more : {N : Type 0} (h : Held N) (fs : List Span) (ps : List Path) (at : ℕ) (p : Path) → at < length ps → p ≡ get_or ps at p →
     places_found h fs (take (at + 1) ps) ≡ places_found h fs (take at ps) ++ place_found p.variable (cell_reached h fs p.frame p.index)
-found_more h fs [] at p lt e = absurd (omega (arith, lt))
-found_more h fs (q ∷ ps) zero p lt e =
-    let o = cell_reached h fs q.frame q.index in
-    append-nil (place_found q.variable o) ∙ ap (λ (x : Path). place_found x.variable (cell_reached h fs x.frame x.index)) (sym e)
-found_more h fs (q ∷ ps) (suc at) p lt e =
-    let first = place_found q.variable (cell_reached h fs q.frame q.index) in
-    ap (λ l. first ++ l) (found_more h fs ps at p (omega (arith, lt)) e)
-    ∙ sym (append_assoc first (places_found h fs (take at ps)) (place_found p.variable (cell_reached h fs p.frame p.index)))
+found_more h fs ps at p lt e =
+    let o = cell_reached h fs p.frame p.index in
+    ap (places_found h fs) (take_more ps at p lt ∙ ap (λ (x : Path). take at ps ++ x ∷ []) (sym e))
+    ∙ (found_append h fs (take at ps) (p ∷ []) ∙ ap (λ l. places_found h fs (take at ps) ++ l) (append-nil (place_found p.variable o)))
 
 pub found_all : {N : Type 0} (h : Held N) (fs : List Span) (ps : List Path) (at : ℕ) → length ps ≤ at → places_found h fs (take at ps) ≡ places_found h fs ps
 found_all h fs ps at le = ap (places_found h fs) (take_all at ps (omega (arith, le)))
+
+-- ---- a clause that accepts
+
+pub kept_accepts : {N : Type 0} (built : BuiltIn → N) (names : List N) (compiled : CompiledClause) (h : Held N) (goal : Cell N) (span : Span) (frames : List Span) (kept : List (Place N)) (before after : List ℕ) → IsFormed h → IsSpan h span →
+    ((f : N → List ℕ) → terms_of f h (span_cells h span) ≡ arguments_of_goal (term_of f h goal)) → span.end - span.next ≡ compiled.count → before ≡ [] → after ≡ [] → IsPlain compiled.patterns.items compiled.tests.items →
+    HasRun built h names compiled.checks.items span frames before after true → kept ≡ places_found h frames compiled.paths.items → IsVerdict built names compiled h goal kept [] [] Accepts
+kept_accepts {N = N} built names compiled h goal span frames kept before after formed within means e begun ended plain r k =
+    let P : List (Place N) → Type 0 = λ ps. IsVerdict built names compiled h goal ps [] [] Accepts in
+    let Q : List ℕ → Type 0 = λ l. HasRun built h names compiled.checks.items span frames l [] true in
+    let R : List ℕ → Type 0 = λ l. HasRun built h names compiled.checks.items span frames before l true in
+    let t = tried_accepts built names compiled h goal span frames [] [] formed within means e refl (subst Q begun (subst R ended r)) in
+    subst P (sym k) (accepts_as built names compiled h goal (places_found h frames compiled.paths.items) [] [] plain t)

@@ -163,12 +163,12 @@ no_places_atom b (structure f ts) = refl
 -- a structure that isn't found
 not_found : (f : List ℕ) (ps : Terms) (t : Term) (o : Outcome) (fr ix : ℕ) (fs : List Terms) → fr < length fs → reached fs fr ix ≡ Some t → top_outcome f (count_of ps) t ≡ o → opened_in f (count_of ps) t ≡ none →
     Checked o [] (suc (structures_in ps)) fs (checks_of fr ix (length fs) (structure f ps)) (paths_of fr ix (length fs) (structure f ps))
-not_found f ps t o fr ix fs w e top open =
+not_found f ps t o fr ix fs w e top nothing =
     let long : length (fs ++ none ∷ []) ≡ suc (length fs) = omega (arith, length-append fs (none ∷ [])) in
     let inner = terms_unreached ps (length fs) 0 (fs ++ none ∷ []) (omega (arith, long)) (get_or-append_seam fs none [] none) in
     let all = opened_checked o agrees [] (structures_in ps) fs (record { frame = fr; index = ix; wanted = a_structure f (count_of ps) }) none (checks_in (length fs) 0 (suc (length fs)) ps) (paths_in (length fs) 0 (suc (length fs)) ps)
-        (ap (outcome_at (a_structure f (count_of ps))) e ∙ top) (ap (frames_at (a_structure f (count_of ps))) e ∙ ap (λ us. us ∷ []) open)
-        (next_checked agrees [] (structures_in ps) (length (fs ++ none ∷ [])) (suc (length fs)) (length fs) 0 (fs ++ none ∷ []) ps long inner) in
+    (ap (outcome_at (a_structure f (count_of ps))) e ∙ top) (ap (frames_at (a_structure f (count_of ps))) e ∙ ap (λ us. us ∷ []) nothing)
+    (next_checked agrees [] (structures_in ps) (length (fs ++ none ∷ [])) (suc (length fs)) (length fs) 0 (fs ++ none ∷ []) ps long inner) in
     let P : Outcome → Type 0 = λ x. Checked x [] (suc (structures_in ps)) fs (checks_of fr ix (length fs) (structure f ps)) (paths_of fr ix (length fs) (structure f ps)) in
     subst P (both-agrees o) all
 
