@@ -14,7 +14,7 @@ use Rattle.kl1_clause.specs.declared.linking.Open.{Open}
 use Rattle.kl1_clause.specs.declared.linking.Linked.{Linked}
 use Rattle.kl1_clause.specs.Instructions.{text_in, code_in, AreNamed, IsRowOf}
 use Rattle.kl1_clause.specs.Checks.{Check, an_integer, an_atom, a_structure, checks_of, checks_in, paths_of, paths_in, check_in, IsNamedIn, AreNamedIn, AreChecksOf}
-use Rattle.kl1_clause.specs.Linking.{with_open, behind_first, row_checks, row_paths, Links}
+use Rattle.kl1_clause.specs.Linking.{with_open, less, behind_first, row_checks, row_paths, Links}
 use Rattle.kl1_clause.proofs.Growth.{Grows, name_stays}
 
 -- what is left behind a node
@@ -168,12 +168,16 @@ checks_stay names new cs ps g i =
 
 -- ---- a row, one instruction after another
 
+less_is : (n : ℕ) → n - 1 ≡ less n
+less_is zero = omega arith
+less_is (suc n) = omega arith
+
 -- what is left behind the first, with the numbers that the code has
 pub taken : (o : Open) (old new pushed : List Open) (index left : ℕ) → old ≡ new ++ o ∷ [] → index ≡ o.index + 1 → left ≡ o.left - 1 → reverse pushed ≡ with_open o.frame index left (reverse new) → (os : List Open) × ((reverse old ≡ o ∷ os) × (reverse pushed ≡ behind_first o os))
 taken o old new pushed index left popped e f is =
     let next : index ≡ suc o.index = omega (arith, e) in (
       reverse new,
-      (ap reverse popped ∙ reverse-append new (o ∷ []), is ∙ (ap (λ n. with_open o.frame n left (reverse new)) next ∙ ap (λ n. with_open o.frame (suc o.index) n (reverse new)) f)),
+      (ap reverse popped ∙ reverse-append new (o ∷ []), is ∙ (ap (λ n. with_open o.frame n left (reverse new)) next ∙ ap (λ n. with_open o.frame (suc o.index) n (reverse new)) (f ∙ less_is o.left))),
     )
 
 no_checks : (next : ℕ) (is : List Instruction) → row_checks next [] is ≡ []

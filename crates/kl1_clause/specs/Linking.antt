@@ -1,7 +1,5 @@
 -- The checks and paths of a row, one instruction after another.
-use Rattle.std.specs.Prelude.{◌≡◌, ℕ, zero, suc, ◌-◌, List, [], ◌∷◌, ◌++◌, Option, Some, None}
-use Rattle.std.proofs.Common.{inl, inr}
-use Rattle.kl1_model.specs.code.TermCode.{NodeCode}
+use Rattle.std.specs.Prelude.{◌≡◌, ℕ, zero, suc, List, [], ◌∷◌, ◌++◌, Option, Some, None}
 use Rattle.kl1_clause.specs.declared.instruction.Instruction.{Instruction}
 use Rattle.kl1_clause.specs.declared.instruction.Instruction.TheVariants.{Variable, Integer, Atom, Structure}
 use Rattle.kl1_clause.specs.declared.head_check.Asks.TheVariants as asks
@@ -9,16 +7,20 @@ use Rattle.kl1_clause.specs.declared.head_check.HeadCheck.{HeadCheck}
 use Rattle.kl1_clause.specs.declared.path.Path.{Path}
 use Rattle.kl1_clause.specs.declared.linking.Open.{Open}
 use Rattle.kl1_clause.specs.declared.linking.Linked.{Linked}
-use Rattle.kl1_clause.specs.Checks.{Check, an_integer, an_atom, a_structure}
 
 -- `left` arguments of a frame from one on, before others
 abbrev pub with_open : ℕ → ℕ → ℕ → List Open → List Open
 with_open frame index zero os = os
 with_open frame index (suc left) os = record { frame = frame; index = index; left = suc left } ∷ os
 
+-- one fewer, if there are some
+abbrev pub less : ℕ → ℕ
+less zero = zero
+less (suc n) = n
+
 -- what is left behind the first argument
 abbrev pub behind_first : Open → List Open → List Open
-behind_first o os = with_open o.frame (suc o.index) (o.left - 1) os
+behind_first o os = with_open o.frame (suc o.index) (less o.left) os
 
 -- what is left behind an instruction, if the next structure has this number as a frame
 abbrev pub behind : ℕ → Open → List Open → Instruction → List Open

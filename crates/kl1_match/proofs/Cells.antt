@@ -1,29 +1,25 @@
 -- What walked cells mean.
-use Rattle.std.proofs.Common.{◌≡◌, ℕ, zero, suc, ◌+◌, ◌<◌, ◌≤◌, arith, inl, inr, take, drop, append_assoc, ◌==◌, ◌&&◌, Bool, true, false, List, [], ◌∷◌, ◌++◌, length, length-append, length-drop, refl, sym, ap, ◌∙◌, subst, ℤ}
-use Rattle.std.specs.Prelude.{Some, slice_get, bytes_eq}
+use Rattle.std.proofs.Common.{◌≡◌, ℕ, true, false, List, [], ◌∷◌, ◌++◌, refl, sym, ap, ◌∙◌, subst, ℤ}
+use Rattle.std.specs.Prelude.{bytes_eq}
 use Rattle.std.specs.Ordering.{int_eq}
-use Rattle.std.proofs.lemmas.List.{append-nil, map-append, drop_all, length-take-le}
 use Rattle.std.proofs.lemmas.Slice.Eq.{bytes_eq-Decides}
-use Rattle.std.proofs.lemmas.Bool.{ne_eqb, eq-eqb, cond-true, cond-false, false_from_ne_true, and_left, and_right, and_from}
+use Rattle.std.proofs.lemmas.Bool.{false_from_ne_true}
 use Rattle.std.proofs.lemmas.Bool.Decides.{Decides-int_eq}
 use Rattle.kl1_model.specs.declared.built_in.BuiltIn.{BuiltIn}
-use Rattle.kl1_model.specs.Term.{Term, variable, integer, atom, structure, Terms, none, more, count_of}
-use Rattle.kl1_model.specs.code.Outcome.{Outcome, agrees, clashes, decided, with_outcome, match_term, match_terms}
+use Rattle.kl1_model.specs.Term.{Term, variable, integer, atom, structure, Terms, none}
+use Rattle.kl1_model.specs.code.Outcome.{agrees, clashes, decided, with_outcome, match_term}
 use Rattle.kl1_text.specs.Reading.{Reads}
 use Rattle.kl1_store.specs.declared.cell.Cell.{Cell}
 use Rattle.kl1_store.specs.declared.cell.Cell.TheVariants.{Variable, Integer, Atom, Structure}
 use Rattle.kl1_store.specs.Held.{Held, IsIn, IsWalked, arguments_of}
 use Rattle.kl1_store.specs.Meaning.{term_of, terms_of}
-use Rattle.kl1_store.specs.Places.{all_arguments}
 use Rattle.kl1_store.specs.Sound.{IsFormed}
 use Rattle.kl1_store.proofs.Terms.{term_of-Integer, term_of-Atom, term_of-Structure, term_of-unbound}
-use Rattle.kl1_store.proofs.Meetings.{named, count_of-terms_of}
-use Rattle.kl1_model.specs.code.TermCode.{NodeCode, nodes_of, nodes_of_all}
+use Rattle.kl1_store.proofs.Meetings.{named}
 use Rattle.kl1_match.specs.declared.place.Place.{Place}
-use Rattle.kl1_match.specs.Instances.{AreThere, replacement_of, replacements_of}
 use Rattle.kl1_match.specs.declared.span.Span.{Span}
-use Rattle.kl1_match.specs.Spans.{span_cells, cells_behind, cells_left, IsSpan, AreSpans}
-use Rattle.kl1_match.specs.Matching.{joined, IsOpened, Stays, Begins, GoesInto}
+use Rattle.kl1_match.specs.Instances.{AreThere}
+use Rattle.kl1_match.specs.Spans.{IsSpan, AreSpans}
 use Rattle.kl1_match.specs.Verdicts.{arguments_of_goal}
 
 pub at_variable : {N : Type 0} (f : N → List ℕ) (h : Held N) (x : Cell N) (v : ℕ) → x ≡ Variable v → IsWalked h x → term_of f h x ≡ variable v

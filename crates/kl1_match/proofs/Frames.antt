@@ -3,7 +3,6 @@ use Rattle.std.proofs.Common.{◌≡◌, ℕ, zero, suc, ◌+◌, ◌-◌, ◌<�
 use Rattle.std.specs.Prelude.{slice_get, option_map}
 use Rattle.std.proofs.lemmas.List.{map-append, drop_all, take_all, take_more, length-take-le}
 use Rattle.std.proofs.lemmas.Bool.{ne_eqb, eq-eqb, cond-true, cond-false, and_left, and_right, and_from}
-use Rattle.std.proofs.lemmas.Option.{slice_get_past}
 use Rattle.kl1_model.specs.declared.built_in.BuiltIn.{BuiltIn}
 use Rattle.kl1_model.specs.Term.{Term, structure, Terms, none, more, count_of, Replacement}
 use Rattle.kl1_model.specs.Module.{Clause}
@@ -34,12 +33,14 @@ use Rattle.kl1_match.specs.Instances.{IsClause, AreThere, replacement_of, replac
 use Rattle.kl1_match.specs.Spans.{span_cells, IsSpan, AreSpans}
 use Rattle.kl1_match.specs.Matching.{outcome_of, Keeps}
 use Rattle.kl1_match.specs.Waiting.{IsUnbound, AreUnbound}
+use Rattle.kl1_match.specs.Kept.{places_behind}
 use Rattle.kl1_match.specs.Verdicts.{arguments_of_goal, IsTried, IsVerdict}
 use Rattle.kl1_match.specs.HeadChecks.{nth, reached, top_outcome, opened_in, outcome_at, frames_at, outcome_from, frames_from, place_of, places_at}
 use Rattle.kl1_match.specs.Frames.{frame_by, frames_by, no_span, cell_reached, place_found, places_found, GoesOn, HasMet, waiting, RunsTo, HasRun}
 use Rattle.kl1_match.proofs.Cells.{names_same, names_differ, no_arguments, AreSpans-push}
 use Rattle.kl1_match.proofs.Answered.{both-agrees, both-clashes, both-group}
 use Rattle.kl1_match.proofs.HeadChecks.{is_match_of}
+use Rattle.kl1_match.proofs.Kept.{behind_more}
 use Rattle.kl1_match.proofs.Whole.{accepts_as}
 
 -- ---- cells of a row
@@ -60,10 +61,6 @@ span_found (x ∷ xs) zero (suc m) (suc i) zero e lt = absurd (omega (arith, e))
 span_found (x ∷ xs) zero (suc m) (suc i) (suc k) e lt = span_found xs zero m i k (omega (arith, e)) (omega (arith, lt))
 span_found (x ∷ xs) (suc n) (suc m) i zero e lt = absurd (omega (arith, e))
 span_found (x ∷ xs) (suc n) (suc m) i (suc k) e lt = span_found xs n m i k (omega (arith, e)) (omega (arith, lt))
-
--- past the end of a row there is no cell
-pub past_span : {N : Type 0} (h : Held N) (s : Span) (i : ℕ) → IsSpan h s → s.end - s.next ≤ i → slice_get (span_cells h s) i ≡ None
-past_span h s i within le = slice_get_past (span_cells h s) i (omega (arith, le, length-drop s.next (take s.end (all_arguments h)), length-take-le s.end (all_arguments h) within))
 
 pub span_length : {N : Type 0} (h : Held N) (s : Span) → IsSpan h s → length (span_cells h s) ≡ s.end - s.next
 span_length h s within = omega (arith, length-drop s.next (take s.end (all_arguments h)), length-take-le s.end (all_arguments h) within)
@@ -404,40 +401,16 @@ other_count f h name called count s x p e at ne =
     ∙ cond-false (bytes_eq (f name) (f called) && count == count_of us) agrees clashes
     (and_right (bytes_eq (f name) (f called)) (count == count_of us) (ne_eqb count (count_of us) (λ q. ne (sym (count_of-terms_of f h (arguments_of h s)) ∙ sym q))))
 
--- a frame past the last reaches nothing
-pub past_frames : {N : Type 0} (h : Held N) (fs : List Span) (frame index : ℕ) → length fs ≤ frame → cell_reached h fs frame index ≡ None
-past_frames h [] frame index le = ap (λ l. slice_get l index) (nothing (all_arguments h))
-  where
-    nothing : {A : Type 0} (xs : List A) → drop 0 (take 0 xs) ≡ []
-    nothing [] = refl
-    nothing (x ∷ xs) = refl
-past_frames h (s ∷ fs) zero index le = absurd (omega (arith, le))
-past_frames h (s ∷ fs) (suc frame) index le = past_frames h fs frame index (omega (arith, le))
-
-pub frame_is : (fs : List Span) (frame : ℕ) (s : Span) → frame < length fs → s ≡ get_or fs frame s → get_or fs frame no_span ≡ s
-frame_is [] frame s lt e = absurd (omega (arith, lt))
-frame_is (t ∷ fs) zero s lt e = sym e
-frame_is (t ∷ fs) (suc frame) s lt e = frame_is fs frame s (omega (arith, lt)) e
-
--- past the end of a frame nothing is reached
-pub past_end : {N : Type 0} (h : Held N) (fs : List Span) (frame index : ℕ) (s : Span) → AreSpans h fs → frame < length fs → s ≡ get_or fs frame s → s.end - s.next ≤ index → cell_reached h fs frame index ≡ None
-past_end {N = N} h fs frame index s inside lt e le =
-    let same = frame_is fs frame s lt e in
-    let P : Span → Type 0 = λ t. IsSpan h t in
-    ap (λ t. slice_get (span_cells h t) index) same ∙ past_span h s index (subst P same (are_spans_at h fs frame inside)) le
-
--- before it a cell is
-pub there_in : {N : Type 0} (h : Held N) (fs : List Span) (frame index place : ℕ) (s : Span) (x : Cell N) → frame < length fs → s ≡ get_or fs frame s → index < s.end - s.next → place ≡ s.next + index → slice_get (all_arguments h) place ≡ Some x →
+-- before the end of a frame a cell is reached
+pub there_in : {N : Type 0} (h : Held N) (fs : List Span) (frame index place : ℕ) (x : Cell N) → index < (get_or fs frame no_span).end - (get_or fs frame no_span).next → place ≡ (get_or fs frame no_span).next + index → slice_get (all_arguments h) place ≡ Some x →
     cell_reached h fs frame index ≡ Some x
-there_in h fs frame index place s x lt e below is at =
-    ap (λ t. slice_get (span_cells h t) index) (frame_is fs frame s lt e)
-    ∙ (span_found (all_arguments h) s.next s.end index place is (omega (arith, below, is)) ∙ at)
+there_in h fs frame index place x below is at =
+    let s = get_or fs frame no_span in
+    span_found (all_arguments h) s.next s.end index place is (omega (arith, below, is)) ∙ at
 
 -- the places of a row of arguments stand among those of the store
-pub place_below : {N : Type 0} (h : Held N) (fs : List Span) (frame index : ℕ) (s : Span) → AreSpans h fs → frame < length fs → s ≡ get_or fs frame s → index < s.end - s.next → s.next + index < length (all_arguments h)
-place_below {N = N} h fs frame index s inside lt e below =
-    let P : Span → Type 0 = λ t. IsSpan h t in
-    omega (arith, below, subst P (frame_is fs frame s lt e) (are_spans_at h fs frame inside))
+pub place_below : {N : Type 0} (h : Held N) (fs : List Span) (frame index : ℕ) → AreSpans h fs → index < (get_or fs frame no_span).end - (get_or fs frame no_span).next → (get_or fs frame no_span).next + index < length (all_arguments h)
+place_below h fs frame index inside below = omega (arith, below, are_spans_at h fs frame inside)
 
 -- ---- places that are kept
 
@@ -447,12 +420,32 @@ found_append h fs (p ∷ ps) qs =
     let first = place_found p.variable (cell_reached h fs p.frame p.index) in
     ap (λ l. first ++ l) (found_append h fs ps qs) ∙ sym (append_assoc first (places_found h fs ps) (places_found h fs qs))
 
-pub found_more : {N : Type 0} (h : Held N) (fs : List Span) (ps : List Path) (at : ℕ) (p : Path) → at < length ps → p ≡ get_or ps at p →
-    places_found h fs (take (at + 1) ps) ≡ places_found h fs (take at ps) ++ place_found p.variable (cell_reached h fs p.frame p.index)
-found_more h fs ps at p lt e =
-    let o = cell_reached h fs p.frame p.index in
-    ap (places_found h fs) (take_more ps at p lt ∙ ap (λ (x : Path). take at ps ++ x ∷ []) (sym e))
-    ∙ (found_append h fs (take at ps) (p ∷ []) ∙ ap (λ l. places_found h fs (take at ps) ++ l) (append-nil (place_found p.variable o)))
+pub found_more : {N : Type 0} (h : Held N) (fs : List Span) (ps : List Path) (at : ℕ) (d : Path) → at < length ps →
+    places_found h fs (take (at + 1) ps) ≡ places_found h fs (take at ps) ++ place_found (get_or ps at d).variable (cell_reached h fs (get_or ps at d).frame (get_or ps at d).index)
+found_more h fs ps at d lt =
+    let p = get_or ps at d in
+    ap (places_found h fs) (take_more ps at d lt)
+    ∙ (found_append h fs (take at ps) (p ∷ []) ∙ ap (λ l. places_found h fs (take at ps) ++ l) (append-nil (place_found p.variable (cell_reached h fs p.frame p.index))))
+
+-- one more place is put
+pub put_more : {N : Type 0} (h : Held N) (fs : List Span) (ps : List Path) (at : ℕ) (d : Path) (before old new : List (Place N)) (o : Option (Cell N)) → at < length ps → o ≡ cell_reached h fs (get_or ps at d).frame (get_or ps at d).index →
+    old ≡ before ++ places_found h fs (take at ps) → new ≡ old ++ place_found (get_or ps at d).variable o → new ≡ before ++ places_found h fs (take (at + 1) ps)
+put_more h fs ps at d before old new o lt e put is =
+    let p = get_or ps at d in
+    is ∙ (ap (λ l. l ++ place_found p.variable o) put
+    ∙ (append_assoc before (places_found h fs (take at ps)) (place_found p.variable o)
+    ∙ ap (λ l. before ++ l) (ap (λ q. places_found h fs (take at ps) ++ place_found p.variable q) e ∙ sym (found_more h fs ps at d lt))))
+
+-- one more cell is kept
+pub keep_more : {N : Type 0} (h : Held N) (fs : List Span) (ps : List Path) (at : ℕ) (d : Path) (old new : List (Cell N)) (o : Option (Cell N)) (x : Cell N) → at < length ps → o ≡ cell_reached h fs (get_or ps at d).frame (get_or ps at d).index → o ≡ Some x →
+    0 < length old → (get_or ps at d).variable ≡ length old → places_behind old ≡ places_found h fs (take at ps) → new ≡ old ++ x ∷ [] → places_behind new ≡ places_found h fs (take (at + 1) ps)
+keep_more h fs ps at d old new o x lt e some first numbered kept is =
+    let p = get_or ps at d in
+    ap places_behind is
+    ∙ (behind_more old x first
+    ∙ (ap (λ n. places_behind old ++ record { variable = n; cell = x } ∷ []) (sym numbered)
+    ∙ (ap (λ l. l ++ record { variable = p.variable; cell = x } ∷ []) kept
+    ∙ (ap (λ q. places_found h fs (take at ps) ++ place_found p.variable q) (sym some ∙ e) ∙ sym (found_more h fs ps at d lt)))))
 
 pub found_all : {N : Type 0} (h : Held N) (fs : List Span) (ps : List Path) (at : ℕ) → length ps ≤ at → places_found h fs (take at ps) ≡ places_found h fs ps
 found_all h fs ps at le = ap (places_found h fs) (take_all at ps (omega (arith, le)))
