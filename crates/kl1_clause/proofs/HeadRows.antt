@@ -95,7 +95,7 @@ mutual
   terms_checks (more p ps) fr ix next os cs =
       let same : next + structures_of p + structures_in ps ≡ next + (structures_of p + structures_in ps) = omega arith in
       let later = checks_in fr (suc ix) (next + structures_of p) ps in
-      let first = record { frame = fr; index = ix; left = suc (count_of ps) } in
+      let first : Open = record { frame = fr; index = ix; left = suc (count_of ps) } in
       ap (node_checks next (first ∷ os)) (append_assoc (nodes_of p) (nodes_of_all ps) cs)
       ∙ (term_checks p fr ix (count_of ps) next os (nodes_of_all ps ++ cs)
       ∙ (ap (λ l. checks_of fr ix next p ++ l) (terms_checks ps fr (suc ix) (next + structures_of p) os cs)
@@ -119,7 +119,7 @@ mutual
   terms_paths (more p ps) fr ix next os cs =
       let same : next + structures_of p + structures_in ps ≡ next + (structures_of p + structures_in ps) = omega arith in
       let later = paths_in fr (suc ix) (next + structures_of p) ps in
-      let first = record { frame = fr; index = ix; left = suc (count_of ps) } in
+      let first : Open = record { frame = fr; index = ix; left = suc (count_of ps) } in
       ap (node_paths next (first ∷ os)) (append_assoc (nodes_of p) (nodes_of_all ps) cs)
       ∙ (term_paths p fr ix (count_of ps) next os (nodes_of_all ps ++ cs)
       ∙ (ap (λ l. paths_of fr ix next p ++ l) (terms_paths ps fr (suc ix) (next + structures_of p) os cs)

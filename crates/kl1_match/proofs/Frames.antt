@@ -266,10 +266,16 @@ going_done built h names checks span frames before after at p le = record {
       );
 }
 
-pub named_check : (count : ℕ) (cs : List HeadCheck) (at : ℕ) (c : HeadCheck) → AreNamedIn count cs → at < length cs → c ≡ get_or cs at c → IsNamedIn count c.asks
-named_check count [] at c p lt e = absurd (omega (arith, lt))
-named_check count (d ∷ cs) zero c p lt e = let P : HeadCheck → Type 0 = λ x. IsNamedIn count x.asks in subst P (sym e) p.0
-named_check count (d ∷ cs) (suc at) c p lt e = named_check count cs at c p.1 (omega (arith, lt)) e
+pub named_check : (count : ℕ) (cs : List HeadCheck) (at : ℕ) (d : HeadCheck) → AreNamedIn count cs → at < length cs → IsNamedIn count (get_or cs at d).asks
+named_check count [] at d p lt = absurd (omega (arith, lt))
+named_check count (c ∷ cs) zero d p lt = p.0
+named_check count (c ∷ cs) (suc at) d p lt = named_check count cs at d p.1 (omega (arith, lt))
+
+-- of a check that is there it doesn't matter what stands for one that isn't
+pub same_check : (cs : List HeadCheck) (at : ℕ) (d : HeadCheck) → at < length cs → get_or cs at d ≡ get_or cs at (get_or cs at d)
+same_check [] at d lt = absurd (omega (arith, lt))
+same_check (c ∷ cs) zero d lt = refl
+same_check (c ∷ cs) (suc at) d lt = same_check cs at d (omega (arith, lt))
 
 -- the names of a clause's checks
 pub checks_named : {N : Type 0} (names : List N) (compiled : CompiledClause) → IsClause names compiled → AreNamedIn (length names) compiled.checks.items

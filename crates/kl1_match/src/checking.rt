@@ -136,11 +136,13 @@ pub(crate) fn run_checks<N: NameValue>(
     let mut at: usize = 0;
     while at < checks.len() {
         match do_check(store, names, checks[at], frames) {
-            Met::Agrees => {}
-            Met::Waits(variable) => awaited.push(variable)?,
+            Met::Agrees => at += 1,
+            Met::Waits(variable) => {
+                awaited.push(variable)?;
+                at += 1;
+            }
             Met::Clashes => return Ok(false),
         }
-        at += 1;
     }
     Ok(true)
 }

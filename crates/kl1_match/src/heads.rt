@@ -1,9 +1,11 @@
 // The verdict of a clause's head on a goal.
 
-ghost use Rattle.std.specs.Prelude.{◌≡◌, ◌≤◌, [], IfOk, OnOk, IsTrue, vec_capacity};
+ghost use Rattle.std.specs.Prelude.{◌≡◌, ◌≤◌, [], length, IfOk, OnOk, IsTrue, vec_capacity};
 ghost use Rattle.kl1_store.specs.Held.{IsIn};
 ghost use Rattle.kl1_clause.specs.Plain.{IsPlain};
 ghost use Rattle.kl1_match.specs.Instances.{IsClause};
+ghost use Rattle.kl1_match.specs.Spans.{AreSpans};
+ghost use Rattle.kl1_match.specs.Frames.{places_found};
 ghost use Rattle.kl1_match.specs.Matching.{Keeps};
 ghost use Rattle.kl1_match.specs.Verdicts.{IsVerdict, IsTried};
 
@@ -12,7 +14,7 @@ use crate::checking::{put_found, run_checks};
 use crate::place::Place;
 use crate::span::Span;
 use crate::verdict::Verdict;
-use kl1_clause::CompiledClause;
+use kl1_clause::{CompiledClause, Path};
 use kl1_store::{Cell, Store};
 use kl1_text::NameValue;
 use std::alloc::AllocError;
@@ -62,6 +64,25 @@ fn clear_places<N: NameValue, const KEEP: bool>(
     Ok(())
 }
 
+/// Puts the places to which paths lead in a list without any, if places are kept; there is room for them then.
+#[inline(always)]
+fn keep_places<N: NameValue, const KEEP: bool>(
+    store: &Store<N>,
+    paths: &[Path],
+    frames: &[Span],
+    places: &mut Vec<Place<N>>,
+)
+    requires frames { AreSpans store.now.held frames.now }
+    requires empty { places.old.items ≡ [] }
+    requires room { IsTrue KEEP → length paths.now ≤ vec_capacity places.old }
+    ensures { IsTrue KEEP → places.new.items ≡ places_found store.now.held frames.now paths.now }
+{
+    if KEEP {
+        put_found(store, paths, frames, places);
+        return;
+    }
+}
+
 /// The verdict of the match of a clause with a goal alone, whatever its tests and the places of its variables say: that it
 /// agrees, clashes, or waits, if the names of the clause's code are these. If places are to be kept, `places` gets those of
 /// the head's variables that are reached, in order; else nothing is said of it. `awaited` gets the variables that its patterns wait
@@ -92,9 +113,7 @@ pub fn find_match<N: NameValue, const KEEP: bool>(
     if !run_checks(store, names, checks, span, frames, awaited)? {
         return Ok(Verdict::Rejects);
     }
-    if KEEP {
-        put_found(store, clause.paths.as_slice(), frames.as_slice(), places);
-    }
+    keep_places::<_, KEEP>(store, clause.paths.as_slice(), frames.as_slice(), places);
     if awaited.len() == before {
         return Ok(Verdict::Accepts);
     }

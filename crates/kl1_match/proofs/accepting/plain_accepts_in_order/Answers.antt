@@ -14,3 +14,19 @@ pub run_checks-requires-clause-named : goal.run_checks-requires-clause-named
 run_checks-requires-clause-named g c =
     let P : List HeadCheck → Type 0 = λ l. AreNamedIn (length c.args.names.now) l in
     subst P (sym c.as_slice-checks.ensures.value) (checks_named c.args.names.now c.args.clause.now c.requires.clause)
+
+pub returns : goal.returns
+returns g c =
+    let h = c.args.store.now.held in
+    let frames = c.run_checks.new.frames.items in
+    let P : Bool → Type 0 = λ b. HasRun g.N.NameValue.built h c.args.names.now c.as_slice-checks.result.now c.span_of-span.result frames c.clear.new.self.items c.run_checks.new.awaited.items b in
+    let Q : List HeadCheck → Type 0 = λ l. HasRun g.N.NameValue.built h c.args.names.now l c.span_of-span.result frames c.clear.new.self.items c.run_checks.new.awaited.items true in
+    let run = subst Q c.as_slice-checks.ensures.value (subst P c.if-not-branch.false c.in_ok-run_checks.ensures) in
+    let none : c.run_checks.new.awaited.items ≡ [] = search rules in
+    IfOk-weaker c.keep_found.result (λ kept. IsTrue kept → places_behind c.keep_found.new.cells.items ≡ places_found h c.as_slice-2.result.now c.as_slice.result.now)
+    (λ kept. IsTrue kept → IsVerdict g.N.NameValue.built c.args.names.now c.args.clause.now h c.args.goal (places_behind c.keep_found.new.cells.items) [] [] Accepts)
+    (λ b k yes.
+    kept_accepts g.N.NameValue.built c.args.names.now c.args.clause.now h c.args.goal c.span_of-span.result frames (places_behind c.keep_found.new.cells.items) c.clear.new.self.items c.run_checks.new.awaited.items c.mark.ensures.formed c.span_of-span.ensures.within c.span_of-span.ensures.means
+    (sym c.saturating_sub.ensures ∙ c.if-saturating_sub-clause.false) c.clear.ensures.items none c.requires.plain run
+    (k yes ∙ (ap (λ l. places_found h l c.as_slice.result.now) c.as_slice-2.ensures.value ∙ ap (places_found h frames) c.as_slice.ensures.value)))
+    c.keep_found.ensures
