@@ -1,5 +1,5 @@
 use Rattle.kl1_user_account.proofs.Stacks.{same_atom_node, same_structure_node}
-use Rattle.kl1_user_account.proofs.printing.node_of.Goals as goal
+use Rattle.kl1_user_account.proofs.printing.put_top.Goals as goal
 
 pub text_of-requires-clause-named : goal.text_of-requires-clause-named
 text_of-requires-clause-named g c =
