@@ -99,8 +99,10 @@ fn text_of<A: AtomSource>(names: &mut A, seat: &mut A::Seat, name: CellName) -> 
 }
 
 /// Whether a structure with this name and `count` arguments is a list cell.
+#[tactic(auto, using(crate::proofs::Prints::named_cell))]
 fn is_list_cell(name: CellName, count: usize) -> bool
-    ensures { IsTrue result → (ks : List Known) (f : Reading) → Fits ks f → node_with f (Structure name count) ≡ list_cell }
+    ensures count { IsTrue result → count ≡ 2 }
+    ensures node { IsTrue result → (ks : List Known) (f : Reading) → Fits ks f → node_with f (Structure name count) ≡ list_cell }
 {
     count == 2 && name.same(&CellName::of(BuiltIn::ListCell))
 }
