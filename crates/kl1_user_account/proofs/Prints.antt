@@ -1,5 +1,5 @@
 -- A cell's term printed node by node.
-use Rattle.std.proofs.Common.{◌≡◌, ℕ, List, length, refl, sym, ap, ◌∙◌}
+use Rattle.std.proofs.Common.{◌≡◌, ℕ, List, length, sym, ap, ◌∙◌}
 use Rattle.std.specs.Prelude.{Option}
 use Rattle.kl1_model.specs.Term.{Term}
 use Rattle.kl1_model.specs.Print.{print}
@@ -31,4 +31,4 @@ cell_printed node p q ts is printed = printed ∙ sym (ap (λ (n : Node). text_o
 
 -- two arguments of the list cell's name are a list cell, for each reading that fits
 pub named_cell : (name : CellName) (count : ℕ) (ks : List Known) (f : Reading) → name ≡ built ListCell → count ≡ 2 → Fits ks f → Structure (f name) count ≡ list_cell
-named_cell name count ks f is two fits = rw is (rw two (rw (fits.reads.texts ListCell) refl))
+named_cell name count ks f is two fits = ap (λ n. Structure (f n) count) is ∙ (ap (λ k. Structure (f (built ListCell)) k) two ∙ ap (λ t. Structure t 2) (fits.reads.texts ListCell))

@@ -99,7 +99,6 @@ fn text_of<A: AtomSource>(names: &mut A, seat: &mut A::Seat, name: CellName) -> 
 }
 
 /// Whether a structure with this name and `count` arguments is a list cell.
-#[tactic(auto, using(crate::proofs::Prints::named_cell))]
 fn is_list_cell(name: CellName, count: usize) -> bool
     ensures count { IsTrue result → count ≡ 2 }
     ensures node { IsTrue result → (ks : List Known) (f : Reading) → Fits ks f → node_with f (Structure name count) ≡ list_cell }
@@ -108,7 +107,6 @@ fn is_list_cell(name: CellName, count: usize) -> bool
 }
 
 /// Prints what is at the top of a term, which is the same for all readings.
-#[tactic(auto, using(crate::proofs::Prints::cell_printed))]
 fn put_top<A: AtomSource>(
     names: &mut A,
     seat: &mut A::Seat,
