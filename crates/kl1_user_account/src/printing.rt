@@ -11,7 +11,7 @@ ghost use Rattle.kl1_store.specs.Held.{IsIn, AreIn, arguments_of};
 ghost use Rattle.kl1_user_effects.specs.Fitting.{Reading, Fits};
 ghost use Rattle.kl1_user_effects.specs.Account.{meaning};
 ghost use Rattle.kl1_user_effects.specs.Naming.{AreSmall, Keeps};
-ghost use Rattle.kl1_user_account.specs.declared.top.Top.TheVariants.{Structure};
+ghost use Rattle.kl1_user_account.specs.declared.top.Top.TheVariants.{Atom, Structure};
 ghost use Rattle.kl1_user_account.specs.Tops.{node_with, count_at, list_cell, IsNext, TakesTop};
 
 use crate::top::Top;
@@ -106,6 +106,45 @@ fn is_list_cell(name: CellName, count: usize) -> bool
     count == 2 && name.same(&CellName::of(BuiltIn::ListCell))
 }
 
+/// Prints an atom with this name, which is the same for all readings.
+fn put_atom<A: AtomSource>(
+    names: &mut A,
+    seat: &mut A::Seat,
+    printer: &mut Printer,
+    name: CellName,
+) -> Result<(), AllocError>
+    requires of { A.is_of names.old seat.old }
+    requires small { AreSmall (A.knows seat.old) }
+    requires named { (f g : Reading) → Fits (A.knows seat.old) f → Fits (A.knows seat.old) g → f name ≡ g name }
+    ensures text { OnOk result ((f : Reading) → Fits (A.knows seat.old) f → (ts : List Term) → text_with printer.new ts ≡ text_with printer.old (with_node (node_with f (Atom name)) ts)) }
+    ensures waits { OnOk result (0 < waits_of printer.old → waits_of printer.new + 1 ≡ waits_of printer.old) }
+    ensures keeps { Keeps A.is_of A.place A.knows A.published names.old names.new seat.old seat.new }
+    ensures knows { A.knows seat.new ≡ A.knows seat.old }
+{
+    let text = text_of(names, seat, name);
+    printer.put_atom(&text)
+}
+
+/// Prints a structure with this name, which is the same for all readings, and `count` arguments.
+fn put_structure<A: AtomSource>(
+    names: &mut A,
+    seat: &mut A::Seat,
+    printer: &mut Printer,
+    name: CellName,
+    count: usize,
+) -> Result<(), AllocError>
+    requires of { A.is_of names.old seat.old }
+    requires small { AreSmall (A.knows seat.old) }
+    requires named { (f g : Reading) → Fits (A.knows seat.old) f → Fits (A.knows seat.old) g → f name ≡ g name }
+    ensures text { OnOk result ((f : Reading) → Fits (A.knows seat.old) f → (ts : List Term) → text_with printer.new ts ≡ text_with printer.old (with_node (node_with f (Structure name count)) ts)) }
+    ensures waits { OnOk result (0 < waits_of printer.old → waits_of printer.new + 1 ≡ count + waits_of printer.old) }
+    ensures keeps { Keeps A.is_of A.place A.knows A.published names.old names.new seat.old seat.new }
+    ensures knows { A.knows seat.new ≡ A.knows seat.old }
+{
+    let text = text_of(names, seat, name);
+    printer.put_structure(&text, count)
+}
+
 /// Prints what is at the top of a term, which is the same for all readings.
 fn put_top<A: AtomSource>(
     names: &mut A,
@@ -124,16 +163,12 @@ fn put_top<A: AtomSource>(
     match top {
         Top::Variable(number) => printer.put_variable(number),
         Top::Integer(number) => printer.put_integer(number),
-        Top::Atom(name) => {
-            let text = text_of(names, seat, name);
-            printer.put_atom(&text)
-        }
+        Top::Atom(name) => put_atom(names, seat, printer, name),
         Top::Structure(name, count) => {
             if is_list_cell(name, count) {
                 return printer.put_cell();
             }
-            let text = text_of(names, seat, name);
-            printer.put_structure(&text, count)
+            put_structure(names, seat, printer, name, count)
         }
     }
 }
