@@ -20,9 +20,9 @@ use std::alloc::{AllocError, Global};
 use std::collections::HashSet;
 
 /// The pairs of structures that are compared before one is put down as known, of the first level, and for each level more.
-const FIRST_SPARED: usize = 64;
+pub(crate) const FIRST_SPARED: usize = 64;
 
-const SPARED_BY_LEVEL: usize = 4;
+pub(crate) const SPARED_BY_LEVEL: usize = 4;
 
 /// Puts a variable on the list of those that are waited for, and says yes.
 fn wait_for(waits: &mut Vec<u32>, variable: u32) -> Result<bool, AllocError>
@@ -33,7 +33,7 @@ fn wait_for(waits: &mut Vec<u32>, variable: u32) -> Result<bool, AllocError>
 }
 
 /// Looks at two cells that stand for themselves: false if they clash at once.
-fn compare_sides<N: NameValue>(
+pub(crate) fn compare_sides<N: NameValue>(
     cells: &Cells<N>,
     frames: &mut Vec<Frame>,
     waits: &mut Vec<u32>,
@@ -76,7 +76,7 @@ fn compare_sides<N: NameValue>(
 }
 
 /// Whether two cells are structures that were compared.
-fn is_known<N: Copy>(pairs: &HashSet<[u32; 2]>, left: Cell<N>, right: Cell<N>) -> bool
+pub(crate) fn is_known<N: Copy>(pairs: &HashSet<[u32; 2]>, left: Cell<N>, right: Cell<N>) -> bool
     ensures { IsTrue result → IsKnown left right pairs.now.keys }
 {
     if let Cell::Structure(first) = left {
@@ -90,7 +90,7 @@ fn is_known<N: Copy>(pairs: &HashSet<[u32; 2]>, left: Cell<N>, right: Cell<N>) -
 /// Puts a pair that was compared down as known, unless some are still to be spared.
 #[inline]
 #[tactic(auto, using(crate::proofs::Comparing::pair_kept))]
-fn put_down(
+pub(crate) fn put_down(
     pairs: &mut HashSet<[u32; 2]>,
     spared: &mut usize,
     frame: Frame,

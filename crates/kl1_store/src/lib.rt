@@ -26,6 +26,8 @@ mod point;
 mod qualified;
 mod remembering;
 mod renaming;
+mod rests;
+mod resume;
 mod room;
 mod same;
 mod same_scratch;

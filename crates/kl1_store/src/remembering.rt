@@ -10,6 +10,8 @@ use crate::cell::Cell;
 use crate::cells::Cells;
 use crate::compare::compare;
 use crate::frame::Frame;
+use crate::rests::Rests;
+use crate::resume::{Course, compare_heads, compare_rest};
 use crate::same_scratch::{Remembered, SameScratch};
 use kl1_text::NameValue;
 use std::alloc::{AllocError, Global};
@@ -65,6 +67,7 @@ fn compare_alone<N: NameValue>(
 /// Compares two structures, and remembers what this gave, if it isn't remembered already and there aren't too many others.
 fn compare_structures<N: NameValue>(
     cells: &Cells<N>,
+    rests: &Rests,
     scratch: &mut SameScratch,
     alloc: Global,
     waits: &mut Vec<u32>,
@@ -81,14 +84,15 @@ fn compare_structures<N: NameValue>(
         return Ok(alike);
     }
     let mut found = Vec::new(alloc);
-    let alike = compare_alone(
-        cells,
-        &mut scratch.frames,
-        alloc,
-        &mut found,
-        Cell::Structure(left),
-        Cell::Structure(right),
-    )?;
+    let mut course = Course::new(alloc);
+    let frames = &mut scratch.frames;
+    let alike = match rests.newest(left, right) {
+        None => compare_heads(cells, frames, &mut course, &mut found, left, right)?,
+        Some(open) => compare_rest(cells, frames, &mut course, &mut found, open)?,
+    };
+    if !alike {
+        found.clear();
+    }
     waits.extend_from_slice(found.as_slice())?;
     if scratch.remembered.len() < MOST {
         scratch.remembered.push(Remembered {
@@ -96,6 +100,8 @@ fn compare_structures<N: NameValue>(
             right,
             alike,
             waits: found,
+            met: course.met,
+            open: course.open,
         })?;
     }
     Ok(alike)
@@ -105,6 +111,7 @@ fn compare_structures<N: NameValue>(
 /// those in it.
 pub fn compare_once<N: NameValue>(
     cells: &Cells<N>,
+    rests: &Rests,
     scratch: &mut SameScratch,
     alloc: Global,
     waits: &mut Vec<u32>,
@@ -121,7 +128,7 @@ pub fn compare_once<N: NameValue>(
     let second = cells.walk(right);
     if let Cell::Structure(structure) = first {
         if let Cell::Structure(other) = second {
-            return compare_structures(cells, scratch, alloc, waits, structure, other);
+            return compare_structures(cells, rests, scratch, alloc, waits, structure, other);
         }
     }
     let alike = compare_alone(

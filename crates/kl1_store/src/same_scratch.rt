@@ -5,13 +5,26 @@ ghost use Rattle.std.specs.Prelude.{◌≡◌, []};
 use crate::frame::Frame;
 use std::alloc::Global;
 
-/// What comparing two structures, by their numbers, gave: whether they may be the same, and the variables that this waits for.
+/// The arguments that are looked at again rather than that a rest is kept.
+const FEW: usize = 32;
+
+/// What comparing two structures, by their numbers, gave: whether they may be the same, and the variables that this waits for. It met
+/// `met` arguments; those in turn of the pairs `open` wait.
 #[derive(Drop)]
 pub(crate) struct Remembered {
     pub(crate) left: u32,
     pub(crate) right: u32,
     pub(crate) alike: bool,
     pub(crate) waits: Vec<u32>,
+    pub(crate) met: usize,
+    pub(crate) open: Vec<Frame>,
+}
+
+impl Remembered {
+    /// Whether to go on where it was left spares enough: at least 32 arguments, and four for each that waits.
+    pub(crate) fn is_worth_keeping(&self) -> bool {
+        self.alike && self.met >= FEW && (self.met - FEW) / 4 >= self.open.len()
+    }
 }
 
 /// Lists that a call empties before it uses them, and what comparisons gave since `Store::forget`. It keeps the lists' memory for

@@ -117,6 +117,7 @@ pub(crate) fn hung_standing(
 {
     let standing = standing_of(store, rules, kind, predicate, trial)?;
     if !trial.awaited.is_empty() {
+        store.keep_rests(&trial.scratch.same)?;
         hang_on(store, trial.awaited.as_slice(), number)?;
     }
     Ok(standing)
@@ -320,10 +321,15 @@ pub(crate) fn wake_told<C: CodeSource>(
     ensures held { store.new.held ≡ store.old.held }
     ensures grown { HasGrown store.old store.new }
 {
+    // A number that was told of two variables stands twice, side by side.
+    let mut last: u64 = 0;
     for number in told {
-        wake(
-            store, goals, shoens, modules, known, predicate, trial, removed, *number, changes,
-        )?;
+        if *number != last {
+            wake(
+                store, goals, shoens, modules, known, predicate, trial, removed, *number, changes,
+            )?;
+        }
+        last = *number;
     }
     Ok(())
 }

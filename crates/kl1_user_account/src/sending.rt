@@ -14,6 +14,7 @@ ghost use Rattle.kl1_user_effects.specs.Drafts.{CanGoBack};
 ghost use Rattle.kl1_user_account.specs.Looking.{WakesTold};
 ghost use Rattle.kl1_user_account.specs.Sending.{AreAlike, Allows, Refuses, PutsOn, SendsAs};
 
+use crate::completing::put_in_order;
 use crate::counted::is_within;
 use crate::installing::begin_draft;
 use crate::limits::is_number;
@@ -144,6 +145,7 @@ pub(crate) fn wake_bound<C: CodeSource>(
 {
     draft.told.clear();
     store.tell(mark, &mut draft.told)?;
+    put_in_order(&mut draft.told);
     let predicate = predicate_of(modules, Kind::Nothing);
     wake_told(
         store,

@@ -56,6 +56,7 @@ impl<N: NameValue> Store<N> {
             variable,
             constant,
         );
+        self.rests.cut(mark.sizes);
     }
 
     /// Binds an unbound variable to an atom or an integer: what unification of the two does.
