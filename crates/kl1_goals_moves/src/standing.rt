@@ -39,7 +39,6 @@ pub fn standing_of<N: NameValue>(
     ensures standing { IfOk result (λ clause. (f : N → List ℕ) → Reads N.built f → (modules : List Module) (t : Term) → IsKind f store.now.held t kind → HasPredicate f store.now.held modules kind predicate.entry → StandsAs rules modules t trial.new.awaited.items clause) }
 {
     trial.awaited.clear();
-    store.forget(&mut trial.scratch.same);
     match kind {
         Kind::Calls(call) => choose(
             store,

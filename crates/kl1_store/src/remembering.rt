@@ -4,6 +4,7 @@ ghost use Rattle.std.specs.Prelude.{◌≡◌, ℕ, ◌<◌, List, [], length, I
 ghost use Rattle.std.specs.List.{All};
 ghost use Rattle.kl1_store.specs.Held.{Held, IsIn};
 ghost use Rattle.kl1_store.specs.Sameness.{AlikeAs};
+ghost use Rattle.kl1_store.specs.Resting.{AreRests};
 ghost use Rattle.kl1_store.specs.Remembers.{IsRemembered, Remembers, RecalledAs};
 
 use crate::cell::Cell;
@@ -74,6 +75,7 @@ fn compare_structures<N: NameValue>(
     left: u32,
     right: u32,
 ) -> Result<bool, AllocError>
+    requires rests { AreRests N.built cells.now.held rests.now }
     requires left_in { left < length cells.now.held.structures }
     requires right_in { right < length cells.now.held.structures }
     requires remembers { Remembers N.built cells.now.held scratch.old }
@@ -118,6 +120,7 @@ pub fn compare_once<N: NameValue>(
     left: Cell<N>,
     right: Cell<N>,
 ) -> Result<bool, AllocError>
+    requires rests { AreRests N.built cells.now.held rests.now }
     requires left_in { IsIn cells.now.held left }
     requires right_in { IsIn cells.now.held right }
     requires remembers { Remembers N.built cells.now.held scratch.old }

@@ -1,7 +1,7 @@
 // What is left of comparisons that stayed open.
 
-ghost use Rattle.std.specs.Prelude.{◌≡◌, ◌×◌, ◌≤◌, ℕ, List, [], OnOk, OnErr, MatchOption};
-ghost use Rattle.kl1_store.specs.Resting.{Rested, rests_in, newest_rest, rests_within, with_rest};
+ghost use Rattle.std.specs.Prelude.{◌≡◌, [], OnOk, OnErr, option_map};
+ghost use Rattle.kl1_store.specs.Resting.{newest_rest, with_rest, CutsTo};
 
 use crate::frame::Frame;
 use crate::mark::Mark;
@@ -32,6 +32,20 @@ pub struct Rests {
     open: Vec<Frame>,
 }
 
+impl Model for Rests {
+    ghost use Rattle.std.specs.Prelude.{List};
+    ghost use Rattle.kl1_store.specs.Resting.{Rested};
+
+    ghost Value = { List Rested };
+
+    ghost use Rattle.kl1_store.specs.Resting.{rests_in};
+    ghost use Rattle.kl1_store.specs.RestPlaces.{AreLogged};
+
+    ghost view = { λ s. rests_in s.log.items s.open.items };
+
+    ghost invariant = { λ s. AreLogged s.places s.log.items s.open.items };
+}
+
 impl Rests {
     /// Nothing is kept.
     pub fn new(alloc: Global) -> Self
@@ -46,7 +60,7 @@ impl Rests {
 
     /// What was left last of two structures, if anything is kept of them.
     pub fn newest(&self, left: u32, right: u32) -> Option<&[Frame]>
-        ensures { MatchOption result Unit (λ open. newest_rest left right self.now ≡ Some open.now) }
+        ensures { option_map (λ open. open.now) result ≡ newest_rest left right self.now }
     {
         // Most stores keep nothing.
         if self.log.is_empty() {
@@ -102,7 +116,7 @@ impl Rests {
 
     /// Lets go of the rests that were put down since a mark, without memory.
     pub fn cut(&mut self, mark: Mark)
-        ensures { self.new ≡ rests_within mark self.old }
+        ensures { CutsTo mark self.old self.new }
     {
         while let Some(rest) = self.log.pop() {
             if rest.bindings <= mark.bindings && rest.structures <= mark.structures {

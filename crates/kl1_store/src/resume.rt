@@ -1,6 +1,12 @@
 // Two structures side by side, from where their comparison was left.
 
-ghost use Rattle.std.specs.Prelude.{◌≡◌, ◌<◌, List, [], length, IfOk, OnOk};
+ghost use Rattle.std.specs.Prelude.{◌≡◌, ◌<◌, List, [], ◌∷◌, length, map, IfOk, OnOk};
+ghost use Rattle.std.specs.List.{AllByRecursion};
+ghost use Rattle.kl1_store.specs.declared.cell.Cell.TheVariants.{Structure};
+ghost use Rattle.kl1_store.specs.Meaning.{term_of};
+ghost use Rattle.kl1_store.specs.Resting.{IsOpen, turn_of};
+ghost use Rattle.kl1_store.specs.Resumes.{IsOnCourse, GoesOnAs};
+ghost use Rattle.kl1_store.specs.Waiting.{ArePairs, waiting};
 
 use crate::advance::turn;
 use crate::cell::Cell;
@@ -16,7 +22,7 @@ use std::collections::HashSet;
 /// yet, how many arguments it met, and those of them that wait.
 #[derive(Drop)]
 pub struct Course {
-    pairs: HashSet<[u32; 2]>,
+    pub pairs: HashSet<[u32; 2]>,
     deepest: usize,
     spared: usize,
     pub met: usize,
@@ -43,7 +49,11 @@ fn meet_turn<N: NameValue>(
     course: &mut Course,
     waits: &mut Vec<u32>,
     frame: Frame,
-) -> Result<bool, AllocError> {
+) -> Result<bool, AllocError>
+    requires open { IsOpen cells.now.held frame }
+    requires pairs { ArePairs cells.now.held frames.old.items }
+    ensures pairs { OnOk result (ArePairs cells.now.held frames.new.items) }
+{
     let Sides { left, right } = turn(cells, frame);
     if is_known(&course.pairs, left, right) {
         return Ok(true);
@@ -65,7 +75,11 @@ fn go_on<N: NameValue>(
     frames: &mut Vec<Frame>,
     course: &mut Course,
     waits: &mut Vec<u32>,
-) -> Result<bool, AllocError> {
+) -> Result<bool, AllocError>
+    requires pairs { ArePairs cells.now.held frames.old.items }
+    requires course { IsOnCourse N.built cells.now.held course.old waits.old.items }
+    ensures { IfOk result (GoesOnAs N.built cells.now.held (λ f. waiting f cells.now.held [] frames.old.items) course.old course.new waits.new.items) }
+{
     while let Some(frame) = frames.pop() {
         if frame.next >= frame.count {
             put_down(&mut course.pairs, &mut course.spared, frame)?;
@@ -92,7 +106,12 @@ pub fn compare_heads<N: NameValue>(
     waits: &mut Vec<u32>,
     left: u32,
     right: u32,
-) -> Result<bool, AllocError> {
+) -> Result<bool, AllocError>
+    requires left { left < length cells.now.held.structures }
+    requires right { right < length cells.now.held.structures }
+    requires course { IsOnCourse N.built cells.now.held course.old waits.old.items }
+    ensures { IfOk result (GoesOnAs N.built cells.now.held (λ f. record { left = term_of f cells.now.held (Structure left); right = term_of f cells.now.held (Structure right) } ∷ []) course.old course.new waits.new.items) }
+{
     frames.clear();
     if !compare_sides(
         cells,
@@ -113,7 +132,11 @@ pub fn compare_rest<N: NameValue>(
     course: &mut Course,
     waits: &mut Vec<u32>,
     left: &[Frame],
-) -> Result<bool, AllocError> {
+) -> Result<bool, AllocError>
+    requires left { AllByRecursion (IsOpen cells.now.held) left.now }
+    requires course { IsOnCourse N.built cells.now.held course.old waits.old.items }
+    ensures { IfOk result (GoesOnAs N.built cells.now.held (λ f. map (turn_of f cells.now.held) left.now) course.old course.new waits.new.items) }
+{
     frames.clear();
     let mut rest = left;
     while let [first, more @ ..] = rest {

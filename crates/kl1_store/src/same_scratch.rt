@@ -1,6 +1,6 @@
 // What passive equality of two cells works with.
 
-ghost use Rattle.std.specs.Prelude.{◌≡◌, []};
+ghost use Rattle.std.specs.Prelude.{◌≡◌, true, [], IsTrue};
 
 use crate::frame::Frame;
 use std::alloc::Global;
@@ -22,7 +22,9 @@ pub(crate) struct Remembered {
 
 impl Remembered {
     /// Whether to go on where it was left spares enough: at least 32 arguments, and four for each that waits.
-    pub(crate) fn is_worth_keeping(&self) -> bool {
+    pub(crate) fn is_worth_keeping(&self) -> bool
+        ensures { IsTrue result → self.now.alike ≡ true }
+    {
         self.alike && self.met >= FEW && (self.met - FEW) / 4 >= self.open.len()
     }
 }

@@ -62,7 +62,7 @@ impl<N: NameValue> Model for Store<N> {
 
     ghost view = { λ s. kept_in s.cells s.hooks };
 
-    ghost invariant = { λ s. IsKept s.cells s.hooks s.levels };
+    ghost invariant = { λ s. IsKept N.built s.cells s.hooks s.levels s.rests };
 }
 
 impl<N: NameValue> Store<N> {
