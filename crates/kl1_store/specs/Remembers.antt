@@ -11,7 +11,7 @@ use Rattle.kl1_store.specs.Resting.{IsLeft}
 
 -- a comparison gave what passive equality of its two structures gives, beginning with no variables, and if they don't clash, what it left
 abbrev pub IsRemembered : {N : Type 0} → (BuiltIn → N) → Held N → Remembered → Type 0
-IsRemembered built h r = AlikeAs built h (Structure r.left) (Structure r.right) [] r.waits.items r.alike × (r.alike ≡ true → IsLeft built h r.left r.right r.open.items)
+IsRemembered built h r = AlikeAs built h (Structure r.left) (Structure r.right) [] r.waits.items r.alike × (r.alike ≡ true → IsLeft built h r.left r.right r.rest.items)
 
 -- each comparison that is remembered gave what passive equality gives, over what is held
 abbrev pub Remembers : {N : Type 0} → (BuiltIn → N) → Held N → SameScratch → Type 0

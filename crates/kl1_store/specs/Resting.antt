@@ -39,7 +39,7 @@ pub record IsOpen {N : Type 0} (h : Held N) (p : Frame) : Type 0 where
 
 -- of two structures the arguments in turn of these pairs are left
 pub record IsLeft {N : Type 0} (built : BuiltIn → N) (h : Held N) (l r : ℕ) (ps : List Frame) : Type 0 where
-  pub open : AllByRecursion (IsOpen h) ps
+  pub each : AllByRecursion (IsOpen h) ps
   pub is : (f : N → List ℕ) → Reads built f → IsRest (term_of f h (Structure l)) (term_of f h (Structure r)) (map (turn_of f h) ps)
 
 -- what was left of two structures when the store held this many bindings and structures
@@ -48,7 +48,7 @@ pub record Rested : Type 0 where
   pub right : ℕ
   pub bindings : ℕ
   pub structures : ℕ
-  pub open : List Frame
+  pub frames : List Frame
 
 -- a rest of what is held as it was when the rest was put down
 pub record IsRestIn {N : Type 0} (built : BuiltIn → N) (h : Held N) (r : Rested) : Type 0 where
@@ -56,7 +56,7 @@ pub record IsRestIn {N : Type 0} (built : BuiltIn → N) (h : Held N) (r : Reste
   pub structures : r.structures ≤ length h.structures
   pub left : r.left < r.structures
   pub right : r.right < r.structures
-  pub is : IsLeft built (record h { bindings = take r.bindings h.bindings }) r.left r.right r.open
+  pub is : IsLeft built (record h { bindings = take r.bindings h.bindings }) r.left r.right r.frames
 
 -- each is a rest of what is held
 abbrev pub AreRests : {N : Type 0} → (BuiltIn → N) → Held N → List Rested → Type 0
@@ -70,20 +70,20 @@ end_before (r ∷ rs) ps = r.from
 -- the rests that a log and its pairs stand for
 abbrev pub rests_in : List Rest → List Frame → List Rested
 rests_in [] ps = []
-rests_in (r ∷ rs) ps = record { left = r.left; right = r.right; bindings = r.bindings; structures = r.structures; open = take (end_before rs ps - r.from) (drop r.from ps) } ∷ rests_in rs ps
+rests_in (r ∷ rs) ps = record { left = r.left; right = r.right; bindings = r.bindings; structures = r.structures; frames = take (end_before rs ps - r.from) (drop r.from ps) } ∷ rests_in rs ps
 
 -- what was left last of two structures, if anything is kept of them
 abbrev pub newest_rest : ℕ → ℕ → List Rested → Option (List Frame)
 newest_rest l r [] = None
 newest_rest l r (x ∷ xs) =
     elim (newest_rest l r xs) [
-      | None ↦ if x.left == l && x.right == r then Some x.open else None
+      | None ↦ if x.left == l && x.right == r then Some x.frames else None
       | Some ps ↦ Some ps
     ]
 
 -- rests, and one more that is put down now
 abbrev pub with_rest : List Rested → Mark → ℕ → ℕ → List Frame → List Rested
-with_rest rs m l r ps = rs ++ record { left = l; right = r; bindings = m.bindings; structures = m.structures; open = ps } ∷ []
+with_rest rs m l r ps = rs ++ record { left = l; right = r; bindings = m.bindings; structures = m.structures; frames = ps } ∷ []
 
 -- a rest that was put down at a mark or before it
 pub record IsBy (m : Mark) (r : Rested) : Type 0 where

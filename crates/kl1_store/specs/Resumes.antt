@@ -16,11 +16,11 @@ use Rattle.kl1_store.specs.Resting.{IsOpen, turn_of, StandFor}
 
 -- what waits of a comparison, as equations
 abbrev pub open_of : {N : Type 0} → (N → List ℕ) → Held N → Course → List Equation
-open_of f h c = map (turn_of f h) c.open.items
+open_of f h c = map (turn_of f h) c.rest.items
 
 -- the variables that are named are those for which what is open waits, and none of it clashes
 pub record IsOnCourse {N : Type 0} (built : BuiltIn → N) (h : Held N) (c : Course) (waits : List ℕ) : Type 0 where
-  pub open : AllByRecursion (IsOpen h) c.open.items
+  pub each : AllByRecursion (IsOpen h) c.rest.items
   pub known : (f : N → List ℕ) → Reads built f → (l r : ℕ) → is_among l r c.pairs.keys ≡ true → StandFor (record { left = term_of f h (Structure l); right = term_of f h (Structure r) } ∷ open_of f h c) (open_of f h c)
   pub clash : (f : N → List ℕ) → Reads built f → clash_among (open_of f h c) ≡ false
   pub awaited : (f : N → List ℕ) → Reads built f → (v : ℕ) → Contains waits v ↔ Contains (awaited_among (open_of f h c)) v

@@ -103,7 +103,7 @@ fn compare_structures<N: NameValue>(
             alike,
             waits: found,
             met: course.met,
-            open: course.open,
+            rest: course.rest,
         })?;
     }
     Ok(alike)

@@ -29,7 +29,7 @@ pub struct Rest {
 pub struct Rests {
     places: HashMap<[u32; 2], u32>,
     log: Vec<Rest>,
-    open: Vec<Frame>,
+    frames: Vec<Frame>,
 }
 
 impl Model for Rests {
@@ -41,9 +41,9 @@ impl Model for Rests {
     ghost use Rattle.kl1_store.specs.Resting.{rests_in};
     ghost use Rattle.kl1_store.specs.RestPlaces.{AreLogged};
 
-    ghost view = { λ s. rests_in s.log.items s.open.items };
+    ghost view = { λ s. rests_in s.log.items s.frames.items };
 
-    ghost invariant = { λ s. AreLogged s.places s.log.items s.open.items };
+    ghost invariant = { λ s. AreLogged s.places s.log.items s.frames.items };
 }
 
 impl Rests {
@@ -54,13 +54,13 @@ impl Rests {
         Rests {
             places: HashMap::new(alloc),
             log: Vec::new(alloc),
-            open: Vec::new(alloc),
+            frames: Vec::new(alloc),
         }
     }
 
     /// What was left last of two structures, if anything is kept of them.
     pub fn newest(&self, left: u32, right: u32) -> Option<&[Frame]>
-        ensures { option_map (λ open. open.now) result ≡ newest_rest left right self.now }
+        ensures { option_map (λ frames. frames.now) result ≡ newest_rest left right self.now }
     {
         // Most stores keep nothing.
         if self.log.is_empty() {
@@ -68,17 +68,17 @@ impl Rests {
         }
         match self.places.get(&[left, right]) {
             None => None,
-            Some(place) => Some(self.open_at(*place as usize - 1)),
+            Some(place) => Some(self.frames_at(*place as usize - 1)),
         }
     }
 
     /// The arguments that a rest names.
-    fn open_at(&self, index: usize) -> &[Frame] {
+    fn frames_at(&self, index: usize) -> &[Frame] {
         let from = self.log[index].from;
         if index + 1 < self.log.len() {
-            return &self.open[from..self.log[index + 1].from];
+            return &self.frames[from..self.log[index + 1].from];
         }
-        &self.open[from..]
+        &self.frames[from..]
     }
 
     /// Puts a rest after the others; if memory is refused, all is as before.
@@ -87,9 +87,9 @@ impl Rests {
         sizes: Mark,
         left: u32,
         right: u32,
-        open: &[Frame],
+        frames: &[Frame],
     ) -> Result<(), AllocError>
-        ensures ok { OnOk result (self.new ≡ with_rest self.old sizes left right open.now) }
+        ensures ok { OnOk result (self.new ≡ with_rest self.old sizes left right frames.now) }
         ensures err { OnErr result (self.new ≡ self.old) }
     {
         if self.log.len() >= MOST {
@@ -100,7 +100,7 @@ impl Rests {
             Some(place) => *place,
         };
         self.log.reserve(1)?;
-        self.open.reserve(open.len())?;
+        self.frames.reserve(frames.len())?;
         let place = self.log.len() as u32 + 1;
         self.places.insert([left, right], place)?;
         self.log.push_reserved(Rest {
@@ -109,9 +109,9 @@ impl Rests {
             structures: sizes.structures,
             before,
             bindings: sizes.bindings,
-            from: self.open.len(),
+            from: self.frames.len(),
         });
-        self.open.extend_from_slice(open)
+        self.frames.extend_from_slice(frames)
     }
 
     /// Lets go of the rests that were put down since a mark, without memory.
@@ -123,7 +123,7 @@ impl Rests {
                 self.log.push_reserved(rest);
                 return;
             }
-            self.open.truncate(rest.from);
+            self.frames.truncate(rest.from);
             if rest.before == 0 {
                 self.places.remove(&[rest.left, rest.right]);
             } else if let Some(place) = self.places.get_mut(&[rest.left, rest.right]) {

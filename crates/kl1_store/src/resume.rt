@@ -26,7 +26,7 @@ pub struct Course {
     deepest: usize,
     spared: usize,
     pub met: usize,
-    pub open: Vec<Frame>,
+    pub rest: Vec<Frame>,
 }
 
 impl Course {
@@ -37,7 +37,7 @@ impl Course {
             deepest: 0,
             spared: FIRST_SPARED,
             met: 0,
-            open: Vec::new(alloc),
+            rest: Vec::new(alloc),
         }
     }
 }
@@ -50,7 +50,7 @@ fn meet_turn<N: NameValue>(
     waits: &mut Vec<u32>,
     frame: Frame,
 ) -> Result<bool, AllocError>
-    requires open { IsOpen cells.now.held frame }
+    requires turn { IsOpen cells.now.held frame }
     requires pairs { ArePairs cells.now.held frames.old.items }
     ensures pairs { OnOk result (ArePairs cells.now.held frames.new.items) }
 {
@@ -64,7 +64,7 @@ fn meet_turn<N: NameValue>(
         return Ok(false);
     }
     if waits.len() > before {
-        course.open.push(frame)?;
+        course.rest.push(frame)?;
     }
     Ok(true)
 }

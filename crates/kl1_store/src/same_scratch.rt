@@ -9,7 +9,7 @@ use std::alloc::Global;
 const FEW: usize = 32;
 
 /// What comparing two structures, by their numbers, gave: whether they may be the same, and the variables that this waits for. It met
-/// `met` arguments; those in turn of the pairs `open` wait.
+/// `met` arguments; those in turn of the pairs of `rest` wait.
 #[derive(Drop)]
 pub(crate) struct Remembered {
     pub(crate) left: u32,
@@ -17,7 +17,7 @@ pub(crate) struct Remembered {
     pub(crate) alike: bool,
     pub(crate) waits: Vec<u32>,
     pub(crate) met: usize,
-    pub(crate) open: Vec<Frame>,
+    pub(crate) rest: Vec<Frame>,
 }
 
 impl Remembered {
@@ -25,7 +25,7 @@ impl Remembered {
     pub(crate) fn is_worth_keeping(&self) -> bool
         ensures { IsTrue result → self.now.alike ≡ true }
     {
-        self.alike && self.met >= FEW && (self.met - FEW) / 4 >= self.open.len()
+        self.alike && self.met >= FEW && (self.met - FEW) / 4 >= self.rest.len()
     }
 }
 

@@ -277,7 +277,15 @@ impl<N: NameValue> Store<N> {
         ensures alike { IfOk result (AlikeAs N.built self.now.held left right waits.old.items waits.new.items) }
         ensures remembers { OnOk result (Remembers N.built self.now.held scratch.new) }
     {
-        compare_once(&self.cells, &self.rests, scratch, self.alloc, waits, left, right)
+        compare_once(
+            &self.cells,
+            &self.rests,
+            scratch,
+            self.alloc,
+            waits,
+            left,
+            right,
+        )
     }
 
     /// Forgets what was compared, so that nothing is remembered that isn't so for this store as it is now.
@@ -305,7 +313,7 @@ impl<N: NameValue> Store<N> {
         while let [first, more @ ..] = rest {
             if first.is_worth_keeping() {
                 self.rests
-                    .put(sizes, first.left, first.right, first.open.as_slice())?;
+                    .put(sizes, first.left, first.right, first.rest.as_slice())?;
             }
             rest = more;
         }

@@ -60,17 +60,18 @@ fn tell_bound(store: &Store<CellName>, since: Point, told: &mut Vec<u64>) -> Res
         return Ok(());
     }
     store.tell(since, told)?;
-    put_in_order(told);
+    if told.len() > 1 {
+        put_in_order(told);
+    }
     Ok(())
 }
 
 /// Puts numbers in order, so that equal ones stand side by side.
+#[inline(never)]
 pub(crate) fn put_in_order(told: &mut Vec<u64>)
     ensures { IsPermutation told.old.items told.new.items }
 {
-    if told.len() > 1 {
-        told.as_mut_slice().sort_unstable();
-    }
+    told.as_mut_slice().sort_unstable();
 }
 
 /// Looks at the goals that were told of bindings since a mark, and at those that come. The predicate of goals of one kind is
