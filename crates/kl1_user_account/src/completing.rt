@@ -1,6 +1,7 @@
 // Drafts that are finished.
 
 ghost use Rattle.std.specs.Prelude.{◌≡◌, ◌+◌, ◌≤◌, ◌++◌, true, [], length, drop, OnOk};
+ghost use Rattle.std.specs.List.Sorted.{IsPermutation};
 ghost use Rattle.kl1_store.specs.Hooks.{HasGrown, told_by};
 ghost use Rattle.kl1_clause.specs.Predicates.{AreSome};
 ghost use Rattle.kl1_user_effects.specs.Kept.{AreGoalsIn, AreShoensIn};
@@ -53,7 +54,7 @@ fn wake_any<C: CodeSource>(
 /// Adds the numbers that hang on the variables that were bound since a point, with a first look whether any was.
 #[inline(always)]
 fn tell_bound(store: &Store<CellName>, since: Point, told: &mut Vec<u64>) -> Result<(), AllocError>
-    ensures { OnOk result (told.new.items ≡ told.old.items ++ told_by (drop since.sizes.bindings store.now.held.bindings) store.now.hooks) }
+    ensures { OnOk result (IsPermutation (told.old.items ++ told_by (drop since.sizes.bindings store.now.held.bindings) store.now.hooks) told.new.items) }
 {
     let now = store.mark();
     if now.sizes.bindings <= since.sizes.bindings {
