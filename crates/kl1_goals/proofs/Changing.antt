@@ -8,7 +8,7 @@ use Rattle.kl1_goals.specs.declared.goal.Goal.{Goal}
 use Rattle.kl1_goals.specs.declared.slot.Slot.{Slot}
 use Rattle.kl1_goals.specs.Lists.{is_other, has_number, is_after, stood_by, number_of}
 use Rattle.kl1_goals.specs.Tables.{Ascend, AreBefore}
-use Rattle.kl1_goals.specs.Slots.{goals_in, first_of, numbers_of, number_in, level_in, rank_in, AreLow, AreBelow, IsCut, IsAbsent, IsHeldAt, IsWithout, AreSlots, IsEmptyEnd, held_in, priority_in}
+use Rattle.kl1_goals.specs.Slots.{goals_in, first_of, numbers_of, number_in, level_in, rank_in, AreLow, AreBelow, IsCut, IsAbsent, IsHeldAt, IsWithout, AreSlots, IsEmptyEnd, held_in, priority_in, emptied}
 use Rattle.kl1_goals.specs.Readies.{stands}
 use Rattle.kl1_queue.specs.Ranks.{IsPriority}
 use Rattle.kl1_goals.proofs.Orders.{ascend_from, ascend_push, low_push}
@@ -63,7 +63,7 @@ without_on g h true old new e w = record {
 
 -- an emptied place
 pub without_at : {N : Type 0} (from : ℕ) (ss : List (Slot N)) (k : ℕ) (s : Slot N) → Ascend from (numbers_of ss) → k < length ss → get_or ss k s ≡ s → s.is_held ≡ true →
-    IsWithout s.goal (goals_in ss) (goals_in (set ss k (record { goal = s.goal; is_held = false })))
+    IsWithout s.goal (goals_in ss) (goals_in (set ss k (emptied s)))
 without_at from [] k s a w e h = absurd (omega arith)
 without_at from (t ∷ ss) zero s a w e h =
     rw (e, h) (without_first s.goal (goals_in ss) (all_others s.goal.number (suc t.goal.number) ss (omega (arith, ap number_in e)) a.1))
@@ -71,7 +71,7 @@ without_at from (t ∷ ss) (suc k) s a w e h =
     let within : k < length ss = omega arith in
     let above = ascend_from (suc t.goal.number) (numbers_of ss) k a.1 (omega (arith, length-map ss number_in)) in
     let differs = other_number t.goal.number s.goal.number (λ f. omega (arith, above, field_at number_in ss k s within e)) in
-    without_on s.goal t.goal t.is_held (goals_in ss) (goals_in (set ss k (record { goal = s.goal; is_held = false }))) differs (without_at (suc t.goal.number) ss k s a.1 within e h)
+    without_on s.goal t.goal t.is_held (goals_in ss) (goals_in (set ss k (emptied s))) differs (without_at (suc t.goal.number) ss k s a.1 within e h)
 
 -- goals of greater numbers stay as they are
 stay_on : {N : Type 0} (n : ℕ) (clause : Option ℕ) (b : Bool) (g : Goal N) (gs hs : List (Goal N)) → (g.number == n) ≡ false → map (stood_by n clause) gs ≡ hs → map (stood_by n clause) (cond b (g ∷ gs) gs) ≡ cond b (g ∷ hs) hs
@@ -90,7 +90,7 @@ stood_first : {N : Type 0} (clause : Option ℕ) (g : Goal N) (gs : List (Goal N
 stood_first clause g gs h = rw (eq-eqb g.number g.number refl, h) refl
 
 pub stood_at : {N : Type 0} (from : ℕ) (clause : Option ℕ) (ss : List (Slot N)) (k : ℕ) (s : Slot N) → Ascend from (numbers_of ss) → k < length ss → get_or ss k s ≡ s → s.is_held ≡ true →
-    goals_in (set ss k (record { goal = standing_by clause s.goal; is_held = s.is_held })) ≡ map (stood_by s.goal.number clause) (goals_in ss)
+    goals_in (set ss k (record { goal = standing_by clause s.goal; is_held = s.is_held; before = s.before })) ≡ map (stood_by s.goal.number clause) (goals_in ss)
 stood_at from clause [] k s a w e h = absurd (omega arith)
 stood_at from clause (t ∷ ss) zero s a w e h =
     rw (e, h) (stood_first clause s.goal (goals_in ss) (all_stay s.goal.number (suc t.goal.number) clause ss (omega (arith, ap number_in e)) a.1))
@@ -98,16 +98,20 @@ stood_at from clause (t ∷ ss) (suc k) s a w e h =
     let within : k < length ss = omega arith in
     let above = ascend_from (suc t.goal.number) (numbers_of ss) k a.1 (omega (arith, length-map ss number_in)) in
     let differs = other_number t.goal.number s.goal.number (λ f. omega (arith, above, field_at number_in ss k s within e)) in
-    sym (stay_on s.goal.number clause t.is_held t.goal (goals_in ss) (goals_in (set ss k (record { goal = standing_by clause s.goal; is_held = s.is_held }))) differs (sym (stood_at (suc t.goal.number) clause ss k s a.1 within e h)))
+    sym (stay_on s.goal.number clause t.is_held t.goal (goals_in ss) (goals_in (set ss k (record { goal = standing_by clause s.goal; is_held = s.is_held; before = s.before }))) differs (sym (stood_at (suc t.goal.number) clause ss k s a.1 within e h)))
 
 -- a goal after all others
 append_on : {N : Type 0} (b : Bool) (g : Goal N) (gs hs ks : List (Goal N)) → gs ≡ hs ++ ks → cond b (g ∷ gs) gs ≡ cond b (g ∷ hs) hs ++ ks
 append_on false g gs hs ks e = e
 append_on true g gs hs ks e = ap (λ l. g ∷ l) e
 
-pub goals_push : {N : Type 0} (ss : List (Slot N)) (g : Goal N) → goals_in (ss ++ record { goal = g; is_held = true } ∷ []) ≡ goals_in ss ++ g ∷ []
-goals_push [] g = refl
-goals_push (s ∷ ss) g = append_on s.is_held s.goal (goals_in (ss ++ record { goal = g; is_held = true } ∷ [])) (goals_in ss) (g ∷ []) (goals_push ss g)
+-- a place with a goal and a link
+abbrev pub linked_to : {N : Type 0} → ℕ → Goal N → Slot N
+linked_to before g = record { goal = g; is_held = true; before = before }
+
+pub goals_push : {N : Type 0} (ss : List (Slot N)) (g : Goal N) (before : ℕ) → goals_in (ss ++ linked_to before g ∷ []) ≡ goals_in ss ++ g ∷ []
+goals_push [] g before = refl
+goals_push (s ∷ ss) g before = append_on s.is_held s.goal (goals_in (ss ++ linked_to before g ∷ [])) (goals_in ss) (g ∷ []) (goals_push ss g before)
 
 -- a number without a place
 find_on : {N : Type 0} (p : Goal N → Bool) (b : Bool) (g : Goal N) (gs : List (Goal N)) → p g ≡ false → find p (cond b (g ∷ gs) gs) ≡ find p gs
@@ -205,15 +209,15 @@ below_goals n [] a = tt
 below_goals n (g ∷ gs) a = (a.0, below_goals n gs a.1)
 
 -- places with a goal more
-pub slots_push : {N : Type 0} (ss : List (Slot N)) (empty : ℕ) (ranks more : List ℕ) (g : Goal N) → AreSlots ss empty ranks → AreBelow g.number (numbers_of ss) → g.priority ≤ MONITOR_PRIORITY →
-    more ≡ ranks ++ rank_in (record { goal = g; is_held = true }) ∷ [] → AreSlots (ss ++ record { goal = g; is_held = true } ∷ []) empty more
-slots_push {N = N} ss empty ranks more g h b p e =
-    let s : Slot N = record { goal = g; is_held = true } in
+pub slots_push : {N : Type 0} (ss : List (Slot N)) (empty : ℕ) (ranks more : List ℕ) (g : Goal N) (before : ℕ) → AreSlots ss empty ranks → AreBelow g.number (numbers_of ss) → g.priority ≤ MONITOR_PRIORITY →
+    more ≡ ranks ++ rank_in (linked_to before g) ∷ [] → AreSlots (ss ++ linked_to before g ∷ []) empty more
+slots_push {N = N} ss empty ranks more g before h b p e =
+    let s : Slot N = linked_to before g in
     record {
       ascend = rw (map_push number_in ss s) (ascend_push 0 (numbers_of ss) g.number h.ascend b (omega arith));
       low = rw (map_push level_in ss s) (low_push (map level_in ss) g.priority h.low p);
       ranked = e ∙ ap (λ l. l ++ rank_in s ∷ []) h.ranked ∙ sym (map_push rank_in ss s);
-      counted = rw (goals_push ss g) (omega (arith, length_push (goals_in ss) g, length_push ss s, h.counted));
+      counted = rw (goals_push ss g before) (omega (arith, length_push (goals_in ss) g, length_push ss s, h.counted));
     }
 
 -- places of which one was changed
@@ -297,9 +301,9 @@ length_without {N = N} g old new w =
     sym (ap length (length_all old)) ∙ w.passes all refl ∙ ap (λ l. length l + 1) (length_all new)
 
 pub slots_buried : {N : Type 0} (ss : List (Slot N)) (k empty : ℕ) (ranks : List ℕ) (s : Slot N) → AreSlots ss empty ranks → k < length ss → get_or ss k s ≡ s → s.is_held ≡ true →
-    AreSlots (set ss k (record { goal = s.goal; is_held = false })) (empty + 1) (set ranks k 0)
+    AreSlots (set ss k (emptied s)) (empty + 1) (set ranks k 0)
 slots_buried {N = N} ss k empty ranks s h w e held =
-    let t : Slot N = record { goal = s.goal; is_held = false } in
+    let t : Slot N = emptied s in
     let fewer = length_without s.goal (goals_in ss) (goals_in (set ss k t)) (without_at 0 ss k s h.ascend w e held) in
     slots_changed ss k empty (empty + 1) ranks (set ranks k 0) s t h w e refl refl refl (omega (arith, fewer, h.counted))
 
@@ -307,9 +311,9 @@ length_stood : {N : Type 0} (n : ℕ) (clause : Option ℕ) (gs : List (Goal N))
 length_stood n clause gs = length-map gs (stood_by n clause)
 
 pub slots_stood : {N : Type 0} (ss : List (Slot N)) (k empty : ℕ) (clause : Option ℕ) (ranks more : List ℕ) (s : Slot N) → AreSlots ss empty ranks → k < length ss → get_or ss k s ≡ s → s.is_held ≡ true →
-    more ≡ set ranks k (rank_in (record { goal = standing_by clause s.goal; is_held = s.is_held })) → AreSlots (set ss k (record { goal = standing_by clause s.goal; is_held = s.is_held })) empty more
+    more ≡ set ranks k (rank_in (record { goal = standing_by clause s.goal; is_held = s.is_held; before = s.before })) → AreSlots (set ss k (record { goal = standing_by clause s.goal; is_held = s.is_held; before = s.before })) empty more
 slots_stood {N = N} ss k empty clause ranks more s h w e held r =
-    let t : Slot N = record { goal = standing_by clause s.goal; is_held = s.is_held } in
+    let t : Slot N = record { goal = standing_by clause s.goal; is_held = s.is_held; before = s.before } in
     let stood = ap length (stood_at 0 clause ss k s h.ascend w e held) ∙ length_stood s.goal.number clause (goals_in ss) in
     slots_changed ss k empty empty ranks more s t h w e refl refl r (omega (arith, stood, h.counted))
 

@@ -4,3 +4,5 @@ pub mod Ranking
 pub mod Shoens
 pub mod Tabling
 pub mod Flagging
+pub mod Linking
+pub mod Chaining

@@ -1,7 +1,8 @@
 -- A whole table.
-use Rattle.std.proofs.Common.{◌≡◌, ℕ, zero, suc, ◌<◌, ◌≤◌, ◌==◌, Bool, not, true, false, cond, nat_lt, List, [], ◌∷◌, ◌++◌, Option, Some, None, IfSome, length, map, refl, sym, ◌∙◌, ap, arith, inl, inr}
+use Rattle.std.proofs.Common.{◌≡◌, ℕ, zero, suc, ◌<◌, ◌≤◌, ◌==◌, Bool, not, true, false, cond, nat_lt, List, [], ◌∷◌, ◌++◌, Option, Some, None, IfSome, Result, Ok, Err, OnOk, length, map, refl, sym, ◌∙◌, ap, arith, inl, inr}
 use Rattle.std.specs.List.{filter, find, list_any}
 use Rattle.std.proofs.lemmas.Bool.{ltb-true, lt-ltb, le-ltb, cases_lt}
+use Rattle.std.proofs.lemmas.List.{length_push}
 use Rattle.kl1_model.specs.declared.limits.TheConstants.{MONITOR_PRIORITY}
 use Rattle.kl1_goals.specs.declared.goal.Goal.{Goal}
 use Rattle.kl1_goals.specs.declared.slot.Slot.{Slot}
@@ -9,7 +10,9 @@ use Rattle.kl1_goals.specs.declared.tally.Tally.{Tally}
 use Rattle.kl1_goals.specs.Lists.{has_number, is_other, is_after, is_goal_of, number_of, stood_by}
 use Rattle.kl1_goals.specs.Tables.{Ascend, IsKnown}
 use Rattle.kl1_goals.specs.Slots.{goals_in, level_in, AreLow}
-use Rattle.kl1_goals.specs.Tallies.{nothing, tally_at, IsTally, IsTable}
+use Rattle.kl1_goals.specs.Tallies.{nothing, tally_at, IsTally}
+use Rattle.kl1_goals.specs.Keeping.{IsTable}
+use Rattle.kl1_goals.proofs.Linking.{chained_none, chained_more}
 use Rattle.kl1_goals.proofs.Shoens.{opened_tally, shoen_known, any_counted, any_beside}
 
 nothing_at : (n : ℕ) → tally_at [] n ≡ nothing
@@ -19,10 +22,20 @@ nothing_at (suc n) = refl
 pub empty_table : {N : Type 0} → IsTable {N = N} [] 0 [] [] 0
 empty_table {N = N} =
     let empty : (n : ℕ) → IsTally {N = N} n [] nothing = λ n. record { goals = refl; monitor = refl } in
-    record { slots = record { ascend = tt; low = tt; ranked = refl; counted = refl }; tallied = λ n. rw (nothing_at n) (empty n); alive = refl }
+    record {
+      slots = record { ascend = tt; low = tt; ranked = refl; counted = refl };
+      tallied = λ n. rw (nothing_at n) (empty n);
+      chained = chained_none [] (λ n. ap (λ (t : Tally). t.last) (nothing_at n));
+      alive = refl;
+    }
 
 pub opened_table : {N : Type 0} (ss : List (Slot N)) (empty : ℕ) (ranks : List ℕ) (ts : List Tally) (alive : ℕ) → IsTable ss empty ranks ts alive → IsTable ss empty ranks (ts ++ nothing ∷ []) alive
-opened_table ss empty ranks ts alive h = record { slots = h.slots; tallied = λ n. rw (opened_tally ts n) (h.tallied n); alive = h.alive }
+opened_table ss empty ranks ts alive h = record {
+  slots = h.slots;
+  tallied = λ n. rw (opened_tally ts n) (h.tallied n);
+  chained = chained_more ss ts (ts ++ nothing ∷ []) h.chained (omega (arith, length_push ts nothing)) (λ n. ap (λ (t : Tally). t.last) (opened_tally ts n));
+  alive = h.alive;
+}
 
 -- a goal that was found passes the test
 some_on : {N : Type 0} (p : Goal N → Bool) (b : Bool) (h g : Goal N) (o : Option (Goal N)) → p h ≡ b → cond b (Some h) o ≡ Some g → (o ≡ Some g → p g ≡ true) → p g ≡ true
@@ -113,3 +126,8 @@ any_missing p n count gs f e one = ap (nat_lt 0) (sym one ∙ e) ∙ sym (any_co
 pub any_one : {N : Type 0} (p : Goal N → Bool) (n count : ℕ) (gs : List (Goal N)) (g : Goal N) → Ascend 0 (map number_of gs) → find (has_number n) gs ≡ Some g → count ≡ length (filter p gs) → count ≡ 1 →
     not (p g) ≡ list_any p (filter (is_other n) gs)
 any_one p n count gs g a f e one = one_fallen (p g) ∙ any_beside p (p g) n 1 gs g a f (sym one ∙ e) refl
+
+-- a fact holds if a call succeeds
+pub on_always : {T E P : Type 0} (r : Result T E) → P → OnOk r P
+on_always (Ok x) p = p
+on_always (Err e) p = tt

@@ -3,3 +3,5 @@ pub mod Readies
 pub mod Tables
 pub mod Slots
 pub mod Tallies
+pub mod Chains
+pub mod Keeping

@@ -1,5 +1,5 @@
 -- Lists of goals, as they are kept.
-use Rattle.std.specs.Prelude.{ℕ, ◌-◌, ◌==◌, nat_lt, not, ◌&&◌, ◌||◌, Bool, true, false, if◌then◌else◌, List, get_or, Option}
+use Rattle.std.specs.Prelude.{ℕ, ◌==◌, nat_lt, not, ◌&&◌, Bool, true, false, if◌then◌else◌, Option}
 use Rattle.kl1_goals.specs.declared.task.Task.{Task}
 use Rattle.kl1_goals.specs.declared.task.Task.TheVariants.{Monitor, Reduces, Substitutes}
 use Rattle.kl1_goals.specs.declared.goal.Goal.{Goal}
@@ -42,14 +42,10 @@ is_goal_of n g = g.shoen == n && not (is_monitor g)
 abbrev pub stood_by : {N : Type 0} → ℕ → Option ℕ → Goal N → Goal N
 stood_by n clause g = record g { standing = if g.number == n then clause else g.standing }
 
--- whether the flag of a goal's shoen is set, the first of them being shoen 1's
-abbrev pub is_flagged : {N : Type 0} → List Bool → Goal N → Bool
-is_flagged flags g = get_or flags (g.shoen - 1) false
+-- whether a goal is of a shoen, as its monitor too
+abbrev pub is_in : {N : Type 0} → ℕ → Goal N → Bool
+is_in n g = g.shoen == n
 
--- whether a goal is no monitor and the flag of its shoen is set
-abbrev pub is_counted_by : {N : Type 0} → List Bool → Goal N → Bool
-is_counted_by flags g = not (is_monitor g) && is_flagged flags g
-
--- a goal, which may step from now on if it is a monitor or the flag of its shoen is set
-abbrev pub enabled_by : {N : Type 0} → List Bool → Goal N → Goal N
-enabled_by flags g = record g { is_enabled = is_monitor g || is_flagged flags g }
+-- a goal, which may step from now on, or may not, if it is of a shoen and not its monitor
+abbrev pub enabled_in : {N : Type 0} → ℕ → Bool → Goal N → Goal N
+enabled_in n b g = record g { is_enabled = if is_goal_of n g then b else g.is_enabled }

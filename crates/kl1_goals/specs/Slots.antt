@@ -1,11 +1,11 @@
 -- The places of a table.
-use Rattle.std.specs.Prelude.{◌≡◌, ℕ, zero, suc, ◌+◌, ◌-◌, ◌<◌, ◌≤◌, ◌&&◌, not, Bool, true, false, cond, List, [], ◌∷◌, map, take, length, get_or, Option, Some, None}
+use Rattle.std.specs.Prelude.{◌≡◌, ℕ, zero, suc, ◌+◌, ◌-◌, ◌<◌, ◌≤◌, ◌&&◌, Bool, true, false, cond, List, [], ◌∷◌, map, take, length, get_or, Option, Some, None}
 use Rattle.kl1_model.specs.declared.limits.TheConstants.{MONITOR_PRIORITY}
 use Rattle.kl1_queue.specs.Ranks.{rank_of}
 use Rattle.kl1_goals.specs.declared.goal.Goal.{Goal}
 use Rattle.kl1_goals.specs.declared.slot.Slot.{Slot}
 use Rattle.std.specs.List.{filter}
-use Rattle.kl1_goals.specs.Lists.{is_other, is_flagged, is_counted_by, enabled_by}
+use Rattle.kl1_goals.specs.Lists.{is_other, enabled_in}
 use Rattle.kl1_goals.specs.Readies.{stands}
 use Rattle.kl1_goals.specs.Tables.{Ascend}
 
@@ -43,29 +43,19 @@ priority_in s = cond (s.is_held && stands s.goal) (Some s.goal.priority) None
 abbrev pub rank_in : {N : Type 0} → Slot N → ℕ
 rank_in s = rank_of (priority_in s)
 
--- a place whose goal may step from now on if it is a monitor or the flag of its shoen is set
-abbrev pub enabled_in : {N : Type 0} → List Bool → Slot N → Slot N
-enabled_in flags s = record s { goal = enabled_by flags s.goal }
+-- a place whose goal may step from now on, or may not, if it is of a shoen and not its monitor
+abbrev pub let_in : {N : Type 0} → ℕ → Bool → Slot N → Slot N
+let_in n b s = record s { goal = enabled_in n b s.goal }
 
--- whether a place has a goal, and the flag of its shoen isn't set
-abbrev pub unflagged_in : {N : Type 0} → List Bool → Slot N → Bool
-unflagged_in flags s = s.is_held && not (is_flagged flags s.goal)
-
--- whether a place has a goal that is no monitor, and the flag of its shoen is set
-abbrev pub counted_in : {N : Type 0} → List Bool → Slot N → Bool
-counted_in flags s = s.is_held && is_counted_by flags s.goal
+-- a place without its goal
+abbrev pub emptied : {N : Type 0} → Slot N → Slot N
+emptied s = record s { is_held = false }
 
 -- places of which one is changed
 abbrev pub changed_at : {N : Type 0} → (Slot N → Slot N) → ℕ → List (Slot N) → List (Slot N)
 changed_at f k [] = []
 changed_at f zero (s ∷ ss) = f s ∷ ss
 changed_at f (suc k) (s ∷ ss) = s ∷ changed_at f k ss
-
--- places of which the first `k` are changed
-abbrev pub changed_to : {N : Type 0} → (Slot N → Slot N) → ℕ → List (Slot N) → List (Slot N)
-changed_to f zero ss = ss
-changed_to f (suc k) [] = []
-changed_to f (suc k) (s ∷ ss) = f s ∷ changed_to f k ss
 
 -- priorities of at most a monitor's
 abbrev pub AreLow : List ℕ → Type 0

@@ -1,21 +1,26 @@
 // The table of goals.
 
-ghost use Rattle.std.specs.Prelude.{◌≡◌, ◌+◌, ◌<◌, ◌≤◌, ◌&&◌, ℕ, not, List, [], ◌∷◌, ◌++◌, None, map, option_map, IfSome, OnOk};
+ghost use Rattle.std.specs.Prelude.{◌≡◌, ◌+◌, ◌<◌, ◌≤◌, ℕ, not, List, [], ◌∷◌, ◌++◌, None, map, option_map, IfSome, OnOk};
 ghost use Rattle.std.specs.List.{filter, find, list_any, count_by};
-ghost use Rattle.kl1_goals.specs.Lists.{has_number, is_other, is_after, is_monitor, is_monitor_of, is_goal_of, is_flagged, stood_by, enabled_by};
+ghost use Rattle.kl1_goals.specs.Lists.{has_number, is_other, is_after, is_monitor, is_monitor_of, is_goal_of, is_in, stood_by, enabled_in};
 ghost use Rattle.kl1_goals.specs.Readies.{first_from, chosen, stands};
 ghost use Rattle.kl1_goals.specs.Tables.{Tabled, IsNext, IsKnown, AreInOrder, AreSingle};
 
-use crate::flags::{count_flagged, drop_flagged, enable_all};
+use crate::chains::{empty_all, held_link, let_all_step};
 use crate::goal::Goal;
 use crate::places::{append, bury, count_upto, first_held, held_place, make_end, stand, tidy};
 use crate::room::make_room;
 use crate::slot::Slot;
-use crate::tally::{Tally, clear, lower, lower_alive, raise, raise_alive, tally_of};
+use crate::tally::{
+    Tally, exchange_last, forget, lower, lower_alive, raise, raise_alive, tally_of,
+};
 use kl1_queue::ReadyQueue;
 use kl1_text::NameValue;
 use std::alloc::{AllocError, Global};
 use std::marker::Model;
+
+/// How many places there can be.
+const MOST: usize = 0xffff_ffff;
 
 /// The goals of an account in order of number, each with the clause by which it could step and whether it may, and its shoens,
 /// counted from 1.
@@ -33,18 +38,18 @@ pub struct GoalTable<N: NameValue> {
 }
 
 impl<N: NameValue> Model for GoalTable<N> {
-    ghost use Rattle.std.specs.Prelude.{◌-◌, min, length, vec_len, vec_capacity};
+    ghost use Rattle.std.specs.Prelude.{◌-◌, ◌^◌, min, length, vec_len, vec_capacity};
     ghost use Rattle.kl1_goals.specs.Tables.{Tabled};
 
     ghost Value = { Tabled N };
 
     ghost use Rattle.kl1_goals.specs.Slots.{goals_in};
-    ghost use Rattle.kl1_goals.specs.Tallies.{IsTable};
+    ghost use Rattle.kl1_goals.specs.Keeping.{IsTable};
 
     ghost view = { λ t. record {
       goals = goals_in t.slots.items;
       shoens = length t.tallies.items;
-      room = min (vec_capacity t.slots - vec_len t.slots) t.queue.room;
+      room = min (min (vec_capacity t.slots - vec_len t.slots) t.queue.room) (2 ^ 32 - 1 - vec_len t.slots);
       shoen_room = vec_capacity t.tallies - vec_len t.tallies;
     } };
 
@@ -77,6 +82,9 @@ impl<N: NameValue> GoalTable<N> {
         ensures more { self.old.room ≤ self.new.room }
         ensures more_shoens { self.old.shoen_room ≤ self.new.shoen_room }
     {
+        if goals > MOST - self.slots.len() {
+            return Err(AllocError);
+        }
         make_room(&mut self.slots, goals)?;
         self.queue.reserve(goals)?;
         make_room(&mut self.tallies, shoens)
@@ -93,6 +101,7 @@ impl<N: NameValue> GoalTable<N> {
         self.tallies.push_reserved(Tally {
             goals: 0,
             monitor: None,
+            last: 0,
         });
     }
 
@@ -156,9 +165,12 @@ impl<N: NameValue> GoalTable<N> {
             &mut self.slots,
             &mut self.empty,
             &mut self.queue,
+            &mut self.tallies,
             goal.number,
         );
-        append(&mut self.slots, self.empty, &mut self.queue, goal);
+        let last = self.slots.len() as u32 + 1;
+        let before = exchange_last(&mut self.tallies, goal.shoen, last);
+        append(&mut self.slots, self.empty, &mut self.queue, goal, before);
         raise(&mut self.tallies, goal);
         self.alive = raise_alive(self.alive, goal);
     }
@@ -179,7 +191,12 @@ impl<N: NameValue> GoalTable<N> {
                 bury(&mut self.slots, &mut self.empty, &mut self.queue, place);
                 lower(&mut self.tallies, &goal);
                 self.alive = lower_alive(self.alive, &goal);
-                tidy(&mut self.slots, &mut self.empty, &mut self.queue);
+                tidy(
+                    &mut self.slots,
+                    &mut self.empty,
+                    &mut self.queue,
+                    &mut self.tallies,
+                );
             }
         }
     }
@@ -198,24 +215,52 @@ impl<N: NameValue> GoalTable<N> {
         }
     }
 
-    /// Removes the goals of shoens whose flags are set, of which the first is shoen 1's, monitors too.
-    pub fn remove_below(&mut self, flags: &[bool])
-        ensures goals { self.new.goals ≡ filter (λ g. not (is_flagged flags.now g)) self.old.goals }
+    /// From now on the goals of a shoen other than its monitor may step, or may not.
+    pub fn enable(&mut self, shoen: u64, is_enabled: bool)
+        ensures { self.new ≡ record self.old { goals = map (enabled_in shoen is_enabled) self.old.goals } }
+    {
+        let tally = tally_of(&self.tallies, shoen);
+        if tally.last == 0 {
+            return;
+        }
+        let last = held_link(&self.slots, tally.last);
+        exchange_last(&mut self.tallies, shoen, last);
+        let_all_step(&mut self.slots, &mut self.queue, last, shoen, is_enabled);
+    }
+
+    /// Removes the goals of a shoen, its monitor too.
+    pub fn remove_all(&mut self, shoen: u64)
+        ensures goals { self.new.goals ≡ filter (λ g. not (is_in shoen g)) self.old.goals }
         ensures shoens { self.new.shoens ≡ self.old.shoens }
         ensures room { self.old.room ≤ self.new.room }
         ensures shoen_room { self.new.shoen_room ≡ self.old.shoen_room }
     {
-        let gone = count_flagged(&self.slots, flags);
-        drop_flagged(&mut self.slots, &mut self.empty, &mut self.queue, flags);
-        clear(&mut self.tallies, flags);
-        self.alive -= gone;
+        let tally = tally_of(&self.tallies, shoen);
+        if tally.last == 0 {
+            return;
+        }
+        empty_all(
+            &mut self.slots,
+            &mut self.empty,
+            &mut self.queue,
+            tally.last,
+            shoen,
+        );
+        forget(&mut self.tallies, shoen);
+        self.alive -= tally.goals as u64;
+        tidy(
+            &mut self.slots,
+            &mut self.empty,
+            &mut self.queue,
+            &mut self.tallies,
+        );
     }
 
-    /// From now on monitors may step, and the goals of shoens whose flags are set, of which the first is shoen 1's, and no others.
-    pub fn set_enabled(&mut self, flags: &[bool])
-        ensures { self.new ≡ record self.old { goals = map (enabled_by flags.now) self.old.goals } }
+    /// How many goals a shoen has other than its monitor.
+    pub fn count(&self, shoen: u64) -> u64
+        ensures { result ≡ count_by (is_goal_of shoen) self.now.goals }
     {
-        enable_all(&mut self.slots, self.empty, &mut self.queue, flags);
+        tally_of(&self.tallies, shoen).goals as u64
     }
 
     /// From now on goal `number` has this clause by which it could step, or none.
@@ -268,13 +313,6 @@ impl<N: NameValue> GoalTable<N> {
         ensures { result ≡ count_by (λ g. not (is_monitor g)) self.now.goals }
     {
         self.alive
-    }
-
-    /// How many goals there are other than monitors, of shoens whose flags are set, of which the first is shoen 1's.
-    pub fn count_below(&self, flags: &[bool]) -> u64
-        ensures { result ≡ count_by (λ g. not (is_monitor g) && is_flagged flags.now g) self.now.goals }
-    {
-        count_flagged(&self.slots, flags)
     }
 
     /// Whether a shoen has a goal other than its monitor and goal `number`.

@@ -1,7 +1,7 @@
 //! The goals of an account in order of number, and which of those that can step goes first.
 #![tactic(auto)]
 
-mod flags;
+mod chains;
 mod goal;
 mod goal_table;
 mod places;

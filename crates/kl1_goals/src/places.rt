@@ -5,10 +5,13 @@ ghost use Rattle.std.specs.List.{filter, find};
 ghost use Rattle.kl1_model.specs.declared.limits.TheConstants.{MONITOR_PRIORITY};
 ghost use Rattle.kl1_goals.specs.Lists.{has_number, is_other, stood_by, number_of};
 ghost use Rattle.kl1_goals.specs.Tables.{Ascend, AreBefore};
-ghost use Rattle.kl1_goals.specs.Slots.{numbers_of, goals_in, first_of, rank_in, level_in, AreLow, AreBelow, IsCut, IsPlace, IsAbsent, AreSlots, IsHeldAt, IsEmptyEnd, IsWithout};
+ghost use Rattle.kl1_goals.specs.Slots.{numbers_of, goals_in, first_of, rank_in, level_in, emptied, changed_at, AreLow, AreBelow, IsCut, IsPlace, IsAbsent, AreSlots, IsHeldAt, IsEmptyEnd, IsWithout};
+ghost use Rattle.kl1_goals.specs.Chains.{shape_in, before_in, AreChained, HaveSameCounts};
 
+use crate::chains::{forget_last, link_all, unlink_last};
 use crate::goal::Goal;
 use crate::slot::Slot;
+use crate::tally::Tally;
 use kl1_queue::ReadyQueue;
 use kl1_text::NameValue;
 
@@ -143,6 +146,7 @@ pub(crate) fn append<N: NameValue>(
     empty: usize,
     queue: &mut ReadyQueue,
     goal: &Goal<N>,
+    before: u32,
 )
     requires slots { AreSlots slots.old.items empty queue.old.ranks }
     requires number { AreBelow goal.now.number (numbers_of slots.old.items) }
@@ -150,6 +154,7 @@ pub(crate) fn append<N: NameValue>(
     requires room { vec_len slots.old < vec_capacity slots.old }
     requires queue_room { 0 < queue.old.room }
     ensures slots { AreSlots slots.new.items empty queue.new.ranks }
+    ensures place { slots.new.items ≡ slots.old.items ++ record { goal = goal.now; is_held = true; before = before } ∷ [] }
     ensures goals { goals_in slots.new.items ≡ goals_in slots.old.items ++ goal.now ∷ [] }
     ensures len { vec_len slots.new ≡ vec_len slots.old + 1 }
     ensures capacity { vec_capacity slots.new ≡ vec_capacity slots.old }
@@ -158,6 +163,7 @@ pub(crate) fn append<N: NameValue>(
     slots.push_reserved(Slot {
         goal: *goal,
         is_held: true,
+        before,
     });
     queue.extend(goal.ready_priority());
 }
@@ -173,6 +179,7 @@ pub(crate) fn bury<N: NameValue>(
     requires slots { AreSlots slots.old.items empty.old queue.old.ranks }
     requires place { (s : Slot N) × IsHeldAt slots.old.items s.goal.number place s }
     ensures slots { AreSlots slots.new.items empty.new queue.new.ranks }
+    ensures emptied { slots.new.items ≡ changed_at emptied place slots.old.items }
     ensures goals { (s : Slot N) → IsHeldAt slots.old.items s.goal.number place s → IsWithout s.goal (goals_in slots.old.items) (goals_in slots.new.items) }
     ensures len { vec_len slots.new ≡ vec_len slots.old }
     ensures capacity { vec_capacity slots.new ≡ vec_capacity slots.old }
@@ -194,6 +201,8 @@ pub(crate) fn stand<N: NameValue>(
     requires slots { AreSlots slots.old.items empty queue.old.ranks }
     requires place { (s : Slot N) × IsHeldAt slots.old.items s.goal.number place s }
     ensures slots { AreSlots slots.new.items empty queue.new.ranks }
+    ensures shapes { map shape_in slots.new.items ≡ map shape_in slots.old.items }
+    ensures links { map before_in slots.new.items ≡ map before_in slots.old.items }
     ensures goals { (s : Slot N) → IsHeldAt slots.old.items s.goal.number place s → goals_in slots.new.items ≡ map (stood_by s.goal.number standing) (goals_in slots.old.items) }
     ensures len { vec_len slots.new ≡ vec_len slots.old }
     ensures capacity { vec_capacity slots.new ≡ vec_capacity slots.old }
@@ -226,17 +235,25 @@ pub(crate) fn compact<N: NameValue>(
     slots: &mut Vec<Slot<N>>,
     empty: &mut usize,
     queue: &mut ReadyQueue,
+    tallies: &mut Vec<Tally>,
 )
-    requires { AreSlots slots.old.items empty.old queue.old.ranks }
+    requires slots { AreSlots slots.old.items empty.old queue.old.ranks }
+    requires chained { AreChained slots.old.items tallies.old.items }
     ensures slots { AreSlots slots.new.items empty.new queue.new.ranks }
+    ensures chained { AreChained slots.new.items tallies.new.items }
+    ensures counts { HaveSameCounts tallies.old.items tallies.new.items }
     ensures goals { goals_in slots.new.items ≡ goals_in slots.old.items }
     ensures numbers { numbers_of slots.new.items ≡ map number_of (goals_in slots.old.items) }
     ensures len { vec_len slots.new ≤ vec_len slots.old }
     ensures capacity { vec_capacity slots.new ≡ vec_capacity slots.old }
     ensures room { queue.old.room ≤ queue.new.room }
+    ensures tallies_len { vec_len tallies.new ≡ vec_len tallies.old }
+    ensures tallies_capacity { vec_capacity tallies.new ≡ vec_capacity tallies.old }
 {
+    forget_last(slots, tallies);
     slots.retain(|slot| slot.is_held);
     *empty = 0;
+    link_all(slots, tallies);
     rank_all(slots, queue);
 }
 
@@ -254,15 +271,26 @@ fn ends_empty<N: NameValue>(slots: &Vec<Slot<N>>) -> bool
 
 /// Drops the empty places at the end.
 #[inline(always)]
-fn trim<N: NameValue>(slots: &mut Vec<Slot<N>>, empty: &mut usize, queue: &mut ReadyQueue)
-    requires { AreSlots slots.old.items empty.old queue.old.ranks }
+fn trim<N: NameValue>(
+    slots: &mut Vec<Slot<N>>,
+    empty: &mut usize,
+    queue: &mut ReadyQueue,
+    tallies: &mut Vec<Tally>,
+)
+    requires slots { AreSlots slots.old.items empty.old queue.old.ranks }
+    requires chained { AreChained slots.old.items tallies.old.items }
     ensures slots { AreSlots slots.new.items empty.new queue.new.ranks }
+    ensures chained { AreChained slots.new.items tallies.new.items }
+    ensures counts { HaveSameCounts tallies.old.items tallies.new.items }
     ensures goals { goals_in slots.new.items ≡ goals_in slots.old.items }
     ensures len { vec_len slots.new ≤ vec_len slots.old }
     ensures capacity { vec_capacity slots.new ≡ vec_capacity slots.old }
     ensures room { queue.old.room ≤ queue.new.room }
+    ensures tallies_len { vec_len tallies.new ≡ vec_len tallies.old }
+    ensures tallies_capacity { vec_capacity tallies.new ≡ vec_capacity tallies.old }
 {
     while ends_empty(slots) {
+        unlink_last(slots, tallies);
         slots.pop();
         queue.drop_last();
         *empty -= 1;
@@ -276,21 +304,27 @@ pub(crate) fn tidy<N: NameValue>(
     slots: &mut Vec<Slot<N>>,
     empty: &mut usize,
     queue: &mut ReadyQueue,
+    tallies: &mut Vec<Tally>,
 )
-    requires { AreSlots slots.old.items empty.old queue.old.ranks }
+    requires slots { AreSlots slots.old.items empty.old queue.old.ranks }
+    requires chained { AreChained slots.old.items tallies.old.items }
     ensures slots { AreSlots slots.new.items empty.new queue.new.ranks }
+    ensures chained { AreChained slots.new.items tallies.new.items }
+    ensures counts { HaveSameCounts tallies.old.items tallies.new.items }
     ensures goals { goals_in slots.new.items ≡ goals_in slots.old.items }
     ensures len { vec_len slots.new ≤ vec_len slots.old }
     ensures capacity { vec_capacity slots.new ≡ vec_capacity slots.old }
     ensures room { queue.old.room ≤ queue.new.room }
+    ensures tallies_len { vec_len tallies.new ≡ vec_len tallies.old }
+    ensures tallies_capacity { vec_capacity tallies.new ≡ vec_capacity tallies.old }
 {
-    trim(slots, empty, queue);
+    trim(slots, empty, queue, tallies);
     let count = slots.len();
     if count <= FEW {
         return;
     }
     if *empty > count - count / 4 {
-        compact(slots, empty, queue);
+        compact(slots, empty, queue, tallies);
     }
 }
 
@@ -300,18 +334,24 @@ pub(crate) fn make_end<N: NameValue>(
     slots: &mut Vec<Slot<N>>,
     empty: &mut usize,
     queue: &mut ReadyQueue,
+    tallies: &mut Vec<Tally>,
     number: u64,
 )
     requires slots { AreSlots slots.old.items empty.old queue.old.ranks }
+    requires chained { AreChained slots.old.items tallies.old.items }
     requires before { AreBefore number (goals_in slots.old.items) }
     ensures slots { AreSlots slots.new.items empty.new queue.new.ranks }
+    ensures chained { AreChained slots.new.items tallies.new.items }
+    ensures counts { HaveSameCounts tallies.old.items tallies.new.items }
     ensures goals { goals_in slots.new.items ≡ goals_in slots.old.items }
     ensures below { AreBelow number (numbers_of slots.new.items) }
     ensures len { vec_len slots.new ≤ vec_len slots.old }
     ensures capacity { vec_capacity slots.new ≡ vec_capacity slots.old }
     ensures room { queue.old.room ≤ queue.new.room }
+    ensures tallies_len { vec_len tallies.new ≡ vec_len tallies.old }
+    ensures tallies_capacity { vec_capacity tallies.new ≡ vec_capacity tallies.old }
 {
     if !ends_before(slots, number) {
-        compact(slots, empty, queue);
+        compact(slots, empty, queue, tallies);
     }
 }

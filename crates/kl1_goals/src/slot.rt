@@ -7,11 +7,13 @@ ghost use Rattle.kl1_goals.specs.Slots.{priority_in};
 use crate::goal::Goal;
 use kl1_text::NameValue;
 
-/// A goal in a table; it is empty if the goal is gone, and only its number counts then.
+/// A goal in a table; it is empty if the goal is gone, and only its number and its shoen count then. `before` is one more than
+/// the place of the same shoen before it, 0 if there is none.
 #[derive(Clone, Copy)]
 pub(crate) struct Slot<N> {
     pub goal: Goal<N>,
     pub is_held: bool,
+    pub before: u32,
 }
 
 impl<N: NameValue> Slot<N> {

@@ -1,6 +1,6 @@
 // The journal of an account.
 
-ghost use Rattle.std.specs.Prelude.{◌≡◌, ◌<◌, ◌≤◌, [], IfOk, OnOk, IfSome};
+ghost use Rattle.std.specs.Prelude.{◌≡◌, ◌<◌, ◌≤◌, [], IfOk, OnOk, IfSome, IsTrue};
 ghost use Rattle.kl1_model.specs.declared.limits.TheConstants.{MOST_SESSIONS};
 ghost use Rattle.kl1_model_server.specs.Journal.{new_journal};
 ghost use Rattle.kl1_model_server.specs.laws.TextLaws.{AreNames, IsWritten};
@@ -78,8 +78,30 @@ impl Journal {
         })
     }
 
-    /// Makes room for one entry more.
+    /// Whether there is room for one entry more.
+    #[inline]
+    fn has_room(&self) -> bool
+        ensures { IsTrue result → 0 < self.now.room }
+    {
+        self.slots.len() < self.slots.capacity()
+            && self.wholes.len() < self.wholes.capacity()
+            && self.wholes.len() < u32::MAX as usize
+    }
+
+    /// Makes room for one entry more. If there is some, nothing is called.
+    #[inline]
     pub fn reserve(&mut self) -> Result<(), AllocError>
+        ensures same { self.new.journal ≡ self.old.journal }
+        ensures room { OnOk result (0 < self.new.room) }
+    {
+        if self.has_room() {
+            return Ok(());
+        }
+        self.grow()
+    }
+
+    /// Makes room for one entry more.
+    fn grow(&mut self) -> Result<(), AllocError>
         ensures same { self.new.journal ≡ self.old.journal }
         ensures room { OnOk result (0 < self.new.room) }
     {
@@ -108,14 +130,27 @@ impl Journal {
         }
     }
 
+    /// Puts a reduction after the entries: in the row at once if both numbers have 32 bits, as nearly all have. It takes no memory.
+    #[inline]
+    fn put_step(&mut self, goal: u64, clause: u64)
+        requires { 0 < self.old.room }
+        ensures { self.new.journal ≡ with_reduction self.old.journal goal clause 0 }
+    {
+        match (u32::try_from(goal), u32::try_from(clause)) {
+            (Ok(goal), Ok(clause)) => self.slots.push_reserved(PackedEntry::Step { goal, clause }),
+            _ => self.put(step_for(goal, clause)),
+        }
+    }
+
     /// Puts a reduction after the entries, or into the last of them, which is a run then: `run` is how many reductions the last run has
     /// with it, or 0 if it is in no run. It takes no memory.
+    #[inline]
     pub fn put_reduction(&mut self, goal: u64, clause: u64, run: u32)
         requires { 0 < self.old.room }
         ensures { self.new.journal ≡ with_reduction self.old.journal goal clause run }
     {
         if run == 0 {
-            self.put(step_for(goal, clause));
+            self.put_step(goal, clause);
         } else if run == 1 {
             self.slots.push_reserved(PackedEntry::Run(1));
         } else {

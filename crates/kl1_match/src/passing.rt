@@ -4,6 +4,7 @@ ghost use Rattle.std.specs.Prelude.{◌≡◌, ◌∷◌, ◌++◌, [], map, fal
 ghost use Rattle.std.specs.List.{All};
 ghost use Rattle.kl1_model.specs.code.Outcome.{own_variables};
 ghost use Rattle.kl1_match_guard.specs.Alike.{IsPairOf};
+ghost use Rattle.kl1_store.specs.Remembers.{Remembers};
 ghost use Rattle.kl1_match.specs.TestTerms.{tests_of, last_of, goal_of, test_number, IsFreeIn, IsTermAt, IsCellAt};
 ghost use Rattle.kl1_match.specs.Passing.{PairsCome, Passes};
 
@@ -60,8 +61,10 @@ fn compare_pair<N: NameValue>(
     same: &mut SameScratch,
     awaited: &mut Vec<u32>,
 ) -> Result<bool, AllocError>
-    requires { IsPairOf (IsTermAt (tests_of view.now)) (IsCellAt (tests_of view.now)) pair }
-    ensures { IfOk result (PairsCome N.built (tests_of view.now) (pair ∷ []) awaited.old.items awaited.new.items) }
+    requires pair { IsPairOf (IsTermAt (tests_of view.now)) (IsCellAt (tests_of view.now)) pair }
+    requires remembers { Remembers N.built (tests_of view.now).held same.old }
+    ensures comes { IfOk result (PairsCome N.built (tests_of view.now) (pair ∷ []) awaited.old.items awaited.new.items) }
+    ensures remembers { OnOk result (Remembers N.built (tests_of view.now).held same.new) }
 {
     let left = pair.left;
     let right = pair.right;
@@ -81,8 +84,10 @@ fn compare_pairs<N: NameValue>(
     same: &mut SameScratch,
     awaited: &mut Vec<u32>,
 ) -> Result<bool, AllocError>
-    requires { All (IsPairOf (IsTermAt (tests_of view.now)) (IsCellAt (tests_of view.now))) pairs.now }
-    ensures { IfOk result (PairsCome N.built (tests_of view.now) pairs.now awaited.old.items awaited.new.items) }
+    requires pairs { All (IsPairOf (IsTermAt (tests_of view.now)) (IsCellAt (tests_of view.now))) pairs.now }
+    requires remembers { Remembers N.built (tests_of view.now).held same.old }
+    ensures comes { IfOk result (PairsCome N.built (tests_of view.now) pairs.now awaited.old.items awaited.new.items) }
+    ensures remembers { OnOk result (Remembers N.built (tests_of view.now).held same.new) }
 {
     let mut rest = pairs;
     while let [first, more @ ..] = rest {
@@ -118,7 +123,9 @@ pub(crate) fn compare_terms<N: NameValue>(
 ) -> Result<Passed, AllocError>
     requires left { IsTermAt (tests_of view.now) left }
     requires right { IsTermAt (tests_of view.now) right }
-    ensures { IfOk result (Passes N.built (tests_of view.now) left right awaited.old.items awaited.new.items) }
+    requires remembers { Remembers N.built (tests_of view.now).held same.old }
+    ensures passes { IfOk result (Passes N.built (tests_of view.now) left right awaited.old.items awaited.new.items) }
+    ensures remembers { OnOk result (Remembers N.built (tests_of view.now).held same.new) }
 {
     let before = awaited.len();
     if !alike(

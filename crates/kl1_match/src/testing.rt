@@ -1,9 +1,10 @@
 // The tests of a clause.
 
-ghost use Rattle.std.specs.Prelude.{◌≡◌, IfOk};
+ghost use Rattle.std.specs.Prelude.{◌≡◌, IfOk, OnOk};
 ghost use Rattle.kl1_model.specs.Guard.{compared};
 ghost use Rattle.kl1_match_guard.specs.Outcomes.{IsWaiting};
 ghost use Rattle.kl1_match_guard.specs.Tests.{IsTestAt};
+ghost use Rattle.kl1_store.specs.Remembers.{Remembers};
 ghost use Rattle.kl1_match.specs.TestTerms.{tests_of, AreSound, IsFreeIn, IsTermAt};
 ghost use Rattle.kl1_match.specs.Testing.{is_variable, SettledAs, SameAs, OtherAs, ComparedAs, FoundAs, TestComes, TestsCome};
 
@@ -51,7 +52,9 @@ fn may_be_same<N: NameValue>(
 ) -> Result<bool, AllocError>
     requires left { IsTermAt (tests_of view.now) left }
     requires right { IsTermAt (tests_of view.now) right }
-    ensures { IfOk result (SameAs N.built (tests_of view.now) left right awaited.old.items awaited.new.items) }
+    requires remembers { Remembers N.built (tests_of view.now).held same.old }
+    ensures may { IfOk result (SameAs N.built (tests_of view.now) left right awaited.old.items awaited.new.items) }
+    ensures remembers { OnOk result (Remembers N.built (tests_of view.now).held same.new) }
 {
     match compare_terms(view, left, right, scratch, same, awaited)? {
         Passed::Same => Ok(true),
@@ -71,7 +74,9 @@ fn may_differ<N: NameValue>(
 ) -> Result<bool, AllocError>
     requires left { IsTermAt (tests_of view.now) left }
     requires right { IsTermAt (tests_of view.now) right }
-    ensures { IfOk result (OtherAs N.built (tests_of view.now) left right awaited.old.items awaited.new.items) }
+    requires remembers { Remembers N.built (tests_of view.now).held same.old }
+    ensures may { IfOk result (OtherAs N.built (tests_of view.now) left right awaited.old.items awaited.new.items) }
+    ensures remembers { OnOk result (Remembers N.built (tests_of view.now).held same.new) }
 {
     let before = awaited.len();
     match compare_terms(view, left, right, scratch, same, awaited)? {
@@ -150,8 +155,10 @@ fn may_hold<N: NameValue>(
     same: &mut SameScratch,
     awaited: &mut Vec<u32>,
 ) -> Result<bool, AllocError>
-    requires { IsTestAt (IsTermAt (tests_of view.now)) test }
-    ensures { IfOk result (FoundAs N.built (tests_of view.now) test awaited.old.items awaited.new.items) }
+    requires test { IsTestAt (IsTermAt (tests_of view.now)) test }
+    requires remembers { Remembers N.built (tests_of view.now).held same.old }
+    ensures may { IfOk result (FoundAs N.built (tests_of view.now) test awaited.old.items awaited.new.items) }
+    ensures remembers { OnOk result (Remembers N.built (tests_of view.now).held same.new) }
 {
     match test {
         Test::Holds => Ok(true),
@@ -186,8 +193,10 @@ fn run_test<N: NameValue>(
     same: &mut SameScratch,
     awaited: &mut Vec<u32>,
 ) -> Result<bool, AllocError>
-    requires { AreSound (tests_of view.now) }
-    ensures { IfOk result (TestComes N.built (tests_of view.now) place awaited.old.items awaited.new.items) }
+    requires sound { AreSound (tests_of view.now) }
+    requires remembers { Remembers N.built (tests_of view.now).held same.old }
+    ensures comes { IfOk result (TestComes N.built (tests_of view.now) place awaited.old.items awaited.new.items) }
+    ensures remembers { OnOk result (Remembers N.built (tests_of view.now).held same.new) }
 {
     let instruction = instruction_at(view.row, place);
     if is_variable(instruction) {
@@ -200,15 +209,17 @@ fn run_test<N: NameValue>(
 }
 
 /// Whether all tests of the row may hold: false if one clashes. Else `awaited` gets the variables of the goal that they wait
-/// for, after those in it. If memory is refused, nothing is said of what it got.
+/// for, after those in it. If memory is refused, nothing is said of what it got. What `same` remembers is so for the view's store.
 pub fn run_tests<N: NameValue>(
     view: &TestView<N>,
     scratch: &mut TestScratch<N>,
     same: &mut SameScratch,
     awaited: &mut Vec<u32>,
 ) -> Result<bool, AllocError>
-    requires { AreSound (tests_of view.now) }
-    ensures { IfOk result (TestsCome N.built (tests_of view.now) 0 awaited.old.items awaited.new.items) }
+    requires sound { AreSound (tests_of view.now) }
+    requires remembers { Remembers N.built (tests_of view.now).held same.old }
+    ensures come { IfOk result (TestsCome N.built (tests_of view.now) 0 awaited.old.items awaited.new.items) }
+    ensures remembers { OnOk result (Remembers N.built (tests_of view.now).held same.new) }
 {
     let mut place: usize = 0;
     while place < view.row.len() {

@@ -1,7 +1,8 @@
 // The terms at the places of each variable of a head, two at a time.
 
-ghost use Rattle.std.specs.Prelude.{IfOk, IsTrue};
+ghost use Rattle.std.specs.Prelude.{IfOk, OnOk, IsTrue};
 ghost use Rattle.kl1_store.specs.Held.{IsIn};
+ghost use Rattle.kl1_store.specs.Remembers.{Remembers};
 ghost use Rattle.kl1_match.specs.Instances.{AreThere};
 ghost use Rattle.kl1_match_verdict.specs.Rising.{AreRising};
 ghost use Rattle.kl1_match_verdict.specs.Outcomes.{TwoCome, OneComes, EachComes};
@@ -23,7 +24,9 @@ fn compare_two<N: NameValue>(
 ) -> Result<bool, AllocError>
     requires left { IsIn store.now.held left.cell }
     requires right { IsIn store.now.held right.cell }
-    ensures { IfOk result (TwoCome N.built store.now.held left right awaited.old.items awaited.new.items) }
+    requires remembers { Remembers N.built store.now.held same.old }
+    ensures come { IfOk result (TwoCome N.built store.now.held left right awaited.old.items awaited.new.items) }
+    ensures remembers { OnOk result (Remembers N.built store.now.held same.new) }
 {
     if left.variable != right.variable {
         return Ok(true);
@@ -41,7 +44,9 @@ fn compare_one<N: NameValue>(
 ) -> Result<bool, AllocError>
     requires place { IsIn store.now.held place.cell }
     requires others { AreThere store.now.held others.now }
-    ensures { IfOk result (OneComes N.built store.now.held place others.now awaited.old.items awaited.new.items) }
+    requires remembers { Remembers N.built store.now.held same.old }
+    ensures comes { IfOk result (OneComes N.built store.now.held place others.now awaited.old.items awaited.new.items) }
+    ensures remembers { OnOk result (Remembers N.built store.now.held same.new) }
 {
     let mut rest = others;
     while let [other, more @ ..] = rest {
@@ -78,8 +83,10 @@ pub(crate) fn compare_each<N: NameValue>(
     same: &mut SameScratch,
     awaited: &mut Vec<u32>,
 ) -> Result<bool, AllocError>
-    requires { AreThere store.now.held places.now }
-    ensures { IfOk result (EachComes N.built store.now.held places.now awaited.old.items awaited.new.items) }
+    requires places { AreThere store.now.held places.now }
+    requires remembers { Remembers N.built store.now.held same.old }
+    ensures comes { IfOk result (EachComes N.built store.now.held places.now awaited.old.items awaited.new.items) }
+    ensures remembers { OnOk result (Remembers N.built store.now.held same.new) }
 {
     if are_rising(places) {
         return Ok(true);

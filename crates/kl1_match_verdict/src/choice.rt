@@ -60,6 +60,7 @@ pub fn choose<N: NameValue>(
 {
     let behind = &mut scratch.spans;
     let same = &mut scratch.same;
+    store.forget(same);
     let tests = &mut scratch.tests;
     let places = &mut scratch.places;
     let mut waiting: Option<u64> = None;

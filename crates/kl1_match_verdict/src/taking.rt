@@ -1,7 +1,8 @@
 // Whether a goal can commit to one clause of its predicate.
 
-ghost use Rattle.std.specs.Prelude.{◌≡◌, ◌<◌, ◌≤◌, ◌-◌, true, length, IfOk, IsTrue};
+ghost use Rattle.std.specs.Prelude.{◌≡◌, ◌<◌, ◌≤◌, ◌-◌, true, length, IfOk, OnOk, IsTrue};
 ghost use Rattle.kl1_store.specs.Held.{IsIn};
+ghost use Rattle.kl1_store.specs.Remembers.{Remembers};
 ghost use Rattle.kl1_match.specs.Kept.{kept_places};
 ghost use Rattle.kl1_match_verdict.specs.Choices.{AreClauses};
 ghost use Rattle.kl1_match_verdict.specs.Candidates.{section_at, IsRun, RejectAs, Takes};
@@ -54,7 +55,9 @@ fn reject<N: NameValue>(
     requires clauses { AreClauses names.now clauses.now }
     requires count { count ≤ length clauses.now }
     requires goal { IsIn store.now.held goal }
-    ensures { IfOk result (RejectAs N.built names.now clauses.now store.now.held goal count) }
+    requires remembers { Remembers N.built store.now.held scratch.old.same }
+    ensures rejects { IfOk result (RejectAs N.built names.now clauses.now store.now.held goal count) }
+    ensures remembers { OnOk result (Remembers N.built store.now.held scratch.new.same) }
 {
     let behind = &mut scratch.spans;
     let same = &mut scratch.same;
@@ -92,6 +95,7 @@ pub fn is_candidate<N: NameValue>(
     requires goal { IsIn store.now.held goal }
     ensures { IfOk result (Takes N.built names.now clauses.now place store.now.held goal places.new.items) }
 {
+    store.forget(&mut scratch.same);
     let start = start_of(clauses, place);
     if !reject(store, names, clauses, start, goal, scratch, awaited)? {
         return Ok(false);

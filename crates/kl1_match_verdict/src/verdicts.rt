@@ -1,7 +1,8 @@
 // The verdict of a clause on a goal.
 
-ghost use Rattle.std.specs.Prelude.{IfOk};
+ghost use Rattle.std.specs.Prelude.{IfOk, OnOk};
 ghost use Rattle.kl1_store.specs.Held.{IsIn};
+ghost use Rattle.kl1_store.specs.Remembers.{Remembers};
 ghost use Rattle.kl1_match.specs.Instances.{IsClause};
 ghost use Rattle.kl1_match.specs.Matching.{Keeps};
 ghost use Rattle.kl1_match.specs.TestTerms.{AreSound, tests_with};
@@ -35,6 +36,7 @@ pub fn verdict_on<N: NameValue>(
     requires goal { IsIn store.now.held goal }
     ensures { IfOk result (IsVerdict N.built names.now clause.now store.now.held goal places.new.items awaited.old.items awaited.new.items) }
 {
+    store.forget(&mut scratch.same);
     judge::<_, true>(
         store,
         names,
@@ -64,7 +66,9 @@ pub(crate) fn judge<N: NameValue, const KEEP: bool>(
 ) -> Result<Verdict, AllocError>
     requires clause { IsClause names.now clause.now }
     requires goal { IsIn store.now.held goal }
-    ensures { IfOk result (λ v. Keeps KEEP places.new.items (λ ps. IsVerdict N.built names.now clause.now store.now.held goal ps awaited.old.items awaited.new.items v)) }
+    requires remembers { Remembers N.built store.now.held same.old }
+    ensures judged { IfOk result (λ v. Keeps KEEP places.new.items (λ ps. IsVerdict N.built names.now clause.now store.now.held goal ps awaited.old.items awaited.new.items v)) }
+    ensures remembers { OnOk result (Remembers N.built store.now.held same.new) }
 {
     if clause.is_plain {
         return judge_plain::<_, KEEP>(store, names, clause, goal, behind, places, awaited);
@@ -85,8 +89,10 @@ fn run_row<N: NameValue>(
     same: &mut SameScratch,
     awaited: &mut Vec<u32>,
 ) -> Result<bool, AllocError>
-    requires { AreSound (tests_with store.now.held names.now row.now places.now) }
-    ensures { IfOk result (TestsCome N.built (tests_with store.now.held names.now row.now places.now) 0 awaited.old.items awaited.new.items) }
+    requires sound { AreSound (tests_with store.now.held names.now row.now places.now) }
+    requires remembers { Remembers N.built store.now.held same.old }
+    ensures come { IfOk result (TestsCome N.built (tests_with store.now.held names.now row.now places.now) 0 awaited.old.items awaited.new.items) }
+    ensures remembers { OnOk result (Remembers N.built store.now.held same.new) }
 {
     let view = TestView {
         store,
@@ -109,8 +115,10 @@ fn compare_and_run<N: NameValue>(
     same: &mut SameScratch,
     awaited: &mut Vec<u32>,
 ) -> Result<bool, AllocError>
-    requires { AreSound (tests_with store.now.held names.now row.now places.now) }
-    ensures { IfOk result (RestComes N.built (tests_with store.now.held names.now row.now places.now) awaited.old.items awaited.new.items) }
+    requires sound { AreSound (tests_with store.now.held names.now row.now places.now) }
+    requires remembers { Remembers N.built store.now.held same.old }
+    ensures come { IfOk result (RestComes N.built (tests_with store.now.held names.now row.now places.now) awaited.old.items awaited.new.items) }
+    ensures remembers { OnOk result (Remembers N.built store.now.held same.new) }
 {
     if !compare_each(store, places, same, awaited)? {
         return Ok(false);
@@ -130,8 +138,10 @@ fn may_go_on<N: NameValue>(
     same: &mut SameScratch,
     awaited: &mut Vec<u32>,
 ) -> Result<bool, AllocError>
-    requires { AreSound (tests_with store.now.held names.now row.now places.now) }
-    ensures { IfOk result (RestComes N.built (tests_with store.now.held names.now row.now places.now) awaited.old.items awaited.new.items) }
+    requires sound { AreSound (tests_with store.now.held names.now row.now places.now) }
+    requires remembers { Remembers N.built store.now.held same.old }
+    ensures come { IfOk result (RestComes N.built (tests_with store.now.held names.now row.now places.now) awaited.old.items awaited.new.items) }
+    ensures remembers { OnOk result (Remembers N.built store.now.held same.new) }
 {
     if !are_rising(places) {
         return compare_and_run(store, names, row, places, tests, same, awaited);
@@ -157,7 +167,9 @@ fn judge_whole<N: NameValue>(
 ) -> Result<Verdict, AllocError>
     requires clause { IsClause names.now clause.now }
     requires goal { IsIn store.now.held goal }
-    ensures { IfOk result (IsVerdict N.built names.now clause.now store.now.held goal places.new.items awaited.old.items awaited.new.items) }
+    requires remembers { Remembers N.built store.now.held same.old }
+    ensures judged { IfOk result (IsVerdict N.built names.now clause.now store.now.held goal places.new.items awaited.old.items awaited.new.items) }
+    ensures remembers { OnOk result (Remembers N.built store.now.held same.new) }
 {
     let before = awaited.len();
     let tried = find_match::<_, true>(store, names, clause, goal, behind, places, awaited)?;

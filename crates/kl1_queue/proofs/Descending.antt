@@ -67,3 +67,10 @@ above_leaves depth step node bs p h =
     let m : 2 ^ (step + 1) ≤ 2 ^ depth = pow_mono (omega arith) in
     let d = level_doubles step in
     (one-le-pow step 2 (omega arith), omega (arith, m, d, h.to))
+
+-- a power of two that is less than 2 ^ 24 stays within it when it doubles
+pub level_most : (step : ℕ) → 2 ^ step < 16777216 → 2 * 2 ^ step ≤ 16777216
+level_most step h = elim (cases_lt step 24) [
+  | inl a ↦ let m : 2 ^ (step + 1) ≤ 16777216 = pow_mono {i = step + 1} {j = 24} (omega arith) in omega (arith, m, level_doubles step)
+  | inr a ↦ let m : 16777216 ≤ 2 ^ step = pow_mono {i = 24} {j = step} (omega arith) in absurd (omega (arith, m, h))
+]

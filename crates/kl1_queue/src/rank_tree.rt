@@ -7,8 +7,8 @@ use crate::tree::{first_leaf, set_leaf};
 use std::alloc::{AllocError, Global};
 use std::marker::Model;
 
-/// How many places a tree can be asked to have.
-const MOST: usize = 0x4000_0000;
+/// How many places a tree can have: as many as four levels of words of 64 bits have bits.
+const MOST_PLACES: usize = 0x100_0000;
 
 /// Ranks of places from 0 in order, 0 if a place isn't ready.
 ///
@@ -40,6 +40,7 @@ impl RankTree {
     /// A tree without places.
     pub(crate) fn new(alloc: Global) -> RankTree
         ensures ranks { result.ranks ≡ [] }
+        ensures room { result.room ≡ 0 }
     {
         RankTree {
             best: Vec::new(alloc),
@@ -58,46 +59,45 @@ impl RankTree {
         self.len
     }
 
-    /// Makes room for `more` places more: to extend by these can't be refused then.
-    ///
-    /// There are at most 2,147,483,648 places; more are refused as for want of memory.
-    #[inline]
-    pub(crate) fn reserve(&mut self, more: usize) -> Result<(), AllocError>
-        ensures ok { OnOk result (more ≤ self.new.room) }
-        ensures ranks { self.new.ranks ≡ self.old.ranks }
-        ensures room { self.old.room ≤ self.new.room }
-        ensures err { OnErr result (self.new ≡ self.old) }
+    /// How many places there are and can be without more memory.
+    pub(crate) fn places(&self) -> usize
+        ensures { result ≡ length self.now.ranks + self.now.room }
     {
-        if more <= self.half - self.len {
-            return Ok(());
-        }
-        self.grow(more)
+        self.half
     }
 
-    /// Makes room for `more` places more, if there is too little.
-    #[inline(never)]
-    fn grow(&mut self, more: usize) -> Result<(), AllocError>
-        requires little { self.old.room < more }
-        ensures ok { OnOk result (more ≤ self.new.room) }
-        ensures ranks { self.new.ranks ≡ self.old.ranks }
-        ensures room { self.old.room ≤ self.new.room }
-        ensures err { OnErr result (self.new ≡ self.old) }
+    /// How many places more there can be without more memory.
+    #[inline]
+    pub(crate) fn room(&self) -> usize
+        ensures { result ≡ self.now.room }
     {
-        if more > MOST || self.len > MOST {
+        self.half - self.len
+    }
+
+    /// A tree of the same ranks with room for `more` places more.
+    ///
+    /// There are at most 16,777,216 places; more are refused as for want of memory.
+    pub(crate) fn grown(&self, more: usize) -> Result<RankTree, AllocError>
+        requires { self.now.room < more }
+        ensures ranks { IfOk result (λ t. t.ranks ≡ self.now.ranks) }
+        ensures room { IfOk result (λ t. more ≤ t.room) }
+        ensures most { IfOk result (λ t. length t.ranks + t.room ≤ 16777216) }
+    {
+        if more > MOST_PLACES || self.len > MOST_PLACES - more {
             return Err(AllocError);
         }
         let mut grown = Self::with_room(self.alloc, self.len + more)?;
         grown.append_ranks(&self.best, self.half, self.len);
-        *self = grown;
-        Ok(())
+        Ok(grown)
     }
 
     /// A tree without places, with room for `room`.
     fn with_room(alloc: Global, room: usize) -> Result<RankTree, AllocError>
         requires some { 0 < room }
-        requires most { room ≤ 0x8000_0000 }
+        requires most { room ≤ 16777216 }
         ensures ranks { IfOk result (λ q. q.ranks ≡ []) }
         ensures room { IfOk result (λ q. room ≤ q.room) }
+        ensures most { IfOk result (λ q. q.room ≤ 16777216) }
     {
         let mut half = 1;
         let mut depth = 0;

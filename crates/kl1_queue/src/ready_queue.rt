@@ -4,32 +4,32 @@ ghost use Rattle.std.specs.Prelude.{◌≡◌, ◌+◌, ◌-◌, ◌<◌, ◌≤
 ghost use Rattle.kl1_model.specs.declared.limits.TheConstants.{MONITOR_PRIORITY};
 ghost use Rattle.kl1_queue.specs.Ranks.{rank_of, AreNone, IsFirst, IsPriority};
 
+use crate::bit_set::BitSet;
 use crate::rank_tree::RankTree;
 use std::alloc::{AllocError, Global};
 use std::marker::Model;
 
 /// Places from 0 in order, each not ready, or ready with a priority, from 0 to a monitor's.
 ///
-/// The rank of one place is held beside the tree of the others, in which that place isn't ready: if places are put and
-/// removed one after another, none costs a walk through the tree.
+/// The places of one rank are a set beside the tree of the others, in which the places of the set aren't ready: if all places that
+/// are ready have one priority, none costs a walk through the tree.
 #[derive(Drop)]
 pub struct ReadyQueue {
     tree: RankTree,
-    held: usize,
-    held_rank: u16,
+    bits: BitSet,
+    bits_rank: u16,
 }
 
 impl Model for ReadyQueue {
-    ghost use Rattle.std.specs.Prelude.{set};
     ghost use Rattle.kl1_queue.specs.Ranks.{Queued};
 
     ghost Value = { Queued };
 
-    ghost use Rattle.kl1_queue.specs.Holding.{IsBeside};
+    ghost use Rattle.kl1_queue.specs.Over.{overlay, IsWide};
 
-    ghost view = { λ q. record { ranks = set q.tree.ranks q.held q.held_rank; room = q.tree.room } };
+    ghost view = { λ q. record { ranks = overlay q.bits_rank q.bits 0 q.tree.ranks; room = q.tree.room } };
 
-    ghost invariant = { λ q. IsBeside q.tree.ranks q.held q.held_rank };
+    ghost invariant = { λ q. IsWide q.bits_rank q.bits q.tree.ranks q.tree.room };
 }
 
 impl ReadyQueue {
@@ -39,8 +39,8 @@ impl ReadyQueue {
     {
         ReadyQueue {
             tree: RankTree::new(alloc),
-            held: 0,
-            held_rank: 0,
+            bits: BitSet::new(alloc),
+            bits_rank: 0,
         }
     }
 
@@ -54,7 +54,7 @@ impl ReadyQueue {
 
     /// Makes room for `more` places more: to extend by these can't be refused then.
     ///
-    /// There are at most 2,147,483,648 places; more are refused as for want of memory.
+    /// There are at most 16,777,216 places; more are refused as for want of memory.
     #[inline]
     pub fn reserve(&mut self, more: usize) -> Result<(), AllocError>
         ensures ok { OnOk result (more ≤ self.new.room) }
@@ -62,26 +62,56 @@ impl ReadyQueue {
         ensures room { self.old.room ≤ self.new.room }
         ensures err { OnErr result (self.new ≡ self.old) }
     {
-        self.tree.reserve(more)
+        if more <= self.tree.room() {
+            return Ok(());
+        }
+        self.grow(more)
     }
 
-    /// Gives a place this rank, and holds it beside the tree if no other is held.
-    #[inline]
-    fn hold(&mut self, next: usize, rank: u16)
-        requires { next < length self.old.ranks }
-        ensures { self.new ≡ record self.old { ranks = set self.old.ranks next rank } }
+    /// Makes room for `more` places more, if there is too little.
+    #[inline(never)]
+    fn grow(&mut self, more: usize) -> Result<(), AllocError>
+        requires little { self.old.room < more }
+        ensures ok { OnOk result (more ≤ self.new.room) }
+        ensures ranks { self.new.ranks ≡ self.old.ranks }
+        ensures room { self.old.room ≤ self.new.room }
+        ensures err { OnErr result (self.new ≡ self.old) }
     {
-        if next == self.held {
-            self.held_rank = rank;
+        let grown = self.tree.grown(more)?;
+        self.bits.grow((grown.places() + 63) / 64)?;
+        self.tree = grown;
+        Ok(())
+    }
+
+    /// Gives a place this rank: by a bit if it is the rank of the set, and in the tree if not.
+    #[inline]
+    fn hold(&mut self, place: usize, rank: u16)
+        requires place { place < length self.old.ranks }
+        requires rank { 0 < rank }
+        ensures { self.new ≡ record self.old { ranks = set self.old.ranks place rank } }
+    {
+        if rank == self.bits_rank {
+            self.bits.insert(place);
+            self.tree.set_rank(place, 0);
             return;
         }
-        if self.held_rank > 0 {
-            self.tree.set_rank(next, rank);
+        self.hold_other(place, rank);
+    }
+
+    /// Gives a place a rank that isn't the set's: if the set is empty its rank is this one from then on.
+    fn hold_other(&mut self, place: usize, rank: u16)
+        requires place { place < length self.old.ranks }
+        requires rank { 0 < rank }
+        ensures { self.new ≡ record self.old { ranks = set self.old.ranks place rank } }
+    {
+        if self.bits.is_empty() {
+            self.bits_rank = rank;
+            self.bits.insert(place);
+            self.tree.set_rank(place, 0);
             return;
         }
-        self.tree.set_rank(next, 0);
-        self.held = next;
-        self.held_rank = rank;
+        self.bits.remove(place);
+        self.tree.set_rank(place, rank);
     }
 
     /// One more place at the end, ready with a priority or not ready.
@@ -116,9 +146,7 @@ impl ReadyQueue {
         requires { place < length self.old.ranks }
         ensures { self.new ≡ record self.old { ranks = set self.old.ranks place 0 } }
     {
-        if place == self.held {
-            self.held_rank = 0;
-        } else {
+        if !self.bits.remove(place) {
             self.tree.set_rank(place, 0);
         }
     }
@@ -131,10 +159,8 @@ impl ReadyQueue {
         ensures room { self.new.room ≡ self.old.room + 1 }
     {
         let last = self.tree.len() - 1;
+        self.bits.remove(last);
         self.tree.drop_last();
-        if self.held == last {
-            self.held_rank = 0;
-        }
     }
 
     /// The first of the places that are ready.
@@ -142,32 +168,25 @@ impl ReadyQueue {
     pub fn first(&self) -> Option<usize>
         ensures { MatchOption result (AreNone self.now.ranks) (λ k. IsFirst self.now.ranks k) }
     {
-        if self.tree.greatest() < self.held_rank {
-            return Some(self.held);
-        }
-        self.first_of_both()
-    }
-
-    /// The first of the places that are ready, of those in the tree and the one that is held.
-    fn first_of_both(&self) -> Option<usize>
-        ensures { MatchOption result (AreNone self.now.ranks) (λ k. IsFirst self.now.ranks k) }
-    {
-        match self.tree.first() {
-            None => {
-                if self.held_rank == 0 {
-                    return None;
-                }
-                Some(self.held)
-            }
+        match self.bits.first() {
+            None => self.tree.first(),
             Some(place) => {
-                let rank = self.tree.rank_at(place);
-                if self.held_rank < rank {
+                if self.tree.greatest() < self.bits_rank {
                     return Some(place);
                 }
-                if rank == self.held_rank && place < self.held {
-                    return Some(place);
+                match self.tree.first() {
+                    None => Some(place),
+                    Some(other) => {
+                        let rank = self.tree.rank_at(other);
+                        if rank < self.bits_rank {
+                            return Some(place);
+                        }
+                        if rank == self.bits_rank && place < other {
+                            return Some(place);
+                        }
+                        Some(other)
+                    }
                 }
-                Some(self.held)
             }
         }
     }

@@ -1,19 +1,25 @@
 -- Shoens of which one is changed.
-use Rattle.std.proofs.Common.{◌≡◌, ℕ, zero, suc, ◌+◌, ◌-◌, ◌<◌, ◌≤◌, Bool, true, false, ◌==◌, ◌&&◌, if◌then◌else◌, List, [], ◌∷◌, ◌++◌, map, length, get_or, set, take, drop, refl, sym, ap, ap₂, ◌∙◌, arith, subst}
+use Rattle.std.proofs.Common.{◌≡◌, ℕ, zero, suc, ◌+◌, ◌-◌, ◌<◌, ◌≤◌, Bool, true, false, ◌==◌, if◌then◌else◌, List, [], ◌∷◌, length, get_or, set, refl, sym, ap, ap₂, ◌∙◌, arith}
 use Rattle.std.specs.Prelude.{Some, None, find, slice_get}
 use Rattle.std.proofs.lemmas.Bool.{ne_eqb, eq-eqb}
 use Rattle.std.proofs.lemmas.Option.{none-some, same_Some}
-use Rattle.std.proofs.lemmas.List.Edits.{map_over_more}
 use Rattle.kl1_model.specs.declared.life.Life.TheVariants.{Aborted}
 use Rattle.kl1_model.specs.State.{is_living}
 use Rattle.kl1_shoen_paths.specs.declared.shoen.Shoen.{Shoen}
 use Rattle.kl1_shoen.specs.declared.change.Change.{Change}
-use Rattle.kl1_shoen.specs.declared.change.Change.TheVariants.{Tail, Control, OriginControl, Breaks, Stopped, Allows, Ends}
+use Rattle.kl1_shoen.specs.declared.change.Change.TheVariants.{Tail, Control, OriginControl, Breaks, Stopped, Allows, Ends, Aborts}
 use Rattle.kl1_shoen.specs.Changes.{changed_by}
-use Rattle.kl1_shoen.specs.Shoens.{has_number, changed, AreNumbered, parents_in, is_on_path_in, aborted_below_in}
-use Rattle.kl1_shoen_paths.proofs.Numbered.{found_none, found_at, numbered_get}
-use Rattle.kl1_shoen_paths.proofs.Charges.{length_set}
+use Rattle.kl1_shoen.specs.Shoens.{has_number, changed, AreNumbered, parents_in}
+use Rattle.kl1_shoen_paths.proofs.Numbered.{found_none, found_at}
 use Rattle.kl1_shoen.proofs.Numbered.{number_is, numbered_set}
+
+if_number : {N : Type 0} (c : Bool) (x y : Shoen N) → y.number ≡ x.number → (if c then y else x).number ≡ x.number
+if_number true x y e = e
+if_number false x y e = refl
+
+if_parent : {N : Type 0} (c : Bool) (x y : Shoen N) → y.parent ≡ x.parent → (if c then y else x).parent ≡ x.parent
+if_parent true x y e = e
+if_parent false x y e = refl
 
 pub number_kept : {N : Type 0} (c : Change N) (s : Shoen N) → (changed_by c s).number ≡ s.number
 number_kept (Tail x) s = refl
@@ -23,6 +29,7 @@ number_kept Breaks s = refl
 number_kept (Stopped x) s = refl
 number_kept (Allows x) s = refl
 number_kept (Ends x) s = refl
+number_kept Aborts s = if_number (is_living s.life) s (record s { life = Aborted }) refl
 
 pub parent_kept : {N : Type 0} (c : Change N) (s : Shoen N) → (changed_by c s).parent ≡ s.parent
 parent_kept (Tail x) s = refl
@@ -32,6 +39,7 @@ parent_kept Breaks s = refl
 parent_kept (Stopped x) s = refl
 parent_kept (Allows x) s = refl
 parent_kept (Ends x) s = refl
+parent_kept Aborts s = if_parent (is_living s.life) s (record s { life = Aborted }) refl
 
 -- a shoen that is found has a number from 1
 pub number_some : {N : Type 0} (n : ℕ) (s : Shoen N) (ss : List (Shoen N)) → AreNumbered 0 ss → find (has_number n) ss ≡ Some s → 0 < n
@@ -50,7 +58,8 @@ found_get n s ss a e = sym (found_at n ss a (number_some n s ss a e)) ∙ e
 pub place_within : {N : Type 0} (n : ℕ) (s : Shoen N) (ss : List (Shoen N)) → AreNumbered 0 ss → find (has_number n) ss ≡ Some s → n - 1 < length ss
 place_within n s ss a e = get_within ss (n - 1) s (found_get n s ss a e)
 
-got_found : {A : Type 0} (xs : List A) (i : ℕ) (x y : A) → slice_get xs i ≡ Some x → get_or xs i y ≡ x
+-- what is found at a place is got from it
+pub got_found : {A : Type 0} (xs : List A) (i : ℕ) (x y : A) → slice_get xs i ≡ Some x → get_or xs i y ≡ x
 got_found [] i x y e = absurd (none-some x e)
 got_found (z ∷ xs) zero x y e = same_Some z x e
 got_found (z ∷ xs) (suc i) x y e = got_found xs i x y e
@@ -114,34 +123,3 @@ pub parents_put : {N : Type 0} (i : ℕ) (ss : List (Shoen N)) (x a : Shoen N) �
 parents_put i [] x a lt e p = refl
 parents_put zero (s ∷ ss) x a lt e p = ap (λ (q : ℕ). q ∷ parents_in ss) (p ∙ ap (λ (y : Shoen _). y.parent) e)
 parents_put (suc i) (s ∷ ss) x a lt e p = ap (λ (qs : List ℕ). s.parent ∷ qs) (parents_put i ss x a (omega (arith, lt)) e p)
-
-if_number : {N : Type 0} (c : Bool) (x y : Shoen N) → y.number ≡ x.number → (if c then y else x).number ≡ x.number
-if_number true x y e = e
-if_number false x y e = refl
-
-if_parent : {N : Type 0} (c : Bool) (x y : Shoen N) → y.parent ≡ x.parent → (if c then y else x).parent ≡ x.parent
-if_parent true x y e = e
-if_parent false x y e = refl
-
--- of an abort, what is done so far
-pub record AbortsSo {N : Type 0} (xs zs : List (Shoen N)) (n i : ℕ) : Type 0 where
-  pub now : zs ≡ map (aborted_below_in xs n) (take i xs) ++ drop i xs
-  pub numbered : AreNumbered 0 zs
-  pub parents : parents_in zs ≡ parents_in xs
-  pub len : length zs ≡ length xs
-
--- one shoen more of an abort
-pub abort_step : {N : Type 0} (xs ys zs : List (Shoen N)) (n i : ℕ) (x a : Shoen N) (b : Bool) → AbortsSo xs ys n i → i < length ys → x ≡ get_or ys i x → b ≡ is_on_path_in xs n x.number → a ≡ (if is_living x.life && b then record x { life = Aborted } else x) → zs ≡ set ys i a → AbortsSo xs zs n (i + 1)
-abort_step {N = N} xs ys zs n i x a b so lt e d f g =
-    let is : a ≡ aborted_below_in xs n x = f ∙ ap (λ c. if is_living x.life && c then record x { life = Aborted } else x) d in
-    let below : Bool = is_living x.life && is_on_path_in xs n x.number in
-    let ended : Shoen N = record x { life = Aborted } in
-    let number : a.number ≡ x.number = ap (λ (y : Shoen N). y.number) is ∙ if_number below x ended refl in
-    let parent : a.parent ≡ x.parent = ap (λ (y : Shoen N). y.parent) is ∙ if_parent below x ended refl in
-    let place = numbered_get 0 i ys x so.numbered lt e in
-    record {
-      now = g ∙ ap (λ (y : Shoen N). set ys i y) is ∙ map_over_more (aborted_below_in xs n) xs ys i x (omega (arith, lt, so.len)) so.now e;
-      numbered = subst (λ (ss : List (Shoen N)). AreNumbered 0 ss) (sym g) (numbered_set 0 ys i a so.numbered (omega (arith, number, place)));
-      parents = ap (λ (ss : List (Shoen N)). parents_in ss) g ∙ parents_put i ys x a lt e parent ∙ so.parents;
-      len = ap (λ (ss : List (Shoen N)). length ss) g ∙ length_set ys i a ∙ so.len;
-    }

@@ -2,6 +2,9 @@ pub mod Numbered
 pub mod Paths
 pub mod Charges
 pub mod Changing
+pub mod Linked
+pub mod Aborting
 pub mod Counting
 pub mod Flags
+pub mod Shifting
 pub mod Meaning

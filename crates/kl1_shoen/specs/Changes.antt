@@ -1,11 +1,13 @@
 -- What becomes of one shoen.
-use Rattle.std.specs.Prelude.{◌+◌, min, true, option_map}
+use Rattle.std.specs.Prelude.{true, if◌then◌else◌, option_map}
+use Rattle.kl1_model.specs.declared.life.Life.TheVariants.{Aborted}
+use Rattle.kl1_model.specs.State.{is_living}
 use Rattle.kl1_model.specs.Reduction.{grown}
 use Rattle.kl1_store.specs.declared.cell.Cell.{Cell}
 use Rattle.kl1_shoen_paths.specs.declared.shoen.Shoen.{Shoen}
 use Rattle.kl1_shoen_paths.specs.declared.shoen.Origin.{Origin}
 use Rattle.kl1_shoen.specs.declared.change.Change.{Change}
-use Rattle.kl1_shoen.specs.declared.change.Change.TheVariants.{Tail, Control, OriginControl, Breaks, Stopped, Allows, Ends}
+use Rattle.kl1_shoen.specs.declared.change.Change.TheVariants.{Tail, Control, OriginControl, Breaks, Stopped, Allows, Ends, Aborts}
 
 -- what the console keeps, with this tail of the control stream
 abbrev pub with_control : {N : Type 0} → Cell N → Origin N → Origin N
@@ -20,3 +22,4 @@ changed_by Breaks h = record h { is_broken = true }
 changed_by (Stopped is_stopped) h = record h { is_stopped = is_stopped }
 changed_by (Allows extra) h = record h { allowance = grown h.allowance extra }
 changed_by (Ends life) h = record h { life = life }
+changed_by Aborts h = if is_living h.life then record h { life = Aborted } else h

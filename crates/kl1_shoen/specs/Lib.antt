@@ -1,3 +1,4 @@
 pub mod Shoens
 pub mod Changes
+pub mod Shifts
 pub mod Meaning

@@ -1,12 +1,14 @@
 -- Shoens in order of number, as a tree: charges, and which are enabled.
-use Rattle.std.specs.Prelude.{◌≡◌, ◌≤◌, ℕ, suc, ◌==◌, nat_le, not, ◌&&◌, ◌||◌, Bool, false, if◌then◌else◌, Option, List, map, length, find, get_or, count_by, option_map, unwrap_or}
+use Rattle.std.specs.Prelude.{◌≡◌, ◌≤◌, ℕ, suc, ◌==◌, nat_le, not, ◌&&◌, ◌||◌, Bool, false, if◌then◌else◌, Option, List, map, length, find, get_or, take, count_by, option_map, unwrap_or}
 use Rattle.std.specs.List.{AllByRecursion, list_any}
 use Rattle.kl1_model.specs.declared.life.Life.{Life}
 use Rattle.kl1_model.specs.declared.life.Life.TheVariants.{Aborted}
 use Rattle.kl1_model.specs.State.{is_living}
 use Rattle.kl1_shoen_paths.specs.declared.shoen.Shoen.{Shoen}
 use Rattle.kl1_shoen_paths.specs.Tracked.{Tracked}
+use Rattle.kl1_shoen_paths.specs.Below.{Links, AreLinked}
 pub use Rattle.kl1_shoen_paths.specs.Paths.{has_number, AreNumbered, parents_in, AreLower, path_in, is_on_path_in}
+pub use Rattle.kl1_shoen_paths.specs.Below.{AreBelow}
 
 -- the shoens of an account in order of number, from 1; for each charged reduction the number of its shoen, the newest first; both as
 -- they were when the event began; and how many more shoens can be opened without asking for memory
@@ -86,3 +88,9 @@ pub record IsCounted {N : Type 0} (shoens : Tracked (Shoen N)) (children : Track
   pub shoens_room : room ≤ shoens.room
   pub children_room : room ≤ children.room
   pub changes : room ≤ children.changes
+
+-- the children of each are linked, now and as they were when the event began, and since then shoens were only opened
+pub record AreLinkedSince {N : Type 0} (shoens before : List (Shoen N)) (l : Links) : Type 0 where
+  pub now : AreLinked (parents_in shoens) l.first l.next
+  pub kept : AreLinked (parents_in before) l.kept_first l.kept_next
+  pub grown : parents_in before ≡ take (length before) (parents_in shoens)

@@ -2,8 +2,10 @@
 
 ghost use Rattle.std.specs.Prelude.{◌≡◌, ◌+◌, min, option_map};
 ghost use Rattle.kl1_model.specs.Reduction.{grown};
+ghost use Rattle.kl1_shoen.specs.declared.change.Change.TheVariants.{Aborts};
 ghost use Rattle.kl1_shoen.specs.Changes.{changed_by, with_control as kept_with};
 
+use crate::counted::is_living;
 use kl1_model::Life;
 use kl1_model::limits::MOST_ALLOWANCE;
 use kl1_shoen_paths::{Origin, Shoen};
@@ -27,6 +29,8 @@ pub enum Change<N> {
     Allows(u64),
     /// It has this life.
     Ends(Life),
+    /// It is ended as aborted, if it lives.
+    Aborts,
 }
 
 /// An allowance, in reductions, after it was raised: it ends at the greatest there is.
@@ -49,6 +53,19 @@ fn with_control<N: NameValue>(origin: Option<Origin<N>>, control: Cell<N>) -> Op
     match origin {
         None => None,
         Some(origin) => Some(Origin { control, ..origin }),
+    }
+}
+
+/// A shoen after an abort: ended, if it lives.
+fn aborted<N: NameValue>(shoen: Shoen<N>) -> Shoen<N>
+    ensures { result ≡ changed_by Aborts shoen }
+{
+    if !is_living(shoen.life) {
+        return shoen;
+    }
+    Shoen {
+        life: Life::Aborted,
+        ..shoen
     }
 }
 
@@ -76,5 +93,6 @@ pub fn changed<N: NameValue>(shoen: Shoen<N>, change: Change<N>) -> Shoen<N>
             ..shoen
         },
         Change::Ends(life) => Shoen { life, ..shoen },
+        Change::Aborts => aborted(shoen),
     }
 }

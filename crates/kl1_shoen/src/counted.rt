@@ -3,10 +3,11 @@
 ghost use Rattle.std.specs.Prelude.{◌≡◌, ◌<◌, ◌≤◌, ◌+◌, ◌-◌, ◌∷◌, ◌++◌, [], ℕ, set, get_or, length, OnOk, IsTrue};
 ghost use Rattle.std.specs.List.{list_any};
 ghost use Rattle.kl1_model.specs.State.{is_living as living};
+ghost use Rattle.kl1_shoen_paths.specs.Tracked.{IsTrail};
 ghost use Rattle.kl1_shoen.specs.Shoens.{counted_under, is_living_child_of, AreLower};
 
 use kl1_model::Life;
-use kl1_shoen_paths::{Shoen, TrackedList, item_at};
+use kl1_shoen_paths::{Shoen, TrackedList, Was, item_at};
 use kl1_text::NameValue;
 use std::alloc::{AllocError, Global};
 use std::marker::Model;
@@ -56,6 +57,13 @@ impl<N: NameValue> CountedShoens<N> {
         ensures { result.now ≡ self.now.now }
     {
         self.shoens.items()
+    }
+
+    /// What the shoens were that were changed since they were last marked, with their places, the oldest first.
+    pub fn trail(&self) -> &[Was<Shoen<N>>]
+        ensures { IsTrail self.now.now self.now.kept result.now }
+    {
+        self.shoens.trail()
     }
 
     /// Marks the shoens as they are: `back` comes back to this.

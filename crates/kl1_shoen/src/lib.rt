@@ -3,8 +3,10 @@
 
 mod change;
 mod counted;
+mod shift;
 mod tree;
 mod work;
 
 pub use kl1_shoen_paths::{Origin, Shoen};
+pub use shift::Shift;
 pub use tree::{ShoenTree, Step};

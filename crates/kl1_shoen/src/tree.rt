@@ -3,6 +3,7 @@
 mod changing;
 mod charging;
 mod marking;
+mod shifting;
 mod walking;
 
 ghost use Rattle.std.specs.Prelude.{◌≡◌, ◌<◌, ◌≤◌, ◌+◌, ◌-◌, [], ◌∷◌, ◌++◌, suc, min, length, find, option_and_then, option_copied, option_map, unwrap_or, None, IfSome, OnOk};
@@ -11,7 +12,7 @@ ghost use Rattle.kl1_shoen.specs.Shoens.{has_number, shoen_in, path_in, lives_in
 
 use crate::counted::{CountedShoens, is_living};
 use crate::work::Work;
-use kl1_shoen_paths::{Origin, Shoen, TrackedList, lent, parent_of};
+use kl1_shoen_paths::{ChildLists, Origin, Shoen, TrackedList, lent, parent_of};
 use kl1_text::NameValue;
 use std::alloc::{AllocError, Global};
 use std::marker::Model;
@@ -24,19 +25,20 @@ pub struct Step {
 }
 
 /// The shoens of an account, each at the place of its number, with what each was charged, and both as they were when the event
-/// began; and the list that an abort writes, kept from one to the next.
+/// began; the children of each; and the list that an abort writes, kept from one to the next.
 #[derive(Drop)]
 pub struct ShoenTree<N: NameValue> {
     shoens: CountedShoens<N>,
     charges: TrackedList<u64>,
+    links: ChildLists,
     work: Work,
     kept_work: Work,
-    are_below: Vec<bool>,
+    below: Vec<u64>,
 }
 
 impl<N: NameValue> Model for ShoenTree<N> {
     ghost use Rattle.std.specs.Prelude.{min};
-    ghost use Rattle.kl1_shoen.specs.Shoens.{Tree, AreCharged};
+    ghost use Rattle.kl1_shoen.specs.Shoens.{Tree, AreCharged, AreLinkedSince};
 
     ghost Value = { Tree N };
 
@@ -45,10 +47,10 @@ impl<N: NameValue> Model for ShoenTree<N> {
       work = t.work;
       kept = t.shoens.kept;
       kept_work = t.kept_work;
-      room = min t.shoens.room t.charges.room;
+      room = min t.shoens.room (min t.charges.room t.links.room);
     } };
 
-    ghost invariant = { λ t. AreCharged t.shoens.now t.charges.now t.work × AreCharged t.shoens.kept t.charges.kept t.kept_work };
+    ghost invariant = { λ t. AreCharged t.shoens.now t.charges.now t.work × AreCharged t.shoens.kept t.charges.kept t.kept_work × AreLinkedSince t.shoens.now t.shoens.kept t.links };
 }
 
 impl<N: NameValue> ShoenTree<N> {
@@ -62,9 +64,10 @@ impl<N: NameValue> ShoenTree<N> {
         ShoenTree {
             shoens: CountedShoens::new(alloc),
             charges: TrackedList::new(alloc),
+            links: ChildLists::new(alloc),
             work: Work::new(),
             kept_work: Work::new(),
-            are_below: Vec::new(alloc),
+            below: Vec::new(alloc),
         }
     }
 
@@ -88,7 +91,8 @@ impl<N: NameValue> ShoenTree<N> {
         ensures kept_work { self.new.kept_work ≡ self.old.kept_work }
     {
         self.shoens.reserve(more)?;
-        self.charges.reserve(more)
+        self.charges.reserve(more)?;
+        self.links.reserve(more)
     }
 
     /// Takes a shoen in, whose number is the next one, and whose parent is there.
@@ -100,6 +104,7 @@ impl<N: NameValue> ShoenTree<N> {
     {
         self.shoens.push(shoen);
         self.charges.push(0);
+        self.links.push(shoen.parent);
     }
 
     /// Shoen `number`, lent.

@@ -1,11 +1,10 @@
 -- One pass over shoens in order of number, in which the parent's flag is there before its child's.
-use Rattle.std.proofs.Common.{◌≡◌, ℕ, zero, suc, ◌+◌, ◌-◌, ◌<◌, ◌≤◌, Bool, false, ◌==◌, ◌||◌, List, [], ◌∷◌, ◌++◌, map, length, get_or, take, refl, sym, ap, ap₂, ◌∙◌, arith}
+use Rattle.std.proofs.Common.{◌≡◌, ℕ, zero, suc, ◌+◌, ◌-◌, ◌<◌, ◌≤◌, Bool, List, [], ◌∷◌, ◌++◌, map, length, get_or, take, refl, sym, ap, ap₂, ◌∙◌, arith}
 use Rattle.std.proofs.lemmas.List.{map_more}
-use Rattle.kl1_model.specs.Module.{is_among}
 use Rattle.kl1_shoen_paths.specs.declared.shoen.Shoen.{Shoen}
-use Rattle.kl1_shoen_paths.specs.Paths.{AreNumbered, AreLower, path_in, parents_in, is_on_path_in}
+use Rattle.kl1_shoen_paths.specs.Paths.{AreNumbered, AreLower, path_in, parents_in}
 use Rattle.kl1_shoen_paths.proofs.Numbered.{numbered_get}
-use Rattle.kl1_shoen_paths.proofs.Paths.{path_zero, go_on, parents_get, parent_few}
+use Rattle.kl1_shoen_paths.proofs.Paths.{go_on, parents_get, parent_few}
 
 -- the path of the shoen at a place goes on with its parent's
 pub path_at : {N : Type 0} (ss : List (Shoen N)) (i : ℕ) (x : Shoen N) → AreNumbered 0 ss → AreLower ss → i < length ss → x ≡ get_or ss i x → path_in ss x.number ≡ x.number ∷ path_in ss x.parent
@@ -46,12 +45,6 @@ pub flag_more : {N : Type 0} (g : ℕ → Bool) (i : ℕ) (ss : List (Shoen N)) 
 flag_more {N = N} g i ss flags x b is lt at e =
     ap₂ (λ (l : List Bool) c. l ++ c ∷ []) is (e ∙ ap (λ (h : Shoen N). g h.number) at) ∙ sym (map_more (λ (h : Shoen N). g h.number) ss i x lt)
 
-none_on_path : {N : Type 0} (ss : List (Shoen N)) (a : ℕ) → is_on_path_in ss a 0 ≡ false
-none_on_path ss a = ap (is_among a) (path_zero 0 ss refl)
-
-below_step : {N : Type 0} (ss : List (Shoen N)) (n : ℕ) (x : Shoen N) (b c : Bool) → path_in ss x.number ≡ x.number ∷ path_in ss x.parent → b ≡ is_on_path_in ss n x.parent → c ≡ (n == x.number || b) → c ≡ is_on_path_in ss n x.number
-below_step ss n x b c path e f = f ∙ ap (λ d. n == x.number || d) e ∙ sym (ap (is_among n) path)
-
 -- the flag of a parent is there
 pub flags_few : {N : Type 0} (g : ℕ → Bool) (i : ℕ) (ss ts : List (Shoen N)) (flags ds : List Bool) (x : Shoen N) → AreLower ss → ts ≡ ss → flags ≡ map (λ (h : Shoen N). g h.number) (take i ts) → ds ≡ flags → i < length ts → x ≡ get_or ts i x →
     x.parent ≤ length ds
@@ -61,12 +54,3 @@ flags_few {N = N} g i ss ts flags ds x lower same is e lt at =
     let count = count_flags g i ts flags is (omega (arith, lt)) in
     let d = ap (λ (l : List Bool). length l) e in
     omega (arith, few, count, d)
-
--- of one shoen more it is told whether it is below another
-pub below_more : {N : Type 0} (ss : List (Shoen N)) (n i : ℕ) (x : Shoen N) (flags ns : List Bool) (b c : Bool) → AreNumbered 0 ss → AreLower ss → flags ≡ map (λ (h : Shoen N). is_on_path_in ss n h.number) (take i ss) →
-    i < length ss → x ≡ get_or ss i x → (x.parent ≡ 0 → b ≡ false) → (0 < x.parent → b ≡ get_or flags (x.parent - 1) b) → c ≡ (n == x.number || b) → ns ≡ flags ++ c ∷ [] →
-    ns ≡ map (λ (h : Shoen N). is_on_path_in ss n h.number) (take (i + 1) ss)
-below_more ss n i x flags ns b c a lower is lt at zero_is some_is c_is e =
-    let f : ℕ → Bool = is_on_path_in ss n in
-    let parent : b ≡ f x.parent = flag_is f i x.parent ss flags b false a is (parent_few ss i x lower lt at) (omega (arith, lt)) (none_on_path ss n) zero_is some_is in
-    e ∙ flag_more f i ss flags x c is lt at (below_step ss n x b c (path_at ss i x a lower lt at) parent c_is)

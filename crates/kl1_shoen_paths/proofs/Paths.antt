@@ -1,7 +1,8 @@
 -- Paths of shoens in order of number.
-use Rattle.std.proofs.Common.{◌≡◌, ℕ, zero, suc, ◌-◌, ◌<◌, ◌≤◌, false, ◌||◌, List, [], ◌∷◌, length, refl, sym, ap, ap₂, ◌∙◌, arith}
+use Rattle.std.proofs.Common.{◌≡◌, ℕ, zero, suc, ◌-◌, ◌<◌, ◌≤◌, false, ◌||◌, List, [], ◌∷◌, ◌++◌, length, refl, sym, ap, ap₂, ◌∙◌, arith}
 use Rattle.std.specs.Prelude.{Option, find, get_or, slice_get, option_map, unwrap_or}
 use Rattle.std.proofs.lemmas.Bool.{ne_eqb}
+use Rattle.std.proofs.lemmas.List.{get_or_append_left}
 use Rattle.kl1_model.specs.Module.{is_among}
 use Rattle.kl1_model.specs.Tree.{path_within}
 use Rattle.kl1_model.specs.laws.TreeLaws.{ParentsAreLower}
@@ -25,7 +26,7 @@ path_step : (parents : List ℕ) (n : ℕ) → path_within (suc n) parents (suc 
 unfolding path_within
 path_step parents n = refl
 
-path_none : (parents : List ℕ) → path_within 0 parents 0 ≡ []
+pub path_none : (parents : List ℕ) → path_within 0 parents 0 ≡ []
 unfolding path_within
 path_none parents = refl
 
@@ -44,7 +45,7 @@ parent_get (s ∷ ss) zero = refl
 parent_get (s ∷ ss) (suc i) = parent_get ss i
 
 -- the parent that a shoen names stands at its place
-parent_at : {N : Type 0} (n p : ℕ) (ss : List (Shoen N)) → AreNumbered 0 ss → p ≡ unwrap_or (option_map (λ (h : Shoen N). h.parent) (find (has_number n) ss)) 0 → 0 < n → p ≡ get_or (parents_in ss) (n - 1) 0
+pub parent_at : {N : Type 0} (n p : ℕ) (ss : List (Shoen N)) → AreNumbered 0 ss → p ≡ unwrap_or (option_map (λ (h : Shoen N). h.parent) (find (has_number n) ss)) 0 → 0 < n → p ≡ get_or (parents_in ss) (n - 1) 0
 parent_at {N = N} n p ss a e lt = e ∙ ap (λ (o : Option (Shoen N)). unwrap_or (option_map (λ (h : Shoen N). h.parent) o) 0) (found_at n ss a lt) ∙ parent_get ss (n - 1)
 
 -- a parent has a lesser number
@@ -78,3 +79,22 @@ beyond_path parents lower (suc m) zero a lt = refl
 beyond_path parents lower (suc m) (suc n) a lt =
     ap (λ b. b || is_among a (path_within m parents (get_or parents n 0))) (ne_eqb a (suc n) (λ e. omega (arith, lt, e)))
     ∙ beyond_path parents lower m (get_or parents n 0) a (omega (arith, lt, lower n))
+
+-- a path among known shoens doesn't change if more are opened
+pub path_among : (ps qs : List ℕ) → ParentsAreLower ps → (m n : ℕ) → n ≤ length ps → path_within m (ps ++ qs) n ≡ path_within m ps n
+unfolding path_within
+path_among ps qs lower zero n few = refl
+path_among ps qs lower (suc m) zero few = refl
+path_among ps qs lower (suc m) (suc n) few =
+    let l : n < length ps = omega (arith, few) in
+    ap (λ (k : ℕ). suc n ∷ path_within m (ps ++ qs) k) (get_or_append_left ps qs 0 n l)
+    ∙ ap (λ (ks : List ℕ). suc n ∷ ks) (path_among ps qs lower m (get_or ps n 0) (omega (arith, lower n, l)))
+
+-- the number 0 is on no path
+pub zero_off_path : (parents : List ℕ) (m n : ℕ) → is_among 0 (path_within m parents n) ≡ false
+unfolding path_within
+zero_off_path parents zero n = refl
+zero_off_path parents (suc m) zero = refl
+zero_off_path parents (suc m) (suc n) =
+    ap (λ b. b || is_among 0 (path_within m parents (get_or parents n 0))) (ne_eqb 0 (suc n) (λ e. omega (arith, e)))
+    ∙ zero_off_path parents m (get_or parents n 0)

@@ -1,2 +1,3 @@
 pub mod Tracked
 pub mod Paths
+pub mod Below

@@ -1,7 +1,7 @@
 // Lists that can be put back to what they were.
 
 ghost use Rattle.std.specs.Prelude.{◌≡◌, ◌<◌, ◌≤◌, ◌+◌, ◌-◌, [], ◌∷◌, ◌++◌, set, get_or, length, take, vec_len, vec_capacity, slice_get, option_copied, OnOk, OnErr};
-ghost use Rattle.kl1_shoen_paths.specs.Tracked.{Tracked, put_back};
+ghost use Rattle.kl1_shoen_paths.specs.Tracked.{Tracked, IsTrail, put_back};
 
 use std::alloc::{AllocError, Global};
 use std::marker::Model;
@@ -56,6 +56,13 @@ impl<T: Copy> TrackedList<T> {
         ensures { result.now ≡ self.now.now }
     {
         &self.items
+    }
+
+    /// What stood at the places where something else was put since the list was last marked, the oldest first.
+    pub fn trail(&self) -> &[Was<T>]
+        ensures { IsTrail self.now.now self.now.kept result.now }
+    {
+        &self.was
     }
 
     /// Marks the list as it is: `back` comes back to this.

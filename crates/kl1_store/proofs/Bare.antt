@@ -10,12 +10,14 @@ use Rattle.kl1_store.specs.declared.cell.Cell.{Cell}
 use Rattle.kl1_store.specs.declared.cell.Cell.TheVariants.{Variable, Integer, Atom, Structure}
 use Rattle.kl1_store.specs.declared.binding.Binding.{Binding}
 use Rattle.kl1_store.specs.declared.levels.Levels.{Levels}
+use Rattle.kl1_store.specs.declared.mark.Mark.{Mark}
 use Rattle.kl1_store.specs.Held.{Held, Shape, is_bound, found, shape_arguments, arguments_of, IsWithin, AreWithin, IsLower}
 use Rattle.kl1_store.specs.Meaning.{mean, means, shapes_from, replacements_from, unread}
 use Rattle.kl1_store.specs.Sound.{Built, Bound, FitsNext, IsFormed}
 use Rattle.kl1_store.specs.Levels.{level_at, LiesAt, IsLevel, AreLevels}
-use Rattle.kl1_store.specs.Renames.{cell_renamed, shape_renamed, binding_renamed, held_renamed, unnamed}
+use Rattle.kl1_store.specs.Renames.{cell_renamed, shape_renamed, binding_renamed, held_renamed, renamed_since, unnamed}
 use Rattle.kl1_store.proofs.Meanings.{if_same, if_other}
+use Rattle.kl1_store.proofs.Changed.{mapped_bare}
 
 -- a term without names
 abbrev mutual
@@ -207,6 +209,25 @@ formed_to k h f = record { built = built_to k h.variables 0 h.structures f.built
 
 formed_from : {N M : Type 0} (k : N → M) (h : Held N) → IsFormed (held_renamed k h) → IsFormed h
 formed_from k h f = record { built = built_from k h.variables 0 h.structures f.built; bound = bound_from k h.variables h.structures [] h.bindings f.bound }
+
+bare_cell : {N : Type 0} (g : N → N) (x : Cell N) → cell_renamed unnamed (cell_renamed g x) ≡ cell_renamed unnamed x
+bare_cell g (Variable v) = refl
+bare_cell g (Integer i) = refl
+bare_cell g (Atom a) = refl
+bare_cell g (Structure s) = refl
+
+bare_cells : {N : Type 0} (g : N → N) (xs : List (Cell N)) → map (cell_renamed unnamed) (map (cell_renamed g) xs) ≡ map (cell_renamed unnamed) xs
+bare_cells g [] = refl
+bare_cells g (x ∷ xs) = ap₂ (λ (y : Cell (Unit {0})) (ys : List (Cell (Unit {0}))). y ∷ ys) (bare_cell g x) (bare_cells g xs)
+
+-- other names since a mark are no change but for the names
+pub bare_since : {N : Type 0} (g : N → N) (mark : Mark) (h : Held N) → held_renamed unnamed (renamed_since g mark h) ≡ held_renamed unnamed h
+bare_since {N = N} g mark h =
+    let make : List (Shape (Unit {0})) → List (Binding (Unit {0})) → Held (Unit {0}) = λ ss bs. record { variables = h.variables; structures = ss; bindings = bs } in
+    let shape : List (Cell (Unit {0})) → Shape (Unit {0}) = λ xs. record { name = tt; arguments = xs } in
+    ap₂ make
+    (mapped_bare (shape_renamed unnamed) (shape_renamed g) mark.structures h.structures (λ s. ap shape (bare_cells g s.arguments)))
+    (mapped_bare (binding_renamed unnamed) (binding_renamed g) mark.bindings h.bindings (λ b. let bind : Cell (Unit {0}) → Binding (Unit {0}) = λ x. record { variable = b.variable; value = x } in ap bind (bare_cell g b.value)))
 
 -- what is formed but for its names is formed
 pub formed_alike : {N : Type 0} (old new : Held N) → held_renamed unnamed new ≡ held_renamed unnamed old → IsFormed old → IsFormed new

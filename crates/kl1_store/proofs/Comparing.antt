@@ -26,7 +26,7 @@ use Rattle.kl1_store.specs.Onward.{onward}
 use Rattle.kl1_store.specs.Meets.{MeetsAs, Opens}
 use Rattle.kl1_store.specs.Compares.{clash_among, awaited_among, Compares, Compared, LooksDone, LooksOpen}
 use Rattle.kl1_store.specs.Nested.{Alike, Under, Expects, structure_term, argument_terms}
-use Rattle.kl1_store.specs.Done.{IsOf, IsDone, is_among, EachDone, AreDone, IsKnown}
+use Rattle.kl1_store.specs.Done.{IsOf, IsDone, is_among, EachDone, AreDone, IsKnown, MayHave}
 use Rattle.kl1_store.proofs.Terms.{term_of-Structure, term_of-unbound}
 use Rattle.kl1_store.proofs.Meetings.{named, term_kind, kind_kept, no_variable, count_of-terms_of}
 use Rattle.kl1_store.proofs.Advancing.{work, waiting-push, ArePairs-push, turn_waiting, arguments_size, Reaches, closed_at, closed_waiting, pair_popped, onward_pushed}
@@ -267,8 +267,11 @@ each_more S ws zs k ds d = λ l r among. done_more ws zs k (S l) (S r) (d l r am
 abbrev pub IsAdded : ℕ → ℕ → List (List ℕ) → List (List ℕ) → Type 0
 IsAdded p q ds es = (l r : ℕ) → is_among l r es ≡ cond (pointwise nat_eq (p ∷ q ∷ []) (l ∷ r ∷ [])) true (is_among l r ds)
 
-each_added : (S : ℕ → Term) (ws : List ℕ) (ds es : List (List ℕ)) (p q : ℕ) → IsAdded p q ds es → EachDone S ws ds → IsDone ws (S p) (S q) → EachDone S ws es
-each_added S ws ds es p q added d e = λ l r among. by_case l r (pointwise nat_eq (p ∷ q ∷ []) (l ∷ r ∷ [])) refl (sym (added l r) ∙ among)
+pub pair_kept : (p q : ℕ) (ds : List (List ℕ)) → MayHave p q ds ds
+pair_kept p q ds = λ l r among. inl among
+
+pub pair_added : (p q : ℕ) (ds es : List (List ℕ)) → IsAdded p q ds es → MayHave p q ds es
+pair_added p q ds es added = λ l r among. by_case l r (pointwise nat_eq (p ∷ q ∷ []) (l ∷ r ∷ [])) refl (sym (added l r) ∙ among)
   where
     left_same : {a b c d : ℕ} → (let xs : List ℕ = a ∷ b ∷ [] in xs) ≡ c ∷ d ∷ [] → a ≡ c
     left_same e = cc
@@ -276,13 +279,19 @@ each_added S ws ds es p q added d e = λ l r among. by_case l r (pointwise nat_e
     right_same : {a b c d : ℕ} → (let xs : List ℕ = a ∷ b ∷ [] in xs) ≡ c ∷ d ∷ [] → b ≡ d
     right_same e = cc
 
-    by_case : (l r : ℕ) (b : Bool) → pointwise nat_eq (p ∷ q ∷ []) (l ∷ r ∷ []) ≡ b → cond b true (is_among l r ds) ≡ true → IsDone ws (S l) (S r)
-    by_case l r true same among =
-        let is = (bytes_decides (p ∷ q ∷ []) (l ∷ r ∷ [])).0 same in
+    by_case : (l r : ℕ) (b : Bool) → pointwise nat_eq (p ∷ q ∷ []) (l ∷ r ∷ []) ≡ b → cond b true (is_among l r ds) ≡ true → (is_among l r ds ≡ true) ⊎ ((p ≡ l) × (q ≡ r))
+    by_case l r true same among = let is = (bytes_decides (p ∷ q ∷ []) (l ∷ r ∷ [])).0 same in inr (left_same is, right_same is)
+    by_case l r false same among = inl among
+
+each_may : (S : ℕ → Term) (ws : List ℕ) (ds es : List (List ℕ)) (p q : ℕ) → MayHave p q ds es → EachDone S ws ds → IsDone ws (S p) (S q) → EachDone S ws es
+each_may S ws ds es p q may d e = λ l r among. by_case l r (may l r among)
+  where
+    by_case : (l r : ℕ) → (is_among l r ds ≡ true) ⊎ ((p ≡ l) × (q ≡ r)) → IsDone ws (S l) (S r)
+    by_case l r (inl before) = d l r before
+    by_case l r (inr here) =
         let L : ℕ → Type 0 = λ n. IsDone ws (S n) (S r) in
         let R : ℕ → Type 0 = λ n. IsDone ws (S p) (S n) in
-        subst L (left_same is) (subst R (right_same is) e)
-    by_case l r false same among = d l r among
+        subst L here.0 (subst R here.1 e)
 
 unchanged : Changes (λ t. t) (λ ts. ts)
 unchanged = record { none_is = refl; more_is = λ t ts. refl }
@@ -434,8 +443,8 @@ pair_done {N = N} f h ws p formed pair le alike =
     }))
 
 pub left_closes : {N : Type 0} (built : BuiltIn → N) (h : Held N) (l r : Cell N) (start waits : List ℕ) (ds es : List (List ℕ)) (before ps : List Frame) (p : Frame) → IsFormed h →
-    IsLeft built h l r start waits ds before → before ≡ ps ++ p ∷ [] → p.count ≤ p.next → IsAdded p.left p.right ds es → IsLeft built h l r start waits es ps × (work h ps < work h before)
-left_closes {N = N} built h l r start waits ds es before ps p formed i e le is = (
+    IsLeft built h l r start waits ds before → before ≡ ps ++ p ∷ [] → p.count ≤ p.next → MayHave p.left p.right ds es → IsLeft built h l r start waits es ps × (work h ps < work h before)
+left_closes {N = N} built h l r start waits ds es before ps p formed i e le may = (
   record {
     pairs = closed.pairs;
     clash = λ f reads w. i.clash f reads (ap clash_among (same f) ∙ w);
@@ -443,7 +452,7 @@ left_closes {N = N} built h l r start waits ds es before ps p formed i e le is =
     rest = λ f reads v a. let L : List Equation → Type 0 = λ k. IsOf v (awaited_among k) in i.rest f reads v (subst L (sym (same f)) a);
     kept = i.kept;
     under = λ f reads. under_pop (IsDone waits) (structure_term f h) (argument_terms f h) (term_of f h l) (term_of f h r) ps p (under f reads) (done f reads);
-    done = λ f reads. each_added (structure_term f h) waits ds es p.left p.right is (i.done f reads) (done f reads);
+    done = λ f reads. each_may (structure_term f h) waits ds es p.left p.right may (i.done f reads) (done f reads);
   },
   closed.less,
 )

@@ -30,5 +30,6 @@ pub mod InModules
 pub mod Constants
 pub mod Changed
 pub mod Bare
-pub mod Renaming
+pub mod OtherNames
 pub mod Renamed
+pub mod Recalling

@@ -1,6 +1,5 @@
 -- What is held under other names means what was held, each name read as the other one.
-use Rattle.std.proofs.Common.{◌≡◌, ℕ, List, [], ◌∷◌, ◌++◌, take, drop, map, refl, sym, ap, ap₂, ◌∙◌}
-use Rattle.std.proofs.lemmas.List.{take-append-drop, map-append}
+use Rattle.std.proofs.Common.{◌≡◌, ℕ, List, [], ◌∷◌, ◌++◌, map, refl, ap, ap₂, ◌∙◌}
 use Rattle.kl1_model.specs.Term.{Term, structure, more, Replacement}
 use Rattle.kl1_model.specs.code.Unifying.{replaced}
 use Rattle.kl1_store.specs.declared.cell.Cell.{Cell}
@@ -9,7 +8,7 @@ use Rattle.kl1_store.specs.declared.binding.Binding.{Binding}
 use Rattle.kl1_store.specs.declared.mark.Mark.{Mark}
 use Rattle.kl1_store.specs.Held.{Held, Shape}
 use Rattle.kl1_store.specs.Meaning.{mean, means, shapes, shapes_from, replacements_from, term_of}
-use Rattle.kl1_store.specs.Renames.{cell_renamed, shape_renamed, binding_renamed, held_renamed, renamed_since}
+use Rattle.kl1_store.specs.Renames.{cell_renamed, shape_renamed, binding_renamed, held_renamed, mapped_from, renamed_since}
 
 mean-renamed : {N M : Type 0} (f : M → List ℕ) (g : N → M) (ts : List Term) (x : Cell N) → mean f ts (cell_renamed g x) ≡ mean (λ n. f (g n)) ts x
 mean-renamed f g ts (Variable v) = refl
@@ -45,17 +44,8 @@ term_of-renamed f g h x =
     ap (λ ts. replaced (replacements_from f ts [] (map (binding_renamed g) h.bindings)) (mean f ts (cell_renamed g x))) shapes_are
     ∙ ap₂ replaced (replacements_from-renamed f g (shapes (λ n. f (g n)) h) [] h.bindings) (mean-renamed f g (shapes (λ n. f (g n)) h) x)
 
--- where the names before a mark stay, other names since then are other names everywhere
-pub renamed_everywhere : {N : Type 0} (g : N → N) (mark : Mark) (h : Held N) →
-    map (shape_renamed g) (take mark.structures h.structures) ≡ take mark.structures h.structures →
-    map (binding_renamed g) (take mark.bindings h.bindings) ≡ take mark.bindings h.bindings →
-    renamed_since g mark h ≡ held_renamed g h
-renamed_everywhere {N = N} g mark h ss bs =
-    let make : List (Shape N) → List (Binding N) → Held N = λ l m. record { variables = h.variables; structures = l; bindings = m } in
-    ap₂ make
-    (ap (λ l. l ++ map (shape_renamed g) (drop mark.structures h.structures)) (sym ss)
-    ∙ sym (map-append (shape_renamed g) (take mark.structures h.structures) (drop mark.structures h.structures))
-    ∙ ap (map (shape_renamed g)) (take-append-drop mark.structures h.structures))
-    (ap (λ l. l ++ map (binding_renamed g) (drop mark.bindings h.bindings)) (sym bs)
-    ∙ sym (map-append (binding_renamed g) (take mark.bindings h.bindings) (drop mark.bindings h.bindings))
-    ∙ ap (map (binding_renamed g)) (take-append-drop mark.bindings h.bindings))
+-- other names since the beginning are other names everywhere
+pub renamed_everywhere : {N : Type 0} (g : N → N) (mark : Mark) (h : Held N) → mark.structures ≡ 0 → mark.bindings ≡ 0 → renamed_since g mark h ≡ held_renamed g h
+renamed_everywhere {N = N} g mark h s b =
+    let make : ℕ → ℕ → Held N = λ n m. record { variables = h.variables; structures = mapped_from (shape_renamed g) n h.structures; bindings = mapped_from (binding_renamed g) m h.bindings } in
+    ap₂ make s b

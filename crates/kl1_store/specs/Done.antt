@@ -41,3 +41,7 @@ pub record IsKnown {N : Type 0} (x y : Cell N) (pairs : List (List ℕ)) : Type 
   pub left_is : x ≡ Structure left
   pub right_is : y ≡ Structure right
   pub known : is_among left right pairs ≡ true
+
+-- each of the pairs now was one of those before, or is this one
+abbrev pub MayHave : ℕ → ℕ → List (List ℕ) → List (List ℕ) → Type 0
+MayHave p q before now = (l r : ℕ) → is_among l r now ≡ true → (is_among l r before ≡ true) ⊎ ((p ≡ l) × (q ≡ r))

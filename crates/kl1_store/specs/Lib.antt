@@ -15,6 +15,7 @@ pub mod Unification
 pub mod Compares
 pub mod ComparesEach
 pub mod Sameness
+pub mod Remembers
 pub mod Hooks
 pub mod Chains
 pub mod Keeping

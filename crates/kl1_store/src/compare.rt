@@ -1,7 +1,7 @@
 // Two cells side by side, without binding anything.
 
 ghost use Rattle.std.specs.Prelude.{◌≡◌, ℕ, true, List, [], ◌∷◌, ◌++◌, IfOk, OnOk, IsTrue};
-ghost use Rattle.kl1_store.specs.Done.{IsKnown};
+ghost use Rattle.kl1_store.specs.Done.{IsKnown, MayHave};
 ghost use Rattle.kl1_store.specs.Held.{Held, IsIn, IsWalked};
 ghost use Rattle.kl1_store.specs.Sound.{IsFormed};
 ghost use Rattle.kl1_store.specs.Waiting.{ArePairs};
@@ -18,6 +18,11 @@ use crate::sides::Sides;
 use kl1_text::NameValue;
 use std::alloc::{AllocError, Global};
 use std::collections::HashSet;
+
+/// The pairs of structures that are compared before one is put down as known, of the first level, and for each level more.
+const FIRST_SPARED: usize = 64;
+
+const SPARED_BY_LEVEL: usize = 4;
 
 /// Puts a variable on the list of those that are waited for, and says yes.
 fn wait_for(waits: &mut Vec<u32>, variable: u32) -> Result<bool, AllocError>
@@ -82,6 +87,24 @@ fn is_known<N: Copy>(pairs: &HashSet<[u32; 2]>, left: Cell<N>, right: Cell<N>) -
     false
 }
 
+/// Puts a pair that was compared down as known, unless some are still to be spared.
+#[inline]
+#[tactic(auto, using(crate::proofs::Comparing::pair_kept))]
+fn put_down(
+    pairs: &mut HashSet<[u32; 2]>,
+    spared: &mut usize,
+    frame: Frame,
+) -> Result<(), AllocError>
+    ensures { OnOk result (MayHave frame.left frame.right pairs.old.keys pairs.new.keys) }
+{
+    if *spared > 0 {
+        *spared -= 1;
+        return Ok(());
+    }
+    pairs.insert([frame.left, frame.right])?;
+    Ok(())
+}
+
 /// Compares two cells: false if they clash; `waits` gets the variables for which they wait, and `frames` is scratch.
 pub fn compare<N: NameValue>(
     cells: &Cells<N>,
@@ -99,8 +122,11 @@ pub fn compare<N: NameValue>(
     // Only for the proof: what the cells hold is formed.
     let _ = cells.mark();
     frames.clear();
-    // The structures, by number, that were compared. To empty a set that was large would cost what it once held.
+    // The structures, by number, that were compared. To empty a set that was large would cost what it once held. Up to some pairs for
+    // each level that they reach none is put down: in lists none ever is, and what is looked at twice is no more than that.
     let mut pairs = HashSet::new(alloc);
+    let mut deepest: usize = 0;
+    let mut spared = FIRST_SPARED;
     let first = cells.walk(left);
     let second = cells.walk(right);
     if !compare_sides(cells, frames, waits, first, second)? {
@@ -108,8 +134,13 @@ pub fn compare<N: NameValue>(
     }
     while let Some(frame) = frames.pop() {
         if frame.next >= frame.count {
-            pairs.insert([frame.left, frame.right])?;
+            put_down(&mut pairs, &mut spared, frame)?;
             continue;
+        }
+        let depth = frames.len();
+        if depth > deepest {
+            deepest = depth;
+            spared = spared.saturating_add(SPARED_BY_LEVEL);
         }
         let Sides { left, right } = turn(cells, frame);
         frames.push(frame.onward())?;

@@ -9,6 +9,7 @@ ghost use Rattle.kl1_store.specs.Places.{all_arguments, StandFrom};
 ghost use Rattle.kl1_store.specs.Unifies.{OnlyBound};
 ghost use Rattle.kl1_store.specs.Unification.{SettlesTo};
 ghost use Rattle.kl1_store.specs.Sameness.{SameAs, NamesUnbound, AlikeAs};
+ghost use Rattle.kl1_store.specs.Remembers.{Remembers};
 ghost use Rattle.kl1_store.specs.Hooks.{Kept, hanging_on, told_by, point_of, HasGrown};
 ghost use Rattle.kl1_store.specs.Tops.{firsts, others};
 
@@ -19,13 +20,13 @@ mod renaming;
 
 use crate::cell::Cell;
 use crate::cells::Cells;
-use crate::compare::compare;
 use crate::compare_each::compare_each;
 use crate::head::Head;
 use crate::hooks::Hooks;
 use crate::levels::Levels;
 use crate::merges::Merges;
 use crate::point::Point;
+use crate::remembering::compare_once;
 use crate::same::Same;
 use crate::same_scratch::SameScratch;
 use crate::scratch::Scratch;
@@ -258,7 +259,8 @@ impl<N: NameValue> Store<N> {
     }
 
     /// Whether two cells may mean the same term: false if they clash. Else `waits` gets the variables that this waits for, after
-    /// those in it, and none if they mean the same term already.
+    /// those in it, and none if they mean the same term already. What it finds is remembered in `scratch` for calls on this store
+    /// while nothing changes in it.
     pub fn may_be_same(
         &self,
         left: Cell<N>,
@@ -268,21 +270,22 @@ impl<N: NameValue> Store<N> {
     ) -> Result<bool, AllocError>
         requires left_in { IsIn self.now.held left }
         requires right_in { IsIn self.now.held right }
-        ensures { IfOk result (AlikeAs N.built self.now.held left right waits.old.items waits.new.items) }
+        requires remembers { Remembers N.built self.now.held scratch.old }
+        ensures alike { IfOk result (AlikeAs N.built self.now.held left right waits.old.items waits.new.items) }
+        ensures remembers { OnOk result (Remembers N.built self.now.held scratch.new) }
     {
-        scratch.waits.clear();
-        if !compare(
-            &self.cells,
-            &mut scratch.frames,
-            self.alloc,
-            &mut scratch.waits,
-            left,
-            right,
-        )? {
-            return Ok(false);
+        compare_once(&self.cells, scratch, self.alloc, waits, left, right)
+    }
+
+    /// Forgets what was compared, so that nothing is remembered that isn't so for this store as it is now.
+    #[inline]
+    pub fn forget(&self, scratch: &mut SameScratch)
+        ensures { Remembers N.built self.now.held scratch.new }
+    {
+        // Most goals compare nothing.
+        if !scratch.remembered.is_empty() {
+            scratch.let_go();
         }
-        waits.extend_from_slice(scratch.waits.as_slice())?;
-        Ok(true)
     }
 
     /// Makes room for `variables` variables, `structures` structures, `arguments` arguments and `bindings` bindings more:

@@ -3,5 +3,6 @@
 mod checks;
 mod goals;
 mod queue;
+mod turns;
 
 pub use checks::put_ready_checks;

@@ -1,21 +1,18 @@
 -- Numbers and spare numbers that stand for one another, and how cells are read then.
-use Rattle.std.proofs.Common.{◌≡◌, ℕ, zero, suc, ◌+◌, ◌<◌, ◌≤◌, ◌==◌, ◌^◌, Bool, true, false, if◌then◌else◌, List, [], ◌∷◌, ◌++◌, length, map, take, drop, get_or, refl, sym, ap, ap₂, ◌∙◌, subst, inl, inr, arith}
-use Rattle.std.specs.Prelude.{Option, Some, None, slice_get, option_map}
-use Rattle.std.proofs.lemmas.Bool.{eq-eqb, ne_eqb}
-use Rattle.std.proofs.lemmas.Option.{slice_get_past}
-use Rattle.std.proofs.lemmas.List.{length-map, length-take, take_all, drop_more, drop_all}
+use Rattle.std.proofs.Common.{◌≡◌, ℕ, suc, ◌+◌, ◌<◌, ◌≤◌, ◌==◌, ◌^◌, Bool, true, false, if◌then◌else◌, List, [], ◌∷◌, ◌++◌, length, map, take, get_or, refl, sym, ap, ◌∙◌, subst, inl, inr, arith}
+use Rattle.std.specs.Prelude.{Option, Some, None, option_map}
+use Rattle.std.proofs.lemmas.List.{length-map, length-take, take_all}
 use Rattle.kl1_model.specs.Term.{atom}
 use Rattle.kl1_text.specs.declared.cell_name.CellName.{CellName}
 use Rattle.kl1_atoms.specs.declared.known.Known.{Known}
 use Rattle.kl1_atoms.specs.Names.{number_by}
 use Rattle.kl1_store.specs.declared.cell.Cell.{Cell}
 use Rattle.kl1_store.specs.declared.cell.Cell.TheVariants.{Variable, Integer, Atom, Structure}
-use Rattle.kl1_store.specs.declared.mark.Mark.{Mark}
 use Rattle.kl1_store.specs.Held.{Held, IsIn}
 use Rattle.kl1_store.specs.Meaning.{term_of}
-use Rattle.kl1_store.specs.Renames.{Renames, cell_renamed, shape_renamed, binding_renamed, held_renamed, renamed_since}
+use Rattle.kl1_store.specs.Renames.{cell_renamed, shape_renamed, held_renamed}
 use Rattle.kl1_store.proofs.Terms.{term_of-Atom}
-use Rattle.kl1_store.proofs.Renamed.{term_of-renamed, renamed_everywhere}
+use Rattle.kl1_store.proofs.Renamed.{term_of-renamed}
 use Rattle.kl1_goals.specs.declared.task.Task.{Task}
 use Rattle.kl1_goals.specs.declared.task.Task.TheVariants.{Monitor, Reduces, Substitutes}
 use Rattle.kl1_goals.specs.declared.goal.Goal.{Goal}
@@ -26,55 +23,6 @@ use Rattle.kl1_user_effects.specs.Account.{meaning}
 use Rattle.kl1_user_effects.specs.Kept.{IsTaskIn, AreGoalsIn, IsOriginIn, AreShoensIn}
 use Rattle.kl1_user_account.specs.Exchanging.{swapped, exchanged, held_with_two, held_exchanged, read_with_two, read_exchanged, IsSpared, AreSpared}
 use Rattle.kl1_user_effects.proofs.KnownTexts.{next_take}
-use Rattle.kl1_user_account.proofs.Exchanged.{same_name, swap_first, swap_second, swap_other}
-
--- ---- names that are changed everywhere
-
--- two numbers that stand for one another
-pub swap_renames : (a b : CellName) → Renames (a ∷ b ∷ []) (b ∷ a ∷ []) (swapped a b)
-swap_renames a b = record {
-  each = at;
-  others = λ n absent. swap_other a b n (λ e. absent 0 (ap Some (sym (same_name n a e)))) (λ e. absent 1 (ap Some (sym (same_name n b e))));
-}
-  where
-    is : (x y : CellName) → Some x ≡ Some y → x ≡ y
-    is x y e = cc
-
-    at : (i : ℕ) (n : CellName) → slice_get (a ∷ b ∷ []) i ≡ Some n → slice_get (b ∷ a ∷ []) i ≡ Some (swapped a b n)
-    at zero n e = ap Some (sym (swap_first a b n (ap (λ (c : CellName). c.number) (sym (is a n e)))))
-    at (suc zero) n e = ap Some (sym (swap_second a b n (ap (λ (c : CellName). c.number) (sym (is b n e)))))
-    at (suc (suc i)) n e =
-        let past : slice_get (a ∷ b ∷ []) (suc (suc i)) ≡ None = slice_get_past (a ∷ b ∷ []) (suc (suc i)) (omega arith) in
-        let none : None ≡ Some n = sym past ∙ e in
-        absurd (cc)
-
--- other names since the beginning are other names everywhere
-pub from_beginning : (g : CellName → CellName) (mark : Mark) (h : Held CellName) → mark.structures ≡ 0 → mark.bindings ≡ 0 → renamed_since g mark h ≡ held_renamed g h
-from_beginning g mark h s b =
-    renamed_everywhere g mark h
-    (ap (λ n. map (shape_renamed g) (take n h.structures)) s ∙ sym (ap (λ n. take n h.structures) s))
-    (ap (λ n. map (binding_renamed g) (take n h.bindings)) b ∙ sym (ap (λ n. take n h.bindings) b))
-
--- two numbers that are one
-pub with_one : (a b : CellName) (h : Held CellName) → a.number ≡ b.number → h ≡ held_with_two a b h
-with_one a b h e = sym (ap (λ c. if c then h else held_renamed (swapped a b) h) (eq-eqb a.number b.number e))
-
--- two numbers that are two
-pub with_two : (a b : CellName) (h k : Held CellName) → (a.number ≡ b.number → ⊥) → k ≡ held_renamed (swapped a b) h → k ≡ held_with_two a b h
-with_two a b h k ne e = e ∙ sym (ap (λ c. if c then h else held_renamed (swapped a b) h) (ne_eqb a.number b.number ne))
-
--- ---- turns of a loop
-
--- one number more of each list
-pub exchanged_next : (ss ns : List CellName) (i : ℕ) (c d : CellName) (h k all : Held CellName) → i < length ss → length ns ≡ length ss → k ≡ held_with_two (get_or ss i c) (get_or ns i d) h → held_exchanged (drop i ss) (drop i ns) h ≡ all → held_exchanged (drop (i + 1) ss) (drop (i + 1) ns) k ≡ all
-exchanged_next ss ns i c d h k all within same is rest =
-    ap (held_exchanged (drop (i + 1) ss) (drop (i + 1) ns)) is
-    ∙ sym (ap₂ (λ (xs ys : List CellName). held_exchanged xs ys h) (drop_more ss i c within) (drop_more ns i d (omega (arith, within, same))))
-    ∙ rest
-
--- none is left
-pub exchanged_done : (ss ns : List CellName) (i : ℕ) (h all : Held CellName) → length ss ≤ i → held_exchanged (drop i ss) (drop i ns) h ≡ all → h ≡ all
-exchanged_done ss ns i h all le e = sym (ap (λ (xs : List CellName). held_exchanged xs (drop i ns) h) (drop_all i ss le)) ∙ e
 
 -- ---- sizes stay
 

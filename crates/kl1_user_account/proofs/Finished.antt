@@ -1,29 +1,34 @@
 -- A draft that is finished: what holds of the goals that are there with it in place.
-use Rattle.std.proofs.Common.{◌≡◌, ℕ, zero, suc, ◌+◌, ◌-◌, ◌<◌, ◌≤◌, ◌||◌, not, nat_lt, Bool, true, false, if◌then◌else◌, List, [], ◌∷◌, ◌++◌, length, map, get_or, refl, sym, ap, ◌∙◌, arith, subst}
+use Rattle.std.proofs.Common.{◌≡◌, ℕ, zero, suc, ◌+◌, ◌-◌, ◌<◌, ◌≤◌, ◌==◌, ◌||◌, ◌&&◌, not, nat_lt, Bool, true, false, if◌then◌else◌, List, [], ◌∷◌, ◌++◌, length, map, refl, sym, ap, ◌∙◌, arith, subst}
 use Rattle.std.specs.Prelude.{Option, None, Result, Ok, Err, OnOk, filter}
 use Rattle.std.specs.List.{AllByRecursion, list_any}
 use Rattle.std.proofs.lemmas.List.{map-append}
-use Rattle.std.proofs.lemmas.Bool.{ltb-true, ltb-false}
+use Rattle.std.proofs.lemmas.List.Elements.{recursion_from_All}
+use Rattle.std.proofs.lemmas.Bool.{ltb-true, ltb-false, eqb-true}
+use Rattle.kl1_model.specs.Module.{is_among}
 use Rattle.kl1_model.specs.State as model
 use Rattle.kl1_text.specs.declared.cell_name.CellName.{CellName}
 use Rattle.kl1_store.specs.declared.point.Point.{Point}
 use Rattle.kl1_store.specs.Hooks.{Kept}
 use Rattle.kl1_goals.specs.declared.goal.Goal.{Goal}
-use Rattle.kl1_goals.specs.Lists.{is_other, is_monitor, is_monitor_of, is_flagged, enabled_by}
+use Rattle.kl1_goals.specs.Lists.{is_other, is_monitor, is_monitor_of, is_goal_of, enabled_in}
 use Rattle.kl1_goals.specs.Tables.{Tabled, AreBefore, IsNext}
 use Rattle.kl1_shoen_paths.specs.declared.shoen.Shoen.{Shoen}
-use Rattle.kl1_shoen.specs.Shoens.{Tree, AreNumbered, is_enabled_at}
+use Rattle.kl1_shoen.specs.Shoens.{Tree, is_enabled_at}
+use Rattle.kl1_shoen.specs.Shifts.{shoens_of, AreShifts}
+use Rattle.kl1_shoen.specs.declared.shift.Shift.{Shift}
 use Rattle.kl1_codes.specs.Shelves.{Program}
 use Rattle.kl1_user_effects.specs.declared.draft.Draft.{Draft}
 use Rattle.kl1_user_effects.specs.Account.{Means, goal_with}
 use Rattle.kl1_user_effects.specs.Kept.{IsTaskIn, IsOwned, AreOwned}
-use Rattle.kl1_user_effects.specs.Drafts.{without_monitors, restood, goals_left}
+use Rattle.kl1_user_effects.specs.Drafts.{is_of_any, without_monitors, restood, goals_left}
 use Rattle.kl1_user_effects.specs.Settled.{IsSettled, IsEnabled, AreEnabled}
 use Rattle.kl1_user_account.specs.Looking.{unlooked}
-use Rattle.kl1_user_effects.specs.Installing.{AreNext, shifted, goals_after}
+use Rattle.kl1_user_effects.specs.Installing.{AreNext, shifted_by, shifted, goals_after}
 use Rattle.kl1_user_account.specs.Finishing.{goals_placed, SettlesTo, LooksAgain, SameFlags, ShiftsFor, EnablesTo, Finishes}
 use Rattle.kl1_user_effects.proofs.Goals.{filter_append}
-use Rattle.kl1_user_account.proofs.Restood.{each_append, each_part, restood_holds, restood_read}
+use Rattle.kl1_user_effects.proofs.Below.{or_true, among_contained}
+use Rattle.kl1_user_account.proofs.Restood.{each_is, each_append, each_part, restood_holds, restood_read}
 use Rattle.kl1_user_account.proofs.LookedAt.{filter_holds, left_holds}
 
 -- ---- what stays of two lists of goals
@@ -37,7 +42,7 @@ without_append (n ∷ ns) gs ks =
 -- a draft leaves of two lists of goals what it leaves of each
 pub left_append : (d : Draft) (gs ks : List (Goal CellName)) → goals_left (gs ++ ks) d ≡ goals_left gs d ++ goals_left ks d
 left_append d gs ks =
-    let p : Goal CellName → Bool = λ g. not (is_flagged d.aborted.items g) in
+    let p : Goal CellName → Bool = λ g. not (is_of_any d.aborted.items g) in
     let o : Goal CellName → Bool = is_other d.removed in
     ap (λ (xs : List (Goal CellName)). without_monitors d.ended.items (filter p xs)) (filter_append o gs ks)
     ∙ ap (without_monitors d.ended.items) (filter_append p (filter o gs) (filter o ks))
@@ -68,16 +73,20 @@ looked_holds P all (a ∷ after) (b ∷ before) e h =
 abbrev pub Rests : (Goal CellName → Type 0) → Type 0
 Rests P = (g : Goal CellName) (b : Bool) → P g → P (record g { is_enabled = b })
 
-enabled_holds : (P : Goal CellName → Type 0) → Rests P → (flags : List Bool) (gs : List (Goal CellName)) → AllByRecursion P gs → AllByRecursion P (map (enabled_by flags) gs)
-enabled_holds P all flags [] a = tt
-enabled_holds P all flags (g ∷ gs) a = (all g (is_monitor g || is_flagged flags g) a.0, enabled_holds P all flags gs a.1)
+enabled_holds : (P : Goal CellName → Type 0) → Rests P → (n : ℕ) (b : Bool) (gs : List (Goal CellName)) → AllByRecursion P gs → AllByRecursion P (map (enabled_in n b) gs)
+enabled_holds P all n b [] a = tt
+enabled_holds P all n b (g ∷ gs) a = (all g (if is_goal_of n g then b else g.is_enabled) a.0, enabled_holds P all n b gs a.1)
+
+each_shifted : (P : Goal CellName → Type 0) → Rests P → (shifts : List Shift) (gs : List (Goal CellName)) → AllByRecursion P gs → AllByRecursion P (shifted_by shifts gs)
+each_shifted P all [] gs a = a
+each_shifted P all (s ∷ shifts) gs a = each_shifted P all shifts (map (enabled_in s.shoen s.is_enabled) gs) (enabled_holds P all s.shoen s.is_enabled gs a)
 
 -- what holds of goals that are placed holds of them when they are shifted
 pub shifted_holds : (P : Goal CellName → Type 0) → Rests P → (d : Draft) (gs : List (Goal CellName)) → AllByRecursion P gs → AllByRecursion P (shifted d gs)
 shifted_holds P all d gs a = by_case d.shifts
   where
-    by_case : (b : Bool) → AllByRecursion P (if b then map (enabled_by d.enabled.items) gs else gs)
-    by_case true = enabled_holds P all d.enabled.items gs a
+    by_case : (b : Bool) → AllByRecursion P (if b then shifted_by d.enabled.items gs else gs)
+    by_case true = each_shifted P all d.enabled.items gs a
     by_case false = a
 
 stood_holds : (P : Goal CellName → Type 0) → Stands P → (goals : List (Goal CellName)) (d : Draft) → AllByRecursion P goals → AllByRecursion P (restood d.changes.items (goals_left goals d))
@@ -90,15 +99,19 @@ after_holds P all goals added d e a b =
 
 -- ---- what the goals are
 
-enabled_read : (t : Means) (flags : List Bool) (gs : List (Goal CellName)) → map (goal_with t) (map (enabled_by flags) gs) ≡ map (goal_with t) gs
-enabled_read t flags [] = refl
-enabled_read t flags (g ∷ gs) = ap (λ (ks : List model.Goal). goal_with t g ∷ ks) (enabled_read t flags gs)
+enabled_read : (t : Means) (n : ℕ) (b : Bool) (gs : List (Goal CellName)) → map (goal_with t) (map (enabled_in n b) gs) ≡ map (goal_with t) gs
+enabled_read t n b [] = refl
+enabled_read t n b (g ∷ gs) = ap (λ (ks : List model.Goal). goal_with t g ∷ ks) (enabled_read t n b gs)
+
+each_read : (t : Means) (shifts : List Shift) (gs : List (Goal CellName)) → map (goal_with t) (shifted_by shifts gs) ≡ map (goal_with t) gs
+each_read t [] gs = refl
+each_read t (s ∷ shifts) gs = each_read t shifts (map (enabled_in s.shoen s.is_enabled) gs) ∙ enabled_read t s.shoen s.is_enabled gs
 
 shifted_read : (t : Means) (d : Draft) (gs : List (Goal CellName)) → map (goal_with t) (shifted d gs) ≡ map (goal_with t) gs
 shifted_read t d gs = by_case d.shifts
   where
-    by_case : (b : Bool) → map (goal_with t) (if b then map (enabled_by d.enabled.items) gs else gs) ≡ map (goal_with t) gs
-    by_case true = enabled_read t d.enabled.items gs
+    by_case : (b : Bool) → map (goal_with t) (if b then shifted_by d.enabled.items gs else gs) ≡ map (goal_with t) gs
+    by_case true = each_read t d.enabled.items gs
     by_case false = refl
 
 unlooked_read : (t : Means) (gs : List (Goal CellName)) → map (goal_with t) (map unlooked gs) ≡ map (goal_with t) gs
@@ -194,22 +207,50 @@ known_after known count low high = by_case (nat_lt known count) refl
 
 -- ---- which goals may step
 
-flag_is : (F : ℕ → Bool) (k i : ℕ) (ss : List (Shoen CellName)) → AreNumbered k ss → i < length ss → get_or (map (λ h. F h.number) ss) i false ≡ F (suc (k + i))
-flag_is F k i [] a lt = absurd (omega arith)
-flag_is F k zero (s ∷ ss) a lt = ap F (a.0 ∙ omega arith)
-flag_is F k (suc i) (s ∷ ss) a lt = flag_is F (suc k) i ss a.1 (omega arith) ∙ ap F (omega arith)
+-- whether one of these shifts is of a shoen
+abbrev is_shifted : ℕ → List Shift → Bool
+is_shifted n shifts = is_among n (shoens_of shifts)
 
--- goals that are shifted may step as the shoens have it
-all_shifted : (tree : Tree CellName) (flags : List Bool) (gs : List (Goal CellName)) → AreNumbered 0 tree.shoens → flags ≡ map (λ h. is_enabled_at tree.shoens tree.work h.number) tree.shoens → AreOwned (length tree.shoens) gs → AreEnabled tree.shoens tree.work (map (enabled_by flags) gs)
-all_shifted tree flags [] numbered e o = tt
-all_shifted tree flags (g ∷ gs) numbered e o =
-    let low = o.0.low in
-    let high = o.0.high in
-    let F : ℕ → Bool = is_enabled_at tree.shoens tree.work in
-    let back : suc (0 + (g.shoen - 1)) ≡ g.shoen = omega (arith, low) in
-    let flag : is_flagged flags g ≡ F g.shoen =
-    ap (λ (fs : List Bool). get_or fs (g.shoen - 1) false) e ∙ flag_is F 0 (g.shoen - 1) tree.shoens numbered (omega (arith, low, high)) ∙ ap F back in
-    (ap (λ b. is_monitor g || b) flag, all_shifted tree flags gs numbered e o.1)
+-- a goal may step as a tree has it, if it is a monitor or none of these shifts is of its shoen
+abbrev IsRightBut : Tree CellName → List Shift → Goal CellName → Type 0
+IsRightBut tree shifts g = (is_monitor g || not (is_shifted g.shoen shifts)) ≡ true → IsEnabled tree.shoens tree.work g
+
+-- a shift of a goal's shoen, or of another
+right_next : (tree : Tree CellName) (s : Shift) (shifts : List Shift) (g : Goal CellName) → s.is_enabled ≡ is_enabled_at tree.shoens tree.work s.shoen → IsRightBut tree (s ∷ shifts) g → IsRightBut tree shifts (enabled_in s.shoen s.is_enabled g)
+right_next tree s shifts g right r = by_case (g.shoen == s.shoen) (is_monitor g) refl refl
+  where
+    F : ℕ → Bool
+    F = is_enabled_at tree.shoens tree.work
+
+    unless : (a b c d : Bool) → a ≡ d → b ≡ false → (d || not c) ≡ true → (a || not (b || c)) ≡ true
+    unless a b c d e f g = ap (λ x. x || not (b || c)) e ∙ ap (λ x. d || not (x || c)) f ∙ g
+
+    by_case : (b m : Bool) → (g.shoen == s.shoen) ≡ b → is_monitor g ≡ m → IsRightBut tree shifts (record g { is_enabled = if b && not m then s.is_enabled else g.is_enabled })
+    by_case true true p q = λ e. r (ap (λ x. x || not (is_shifted g.shoen (s ∷ shifts))) q)
+    by_case true false p q = λ e. right ∙ ap F (sym (eqb-true g.shoen s.shoen p)) ∙ ap (λ x. x || F g.shoen) (sym q)
+    by_case false m p q = λ e. r (unless (is_monitor g) (g.shoen == s.shoen) (is_shifted g.shoen shifts) (is_monitor g) refl p e)
+
+rights_next : (tree : Tree CellName) (s : Shift) (shifts : List Shift) (gs : List (Goal CellName)) → s.is_enabled ≡ is_enabled_at tree.shoens tree.work s.shoen → AllByRecursion (IsRightBut tree (s ∷ shifts)) gs → AllByRecursion (IsRightBut tree shifts) (map (enabled_in s.shoen s.is_enabled) gs)
+rights_next tree s shifts [] right a = tt
+rights_next tree s shifts (g ∷ gs) right a = (right_next tree s shifts g right a.0, rights_next tree s shifts gs right a.1)
+
+-- goals that are right but for shifts may step as a tree has it after them
+all_shifted : (tree : Tree CellName) (shifts : List Shift) (gs : List (Goal CellName)) → AllByRecursion (λ (s : Shift). s.is_enabled ≡ is_enabled_at tree.shoens tree.work s.shoen) shifts → AllByRecursion (IsRightBut tree shifts) gs → AreEnabled tree.shoens tree.work (shifted_by shifts gs)
+all_shifted tree [] gs right a = each_is (IsRightBut tree []) (IsEnabled tree.shoens tree.work) gs (λ g r. r (or_true (is_monitor g))) a
+all_shifted tree (s ∷ shifts) gs right a = all_shifted tree shifts (map (enabled_in s.shoen s.is_enabled) gs) right.1 (rights_next tree s shifts gs right.0 a)
+
+-- a goal that might step as an event began with it is right but for what has shifted since
+right_since : (tree : Tree CellName) (shifts : List Shift) (g : Goal CellName) → AreShifts tree shifts → IsOwned (length tree.kept) g → IsEnabled tree.kept tree.kept_work g → IsRightBut tree shifts g
+right_since tree shifts g s o e = by_case (is_monitor g) (is_shifted g.shoen shifts) refl refl
+  where
+    by_case : (m c : Bool) → is_monitor g ≡ m → is_shifted g.shoen shifts ≡ c → (m || not c) ≡ true → IsEnabled tree.shoens tree.work g
+    by_case true c p q u = e ∙ ap (λ x. x || is_enabled_at tree.kept tree.kept_work g.shoen) p ∙ ap (λ x. x || is_enabled_at tree.shoens tree.work g.shoen) (sym p)
+    by_case false true p q u = absurd (cc)
+    by_case false false p q u = let high = o.high in e ∙ ap (λ x. is_monitor g || x) (sym (s.whole g.shoen o.low (omega (arith, high)) (λ c. let f = among_contained g.shoen (shoens_of shifts) c in cc)))
+
+rights_since : (tree : Tree CellName) (shifts : List Shift) (gs : List (Goal CellName)) → AreShifts tree shifts → AreOwned (length tree.kept) gs → AreEnabled tree.kept tree.kept_work gs → AllByRecursion (IsRightBut tree shifts) gs
+rights_since tree shifts [] s o a = tt
+rights_since tree shifts (g ∷ gs) s o a = (right_since tree shifts g s o.0 a.0, rights_since tree shifts gs s o.1 a.1)
 
 -- goals that stay may step as before
 all_same : (before : List (Shoen CellName)) (before_work : List ℕ) (tree : Tree CellName) (gs : List (Goal CellName)) → SameFlags before before_work tree.shoens tree.work → AreOwned (length before) gs → AreEnabled before before_work gs → AreEnabled tree.shoens tree.work gs
@@ -219,29 +260,25 @@ all_same before before_work tree (g ∷ gs) same o a =
     let high = o.0.high in
     (a.0 ∙ ap (λ b. is_monitor g || b) (sym (same g.shoen low (omega (arith, high)))), all_same before before_work tree gs same o.1 a.1)
 
-owned_within : (few many : ℕ) (gs : List (Goal CellName)) → few ≤ many → AreOwned few gs → AreOwned many gs
-owned_within few many [] le o = tt
-owned_within few many (g ∷ gs) le o =
-    let low = o.0.low in
-    let high = o.0.high in
-    (record { low = low; high = omega (arith, high, le) }, owned_within few many gs le o.1)
-
 -- with a draft in place each goal may step as the shoens have it
-pub enables_to : (tree : Tree CellName) (goals added : List (Goal CellName)) (d : Draft) → AreNumbered 0 tree.shoens → (d.shifts ≡ true → d.enabled.items ≡ map (λ h. is_enabled_at tree.shoens tree.work h.number) tree.shoens) →
-    map unlooked d.added.items ≡ map unlooked added → AreOwned (length tree.shoens) added → AreEnabled tree.shoens tree.work d.added.items → EnablesTo tree goals d
-enables_to tree goals added d numbered flags e owned come before work le own same a = by_case d.shifts refl
+pub enables_to : (tree : Tree CellName) (goals : List (Goal CellName)) (d : Draft) → (d.shifts ≡ true → AreShifts tree d.enabled.items) → AreEnabled tree.shoens tree.work d.added.items → EnablesTo tree goals d
+enables_to tree goals d found come before work le own began same a = by_case d.shifts refl
   where
-    O : Goal CellName → Type 0
-    O g = IsOwned (length tree.shoens) g
+    since : d.shifts ≡ true → AllByRecursion (IsRightBut tree d.enabled.items) goals
+    since q =
+        let b = began q in
+        let O : List (Shoen CellName) → Type 0 = λ ss. AreOwned (length ss) goals in
+        let S : List (Shoen CellName) → Type 0 = λ ss. AreEnabled ss work goals in
+        let W : List ℕ → Type 0 = λ ws. AreEnabled tree.kept ws goals in
+        rights_since tree d.enabled.items goals (found q) (subst O (sym b.shoens_are) own) (subst W (sym b.work_is) (subst S (sym b.shoens_are) a))
 
-    all_owned : AllByRecursion O (goals_placed goals d)
-    all_owned =
-        each_append O (restood d.changes.items (goals_left goals d)) d.added.items
-        (stood_holds O (λ g o f p. record { low = p.low; high = p.high }) goals d (owned_within (length before) (length tree.shoens) goals le own))
-        (looked_holds O (λ g o f p. record { low = p.low; high = p.high }) d.added.items added e owned)
-
-    by_case : (b : Bool) → d.shifts ≡ b → AreEnabled tree.shoens tree.work (if b then map (enabled_by d.enabled.items) (goals_placed goals d) else goals_placed goals d)
-    by_case true q = all_shifted tree d.enabled.items (goals_placed goals d) numbered (flags q) all_owned
+    by_case : (b : Bool) → d.shifts ≡ b → AreEnabled tree.shoens tree.work (if b then shifted_by d.enabled.items (goals_placed goals d) else goals_placed goals d)
+    by_case true q =
+        let R : Goal CellName → Type 0 = λ g. IsRightBut tree d.enabled.items g in
+        all_shifted tree d.enabled.items (goals_placed goals d) (recursion_from_All (λ (s : Shift). s.is_enabled ≡ is_enabled_at tree.shoens tree.work s.shoen) d.enabled.items (found q).right)
+        (each_append R (restood d.changes.items (goals_left goals d)) d.added.items
+        (restood_holds R (λ g o p. p) d.changes.items (goals_left goals d) (all_left R d goals (since q)))
+        (each_is (IsEnabled tree.shoens tree.work) R d.added.items (λ g e u. e) come))
     by_case false q =
         let E : Goal CellName → Type 0 = λ g. IsEnabled tree.shoens tree.work g in
         each_append E (restood d.changes.items (goals_left goals d)) d.added.items
@@ -269,12 +306,12 @@ looked_as before x = record before { changes = x.changes; told = x.told; enabled
 abbrev shifts_as : Draft → Draft → Draft
 shifts_as mid x = record mid { enabled = x.enabled; shifts = x.shifts }
 
--- a draft whose goals were looked at is finished when its flags are there, and room for what comes
+-- a draft whose goals were looked at is finished when its shifts are found, and there is room for what comes
 pub finished : (program : Program) (mark : Point) (now new : Kept CellName) (tree : Tree CellName) (goals : List (Goal CellName)) (table : Tabled CellName) (known : ℕ) (reached : List ℕ) (before mid after : Draft) →
-    AreNumbered 0 tree.shoens → LooksAgain program mark now new tree goals before mid → mid ≡ record before { changes = mid.changes; told = mid.told; added = mid.added } → ShiftsFor tree reached mid after → after ≡ record mid { enabled = after.enabled; shifts = after.shifts } →
+    LooksAgain program mark now new tree goals before mid → mid ≡ record before { changes = mid.changes; told = mid.told; added = mid.added } → ShiftsFor tree reached mid after → after ≡ record mid { enabled = after.enabled; shifts = after.shifts } →
     AreNext goals (length tree.shoens) before.added.items → goals_left before.added.items before ≡ before.added.items → table.shoens ≡ known → known ≤ length tree.shoens → length tree.shoens ≤ known + 1 → length after.added.items ≤ table.room → 1 ≤ table.shoen_room →
     Finishes program mark now new tree goals table reached before after
-finished program mark now new tree goals table known reached before mid after numbered looks mid_is shifts after_is next stay known_is low high enough opening =
+finished program mark now new tree goals table known reached before mid after looks mid_is shifts after_is next stay known_is low high enough opening =
     let R : Draft → Type 0 = λ x. x ≡ looked_as before x in
     let F : Draft → Draft = λ x. shifts_as x after in
     let rest : after ≡ looked_as before after = subst R (sym after_is) (ap F mid_is) in
@@ -286,12 +323,12 @@ finished program mark now new tree goals table known reached before mid after nu
     record {
       settles = settles_to program mark now new tree.shoens before.told.items goals (goals_placed goals after) after (subst P (sym (ap (goals_placed goals) after_is)) looks.settles);
       shifts = record {
-        flags = shifts.flags;
+        found = shifts.found;
         kept = λ e. ap (λ (x : Draft). x.shifts) (sym mid_is) ∙ shifts.kept e;
         reached_none = shifts.reached_none;
         ended_none = λ e. ap (λ (x : Draft). x.ended.items) (sym mid_is) ∙ shifts.ended_none e;
       };
-      enables = enables_to tree goals added after numbered shifts.flags looked (next_owned (length tree.shoens) goals added next) (subst E (sym (ap (λ (x : Draft). x.added.items) after_is)) looks.enabled);
+      enables = enables_to tree goals after shifts.found (subst E (sym (ap (λ (x : Draft). x.added.items) after_is)) looks.enabled);
       fitting = record {
         enough = enough;
         opening = λ e. opening;

@@ -44,6 +44,7 @@ pub mod ControlsKept
 pub mod Effected
 pub mod Exchanged
 pub mod Exchanges
+pub mod Swapping
 pub mod Spares
 pub mod Answered
 pub mod AnswerSteps

@@ -10,12 +10,12 @@ use Rattle.kl1_store.specs.Held.{Held, is_bound}
 use Rattle.kl1_store.specs.Hooks.{Hook, Kept, HasGrown, told_by}
 use Rattle.kl1_store.proofs.Telling.{is_told}
 use Rattle.kl1_goals.specs.declared.goal.Goal.{Goal}
-use Rattle.kl1_goals.specs.Lists.{is_other, has_number, is_monitor_of, is_flagged, number_of}
+use Rattle.kl1_goals.specs.Lists.{is_other, has_number, is_monitor_of, number_of}
 use Rattle.kl1_goals.specs.Tables.{Ascend, AreInOrder}
 use Rattle.kl1_shoen_paths.specs.declared.shoen.Shoen.{Shoen}
 use Rattle.kl1_codes.specs.Shelves.{Program}
 use Rattle.kl1_user_effects.specs.declared.draft.Draft.{Draft}
-use Rattle.kl1_user_effects.specs.Drafts.{restood, without_monitors, goals_left}
+use Rattle.kl1_user_effects.specs.Drafts.{is_of_any, restood, without_monitors, goals_left}
 use Rattle.kl1_user_effects.specs.Settled.{IsSettled, AreSettled}
 use Rattle.kl1_user_account.specs.Waking.{is_among, IsSettledOr, AreSettledOr, KeepControls}
 use Rattle.kl1_user_account.specs.Looking.{AreOthersOf, WakesTold, LooksAtAdded}
@@ -68,8 +68,8 @@ without_holds P (n ∷ ns) gs a = without_holds P ns (filter (λ g. not (is_moni
 -- what holds of goals but one holds of those that a draft which removes that one leaves
 pub left_holds : (P : Goal CellName → Type 0) (d : Draft) (gs : List (Goal CellName)) → AllByRecursion P (filter (is_other d.removed) gs) → AllByRecursion P (goals_left gs d)
 left_holds P d gs a =
-    without_holds P d.ended.items (filter (λ g. not (is_flagged d.aborted.items g)) (filter (is_other d.removed) gs))
-    (filter_holds P (λ g. not (is_flagged d.aborted.items g)) (filter (is_other d.removed) gs) a)
+    without_holds P d.ended.items (filter (λ g. not (is_of_any d.aborted.items g)) (filter (is_other d.removed) gs))
+    (filter_holds P (λ g. not (is_of_any d.aborted.items g)) (filter (is_other d.removed) gs) a)
 
 -- ---- who is told
 

@@ -9,14 +9,14 @@ use Rattle.kl1_model.specs.State.{State, without_goal}
 use Rattle.kl1_model.specs.Event.{with_reduction}
 use Rattle.kl1_text.specs.declared.cell_name.CellName.{CellName}
 use Rattle.kl1_goals.specs.declared.goal.Goal.{Goal}
-use Rattle.kl1_goals.specs.Lists.{is_other, is_flagged}
+use Rattle.kl1_goals.specs.Lists.{is_other}
 use Rattle.kl1_shoen_paths.specs.declared.shoen.Shoen.{Shoen}
 use Rattle.kl1_shoen.specs.Shoens.{Tree}
 use Rattle.kl1_user_effects.specs.declared.draft.Draft.{Draft}
 use Rattle.kl1_user_effects.specs.Fitting.{Reading}
 use Rattle.kl1_user_effects.specs.Account.{Account, meaning, goal_with, state_of, texts_of}
 use Rattle.kl1_user_effects.specs.Works.{Made, worked}
-use Rattle.kl1_user_effects.specs.Drafts.{staying, goals_left, names_with, made_of}
+use Rattle.kl1_user_effects.specs.Drafts.{is_of_any, staying, goals_left, names_with, made_of}
 use Rattle.kl1_user_effects.specs.Installing.{IsBegun}
 use Rattle.kl1_user_effects.proofs.Goals.{all_stay, others_read}
 
@@ -34,7 +34,7 @@ begun_left removed rules last variables nodes reports d gs b =
     ap (λ (ks : List (Goal CellName)). goals_left (gs ++ ks) d) b.added
     ∙ ap (λ (ks : List (Goal CellName)). goals_left ks d) (append-nil gs)
     ∙ ap (λ (ns : List ℕ). staying d.removed d.aborted.items ns gs) b.ended
-    ∙ ap (λ (fs : List Bool). filter (λ g. not (is_flagged fs g)) (filter (is_other d.removed) gs)) b.aborted
+    ∙ ap (λ (ns : List ℕ). filter (λ g. not (is_of_any ns g)) (filter (is_other d.removed) gs)) b.aborted
     ∙ all_stay (filter (is_other d.removed) gs)
     ∙ ap (λ n. filter (is_other n) gs) b.removed_is
 

@@ -31,7 +31,7 @@ use Rattle.kl1_user_effects.specs.Settled.{AreSettled}
 use Rattle.kl1_user_account.specs.Keeping.{IsKept}
 use Rattle.kl1_user_account.specs.Exchanging.{exchanged}
 use Rattle.kl1_user_account.specs.Waking.{KeepControls}
-use Rattle.kl1_user_account.specs.Finishing.{SameFlags, Finishes}
+use Rattle.kl1_user_account.specs.Finishing.{BeganWith, SameFlags, Finishes}
 use Rattle.kl1_user_effects.specs.Leaving.{Leaves}
 use Rattle.kl1_user_effects.specs.Calling.{IsNewName, spare}
 use Rattle.kl1_user_steps.specs.Spelling.{IsSpelledIn, IsSparedIn, HasName, Respells, ReadsNew, IsPublished, IsPublishedBy}
@@ -51,6 +51,7 @@ pub record IsDrafted (a : Account) (n c : ℕ) (old mid new : Kept CellName) (t 
   pub held : old.held ≡ a.held
   pub shoens : t.shoens ≡ a.shoens
   pub work : t.work ≡ a.work
+  pub began : BeganWith u a.shoens a.work
   pub formed : IsFormed old.held
   pub grown : Grown old.held mid.held
   pub hooks : mid.hooks ≡ old.hooks
@@ -288,7 +289,7 @@ module _ (a : Account) (n c : ℕ) (old mid new : Kept CellName) (t u : Tree Cel
         last = goals_up_to;
         most = most_entries in_run names noted;
         settled = λ f fits. settled_after in_run more last noted q f fits;
-        enabled = d.finishes.enables a.shoens a.work more_shoens d.kept.owned same_flags d.kept.enabled;
+        enabled = d.finishes.enables a.shoens a.work more_shoens d.kept.owned (λ e. d.began) same_flags d.kept.enabled;
         rows = λ f fits. d.kept.rows f (p.named.fits f fits);
         named = λ f g one two. same_states in_run more more last last noted q q f g one two;
         small = p.named.small;

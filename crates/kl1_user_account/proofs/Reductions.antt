@@ -30,13 +30,13 @@ use Rattle.kl1_user_effects.specs.declared.draft.Draft.{Draft}
 use Rattle.kl1_user_effects.specs.declared.draft.Spelled.{Spelled}
 use Rattle.kl1_user_effects.specs.Account.{Account, program_of, texts_of}
 use Rattle.kl1_user_effects.specs.Kept.{AreOwned, AreShoensIn}
-use Rattle.kl1_user_effects.specs.Drafts.{goals_left}
+use Rattle.kl1_user_effects.specs.Drafts.{goals_left, CanGoBack}
 use Rattle.kl1_user_effects.specs.Installing.{IsBegun}
 use Rattle.kl1_user_effects.specs.Settled.{IsEnabled}
 use Rattle.kl1_user_account.specs.Waking.{is_among, KeepControls}
 use Rattle.kl1_user_effects.specs.Outlines.{KeepsOthers}
 use Rattle.kl1_user_effects.specs.Leaving.{Leaves, IsActed, IsHeard}
-use Rattle.kl1_user_account.specs.Finishing.{Finishes}
+use Rattle.kl1_user_account.specs.Finishing.{BeganWith, Finishes}
 use Rattle.kl1_user_account.specs.Keeping.{IsKept}
 use Rattle.kl1_user_steps.specs.Acting.{Reads}
 use Rattle.kl1_user_effects.specs.Calling.{keeps_names, name_of, IsNewName}
@@ -189,10 +189,10 @@ is_new h p places text move.GivesWay known i = tt
 -- what a monitor reads is drafted as it is to be
 pub heard_reduces : (a : Account) (n c known : ℕ) (g : Goal CellName) (full : Bool) (k : Control CellName) (mark : Point) (old mid new : Kept CellName) (t u : Tree CellName) (table : Tabled CellName) (reached : List ℕ) (start effected told finished : Draft) →
     IsKept a old.hooks known → IsSteppable a.goals n c g → g.task ≡ Monitor → HeardAs a.held a.shoens full g c k → full ≡ false → IsFullFor a n c full → AreSingle a.goals →
-    old.held ≡ a.held → t.shoens ≡ a.shoens → t.work ≡ a.work → mark ≡ point_of old → IsFormed old.held → IsBegun 0 a.rules a.last_goal a.variables a.nodes a.reports start →
+    old.held ≡ a.held → t.shoens ≡ a.shoens → t.work ≡ a.work → BeganWith t t.shoens t.work → CanGoBack t u → mark ≡ point_of old → IsFormed old.held → IsBegun 0 a.rules a.last_goal a.variables a.nodes a.reports start →
     Reads g.shoen k a.goals (texts_of a.names) a.held mid.held t u start effected → AreShoensIn mid.held u.shoens → Leaves g.shoen mid.held t u [] start effected → IsHeard start effected → Grown old.held mid.held → mid.hooks ≡ old.hooks →
     told ≡ record effected { told = told.told } → told.told.items ≡ effected.told.items ++ n ∷ [] → Finishes (program_of a) mark mid new u a.goals table reached told finished → new.held ≡ mid.held → table.shoens ≡ known → IsReduced a n c new u table finished
-heard_reduces a n c known g full k mark old mid new t u table reached start effected told finished kept is task hears none_full room single held shoens work at formed begun reads inside leaves rest grown hooks tells pushed finishes same count =
+heard_reduces a n c known g full k mark old mid new t u table reached start effected told finished kept is task hears none_full room single held shoens work begins back at formed begun reads inside leaves rest grown hooks tells pushed finishes same count =
     let name : effected.name ≡ None = ap (λ (d : Draft). d.name) rest ∙ begun.name in
     let spelled : effected.spelled ≡ None = ap (λ (d : Draft). d.spelled) rest ∙ begun.spelled in
     let none : effected.told.items ≡ [] = ap (λ (d : Draft). d.told.items) rest ∙ begun.told in
@@ -208,6 +208,7 @@ heard_reduces a n c known g full k mark old mid new t u table reached start effe
       held = held;
       shoens = shoens;
       work = work;
+      began = record { shoens_are = back.shoens ∙ begins.shoens_are ∙ shoens; work_is = back.work ∙ begins.work_is ∙ work };
       formed = formed;
       grown = grown;
       hooks = hooks;
@@ -230,11 +231,11 @@ heard_reduces a n c known g full k mark old mid new t u table reached start effe
 -- what a goal does is drafted as it is to be
 pub does_reduces : (a : Account) (c known : ℕ) (g : Goal CellName) (full : Bool) (x : Qualified CellName) (p : Predicate CellName) (places : List (Place CellName)) (text : List ℕ) (made : Move CellName) (mark : Point) (old mid new : Kept CellName) (t u : Tree CellName) (table : Tabled CellName) (reached : List ℕ) (start effected finished : Draft) →
     IsKept a old.hooks known → IsSteppable a.goals g.number c g → IsToMake a.held (program_of a) full g.task x c p places text made → IsFullFor a g.number c full → MoveIn a.held p places text (Some made) →
-    old.held ≡ a.held → t.shoens ≡ a.shoens → t.work ≡ a.work → mark ≡ point_of old → IsFormed a.held → IsBegun g.number a.rules a.last_goal a.variables a.nodes a.reports start →
+    old.held ≡ a.held → t.shoens ≡ a.shoens → t.work ≡ a.work → BeganWith t t.shoens t.work → CanGoBack t u → mark ≡ point_of old → IsFormed a.held → IsBegun g.number a.rules a.last_goal a.variables a.nodes a.reports start →
     Does p made places text g x a.goals a.names a.held mid.held t u start effected → AreShoensIn mid.held u.shoens → Leaves 0 mid.held t u reached start effected → effected.name ≡ name_for made a.names text →
     IsSpelledIn effected.spelled mid.held → IsSparedIn effected.spelled mid.held → HasName effected.spelled effected.name → IsActed start effected → Grown old.held mid.held → mid.hooks ≡ old.hooks →
     Finishes (program_of a) mark mid new u a.goals table reached effected finished → new.held ≡ mid.held → table.shoens ≡ known → IsReduced a g.number c new u table finished
-does_reduces a c known g full x p places text made mark old mid new t u table reached start effected finished kept is makes room within held shoens work at formed begun does inside leaves name spelled spared has rest grown hooks finishes same count =
+does_reduces a c known g full x p places text made mark old mid new t u table reached start effected finished kept is makes room within held shoens work begins back at formed begun does inside leaves name spelled spared has rest grown hooks finishes same count =
     let K : ℕ → Type 0 = λ m. IsKept a old.hooks m in
     let N : Option (List ℕ) → Type 0 = λ o. IsNewName a.names o in
     let H : Held CellName → Type 0 = λ h. IsFormed h in
@@ -245,6 +246,7 @@ does_reduces a c known g full x p places text made mark old mid new t u table re
       held = held;
       shoens = shoens;
       work = work;
+      began = record { shoens_are = back.shoens ∙ begins.shoens_are ∙ shoens; work_is = back.work ∙ begins.work_is ∙ work };
       formed = subst H (sym held) formed;
       grown = grown;
       hooks = hooks;

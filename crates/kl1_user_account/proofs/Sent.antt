@@ -22,7 +22,7 @@ use Rattle.kl1_store.specs.Hooks.{Hook, Kept, told_by, point_of}
 use Rattle.kl1_store.specs.Sound.{IsFormed, Grown}
 use Rattle.kl1_store.proofs.Telling.{is_told}
 use Rattle.kl1_goals.specs.declared.goal.Goal.{Goal}
-use Rattle.kl1_goals.specs.Lists.{is_other, has_number, is_monitor, enabled_by, number_of}
+use Rattle.kl1_goals.specs.Lists.{is_other, has_number, is_monitor, number_of}
 use Rattle.kl1_goals.specs.Tables.{Ascend, AreInOrder}
 use Rattle.kl1_shoen_paths.specs.declared.shoen.Origin.{Origin}
 use Rattle.kl1_shoen_paths.specs.declared.shoen.Shoen.{Shoen}
@@ -39,7 +39,7 @@ use Rattle.kl1_user_effects.specs.Kept.{IsTaskIn, IsOwned, AreOwned, AreGoalsIn,
 use Rattle.kl1_user_account.specs.Keeping.{IsKept}
 use Rattle.kl1_user_effects.specs.Works.{Knows}
 use Rattle.kl1_user_effects.specs.Drafts.{restood, staying}
-use Rattle.kl1_user_effects.specs.Installing.{IsBegun, goals_after}
+use Rattle.kl1_user_effects.specs.Installing.{IsBegun, shifted_by, goals_after}
 use Rattle.kl1_user_effects.specs.Settled.{control_at, AreSettled, IsEnabled, AreEnabled}
 use Rattle.kl1_user_account.specs.Waking.{is_among, KeepControls}
 use Rattle.kl1_user_account.specs.Looking.{AreOthersOf, WakesTold}
@@ -186,12 +186,12 @@ pub leaves_all : (d : Draft) → d.removed ≡ 0 → d.aborted.items ≡ [] → 
 leaves_all d removed aborted ended added shifts gs first =
     let cs = d.changes.items in
     let X : List (Goal CellName) = restood cs (staying d.removed d.aborted.items d.ended.items gs) ++ d.added.items in
-    ap (λ b. if b then map (enabled_by d.enabled.items) X else X) shifts
+    ap (λ b. if b then shifted_by d.enabled.items X else X) shifts
     ∙ ap (λ (ks : List (Goal CellName)). restood cs (staying d.removed d.aborted.items d.ended.items gs) ++ ks) added
     ∙ append-nil (restood cs (staying d.removed d.aborted.items d.ended.items gs))
     ∙ ap (restood cs)
     (ap (λ n. staying n d.aborted.items d.ended.items gs) removed
-    ∙ ap (λ (fs : List Bool). staying 0 fs d.ended.items gs) aborted
+    ∙ ap (λ (ns : List ℕ). staying 0 ns d.ended.items gs) aborted
     ∙ ap (λ (ns : List ℕ). staying 0 [] ns gs) ended
     ∙ all_stay (filter (is_other 0) gs)
     ∙ others_all gs first)

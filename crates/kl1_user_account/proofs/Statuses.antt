@@ -1,6 +1,8 @@
 -- What is shown of a shoen, and of the modules.
-use Rattle.std.proofs.Common.{◌≡◌, ℕ, zero, suc, ◌+◌, ◌-◌, ◌<◌, ◌&&◌, not, nat_le, Bool, true, false, if◌then◌else◌, List, [], ◌∷◌, ◌++◌, map, take, length, get_or, count_by, refl, sym, ap, ap₂, ◌∙◌, arith}
+use Rattle.std.proofs.Common.{◌≡◌, ◌≢◌, ℕ, zero, suc, ◌+◌, ◌<◌, ◌≤◌, ◌==◌, ◌&&◌, ◌||◌, not, nat_le, Bool, true, false, if◌then◌else◌, List, [], ◌∷◌, ◌++◌, map, take, length, count_by, refl, sym, ap, ap₂, ◌∙◌, arith}
 use Rattle.std.specs.Prelude.{Option, Some, None, find, option_map, slice_get, cond}
+use Rattle.std.specs.List.{AllPairs}
+use Rattle.std.proofs.lemmas.Bool.{eqb-true}
 use Rattle.std.proofs.lemmas.List.Sums.{sum_by-cons}
 use Rattle.kl1_model.specs.declared.life.Life.{Life}
 use Rattle.kl1_model.specs.declared.life.Life.TheVariants.{Living, Terminated, Aborted}
@@ -18,15 +20,17 @@ use Rattle.kl1_text.specs.declared.cell_name.CellName.{CellName}
 use Rattle.kl1_goals.specs.declared.task.Task.{Task}
 use Rattle.kl1_goals.specs.declared.task.Task.TheVariants.{Monitor, Reduces, Substitutes}
 use Rattle.kl1_goals.specs.declared.goal.Goal.{Goal}
-use Rattle.kl1_goals.specs.Lists.{is_monitor, is_monitor_task, is_flagged}
+use Rattle.kl1_goals.specs.Lists.{is_monitor, is_monitor_task, is_goal_of}
 use Rattle.kl1_shoen_paths.specs.declared.shoen.Shoen.{Shoen}
-use Rattle.kl1_shoen.specs.Shoens.{has_number, AreNumbered, parents_in, charged_in, is_on_path_in}
+use Rattle.kl1_shoen.specs.Shoens.{has_number, parents_in, charged_in, is_on_path_in, AreBelow}
 use Rattle.kl1_codes.specs.Numbered.{Numbered}
 use Rattle.kl1_codes.specs.Finding.{contents}
 use Rattle.kl1_user_effects.specs.Account.{Means, task_with, goal_with, shoen_with, state_with}
 use Rattle.kl1_user_effects.specs.Kept.{AreOwned}
-use Rattle.kl1_user_account.specs.Asked.{condition_at, condition_by}
+use Rattle.kl1_user_account.specs.Asked.{condition_at, condition_by, is_alive_in}
+use Rattle.kl1_user_effects.specs.Drafts.{is_of_any}
 use Rattle.kl1_user_effects.proofs.States.{found_in}
+use Rattle.kl1_user_effects.proofs.Below.{contained_among, below_is}
 
 -- ---- the tree
 
@@ -49,30 +53,89 @@ condition_read t s last gs ss h Living n e = ap (λ m. if h.is_stopped then Stop
 
 -- ---- goals below
 
-flag_at : (q : ℕ → Bool) (k i : ℕ) (ss : List (Shoen CellName)) → AreNumbered k ss → i < length ss → get_or (map (λ h. q h.number) ss) i false ≡ q (suc (k + i))
-flag_at q k i [] a lt = absurd (omega (arith, lt))
-flag_at q k zero (s ∷ ss) a lt = ap q (let e = a.0 in omega arith)
-flag_at q k (suc i) (s ∷ ss) a lt = flag_at q (suc k) i ss a.1 (omega (arith, lt)) ∙ ap q (omega arith)
-
 monitor_read : (t : Means) (k : Task CellName) → model.is_monitor (task_with t k) ≡ is_monitor_task k
 monitor_read t Monitor = refl
 monitor_read t (Reduces q) = refl
 monitor_read t (Substitutes x) = refl
 
-goals_read : (t : Means) (n : ℕ) (ss : List (Shoen CellName)) (ps : List ℕ) (gs : List (Goal CellName)) → AreNumbered 0 ss → AreOwned (length ss) gs → ps ≡ parents_in ss →
-    count_by (λ (g : model.Goal). not (model.is_monitor g.task) && is_among n (path_within g.shoen ps g.shoen)) (map (goal_with t) gs)
-    ≡ count_by (λ (g : Goal CellName). not (is_monitor g) && is_flagged (map (λ h. is_on_path_in ss n h.number) ss) g) gs
-goals_read t n ss ps [] a o e = refl
-goals_read t n ss ps (g ∷ gs) a o e =
-    let flags = map (λ h. is_on_path_in ss n h.number) ss in
-    let low = o.0.low in
+goals_read : (t : Means) (n : ℕ) (ss : List (Shoen CellName)) (ps below : List ℕ) (gs : List (Goal CellName)) → AreBelow ss n below → AreOwned (length ss) gs → ps ≡ parents_in ss →
+    count_by (λ (g : model.Goal). not (model.is_monitor g.task) && is_among n (path_within g.shoen ps g.shoen)) (map (goal_with t) gs) ≡ count_by (is_alive_in below) gs
+goals_read t n ss ps below [] b o e = refl
+goals_read t n ss ps below (g ∷ gs) b o e =
     let high = o.0.high in
-    let flag : get_or flags (g.shoen - 1) false ≡ is_on_path_in ss n g.shoen = flag_at (is_on_path_in ss n) 0 (g.shoen - 1) ss a (omega arith) ∙ ap (is_on_path_in ss n) (omega arith) in
     sum_by-cons (λ (k : model.Goal). cond (not (model.is_monitor k.task) && is_among n (path_within k.shoen ps k.shoen)) 1 0) (goal_with t g) (map (goal_with t) gs)
     ∙ ap₂ (λ (b : Bool) (m : ℕ). cond b 1 0 + m)
-    (ap₂ (λ b c. not b && c) (monitor_read t g.task) (ap (λ qs. is_among n (path_within g.shoen qs g.shoen)) e ∙ sym flag))
-    (goals_read t n ss ps gs a o.1 e)
-    ∙ sym (sum_by-cons (λ (k : Goal CellName). cond (not (is_monitor k) && is_flagged flags k) 1 0) g gs)
+    (ap₂ (λ b c. not b && c) (monitor_read t g.task) (ap (λ qs. is_among n (path_within g.shoen qs g.shoen)) e ∙ below_is n g.shoen ss below b o.0.low (omega (arith, high))))
+    (goals_read t n ss ps below gs b o.1 e)
+    ∙ sym (sum_by-cons (λ (k : Goal CellName). cond (is_alive_in below k) 1 0) g gs)
+
+-- how many goals shoens have, one shoen after another
+abbrev pub alive_each : List (Goal CellName) → List ℕ → ℕ
+alive_each gs [] = 0
+alive_each gs (n ∷ ns) = count_by (is_goal_of n) gs + alive_each gs ns
+
+-- a shoen that stands before others isn't one of them
+once_first : (n : ℕ) (ns : List ℕ) → AllPairs (λ a b. a ≢ b) (n ∷ ns) → is_among n ns ≡ false
+once_first n ns once = by_case (is_among n ns) refl
+  where
+    by_case : (b : Bool) → is_among n ns ≡ b → is_among n ns ≡ false
+    by_case true e = absurd (let c = contained_among n ns e in let lt = c.1 in once 0 (suc c.0) n (omega arith) (omega (arith, lt)) (sym c.2))
+    by_case false e = e
+
+once_rest : (n : ℕ) (ns : List ℕ) → AllPairs (λ a b. a ≢ b) (n ∷ ns) → AllPairs (λ a b. a ≢ b) ns
+once_rest n ns once i j d lt less = once (suc i) (suc j) d (omega (arith, lt)) (omega (arith, less))
+
+-- goals of a shoen, and of others
+count_both : (n : ℕ) (ns : List ℕ) (gs : List (Goal CellName)) → is_among n ns ≡ false → count_by (is_goal_of n) gs + count_by (is_alive_in ns) gs ≡ count_by (is_alive_in (n ∷ ns)) gs
+count_both n ns [] e = refl
+count_both n ns (g ∷ gs) e =
+    let a = sum_by-cons (λ (k : Goal CellName). cond (is_goal_of n k) 1 0) g gs in
+    let b = sum_by-cons (λ (k : Goal CellName). cond (is_alive_in ns k) 1 0) g gs in
+    let c = sum_by-cons (λ (k : Goal CellName). cond (is_alive_in (n ∷ ns) k) 1 0) g gs in
+    let rest = count_both n ns gs e in
+    let one = by_case (g.shoen == n) (is_monitor g) (is_among g.shoen ns) (λ q. ap (λ m. is_among m ns) (eqb-true g.shoen n q) ∙ e) in
+    omega (arith, a, b, c, rest, one)
+  where
+    by_case : (same monitor among : Bool) → (same ≡ true → among ≡ false) → cond (same && not monitor) 1 0 + cond (not monitor && among) 1 0 ≡ cond (not monitor && (same || among)) 1 0
+    by_case true true among f = refl
+    by_case true false true f = absurd (let z : true ≡ false = f refl in cc)
+    by_case true false false f = refl
+    by_case false true among f = refl
+    by_case false false true f = refl
+    by_case false false false f = refl
+
+-- no shoens have no goals
+alive_none : (gs : List (Goal CellName)) → 0 ≡ count_by (is_alive_in []) gs
+alive_none [] = refl
+alive_none (g ∷ gs) =
+    let a = sum_by-cons (λ (k : Goal CellName). cond (is_alive_in [] k) 1 0) g gs in
+    let rest = alive_none gs in
+    let one : ◌≡◌ {A = ℕ} (cond (is_alive_in [] g) 1 0) 0 = by_case (is_monitor g) in
+    omega (arith, a, rest, one)
+  where
+    by_case : (b : Bool) → ◌≡◌ {A = ℕ} (cond (not b && false) 1 0) 0
+    by_case true = refl
+    by_case false = refl
+
+-- goals of shoens, none of which stands twice
+pub alive_all : (gs : List (Goal CellName)) (ns : List ℕ) → AllPairs (λ a b. a ≢ b) ns → alive_each gs ns ≡ count_by (is_alive_in ns) gs
+alive_all gs [] once = alive_none gs
+alive_all gs (n ∷ ns) once = ap (λ m. count_by (is_goal_of n) gs + m) (alive_all gs ns (once_rest n ns once)) ∙ count_both n ns gs (once_first n ns once)
+
+-- they are no more than all goals but monitors
+pub alive_few : (ns : List ℕ) (gs : List (Goal CellName)) → count_by (is_alive_in ns) gs ≤ count_by (λ (g : Goal CellName). not (is_monitor g)) gs
+alive_few ns [] = omega arith
+alive_few ns (g ∷ gs) =
+    let a = sum_by-cons (λ (k : Goal CellName). cond (is_alive_in ns k) 1 0) g gs in
+    let b = sum_by-cons (λ (k : Goal CellName). cond (not (is_monitor k)) 1 0) g gs in
+    let rest = alive_few ns gs in
+    let one = by_case (not (is_monitor g)) (is_of_any ns g) in
+    omega (arith, a, b, rest, one)
+  where
+    by_case : (x y : Bool) → cond (x && y) 1 0 ≤ cond x 1 0
+    by_case true true = omega arith
+    by_case true false = omega arith
+    by_case false y = omega arith
 
 -- ---- the answers
 
@@ -88,20 +151,20 @@ pub asked_none : (t : Means) (s : State) (last : ℕ) (gs : List (Goal CellName)
 asked_none t s last gs ss n o e is none = asked t s last gs ss n o e is ∙ ap (λ p. asking.status_of (state_with s t last gs ss) (option_map (shoen_with t) p)) none
 
 -- if there is one
-pub asked_some : (t : Means) (s : State) (last : ℕ) (gs : List (Goal CellName)) (ss : List (Shoen CellName)) (work : List ℕ) (n : ℕ) (o : Option (Shoen CellName)) (h : Shoen CellName) (condition : Condition) (charged alive : ℕ) (flags sliced : List Bool) → is_number n ≡ true → o ≡ find (has_number n) ss → o ≡ Some h → h.number ≡ n →
-    AreNumbered 0 ss → AreOwned (length ss) gs → s.work ≡ work → charged ≡ charged_in ss work n → condition ≡ condition_by h charged → flags ≡ map (λ k. is_on_path_in ss n k.number) ss → sliced ≡ flags → alive ≡ count_by (λ (g : Goal CellName). not (is_monitor g) && is_flagged sliced g) gs →
+pub asked_some : (t : Means) (s : State) (last : ℕ) (gs : List (Goal CellName)) (ss : List (Shoen CellName)) (work : List ℕ) (n : ℕ) (o : Option (Shoen CellName)) (h : Shoen CellName) (condition : Condition) (charged alive : ℕ) (below sliced : List ℕ) → is_number n ≡ true → o ≡ find (has_number n) ss → o ≡ Some h → h.number ≡ n →
+    AreOwned (length ss) gs → s.work ≡ work → charged ≡ charged_in ss work n → condition ≡ condition_by h charged → AreBelow ss n below → sliced ≡ below → alive ≡ count_by (is_alive_in sliced) gs →
     step (state_with s t last gs ss) (read (status n)) ≡ record { state = state_with s t last gs ss; reply = status_is condition charged h.allowance alive }
-asked_some t s last gs ss work n o h condition charged alive flags sliced e is some number numbered owned worked c d f sl a =
+asked_some t s last gs ss work n o h condition charged alive below sliced e is some number owned worked c d b sl a =
     let S = state_with s t last gs ss in
     let R : Condition → ℕ → ℕ → Transition = λ x y z. record { state = S; reply = status_is x y h.allowance z } in
     let charge : charged_of S h.number ≡ charged = ap (charged_of S) number ∙ charged_read t s last gs ss work n worked ∙ sym c in
-    let below : goals_below S h.number ≡ alive =
-    ap (goals_below S) number ∙ goals_read t n ss (parents_of (map (shoen_with t) ss)) gs numbered owned (parents_read t ss)
-    ∙ ap (λ (fs : List Bool). count_by (λ (g : Goal CellName). not (is_monitor g) && is_flagged fs g) gs) (sym (sl ∙ f)) ∙ sym a in
+    let beneath : goals_below S h.number ≡ alive =
+    ap (goals_below S) number ∙ goals_read t n ss (parents_of (map (shoen_with t) ss)) below gs b owned (parents_read t ss)
+    ∙ ap (λ (ns : List ℕ). count_by (is_alive_in ns) gs) (sym sl) ∙ sym a in
     asked t s last gs ss n o e is ∙ ap (λ p. asking.status_of S (option_map (shoen_with t) p)) some
     ∙ ap (λ x. R x (charged_of S h.number) (goals_below S h.number)) (condition_read t s last gs ss h h.life charged charge ∙ sym d)
     ∙ ap (λ y. R condition y (goals_below S h.number)) charge
-    ∙ ap (R condition charged) below
+    ∙ ap (R condition charged) beneath
 
 -- ---- the modules
 

@@ -1,5 +1,5 @@
 -- What is shown of an account.
-use Rattle.std.specs.Prelude.{ℕ, nat_le, if◌then◌else◌, List}
+use Rattle.std.specs.Prelude.{ℕ, nat_le, not, ◌&&◌, Bool, if◌then◌else◌, List}
 use Rattle.kl1_model.specs.declared.life.Life.{Life}
 use Rattle.kl1_model.specs.declared.life.Life.TheVariants.{Living, Terminated, Aborted}
 use Rattle.kl1_model.specs.declared.condition.Condition.{Condition}
@@ -9,9 +9,12 @@ use Rattle.kl1_model.specs.Asking.{elements_of}
 use Rattle.kl1_text.specs.declared.cell_name.CellName.{CellName}
 use Rattle.kl1_store.specs.declared.cell.Cell.{Cell}
 use Rattle.kl1_store.specs.Held.{Held}
+use Rattle.kl1_goals.specs.declared.goal.Goal.{Goal}
+use Rattle.kl1_goals.specs.Lists.{is_monitor}
 use Rattle.kl1_shoen_paths.specs.declared.shoen.Shoen.{Shoen}
 use Rattle.kl1_user_effects.specs.Fitting.{Reading}
 use Rattle.kl1_user_effects.specs.Account.{meaning}
+use Rattle.kl1_user_effects.specs.Drafts.{is_of_any}
 
 -- the state of a shoen of this life as it is shown, if `charged` is what it was charged
 abbrev pub condition_at : Shoen CellName → ℕ → Life → Condition
@@ -22,6 +25,10 @@ condition_at h charged Living = if h.is_stopped then Stopped else if nat_le h.al
 -- the state of a shoen as it is shown, if `charged` is what it was charged
 abbrev pub condition_by : Shoen CellName → ℕ → Condition
 condition_by h charged = condition_at h charged h.life
+
+-- whether a goal is of one of these shoens, and no monitor
+abbrev pub is_alive_in : List ℕ → Goal CellName → Bool
+is_alive_in shoens g = not (is_monitor g) && is_of_any shoens g
 
 -- the elements of a list of cells, for a reading
 abbrev pub cells_of : Reading → Held CellName → Cell CellName → List Term

@@ -1,5 +1,6 @@
 -- Numbers and spare numbers that stand for one another.
-use Rattle.std.specs.Prelude.{◌≡◌, ℕ, suc, ◌+◌, ◌==◌, ◌^◌, ◌⊎◌, if◌then◌else◌, List, [], ◌∷◌, Some, None}
+use Rattle.std.specs.Prelude.{◌≡◌, ℕ, suc, ◌+◌, ◌<◌, ◌≤◌, ◌==◌, ◌^◌, ◌⊎◌, if◌then◌else◌, List, [], ◌∷◌, ◌++◌, length, get_or, Some, None}
+use Rattle.std.specs.List.{Contains}
 use Rattle.kl1_text.specs.declared.cell_name.CellName.{CellName}
 use Rattle.kl1_atoms.specs.declared.known.Known.{Known}
 use Rattle.kl1_atoms.specs.Names.{number_by}
@@ -24,6 +25,31 @@ abbrev pub held_exchanged : List CellName → List CellName → Held CellName �
 held_exchanged [] ns h = h
 held_exchanged (s ∷ ss) [] h = h
 held_exchanged (s ∷ ss) (n ∷ ns) h = held_exchanged ss ns (held_with_two s n h)
+
+-- a number, if one stands for another and that for this; a number stands for itself
+abbrev pub swapped_one : CellName → CellName → CellName → CellName
+swapped_one a b n = if a.number == b.number then n else swapped a b n
+
+-- a number, if each of these numbers and the one at its place among others stand for one another, the first two first
+abbrev pub swapped_all : List CellName → List CellName → CellName → CellName
+swapped_all [] ns c = c
+swapped_all (s ∷ ss) [] c = c
+swapped_all (s ∷ ss) (n ∷ ns) c = swapped_all ss ns (swapped_one s n c)
+
+-- both of two numbers, and none if they are one
+abbrev pub pair_of : CellName → CellName → List ℕ
+pair_of a b = if a.number == b.number then [] else a.number ∷ b.number ∷ []
+
+-- the numbers that these exchanges can change
+abbrev pub touched : List CellName → List CellName → List ℕ
+touched [] ns = []
+touched (s ∷ ss) [] = []
+touched (s ∷ ss) (n ∷ ns) = pair_of s n ++ touched ss ns
+
+-- numbers in order, among which all are that these exchanges can change
+pub record IsRowOf (ss ns : List CellName) (row : List ℕ) : Type 0 where
+  pub rises : (i j : ℕ) → i ≤ j → j < length row → get_or row i 0 ≤ get_or row j 0
+  pub others : (n : ℕ) → (Contains row n → ⊥) → Contains (touched ss ns) n → ⊥
 
 -- a reading that reads each of two numbers as the other, if they are two
 abbrev pub read_with_two : CellName → CellName → Reading → Reading

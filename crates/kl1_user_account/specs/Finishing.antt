@@ -10,6 +10,7 @@ use Rattle.kl1_goals.specs.declared.goal.Goal.{Goal}
 use Rattle.kl1_goals.specs.Tables.{Tabled}
 use Rattle.kl1_shoen_paths.specs.declared.shoen.Shoen.{Shoen}
 use Rattle.kl1_shoen.specs.Shoens.{Tree, is_enabled_at}
+use Rattle.kl1_shoen.specs.Shifts.{AreShifts}
 use Rattle.kl1_codes.specs.Shelves.{Program}
 use Rattle.kl1_user_effects.specs.declared.draft.Draft.{Draft}
 use Rattle.kl1_user_effects.specs.Fitting.{Reading}
@@ -50,9 +51,14 @@ pub record LooksAgain (program : Program) (mark : Point) (now new : Kept CellNam
 abbrev pub SameFlags : List (Shoen CellName) → List ℕ → List (Shoen CellName) → List ℕ → Type 0
 SameFlags before before_work after work = (n : ℕ) → 0 < n → n ≤ length before → is_enabled_at after work n ≡ is_enabled_at before before_work n
 
+-- an event began with these shoens and this charged work, and the tree keeps them
+pub record BeganWith (tree : Tree CellName) (shoens : List (Shoen CellName)) (work : List ℕ) : Type 0 where
+  pub shoens_are : tree.kept ≡ shoens
+  pub work_is : tree.kept_work ≡ work
+
 -- whether goals that stay may step is looked at wherever it may be other than before
 pub record ShiftsFor (tree : Tree CellName) (reached : List ℕ) (before after : Draft) : Type 0 where
-  pub flags : after.shifts ≡ true → after.enabled.items ≡ map (λ h. is_enabled_at tree.shoens tree.work h.number) tree.shoens
+  pub found : after.shifts ≡ true → AreShifts tree after.enabled.items
   pub kept : after.shifts ≡ false → before.shifts ≡ false
   pub reached_none : after.shifts ≡ false → reached ≡ []
   pub ended_none : after.shifts ≡ false → before.ended.items ≡ []
@@ -61,11 +67,11 @@ pub record ShiftsFor (tree : Tree CellName) (reached : List ℕ) (before after :
 abbrev pub LetsStill : Tree CellName → List ℕ → ℕ → Draft → Type 0
 LetsStill tree reached running d = d.shifts ≡ false → d.ended.items ≡ [] → reached ≡ [] → is_enabled_at tree.shoens tree.work running ≡ true
 
--- if goals might step as other shoens had it, they may with a draft in place as these have it, provided the draft shifts them or
--- those shoens let their goals step as before
+-- if goals might step as other shoens had it, they may with a draft in place as these have it, provided the event began with those
+-- if the draft shifts goals, and those let their goals step as these do if it doesn't
 abbrev pub EnablesTo : Tree CellName → List (Goal CellName) → Draft → Type 0
 EnablesTo tree goals d =
-    (before : List (Shoen CellName)) (work : List ℕ) → length before ≤ length tree.shoens → AreOwned (length before) goals → (d.shifts ≡ false → SameFlags before work tree.shoens tree.work) →
+    (before : List (Shoen CellName)) (work : List ℕ) → length before ≤ length tree.shoens → AreOwned (length before) goals → (d.shifts ≡ true → BeganWith tree before work) → (d.shifts ≡ false → SameFlags before work tree.shoens tree.work) →
     AreEnabled before work goals → AreEnabled tree.shoens tree.work (goals_after goals d)
 
 -- the goals of an account with a draft in place are of shoens of which its goals and those that come are

@@ -20,7 +20,7 @@ use crate::answerable::{Answering, code_of_answer};
 use crate::answering::draft_answer;
 use crate::asking::{modules_of, reports_of, status_of};
 use crate::counted::Counted;
-use crate::exchanging::exchange;
+use crate::exchanging::{exchange, row_for_pairs};
 use crate::installing::{begin_draft, install};
 use crate::limits::is_number;
 use crate::loading::{Loading, draft_module, install_module, prepare};
@@ -464,6 +464,8 @@ impl<C: CodeSource> Account<C> {
             Answering::Refused(refusal) => return Ok(Reply::Refused(refusal)),
             Answering::Coded(code, variable) => (code, variable),
         };
+        let texts = code.names();
+        let mut row = row_for_pairs(self.alloc, texts.len())?;
         let mark = self.store.mark();
         // Only for the proof: the goals are in order of number.
         let _ordered = self.goals.shoens();
@@ -500,14 +502,13 @@ impl<C: CodeSource> Account<C> {
             }
             Ok(()) => {}
         }
-        publish(
-            names,
-            seat,
-            &mut self.names,
-            code.names(),
-            &mut self.numbers,
+        publish(names, seat, &mut self.names, texts, &mut self.numbers);
+        exchange(
+            &mut self.store,
+            spares.as_slice(),
+            self.numbers.as_slice(),
+            &mut row,
         );
-        exchange(&mut self.store, spares.as_slice(), self.numbers.as_slice());
         install(&mut self.goals, &self.draft, false);
         self.variables = self.draft.variables;
         self.nodes = self.draft.nodes;

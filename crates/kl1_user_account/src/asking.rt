@@ -1,6 +1,7 @@
 // What is asked of an account: the state of a shoen, its reports, and the modules.
 
-ghost use Rattle.std.specs.Prelude.{◌≡◌, ℕ, ◌++◌, ◌∷◌, [], ◌-◌, ◌≤◌, List, length, map, take, drop, codes, decimal, IfOk, OnOk};
+ghost use Rattle.std.specs.Prelude.{◌≡◌, ℕ, ◌++◌, ◌∷◌, [], ◌-◌, ◌≤◌, ◌≢◌, List, length, map, take, drop, codes, decimal, count_by, IfOk, OnOk};
+ghost use Rattle.std.specs.List.{AllPairs};
 ghost use Rattle.kl1_model.specs.State.{State};
 ghost use Rattle.kl1_model.specs.Step.{step};
 ghost use Rattle.kl1_model.specs.Event.{read, status, reports, modules};
@@ -16,7 +17,7 @@ ghost use Rattle.kl1_user_effects.specs.Fitting.{Reading, Fits};
 ghost use Rattle.kl1_user_effects.specs.Account.{Means, meaning, shoen_with, state_with, with_kept};
 ghost use Rattle.kl1_user_effects.specs.Kept.{AreOwned, AreShoensIn};
 ghost use Rattle.kl1_user_effects.specs.Naming.{AreSmall, Keeps};
-ghost use Rattle.kl1_user_account.specs.Asked.{condition_by, cells_of};
+ghost use Rattle.kl1_user_account.specs.Asked.{condition_by, is_alive_in, cells_of};
 
 use crate::limits::{are_numbers, is_number};
 use crate::printing::print_cell;
@@ -52,6 +53,20 @@ fn condition_of(shoen: &Shoen<CellName>, charged: u64) -> Condition
     }
 }
 
+/// How many goals these shoens have other than their monitors. None of them may stand twice.
+fn alive_in(goals: &GoalTable<CellName>, shoens: &[u64]) -> u64
+    requires { AllPairs (λ a b. a ≢ b) shoens.now }
+    ensures { result ≡ count_by (is_alive_in shoens.now) goals.now.goals }
+{
+    // Only for the proof: these are no more than all.
+    let _all = goals.alive();
+    let mut alive = 0;
+    for shoen in shoens {
+        alive += goals.count(*shoen);
+    }
+    alive
+}
+
 /// The state of shoen `number`, with what it was charged, its allowance, and how many goals there are in it and below it.
 pub(crate) fn status_of(
     alloc: Global,
@@ -71,13 +86,13 @@ pub(crate) fn status_of(
         return Ok(Reply::Refused(Refusal::NoShoen));
     };
     let charged = shoens.charged(number);
-    let mut flags = Vec::new(alloc);
-    shoens.below(number, &mut flags)?;
+    let mut below = Vec::new(alloc);
+    shoens.below(number, &mut below)?;
     Ok(Reply::Status {
         condition: condition_of(shoen, charged),
         charged,
         allowance: shoen.allowance,
-        alive: goals.count_below(flags.as_slice()),
+        alive: alive_in(goals, below.as_slice()),
     })
 }
 

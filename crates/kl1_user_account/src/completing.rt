@@ -115,17 +115,21 @@ fn look_again<C: CodeSource>(
     )
 }
 
-/// Finds which goals may step now, if that may be other than before.
+/// Finds which shoens may let or hold back their goals other than before, if any may.
 #[inline(always)]
-fn set_flags(shoens: &ShoenTree<CellName>, draft: &mut Draft, walk: &Walk) -> Result<(), AllocError>
-    ensures flags { OnOk result (ShiftsFor shoens.now walk.now.reached.items draft.old draft.new) }
+fn find_shifts(
+    shoens: &ShoenTree<CellName>,
+    draft: &mut Draft,
+    walk: &Walk,
+) -> Result<(), AllocError>
+    ensures shifts { OnOk result (ShiftsFor shoens.now walk.now.reached.items draft.old draft.new) }
     ensures rest { OnOk result (draft.new ≡ record draft.old { enabled = draft.new.enabled; shifts = draft.new.shifts }) }
 {
     if !walk.reached.is_empty() || !draft.ended.is_empty() {
         draft.shifts = true;
     }
     if draft.shifts {
-        shoens.flags(&mut draft.enabled)?;
+        shoens.shifts(&mut draft.enabled)?;
     }
     Ok(())
 }
@@ -150,8 +154,8 @@ fn still_lets(shoens: &ShoenTree<CellName>, draft: &Draft, walk: &Walk, running:
     running
 }
 
-/// Finishes a draft of what was done since a mark: looks at the goals that are to be looked at, finds which goals may step now if that
-/// may be other than before, and makes room for what comes. The predicate of goals of one kind is known, and shoen `running` let
+/// Finishes a draft of what was done since a mark: looks at the goals that are to be looked at, finds which shoens let or hold back their
+/// goals other than before if any may, and makes room for what comes. The predicate of goals of one kind is known, and shoen `running` let
 /// its goals step before. If memory is refused, the store may have grown.
 #[inline(always)]
 pub(crate) fn finish<C: CodeSource>(
@@ -190,6 +194,6 @@ pub(crate) fn finish<C: CodeSource>(
     look_again(
         store, goals, shoens, modules, known, predicate, trial, draft, mark, letting,
     )?;
-    set_flags(shoens, draft, walk)?;
+    find_shifts(shoens, draft, walk)?;
     goals.reserve(draft.added.len(), 1)
 }

@@ -1,11 +1,11 @@
 // Drafts that are begun, and that are put in place.
 
 ghost use Rattle.std.specs.Prelude.{◌≡◌, ◌+◌, ◌≤◌, if◌then◌else◌, not, ◌++◌, length, filter};
-ghost use Rattle.kl1_goals.specs.Lists.{is_flagged};
-ghost use Rattle.kl1_user_effects.specs.Drafts.{without_monitors, restood};
-ghost use Rattle.kl1_user_effects.specs.Installing.{IsBegun, AreNext, shifted, goals_after, IsFitting, Opens};
+ghost use Rattle.kl1_user_effects.specs.Drafts.{is_of_any, without_monitors, restood};
+ghost use Rattle.kl1_user_effects.specs.Installing.{IsBegun, AreNext, shifted_by, shifted, goals_after, IsFitting, Opens};
 
 use kl1_goals::{Goal, GoalTable, Rules};
+use kl1_shoen::Shift;
 use kl1_text::CellName;
 use kl1_user_effects::{Change, Draft};
 
@@ -39,17 +39,16 @@ pub(crate) fn begin_draft(
     draft.told.clear();
 }
 
-/// Removes the goals and monitors of the shoens that have a flag.
-fn remove_aborted(goals: &mut GoalTable<CellName>, flags: &[bool])
-    ensures goals { goals.new.goals ≡ filter (λ g. not (is_flagged flags.now g)) goals.old.goals }
+/// Removes the goals and monitors of these shoens.
+fn remove_aborted(goals: &mut GoalTable<CellName>, shoens: &[u64])
+    ensures goals { goals.new.goals ≡ filter (λ g. not (is_of_any shoens.now g)) goals.old.goals }
     ensures count { goals.new.shoens ≡ goals.old.shoens }
     ensures room { goals.old.room ≤ goals.new.room }
     ensures shoen_room { goals.new.shoen_room ≡ goals.old.shoen_room }
 {
-    if flags.is_empty() {
-        return;
+    for shoen in shoens {
+        goals.remove_all(*shoen);
     }
-    goals.remove_below(flags);
 }
 
 /// Removes the monitors of these shoens.
@@ -101,7 +100,17 @@ fn put_goals(goals: &mut GoalTable<CellName>, added: &[Goal<CellName>])
     }
 }
 
-/// Lets the goals of shoens step that have a flag, and holds the others back, if that may be other than before.
+/// Lets the goals of shoens step, or holds them back, one shift after another.
+fn shift_each(goals: &mut GoalTable<CellName>, shifts: &[Shift])
+    ensures goals { goals.new.goals ≡ shifted_by shifts.now goals.old.goals }
+    ensures count { goals.new.shoens ≡ goals.old.shoens }
+{
+    for shift in shifts {
+        goals.enable(shift.shoen, shift.is_enabled);
+    }
+}
+
+/// Lets the goals of shoens step, or holds them back, if that may be other than before.
 fn shift(goals: &mut GoalTable<CellName>, draft: &Draft)
     ensures goals { goals.new.goals ≡ shifted draft.now goals.old.goals }
     ensures count { goals.new.shoens ≡ goals.old.shoens }
@@ -109,7 +118,7 @@ fn shift(goals: &mut GoalTable<CellName>, draft: &Draft)
     if !draft.shifts {
         return;
     }
-    goals.set_enabled(&draft.enabled);
+    shift_each(goals, &draft.enabled);
 }
 
 /// Puts a draft in place of what it leaves of the goals; if it opens a shoen, one more is known then. It has to fit them.

@@ -8,6 +8,7 @@ mod answering;
 mod asking;
 mod completing;
 mod counted;
+mod exchange;
 mod exchanging;
 mod installing;
 mod judging;

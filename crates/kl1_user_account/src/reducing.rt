@@ -18,6 +18,7 @@ ghost use Rattle.kl1_user_effects.specs.Kept.{AreShoensIn};
 ghost use Rattle.kl1_user_effects.specs.Works.{Knows};
 ghost use Rattle.kl1_user_account.specs.Looking.{Serves};
 ghost use Rattle.kl1_user_account.specs.Reducing.{HasRow, MayHave, IsFullFor, RefusesAmong, IsSteppable, is_read, NotHeard, HeardAs, NotMade, IsMade, IsToMake, account_at, IsReduced, ReducesAs};
+ghost use Rattle.kl1_user_account.specs.Finishing.{BeganWith};
 ghost use Rattle.kl1_user_account.specs.Keeping.{IsKept};
 ghost use Rattle.kl1_user_effects.specs.Drafts.{CanGoBack};
 ghost use Rattle.kl1_user_effects.specs.Installing.{IsBegun};
@@ -155,6 +156,7 @@ fn draft_reading<C: CodeSource>(
     requires monitor { goal.task ≡ Monitor }
     requires begun { IsBegun 0 modules.now.rules draft.old.last_goal draft.old.variables draft.old.nodes draft.old.reports draft.old }
     requires kept { (own : List ℕ × ℕ) (entries : ℕ × ℕ) → MayHave modules.now.rules entries → IsKept (account_at own store.old.held goals.old.goals shoens.old modules.now names.now.names draft.old.last_goal draft.old.variables draft.old.nodes draft.old.reports entries) store.old.hooks goals.old.shoens }
+    requires begins { BeganWith shoens.old shoens.old.shoens shoens.old.work }
     ensures ok { IfOk result (λ refused. (own : List ℕ × ℕ) (entries : ℕ × ℕ) → MayHave modules.now.rules entries → IsFullFor (account_at own store.old.held goals.old.goals shoens.old modules.now names.now.names draft.old.last_goal draft.old.variables draft.old.nodes draft.old.reports entries) goal.number clause is_full → ReducesAs (account_at own store.old.held goals.old.goals shoens.old modules.now names.now.names draft.old.last_goal draft.old.variables draft.old.nodes draft.old.reports entries) goal.number clause store.old store.new shoens.old shoens.new goals.new draft.new refused) }
     ensures back { CanGoBack shoens.old shoens.new }
     ensures grown { HasGrown store.old store.new }
@@ -216,6 +218,7 @@ fn draft_made<C: CodeSource>(
     requires begun { IsBegun 0 modules.now.rules draft.old.last_goal draft.old.variables draft.old.nodes draft.old.reports draft.old }
     requires kept { (own : List ℕ × ℕ) (entries : ℕ × ℕ) → MayHave modules.now.rules entries → IsKept (account_at own store.old.held goals.old.goals shoens.old modules.now names.old.names draft.old.last_goal draft.old.variables draft.old.nodes draft.old.reports entries) store.old.hooks goals.old.shoens }
     requires few { length shoens.old.work + 1 < 2 ^ 63 }
+    requires begins { BeganWith shoens.old shoens.old.shoens shoens.old.work }
     requires cell { IsIn store.old.held cell.cell }
     requires some { AreSome predicate.names.now predicate.clauses.now }
     requires serves { Serves modules.now.loaded kind predicate }
@@ -266,6 +269,7 @@ fn draft_substitute<C: CodeSource>(
     requires begun { IsBegun 0 modules.now.rules draft.old.last_goal draft.old.variables draft.old.nodes draft.old.reports draft.old }
     requires kept { (own : List ℕ × ℕ) (entries : ℕ × ℕ) → MayHave modules.now.rules entries → IsKept (account_at own store.old.held goals.old.goals shoens.old modules.now names.old.names draft.old.last_goal draft.old.variables draft.old.nodes draft.old.reports entries) store.old.hooks goals.old.shoens }
     requires few { length shoens.old.work + 1 < 2 ^ 63 }
+    requires begins { BeganWith shoens.old shoens.old.shoens shoens.old.work }
     ensures ok { IfOk result (λ refused. (own : List ℕ × ℕ) (entries : ℕ × ℕ) → MayHave modules.now.rules entries → IsFullFor (account_at own store.old.held goals.old.goals shoens.old modules.now names.old.names draft.old.last_goal draft.old.variables draft.old.nodes draft.old.reports entries) goal.number clause is_full → ReducesAs (account_at own store.old.held goals.old.goals shoens.old modules.now names.old.names draft.old.last_goal draft.old.variables draft.old.nodes draft.old.reports entries) goal.number clause store.old store.new shoens.old shoens.new goals.new draft.new refused) }
     ensures back { CanGoBack shoens.old shoens.new }
     ensures grown { HasGrown store.old store.new }
@@ -328,6 +332,7 @@ fn draft_move<C: CodeSource>(
     requires begun { IsBegun 0 modules.now.rules draft.old.last_goal draft.old.variables draft.old.nodes draft.old.reports draft.old }
     requires kept { (own : List ℕ × ℕ) (entries : ℕ × ℕ) → MayHave modules.now.rules entries → IsKept (account_at own store.old.held goals.old.goals shoens.old modules.now names.old.names draft.old.last_goal draft.old.variables draft.old.nodes draft.old.reports entries) store.old.hooks goals.old.shoens }
     requires few { length shoens.old.work + 1 < 2 ^ 63 }
+    requires begins { BeganWith shoens.old shoens.old.shoens shoens.old.work }
     ensures ok { IfOk result (λ refused. (own : List ℕ × ℕ) (entries : ℕ × ℕ) → MayHave modules.now.rules entries → IsFullFor (account_at own store.old.held goals.old.goals shoens.old modules.now names.old.names draft.old.last_goal draft.old.variables draft.old.nodes draft.old.reports entries) goal.number clause is_full → ReducesAs (account_at own store.old.held goals.old.goals shoens.old modules.now names.old.names draft.old.last_goal draft.old.variables draft.old.nodes draft.old.reports entries) goal.number clause store.old store.new shoens.old shoens.new goals.new draft.new refused) }
     ensures back { CanGoBack shoens.old shoens.new }
     ensures grown { HasGrown store.old store.new }
@@ -370,6 +375,7 @@ fn draft_reduction<C: CodeSource>(
     requires begun { IsBegun 0 modules.now.rules draft.old.last_goal draft.old.variables draft.old.nodes draft.old.reports draft.old }
     requires kept { (own : List ℕ × ℕ) (entries : ℕ × ℕ) → MayHave modules.now.rules entries → IsKept (account_at own store.old.held goals.old.goals shoens.old modules.now names.old.names draft.old.last_goal draft.old.variables draft.old.nodes draft.old.reports entries) store.old.hooks goals.old.shoens }
     requires few { length shoens.old.work + 1 < 2 ^ 63 }
+    requires begins { BeganWith shoens.old shoens.old.shoens shoens.old.work }
     ensures ok { IfOk result (λ refused. (own : List ℕ × ℕ) (entries : ℕ × ℕ) → MayHave modules.now.rules entries → IsFullFor (account_at own store.old.held goals.old.goals shoens.old modules.now names.old.names draft.old.last_goal draft.old.variables draft.old.nodes draft.old.reports entries) number clause is_full → ReducesAs (account_at own store.old.held goals.old.goals shoens.old modules.now names.old.names draft.old.last_goal draft.old.variables draft.old.nodes draft.old.reports entries) number clause store.old store.new shoens.old shoens.new goals.new draft.new refused) }
     ensures back { CanGoBack shoens.old shoens.new }
     ensures grown { HasGrown store.old store.new }
@@ -425,6 +431,7 @@ pub(crate) fn draft_named<C: CodeSource>(
     requires begun { IsBegun 0 modules.now.rules draft.old.last_goal draft.old.variables draft.old.nodes draft.old.reports draft.old }
     requires kept { (own : List ℕ × ℕ) (entries : ℕ × ℕ) → MayHave modules.now.rules entries → IsKept (account_at own store.old.held goals.old.goals shoens.old modules.now names.old.names draft.old.last_goal draft.old.variables draft.old.nodes draft.old.reports entries) store.old.hooks goals.old.shoens }
     requires few { length shoens.old.work + 1 < 2 ^ 63 }
+    requires begins { BeganWith shoens.old shoens.old.shoens shoens.old.work }
     ensures ok { IfOk result (λ refused. (own : List ℕ × ℕ) (entries : ℕ × ℕ) → MayHave modules.now.rules entries → IsFullFor (account_at own store.old.held goals.old.goals shoens.old modules.now names.old.names draft.old.last_goal draft.old.variables draft.old.nodes draft.old.reports entries) number clause is_full → ReducesAs (account_at own store.old.held goals.old.goals shoens.old modules.now names.old.names draft.old.last_goal draft.old.variables draft.old.nodes draft.old.reports entries) number clause store.old store.new shoens.old shoens.new goals.new draft.new refused) }
     ensures back { CanGoBack shoens.old shoens.new }
     ensures grown { HasGrown store.old store.new }

@@ -15,11 +15,11 @@ use Rattle.kl1_store.specs.InModules.{AreQualifiedIn}
 use Rattle.kl1_store.specs.Sound.{Grown}
 use Rattle.kl1_goals.specs.declared.goal.Goal.{Goal}
 use Rattle.kl1_goals.specs.declared.task.Task.{Task}
-use Rattle.kl1_goals.specs.Lists.{is_other, is_monitor, is_monitor_task, is_monitor_of, is_goal_of, is_flagged}
+use Rattle.kl1_goals.specs.Lists.{is_other, is_monitor, is_monitor_task, is_monitor_of, is_goal_of}
 use Rattle.kl1_shoen_paths.specs.declared.shoen.Shoen.{Shoen}
 use Rattle.kl1_user_effects.specs.declared.draft.Draft.{Draft}
 use Rattle.kl1_user_effects.specs.Kept.{IsTaskIn, AreGoalsIn, AreOwned, AreUpTo}
-use Rattle.kl1_user_effects.specs.Drafts.{goals_left, without_monitors, goals_for, one_for, two_for, HasBegun}
+use Rattle.kl1_user_effects.specs.Drafts.{is_of_any, goals_left, without_monitors, goals_for, one_for, two_for, HasBegun}
 use Rattle.kl1_user_effects.specs.Moving.{priorities_by}
 use Rattle.kl1_user_effects.specs.Installing.{AreNext}
 use Rattle.kl1_user_effects.specs.Leaving.{Comes, AreMet}
@@ -48,7 +48,7 @@ priorities_low h own (p ∷ ps) le a b = (one p, priorities_low h own ps le a b)
 left_one : (d : Draft) (g : Goal CellName) → d.removed < g.number → d.aborted.items ≡ [] → d.ended.items ≡ [] → IsLeft d g
 left_one d g lt none early =
     let P : List ℕ → Type 0 = λ ns. AllByRecursion (λ n. is_monitor_of n g ≡ false) ns in
-    record { other = ap not (ne_eqb g.number d.removed (λ e. omega (arith, lt, e))); unflagged = ap (λ (fs : List Bool). is_flagged fs g) none; unended = subst P (sym early) tt }
+    record { other = ap not (ne_eqb g.number d.removed (λ e. omega (arith, lt, e))); unaborted = ap (λ (ns : List ℕ). is_of_any ns g) none; unended = subst P (sym early) tt }
 
 left_all : (d : Draft) (gs : List (Goal CellName)) → AllByRecursion (λ g. d.removed < g.number) gs → d.aborted.items ≡ [] → d.ended.items ≡ [] → AllByRecursion (IsLeft d) gs
 left_all d [] a none early = tt
@@ -191,7 +191,7 @@ or_true false c e = e
 -- goals that come are among those that a draft leaves, if no shoen has ended
 added_left : (goals : List (Goal CellName)) (e : Draft) (n : ℕ) → e.ended.items ≡ [] → goals_left e.added.items e ≡ e.added.items → list_any (is_goal_of n) e.added.items ≡ true → list_any (is_goal_of n) (goals_left (goals ++ e.added.items) e) ≡ true
 added_left goals e n early stay any =
-    let p : Goal CellName → Bool = λ g. not (is_flagged e.aborted.items g) in
+    let p : Goal CellName → Bool = λ g. not (is_of_any e.aborted.items g) in
     let o : Goal CellName → Bool = is_other e.removed in
     let come : List (Goal CellName) = e.added.items in
     let both : filter p (filter o (goals ++ come)) ≡ filter p (filter o goals) ++ filter p (filter o come) = ap (filter p) (filter_append o goals come) ∙ filter_append p (filter o goals) (filter o come) in
@@ -201,10 +201,10 @@ added_left goals e n early stay any =
     ap (list_any (is_goal_of n)) is ∙ any_append (is_goal_of n) (filter p (filter o goals)) come ∙ or_true (list_any (is_goal_of n) (filter p (filter o goals))) (list_any (is_goal_of n) come) any
 
 stay_ended : (goals : List (Goal CellName)) (e : Draft) (ended : List ℕ) → e.ended.items ≡ [] → AreMet e.added.items → HaveNoGoals ended (goals_left (goals ++ e.added.items) e) → goals_left e.added.items e ≡ e.added.items →
-    without_monitors ended (filter (λ g. not (is_flagged e.aborted.items g)) (filter (is_other e.removed) e.added.items)) ≡ e.added.items
+    without_monitors ended (filter (λ g. not (is_of_any e.aborted.items g)) (filter (is_other e.removed) e.added.items)) ≡ e.added.items
 stay_ended goals e ended early met alone stay =
     let come : List (Goal CellName) = e.added.items in
-    let same : filter (λ g. not (is_flagged e.aborted.items g)) (filter (is_other e.removed) come) ≡ come = sym (ap (λ (ns : List ℕ). without_monitors ns (filter (λ g. not (is_flagged e.aborted.items g)) (filter (is_other e.removed) come))) early) ∙ stay in
+    let same : filter (λ g. not (is_of_any e.aborted.items g)) (filter (is_other e.removed) come) ≡ come = sym (ap (λ (ns : List ℕ). without_monitors ns (filter (λ g. not (is_of_any e.aborted.items g)) (filter (is_other e.removed) come))) early) ∙ stay in
     ap (without_monitors ended) same
     ∙ without_none ended come (met_left come (goals_left (goals ++ come) e) come ended met (λ n any. added_left goals e n early stay any) alone)
 

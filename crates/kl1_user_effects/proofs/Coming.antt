@@ -9,12 +9,12 @@ use Rattle.kl1_store.specs.declared.cell.Cell.{Cell}
 use Rattle.kl1_store.specs.declared.qualified.Qualified.{Qualified}
 use Rattle.kl1_goals.specs.declared.goal.Goal.{Goal}
 use Rattle.kl1_goals.specs.declared.task.Task.{Task}
-use Rattle.kl1_goals.specs.Lists.{is_other, is_monitor, is_monitor_task, is_monitor_of, is_goal_of, is_flagged}
+use Rattle.kl1_goals.specs.Lists.{is_other, is_monitor, is_monitor_task, is_monitor_of, is_goal_of}
 use Rattle.kl1_goals.specs.Tables.{AreBefore}
 use Rattle.kl1_shoen_paths.specs.declared.shoen.Shoen.{Shoen}
 use Rattle.kl1_user_effects.specs.declared.draft.Draft.{Draft}
 use Rattle.kl1_user_effects.specs.Kept.{AreOwned, AreUpTo}
-use Rattle.kl1_user_effects.specs.Drafts.{without_monitors, goals_left, goals_for, one_for, two_for}
+use Rattle.kl1_user_effects.specs.Drafts.{is_of_any, without_monitors, goals_left, goals_for, one_for, two_for}
 use Rattle.kl1_user_effects.specs.Walks.{ends_in, ending_in, terminated}
 use Rattle.kl1_user_effects.specs.Installing.{AreNext}
 use Rattle.kl1_shoen.specs.Shoens.{changed, lives_in, is_living_child_of}
@@ -70,7 +70,7 @@ next_append goals (a ∷ few) bs count i j =
 -- a goal that a draft leaves
 pub record IsLeft (d : Draft) (g : Goal CellName) : Type 0 where
   pub other : is_other d.removed g ≡ true
-  pub unflagged : is_flagged d.aborted.items g ≡ false
+  pub unaborted : is_of_any d.aborted.items g ≡ false
   pub unended : AllByRecursion (λ n. is_monitor_of n g ≡ false) d.ended.items
 
 filter_all : (p : Goal CellName → Bool) (gs : List (Goal CellName)) → AllByRecursion (λ g. p g ≡ true) gs → filter p gs ≡ gs
@@ -90,9 +90,9 @@ without_none (n ∷ ns) gs a =
 -- goals that a draft leaves stay as they are
 pub all_are_left : (d : Draft) (gs : List (Goal CellName)) → AllByRecursion (IsLeft d) gs → goals_left gs d ≡ gs
 all_are_left d gs a =
-    let p : Goal CellName → Bool = λ g. not (is_flagged d.aborted.items g) in
+    let p : Goal CellName → Bool = λ g. not (is_of_any d.aborted.items g) in
     ap (λ (xs : List (Goal CellName)). without_monitors d.ended.items (filter p xs)) (filter_all (is_other d.removed) gs (all_of (IsLeft d) (λ g. is_other d.removed g ≡ true) gs (λ g h. h.other) a))
-    ∙ ap (without_monitors d.ended.items) (filter_all p gs (all_of (IsLeft d) (λ g. p g ≡ true) gs (λ g h. ap not h.unflagged) a))
+    ∙ ap (without_monitors d.ended.items) (filter_all p gs (all_of (IsLeft d) (λ g. p g ≡ true) gs (λ g h. ap not h.unaborted) a))
     ∙ without_none d.ended.items gs (all_of (IsLeft d) (λ g. AllByRecursion (λ n. is_monitor_of n g ≡ false) d.ended.items) gs (λ g h. h.unended) a)
 
 -- if none come

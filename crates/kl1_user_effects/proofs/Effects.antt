@@ -20,20 +20,21 @@ use Rattle.kl1_text.specs.declared.cell_name.CellName.{CellName}
 use Rattle.kl1_store.specs.declared.cell.Cell.{Cell}
 use Rattle.kl1_store.specs.Held.{Held, IsIn}
 use Rattle.kl1_goals.specs.declared.goal.Goal.{Goal}
-use Rattle.kl1_goals.specs.Lists.{is_other, is_flagged}
+use Rattle.kl1_goals.specs.Lists.{is_other}
 use Rattle.kl1_shoen_paths.specs.declared.shoen.Shoen.{Shoen}
-use Rattle.kl1_shoen.specs.Shoens.{Tree, has_number, changed, is_on_path_in, aborted_below_in, AreNumbered}
+use Rattle.kl1_shoen.specs.Shoens.{Tree, has_number, changed, is_on_path_in, aborted_below_in, AreBelow}
 use Rattle.kl1_codes.specs.Numbered.{Numbered}
 use Rattle.kl1_user_effects.specs.declared.draft.Draft.{Draft}
 use Rattle.kl1_user_effects.specs.Fitting.{Reading}
 use Rattle.kl1_user_effects.specs.Account.{Means, meaning, goal_with, shoen_with}
 use Rattle.kl1_user_effects.specs.Kept.{AreOwned, IsShoenIn, AreShoensIn}
-use Rattle.kl1_user_effects.specs.Drafts.{staying, without_monitors, made_of, DraftsAll}
+use Rattle.kl1_user_effects.specs.Drafts.{is_of_any, staying, without_monitors, made_of, DraftsAll}
 use Rattle.kl1_user_effects.specs.Works.{Made, worked, IsMadeIn, Turns}
 use Rattle.kl1_user_effects.proofs.Works.{turns_as, turns_none, finds, changes, changed_made, changed_turns}
 use Rattle.kl1_user_effects.proofs.Goals.{filter_in, filter_owned, all_stay, below_read}
 use Rattle.kl1_user_effects.proofs.Walking.{parents_read, path_read}
 use Rattle.kl1_user_effects.proofs.Finishing.{drafts_then, drafts_as}
+use Rattle.kl1_user_effects.proofs.Below.{below_tells}
 
 -- ---- a shoen that changes
 
@@ -67,20 +68,6 @@ drafts_charged h t u d n is ms goals names i =
 
 -- ---- aborts
 
--- a flag of each shoen, of one that is numbered
-flag_at : (p : ℕ → Bool) (last k : ℕ) (ss : List (Shoen CellName)) → AreNumbered last ss → k < length ss → get_or (map (λ (h : Shoen CellName). p h.number) ss) k false ≡ p (suc (last + k))
-flag_at p last k [] a lt = absurd (omega arith)
-flag_at p last zero (h ∷ ss) a lt = ap p (let e = a.0 in omega arith)
-flag_at p last (suc k) (h ∷ ss) a lt = flag_at p (suc last) k ss a.1 (omega arith) ∙ ap p (omega arith)
-
--- flags of goals tell which shoens are below
-pub flags_tell : (p : ℕ → Bool) (ss : List (Shoen CellName)) (flags : List Bool) (gs : List (Goal CellName)) → AreNumbered 0 ss → flags ≡ map (λ (h : Shoen CellName). p h.number) ss → AreOwned (length ss) gs → AllByRecursion (λ g. p g.shoen ≡ is_flagged flags g) gs
-flags_tell p ss flags [] a e o = tt
-flags_tell p ss flags (g ∷ gs) a e o =
-    let low = o.0.low in
-    let high = o.0.high in
-    (ap p (omega arith) ∙ sym (flag_at p 0 (g.shoen - 1) ss a (omega arith)) ∙ ap (λ (fs : List Bool). get_or fs (g.shoen - 1) false) (sym e), flags_tell p ss flags gs a e o.1)
-
 if_aborted : (c : Bool) (t : Means) (h : Shoen CellName) → (if c then record (shoen_with t h) { life = Aborted } else shoen_with t h) ≡ shoen_with t (if c then record h { life = Aborted } else h)
 if_aborted true t h = refl
 if_aborted false t h = refl
@@ -105,42 +92,42 @@ aborted_count all n [] = refl
 aborted_count all n (s ∷ ss) = ap suc (aborted_count all n ss)
 
 -- what is made with a shoen and all below it aborted
-abbrev pub with_aborted : ℕ → List Bool → Made → Made
-with_aborted n flags w = record w { goals = filter (λ g. not (is_flagged flags g)) w.goals; shoens = map (aborted_below_in w.shoens n) w.shoens }
+abbrev pub with_aborted : ℕ → List ℕ → Made → Made
+with_aborted n aborted w = record w { goals = filter (λ g. not (is_of_any aborted g)) w.goals; shoens = map (aborted_below_in w.shoens n) w.shoens }
 
-aborts_turn : (ms : List Numbered) (h : Held CellName) (w : Made) (n : ℕ) (flags : List Bool) → AreNumbered 0 w.shoens → flags ≡ map (λ (x : Shoen CellName). is_on_path_in w.shoens n x.number) w.shoens → IsMadeIn h w → Turns ms (λ f. ended_below n) h h w (with_aborted n flags w)
-aborts_turn ms h w n flags a e i =
-    let O : ℕ → Type 0 = λ c. AreOwned c (with_aborted n flags w).goals in
+aborts_turn : (ms : List Numbered) (h : Held CellName) (w : Made) (n : ℕ) (aborted : List ℕ) → AreBelow w.shoens n aborted → IsMadeIn h w → Turns ms (λ f. ended_below n) h h w (with_aborted n aborted w)
+aborts_turn ms h w n aborted b i =
+    let O : ℕ → Type 0 = λ c. AreOwned c (with_aborted n aborted w).goals in
     record {
       inside = record {
         some = i.some;
-        goals = filter_in h (λ g. not (is_flagged flags g)) w.goals i.goals;
+        goals = filter_in h (λ g. not (is_of_any aborted g)) w.goals i.goals;
         shoens = aborted_in h w.shoens n w.shoens i.shoens;
-        owned = subst O (sym (aborted_count w.shoens n w.shoens)) (filter_owned (length w.shoens) (λ g. not (is_flagged flags g)) w.goals i.owned);
+        owned = subst O (sym (aborted_count w.shoens n w.shoens)) (filter_owned (length w.shoens) (λ g. not (is_of_any aborted g)) w.goals i.owned);
       };
       states = λ f knows s.
           let t = meaning f h in
           let S = worked f s h w in
           ap (λ (ps : List ℕ). let z : State = record S { goals = filter (λ g. not (is_among n (path_within g.shoen ps g.shoen))) S.goals; shoens = map (steps.aborted_below S.shoens n) S.shoens } in z) (parents_read t w.shoens)
-          ∙ ap (λ (gs : List model.Goal). let z : State = record S { goals = gs; shoens = map (steps.aborted_below S.shoens n) S.shoens } in z) (below_read t (is_on_path_in w.shoens n) flags w.goals (flags_tell (is_on_path_in w.shoens n) w.shoens flags w.goals a e i.owned))
-          ∙ ap (λ (xs : List model.Shoen). let z : State = record S { goals = map (goal_with t) (with_aborted n flags w).goals; shoens = xs } in z) (aborted_read t w.shoens n w.shoens)
-          ∙ ap (λ c. let z : State = record S { goals = map (goal_with t) (with_aborted n flags w).goals; shoens = map (shoen_with t) (with_aborted n flags w).shoens; last_shoen = c } in z) (sym (aborted_count w.shoens n w.shoens));
+          ∙ ap (λ (gs : List model.Goal). let z : State = record S { goals = gs; shoens = map (steps.aborted_below S.shoens n) S.shoens } in z) (below_read t (is_on_path_in w.shoens n) aborted w.goals (below_tells n w.shoens aborted w.goals b i.owned))
+          ∙ ap (λ (xs : List model.Shoen). let z : State = record S { goals = map (goal_with t) (with_aborted n aborted w).goals; shoens = xs } in z) (aborted_read t w.shoens n w.shoens)
+          ∙ ap (λ c. let z : State = record S { goals = map (goal_with t) (with_aborted n aborted w).goals; shoens = map (shoen_with t) (with_aborted n aborted w).shoens; last_shoen = c } in z) (sym (aborted_count w.shoens n w.shoens));
     }
 
--- a draft without flags, and one with them
-pub drafts_ended_below : (h : Held CellName) (t u : Tree CellName) (d e : Draft) (n : ℕ) → AreNumbered 0 t.shoens → d.aborted.items ≡ [] → d.ended.items ≡ [] → e.aborted.items ≡ map (λ (x : Shoen CellName). is_on_path_in t.shoens n x.number) t.shoens →
+-- a draft in which no shoen was aborted, and one in which one was, and all below it
+pub drafts_ended_below : (h : Held CellName) (t u : Tree CellName) (d e : Draft) (n : ℕ) → d.aborted.items ≡ [] → d.ended.items ≡ [] → AreBelow t.shoens n e.aborted.items →
     e ≡ record d { aborted = e.aborted; shifts = e.shifts } → u ≡ record t { shoens = map (aborted_below_in t.shoens n) t.shoens } → DraftsAll (λ f. ended_below n) h h t u d e
-drafts_ended_below h t u d e n a none early flags is tree ms goals names i =
+drafts_ended_below h t u d e n none early below is tree ms goals names i =
     let w = made_of goals names t d in
     let all = filter (is_other d.removed) (goals ++ d.added.items) in
     let T : Made → Type 0 = λ m. Turns ms (λ f. ended_below n) h h w m in
-    let left : w.goals ≡ all = ap (λ (ns : List ℕ). staying d.removed d.aborted.items ns (goals ++ d.added.items)) early ∙ ap (λ (fs : List Bool). filter (λ g. not (is_flagged fs g)) all) none ∙ all_stay all in
+    let left : w.goals ≡ all = ap (λ (ns : List ℕ). staying d.removed d.aborted.items ns (goals ++ d.added.items)) early ∙ ap (λ (ns : List ℕ). filter (λ g. not (is_of_any ns g)) all) none ∙ all_stay all in
     let same : with_aborted n e.aborted.items w ≡ made_of goals names u e =
-    ap (λ (gs : List (Goal CellName)). let z : Made = record (with_aborted n e.aborted.items w) { goals = filter (λ g. not (is_flagged e.aborted.items g)) gs } in z) left
-    ∙ ap (λ (ns : List ℕ). let z : Made = record (with_aborted n e.aborted.items w) { goals = without_monitors ns (filter (λ g. not (is_flagged e.aborted.items g)) all) } in z) (sym early)
+    ap (λ (gs : List (Goal CellName)). let z : Made = record (with_aborted n e.aborted.items w) { goals = filter (λ g. not (is_of_any e.aborted.items g)) gs } in z) left
+    ∙ ap (λ (ns : List ℕ). let z : Made = record (with_aborted n e.aborted.items w) { goals = without_monitors ns (filter (λ g. not (is_of_any e.aborted.items g)) all) } in z) (sym early)
     ∙ ap (λ (x : Tree CellName). made_of goals names x (record d { aborted = e.aborted; shifts = e.shifts })) (sym tree)
     ∙ ap (made_of goals names u) (sym is) in
-    subst T same (aborts_turn ms h w n e.aborted.items a flags i)
+    subst T same (aborts_turn ms h w n e.aborted.items below i)
 
 -- ---- messages
 
@@ -180,7 +167,7 @@ drafts_resumed h k t u v d e n sh there stopped is p =
     (drafts_then (λ f. change_shoen n (λ x. record x { is_stopped = false })) (λ f. report n resumed_report) h h k t u v d d e
     (drafts_changed h t u d n (halted false) (λ x. record x { is_stopped = false }) is (λ s i. record { control = i.control; tail = i.tail; origin = i.origin; low = i.low; high = i.high }) (λ f s. refl)) p))
 
--- drafts that begin with flags to be set
+-- drafts that begin with goals to be let or held back other than before
 pub shifted : (f : Reading → State → State) (h k : Held CellName) (t u : Tree CellName) (d e : Draft) (b : Bool) → DraftsAll f h k t u (record d { shifts = b }) e → DraftsAll f h k t u d e
 shifted f h k t u d e b p ms goals names i = p ms goals names i
 

@@ -1,5 +1,5 @@
 -- Walks along the path of a shoen, and which goals it has.
-use Rattle.std.proofs.Common.{◌≡◌, ℕ, ◌-◌, ◌==◌, ◌||◌, not, ◌&&◌, Bool, true, false, if◌then◌else◌, List, [], ◌∷◌, ◌++◌, get_or, refl, sym, ap, ◌∙◌, subst}
+use Rattle.std.proofs.Common.{◌≡◌, ℕ, ◌==◌, ◌||◌, not, ◌&&◌, Bool, true, false, if◌then◌else◌, List, [], ◌∷◌, ◌++◌, refl, sym, ap, ◌∙◌, subst}
 use Rattle.std.specs.Prelude.{filter}
 use Rattle.std.specs.List.{list_any}
 use Rattle.std.proofs.lemmas.Bool.{eqb-true}
@@ -8,12 +8,12 @@ use Rattle.kl1_model.specs.Module.{is_among}
 use Rattle.kl1_text.specs.declared.cell_name.CellName.{CellName}
 use Rattle.kl1_store.specs.Held.{Held}
 use Rattle.kl1_goals.specs.declared.goal.Goal.{Goal}
-use Rattle.kl1_goals.specs.Lists.{is_monitor, is_monitor_of, is_goal_of, is_other, is_flagged}
+use Rattle.kl1_goals.specs.Lists.{is_monitor, is_monitor_of, is_goal_of, is_other}
 use Rattle.kl1_shoen_paths.specs.declared.shoen.Shoen.{Shoen}
 use Rattle.kl1_shoen.specs.Shoens.{Tree, changed, path_in, lives_in, is_living_child_of, has_reached_in}
 use Rattle.kl1_shoen_paths.proofs.Paths.{path_zero}
 use Rattle.kl1_user_effects.specs.declared.draft.Draft.{Draft}
-use Rattle.kl1_user_effects.specs.Drafts.{without_monitors, goals_left, CanGoBack}
+use Rattle.kl1_user_effects.specs.Drafts.{is_of_any, without_monitors, goals_left, CanGoBack}
 use Rattle.kl1_user_effects.specs.Walks.{terminated, ends_in, ending_in, ended_in, reached_in, EndsOne, EndsLives}
 use Rattle.kl1_user_effects.specs.Kept.{AreShoensIn}
 use Rattle.kl1_user_effects.proofs.States.{shoens_changed}
@@ -43,37 +43,37 @@ any_without : (n : ℕ) (ns : List ℕ) (gs : List (Goal CellName)) → list_any
 any_without n [] gs = refl
 any_without n (m ∷ ns) gs = any_without n ns (filter (λ g. not (is_monitor_of m g)) gs) ∙ any_unmonitored n m gs
 
--- flags take all goals of a shoen away, or none
-all_flagged : (n : ℕ) (flags : List Bool) (gs : List (Goal CellName)) → get_or flags (n - 1) false ≡ true → list_any (is_goal_of n) (filter (λ g. not (is_flagged flags g)) gs) ≡ false
-all_flagged n flags [] e = refl
-all_flagged n flags (g ∷ gs) e = by_case (all_flagged n flags gs e) (is_flagged flags g) (g.shoen == n) refl refl
+-- an abort takes all goals of a shoen away, or none
+all_aborted : (n : ℕ) (aborted : List ℕ) (gs : List (Goal CellName)) → is_among n aborted ≡ true → list_any (is_goal_of n) (filter (λ g. not (is_of_any aborted g)) gs) ≡ false
+all_aborted n aborted [] e = refl
+all_aborted n aborted (g ∷ gs) e = by_case (all_aborted n aborted gs e) (is_of_any aborted g) (g.shoen == n) refl refl
   where
-    by_case : list_any (is_goal_of n) (filter (λ k. not (is_flagged flags k)) gs) ≡ false → (b c : Bool) → is_flagged flags g ≡ b → (g.shoen == n) ≡ c → list_any (is_goal_of n) (if not b then g ∷ filter (λ k. not (is_flagged flags k)) gs else filter (λ k. not (is_flagged flags k)) gs) ≡ false
+    by_case : list_any (is_goal_of n) (filter (λ k. not (is_of_any aborted k)) gs) ≡ false → (b c : Bool) → is_of_any aborted g ≡ b → (g.shoen == n) ≡ c → list_any (is_goal_of n) (if not b then g ∷ filter (λ k. not (is_of_any aborted k)) gs else filter (λ k. not (is_of_any aborted k)) gs) ≡ false
     by_case rest true c p q = rest
-    by_case rest false true p q = absurd (let same : is_flagged flags g ≡ true = ap (λ k. get_or flags (k - 1) false) (eqb-true g.shoen n q) ∙ e in cc)
-    by_case rest false false p q = ap (λ b. b && not (is_monitor g) || list_any (is_goal_of n) (filter (λ k. not (is_flagged flags k)) gs)) q ∙ rest
+    by_case rest false true p q = absurd (let same : is_of_any aborted g ≡ true = ap (λ k. is_among k aborted) (eqb-true g.shoen n q) ∙ e in cc)
+    by_case rest false false p q = ap (λ b. b && not (is_monitor g) || list_any (is_goal_of n) (filter (λ k. not (is_of_any aborted k)) gs)) q ∙ rest
 
-none_flagged : (n : ℕ) (flags : List Bool) (gs : List (Goal CellName)) → get_or flags (n - 1) false ≡ false → list_any (is_goal_of n) (filter (λ g. not (is_flagged flags g)) gs) ≡ list_any (is_goal_of n) gs
-none_flagged n flags [] e = refl
-none_flagged n flags (g ∷ gs) e =
-    keep_case (not (is_flagged flags g)) (is_goal_of n) g (filter (λ k. not (is_flagged flags k)) gs) (list_any (is_goal_of n) gs) (none_flagged n flags gs e)
+none_aborted : (n : ℕ) (aborted : List ℕ) (gs : List (Goal CellName)) → is_among n aborted ≡ false → list_any (is_goal_of n) (filter (λ g. not (is_of_any aborted g)) gs) ≡ list_any (is_goal_of n) gs
+none_aborted n aborted [] e = refl
+none_aborted n aborted (g ∷ gs) e =
+    keep_case (not (is_of_any aborted g)) (is_goal_of n) g (filter (λ k. not (is_of_any aborted k)) gs) (list_any (is_goal_of n) gs) (none_aborted n aborted gs e)
     (λ p. by_case (g.shoen == n) refl p)
   where
-    by_case : (c : Bool) → (g.shoen == n) ≡ c → not (is_flagged flags g) ≡ false → is_goal_of n g ≡ false
-    by_case true q p = absurd (let same : is_flagged flags g ≡ false = ap (λ k. get_or flags (k - 1) false) (eqb-true g.shoen n q) ∙ e in cc)
+    by_case : (c : Bool) → (g.shoen == n) ≡ c → not (is_of_any aborted g) ≡ false → is_goal_of n g ≡ false
+    by_case true q p = absurd (let same : is_of_any aborted g ≡ false = ap (λ k. is_among k aborted) (eqb-true g.shoen n q) ∙ e in cc)
     by_case false q p = ap (λ b. b && not (is_monitor g)) q
 
 -- an aborted shoen has no goal left
-pub aborted_has_none : (d : Draft) (n : ℕ) (gs : List (Goal CellName)) → get_or d.aborted.items (n - 1) false ≡ true → list_any (is_goal_of n) (goals_left gs d) ≡ false
+pub aborted_has_none : (d : Draft) (n : ℕ) (gs : List (Goal CellName)) → is_among n d.aborted.items ≡ true → list_any (is_goal_of n) (goals_left gs d) ≡ false
 aborted_has_none d n gs e =
-    any_without n d.ended.items (filter (λ g. not (is_flagged d.aborted.items g)) (filter (is_other d.removed) gs)) ∙ all_flagged n d.aborted.items (filter (is_other d.removed) gs) e
+    any_without n d.ended.items (filter (λ g. not (is_of_any d.aborted.items g)) (filter (is_other d.removed) gs)) ∙ all_aborted n d.aborted.items (filter (is_other d.removed) gs) e
 
 -- another has those that are left but for one
-pub others_have : (d : Draft) (n : ℕ) (goals added : List (Goal CellName)) → get_or d.aborted.items (n - 1) false ≡ false →
+pub others_have : (d : Draft) (n : ℕ) (goals added : List (Goal CellName)) → is_among n d.aborted.items ≡ false →
     list_any (is_goal_of n) (goals_left (goals ++ added) d) ≡ (list_any (is_goal_of n) (filter (is_other d.removed) goals) || list_any (is_goal_of n) (filter (is_other d.removed) added))
 others_have d n goals added e =
-    any_without n d.ended.items (filter (λ g. not (is_flagged d.aborted.items g)) (filter (is_other d.removed) (goals ++ added)))
-    ∙ none_flagged n d.aborted.items (filter (is_other d.removed) (goals ++ added)) e
+    any_without n d.ended.items (filter (λ g. not (is_of_any d.aborted.items g)) (filter (is_other d.removed) (goals ++ added)))
+    ∙ none_aborted n d.aborted.items (filter (is_other d.removed) (goals ++ added)) e
     ∙ ap (list_any (is_goal_of n)) (filter_append (is_other d.removed) goals added)
     ∙ any_append (is_goal_of n) (filter (is_other d.removed) goals) (filter (is_other d.removed) added)
 

@@ -11,13 +11,13 @@ use Rattle.kl1_model.specs.Ending.{without_monitor, ending_of, newly_exhausted, 
 use Rattle.kl1_text.specs.declared.cell_name.CellName.{CellName}
 use Rattle.kl1_store.specs.Held.{Held}
 use Rattle.kl1_goals.specs.declared.goal.Goal.{Goal}
-use Rattle.kl1_goals.specs.Lists.{is_flagged, is_other}
+use Rattle.kl1_goals.specs.Lists.{is_other}
 use Rattle.kl1_shoen.specs.Shoens.{Tree, path_in}
 use Rattle.kl1_codes.specs.Numbered.{Numbered}
 use Rattle.kl1_user_effects.specs.declared.draft.Draft.{Draft}
 use Rattle.kl1_user_effects.specs.Fitting.{Reading}
 use Rattle.kl1_user_effects.specs.Account.{meaning}
-use Rattle.kl1_user_effects.specs.Drafts.{staying, goals_left, made_of, Drafts, DraftsAll, CanGoBack}
+use Rattle.kl1_user_effects.specs.Drafts.{is_of_any, staying, goals_left, made_of, Drafts, DraftsAll, CanGoBack}
 use Rattle.kl1_user_effects.specs.Works.{Made, worked, IsMadeIn, Turns}
 use Rattle.kl1_user_effects.specs.Endings.{ended_each, finished, finished_each}
 use Rattle.kl1_user_effects.specs.Walks.{ended_in, reached_in, EndsLives}
@@ -50,7 +50,7 @@ drafts_unmonitored h t d e n more is ms goals names i =
     let T : Made → Type 0 = λ m. Turns ms (λ f. without_monitor n) h h w m in
     let R : List ℕ → Made = λ ns. record w { goals = staying d.removed d.aborted.items ns (goals ++ d.added.items) } in
     let same : record w { goals = filter (no_monitor n) w.goals } ≡ made_of goals names t e =
-    ap (λ (gs : List (Goal CellName)). let z : Made = record w { goals = gs } in z) (sym (one_more d.ended.items n (filter (λ g. not (is_flagged d.aborted.items g)) (filter (is_other d.removed) (goals ++ d.added.items)))))
+    ap (λ (gs : List (Goal CellName)). let z : Made = record w { goals = gs } in z) (sym (one_more d.ended.items n (filter (λ g. not (is_of_any d.aborted.items g)) (filter (is_other d.removed) (goals ++ d.added.items)))))
     ∙ ap R (sym more)
     ∙ ap (made_of goals names t) (sym is) in
     subst T same (unmonitored_turns ms h w n i)

@@ -10,11 +10,11 @@ use Rattle.kl1_store.specs.InModules.{qualified_list}
 use Rattle.kl1_goals.specs.declared.task.Task.{Task}
 use Rattle.kl1_goals.specs.declared.task.Task.TheVariants.{Monitor, Reduces, Substitutes}
 use Rattle.kl1_goals.specs.declared.goal.Goal.{Goal}
-use Rattle.kl1_goals.specs.Lists.{is_monitor_task, is_monitor_of, is_goal_of, is_other, is_flagged}
+use Rattle.kl1_goals.specs.Lists.{is_monitor_task, is_monitor_of, is_goal_of, is_other}
 use Rattle.kl1_user_effects.specs.Fitting.{Reading}
 use Rattle.kl1_user_effects.specs.Account.{Means, task_with, goal_with}
 use Rattle.kl1_user_effects.specs.Kept.{AreGoalsIn, AreOwned, AreUpTo}
-use Rattle.kl1_user_effects.specs.Drafts.{without_monitors, staying}
+use Rattle.kl1_user_effects.specs.Drafts.{is_of_any, without_monitors, staying}
 
 tests_same : (n : ℕ) (t : Means) (k : Task CellName) (b : Bool) → (b && model.is_monitor (task_with t k)) ≡ (b && is_monitor_task k)
 tests_same n t Monitor b = refl
@@ -131,8 +131,8 @@ pub one_more : (ns : List ℕ) (n : ℕ) (gs : List (Goal CellName)) → without
 one_more [] n gs = refl
 one_more (m ∷ ns) n gs = one_more ns n (filter (λ g. not (is_monitor_of m g)) gs)
 
--- without flags each goal stays
-pub all_stay : (gs : List (Goal CellName)) → filter (λ g. not (is_flagged [] g)) gs ≡ gs
+-- if no shoen was aborted each goal stays
+pub all_stay : (gs : List (Goal CellName)) → filter (λ g. not (is_of_any [] g)) gs ≡ gs
 all_stay [] = refl
 all_stay (g ∷ gs) = ap (λ (xs : List (Goal CellName)). g ∷ xs) (all_stay gs)
 
@@ -144,23 +144,23 @@ pub without_owned : (count : ℕ) (ns : List ℕ) (gs : List (Goal CellName)) �
 without_owned count [] gs i = i
 without_owned count (n ∷ ns) gs i = without_owned count ns (filter (λ g. not (is_monitor_of n g)) gs) (filter_owned count (λ g. not (is_monitor_of n g)) gs i)
 
-pub staying_in : (h : Held CellName) (removed : ℕ) (flags : List Bool) (ended : List ℕ) (gs : List (Goal CellName)) → AreGoalsIn h gs → AreGoalsIn h (staying removed flags ended gs)
-staying_in h removed flags ended gs i =
-    without_in h ended (filter (λ g. not (is_flagged flags g)) (filter (is_other removed) gs)) (filter_in h (λ g. not (is_flagged flags g)) (filter (is_other removed) gs) (filter_in h (is_other removed) gs i))
+pub staying_in : (h : Held CellName) (removed : ℕ) (aborted : List ℕ) (ended : List ℕ) (gs : List (Goal CellName)) → AreGoalsIn h gs → AreGoalsIn h (staying removed aborted ended gs)
+staying_in h removed aborted ended gs i =
+    without_in h ended (filter (λ g. not (is_of_any aborted g)) (filter (is_other removed) gs)) (filter_in h (λ g. not (is_of_any aborted g)) (filter (is_other removed) gs) (filter_in h (is_other removed) gs i))
 
-pub staying_owned : (count removed : ℕ) (flags : List Bool) (ended : List ℕ) (gs : List (Goal CellName)) → AreOwned count gs → AreOwned count (staying removed flags ended gs)
-staying_owned count removed flags ended gs i =
-    without_owned count ended (filter (λ g. not (is_flagged flags g)) (filter (is_other removed) gs)) (filter_owned count (λ g. not (is_flagged flags g)) (filter (is_other removed) gs) (filter_owned count (is_other removed) gs i))
+pub staying_owned : (count removed : ℕ) (aborted : List ℕ) (ended : List ℕ) (gs : List (Goal CellName)) → AreOwned count gs → AreOwned count (staying removed aborted ended gs)
+staying_owned count removed aborted ended gs i =
+    without_owned count ended (filter (λ g. not (is_of_any aborted g)) (filter (is_other removed) gs)) (filter_owned count (λ g. not (is_of_any aborted g)) (filter (is_other removed) gs) (filter_owned count (is_other removed) gs i))
 
--- goals of which some have flags, as they are read
-pub below_read : (t : Means) (p : ℕ → Bool) (flags : List Bool) (gs : List (Goal CellName)) → AllByRecursion (λ g. p g.shoen ≡ is_flagged flags g) gs → filter (λ g. not (p g.shoen)) (map (goal_with t) gs) ≡ map (goal_with t) (filter (λ g. not (is_flagged flags g)) gs)
-below_read t p flags [] a = refl
-below_read t p flags (g ∷ gs) a =
+-- goals of which some are of shoens that were aborted, as they are read
+pub below_read : (t : Means) (p : ℕ → Bool) (aborted : List ℕ) (gs : List (Goal CellName)) → AllByRecursion (λ g. p g.shoen ≡ is_of_any aborted g) gs → filter (λ g. not (p g.shoen)) (map (goal_with t) gs) ≡ map (goal_with t) (filter (λ g. not (is_of_any aborted g)) gs)
+below_read t p aborted [] a = refl
+below_read t p aborted (g ∷ gs) a =
     let rest = filter (λ g. not (p g.shoen)) (map (goal_with t) gs) in
-    ap (λ b. if not b then goal_with t g ∷ rest else rest) a.0 ∙ kept (not (is_flagged flags g)) (below_read t p flags gs a.1)
+    ap (λ b. if not b then goal_with t g ∷ rest else rest) a.0 ∙ kept (not (is_of_any aborted g)) (below_read t p aborted gs a.1)
   where
-    kept : (b : Bool) → filter (λ g. not (p g.shoen)) (map (goal_with t) gs) ≡ map (goal_with t) (filter (λ g. not (is_flagged flags g)) gs) →
+    kept : (b : Bool) → filter (λ g. not (p g.shoen)) (map (goal_with t) gs) ≡ map (goal_with t) (filter (λ g. not (is_of_any aborted g)) gs) →
         (if b then goal_with t g ∷ filter (λ g. not (p g.shoen)) (map (goal_with t) gs) else filter (λ g. not (p g.shoen)) (map (goal_with t) gs))
-        ≡ map (goal_with t) (if b then g ∷ filter (λ g. not (is_flagged flags g)) gs else filter (λ g. not (is_flagged flags g)) gs)
+        ≡ map (goal_with t) (if b then g ∷ filter (λ g. not (is_of_any aborted g)) gs else filter (λ g. not (is_of_any aborted g)) gs)
     kept true e = ap (λ (xs : List model.Goal). goal_with t g ∷ xs) e
     kept false e = e

@@ -22,7 +22,7 @@ use Rattle.kl1_goals_moves.specs.declared.order.ExecuteArguments.{ExecuteArgumen
 use Rattle.kl1_goals_moves.specs.Orders.{order_at, IsOrder}
 use Rattle.kl1_goals.specs.declared.task.Task.TheVariants.{Monitor}
 use Rattle.kl1_goals.specs.declared.goal.Goal.{Goal}
-use Rattle.kl1_goals.specs.Lists.{is_other, is_flagged}
+use Rattle.kl1_goals.specs.Lists.{is_other}
 use Rattle.kl1_shoen_paths.specs.declared.shoen.Shoen.{Shoen}
 use Rattle.kl1_shoen.specs.Shoens.{Tree, has_number, path_in}
 use Rattle.kl1_codes.specs.Numbered.{Numbered}
@@ -30,7 +30,7 @@ use Rattle.kl1_user_effects.specs.declared.draft.Draft.{Draft}
 use Rattle.kl1_user_effects.specs.Fitting.{Reading}
 use Rattle.kl1_user_effects.specs.Account.{meaning, goal_with, shoen_with, aim}
 use Rattle.kl1_user_effects.specs.Kept.{IsOwned, AreOwned, IsShoenIn, AreShoensIn}
-use Rattle.kl1_user_effects.specs.Drafts.{staying, goals_left, made_of, DraftsAll, HasBegun, two_for}
+use Rattle.kl1_user_effects.specs.Drafts.{is_of_any, staying, goals_left, made_of, DraftsAll, HasBegun, two_for}
 use Rattle.kl1_user_effects.specs.Moving.{OpensChild}
 use Rattle.kl1_user_effects.specs.Works.{Made, worked, IsMadeIn, Turns}
 use Rattle.kl1_user_effects.proofs.Works.{finds, turns_as}
@@ -52,7 +52,7 @@ above_stay n (g ∷ gs) a =
 pub early_left : (d : Draft) (gs : List (Goal CellName)) → HasBegun d → goals_left gs d ≡ filter (is_other d.removed) gs
 early_left d gs b =
     ap (λ (ns : List ℕ). staying d.removed d.aborted.items ns gs) b.ended
-    ∙ ap (λ (fs : List Bool). filter (λ g. not (is_flagged fs g)) (filter (is_other d.removed) gs)) b.aborted
+    ∙ ap (λ (ns : List ℕ). filter (λ g. not (is_of_any ns g)) (filter (is_other d.removed) gs)) b.aborted
     ∙ all_stay (filter (is_other d.removed) gs)
 
 -- goals that come more are put after the others

@@ -17,6 +17,7 @@ pub mod Walking
 pub mod Finishing
 pub mod TreesIn
 pub mod Effects
+pub mod Below
 pub mod Ends
 pub mod Joining
 pub mod Calling

@@ -1,6 +1,7 @@
 -- What a draft stands for.
 use Rattle.std.specs.Prelude.{◌≡◌, ℕ, suc, ◌≤◌, ◌==◌, not, Bool, true, false, if◌then◌else◌, List, [], ◌∷◌, ◌++◌, filter, map, Option, Some, None}
 use Rattle.kl1_model.specs.declared.limits.TheConstants.{MONITOR_PRIORITY}
+use Rattle.kl1_model.specs.Module.{is_among}
 use Rattle.kl1_model.specs.State.{State}
 use Rattle.kl1_text.specs.declared.cell_name.CellName.{CellName}
 use Rattle.kl1_store.specs.declared.cell.Cell.{Cell}
@@ -9,7 +10,7 @@ use Rattle.kl1_store.specs.Held.{Held}
 use Rattle.kl1_goals.specs.declared.task.Task.{Task}
 use Rattle.kl1_goals.specs.declared.task.Task.TheVariants.{Monitor, Reduces}
 use Rattle.kl1_goals.specs.declared.goal.Goal.{Goal}
-use Rattle.kl1_goals.specs.Lists.{is_other, is_monitor_of, is_flagged}
+use Rattle.kl1_goals.specs.Lists.{is_other, is_monitor_of}
 use Rattle.kl1_shoen.specs.Shoens.{Tree}
 use Rattle.kl1_codes.specs.Numbered.{Numbered}
 use Rattle.kl1_user_effects.specs.declared.draft.Draft.{Draft}
@@ -23,9 +24,13 @@ abbrev pub without_monitors : List ℕ → List (Goal CellName) → List (Goal C
 without_monitors [] goals = goals
 without_monitors (n ∷ ns) goals = without_monitors ns (filter (λ g. not (is_monitor_of n g)) goals)
 
--- goals that stay: not goal `removed`, none of the shoens that have a flag, and no monitor of these shoens
-abbrev pub staying : ℕ → List Bool → List ℕ → List (Goal CellName) → List (Goal CellName)
-staying removed flags ended goals = without_monitors ended (filter (λ g. not (is_flagged flags g)) (filter (is_other removed) goals))
+-- whether a goal, be it a monitor, is of one of these shoens
+abbrev pub is_of_any : List ℕ → Goal CellName → Bool
+is_of_any shoens g = is_among g.shoen shoens
+
+-- goals that stay: not goal `removed`, none of the shoens that were aborted, and no monitor of those that have ended
+abbrev pub staying : ℕ → List ℕ → List ℕ → List (Goal CellName) → List (Goal CellName)
+staying removed aborted ended goals = without_monitors ended (filter (λ g. not (is_of_any aborted g)) (filter (is_other removed) goals))
 
 -- the goals of an account that a draft leaves
 abbrev pub goals_left : List (Goal CellName) → Draft → List (Goal CellName)

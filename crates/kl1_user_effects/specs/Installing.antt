@@ -3,8 +3,9 @@ use Rattle.std.specs.Prelude.{◌≡◌, ℕ, ◌+◌, ◌<◌, ◌≤◌, Bool,
 use Rattle.kl1_model.specs.declared.rules.Rules.{Rules}
 use Rattle.kl1_text.specs.declared.cell_name.CellName.{CellName}
 use Rattle.kl1_goals.specs.declared.goal.Goal.{Goal}
-use Rattle.kl1_goals.specs.Lists.{enabled_by}
+use Rattle.kl1_goals.specs.Lists.{enabled_in}
 use Rattle.kl1_goals.specs.Tables.{IsNext}
+use Rattle.kl1_shoen.specs.declared.shift.Shift.{Shift}
 use Rattle.kl1_user_effects.specs.declared.draft.Draft.{Draft}
 use Rattle.kl1_user_effects.specs.Drafts.{goals_left, restood}
 
@@ -30,9 +31,14 @@ abbrev pub AreNext : List (Goal CellName) → ℕ → List (Goal CellName) → T
 AreNext goals shoens [] = Unit {0}
 AreNext goals shoens (g ∷ gs) = IsNext g goals shoens × AreNext (goals ++ g ∷ []) shoens gs
 
+-- goals after shifts, the first of them first: those of each shift's shoen may step, or are held back, as it says
+abbrev pub shifted_by : List Shift → List (Goal CellName) → List (Goal CellName)
+shifted_by [] goals = goals
+shifted_by (s ∷ shifts) goals = shifted_by shifts (map (enabled_in s.shoen s.is_enabled) goals)
+
 -- goals, let to step or held back as a draft has it, if that may be other than before
 abbrev pub shifted : Draft → List (Goal CellName) → List (Goal CellName)
-shifted d goals = if d.shifts then map (enabled_by d.enabled.items) goals else goals
+shifted d goals = if d.shifts then shifted_by d.enabled.items goals else goals
 
 -- the goals of an account with a draft in place: those that it leaves, after its changes, and those that come
 abbrev pub goals_after : List (Goal CellName) → Draft → List (Goal CellName)

@@ -3,6 +3,7 @@
 ghost use Rattle.std.specs.Prelude.{◌≡◌, []};
 
 use kl1_goals::{Goal, Rules};
+use kl1_shoen::Shift;
 use kl1_store::{Point, Qualified};
 use kl1_text::{AtomText, CellName};
 use std::alloc::Global;
@@ -30,8 +31,8 @@ pub struct Draft {
     pub rules: Rules,
     /// The number of the goal that goes, or 0.
     pub removed: u64,
-    /// Which shoens an abort ends, the first of them shoen 1: their goals and monitors go. Empty if nothing is aborted.
-    pub aborted: Vec<bool>,
+    /// The numbers of the shoens that an abort ends: their goals and monitors go.
+    pub aborted: Vec<u64>,
     /// The numbers of the shoens whose monitors go.
     pub ended: Vec<u64>,
     /// The goals that come after the others, in order of number.
@@ -50,8 +51,8 @@ pub struct Draft {
     pub spelled: Option<Spelled>,
     /// Whether goals that stay may be let or held back other than before.
     pub shifts: bool,
-    /// Which shoens let their goals step, the first of them shoen 1, if that may be other than before.
-    pub enabled: Vec<bool>,
+    /// The shoens that may let or hold back their goals other than before, each with whether it lets them step now.
+    pub enabled: Vec<Shift>,
     /// The goals that stay and can step by other clauses than before.
     pub changes: Vec<Change>,
     /// The numbers that were told of bindings.

@@ -1,6 +1,6 @@
 // Shoens that terminate, and those that have reached their allowance.
 
-ghost use Rattle.std.specs.Prelude.{◌≡◌, ◌≤◌, ◌+◌, length, ◌-◌, [], ◌∷◌, ◌++◌, not, ◌&&◌, true, false, if◌then◌else◌, List, ℕ, filter, get_or, OnOk};
+ghost use Rattle.std.specs.Prelude.{◌≡◌, ◌≤◌, ◌+◌, length, ◌-◌, [], ◌∷◌, ◌++◌, not, ◌&&◌, true, false, if◌then◌else◌, List, ℕ, filter, OnOk};
 ghost use Rattle.std.specs.List.{list_any};
 ghost use Rattle.kl1_model.specs.Ending.{settle, after_reduction};
 ghost use Rattle.kl1_model.specs.Module.{is_among};
@@ -54,13 +54,14 @@ fn is_any_added(draft: &Draft, number: u64) -> bool
     false
 }
 
-/// Whether a draft aborts shoen `number`.
-fn is_aborted(draft: &Draft, number: u64) -> bool
-    ensures { result ≡ get_or draft.now.aborted.items (number - 1) false }
+/// Whether a number is among others.
+fn is_among(numbers: &[u64], number: u64) -> bool
+    ensures { result ≡ is_among number numbers.now }
 {
-    let place = number.saturating_sub(1) as usize;
-    if place < draft.aborted.len() {
-        return draft.aborted[place];
+    for other in numbers {
+        if number == *other {
+            return true;
+        }
     }
     false
 }
@@ -69,7 +70,7 @@ fn is_aborted(draft: &Draft, number: u64) -> bool
 fn has_goal(goals: &GoalTable<CellName>, draft: &Draft, number: u64) -> bool
     ensures { result ≡ list_any (is_goal_of number) (goals_left (goals.now.goals ++ draft.now.added.items) draft.now) }
 {
-    if is_aborted(draft, number) {
+    if is_among(&draft.aborted, number) {
         return false;
     }
     if is_any_added(draft, number) {
@@ -163,18 +164,6 @@ pub fn end_lives(
         at = step.up;
     }
     Ok(())
-}
-
-/// Whether a number is among others.
-fn is_among(numbers: &[u64], number: u64) -> bool
-    ensures { result ≡ is_among number numbers.now }
-{
-    for other in numbers {
-        if number == *other {
-            return true;
-        }
-    }
-    false
 }
 
 /// Puts the number of a shoen down, if it was charged just what it may be and doesn't end.

@@ -1,17 +1,16 @@
 // Changes of shoens.
 
-ghost use Rattle.std.specs.Prelude.{◌≡◌, ◌<◌, ◌≤◌, ◌+◌, ◌&&◌, if◌then◌else◌, min, map, length, get_or, set, option_map, true, OnOk, OnErr, find};
+ghost use Rattle.std.specs.Prelude.{◌≡◌, ◌<◌, ◌≤◌, ◌+◌, map, option_map, true, OnOk, OnErr};
 ghost use Rattle.kl1_model.specs.Reduction.{grown};
-ghost use Rattle.kl1_model.specs.State.{is_living as living};
-ghost use Rattle.kl1_model.specs.declared.life.Life.TheVariants.{Aborted};
+ghost use Rattle.kl1_shoen_paths.specs.Below.{AreLinked};
 ghost use Rattle.kl1_shoen.specs.Shoens.{has_number, changed, aborted_below_in, parents_in, AreNumbered, AreLower};
 ghost use Rattle.kl1_shoen.specs.Changes.{changed_by, with_control};
 
 use crate::change::{Change, changed};
-use crate::counted::{CountedShoens, is_living};
+use crate::counted::CountedShoens;
 use crate::tree::ShoenTree;
 use kl1_model::Life;
-use kl1_shoen_paths::{Shoen, lent, tell_below};
+use kl1_shoen_paths::{ChildLists, lent};
 use kl1_store::Cell;
 use kl1_text::NameValue;
 use std::alloc::AllocError;
@@ -87,7 +86,7 @@ impl<N: NameValue> ShoenTree<N> {
         ensures ok { OnOk result (self.new ≡ record self.old { shoens = map (aborted_below_in self.old.shoens number) self.old.shoens }) }
         ensures err { OnErr result (self.new ≡ self.old) }
     {
-        abort_all(&mut self.shoens, number, &mut self.are_below)?;
+        abort_all(&mut self.shoens, &self.links, number, &mut self.below)?;
         Ok(())
     }
 }
@@ -106,22 +105,38 @@ fn change_one<N: NameValue>(
     ensures numbered { AreNumbered 0 shoens.new.now }
     ensures parents { parents_in shoens.new.now ≡ parents_in shoens.old.now }
 {
-    let Some(shoen) = lent(shoens.items(), number).copied() else {
-        return Ok(());
-    };
     shoens.reserve_changes(1)?;
-    shoens.put((number - 1) as usize, changed(shoen, change));
+    change_reserved(shoens, number, change);
     Ok(())
 }
 
-/// Ends a shoen and all below it that live, as aborted.
+/// Changes shoen `number`, if there is one, without memory.
+fn change_reserved<N: NameValue>(shoens: &mut CountedShoens<N>, number: u64, change: Change<N>)
+    requires numbered { AreNumbered 0 shoens.old.now }
+    requires changes { 0 < shoens.old.changes }
+    ensures now { shoens.new.now ≡ changed number (changed_by change) shoens.old.now }
+    ensures kept { shoens.new.kept ≡ shoens.old.kept }
+    ensures room { shoens.new.room ≡ shoens.old.room }
+    ensures changes { shoens.old.changes ≤ shoens.new.changes + 1 }
+    ensures numbered { AreNumbered 0 shoens.new.now }
+    ensures parents { parents_in shoens.new.now ≡ parents_in shoens.old.now }
+{
+    let Some(shoen) = lent(shoens.items(), number).copied() else {
+        return;
+    };
+    shoens.put((number - 1) as usize, changed(shoen, change));
+}
+
+/// Ends a shoen and all below it that live, as aborted, with a list that it may write.
 fn abort_all<N: NameValue>(
     shoens: &mut CountedShoens<N>,
+    links: &ChildLists,
     number: u64,
-    are_below: &mut Vec<bool>,
+    below: &mut Vec<u64>,
 ) -> Result<(), AllocError>
     requires numbered { AreNumbered 0 shoens.old.now }
     requires lower { AreLower shoens.old.now }
+    requires linked { AreLinked (parents_in shoens.old.now) links.now.first links.now.next }
     ensures ok { OnOk result (shoens.new.now ≡ map (aborted_below_in shoens.old.now number) shoens.old.now) }
     ensures err { OnErr result (shoens.new.now ≡ shoens.old.now) }
     ensures kept { shoens.new.kept ≡ shoens.old.kept }
@@ -129,40 +144,10 @@ fn abort_all<N: NameValue>(
     ensures numbered { AreNumbered 0 shoens.new.now }
     ensures parents { parents_in shoens.new.now ≡ parents_in shoens.old.now }
 {
-    tell_below(shoens.items(), number, are_below)?;
-    shoens.reserve_changes(shoens.items().len())?;
-    for place in 0..shoens.items().len() {
-        let shoen = shoens.items()[place];
-        abort_at(shoens, place, shoen, are_below[place]);
+    links.below(shoens.items(), number, below)?;
+    shoens.reserve_changes(below.len())?;
+    while let Some(last) = below.pop() {
+        change_reserved(shoens, last, Change::Aborts);
     }
     Ok(())
-}
-
-/// Ends the shoen at a place as aborted, if it lives and is the one that is aborted, or below that.
-#[tactic(auto, using(crate::proofs::Counting::got_any, crate::proofs::Counting::put_itself))]
-fn abort_at<N: NameValue>(
-    shoens: &mut CountedShoens<N>,
-    place: usize,
-    shoen: Shoen<N>,
-    is_below: bool,
-)
-    requires place { place < length shoens.old.now }
-    requires shoen { shoen ≡ get_or shoens.old.now place shoen }
-    requires changes { 0 < shoens.old.changes }
-    ensures now { shoens.new.now ≡ set shoens.old.now place (if living shoen.life && is_below then record shoen { life = Aborted } else shoen) }
-    ensures kept { shoens.new.kept ≡ shoens.old.kept }
-    ensures room { shoens.new.room ≡ shoens.old.room }
-    ensures changes { shoens.old.changes ≤ shoens.new.changes + 1 }
-{
-    if !is_living(shoen.life) {
-        return;
-    }
-    if !is_below {
-        return;
-    }
-    let aborted = Shoen {
-        life: Life::Aborted,
-        ..shoen
-    };
-    shoens.put(place, aborted);
 }

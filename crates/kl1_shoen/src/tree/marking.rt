@@ -12,6 +12,7 @@ impl<N: NameValue> ShoenTree<N> {
     {
         self.shoens.begin();
         self.charges.begin();
+        self.links.begin();
         self.kept_work = self.work.same();
     }
 
@@ -25,6 +26,7 @@ impl<N: NameValue> ShoenTree<N> {
     {
         self.shoens.back();
         self.charges.back();
+        self.links.back();
         self.work = self.kept_work.same();
     }
 }

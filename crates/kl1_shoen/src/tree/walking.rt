@@ -1,11 +1,10 @@
 // Paths.
 
-ghost use Rattle.std.specs.Prelude.{◌≡◌, length, map, OnOk};
+ghost use Rattle.std.specs.Prelude.{◌≡◌, length, OnOk};
 ghost use Rattle.std.specs.List.{list_any};
-ghost use Rattle.kl1_shoen.specs.Shoens.{path_in, is_on_path_in, is_living_child_of};
+ghost use Rattle.kl1_shoen.specs.Shoens.{path_in, is_living_child_of, AreBelow};
 
 use crate::tree::ShoenTree;
-use kl1_shoen_paths::tell_below;
 use kl1_text::NameValue;
 use std::alloc::AllocError;
 
@@ -33,12 +32,12 @@ impl<N: NameValue> ShoenTree<N> {
         self.shoens.has_living_child(number)
     }
 
-    /// Whether each shoen is shoen `number`, or below it, in order of number.
-    pub fn below(&self, number: u64, out: &mut Vec<bool>) -> Result<(), AllocError>
-        ensures { OnOk result (out.new.items ≡ map (λ h. is_on_path_in self.now.shoens number h.number) self.now.shoens) }
+    /// Writes the numbers of shoen `number` and of all below it, each once.
+    pub fn below(&self, number: u64, out: &mut Vec<u64>) -> Result<(), AllocError>
+        ensures { OnOk result (AreBelow self.now.shoens number out.new.items) }
     {
         // Only for the proof: parents have lower numbers.
         let _lower = self.len();
-        tell_below(self.shoens.items(), number, out)
+        self.links.below(self.shoens.items(), number, out)
     }
 }

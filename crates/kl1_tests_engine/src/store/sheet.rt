@@ -8,12 +8,11 @@ use kl1_store::{Cell, Store};
 use kl1_tests_rows::cut;
 use std::alloc::{AllocError, Global};
 
-/// A store, the cells that an act is on, the names of the last act that gave names others' places, and the numbers that were told last.
+/// A store, the cells that an act is on, and the numbers that were told last.
 #[derive(Drop)]
 pub struct Sheet<N: Written> {
     store: Store<N>,
     cells: Vec<Cell<N>>,
-    names: Vec<N>,
     told: Vec<u64>,
 }
 
@@ -27,7 +26,7 @@ enum Way {
     Room,
     /// It looks at something.
     See,
-    /// Names take the places of others in what it makes.
+    /// Names become others in what it makes.
     Renamed,
     /// It is on a report stream.
     Stream,
@@ -69,7 +68,6 @@ impl<N: Written> Sheet<N> {
         Sheet {
             store: Store::new(alloc),
             cells: Vec::new(alloc),
-            names: Vec::new(alloc),
             told: Vec::new(alloc),
         }
     }
@@ -90,7 +88,7 @@ impl<N: Written> Sheet<N> {
             Way::Back => undone::answer(&mut self.store, letter, cells),
             Way::Room => rooms::answer(&mut self.store, cells),
             Way::See => Ok(views::answer(&self.store, self.told.as_slice(), letter, cells)),
-            Way::Renamed => renamed::answer(&mut self.store, &mut self.names, cells),
+            Way::Renamed => renamed::answer(&mut self.store, cells),
             Way::Stream => streams::answer(&mut self.store, letter, cells),
             Way::Control => controls::answer(&mut self.store, letter, cells),
             Way::Plain => acts::answer(&mut self.store, &mut self.told, letter, cells),

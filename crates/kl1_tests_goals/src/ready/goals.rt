@@ -24,7 +24,7 @@ fn monitor(number: u64, shoen: u64) -> Goal<AtomNo>
 }
 
 /// A goal of a shoen with a priority, whose term is an integer.
-fn goal(number: u64, shoen: u64, priority: u64, term: i64) -> Goal<AtomNo>
+pub(crate) fn goal(number: u64, shoen: u64, priority: u64, term: i64) -> Goal<AtomNo>
     ensures { result ≡ record { number = number; task = Reduces (record { module_name = None; cell = Integer term }); shoen = shoen; priority = priority; standing = None; is_enabled = true } }
 {
     Goal {
@@ -122,7 +122,7 @@ pub fn goals_are_found(alloc: Global) -> Result<bool, AllocError> {
 }
 
 /// Whether this goal goes first, by this clause.
-fn is_first(table: &GoalTable<AtomNo>, number: u64, clause: u64) -> bool {
+pub(crate) fn is_first(table: &GoalTable<AtomNo>, number: u64, clause: u64) -> bool {
     match table.pick() {
         None => false,
         Some(first) => table.is_any_ready() && first.0 == number && first.1 == clause,
@@ -130,7 +130,7 @@ fn is_first(table: &GoalTable<AtomNo>, number: u64, clause: u64) -> bool {
 }
 
 /// Whether no goal can step.
-fn is_quiet(table: &GoalTable<AtomNo>) -> bool {
+pub(crate) fn is_quiet(table: &GoalTable<AtomNo>) -> bool {
     table.pick().is_none() && !table.is_any_ready()
 }
 
@@ -179,41 +179,45 @@ pub fn ends_of_shoens_are_seen(alloc: Global) -> Result<bool, AllocError> {
     Ok(before & one & none & monitor & removed)
 }
 
-/// Whether goals of shoens whose flags aren't set can't step until they are, and monitors can.
-pub fn goals_wait_for_flags(alloc: Global) -> Result<bool, AllocError> {
+/// Whether goals of a shoen can't step until they are let, and monitors can.
+pub fn goals_wait_until_they_are_let(alloc: Global) -> Result<bool, AllocError> {
     let mut table = filled(alloc)?;
     table.set_standing(2, Some(3));
     table.set_standing(7, Some(1));
     let all = is_first(&table, 7, 1);
-    table.set_enabled(&[true, false]);
+    table.enable(2, false);
     let one = is_first(&table, 2, 3);
     table.set_standing(5, Some(1));
     let monitor = is_first(&table, 5, 1);
     table.set_standing(5, None);
-    table.set_enabled(&[false]);
+    table.enable(1, false);
     let none = is_quiet(&table);
     table.set_standing(4, Some(2));
     let held = is_quiet(&table);
-    table.set_enabled(&[true, true, true]);
+    table.enable(1, true);
+    table.enable(2, true);
+    table.enable(3, true);
     let back = is_first(&table, 4, 2);
     Ok(all & one & monitor & none & held & back)
 }
 
-/// Whether goals of shoens whose flags are set are counted without monitors, and removed with them.
-pub fn goals_of_flags_are_removed(alloc: Global) -> Result<bool, AllocError> {
+/// Whether goals of a shoen are counted without its monitor, and removed with it.
+pub fn goals_of_a_shoen_are_removed(alloc: Global) -> Result<bool, AllocError> {
     let mut table = filled(alloc)?;
-    let two = table.count_below(&[true, false, true]) == 2;
-    let one = table.count_below(&[false, true]) == 1;
-    let counts = (table.alive() == 3) & two & one & (table.count_below(&[]) == 0);
+    let two = (table.count(1) == 2) & (table.count(3) == 0);
+    let one = table.count(2) == 1;
+    let unknown = (table.count(0) == 0) & (table.count(4) == 0);
+    let counts = (table.alive() == 3) & two & one & unknown;
     table.set_standing(4, Some(2));
     table.set_standing(7, Some(1));
-    table.remove_below(&[true, false, true]);
+    table.remove_all(1);
+    table.remove_all(3);
     let left = is_monitor(table.after(0), 5, 2)
         & is_goal(table.after(5), 7, 2, 30, 70)
         & table.after(7).is_none();
     let first = is_first(&table, 7, 1);
     let known = (table.shoens() == 3) & (table.alive() == 1);
-    table.remove_below(&[false, true]);
+    table.remove_all(2);
     let none = table.after(0).is_none() & (table.alive() == 0) & is_quiet(&table);
     Ok(counts & left & first & known & none)
 }

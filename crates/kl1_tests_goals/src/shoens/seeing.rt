@@ -2,7 +2,7 @@
 
 use crate::shoens::words::{Act, Word};
 use kl1_model::Life;
-use kl1_shoen::{Origin, Shoen, ShoenTree};
+use kl1_shoen::{Origin, Shift, Shoen, ShoenTree};
 use kl1_store::Cell;
 use kl1_tests_rows::Text;
 use kl1_text::AtomNo;
@@ -67,12 +67,45 @@ fn put_enabled(told: &mut Text, tree: &ShoenTree<AtomNo>) {
     put_flags(told, flags.as_slice());
 }
 
-/// Puts whether each shoen is below shoen `number`.
+/// How often a number stands in a list, at most 9 times.
+fn count_of(numbers: &[u64], wanted: u64) -> u64 {
+    let mut count = 0;
+    for number in numbers {
+        if *number == wanted && count < 9 {
+            count += 1;
+        }
+    }
+    count
+}
+
+/// Puts for each shoen how often it is among those below shoen `number`.
 fn put_below(told: &mut Text, tree: &ShoenTree<AtomNo>, number: u64) {
-    let mut flags = Vec::new(told.alloc);
-    let done = tree.below(number, &mut flags);
+    let mut below = Vec::new(told.alloc);
+    let done = tree.below(number, &mut below);
     told.note(done);
-    put_flags(told, flags.as_slice());
+    for place in 0..tree.len() {
+        told.put_number(count_of(below.as_slice(), place + 1));
+    }
+}
+
+/// What is told of a shoen, first: `-` if nothing is.
+fn told_of(shifts: &[Shift], wanted: u64) -> &'static [u8] {
+    for shift in shifts {
+        if shift.shoen == wanted {
+            return if shift.is_enabled { b"1" } else { b"0" };
+        }
+    }
+    b"-"
+}
+
+/// Puts for each shoen whether its goals are enabled, if something is told of it.
+fn put_shifts(told: &mut Text, tree: &ShoenTree<AtomNo>) {
+    let mut shifts = Vec::new(told.alloc);
+    let done = tree.shifts(&mut shifts);
+    told.note(done);
+    for place in 0..tree.len() {
+        told.put(told_of(shifts.as_slice(), place + 1));
+    }
 }
 
 /// Puts what an act asks of a tree.
@@ -88,6 +121,7 @@ fn put_asked(told: &mut Text, tree: &ShoenTree<AtomNo>, act: Act) {
         Word::Parent => told.put_number(tree.parent(act.first)),
         Word::Flags => put_enabled(told, tree),
         Word::Below => put_below(told, tree, act.first),
+        Word::Shifts => put_shifts(told, tree),
         _ => told.fail(),
     }
 }

@@ -53,12 +53,14 @@ pub enum Word {
     Parent,
     /// for each shoen whether its goals are enabled,
     Flags,
-    /// and for each shoen whether it is below one.
+    /// for each shoen how often it is among those below one,
     Below,
+    /// and for each shoen what is told of a shift.
+    Shifts,
 }
 
 /// The words by their names.
-const WORDS: [(&[u8], Word); 24] = [
+const WORDS: [(&[u8], Word); 25] = [
     (b"open", Word::Open),
     (b"charge", Word::Charge),
     (b"begin", Word::Begin),
@@ -83,6 +85,7 @@ const WORDS: [(&[u8], Word); 24] = [
     (b"parent", Word::Parent),
     (b"flags", Word::Flags),
     (b"below", Word::Below),
+    (b"shifts", Word::Shifts),
 ];
 
 /// The word of this name.

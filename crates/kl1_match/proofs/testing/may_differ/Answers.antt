@@ -5,21 +5,21 @@ use Rattle.kl1_match.specs.Passing.{Passes}
 use Rattle.kl1_match.proofs.TestSteps.{other_clashes, other_agrees, other_waits}
 use Rattle.kl1_match.proofs.testing.may_differ.Goals as goal
 
-pub returns-in-Same : goal.returns-in-Same
-returns-in-Same g c =
+pub returns-in-Same-clause-may : goal.returns-in-Same-clause-may
+returns-in-Same-clause-may g c =
     let t = tests_of c.args.view.now in
     let P : Passed → Type 0 = λ v. Passes g.N.NameValue.built t c.args.left c.args.right c.args.awaited.now.items c.compare_terms.new.awaited.items v in
-    other_clashes g.N.NameValue.built t c.args.left c.args.right c.args.awaited.now.items c.compare_terms.new.awaited.items (subst P c.in-Same.is c.in_ok-compare_terms.ensures)
+    other_clashes g.N.NameValue.built t c.args.left c.args.right c.args.awaited.now.items c.compare_terms.new.awaited.items (subst P c.in-Same.is c.in_ok-compare_terms.ensures.passes)
 
-pub returns-in-Differs : goal.returns-in-Differs
-returns-in-Differs g c =
+pub returns-in-Differs-clause-may : goal.returns-in-Differs-clause-may
+returns-in-Differs-clause-may g c =
     let t = tests_of c.args.view.now in
     let P : Passed → Type 0 = λ v. Passes g.N.NameValue.built t c.args.left c.args.right c.args.awaited.now.items c.compare_terms.new.awaited.items v in
     other_agrees g.N.NameValue.built t c.args.left c.args.right c.args.awaited.now.items c.compare_terms.new.awaited.items c.truncate.new.self.items c.len-before.result (omega (arith, c.len-before.ensures, c.args.awaited.now.ok.0)) c.truncate.ensures.items
-    (subst P c.in-Differs.is c.in_ok-compare_terms.ensures)
+    (subst P c.in-Differs.is c.in_ok-compare_terms.ensures.passes)
 
-pub returns-in-Unknown : goal.returns-in-Unknown
-returns-in-Unknown g c =
+pub returns-in-Unknown-clause-may : goal.returns-in-Unknown-clause-may
+returns-in-Unknown-clause-may g c =
     let t = tests_of c.args.view.now in
     let P : Passed → Type 0 = λ v. Passes g.N.NameValue.built t c.args.left c.args.right c.args.awaited.now.items c.compare_terms.new.awaited.items v in
-    other_waits g.N.NameValue.built t c.args.left c.args.right c.args.awaited.now.items c.compare_terms.new.awaited.items (subst P c.in-Unknown.is c.in_ok-compare_terms.ensures)
+    other_waits g.N.NameValue.built t c.args.left c.args.right c.args.awaited.now.items c.compare_terms.new.awaited.items (subst P c.in-Unknown.is c.in_ok-compare_terms.ensures.passes)

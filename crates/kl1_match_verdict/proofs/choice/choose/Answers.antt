@@ -17,37 +17,41 @@ pub returns-then-is_past : goal.returns-then-is_past
 returns-then-is_past g c =
     let x = c.nth-clause.result.now in
     section_ended g.N.NameValue.built c.args.names.now c.args.clauses.now c.args.store.now.held c.args.goal c.args.awaited.now.items c.loop-tried.awaited.items c.loop-tried.tried c.loop-tried.waiting x
-    c.loop-tried-test.true (sym (ap (λ (k : CompiledClause). is_past c.loop-tried.waiting k.section) c.nth-clause.ensures) ∙ (sym c.is_past.ensures ∙ c.if-is_past.true)) c.loop-tried.invariant
+    c.loop-tried-test.true (sym (ap (λ (k : CompiledClause). is_past c.loop-tried.waiting k.section) c.nth-clause.ensures) ∙ (sym c.is_past.ensures ∙ c.if-is_past.true)) c.loop-tried.invariant.1
 
 pub returns-in-Accepts : goal.returns-in-Accepts
 returns-in-Accepts g c =
     let x = c.nth-clause.result.now in
-    let P : CompiledClause → Type 0 = λ k. IsVerdict g.N.NameValue.built c.args.names.now k c.args.store.now.held c.args.goal c.in_ok-judge.ensures.taken c.loop-tried.awaited.items c.judge.new.awaited.items c.in_ok-judge.field-0 in
-    let Q : Verdict → Type 0 = λ v. IsVerdict g.N.NameValue.built c.args.names.now (get_or c.args.clauses.now c.loop-tried.tried x) c.args.store.now.held c.args.goal c.in_ok-judge.ensures.taken c.loop-tried.awaited.items c.judge.new.awaited.items v in
-    accepted_there g.N.NameValue.built c.args.names.now c.args.clauses.now c.args.store.now.held c.args.goal c.args.awaited.now.items c.loop-tried.awaited.items c.judge.new.awaited.items c.loop-tried.tried c.loop-tried.waiting x c.in_ok-judge.ensures.taken
-    c.loop-tried-test.true (sym (ap (λ (k : CompiledClause). is_past c.loop-tried.waiting k.section) c.nth-clause.ensures) ∙ (sym c.is_past.ensures ∙ c.if-is_past.false)) c.loop-tried.invariant (subst Q c.in-Accepts.is (subst P c.nth-clause.ensures c.in_ok-judge.ensures.holds))
+    let P : CompiledClause → Type 0 = λ k. IsVerdict g.N.NameValue.built c.args.names.now k c.args.store.now.held c.args.goal c.in_ok-judge.ensures.judged.taken c.loop-tried.awaited.items c.judge.new.awaited.items c.in_ok-judge.field-0 in
+    let Q : Verdict → Type 0 = λ v. IsVerdict g.N.NameValue.built c.args.names.now (get_or c.args.clauses.now c.loop-tried.tried x) c.args.store.now.held c.args.goal c.in_ok-judge.ensures.judged.taken c.loop-tried.awaited.items c.judge.new.awaited.items v in
+    accepted_there g.N.NameValue.built c.args.names.now c.args.clauses.now c.args.store.now.held c.args.goal c.args.awaited.now.items c.loop-tried.awaited.items c.judge.new.awaited.items c.loop-tried.tried c.loop-tried.waiting x c.in_ok-judge.ensures.judged.taken
+    c.loop-tried-test.true (sym (ap (λ (k : CompiledClause). is_past c.loop-tried.waiting k.section) c.nth-clause.ensures) ∙ (sym c.is_past.ensures ∙ c.if-is_past.false)) c.loop-tried.invariant.1 (subst Q c.in-Accepts.is (subst P c.nth-clause.ensures c.in_ok-judge.ensures.judged.holds))
 
 pub loop-tried-preserved-in-Rejects : goal.loop-tried-preserved-in-Rejects
 loop-tried-preserved-in-Rejects g c =
     let x = c.nth-clause.result.now in
-    let P : CompiledClause → Type 0 = λ k. IsVerdict g.N.NameValue.built c.args.names.now k c.args.store.now.held c.args.goal c.in_ok-judge.ensures.taken c.loop-tried.awaited.items c.judge.new.awaited.items c.in_ok-judge.field-0 in
-    let Q : Verdict → Type 0 = λ v. IsVerdict g.N.NameValue.built c.args.names.now (get_or c.args.clauses.now c.loop-tried.tried x) c.args.store.now.held c.args.goal c.in_ok-judge.ensures.taken c.loop-tried.awaited.items c.judge.new.awaited.items v in
-    rejected_there g.N.NameValue.built c.args.names.now c.args.clauses.now c.args.store.now.held c.args.goal c.args.awaited.now.items c.loop-tried.awaited.items c.judge.new.awaited.items c.loop-tried.tried c.loop-tried.waiting x c.in_ok-judge.ensures.taken
-    c.loop-tried-test.true (sym (ap (λ (k : CompiledClause). is_past c.loop-tried.waiting k.section) c.nth-clause.ensures) ∙ (sym c.is_past.ensures ∙ c.if-is_past.false)) c.loop-tried.invariant (subst Q c.in-Rejects.is (subst P c.nth-clause.ensures c.in_ok-judge.ensures.holds))
+    let P : CompiledClause → Type 0 = λ k. IsVerdict g.N.NameValue.built c.args.names.now k c.args.store.now.held c.args.goal c.in_ok-judge.ensures.judged.taken c.loop-tried.awaited.items c.judge.new.awaited.items c.in_ok-judge.field-0 in
+    let Q : Verdict → Type 0 = λ v. IsVerdict g.N.NameValue.built c.args.names.now (get_or c.args.clauses.now c.loop-tried.tried x) c.args.store.now.held c.args.goal c.in_ok-judge.ensures.judged.taken c.loop-tried.awaited.items c.judge.new.awaited.items v in (
+      c.in_ok-judge.ensures.remembers,
+      rejected_there g.N.NameValue.built c.args.names.now c.args.clauses.now c.args.store.now.held c.args.goal c.args.awaited.now.items c.loop-tried.awaited.items c.judge.new.awaited.items c.loop-tried.tried c.loop-tried.waiting x c.in_ok-judge.ensures.judged.taken
+          c.loop-tried-test.true (sym (ap (λ (k : CompiledClause). is_past c.loop-tried.waiting k.section) c.nth-clause.ensures) ∙ (sym c.is_past.ensures ∙ c.if-is_past.false)) c.loop-tried.invariant.1 (subst Q c.in-Rejects.is (subst P c.nth-clause.ensures c.in_ok-judge.ensures.judged.holds)),
+    )
 
 pub loop-tried-preserved : goal.loop-tried-preserved
 loop-tried-preserved g c =
     let x = c.nth-clause.result.now in
-    let P : CompiledClause → Type 0 = λ k. IsVerdict g.N.NameValue.built c.args.names.now k c.args.store.now.held c.args.goal c.in_ok-judge.ensures.taken c.loop-tried.awaited.items c.judge.new.awaited.items c.in_ok-judge.field-0 in
-    let Q : Verdict → Type 0 = λ v. IsVerdict g.N.NameValue.built c.args.names.now (get_or c.args.clauses.now c.loop-tried.tried x) c.args.store.now.held c.args.goal c.in_ok-judge.ensures.taken c.loop-tried.awaited.items c.judge.new.awaited.items v in
-    let R : CompiledClause → Type 0 = λ k. ChoosesFrom g.N.NameValue.built c.args.names.now c.args.clauses.now c.args.store.now.held c.args.goal c.args.awaited.now.items c.judge.new.awaited.items (c.loop-tried.tried + 1) (Some k.section) in
-    subst R (sym c.nth-clause.ensures) (suspended_there g.N.NameValue.built c.args.names.now c.args.clauses.now c.args.store.now.held c.args.goal c.args.awaited.now.items c.loop-tried.awaited.items c.judge.new.awaited.items c.loop-tried.tried c.loop-tried.waiting x c.in_ok-judge.ensures.taken
-    c.loop-tried-test.true (sym (ap (λ (k : CompiledClause). is_past c.loop-tried.waiting k.section) c.nth-clause.ensures) ∙ (sym c.is_past.ensures ∙ c.if-is_past.false)) c.loop-tried.invariant (subst Q c.in-Suspends.is (subst P c.nth-clause.ensures c.in_ok-judge.ensures.holds)))
+    let P : CompiledClause → Type 0 = λ k. IsVerdict g.N.NameValue.built c.args.names.now k c.args.store.now.held c.args.goal c.in_ok-judge.ensures.judged.taken c.loop-tried.awaited.items c.judge.new.awaited.items c.in_ok-judge.field-0 in
+    let Q : Verdict → Type 0 = λ v. IsVerdict g.N.NameValue.built c.args.names.now (get_or c.args.clauses.now c.loop-tried.tried x) c.args.store.now.held c.args.goal c.in_ok-judge.ensures.judged.taken c.loop-tried.awaited.items c.judge.new.awaited.items v in
+    let R : CompiledClause → Type 0 = λ k. ChoosesFrom g.N.NameValue.built c.args.names.now c.args.clauses.now c.args.store.now.held c.args.goal c.args.awaited.now.items c.judge.new.awaited.items (c.loop-tried.tried + 1) (Some k.section) in (
+      c.in_ok-judge.ensures.remembers,
+      subst R (sym c.nth-clause.ensures) (suspended_there g.N.NameValue.built c.args.names.now c.args.clauses.now c.args.store.now.held c.args.goal c.args.awaited.now.items c.loop-tried.awaited.items c.judge.new.awaited.items c.loop-tried.tried c.loop-tried.waiting x c.in_ok-judge.ensures.judged.taken
+          c.loop-tried-test.true (sym (ap (λ (k : CompiledClause). is_past c.loop-tried.waiting k.section) c.nth-clause.ensures) ∙ (sym c.is_past.ensures ∙ c.if-is_past.false)) c.loop-tried.invariant.1 (subst Q c.in-Suspends.is (subst P c.nth-clause.ensures c.in_ok-judge.ensures.judged.holds))),
+    )
 
 pub returns : goal.returns
 returns g c =
     let P : Option ℕ → Type 0 = λ o. IsChoice g.N.NameValue.built c.args.names.now c.args.clauses.now c.args.store.now.held c.args.goal c.args.awaited.now.items c.loop-tried.awaited.items o in
-    subst P (sym c.without_clause.ensures) (all_tried g.N.NameValue.built c.args.names.now c.args.clauses.now c.args.store.now.held c.args.goal c.args.awaited.now.items c.loop-tried.awaited.items c.loop-tried.tried c.loop-tried.waiting c.loop-tried-test.false c.loop-tried.invariant)
+    subst P (sym c.without_clause.ensures) (all_tried g.N.NameValue.built c.args.names.now c.args.clauses.now c.args.store.now.held c.args.goal c.args.awaited.now.items c.loop-tried.awaited.items c.loop-tried.tried c.loop-tried.waiting c.loop-tried-test.false c.loop-tried.invariant.1)
 
 pub loop-tried-init : goal.loop-tried-init
-loop-tried-init g c = none_tried g.N.NameValue.built c.args.names.now c.args.clauses.now c.args.store.now.held c.args.goal c.args.awaited.now.items
+loop-tried-init g c = (c.forget.ensures, none_tried g.N.NameValue.built c.args.names.now c.args.clauses.now c.args.store.now.held c.args.goal c.args.awaited.now.items)

@@ -13,7 +13,7 @@ pub returns-then-not-branch : goal.returns-then-not-branch
 returns-then-not-branch g c =
     let s = c.start_of-start in
     let P : Bool → Type 0 = λ b. RejectAs g.N.NameValue.built c.args.names.now c.args.clauses.now c.args.store.now.held c.args.goal s.result b in
-    it_is_closed g.N.NameValue.built c.args.names.now c.args.clauses.now c.args.store.now.held c.args.goal s.result c.args.place c.args.places.now.items s.ensures.below c.requires.place s.ensures.first (subst P c.if-not-branch.true c.in_ok-reject.ensures)
+    it_is_closed g.N.NameValue.built c.args.names.now c.args.clauses.now c.args.store.now.held c.args.goal s.result c.args.place c.args.places.now.items s.ensures.below c.requires.place s.ensures.first (subst P c.if-not-branch.true c.in_ok-reject.ensures.rejects)
 
 pub judge-requires-clause-clause : goal.judge-requires-clause-clause
 judge-requires-clause-clause g c =
@@ -29,8 +29,8 @@ returns-in-Accepts g c =
     let after = c.judge.new.awaited.items in
     let x = c.nth-clause.result.now in
     let P : Bool → Type 0 = λ b. RejectAs g.N.NameValue.built c.args.names.now c.args.clauses.now h c.args.goal s.result b in
-    let all : AllReject g.N.NameValue.built c.args.names.now c.args.clauses.now h c.args.goal s.result = subst P c.if-not-branch.false c.in_ok-reject.ensures in
-    let v = of_places places (λ ps. IsVerdict g.N.NameValue.built c.args.names.now x h c.args.goal ps before after c.in_ok-verdict.verdict) c.in_ok-verdict.ensures in
+    let all : AllReject g.N.NameValue.built c.args.names.now c.args.clauses.now h c.args.goal s.result = subst P c.if-not-branch.false c.in_ok-reject.ensures.rejects in
+    let v = of_places places (λ ps. IsVerdict g.N.NameValue.built c.args.names.now x h c.args.goal ps before after c.in_ok-verdict.verdict) c.in_ok-verdict.ensures.judged in
     let Q : CompiledClause → Type 0 = λ k. IsVerdict g.N.NameValue.built c.args.names.now k h c.args.goal places before after c.in_ok-verdict.verdict in
     let own = subst Q c.nth-clause.ensures v in
     let R : Verdict → Type 0 = λ w. IsVerdict g.N.NameValue.built c.args.names.now (get_or c.args.clauses.now c.args.place x) h c.args.goal places before after w in
@@ -45,8 +45,8 @@ returns-in-Rejects g c =
     let after = c.judge.new.awaited.items in
     let x = c.nth-clause.result.now in
     let P : Bool → Type 0 = λ b. RejectAs g.N.NameValue.built c.args.names.now c.args.clauses.now h c.args.goal s.result b in
-    let all : AllReject g.N.NameValue.built c.args.names.now c.args.clauses.now h c.args.goal s.result = subst P c.if-not-branch.false c.in_ok-reject.ensures in
-    let v = of_places places (λ ps. IsVerdict g.N.NameValue.built c.args.names.now x h c.args.goal ps before after c.in_ok-verdict.verdict) c.in_ok-verdict.ensures in
+    let all : AllReject g.N.NameValue.built c.args.names.now c.args.clauses.now h c.args.goal s.result = subst P c.if-not-branch.false c.in_ok-reject.ensures.rejects in
+    let v = of_places places (λ ps. IsVerdict g.N.NameValue.built c.args.names.now x h c.args.goal ps before after c.in_ok-verdict.verdict) c.in_ok-verdict.ensures.judged in
     let Q : CompiledClause → Type 0 = λ k. IsVerdict g.N.NameValue.built c.args.names.now k h c.args.goal places before after c.in_ok-verdict.verdict in
     let own = subst Q c.nth-clause.ensures v in
     it_is_not g.N.NameValue.built c.args.names.now c.args.clauses.now h c.args.goal s.result c.args.place x places before after c.in_ok-verdict.verdict s.ensures.below c.requires.place s.ensures.run all own
@@ -61,8 +61,8 @@ returns-in-Suspends g c =
     let after = c.judge.new.awaited.items in
     let x = c.nth-clause.result.now in
     let P : Bool → Type 0 = λ b. RejectAs g.N.NameValue.built c.args.names.now c.args.clauses.now h c.args.goal s.result b in
-    let all : AllReject g.N.NameValue.built c.args.names.now c.args.clauses.now h c.args.goal s.result = subst P c.if-not-branch.false c.in_ok-reject.ensures in
-    let v = of_places places (λ ps. IsVerdict g.N.NameValue.built c.args.names.now x h c.args.goal ps before after c.in_ok-verdict.verdict) c.in_ok-verdict.ensures in
+    let all : AllReject g.N.NameValue.built c.args.names.now c.args.clauses.now h c.args.goal s.result = subst P c.if-not-branch.false c.in_ok-reject.ensures.rejects in
+    let v = of_places places (λ ps. IsVerdict g.N.NameValue.built c.args.names.now x h c.args.goal ps before after c.in_ok-verdict.verdict) c.in_ok-verdict.ensures.judged in
     let Q : CompiledClause → Type 0 = λ k. IsVerdict g.N.NameValue.built c.args.names.now k h c.args.goal places before after c.in_ok-verdict.verdict in
     let own = subst Q c.nth-clause.ensures v in
     it_is_not g.N.NameValue.built c.args.names.now c.args.clauses.now h c.args.goal s.result c.args.place x places before after c.in_ok-verdict.verdict s.ensures.below c.requires.place s.ensures.run all own

@@ -8,4 +8,4 @@ pub returns : goal.returns
 returns g c =
     IfOk-weaker c.judge.result (GivenKept g.N.NameValue.built c.args.names.now c.args.clause.now c.args.store.now.held c.args.goal true c.judge.new.places.items c.args.awaited.now.items c.judge.new.awaited.items)
     (IsVerdict g.N.NameValue.built c.args.names.now c.args.clause.now c.args.store.now.held c.args.goal c.judge.new.places.items c.args.awaited.now.items c.judge.new.awaited.items)
-    (λ v k. of_places c.judge.new.places.items (λ ps. IsVerdict g.N.NameValue.built c.args.names.now c.args.clause.now c.args.store.now.held c.args.goal ps c.args.awaited.now.items c.judge.new.awaited.items v) k) c.judge.ensures
+    (λ v k. of_places c.judge.new.places.items (λ ps. IsVerdict g.N.NameValue.built c.args.names.now c.args.clause.now c.args.store.now.held c.args.goal ps c.args.awaited.now.items c.judge.new.awaited.items v) k) c.judge.ensures.judged

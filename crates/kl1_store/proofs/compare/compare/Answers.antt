@@ -1,4 +1,4 @@
-use Rattle.std.proofs.Common.{◌≡◌, Bool, [], ◌∷◌, arith, subst}
+use Rattle.std.proofs.Common.{◌≡◌, Bool, [], arith, subst}
 use Rattle.std.proofs.lemmas.List.{nil_from_length}
 use Rattle.kl1_store.specs.Compares.{ComparesAs}
 use Rattle.kl1_store.proofs.Advancing.{pair_popped, onward_pushed}
@@ -19,11 +19,11 @@ loop-frame-init g c =
     )
 
 pub loop-frame-smaller-then-frame : goal.loop-frame-smaller-then-frame
-loop-frame-smaller-then-frame g c = (left_closes g.N.NameValue.built c.args.cells.now.held c.args.left c.args.right c.args.waits.now.items c.loop-frame.waits.items c.loop-frame.pairs.keys c.insert.new.self.keys c.loop-frame.frames.items c.pop.new.self.items c.in-Some.frame c.mark.ensures.formed c.loop-frame.invariant.1 c.in-Some.ensures.items c.if-frame.true (λ l r. c.in_ok-insert.ensures.updates.0 (l ∷ r ∷ []))).1
+loop-frame-smaller-then-frame g c = (left_closes g.N.NameValue.built c.args.cells.now.held c.args.left c.args.right c.args.waits.now.items c.loop-frame.waits.items c.loop-frame.pairs.keys c.put_down.new.pairs.keys c.loop-frame.frames.items c.pop.new.self.items c.in-Some.frame c.mark.ensures.formed c.loop-frame.invariant.1 c.in-Some.ensures.items c.if-frame.true c.in_ok-put_down.ensures).1
 
 pub loop-frame-preserved-then-frame : goal.loop-frame-preserved-then-frame
 loop-frame-preserved-then-frame g c =
-    (c.loop-frame.invariant.0, (left_closes g.N.NameValue.built c.args.cells.now.held c.args.left c.args.right c.args.waits.now.items c.loop-frame.waits.items c.loop-frame.pairs.keys c.insert.new.self.keys c.loop-frame.frames.items c.pop.new.self.items c.in-Some.frame c.mark.ensures.formed c.loop-frame.invariant.1 c.in-Some.ensures.items c.if-frame.true (λ l r. c.in_ok-insert.ensures.updates.0 (l ∷ r ∷ []))).0)
+    (c.loop-frame.invariant.0, (left_closes g.N.NameValue.built c.args.cells.now.held c.args.left c.args.right c.args.waits.now.items c.loop-frame.waits.items c.loop-frame.pairs.keys c.put_down.new.pairs.keys c.loop-frame.frames.items c.pop.new.self.items c.in-Some.frame c.mark.ensures.formed c.loop-frame.invariant.1 c.in-Some.ensures.items c.if-frame.true c.in_ok-put_down.ensures).0)
 
 pub turn-requires : goal.turn-requires
 turn-requires g c = record { pair = pair_popped c.args.cells.now.held c.loop-frame.frames.items c.pop.new.self.items c.in-Some.frame c.loop-frame.invariant.1.pairs c.in-Some.ensures.items; more = c.if-frame.false }

@@ -93,7 +93,7 @@ returns-clause-ok g c =
     let a : Account = account_at own c.args.store.now.held c.args.goals.now.goals c.args.shoens.now c.args.modules.now c.args.names.now.names n.last_goal n.variables n.nodes n.reports entries in
     does_reduces a c.args.clause c.args.goals.now.shoens c.args.goal c.args.is_full c.args.cell c.args.predicate (taken_places c.args.trial.now) c.args.trial.now.text c.args.made c.mark-mark.result c.args.store.now c.do_or_spell.new.store c.finish.new.store c.args.shoens.now c.do_or_spell.new.shoens c.finish.new.goals c.do_or_spell.new.walk.reached.items e c.do_or_spell.new.draft c.finish.new.draft
     (c.requires.kept own entries may) c.requires.steppable c.requires.makes room c.requires.inside
-    refl refl refl c.mark-mark.ensures.point c.mark-mark.ensures.formed (begun_for c.args.goal.number c.args.modules.now.rules n c.requires.begun)
+    refl refl refl c.requires.begins d.back c.mark-mark.ensures.point c.mark-mark.ensures.formed (begun_for c.args.goal.number c.args.modules.now.rules n c.requires.begun)
     d.does d.shoens d.leaves d.name d.spelled d.spared d.has d.rest d.grown d.hooks
     finishes f.held f.count)
     f.finishes

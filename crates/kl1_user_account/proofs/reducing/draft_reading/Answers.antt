@@ -35,6 +35,6 @@ returns-clause-ok g c own entries may room =
     let r = c.in_ok-read.ensures in
     heard_reduces a c.args.goal.number c.args.clause c.args.goals.now.shoens c.args.goal c.args.is_full c.in-Ok.control c.mark-mark.result c.args.store.now c.read.new.store c.finish.new.store c.args.shoens.now c.read.new.shoens c.finish.new.goals c.read.new.walk.reached.items c.args.draft.now c.read.new.draft (record c.read.new.draft { told = c.push.new.self }) c.finish.new.draft
     (c.requires.kept own entries may) c.requires.steppable c.requires.monitor c.in-Ok.ensures.reads c.in-Ok.ensures.room room c.shoens-single.ensures.single
-    refl refl refl c.mark-mark.ensures.point c.mark-mark.ensures.formed c.requires.begun
+    refl refl refl c.requires.begins r.back c.mark-mark.ensures.point c.mark-mark.ensures.formed c.requires.begun
     (r.ok (texts_of c.args.names.now.names)) r.shoens r.leaves r.rest r.grown r.hooks
     refl c.in_ok-push.ensures.items c.in_ok-finish.ensures.finishes c.in_ok-finish.ensures.held c.in_ok-finish.ensures.count

@@ -25,7 +25,7 @@ returns-clause-ok c =
     let e = record d { aborted = c.below.new.out; shifts = true } in
     on_ok_weaker c.close.result
     (λ closing. drafts_aborted h c.report_name.new.store.held c.close.new.store.held t c.abort.new.self c.report_name.new.shoens d e c.report_name.new.draft c.args.number
-    (drafts_ended_below h t c.abort.new.self d e c.args.number c.len-numbered.ensures.numbered c.requires.none c.requires.early c.in_ok-below.ensures refl c.in_ok-abort.ensures.ok)
+    (drafts_ended_below h t c.abort.new.self d e c.args.number c.requires.none c.requires.early c.in_ok-below.ensures refl c.in_ok-abort.ensures.ok)
     c.in_ok-report_name.ensures.ok (closing c.report_name.new.draft))
     c.close.ensures.ok
 

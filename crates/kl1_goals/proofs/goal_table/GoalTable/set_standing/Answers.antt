@@ -3,6 +3,7 @@ use Rattle.kl1_goals.specs.Lists.{stood_by}
 use Rattle.kl1_goals.specs.Slots.{goals_in}
 use Rattle.kl1_goals.specs.Tallies.{tally_at}
 use Rattle.kl1_goals.proofs.Changing.{held_itself}
+use Rattle.kl1_goals.proofs.Chaining.{chained_shaped}
 use Rattle.kl1_goals.proofs.Shoens.{stood_tally}
 use Rattle.kl1_goals.proofs.Tabling.{missing_stood}
 use Rattle.kl1_goals.proofs.Flagging.{alive_stood}
@@ -19,6 +20,7 @@ invariant_of-self g c =
     record {
       slots = c.stand.ensures.slots;
       tallied = λ n. rw goals (stood_tally n x.goal.number c.args.standing (goals_in s.slots.items) (tally_at s.tallies.items n) (c.self.invariant.tallied n));
+      chained = chained_shaped s.slots.items c.stand.new.slots.items s.tallies.items c.self.invariant.chained c.stand.ensures.shapes c.stand.ensures.links;
       alive = rw goals (alive_stood x.goal.number c.args.standing (goals_in s.slots.items) s.alive c.self.invariant.alive);
     }
 

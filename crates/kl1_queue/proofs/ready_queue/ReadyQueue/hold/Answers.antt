@@ -1,19 +1,14 @@
-use Rattle.std.proofs.Common.{◌≡◌, refl, arith}
-use Rattle.kl1_queue.proofs.Holding.{ranks_held, ranks_set_beside, ranks_next}
+use Rattle.kl1_queue.proofs.Laying.{place_in, bit_in, wide_inserted, laid_inserted}
 use Rattle.kl1_queue.proofs.ready_queue.ReadyQueue.hold.Goals as goal
 
-pub returns-then-next-self : goal.returns-then-next-self
-returns-then-next-self c =
-    let s = c.self.inside in
-    rw (← c.self.view_is) (rw (ranks_held s.tree.ranks s.held s.held_rank c.args.next c.args.rank c.if-next-self.true) refl)
+pub insert-requires : goal.insert-requires
+insert-requires c = bit_in c.self.inside.bits_rank c.self.inside.bits c.self.inside.tree c.args.place c.self.invariant (rw (← c.self.view_is) at c.requires.place)
 
-pub returns-then-self-gt0 : goal.returns-then-self-gt0
-returns-then-self-gt0 c =
-    let s = c.self.inside in
-    rw (← c.self.view_is) (rw c.set_rank.ensures (rw (ranks_set_beside s.tree.ranks s.held s.held_rank c.args.next c.args.rank c.if-next-self.false) refl))
+pub set_rank-requires : goal.set_rank-requires
+set_rank-requires c = place_in c.self.inside.bits_rank c.self.inside.bits c.self.inside.tree c.args.place (rw (← c.self.view_is) at c.requires.place)
 
-pub returns : goal.returns
-returns c =
-    let s = c.self.inside in
-    let none : s.held_rank ≡ 0 = omega (arith, c.if-self-gt0.false) in
-    rw (← c.self.view_is) (rw c.set_rank-2.ensures (rw (ranks_next s.tree.ranks s.held s.held_rank c.args.next c.args.rank c.self.invariant none) refl))
+pub invariant_of-self : goal.invariant_of-self
+invariant_of-self c = wide_inserted c.self.inside.bits_rank c.self.inside.bits c.insert.new.self c.self.inside.tree c.set_rank.new.self c.args.place c.self.invariant (rw (← c.self.view_is) at c.requires.place) (rw (← c.if-rank-self.true) c.requires.rank) c.insert.ensures c.set_rank.ensures
+
+pub returns-then-rank-self : goal.returns-then-rank-self
+returns-then-rank-self c = rw (← c.self.view_is, c.if-rank-self.true) (laid_inserted c.self.inside.bits_rank c.self.inside.bits c.insert.new.self c.self.inside.tree c.set_rank.new.self c.args.place c.self.invariant (rw (← c.self.view_is) at c.requires.place) (rw (← c.if-rank-self.true) c.requires.rank) c.insert.ensures c.set_rank.ensures)

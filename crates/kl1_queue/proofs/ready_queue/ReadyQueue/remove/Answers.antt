@@ -1,13 +1,19 @@
-use Rattle.std.proofs.Common.{refl}
-use Rattle.kl1_queue.proofs.Holding.{ranks_held, ranks_set_beside}
+use Rattle.kl1_queue.proofs.Laying.{place_in, bit_in, laid_removed, unready}
 use Rattle.kl1_queue.proofs.ready_queue.ReadyQueue.remove.Goals as goal
 
-pub returns-then-place-self : goal.returns-then-place-self
-returns-then-place-self c =
-    let s = c.self.inside in
-    rw (← c.self.view_is) (rw (ranks_held s.tree.ranks s.held s.held_rank c.args.place 0 c.if-place-self.true) refl)
+pub remove-requires : goal.remove-requires
+remove-requires c = bit_in c.self.inside.bits_rank c.self.inside.bits c.self.inside.tree c.args.place c.self.invariant (rw (← c.self.view_is) at c.requires)
 
-pub returns-else-place-self : goal.returns-else-place-self
-returns-else-place-self c =
+pub set_rank-requires : goal.set_rank-requires
+set_rank-requires c = place_in c.self.inside.bits_rank c.self.inside.bits c.self.inside.tree c.args.place (rw (← c.self.view_is) at c.requires)
+
+pub returns-then-not-remove : goal.returns-then-not-remove
+returns-then-not-remove c =
     let s = c.self.inside in
-    rw (← c.self.view_is) (rw c.set_rank.ensures (rw (ranks_set_beside s.tree.ranks s.held s.held_rank c.args.place 0 c.if-place-self.false) refl))
+    rw (← c.self.view_is) (laid_removed s.bits_rank s.bits c.remove.new.self s.tree c.set_rank.new.self c.args.place 0 c.self.invariant (rw (← c.self.view_is) at c.requires) c.remove.ensures.cleared c.set_rank.ensures)
+
+pub returns-else-not-remove : goal.returns-else-not-remove
+returns-else-not-remove c =
+    let s = c.self.inside in
+    let same = unready s.bits_rank s.bits s.tree c.args.place c.self.invariant (c.remove.ensures.was c.if-not-remove.false) in
+    rw (← c.self.view_is) (laid_removed s.bits_rank s.bits c.remove.new.self s.tree s.tree c.args.place 0 c.self.invariant (rw (← c.self.view_is) at c.requires) c.remove.ensures.cleared same)

@@ -17,4 +17,5 @@ invariant_of-self-2 g c =
           (charged_more i.shoens.now i.charges.now c.raise.new.charges.now i.work n c.self.invariant.0 (omega (arith, len, c.requires.within))
           (c.raise.ensures.count ∙ ap (λ (l : List ℕ). length l) c.reserve_changes.ensures.now) raised),
       subst (λ (cs : List ℕ). AreCharged i.shoens.kept cs i.kept_work) (sym (c.raise.ensures.kept ∙ c.reserve_changes.ensures.kept)) c.self.invariant.1,
+      c.self.invariant.2,
     )

@@ -1,16 +1,19 @@
-use Rattle.std.proofs.Common.{◌<◌, length, arith}
-use Rattle.kl1_store.specs.declared.cell.Cell.{Cell}
-use Rattle.kl1_store.specs.Renames.{IsCellRenamed}
-use Rattle.kl1_store.proofs.Changed.{one_changed, read_changed}
+use Rattle.std.proofs.Common.{◌<◌, length, sym, ◌∙◌, arith, length-set}
+use Rattle.kl1_store.specs.Renames.{cell_renamed}
+use Rattle.kl1_store.proofs.Changed.{mapped_next, mapped_past}
 use Rattle.kl1_store.proofs.cells.renaming.rename_cells.Goals as goal
 
 pub loop-place-preserved : goal.loop-place-preserved
 loop-place-preserved g c =
     let l = c.loop-place in
-    let R = λ (p q : Cell g.row.N.Denot). IsCellRenamed c.args.from.now c.args.to.now p q in
-    let lt : l.place < length l.cells.items = omega (arith, l.invariant.items.count, c.loop-place-test.true, l.cells.ok.0) in
+    let lt : l.place < length l.cells.items = omega (arith, l.invariant.count, c.loop-place-test.true, l.cells.ok.0) in
     record {
-      items = one_changed R c.args.first l.place c.args.cells.now.items l.cells.items c.renamed_cell.result l.invariant.items (omega arith) lt
-          (read_changed R l.cells.items l.place c.index-cell.result.now c.renamed_cell.result lt c.index-cell.ensures c.renamed_cell.ensures);
+      count = length-set l.cells.items l.place c.renamed_cell.result ∙ l.invariant.count;
+      items = mapped_next (cell_renamed (g.R.Renaming.becomes c.args.names.now)) l.place l.cells.items c.index-cell.result.now c.renamed_cell.result lt c.index-cell.ensures c.renamed_cell.ensures ∙ l.invariant.items;
       capacity = l.invariant.capacity;
     }
+
+pub returns-clause-items : goal.returns-clause-items
+returns-clause-items g c =
+    let l = c.loop-place in
+    sym (mapped_past (cell_renamed (g.R.Renaming.becomes c.args.names.now)) l.place l.cells.items (omega (arith, l.invariant.count, c.loop-place-test.false, l.cells.ok.0))) ∙ l.invariant.items

@@ -103,7 +103,7 @@ publish-requires-clause-few g c =
     let u = c.self.inside in
     let a = kept_in u in
     let may = answerable_by u.rules u.store.held u.shoens.shoens u.names.names c.counted-counted.result c.args.number c.args.report c.args.goal.now c.in-Coded.code c.in-Coded.variable c.in_ok-answering.answering c.in-Coded.is c.in_ok-answering.ensures in
-    few_published u.names.names c.draft_answer-drafted.new.names.names c.args.goal.now c.in-Coded.code c.names.result.now may.code_is c.names.ensures.value c.draft_answer-drafted.ensures.names may.few
+    few_published u.names.names c.draft_answer-drafted.new.names.names c.args.goal.now c.in-Coded.code c.names-texts.result.now may.code_is c.names-texts.ensures.value c.draft_answer-drafted.ensures.names may.few
 
 pub install-requires : goal.install-requires
 install-requires g c =
@@ -111,9 +111,20 @@ install-requires g c =
     let a = kept_in u in
     draft_fits a (u.variables + c.highest.result) (u.nodes + c.structures_of.result) c.begin_draft.new.draft c.draft_answer-drafted.new.draft c.begin_draft.ensures c.draft_answer-drafted.ensures.rest u.goals.goals u.goals.shoens u.goals.room u.goals.shoen_room
 
-pub exchange-requires : goal.exchange-requires
-exchange-requires g c =
-    ap length c.as_slice-2.ensures.value ∙ c.publish.ensures.count ∙ sym (ap length c.as_slice.ensures.value ∙ spared_count _ 0 c.names.result.now c.draft_answer-drafted.new.spares.items (let T : List (List ℕ) → Type 0 = λ ts. AreSpared c.self.inside.names.names 0 ts c.draft_answer-drafted.new.spares.items in subst T (sym c.names.ensures.value) c.in-Ok.ensures.ok.spared))
+pub exchange-requires-clause-length : goal.exchange-requires-clause-length
+exchange-requires-clause-length g c =
+    let spares = c.draft_answer-drafted.new.spares.items in
+    let T : List (List ℕ) → Type 0 = λ ts. AreSpared c.self.inside.names.names 0 ts spares in
+    let many : length spares ≡ length c.names-texts.result.now = spared_count _ 0 c.names-texts.result.now spares (subst T (sym c.names-texts.ensures.value) c.in-Ok.ensures.ok.spared) in
+    ap length c.as_slice-2.ensures.value ∙ c.publish.ensures.count ∙ sym (ap length c.as_slice.ensures.value ∙ many)
+
+pub exchange-requires-clause-room : goal.exchange-requires-clause-room
+exchange-requires-clause-room g c =
+    let spares = c.draft_answer-drafted.new.spares.items in
+    let T : List (List ℕ) → Type 0 = λ ts. AreSpared c.self.inside.names.names 0 ts spares in
+    let many : length spares ≡ length c.names-texts.result.now = spared_count _ 0 c.names-texts.result.now spares (subst T (sym c.names-texts.ensures.value) c.in-Ok.ensures.ok.spared) in
+    let same : length c.as_slice.result.now ≡ length spares = ap length c.as_slice.ensures.value in
+    omega (arith, c.in_ok-row.ensures.room, same, many)
 
 pub invariant_of-self-2 : goal.invariant_of-self-2
 invariant_of-self-2 g c =
@@ -128,12 +139,12 @@ invariant_of-self-2 g c =
     let more = c.publish.new.known.names in
     let spares = c.draft_answer-drafted.new.spares.items in
     let numbers = c.publish.new.row.items in
-    let texts = c.names.result.now in
+    let texts = c.names-texts.result.now in
     let vs : u.variables + c.highest.result ≡ u.variables + highest c.args.goal.now = ap (λ m. u.variables + m) c.highest.ensures in
     let ns : u.nodes + c.structures_of.result ≡ u.nodes + structures_of c.args.goal.now = ap (λ m. u.nodes + m) c.structures_of.ensures in
     let one : AreNames more = (let N : List Known → Type 0 = λ ks. AreNames ks in subst N c.publish.ensures.knows (g.met.A.AtomSource.one_to_one c.publish.new.names c.publish.new.seat c.publish.ensures.keeps.of)) in
     let p = is_put a c.args.number c.args.report c.in-Coded.variable c.args.goal.now c.in-Coded.code c.counted-counted.result spares numbers texts known more old new (u.variables + c.highest.result) (u.nodes + c.structures_of.result) c.begin_draft.new.draft d
-    refl may (rw c.over.ensures at c.in-Ok.ensures.ok) c.draft_answer-drafted.ensures.grown.held c.names.ensures.value c.names.ensures.names c.draft_answer-drafted.ensures.names c.publish.ensures.texts c.publish.ensures.row c.publish.ensures.fits one c.publish.ensures.small c.begin_draft.ensures c.draft_answer-drafted.ensures.rest vs ns in
+    refl may (rw c.over.ensures at c.in-Ok.ensures.ok) c.draft_answer-drafted.ensures.grown.held c.names-texts.ensures.value c.names-texts.ensures.names c.draft_answer-drafted.ensures.names c.publish.ensures.texts c.publish.ensures.row c.publish.ensures.fits one c.publish.ensures.small c.begin_draft.ensures c.draft_answer-drafted.ensures.rest vs ns in
     let held = c.exchange.ensures.held ∙ ap₂ (λ (xs ys : List CellName). held_exchanged xs ys new.held) c.as_slice.ensures.value c.as_slice-2.ensures.value in
     let goals = c.install.ensures.goals ∙ draft_leaves a (u.variables + c.highest.result) (u.nodes + c.structures_of.result) c.begin_draft.new.draft d c.begin_draft.ensures c.draft_answer-drafted.ensures.rest c.self.invariant.0.first in
     let w = counts_entry (length u.shoens.work) u.entries u.run c.self.invariant.1 in (
@@ -154,12 +165,12 @@ returns-clause-step g c =
     let more = c.publish.new.known.names in
     let spares = c.draft_answer-drafted.new.spares.items in
     let numbers = c.publish.new.row.items in
-    let texts = c.names.result.now in
+    let texts = c.names-texts.result.now in
     let vs : u.variables + c.highest.result ≡ u.variables + highest c.args.goal.now = ap (λ m. u.variables + m) c.highest.ensures in
     let ns : u.nodes + c.structures_of.result ≡ u.nodes + structures_of c.args.goal.now = ap (λ m. u.nodes + m) c.structures_of.ensures in
     let one : AreNames more = (let N : List Known → Type 0 = λ ks. AreNames ks in subst N c.publish.ensures.knows (g.met.A.AtomSource.one_to_one c.publish.new.names c.publish.new.seat c.publish.ensures.keeps.of)) in
     let p = is_put a c.args.number c.args.report c.in-Coded.variable c.args.goal.now c.in-Coded.code c.counted-counted.result spares numbers texts known more old new (u.variables + c.highest.result) (u.nodes + c.structures_of.result) c.begin_draft.new.draft d
-    refl may (rw c.over.ensures at c.in-Ok.ensures.ok) c.draft_answer-drafted.ensures.grown.held c.names.ensures.value c.names.ensures.names c.draft_answer-drafted.ensures.names c.publish.ensures.texts c.publish.ensures.row c.publish.ensures.fits one c.publish.ensures.small c.begin_draft.ensures c.draft_answer-drafted.ensures.rest vs ns in
+    refl may (rw c.over.ensures at c.in-Ok.ensures.ok) c.draft_answer-drafted.ensures.grown.held c.names-texts.ensures.value c.names-texts.ensures.names c.draft_answer-drafted.ensures.names c.publish.ensures.texts c.publish.ensures.row c.publish.ensures.fits one c.publish.ensures.small c.begin_draft.ensures c.draft_answer-drafted.ensures.rest vs ns in
     let held = c.exchange.ensures.held ∙ ap₂ (λ (xs ys : List CellName). held_exchanged xs ys new.held) c.as_slice.ensures.value c.as_slice-2.ensures.value in
     let goals = c.install.ensures.goals ∙ draft_leaves a (u.variables + c.highest.result) (u.nodes + c.structures_of.result) c.begin_draft.new.draft d c.begin_draft.ensures c.draft_answer-drafted.ensures.rest c.self.invariant.0.first in
     answer_step a c.args.self.now u.store.hooks u.goals.shoens c.args.number c.args.report c.in-Coded.variable c.args.goal.now c.in-Coded.code c.counted-counted.result spares numbers more old new d c.exchange.new.store.held c.install.new.goals.goals d.variables d.nodes c.note_entry.new.entries c.note_entry.new.run c.self.view_is c.self.invariant.0 p at held goals refl refl c.note_entry.ensures.entries c.note_entry.ensures.run

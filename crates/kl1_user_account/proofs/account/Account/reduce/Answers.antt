@@ -15,6 +15,7 @@ draft_named-drafted-requires g c =
     let u = c.self.inside in
     let b = c.begin_draft.ensures in
     record {
+      begins = record { shoens_are = ap (λ (x : Tree CellName). x.kept) c.begin.ensures ∙ sym (ap (λ (x : Tree CellName). x.shoens) c.begin.ensures); work_is = ap (λ (x : Tree CellName). x.kept_work) c.begin.ensures ∙ sym (ap (λ (x : Tree CellName). x.work) c.begin.ensures) };
       begun = rw c.over.ensures (begun_same 0 u.rules u.last_goal u.variables u.nodes u.reports c.begin_draft.new.draft b);
       few = few_charged u.rules (length c.begin.new.self.work) u.entries u.run c.self.invariant.0.most (subst (λ n. CountsWork n u.entries u.run) (sym (ap (λ (x : Tree CellName). length x.work) c.begin.ensures)) c.self.invariant.1);
       kept = rw (c.over.ensures, b.last_is, b.variables_are, b.nodes_are, b.reports_are) (kept_at (kept_in u) c.begin.new.self u.store.hooks u.goals.shoens (ap (λ (x : Tree CellName). x.shoens) c.begin.ensures) (ap (λ (x : Tree CellName). x.work) c.begin.ensures) c.self.invariant.0);

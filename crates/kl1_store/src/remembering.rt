@@ -1,0 +1,137 @@
+// Two cells side by side, by what was compared before.
+
+ghost use Rattle.std.specs.Prelude.{◌≡◌, ℕ, ◌<◌, List, [], length, IfOk, OnOk};
+ghost use Rattle.std.specs.List.{All};
+ghost use Rattle.kl1_store.specs.Held.{Held, IsIn};
+ghost use Rattle.kl1_store.specs.Sameness.{AlikeAs};
+ghost use Rattle.kl1_store.specs.Remembers.{IsRemembered, Remembers, RecalledAs};
+
+use crate::cell::Cell;
+use crate::cells::Cells;
+use crate::compare::compare;
+use crate::frame::Frame;
+use crate::same_scratch::{Remembered, SameScratch};
+use kl1_text::NameValue;
+use std::alloc::{AllocError, Global};
+
+/// The most comparisons that are remembered at a time.
+const MOST: usize = 16;
+
+/// What is remembered of two structures. If something is, `waits` gets the variables that they wait for, after those in it.
+fn recall<N: NameValue>(
+    cells: &Cells<N>,
+    remembered: &[Remembered],
+    waits: &mut Vec<u32>,
+    left: u32,
+    right: u32,
+) -> Result<Option<bool>, AllocError>
+    requires { All (IsRemembered N.built cells.now.held) remembered.now }
+    ensures { IfOk result (RecalledAs N.built cells.now.held left right waits.old.items waits.new.items) }
+{
+    let mut rest = remembered;
+    while let [first, more @ ..] = rest {
+        if first.left == left {
+            if first.right == right {
+                waits.extend_from_slice(first.waits.as_slice())?;
+                return Ok(Some(first.alike));
+            }
+        }
+        rest = more;
+    }
+    Ok(None)
+}
+
+/// Compares two cells: false if they clash. `found` has just the variables for which they wait, and none if they clash.
+fn compare_alone<N: NameValue>(
+    cells: &Cells<N>,
+    frames: &mut Vec<Frame>,
+    alloc: Global,
+    found: &mut Vec<u32>,
+    left: Cell<N>,
+    right: Cell<N>,
+) -> Result<bool, AllocError>
+    requires left_in { IsIn cells.now.held left }
+    requires right_in { IsIn cells.now.held right }
+    ensures { IfOk result (AlikeAs N.built cells.now.held left right [] found.new.items) }
+{
+    found.clear();
+    if !compare(cells, frames, alloc, found, left, right)? {
+        found.clear();
+        return Ok(false);
+    }
+    Ok(true)
+}
+
+/// Compares two structures, and remembers what this gave, if it isn't remembered already and there aren't too many others.
+fn compare_structures<N: NameValue>(
+    cells: &Cells<N>,
+    scratch: &mut SameScratch,
+    alloc: Global,
+    waits: &mut Vec<u32>,
+    left: u32,
+    right: u32,
+) -> Result<bool, AllocError>
+    requires left_in { left < length cells.now.held.structures }
+    requires right_in { right < length cells.now.held.structures }
+    requires remembers { Remembers N.built cells.now.held scratch.old }
+    ensures alike { IfOk result (AlikeAs N.built cells.now.held (Cell.Structure left) (Cell.Structure right) waits.old.items waits.new.items) }
+    ensures remembers { OnOk result (Remembers N.built cells.now.held scratch.new) }
+{
+    if let Some(alike) = recall(cells, scratch.remembered.as_slice(), waits, left, right)? {
+        return Ok(alike);
+    }
+    let mut found = Vec::new(alloc);
+    let alike = compare_alone(
+        cells,
+        &mut scratch.frames,
+        alloc,
+        &mut found,
+        Cell::Structure(left),
+        Cell::Structure(right),
+    )?;
+    waits.extend_from_slice(found.as_slice())?;
+    if scratch.remembered.len() < MOST {
+        scratch.remembered.push(Remembered {
+            left,
+            right,
+            alike,
+            waits: found,
+        })?;
+    }
+    Ok(alike)
+}
+
+/// Whether two cells may mean the same term: false if they clash. Else `waits` gets the variables that this waits for, after
+/// those in it.
+pub fn compare_once<N: NameValue>(
+    cells: &Cells<N>,
+    scratch: &mut SameScratch,
+    alloc: Global,
+    waits: &mut Vec<u32>,
+    left: Cell<N>,
+    right: Cell<N>,
+) -> Result<bool, AllocError>
+    requires left_in { IsIn cells.now.held left }
+    requires right_in { IsIn cells.now.held right }
+    requires remembers { Remembers N.built cells.now.held scratch.old }
+    ensures alike { IfOk result (AlikeAs N.built cells.now.held left right waits.old.items waits.new.items) }
+    ensures remembers { OnOk result (Remembers N.built cells.now.held scratch.new) }
+{
+    let first = cells.walk(left);
+    let second = cells.walk(right);
+    if let Cell::Structure(structure) = first {
+        if let Cell::Structure(other) = second {
+            return compare_structures(cells, scratch, alloc, waits, structure, other);
+        }
+    }
+    let alike = compare_alone(
+        cells,
+        &mut scratch.frames,
+        alloc,
+        &mut scratch.waits,
+        left,
+        right,
+    )?;
+    waits.extend_from_slice(scratch.waits.as_slice())?;
+    Ok(alike)
+}

@@ -1,0 +1,10 @@
+use Rattle.std.proofs.Common.{◌≡◌, drop}
+use Rattle.kl1_user_effects.specs.Installing.{shifted_by}
+use Rattle.kl1_user_account.proofs.installing.shift_each.Given as goal
+
+-- after the shifts that are left the goals are as after all
+abbrev pub invariant-loop-shift : goal.invariant-loop-shift
+invariant-loop-shift l = record {
+  goals : shifted_by (drop l.shift-index l.shifts) l.goals.goals ≡ shifted_by l.shifts l.initial.goals.goals;
+  count : l.goals.shoens ≡ l.initial.goals.shoens;
+}
