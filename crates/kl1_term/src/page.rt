@@ -1,8 +1,10 @@
 // A text that is cut if it grows too long.
 
 ghost use Rattle.std.specs.Prelude.{◌≡◌, ℕ, List, [], ◌++◌, OnOk, IfOk, IsTrue};
+ghost use Rattle.kl1_model.specs.Name.{name_text, atom_text};
 ghost use Rattle.kl1_term.specs.Page.{page_text, limited, is_over};
 
+use kl1_text::{AtomText, put_atom, put_name};
 use std::alloc::{AllocError, Global};
 
 /// The front of a text that is to be cut after `most` bytes, if that is given. What is put after more than that is left out.
@@ -44,6 +46,28 @@ impl Page {
             return Ok(());
         }
         self.bytes.extend_from_slice(bytes)
+    }
+
+    /// Puts an atom, as it is printed, after the others.
+    #[tactic(auto, using(crate::proofs::Pages::whole_yet))]
+    pub(crate) fn put_atom(&mut self, name: &AtomText) -> Result<(), AllocError>
+        ensures { OnOk result ((rest : List ℕ) → page_text self.new rest ≡ page_text self.old (atom_text name.now ++ rest)) }
+    {
+        if self.is_full() {
+            return Ok(());
+        }
+        put_atom(&mut self.bytes, name)
+    }
+
+    /// Puts the name of a structure, as it is printed, after the others.
+    #[tactic(auto, using(crate::proofs::Pages::whole_yet))]
+    pub(crate) fn put_name(&mut self, name: &AtomText) -> Result<(), AllocError>
+        ensures { OnOk result ((rest : List ℕ) → page_text self.new rest ≡ page_text self.old (name_text name.now ++ rest)) }
+    {
+        if self.is_full() {
+            return Ok(());
+        }
+        put_name(&mut self.bytes, name)
     }
 
     /// The whole text, with three dots where it was cut.

@@ -10,7 +10,7 @@ ghost use Rattle.kl1_term.specs.Openings.{opening_of};
 ghost use Rattle.kl1_term.specs.Printing.{text_of, text_in, behind_text, waits_of, waits_in, waits_behind, written, IsSettled};
 ghost use Rattle.kl1_term.specs.declared.frame.Frame.TheVariants.{Arguments, Tail, Bracket};
 ghost use Rattle.kl1_term.specs.declared.mode.Mode.TheVariants.{Whole, Rest, Colon, Behind};
-ghost use Rattle.kl1_term.specs.declared.node.Node.TheVariants.{Structure};
+ghost use Rattle.kl1_term.specs.declared.node.Node.TheVariants.{Variable, Integer, Atom, Structure};
 ghost use Rattle.kl1_term.specs.declared.opening.Opening.TheVariants.{Call};
 
 use crate::frame::Frame;
@@ -98,19 +98,73 @@ impl Printer {
         }
     }
 
+    /// Prints a variable.
+    pub fn put_variable(&mut self, number: u64) -> Result<(), AllocError>
+        ensures text { OnOk result ((ts : List TermSpec) → text_of self.new ts ≡ text_of self.old (with_node (Variable number) ts)) }
+        ensures waits { OnOk result (0 < waits_of self.old → waits_of self.new + 1 ≡ waits_of self.old) }
+    {
+        match self.mode {
+            Mode::Whole => self.put_variable_alone(number),
+            _ => self.put(Node::Variable(number)),
+        }
+    }
+
+    /// Prints an integer.
+    pub fn put_integer(&mut self, number: i64) -> Result<(), AllocError>
+        ensures text { OnOk result ((ts : List TermSpec) → text_of self.new ts ≡ text_of self.old (with_node (Integer number) ts)) }
+        ensures waits { OnOk result (0 < waits_of self.old → waits_of self.new + 1 ≡ waits_of self.old) }
+    {
+        match self.mode {
+            Mode::Whole => self.put_constant(Buffer::new().format(number).as_bytes()),
+            _ => self.put(Node::Integer(number)),
+        }
+    }
+
+    /// Prints an atom.
+    pub fn put_atom(&mut self, name: &AtomText) -> Result<(), AllocError>
+        ensures text { OnOk result ((ts : List TermSpec) → text_of self.new ts ≡ text_of self.old (with_node (Atom name.now) ts)) }
+        ensures waits { OnOk result (0 < waits_of self.old → waits_of self.new + 1 ≡ waits_of self.old) }
+    {
+        match self.mode {
+            Mode::Whole => self.put_atom_alone(name),
+            _ => self.put(Node::Atom(*name)),
+        }
+    }
+
+    /// Prints the name of a structure, whose `count` arguments follow.
+    pub fn put_structure(&mut self, name: &AtomText, count: usize) -> Result<(), AllocError>
+        ensures text { OnOk result ((ts : List TermSpec) → text_of self.new ts ≡ text_of self.old (with_node (Structure name.now count) ts)) }
+        ensures waits { OnOk result (0 < waits_of self.old → waits_of self.new + 1 ≡ count + waits_of self.old) }
+    {
+        match self.mode {
+            Mode::Whole => self.put_structure_alone(name, count),
+            _ => self.put(Node::Structure(*name, count)),
+        }
+    }
+
+    /// Prints a list cell, whose two arguments follow: like `put_structure` of the name `.`, without comparing names.
+    #[tactic(auto, using(crate::proofs::Texts::cell_goes_on, crate::proofs::Texts::rest_goes_on))]
+    pub fn put_cell(&mut self) -> Result<(), AllocError>
+        ensures text { OnOk result ((ts : List TermSpec) → text_of self.new ts ≡ text_of self.old (with_node (Structure (codes ".") 2) ts)) }
+        ensures waits { OnOk result (0 < waits_of self.old → waits_of self.new + 1 ≡ 2 + waits_of self.old) }
+    {
+        match self.mode {
+            Mode::Whole => self.enter(b"[", Frame::Tail),
+            Mode::Rest => self.enter(b",", Frame::Tail),
+            _ => self.put(Node::Structure(AtomText::of(b"."), 2)),
+        }
+    }
+
     /// Prints a node as its term stands alone.
     fn put_whole(&mut self, node: Node) -> Result<(), AllocError>
         ensures text { OnOk result ((ts : List TermSpec) → text_of self.new ts ≡ page_text self.old.page (text_in Whole (reverse self.old.frames.items) (with_node node ts))) }
         ensures waits { OnOk result (waits_of self.new ≡ count_in node + waits_behind (reverse self.old.frames.items)) }
     {
         match node {
-            Node::Variable(number) => {
-                self.page.put(b"_")?;
-                self.put_constant(Buffer::new().format(number).as_bytes())
-            }
+            Node::Variable(number) => self.put_variable_alone(number),
             Node::Integer(number) => self.put_constant(Buffer::new().format(number).as_bytes()),
-            Node::Atom(name) => self.put_atom(name),
-            Node::Structure(name, count) => self.put_structure(name, count),
+            Node::Atom(name) => self.put_atom_alone(&name),
+            Node::Structure(name, count) => self.put_structure_alone(&name, count),
         }
     }
 
@@ -166,22 +220,32 @@ impl Printer {
         self.put_whole(node)
     }
 
-    /// Prints an atom.
-    #[tactic(auto, using(crate::proofs::Texts::atom_alone))]
-    fn put_atom(&mut self, name: AtomText) -> Result<(), AllocError>
-        ensures text { OnOk result ((ts : List TermSpec) → text_of self.new ts ≡ page_text self.old.page ((printed_atom name).whole ++ behind_text (reverse self.old.frames.items) ts)) }
+    /// Prints a variable as it stands alone.
+    fn put_variable_alone(&mut self, number: u64) -> Result<(), AllocError>
+        ensures text { OnOk result ((ts : List TermSpec) → text_of self.new ts ≡ page_text self.old.page (text_in Whole (reverse self.old.frames.items) (with_node (Variable number) ts))) }
         ensures waits { OnOk result (waits_of self.new ≡ waits_behind (reverse self.old.frames.items)) }
     {
-        self.put_constant(name.printed_as_atom().as_slice())
+        self.page.put(b"_")?;
+        self.put_constant(Buffer::new().format(number).as_bytes())
     }
 
-    /// Prints the node of a structure.
+    /// Prints an atom as it stands alone.
+    #[tactic(auto, using(crate::proofs::Texts::atom_alone))]
+    fn put_atom_alone(&mut self, name: &AtomText) -> Result<(), AllocError>
+        ensures text { OnOk result ((ts : List TermSpec) → text_of self.new ts ≡ page_text self.old.page ((printed_atom name.now).whole ++ behind_text (reverse self.old.frames.items) ts)) }
+        ensures waits { OnOk result (waits_of self.new ≡ waits_behind (reverse self.old.frames.items)) }
+    {
+        self.page.put_atom(name)?;
+        self.complete()
+    }
+
+    /// Prints the node of a structure as it stands alone.
     #[tactic(auto, using(crate::proofs::Texts::cell_goes_on, crate::proofs::Texts::colon_goes_on, crate::proofs::Openings::opens_cell, crate::proofs::Openings::opens_colon))]
-    fn put_structure(&mut self, name: AtomText, count: usize) -> Result<(), AllocError>
-        ensures text { OnOk result ((ts : List TermSpec) → text_of self.new ts ≡ page_text self.old.page (text_in Whole (reverse self.old.frames.items) (with_node (Structure name count) ts))) }
+    fn put_structure_alone(&mut self, name: &AtomText, count: usize) -> Result<(), AllocError>
+        ensures text { OnOk result ((ts : List TermSpec) → text_of self.new ts ≡ page_text self.old.page (text_in Whole (reverse self.old.frames.items) (with_node (Structure name.now count) ts))) }
         ensures waits { OnOk result (waits_of self.new ≡ count + waits_behind (reverse self.old.frames.items)) }
     {
-        match find_opening(&name, count) {
+        match find_opening(name, count) {
             Opening::Cell => { self.enter(b"[", Frame::Tail) }
             Opening::Colon => {
                 self.mode = Mode::Colon;
@@ -193,12 +257,12 @@ impl Printer {
 
     /// Prints the name of a structure that is printed with it.
     #[tactic(auto, using(crate::proofs::Texts::call_goes_on, crate::proofs::Texts::call_ends))]
-    fn put_call(&mut self, name: AtomText, count: usize) -> Result<(), AllocError>
-        requires { opening_of name count ≡ Call }
-        ensures text { OnOk result ((ts : List TermSpec) → text_of self.new ts ≡ page_text self.old.page (text_in Whole (reverse self.old.frames.items) (with_node (Structure name count) ts))) }
+    fn put_call(&mut self, name: &AtomText, count: usize) -> Result<(), AllocError>
+        requires { opening_of name.now count ≡ Call }
+        ensures text { OnOk result ((ts : List TermSpec) → text_of self.new ts ≡ page_text self.old.page (text_in Whole (reverse self.old.frames.items) (with_node (Structure name.now count) ts))) }
         ensures waits { OnOk result (waits_of self.new ≡ count + waits_behind (reverse self.old.frames.items)) }
     {
-        self.page.put(name.printed_as_name().as_slice())?;
+        self.page.put_name(name)?;
         if count == 0 {
             return self.put_constant(b"()");
         }
@@ -260,7 +324,7 @@ impl Printer {
 fn put_module(page: &mut Page, name: &AtomText) -> Result<(), AllocError>
     ensures { OnOk result ((rest : List ℕ) → page_text page.new rest ≡ page_text page.old (atom_text name.now ++ (codes ":" ++ rest))) }
 {
-    page.put(name.printed_as_atom().as_slice())?;
+    page.put_atom(name)?;
     page.put(b":")
 }
 
@@ -269,5 +333,5 @@ fn put_first_of_two(page: &mut Page, name: &AtomText) -> Result<(), AllocError>
     ensures { OnOk result ((rest : List ℕ) → page_text page.new rest ≡ page_text page.old (codes "':'(" ++ (atom_text name.now ++ rest))) }
 {
     page.put(b"':'(")?;
-    page.put(name.printed_as_atom().as_slice())
+    page.put_atom(name)
 }

@@ -107,7 +107,7 @@ impl AtomText {
     }
 
     /// Puts the bytes of the name into a row that has none.
-    fn unpack(&self, out: &mut ShortBytes)
+    pub(crate) fn unpack(&self, out: &mut ShortBytes)
         requires { out.old ≡ [] }
         ensures value { out.new ≡ self.now }
         ensures short { length out.new ≤ MOST_NAME_BYTES }

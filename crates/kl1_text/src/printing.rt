@@ -25,7 +25,12 @@ pub fn put_name(out: &mut Vec<u8>, name: &AtomText) -> Result<(), AllocError>
     ensures ok { OnOk result (out.new.items ≡ out.old.items ++ name_text name.now) }
     ensures err { OnErr result (out.new.items ≡ out.old.items) }
 {
-    out.extend_from_slice(name.printed_as_name().as_slice())
+    let mut text = ShortBytes::new();
+    name.unpack(&mut text);
+    if is_bare(text.as_slice()) {
+        return out.extend_from_slice(text.as_slice());
+    }
+    out.extend_from_slice(quoted(text.as_slice()).as_slice())
 }
 
 /// Puts an atom, as it is printed, after the bytes.
@@ -33,7 +38,15 @@ pub fn put_atom(out: &mut Vec<u8>, name: &AtomText) -> Result<(), AllocError>
     ensures ok { OnOk result (out.new.items ≡ out.old.items ++ atom_text name.now) }
     ensures err { OnErr result (out.new.items ≡ out.old.items) }
 {
-    out.extend_from_slice(name.printed_as_atom().as_slice())
+    let mut bytes = ShortBytes::new();
+    name.unpack(&mut bytes);
+    if bytes.as_slice() == b"[]".as_slice() {
+        return out.extend_from_slice(bytes.as_slice());
+    }
+    if is_bare(bytes.as_slice()) {
+        return out.extend_from_slice(bytes.as_slice());
+    }
+    out.extend_from_slice(quoted(bytes.as_slice()).as_slice())
 }
 
 /// Whether a byte is a small letter.

@@ -1,5 +1,5 @@
 -- Cells on a stack as nodes, one after another, with names as numbers.
-use Rattle.std.specs.Prelude.{◌≡◌, ℕ, suc, ◌+◌, ◌<◌, List, [], ◌∷◌, length, reverse, Option, Some, None}
+use Rattle.std.specs.Prelude.{◌≡◌, ℕ, suc, ◌+◌, ◌<◌, List, [], ◌∷◌, length, reverse, codes, Option, Some, None}
 use Rattle.kl1_model.specs.Term.{Term, size}
 use Rattle.kl1_term.specs.declared.node.Node.{Node}
 use Rattle.kl1_term.specs.declared.node.Node.TheVariants as node
@@ -19,6 +19,10 @@ node_with f (top.Variable n) = node.Variable n
 node_with f (top.Integer i) = node.Integer i
 node_with f (top.Atom a) = node.Atom (f a)
 node_with f (top.Structure a n) = node.Structure (f a) n
+
+-- the node of a list cell
+abbrev pub list_cell : Node
+list_cell = node.Structure (codes ".") 2
 
 -- how many arguments it has
 abbrev pub count_at : Top → ℕ

@@ -1,20 +1,25 @@
 // Terms printed straight from cells.
 
-ghost use Rattle.std.specs.Prelude.{◌≡◌, ◌<◌, ◌++◌, ℕ, length, reverse, IfOk, OnOk};
+ghost use Rattle.std.specs.Prelude.{◌≡◌, ◌<◌, ◌++◌, ◌+◌, ℕ, List, length, reverse, IfOk, OnOk, IsTrue};
 ghost use Rattle.kl1_model.specs.Print.{print};
-ghost use Rattle.kl1_term.specs.Nodes.{count_in};
+ghost use Rattle.kl1_model.specs.Term.{Term};
+ghost use Rattle.kl1_term.specs.Nodes.{with_node};
+ghost use Rattle.kl1_term.specs.Printing.{text_of as text_with, waits_of};
+ghost use Rattle.kl1_atoms.specs.declared.known.Known.{Known};
 ghost use Rattle.kl1_term.specs.Page.{limited};
 ghost use Rattle.kl1_store.specs.Held.{IsIn, AreIn, arguments_of};
 ghost use Rattle.kl1_user_effects.specs.Fitting.{Reading, Fits};
 ghost use Rattle.kl1_user_effects.specs.Account.{meaning};
 ghost use Rattle.kl1_user_effects.specs.Naming.{AreSmall, Keeps};
-ghost use Rattle.kl1_user_account.specs.Tops.{node_with, count_at, IsNext, TakesTop};
+ghost use Rattle.kl1_user_account.specs.declared.top.Top.TheVariants.{Atom, Structure};
+ghost use Rattle.kl1_user_account.specs.Tops.{node_with, count_at, list_cell, IsNext, TakesTop};
 
 use crate::top::Top;
 use kl1_atoms::AtomSource;
+use kl1_model::BuiltIn;
 use kl1_store::{Cell, Store};
-use kl1_term::{Node, Printer};
-use kl1_text::{AtomNo, AtomText, CellName};
+use kl1_term::Printer;
+use kl1_text::{AtomNo, AtomText, CellName, NameValue};
 use std::alloc::{AllocError, Global};
 
 /// Puts the `count` arguments of a structure on a stack, the first of them on top.
@@ -93,21 +98,78 @@ fn text_of<A: AtomSource>(names: &mut A, seat: &mut A::Seat, name: CellName) -> 
     names.text_of(seat, AtomNo { number })
 }
 
-/// What is at the top of a term, with its name as a text, which is the same for all readings.
-fn node_of<A: AtomSource>(names: &mut A, seat: &mut A::Seat, top: Top) -> Node
+/// Whether a structure with this name and `count` arguments is a list cell.
+fn is_list_cell(name: CellName, count: usize) -> bool
+    ensures count { IsTrue result → count ≡ 2 }
+    ensures node { IsTrue result → (ks : List Known) (f : Reading) → Fits ks f → node_with f (Structure name count) ≡ list_cell }
+{
+    count == 2 && name.same(&CellName::of(BuiltIn::ListCell))
+}
+
+/// Prints an atom with this name, which is the same for all readings.
+fn put_atom<A: AtomSource>(
+    names: &mut A,
+    seat: &mut A::Seat,
+    printer: &mut Printer,
+    name: CellName,
+) -> Result<(), AllocError>
+    requires of { A.is_of names.old seat.old }
+    requires small { AreSmall (A.knows seat.old) }
+    requires named { (f g : Reading) → Fits (A.knows seat.old) f → Fits (A.knows seat.old) g → f name ≡ g name }
+    ensures text { OnOk result ((f : Reading) → Fits (A.knows seat.old) f → (ts : List Term) → text_with printer.new ts ≡ text_with printer.old (with_node (node_with f (Atom name)) ts)) }
+    ensures waits { OnOk result (0 < waits_of printer.old → waits_of printer.new + 1 ≡ waits_of printer.old) }
+    ensures keeps { Keeps A.is_of A.place A.knows A.published names.old names.new seat.old seat.new }
+    ensures knows { A.knows seat.new ≡ A.knows seat.old }
+{
+    let text = text_of(names, seat, name);
+    printer.put_atom(&text)
+}
+
+/// Prints a structure with this name, which is the same for all readings, and `count` arguments.
+fn put_structure<A: AtomSource>(
+    names: &mut A,
+    seat: &mut A::Seat,
+    printer: &mut Printer,
+    name: CellName,
+    count: usize,
+) -> Result<(), AllocError>
+    requires of { A.is_of names.old seat.old }
+    requires small { AreSmall (A.knows seat.old) }
+    requires named { (f g : Reading) → Fits (A.knows seat.old) f → Fits (A.knows seat.old) g → f name ≡ g name }
+    ensures text { OnOk result ((f : Reading) → Fits (A.knows seat.old) f → (ts : List Term) → text_with printer.new ts ≡ text_with printer.old (with_node (node_with f (Structure name count)) ts)) }
+    ensures waits { OnOk result (0 < waits_of printer.old → waits_of printer.new + 1 ≡ count + waits_of printer.old) }
+    ensures keeps { Keeps A.is_of A.place A.knows A.published names.old names.new seat.old seat.new }
+    ensures knows { A.knows seat.new ≡ A.knows seat.old }
+{
+    let text = text_of(names, seat, name);
+    printer.put_structure(&text, count)
+}
+
+/// Prints what is at the top of a term, which is the same for all readings.
+fn put_top<A: AtomSource>(
+    names: &mut A,
+    seat: &mut A::Seat,
+    printer: &mut Printer,
+    top: Top,
+) -> Result<(), AllocError>
     requires of { A.is_of names.old seat.old }
     requires small { AreSmall (A.knows seat.old) }
     requires named { (f g : Reading) → Fits (A.knows seat.old) f → Fits (A.knows seat.old) g → node_with f top ≡ node_with g top }
-    ensures node { (f : Reading) → Fits (A.knows seat.old) f → node_with f top ≡ result }
-    ensures count { count_in result ≡ count_at top }
+    ensures text { OnOk result ((f : Reading) → Fits (A.knows seat.old) f → (ts : List Term) → text_with printer.new ts ≡ text_with printer.old (with_node (node_with f top) ts)) }
+    ensures waits { OnOk result (0 < waits_of printer.old → waits_of printer.new + 1 ≡ count_at top + waits_of printer.old) }
     ensures keeps { Keeps A.is_of A.place A.knows A.published names.old names.new seat.old seat.new }
     ensures knows { A.knows seat.new ≡ A.knows seat.old }
 {
     match top {
-        Top::Variable(number) => Node::Variable(number),
-        Top::Integer(number) => Node::Integer(number),
-        Top::Atom(name) => Node::Atom(text_of(names, seat, name)),
-        Top::Structure(name, count) => Node::Structure(text_of(names, seat, name), count),
+        Top::Variable(number) => printer.put_variable(number),
+        Top::Integer(number) => printer.put_integer(number),
+        Top::Atom(name) => put_atom(names, seat, printer, name),
+        Top::Structure(name, count) => {
+            if is_list_cell(name, count) {
+                return printer.put_cell();
+            }
+            put_structure(names, seat, printer, name, count)
+        }
     }
 }
 
@@ -135,8 +197,7 @@ pub(crate) fn print_cell<A: AtomSource>(
         let Some(top) = next_top(store, &mut stack)? else {
             break;
         };
-        let node = node_of(names, seat, top);
-        printer.put(node)?;
+        put_top(names, seat, &mut printer, top)?;
     }
     printer.into_text()
 }
