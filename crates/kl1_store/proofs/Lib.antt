@@ -31,5 +31,9 @@ pub mod Constants
 pub mod Changed
 pub mod Bare
 pub mod OtherNames
+pub mod Packing
+pub mod Ordering
+pub mod Listing
+pub mod Placed
 pub mod Renamed
 pub mod Recalling

@@ -36,17 +36,17 @@ all_in h p =
     subst W (omega arith) (among_within h.variables 0 h.structures p.built)
 
 -- they are the list in which the store keeps them
-pub all_are : {N : Type 0} (slots : List (Cell N)) (nodes : List (Node N)) (arguments : List (Cell N)) (bindings : List (Binding N)) (h : Held N) →
-    IsInside slots nodes arguments bindings → held_in slots nodes arguments bindings ≡ h → all_arguments h ≡ arguments
-all_are {N = N} slots nodes arguments bindings h inside e =
+pub all_are : {N : Type 0} (variables : ℕ) (nodes : List (Node N)) (arguments : List (Cell N)) (bindings : List (Binding N)) (h : Held N) →
+    IsInside variables nodes arguments bindings → held_in variables nodes arguments bindings ≡ h → all_arguments h ≡ arguments
+all_are {N = N} variables nodes arguments bindings h inside e =
     let L : ℕ → Type 0 = λ n. AreLaid 0 nodes n in
     ap (λ k. all_arguments k) (sym e) ∙ among_laid 0 nodes arguments (subst L (omega arith) inside.laid)
 
 -- a structure's arguments stand where its node says
-pub stand_from : {N : Type 0} (slots : List (Cell N)) (nodes : List (Node N)) (arguments : List (Cell N)) (bindings : List (Binding N)) (i : ℕ) (n : Node N) (h : Held N) →
-    IsInside slots nodes arguments bindings → held_in slots nodes arguments bindings ≡ h → ReadAt h arguments i n → StandFrom h i n.start
-stand_from slots nodes arguments bindings i n h inside e read =
-    let all = all_are slots nodes arguments bindings h inside e in
+pub stand_from : {N : Type 0} (variables : ℕ) (nodes : List (Node N)) (arguments : List (Cell N)) (bindings : List (Binding N)) (i : ℕ) (n : Node N) (h : Held N) →
+    IsInside variables nodes arguments bindings → held_in variables nodes arguments bindings ≡ h → ReadAt h arguments i n → StandFrom h i n.start
+stand_from variables nodes arguments bindings i n h inside e read =
+    let all = all_are variables nodes arguments bindings h inside e in
     record {
       fits = omega (arith, read.fits, read.count, ap length all);
       few = omega (arith, inside.arguments_fit, ap length all);
@@ -64,8 +64,8 @@ argument_there {N = N} h arguments i x all lt e =
     let Q : List (Cell N) → Type 0 = λ l. x ≡ slice_index_or l i x in
     some_at (all_arguments h) i x lt (subst Q (sym all) e)
 
-pub argument_inside : {N : Type 0} (h : Held N) (slots : List (Cell N)) (nodes : List (Node N)) (arguments : List (Cell N)) (bindings : List (Binding N)) (i : ℕ) (x : Cell N) →
-    IsInside slots nodes arguments bindings → held_in slots nodes arguments bindings ≡ h → i < length (all_arguments h) → x ≡ slice_index_or arguments i x → IsIn h x
-argument_inside {N = N} h slots nodes arguments bindings i x inside e lt is =
+pub argument_inside : {N : Type 0} (h : Held N) (variables : ℕ) (nodes : List (Node N)) (arguments : List (Cell N)) (bindings : List (Binding N)) (i : ℕ) (x : Cell N) →
+    IsInside variables nodes arguments bindings → held_in variables nodes arguments bindings ≡ h → i < length (all_arguments h) → x ≡ slice_index_or arguments i x → IsIn h x
+argument_inside {N = N} h variables nodes arguments bindings i x inside e lt is =
     let F : Held N → Type 0 = λ k. IsFormed k in
-    within_at h (all_arguments h) i x (all_in h (subst F e inside.formed)) (argument_there h arguments i x (all_are slots nodes arguments bindings h inside e) lt is)
+    within_at h (all_arguments h) i x (all_in h (subst F e inside.formed)) (argument_there h arguments i x (all_are variables nodes arguments bindings h inside e) lt is)

@@ -5,7 +5,13 @@ use Rattle.std.proofs.lemmas.Bool.{cond-true}
 use Rattle.std.proofs.lemmas.List.Elements.{Contains-append_left, Contains-append_right, Contains-push}
 use Rattle.kl1_store.specs.declared.binding.Binding.{Binding}
 use Rattle.kl1_store.specs.Held.{is_bound}
-use Rattle.kl1_store.specs.Hooks.{Hook, hanging_on, told_by}
+use Rattle.kl1_store.specs.Hooks.{Hook, hanging_on, told_by, told_on}
+use Rattle.kl1_store.specs.Slots.{variables_of}
+
+-- what hangs on the variables of bindings
+pub told_on-variables : {N : Type 0} (bs : List (Binding N)) (ks : List Hook) → told_on (variables_of bs) ks ≡ told_by bs ks
+told_on-variables [] ks = refl
+told_on-variables (b ∷ bs) ks = ap (λ l. hanging_on b.variable ks ++ l) (told_on-variables bs ks)
 
 -- each hook on a variable is among those that hang there
 pub hangs : (ks : List Hook) (k : Hook) → Contains ks k → Contains (hanging_on k.variable ks) k.number

@@ -27,6 +27,11 @@ abbrev pub told_by : {N : Type 0} → List (Binding N) → List Hook → List �
 told_by [] ks = []
 told_by (b ∷ bs) ks = hanging_on b.variable ks ++ told_by bs ks
 
+-- the numbers that hang on these variables
+abbrev pub told_on : List ℕ → List Hook → List ℕ
+told_on [] ks = []
+told_on (v ∷ vs) ks = hanging_on v ks ++ told_on vs ks
+
 -- how much is kept
 abbrev pub point_of : {N : Type 0} → Kept N → Point
 point_of k = record { sizes = sizes_of k.held; hooks = length k.hooks }

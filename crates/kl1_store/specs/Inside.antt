@@ -1,10 +1,9 @@
 -- How the lists of a store stand for what it holds.
-use Rattle.std.specs.Prelude.{◌≡◌, ℕ, ◌+◌, ◌-◌, ◌^◌, suc, ◌≤◌, min, List, [], ◌∷◌, length, take, drop, get_or}
+use Rattle.std.specs.Prelude.{◌≡◌, ℕ, ◌+◌, ◌-◌, ◌^◌, ◌≤◌, min, List, [], ◌∷◌, length, take, drop}
 use Rattle.kl1_store.specs.declared.cell.Cell.{Cell}
-use Rattle.kl1_store.specs.declared.cell.Cell.TheVariants.{Variable}
 use Rattle.kl1_store.specs.declared.node.Node.{Node}
 use Rattle.kl1_store.specs.declared.binding.Binding.{Binding}
-use Rattle.kl1_store.specs.Held.{Shape, Held, found}
+use Rattle.kl1_store.specs.Held.{Shape, Held}
 use Rattle.kl1_store.specs.Sound.{IsFormed}
 
 -- the structures, their arguments one after another in one list
@@ -26,14 +25,13 @@ abbrev pub room_in : ℕ → ℕ → ℕ
 room_in capacity length = min capacity most - length
 
 -- what the lists hold
-abbrev pub held_in : {N : Type 0} → List (Cell N) → List (Node N) → List (Cell N) → List (Binding N) → Held N
-held_in slots nodes arguments bindings = record { variables = length slots; structures = shapes_in arguments nodes; bindings = bindings }
+abbrev pub held_in : {N : Type 0} → ℕ → List (Node N) → List (Cell N) → List (Binding N) → Held N
+held_in variables nodes arguments bindings = record { variables = variables; structures = shapes_in arguments nodes; bindings = bindings }
 
 -- what always holds of the lists
-pub record IsInside {N : Type 0} (slots : List (Cell N)) (nodes : List (Node N)) (arguments : List (Cell N)) (bindings : List (Binding N)) : Type 0 where
-  pub formed : IsFormed (held_in slots nodes arguments bindings)
+pub record IsInside {N : Type 0} (variables : ℕ) (nodes : List (Node N)) (arguments : List (Cell N)) (bindings : List (Binding N)) : Type 0 where
+  pub formed : IsFormed (held_in variables nodes arguments bindings)
   pub laid : AreLaid 0 nodes (length arguments)
-  pub slotted : (v : ℕ) → suc v ≤ length slots → get_or slots v (Variable v) ≡ found v bindings
-  pub variables_fit : length slots ≤ most
+  pub variables_fit : variables ≤ most
   pub structures_fit : length nodes ≤ most
   pub arguments_fit : length arguments ≤ most

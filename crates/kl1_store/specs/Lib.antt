@@ -3,6 +3,7 @@ pub mod Meaning
 pub mod Sound
 pub mod Inside
 pub mod Slots
+pub mod Words
 pub mod Waiting
 pub mod Meets
 pub mod Value

@@ -7,17 +7,19 @@ ghost use Rattle.kl1_store.specs.Meaning.{term_of};
 ghost use Rattle.kl1_store.specs.Spending.{Spends, SpendsOnBindings, FreesRoom};
 ghost use Rattle.kl1_store.specs.Sound.{IsFormed, Grown, IsBoundTo};
 ghost use Rattle.kl1_store.specs.Places.{all_arguments, StandFrom};
-ghost use Rattle.kl1_store.specs.Slots.{AreSlotted, AreOnce};
+ghost use Rattle.kl1_store.specs.Slots.{variables_of};
 ghost use Rattle.kl1_store.specs.Tops.{firsts, others};
 
 mod renaming;
 
-use crate::binding::Binding;
+use crate::bindings::Bindings;
 use crate::cell::Cell;
 use crate::head::Head;
 use crate::mark::Mark;
+use crate::moving::{move_top, put_all};
 use crate::node::Node;
 use crate::room::make_room;
+use crate::words::Words;
 use kl1_text::NameValue;
 use std::alloc::{AllocError, Global};
 use std::marker::Model;
@@ -27,14 +29,13 @@ const MOST: usize = 0xffff_ffff;
 /// Variables, structures and bindings, all numbered from 0.
 #[derive(Drop)]
 pub struct Cells<N: NameValue> {
-    slots: Vec<Cell<N>>,
+    bindings: Bindings<N>,
     nodes: Vec<Node<N>>,
-    arguments: Vec<Cell<N>>,
-    bindings: Vec<Binding<N>>,
+    arguments: Words<N>,
 }
 
 impl<N: NameValue> Model for Cells<N> {
-    ghost use Rattle.std.specs.Prelude.{◌≡◌, ℕ, ◌-◌, vec_len, vec_capacity, length};
+    ghost use Rattle.std.specs.Prelude.{vec_len, vec_capacity};
     ghost use Rattle.kl1_store.specs.Held.{Stored};
 
     ghost Value = { Stored N };
@@ -42,16 +43,16 @@ impl<N: NameValue> Model for Cells<N> {
     ghost use Rattle.kl1_store.specs.Inside.{shapes_in, room_in, IsInside};
 
     ghost view = { λ s. record {
-      held = record { variables = length s.slots.items; structures = shapes_in s.arguments.items s.nodes.items; bindings = s.bindings.items };
+      held = record { variables = s.bindings.variables; structures = shapes_in s.arguments.cells s.nodes.items; bindings = s.bindings.bindings };
       room = record {
-        variables = room_in (vec_capacity s.slots) (vec_len s.slots);
+        variables = s.bindings.room;
         structures = room_in (vec_capacity s.nodes) (vec_len s.nodes);
-        arguments = room_in (vec_capacity s.arguments) (vec_len s.arguments);
-        bindings = vec_capacity s.bindings - vec_len s.bindings;
+        arguments = s.arguments.room;
+        bindings = s.bindings.binding_room;
       };
     } };
 
-    ghost invariant = { λ s. IsInside s.slots.items s.nodes.items s.arguments.items s.bindings.items };
+    ghost invariant = { λ s. IsInside s.bindings.variables s.nodes.items s.arguments.cells s.bindings.bindings };
 }
 
 impl<N: NameValue> Cells<N> {
@@ -60,10 +61,9 @@ impl<N: NameValue> Cells<N> {
         ensures { result.held ≡ nothing_held }
     {
         Cells {
-            slots: Vec::new(alloc),
+            bindings: Bindings::new(alloc),
             nodes: Vec::new(alloc),
-            arguments: Vec::new(alloc),
-            bindings: Vec::new(alloc),
+            arguments: Words::new(alloc),
         }
     }
 
@@ -72,7 +72,7 @@ impl<N: NameValue> Cells<N> {
     pub fn variables(&self) -> usize
         ensures { result ≡ self.now.held.variables }
     {
-        self.slots.len()
+        self.bindings.variables()
     }
 
     /// A new variable, unbound.
@@ -83,14 +83,7 @@ impl<N: NameValue> Cells<N> {
         ensures room { 0 < self.old.room.variables → IsOk result }
         ensures spends { Spends self.old.room self.new.room 1 0 0 0 }
     {
-        let number = self.slots.len();
-        if number >= MOST {
-            return Err(AllocError);
-        }
-        let number = number as u32;
-        make_room(&mut self.slots, 1)?;
-        self.slots.push_reserved(Cell::Variable(number));
-        Ok(number)
+        self.bindings.fresh()
     }
 
     /// A new structure.
@@ -107,8 +100,9 @@ impl<N: NameValue> Cells<N> {
         if number >= MOST || count > MOST || start > MOST - count {
             return Err(AllocError);
         }
-        self.nodes.reserve(1)?;
-        self.arguments.extend_from_slice(arguments)?;
+        make_room(&mut self.nodes, 1)?;
+        self.arguments.make_room(count)?;
+        put_all(&mut self.arguments, arguments);
         self.nodes.push_reserved(Node {
             name,
             start: start as u32,
@@ -136,9 +130,9 @@ impl<N: NameValue> Cells<N> {
             return Err(AllocError);
         }
         make_room(&mut self.nodes, 1)?;
-        make_room(&mut self.arguments, 2)?;
-        self.arguments.push_reserved(first);
-        self.arguments.push_reserved(second);
+        self.arguments.make_room(2)?;
+        self.arguments.push(first);
+        self.arguments.push(second);
         self.nodes.push_reserved(Node {
             name,
             start: start as u32,
@@ -173,7 +167,7 @@ impl<N: NameValue> Cells<N> {
             return Err(AllocError);
         }
         make_room(&mut self.nodes, 1)?;
-        make_room(&mut self.arguments, count)?;
+        self.arguments.make_room(count)?;
         move_top(stack, &mut self.arguments, missing, count);
         self.nodes.push_reserved(Node {
             name,
@@ -195,16 +189,12 @@ impl<N: NameValue> Cells<N> {
         ensures spends { Spends self.old.room self.new.room 0 0 0 0 }
         ensures same { self.new.held ≡ self.old.held }
     {
-        if variables > MOST - self.slots.len()
-            || structures > MOST - self.nodes.len()
-            || arguments > MOST - self.arguments.len()
-        {
+        if structures > MOST - self.nodes.len() {
             return Err(AllocError);
         }
-        self.slots.reserve(variables)?;
         self.nodes.reserve(structures)?;
-        self.arguments.reserve(arguments)?;
-        self.bindings.reserve(bindings)
+        self.arguments.make_room(arguments)?;
+        self.bindings.reserve(variables, bindings)
     }
 
     /// The variable `variable` is replaced by `value` everywhere.
@@ -220,9 +210,7 @@ impl<N: NameValue> Cells<N> {
         ensures room { 0 < self.old.room.bindings → IsOk result }
         ensures spends { SpendsOnBindings self.old.held self.old.room self.new.held self.new.room }
     {
-        make_room(&mut self.bindings, 1)?;
-        self.bindings.push_reserved(Binding { variable, value });
-        self.slots[variable as usize] = value;
+        self.bindings.bind(variable, value)?;
         Ok(())
     }
 
@@ -233,7 +221,7 @@ impl<N: NameValue> Cells<N> {
         ensures found { result ≡ found variable self.now.held.bindings }
         ensures formed { IsFormed self.now.held }
     {
-        self.slots[variable as usize]
+        self.bindings.value(variable)
     }
 
     /// The name of a structure, and how many arguments it has.
@@ -260,7 +248,7 @@ impl<N: NameValue> Cells<N> {
         ensures formed { IsFormed self.now.held }
     {
         let node = self.nodes[structure as usize];
-        self.arguments[node.start as usize + index as usize]
+        self.arguments.get(node.start as usize + index as usize)
     }
 
     /// The place of a structure's first argument among those of all structures, from 0.
@@ -279,7 +267,7 @@ impl<N: NameValue> Cells<N> {
         ensures is { slice_get (all_arguments self.now.held) place ≡ Some result }
         ensures inside { IsIn self.now.held result }
     {
-        self.arguments[place as usize]
+        self.arguments.get(place as usize)
     }
 
     /// The cell that a cell stands for: what its variable was bound to, and so on.
@@ -301,13 +289,11 @@ impl<N: NameValue> Cells<N> {
         at
     }
 
-    /// The bindings after the first `from`.
-    #[tactic(auto, using(std::proofs::lemmas::List::drop_min))]
-    pub fn bindings_from(&self, from: usize) -> &[Binding<N>]
-        ensures { result.now ≡ drop from self.now.held.bindings }
+    /// The variables of the bindings after the first `from`.
+    pub fn bound_from(&self, from: usize) -> &[u32]
+        ensures { result.now ≡ variables_of (drop from self.now.held.bindings) }
     {
-        let first = from.min(self.bindings.len());
-        &self.bindings[first..]
+        self.bindings.bound_from(from)
     }
 
     /// Whether a cell is of this store.
@@ -315,7 +301,7 @@ impl<N: NameValue> Cells<N> {
     pub fn holds(&self, cell: Cell<N>) -> bool
         ensures { IsTrue result ↔ IsIn self.now.held cell }
     {
-        let variables = self.slots.len();
+        let variables = self.bindings.variables();
         let structures = self.nodes.len();
         match cell {
             Cell::Variable(variable) => (variable as usize) < variables,
@@ -332,9 +318,9 @@ impl<N: NameValue> Cells<N> {
         ensures formed { IsFormed self.now.held }
     {
         Mark {
-            variables: self.slots.len() as u32,
+            variables: self.bindings.variables() as u32,
             structures: self.nodes.len() as u32,
-            bindings: self.bindings.len(),
+            bindings: self.bindings.count(),
         }
     }
 
@@ -344,90 +330,12 @@ impl<N: NameValue> Cells<N> {
         ensures held { (h : Held N) → mark ≡ sizes_of h → Grown h self.old.held → self.new.held ≡ h }
         ensures room { FreesRoom self.old.held self.old.room self.new.held self.new.room }
     {
-        unbind(&mut self.slots, &mut self.bindings, mark.bindings);
-        self.slots.truncate(mark.variables as usize);
+        self.bindings.keep(mark.variables as usize, mark.bindings);
         let structures = mark.structures as usize;
         if structures < self.nodes.len() {
             let start = self.nodes[structures].start;
             self.arguments.truncate(start as usize);
             self.nodes.truncate(structures);
-        }
-    }
-}
-
-/// Moves `count` cells from the top of a stack to the end of a list with room for them; if none is left, `missing` stands
-/// for it.
-fn move_top<N: NameValue>(
-    stack: &mut Vec<Cell<N>>,
-    list: &mut Vec<Cell<N>>,
-    missing: Cell<N>,
-    count: usize,
-)
-    requires room { length list.old.items + count ≤ vec_capacity list.old }
-    ensures moved { list.new.items ≡ list.old.items ++ firsts missing count (reverse stack.old.items) }
-    ensures left { reverse stack.new.items ≡ others count (reverse stack.old.items) }
-    ensures more { length list.new.items ≡ length list.old.items + count }
-    ensures list_capacity { vec_capacity list.new ≡ vec_capacity list.old }
-    ensures height { length stack.new.items ≤ length stack.old.items }
-    ensures stack_capacity { vec_capacity stack.new ≡ vec_capacity stack.old }
-{
-    if count > stack.len() {
-        return move_or_fill(stack, list, missing, count);
-    }
-    let from = stack.len() - count;
-    put_reversed(list, &stack[from..]);
-    stack.truncate(from);
-}
-
-/// Puts cells after those of a list with room for them, the last of them first.
-fn put_reversed<N: NameValue>(list: &mut Vec<Cell<N>>, cells: &[Cell<N>])
-    requires room { length list.old.items + length cells.now ≤ vec_capacity list.old }
-    ensures items { list.new.items ≡ list.old.items ++ reverse cells.now }
-    ensures capacity { vec_capacity list.new ≡ vec_capacity list.old }
-{
-    let mut left = cells.len();
-    while 0 < left {
-        left -= 1;
-        list.push_reserved(cells[left]);
-    }
-}
-
-/// Moves `count` cells as `move_top` does, one after another.
-fn move_or_fill<N: NameValue>(
-    stack: &mut Vec<Cell<N>>,
-    list: &mut Vec<Cell<N>>,
-    missing: Cell<N>,
-    count: usize,
-)
-    requires room { length list.old.items + count ≤ vec_capacity list.old }
-    ensures moved { list.new.items ≡ list.old.items ++ firsts missing count (reverse stack.old.items) }
-    ensures left { reverse stack.new.items ≡ others count (reverse stack.old.items) }
-    ensures more { length list.new.items ≡ length list.old.items + count }
-    ensures list_capacity { vec_capacity list.new ≡ vec_capacity list.old }
-    ensures height { length stack.new.items ≤ length stack.old.items }
-    ensures stack_capacity { vec_capacity stack.new ≡ vec_capacity stack.old }
-{
-    let mut left = count;
-    while 0 < left {
-        let cell = stack.pop().unwrap_or(missing);
-        list.push_reserved(cell);
-        left -= 1;
-    }
-}
-
-/// Takes back the bindings after the first `keep`.
-fn unbind<N: NameValue>(slots: &mut Vec<Cell<N>>, bindings: &mut Vec<Binding<N>>, keep: usize)
-    requires slotted { AreSlotted slots.old.items bindings.old.items }
-    requires once { AreOnce (length slots.old.items) [] bindings.old.items }
-    ensures slotted { AreSlotted slots.new.items bindings.new.items }
-    ensures bindings { bindings.new.items ≡ take keep bindings.old.items }
-    ensures slots { length slots.new.items ≡ length slots.old.items }
-    ensures slots_capacity { vec_capacity slots.new ≡ vec_capacity slots.old }
-    ensures bindings_capacity { vec_capacity bindings.new ≡ vec_capacity bindings.old }
-{
-    while bindings.len() > keep {
-        if let Some(binding) = bindings.pop() {
-            slots[binding.variable as usize] = Cell::Variable(binding.variable);
         }
     }
 }

@@ -4,6 +4,7 @@
 mod advance;
 mod apart;
 mod binding;
+mod bindings;
 mod cell;
 mod cells;
 mod compare;
@@ -19,6 +20,7 @@ mod meeting;
 mod meets;
 mod merge;
 mod merges;
+mod moving;
 mod next;
 mod node;
 mod occurs;
@@ -37,6 +39,8 @@ mod take_back;
 mod task;
 mod tell;
 mod unified;
+mod word;
+mod words;
 
 pub use cell::Cell;
 pub use head::Head;

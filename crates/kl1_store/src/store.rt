@@ -366,8 +366,8 @@ impl<N: NameValue> Store<N> {
     pub fn tell(&self, since: Point, told: &mut Vec<u64>) -> Result<(), AllocError>
         ensures { OnOk result (told.new.items ≡ told.old.items ++ told_by (drop since.sizes.bindings self.now.held.bindings) self.now.hooks) }
     {
-        let bindings = self.cells.bindings_from(since.sizes.bindings);
-        tell_all(bindings, &self.hooks, told)
+        let variables = self.cells.bound_from(since.sizes.bindings);
+        tell_all(variables, &self.hooks, told)
     }
 
     /// How much is kept now.

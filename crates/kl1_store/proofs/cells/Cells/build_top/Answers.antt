@@ -9,20 +9,20 @@ use Rattle.kl1_store.proofs.cells.Cells.build_top.Goals as goal
 
 -- the lists after the growth
 grown : (g : _) (c : goal.After-push_reserved g) →
-    IsInside c.self.inside.slots.items c.push_reserved.new.self.items c.move_top.new.list.items c.self.inside.bindings.items
-    × (held_in c.self.inside.slots.items c.push_reserved.new.self.items c.move_top.new.list.items c.self.inside.bindings.items
+    IsInside c.self.inside.bindings.variables c.push_reserved.new.self.items c.move_top.new.list.cells c.self.inside.bindings.bindings
+    × (held_in c.self.inside.bindings.variables c.push_reserved.new.self.items c.move_top.new.list.cells c.self.inside.bindings.bindings
     ≡ with_structure c.args.self.now.held c.args.name (firsts c.args.missing c.args.count (reverse c.args.stack.now.items)))
 grown g c =
     let s = c.self.inside in
     let e = ap (λ (v : Stored g.row.N.Denot). v.held) c.self.view_is in
     let top = firsts c.args.missing c.args.count (reverse c.args.stack.now.items) in
     let count = length-firsts c.args.missing c.args.count (reverse c.args.stack.now.items) in
-    built_at s.slots.items s.nodes.items c.push_reserved.new.self.items s.arguments.items c.move_top.new.list.items s.bindings.items
+    built_at s.bindings.variables s.nodes.items c.push_reserved.new.self.items s.arguments.cells c.move_top.new.list.cells s.bindings.bindings
     (record { name = c.args.name; start = c.len-start.result; count = c.args.count }) top c.args.self.now.held
     c.self.invariant e (c.push_reserved.ensures.items ∙ ap (λ l. l ++ record { name = c.args.name; start = c.len-start.result; count = c.args.count } ∷ []) c.in_ok-make_room.ensures.items)
-    (c.move_top.ensures.moved ∙ ap (λ l. l ++ top) c.in_ok-make_room-2.ensures.items)
+    (c.move_top.ensures.moved ∙ ap (λ l. l ++ top) c.in_ok-make_room-2.ensures.same)
     (top_within c.args.self.now.held c.args.missing c.args.count c.args.stack.now.items c.requires.stack c.requires.missing)
-    (c.len-start.ensures ∙ s.arguments.ok.0) count (omega arith) (omega (arith, count))
+    c.len-start.ensures.is count (omega arith) (omega (arith, count))
 
 pub invariant_of-self-2 : goal.invariant_of-self-2
 invariant_of-self-2 g c = (grown g c).0
@@ -31,4 +31,4 @@ pub returns-clause-ok : goal.returns-clause-ok
 returns-clause-ok g c =
     let s = c.self.inside in
     let e = ap (λ (v : Stored g.row.N.Denot). length v.held.structures) c.self.view_is in
-    (omega (arith, e, length-shapes_in s.arguments.items s.nodes.items, s.nodes.ok.0), (grown g c).1)
+    (omega (arith, e, length-shapes_in s.arguments.cells s.nodes.items, s.nodes.ok.0), (grown g c).1)

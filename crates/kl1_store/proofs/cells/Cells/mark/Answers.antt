@@ -7,7 +7,7 @@ use Rattle.kl1_store.proofs.cells.Cells.mark.Goals as goal
 pub returns-clause-sizes : goal.returns-clause-sizes
 returns-clause-sizes g c =
     let s = c.self.inside in
-    ap (λ (m : ℕ). record { variables = m; structures = c.len-2.result; bindings = c.len-3.result }) (c.len.ensures ∙ s.slots.ok.0)
-    ∙ ap (λ (m : ℕ). record { variables = length s.slots.items; structures = m; bindings = c.len-3.result }) (c.len-2.ensures ∙ s.nodes.ok.0 ∙ sym (length-shapes_in s.arguments.items s.nodes.items))
-    ∙ ap (λ (m : ℕ). record { variables = length s.slots.items; structures = length (shapes_in s.arguments.items s.nodes.items); bindings = m }) (c.len-3.ensures ∙ s.bindings.ok.0)
+    ap (λ (m : ℕ). record { variables = m; structures = c.len.result; bindings = c.count.result }) c.variables.ensures
+    ∙ ap (λ (m : ℕ). record { variables = s.bindings.variables; structures = m; bindings = c.count.result }) (c.len.ensures ∙ s.nodes.ok.0 ∙ sym (length-shapes_in s.arguments.cells s.nodes.items))
+    ∙ ap (λ (m : ℕ). record { variables = s.bindings.variables; structures = length (shapes_in s.arguments.cells s.nodes.items); bindings = m }) c.count.ensures
     ∙ ap (λ (v : Stored g.row.N.Denot). sizes_of v.held) c.self.view_is
