@@ -8,6 +8,7 @@ pub mod NameTexts
 pub mod Looks
 pub mod Restood
 pub mod Told
+pub mod Once
 pub mod Added
 pub mod GoalOrder
 pub mod Reached

@@ -1,7 +1,9 @@
 -- Goals that were told of bindings are looked at again.
-use Rattle.std.proofs.Common.{◌≡◌, ℕ, ◌+◌, ◌<◌, List, [], ◌∷◌, length, drop, get_or, sym, ap, ◌∙◌, arith, subst, drop-cons, add-one, Bool, true, false, if◌then◌else◌}
+use Rattle.std.proofs.Common.{◌≡◌, ℕ, ◌+◌, ◌<◌, ◌||◌, List, [], ◌∷◌, length, drop, get_or, refl, sym, ap, ◌∙◌, arith, subst, drop-cons, add-one, Bool, true, false, if◌then◌else◌, ⊎_elim}
 use Rattle.std.specs.Prelude.{Option, Some, None}
 use Rattle.std.specs.List.{find}
+use Rattle.std.specs.List.Sorted.{IsPermutation}
+use Rattle.std.proofs.lemmas.Bool.{ne_eqb, eq-eqb, cases_eq}
 use Rattle.std.proofs.lemmas.List.{drop_all}
 use Rattle.kl1_text.specs.declared.cell_name.CellName.{CellName}
 use Rattle.kl1_store.specs.Held.{Held}
@@ -17,11 +19,11 @@ use Rattle.kl1_user_effects.specs.Fitting.{Reading}
 use Rattle.kl1_user_effects.specs.Kept.{IsTaskIn, AreGoalsIn}
 use Rattle.kl1_user_effects.specs.Works.{Knows}
 use Rattle.kl1_user_effects.specs.Drafts.{restood}
-use Rattle.kl1_user_account.specs.Waking.{AreSettledOr, IsFor, AreFor}
+use Rattle.kl1_user_account.specs.Waking.{is_among, AreSettledOr, IsFor, AreFor}
 use Rattle.kl1_user_account.specs.Looking.{FindsOut, AreOthersOf, Wakes, WakesTold}
 use Rattle.kl1_user_account.proofs.GoalOrder.{same_goal}
-use Rattle.kl1_user_account.proofs.Waking.{one_settled, none_settled, all_settled}
-use Rattle.kl1_store_hooks.proofs.Hooked.{HasGrown-trans}
+use Rattle.kl1_user_account.proofs.Waking.{pending_rest, one_settled, none_settled, among_permuted, settled_or_among, all_settled}
+use Rattle.kl1_store_hooks.proofs.Hooked.{HasGrown-same, HasGrown-trans}
 use Rattle.kl1_user_account.proofs.Restood.{each_is, restood_holds, restood_push}
 
 -- ---- one number
@@ -79,35 +81,96 @@ goal_wakes program shoens h hooks more goals removed n before after goal e up l 
 
 -- ---- one number after another
 
--- a store that holds what it held, and goals of which only those of the numbers that are left are pending still
-pub record StillWakes (program : Program) (shoens : List (Shoen CellName)) (old new : Kept CellName) (goals : List (Goal CellName)) (removed : ℕ) (told left : List ℕ) (before after : List Change) : Type 0 where
+-- each of these numbers but `last`, which was looked at, is among others
+abbrev pub Covers : List ℕ → ℕ → List ℕ → Type 0
+Covers left last others = (n : ℕ) → is_among n left ≡ true → (n ≡ last → ⊥) → is_among n others ≡ true
+
+-- they are among the last and these others
+covered : (n last : ℕ) (left others : List ℕ) → Covers left last others → is_among n left ≡ true → is_among n (last ∷ others) ≡ true
+covered n last left others c e =
+    ⊎_elim
+    (λ (same : n ≡ last). ap (λ b. b || is_among n others) (eq-eqb n last same))
+    (λ (differs : n ≡ last → ⊥). ap (λ b. b || is_among n others) (ne_eqb n last differs) ∙ c n e differs)
+    (cases_eq n last)
+
+-- one number that is looked at
+covers_next : (n last : ℕ) (left others : List ℕ) → Covers left n others → Covers (n ∷ left) last (n ∷ others)
+covers_next n last left others c m e other =
+    ⊎_elim
+    (λ (same : m ≡ n). ap (λ b. b || is_among m others) (eq-eqb m n same))
+    (λ (differs : m ≡ n → ⊥). covered m n left others c (pending_rest n m left differs e))
+    (cases_eq m n)
+
+-- one number that was looked at before
+covers_same : (n last : ℕ) (left others : List ℕ) → n ≡ last → Covers left last others → Covers (n ∷ left) last others
+covers_same n last left others is c m e other = c m (pending_rest n m left (λ same. other (same ∙ is)) e) other
+
+-- a store that holds what it held, and goals of which only those of the numbers that are left are pending still, but not the last
+-- that was looked at
+pub record StillWakes (program : Program) (shoens : List (Shoen CellName)) (old new : Kept CellName) (goals : List (Goal CellName)) (removed : ℕ) (told left : List ℕ) (last : ℕ) (before after : List Change) : Type 0 where
   pub held : new.held ≡ old.held
   pub grown : HasGrown old new
   pub wakes : (f : Reading) → Knows program.loaded f → (gs : List (Goal CellName)) → AreOthersOf goals removed gs →
-      AreSettledOr told f old.hooks old.held program shoens (restood before gs) → AreSettledOr left f new.hooks old.held program shoens (restood after gs)
+      AreSettledOr told f old.hooks old.held program shoens (restood before gs) → (others : List ℕ) → Covers left last others → AreSettledOr others f new.hooks old.held program shoens (restood after gs)
+
+-- none was looked at so far, but the goal that is removed needn't be
+pub first_woken : (program : Program) (shoens : List (Shoen CellName)) (old : Kept CellName) (goals : List (Goal CellName)) (removed : ℕ) (told : List ℕ) (before : List Change) → StillWakes program shoens old old goals removed told told removed before before
+first_woken program shoens old goals removed told before =
+    record {
+      held = refl;
+      grown = HasGrown-same old;
+      wakes = λ f knows gs are settled others c.
+          none_settled f old.hooks old.held program shoens removed others (restood before gs)
+          (restood_holds (λ g. g.number ≡ removed → ⊥) (λ g o p. p) before gs
+          (each_is (IsOther goals removed) (λ g. g.number ≡ removed → ⊥) gs (λ g other. other.1) are))
+          (settled_or_among f old.hooks old.held program shoens told (removed ∷ others) (restood before gs) (λ n. covered n removed told others c) settled);
+    }
 
 -- one more was looked at
-pub next_woken : (program : Program) (shoens : List (Shoen CellName)) (old mid new : Kept CellName) (goals : List (Goal CellName)) (removed : ℕ) (told : List ℕ) (i d : ℕ) (before now after : List Change) → i < length told →
-    StillWakes program shoens old mid goals removed told (drop i told) before now → new.held ≡ mid.held → HasGrown mid new → Wakes program shoens mid.held mid.hooks new.hooks goals removed (get_or told i d) now after →
-    StillWakes program shoens old new goals removed told (drop (i + 1) told) before after
-next_woken program shoens old mid new goals removed told i d before now after lt s same grown wakes =
+pub next_woken : (program : Program) (shoens : List (Shoen CellName)) (old mid new : Kept CellName) (goals : List (Goal CellName)) (removed : ℕ) (told : List ℕ) (last i d : ℕ) (before now after : List Change) → i < length told →
+    StillWakes program shoens old mid goals removed told (drop i told) last before now → new.held ≡ mid.held → HasGrown mid new → Wakes program shoens mid.held mid.hooks new.hooks goals removed (get_or told i d) now after →
+    StillWakes program shoens old new goals removed told (drop (i + 1) told) (get_or told i d) before after
+next_woken program shoens old mid new goals removed told last i d before now after lt s same grown wakes =
     let W : Held CellName → Type 0 = λ h. Wakes program shoens h mid.hooks new.hooks goals removed (get_or told i d) now after in
     let one : W old.held = subst W s.held wakes in
+    let n = get_or told i d in
+    let rest = drop (i + 1) told in
     let left : drop i told ≡ get_or told i d ∷ drop (i + 1) told = rw (add-one, drop-cons told i d) in
     record {
       held = same ∙ s.held;
       grown = HasGrown-trans old mid new s.grown grown;
-      wakes = λ f knows gs others settled.
-          let L : List ℕ → Type 0 = λ ns. AreSettledOr ns f mid.hooks old.held program shoens (restood now gs) in
-          one f knows gs others (drop (i + 1) told) (subst L left (s.wakes f knows gs others settled));
+      wakes = λ f knows gs are settled others c.
+          let C : List ℕ → Type 0 = λ ns. Covers ns last (n ∷ others) in
+          one f knows gs are others (s.wakes f knows gs are settled (n ∷ others) (subst C (sym left) (covers_next n last rest others c)));
+    }
+
+-- a number that is the last that was looked at is passed over
+pub same_woken : (program : Program) (shoens : List (Shoen CellName)) (old new : Kept CellName) (goals : List (Goal CellName)) (removed : ℕ) (told : List ℕ) (last i d : ℕ) (before after : List Change) → i < length told → get_or told i d ≡ last →
+    StillWakes program shoens old new goals removed told (drop i told) last before after → StillWakes program shoens old new goals removed told (drop (i + 1) told) last before after
+same_woken program shoens old new goals removed told last i d before after lt is s =
+    let n = get_or told i d in
+    let rest = drop (i + 1) told in
+    let left : drop i told ≡ get_or told i d ∷ drop (i + 1) told = rw (add-one, drop-cons told i d) in
+    record {
+      held = s.held;
+      grown = s.grown;
+      wakes = λ f knows gs are settled others c.
+          let C : List ℕ → Type 0 = λ ns. Covers ns last others in
+          s.wakes f knows gs are settled others (subst C (sym left) (covers_same n last rest others is c));
     }
 
 -- and all were looked at in the end
-pub all_woken : (program : Program) (shoens : List (Shoen CellName)) (old new : Kept CellName) (goals : List (Goal CellName)) (removed : ℕ) (told : List ℕ) (i : ℕ) (before after : List Change) → length told < i + 1 →
-    StillWakes program shoens old new goals removed told (drop i told) before after → WakesTold program shoens old.held old.hooks new.hooks goals removed told before after
-all_woken program shoens old new goals removed told i before after le s f knows gs others settled =
-    let L : List ℕ → Type 0 = λ ns. AreSettledOr ns f new.hooks old.held program shoens (restood after gs) in
-    all_settled f new.hooks old.held program shoens (restood after gs) (subst L (drop_all i told (omega arith)) (s.wakes f knows gs others settled))
+pub all_woken : (program : Program) (shoens : List (Shoen CellName)) (old new : Kept CellName) (goals : List (Goal CellName)) (removed : ℕ) (told : List ℕ) (last i : ℕ) (before after : List Change) → length told < i + 1 →
+    StillWakes program shoens old new goals removed told (drop i told) last before after → WakesTold program shoens old.held old.hooks new.hooks goals removed told before after
+all_woken program shoens old new goals removed told last i before after le s f knows gs are settled =
+    let C : List ℕ → Type 0 = λ ns. Covers ns last [] in
+    all_settled f new.hooks old.held program shoens (restood after gs) (s.wakes f knows gs are settled [] (subst C (sym (drop_all i told (omega arith))) (λ n e other. e)))
+
+-- goals of which only those of these numbers were pending are settled, whatever the order in which they were looked at
+pub permuted_woken : (program : Program) (shoens : List (Shoen CellName)) (h : Held CellName) (hooks more : List Hook) (goals : List (Goal CellName)) (removed : ℕ) (told others : List ℕ) (before after : List Change) → IsPermutation told others →
+    WakesTold program shoens h hooks more goals removed others before after → WakesTold program shoens h hooks more goals removed told before after
+permuted_woken program shoens h hooks more goals removed told others before after p w f knows gs are settled =
+    w f knows gs are (settled_or_among f hooks h program shoens told others (restood before gs) (λ n e. sym (among_permuted n told others p) ∙ e) settled)
 
 -- if no numbers are told, nothing is pending
 pub none_woken : (program : Program) (shoens : List (Shoen CellName)) (h : Held CellName) (hooks : List Hook) (goals : List (Goal CellName)) (removed : ℕ) (told : List ℕ) (changes : List Change) → told ≡ [] → WakesTold program shoens h hooks hooks goals removed told changes changes

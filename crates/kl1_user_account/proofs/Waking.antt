@@ -1,8 +1,10 @@
 -- Goals that are looked at again, one after another.
 use Rattle.std.proofs.Common.{◌≡◌, ℕ, true, false, if◌then◌else◌, Bool, List, [], ◌∷◌, inl, inr, ◌||◌, map, refl, sym, ap, ◌∙◌, subst, ⊎_elim}
-use Rattle.std.specs.Prelude.{Contains, filter}
-use Rattle.std.specs.List.{AllByRecursion}
+use Rattle.std.specs.Prelude.{Contains, filter, ◌==◌}
+use Rattle.std.specs.List.{AllByRecursion, list_any}
+use Rattle.std.specs.List.Sorted.{IsPermutation}
 use Rattle.std.proofs.lemmas.Bool.{ne_eqb, eq-eqb, cases_eq}
+use Rattle.std.proofs.lemmas.List.Sorted.{list_any-IsPermutation}
 use Rattle.kl1_text.specs.declared.cell_name.CellName.{CellName}
 use Rattle.kl1_store.specs.Hooks.{Hook}
 use Rattle.kl1_store.specs.Held.{Held}
@@ -26,7 +28,7 @@ use Rattle.kl1_user_account.proofs.SettledStays.{HangsOnNone, stays_settled, set
 -- ---- one goal is looked at again
 
 -- what is pending beside a number
-pending_rest : (n m : ℕ) (pending : List ℕ) → (m ≡ n → ⊥) → is_among m (n ∷ pending) ≡ true → is_among m pending ≡ true
+pub pending_rest : (n m : ℕ) (pending : List ℕ) → (m ≡ n → ⊥) → is_among m (n ∷ pending) ≡ true → is_among m pending ≡ true
 pending_rest n m pending other e = sym (ap (λ b. b || is_among m pending) (ne_eqb m n other)) ∙ e
 
 -- a goal of another number
@@ -90,6 +92,32 @@ pub none_settled : (f : Reading) (hooks : List Hook) (h : Held CellName) (progra
     AreSettledOr pending f hooks h program shoens goals
 none_settled f hooks h program shoens n pending [] not all = tt
 none_settled f hooks h program shoens n pending (g ∷ goals) not all = (skip_goal f hooks h program shoens n pending g not.0 all.0, none_settled f hooks h program shoens n pending goals not.1 all.1)
+
+-- ---- numbers in another order
+
+among_any : (n : ℕ) (ns : List ℕ) → is_among n ns ≡ list_any (λ m. n == m) ns
+among_any n [] = refl
+among_any n (m ∷ ns) = ap (λ b. n == m || b) (among_any n ns)
+
+-- a number is among others in whatever order these are
+pub among_permuted : (n : ℕ) (ns ms : List ℕ) → IsPermutation ns ms → is_among n ns ≡ is_among n ms
+among_permuted n ns ms p = among_any n ns ∙ list_any-IsPermutation (λ m. n == m) ns ms p ∙ sym (among_any n ms)
+
+-- each of these numbers is among others
+abbrev pub AreAllAmong : List ℕ → List ℕ → Type 0
+AreAllAmong ns ms = (n : ℕ) → is_among n ns ≡ true → is_among n ms ≡ true
+
+-- goals that are settled but for numbers that are among others are settled but for those
+pub settled_or_among : (f : Reading) (hooks : List Hook) (h : Held CellName) (program : Program) (shoens : List (Shoen CellName)) (ns ms : List ℕ) (goals : List (Goal CellName)) → AreAllAmong ns ms →
+    AreSettledOr ns f hooks h program shoens goals → AreSettledOr ms f hooks h program shoens goals
+settled_or_among f hooks h program shoens ns ms [] among all = tt
+settled_or_among f hooks h program shoens ns ms (g ∷ goals) among all = (
+  ⊎_elim
+      (λ (settled : IsSettled f hooks h program shoens g). inl settled)
+      (λ (pending : IsPending ns g). inr (among g.number pending))
+      all.0,
+  settled_or_among f hooks h program shoens ns ms goals among all.1,
+)
 
 -- if nothing is pending, each goal is settled
 pub all_settled : (f : Reading) (hooks : List Hook) (h : Held CellName) (program : Program) (shoens : List (Shoen CellName)) (goals : List (Goal CellName)) → AreSettledOr [] f hooks h program shoens goals → AreSettled f hooks h program shoens goals

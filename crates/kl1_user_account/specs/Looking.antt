@@ -1,5 +1,5 @@
 -- Goals that are looked at again: what is found of them, and that all are settled then.
-use Rattle.std.specs.Prelude.{◌≡◌, ℕ, ◌<◌, ◌==◌, ◌&&◌, Bool, false, List, [], ◌∷◌, ◌++◌, map, find, Some, None}
+use Rattle.std.specs.Prelude.{◌≡◌, ℕ, ◌<◌, ◌==◌, ◌&&◌, ◌⊎◌, Bool, false, List, [], ◌∷◌, ◌++◌, map, find, Some, None}
 use Rattle.std.specs.List.{AllByRecursion}
 use Rattle.kl1_model.specs.declared.rules.Rules.{Rules}
 use Rattle.kl1_model.specs.Match as model
@@ -24,6 +24,7 @@ use Rattle.kl1_goals.specs.declared.task.Task.{Task}
 use Rattle.kl1_goals.specs.declared.task.Task.TheVariants.{Reduces}
 use Rattle.kl1_goals.specs.declared.goal.Goal.{Goal}
 use Rattle.kl1_goals.specs.Lists.{has_number}
+use Rattle.kl1_goals.specs.Tables.{Ascend}
 use Rattle.kl1_shoen_paths.specs.declared.shoen.Shoen.{Shoen}
 use Rattle.kl1_codes.specs.Numbered.{Numbered}
 use Rattle.kl1_codes.specs.Finding.{contents, Asks}
@@ -95,6 +96,18 @@ abbrev pub WakesTold : Program → List (Shoen CellName) → Held CellName → L
 WakesTold program shoens h hooks more goals removed told before after =
     (f : Reading) → Knows program.loaded f → (gs : List (Goal CellName)) → AreOthersOf goals removed gs →
     AreSettledOr told f hooks h program shoens (restood before gs) → AreSettled f more h program shoens (restood after gs)
+
+-- at most one change more, which is of goal `number`
+pub record LooksAtMost (number : ℕ) (before after : List Change) : Type 0 where
+  pub more : List Change
+  pub is : after ≡ before ++ more
+  pub numbers_are : (map (λ (c : Change). c.number) more ≡ []) ⊎ (map (λ (c : Change). c.number) more ≡ number ∷ [])
+
+-- more changes, none of them of a goal of which another is: they are in order of number
+pub record LooksOnce (before after : List Change) : Type 0 where
+  pub more : List Change
+  pub is : after ≡ before ++ more
+  pub ascend : Ascend 0 (map (λ (c : Change). c.number) more)
 
 -- a goal as it is before it is looked at: it has no clause, and may not step
 abbrev pub unlooked : Goal CellName → Goal CellName

@@ -31,14 +31,14 @@ fn wake_any<C: CodeSource>(
     predicate: &Predicate<'_, CellName>,
     trial: &mut Trial<CellName>,
     removed: u64,
-    told: &[u64],
+    told: &mut Vec<u64>,
     changes: &mut Vec<Change>,
 ) -> Result<(), AllocError>
     requires goals { AreGoalsIn store.old.held goals.now.goals }
     requires shoens { AreShoensIn store.old.held shoens.now.shoens }
     requires some { AreSome predicate.now.names.now predicate.now.clauses.now }
     requires serves { Serves modules.now.loaded known.now predicate.now }
-    ensures wakes { OnOk result (WakesTold modules.now shoens.now.shoens store.old.held store.old.hooks store.new.hooks goals.now.goals removed told.now changes.old.items changes.new.items) }
+    ensures wakes { OnOk result (WakesTold modules.now shoens.now.shoens store.old.held store.old.hooks store.new.hooks goals.now.goals removed told.old.items changes.old.items changes.new.items) }
     ensures held { store.new.held ≡ store.old.held }
     ensures grown { HasGrown store.old store.new }
 {
@@ -100,7 +100,7 @@ fn look_again<C: CodeSource>(
         predicate,
         trial,
         draft.removed,
-        &draft.told,
+        &mut draft.told,
         &mut draft.changes,
     )?;
     wake_added(

@@ -1,6 +1,7 @@
 // Goals that are looked at again.
 
 ghost use Rattle.std.specs.Prelude.{◌≡◌, ◌||◌, ℕ, true, List, IfOk, OnOk};
+ghost use Rattle.std.specs.List.Sorted.{IsPermutation, IsNonDecreasing};
 ghost use Rattle.kl1_model.specs.Term.{Term};
 ghost use Rattle.kl1_text.specs.declared.cell_name.CellName.{CellName};
 ghost use Rattle.kl1_store.specs.Held.{Held, IsIn};
@@ -17,7 +18,7 @@ ghost use Rattle.kl1_codes.specs.Shelves.{Program};
 ghost use Rattle.kl1_user_effects.specs.Fitting.{Reading};
 ghost use Rattle.kl1_user_effects.specs.Kept.{IsTaskIn, AreGoalsIn, AreShoensIn};
 ghost use Rattle.kl1_user_effects.specs.Works.{Knows};
-ghost use Rattle.kl1_user_account.specs.Looking.{Serves, calls_same, StandsBy, HearsAt, StandsAt, FindsOut, Wakes, WakesTold, LooksAtOne, LooksAtAdded};
+ghost use Rattle.kl1_user_account.specs.Looking.{Serves, calls_same, StandsBy, HearsAt, StandsAt, FindsOut, Wakes, WakesTold, LooksAtMost, LooksOnce, LooksAtOne, LooksAtAdded};
 
 use kl1_clause::Predicate;
 use kl1_codes::{CodeSource, CodedModules};
@@ -282,6 +283,7 @@ fn wake<C: CodeSource>(
     requires some { AreSome predicate.now.names.now predicate.now.clauses.now }
     requires serves { Serves modules.now.loaded known.now predicate.now }
     ensures wakes { OnOk result (Wakes modules.now shoens.now.shoens store.old.held store.old.hooks store.new.hooks goals.now.goals removed number changes.old.items changes.new.items) }
+    ensures one { OnOk result (LooksAtMost number changes.old.items changes.new.items) }
     ensures held { store.new.held ≡ store.old.held }
     ensures grown { HasGrown store.old store.new }
 {
@@ -298,6 +300,17 @@ fn wake<C: CodeSource>(
     }
 }
 
+/// Puts numbers in order, so that equal ones stand side by side.
+#[inline(always)]
+fn put_in_order(numbers: &mut Vec<u64>)
+    ensures permutation { IsPermutation numbers.old.items numbers.new.items }
+    ensures order { IsNonDecreasing numbers.new.items }
+{
+    if numbers.len() > 1 {
+        numbers.sort_unstable();
+    }
+}
+
 /// Looks at the goals of these numbers that are there, monitors too, but the one that is removed. A goal that goes for another
 /// reason may be looked at as well: that makes nothing of the others. If memory is refused, more may hang.
 pub(crate) fn wake_told<C: CodeSource>(
@@ -309,20 +322,28 @@ pub(crate) fn wake_told<C: CodeSource>(
     predicate: &Predicate<'_, CellName>,
     trial: &mut Trial<CellName>,
     removed: u64,
-    told: &[u64],
+    told: &mut Vec<u64>,
     changes: &mut Vec<Change>,
 ) -> Result<(), AllocError>
     requires goals { AreGoalsIn store.old.held goals.now.goals }
     requires shoens { AreShoensIn store.old.held shoens.now.shoens }
     requires some { AreSome predicate.now.names.now predicate.now.clauses.now }
     requires serves { Serves modules.now.loaded known.now predicate.now }
-    ensures wakes { OnOk result (WakesTold modules.now shoens.now.shoens store.old.held store.old.hooks store.new.hooks goals.now.goals removed told.now changes.old.items changes.new.items) }
+    ensures wakes { OnOk result (WakesTold modules.now shoens.now.shoens store.old.held store.old.hooks store.new.hooks goals.now.goals removed told.old.items changes.old.items changes.new.items) }
+    ensures once { OnOk result (LooksOnce changes.old.items changes.new.items) }
     ensures held { store.new.held ≡ store.old.held }
     ensures grown { HasGrown store.old store.new }
 {
-    for number in told {
+    put_in_order(told);
+    // A goal is looked at once, though it may have been told several times: at each look it hangs anew on what it waits for.
+    let mut last = removed;
+    for number in told.as_slice() {
+        if *number == last {
+            continue;
+        }
+        last = *number;
         wake(
-            store, goals, shoens, modules, known, predicate, trial, removed, *number, changes,
+            store, goals, shoens, modules, known, predicate, trial, removed, last, changes,
         )?;
     }
     Ok(())

@@ -154,7 +154,7 @@ pub(crate) fn wake_bound<C: CodeSource>(
         &predicate,
         trial,
         0,
-        draft.told.as_slice(),
+        &mut draft.told,
         &mut draft.changes,
     )
 }

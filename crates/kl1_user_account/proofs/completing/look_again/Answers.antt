@@ -1,4 +1,4 @@
-use Rattle.std.proofs.Common.{ℕ, List, [], subst}
+use Rattle.std.proofs.Common.{List, [], subst}
 use Rattle.std.proofs.lemmas.Result.{on_ok_weaker}
 use Rattle.kl1_user_effects.specs.declared.draft.Change.{Change}
 use Rattle.kl1_user_effects.specs.declared.draft.Draft.{Draft}
@@ -16,9 +16,8 @@ returns-clause-looks g c =
     let goals = c.args.goals.now.goals in
     let before = c.args.draft.now in
     let after : Draft = record before { added = c.wake_added.new.added; changes = c.wake_any.new.changes; told = c.tell_bound.new.told } in
-    let N : List ℕ → Type 0 = λ ns. WakesTold ms tree.shoens now.held now.hooks mid.hooks goals before.removed ns before.changes.items c.wake_any.new.changes.items in
     let C : List Change → Type 0 = λ cs. WakesTold ms tree.shoens now.held now.hooks mid.hooks goals before.removed c.tell_bound.new.told.items cs c.wake_any.new.changes.items in
-    let wakes : C [] = subst C c.requires.changes (subst N c.deref.ensures.value c.in_ok-wake_any.ensures.wakes) in
+    let wakes : C [] = subst C c.requires.changes c.in_ok-wake_any.ensures.wakes in
     on_ok_weaker c.wake_added.result
     (λ looks. record {
       settles = settled_placed ms tree.shoens tree.work c.args.mark now mid new goals before.added.items after before.told.items c.shoens-order.ensures.order c.in_ok-tell_bound.ensures wakes c.in_ok-wake_any.ensures.held
