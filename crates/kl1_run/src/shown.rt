@@ -4,10 +4,12 @@ use crate::asked::Form;
 use kl1_run_work::Term;
 use kl1_shown::{Binding, Parsed, binding_of, parse_print, readable_goal, variable_names};
 use kl1_term::{Node, Printer};
+use kl1_text::AtomText;
 use std::alloc::{AllocError, Global};
 
 /// How the print of `V = T` begins, and how it does with the sign between the two.
 const EQUATION: &[u8] = b"'='(_1,";
+
 const READABLE_EQUATION: &[u8] = b"_1 = ";
 
 /// A goal of the command line, and what was written of it.
@@ -15,7 +17,7 @@ const READABLE_EQUATION: &[u8] = b"_1 = ";
 pub struct Shown {
     goal: Term,
     /// The names of its variables, by their numbers.
-    names: Vec<Vec<u8>>,
+    names: Vec<AtomText>,
     /// Its nodes as it is now.
     now: Parsed,
 }
@@ -34,12 +36,7 @@ fn first_line(text: &[u8]) -> (&[u8], &[u8]) {
 
 impl Shown {
     /// A goal with its word on the command line, and what was written of it.
-    pub fn new(
-        alloc: Global,
-        word: &str,
-        goal: Term,
-        written: &[u8],
-    ) -> Result<Self, AllocError> {
+    pub fn new(alloc: Global, word: &str, goal: Term, written: &[u8]) -> Result<Self, AllocError> {
         let (line, _more) = first_line(written);
         let mut names = variable_names(alloc, word.as_bytes())?;
         if names.len() as u64 != goal.highest() {
@@ -57,9 +54,10 @@ impl Shown {
         let mut number = 0;
         for name in self.names.as_slice() {
             number += 1;
-            if is_named(name.as_slice()) && self.is_unbound(number) {
+            let text = name.unpacked();
+            if is_named(text.as_slice()) && self.is_unbound(number) {
                 out.extend_from_slice(b"kl1_run: warning: ")?;
-                out.extend_from_slice(name.as_slice())?;
+                out.extend_from_slice(text.as_slice())?;
                 out.extend_from_slice(b" has no value\n")?;
             }
         }
@@ -69,10 +67,12 @@ impl Shown {
     /// Whether the variable of this number is known to have no value.
     fn is_unbound(&self, number: u64) -> bool {
         match binding_of(self.goal.nodes(), self.now.nodes.as_slice(), number) {
-            Some(Binding {
-                nodes: [Node::Variable(_other)],
-                ..
-            }) => true,
+            Some(
+                Binding {
+                    nodes: [Node::Variable(_other)],
+                    ..
+                },
+            ) => true,
             _ => false,
         }
     }
@@ -88,12 +88,15 @@ impl Shown {
         let mut number = 0;
         for name in self.names.as_slice() {
             number += 1;
-            if is_named(name.as_slice()) {
-                out.extend_from_slice(name.as_slice())?;
+            let text = name.unpacked();
+            if is_named(text.as_slice()) {
+                out.extend_from_slice(text.as_slice())?;
                 out.extend_from_slice(b" = ")?;
-                if let Some(binding) =
-                    binding_of(self.goal.nodes(), self.now.nodes.as_slice(), number)
-                {
+                if let Some(binding) = binding_of(
+                    self.goal.nodes(),
+                    self.now.nodes.as_slice(),
+                    number,
+                ) {
                     put_value(alloc, form, binding, most, out)?;
                 }
                 out.push(b'\n')?;

@@ -11,7 +11,9 @@ use crate::progress::Progress;
 use crate::scripts::script_alone;
 use crate::shown::{Shown, in_form};
 use crate::told::{tell_ending, used_of};
-use kl1_run_work::{Ending, FailureCounter, ReadFault, Stop, Term, Work, put_fault, read_goal, words_of};
+use kl1_run_work::{
+    Ending, FailureCounter, ReadFault, Stop, Term, Work, put_fault, read_goal, words_of,
+};
 use std::alloc::{AllocError, Global};
 use std::io::Write;
 
@@ -76,12 +78,7 @@ fn write_script(
 }
 
 /// Runs a goal over the files, and tells what came of it.
-fn run_goal(
-    rt: &HostRuntime,
-    asked: &Asked<'_>,
-    names: &[&str],
-    word: &str,
-) -> Result<u8, Fault> {
+fn run_goal(rt: &HostRuntime, asked: &Asked<'_>, names: &[&str], word: &str) -> Result<u8, Fault> {
     let alloc = rt.alloc();
     let Modules { files, ids } = read_each(rt, names)?;
     let goal = goal_in(alloc, word)?;

@@ -46,8 +46,7 @@ fn with_numbers<'a>(alloc: Global, command: Command<'a>) -> Result<Command<'a>, 
 
 /// The words that the program knows.
 fn command<'a>(alloc: Global) -> Result<Command<'a>, AllocError> {
-    let reports =
-        flag(alloc, "reports", "Tell the goal's reports too").conflicts_with("check")?;
+    let reports = flag(alloc, "reports", "Tell the goal's reports too").conflicts_with("check")?;
     let whole = flag(
         alloc,
         "whole",
@@ -60,8 +59,9 @@ fn command<'a>(alloc: Global) -> Result<Command<'a>, AllocError> {
         "Tell the values of the goal's variables by their names",
     )
     .conflicts_with_all(&["check", "script"])?;
-    let infix = flag(alloc, "infix", "Put operators between their operands")
-        .conflicts_with_all(&["check", "script"])?;
+    let infix = flag(alloc, "infix", "Put operators between their operands").conflicts_with_all(&[
+        "check", "script",
+    ])?;
     let journal = Arg::new(alloc, "journal")
         .long("journal")
         .action(ArgAction::Set)
@@ -140,7 +140,11 @@ pub fn asked_in<'a>(alloc: Global, words: &'a [String]) -> Result<Asked<'a>, Err
             whole: is_whole || form.has_bindings,
         },
         form,
-        most: if is_whole { None } else { Some(MOST_PRINTED_BYTES) },
+        most: if is_whole {
+            None
+        } else {
+            Some(MOST_PRINTED_BYTES)
+        },
         journal: matches.get_str("journal"),
     })
 }

@@ -48,6 +48,12 @@ pub fn infix_text(alloc: Global, nodes: &[Node]) -> Result<Vec<u8>, AllocError> 
 }
 
 impl InfixPrinter {
+    /// Has this printed before whatever is due already.
+    fn wait_for(&mut self, due: Due) -> Result<(), AllocError> {
+        self.due.push(due)?;
+        Ok(())
+    }
+
     /// Prints the texts that are due before the next term, and takes what this may be.
     fn next_term(&mut self) -> Result<Option<Due>, AllocError> {
         for _ in 0..self.due.len() {
@@ -72,27 +78,22 @@ impl InfixPrinter {
     /// Prints what follows an element of a list: another element, the end, or a bar and a term.
     fn put_rest(&mut self, node: &Node) -> Result<(), AllocError> {
         match node {
-            Node::Atom(name) if name.is(&AtomText::of(b"[]")) => self.out.push(b']'),
+            Node::Atom(name) if name.is(&AtomText::of(b"[]")) => self.out.extend_from_slice(b"]"),
             Node::Structure(name, 2) if name.is(&AtomText::of(b".")) => {
-                self.out.push(b',')?;
-                self.due.push(Due::Rest)?;
-                self.due.push(Due::Term(Level::Relation))
+                self.out.extend_from_slice(b",")?;
+                self.wait_for(Due::Rest)?;
+                self.wait_for(Due::Term(Level::Relation))
             }
             _ => {
-                self.out.push(b'|')?;
-                self.due.push(Due::Text(b"]"))?;
+                self.out.extend_from_slice(b"|")?;
+                self.wait_for(Due::Text(b"]"))?;
                 self.put_term(Level::Relation, node, &[])
             }
         }
     }
 
     /// Prints a term that stands where one of this level may.
-    fn put_term(
-        &mut self,
-        level: Level,
-        node: &Node,
-        others: &[Node],
-    ) -> Result<(), AllocError> {
+    fn put_term(&mut self, level: Level, node: &Node, others: &[Node]) -> Result<(), AllocError> {
         let Node::Structure(name, 2) = node else {
             return self.put_plain(level, node);
         };
@@ -100,9 +101,9 @@ impl InfixPrinter {
             return self.put_operator(level, operator);
         }
         if name.is(&AtomText::of(b".")) {
-            self.out.push(b'[')?;
-            self.due.push(Due::Rest)?;
-            return self.due.push(Due::Term(Level::Relation));
+            self.out.extend_from_slice(b"[")?;
+            self.wait_for(Due::Rest)?;
+            return self.wait_for(Due::Term(Level::Relation));
         }
         if name.is(&AtomText::of(b":")) && is_qualified(others) {
             return self.put_qualified(level);
@@ -113,17 +114,17 @@ impl InfixPrinter {
     /// Prints a module's name, a colon and what is after it.
     fn put_qualified(&mut self, level: Level) -> Result<(), AllocError> {
         self.open_group(Level::Part, level)?;
-        self.due.push(Due::Called)?;
-        self.due.push(Due::Text(b":"))?;
-        self.due.push(Due::Called)
+        self.wait_for(Due::Called)?;
+        self.wait_for(Due::Text(b":"))?;
+        self.wait_for(Due::Called)
     }
 
     /// Prints two operands with an operator between them.
     fn put_operator(&mut self, level: Level, operator: Operator) -> Result<(), AllocError> {
         self.open_group(operator.level, level)?;
-        self.due.push(Due::Term(operator.right))?;
-        self.due.push(Due::Text(operator.text))?;
-        self.due.push(Due::Term(operator.left))
+        self.wait_for(Due::Term(operator.right))?;
+        self.wait_for(Due::Text(operator.text))?;
+        self.wait_for(Due::Term(operator.left))
     }
 
     /// Opens parentheses round a term of a level, if another may stand there.
@@ -131,8 +132,8 @@ impl InfixPrinter {
         if level.fits(wanted) {
             return Ok(());
         }
-        self.out.push(b'(')?;
-        self.due.push(Due::Text(b")"))
+        self.out.extend_from_slice(b"(")?;
+        self.wait_for(Due::Text(b")"))
     }
 
     /// Prints a term that is no operator with its operands.
@@ -151,15 +152,16 @@ impl InfixPrinter {
     fn put_called(&mut self, node: &Node) -> Result<(), AllocError> {
         match node {
             Node::Variable(number) => {
-                self.out.push(b'_')?;
+                self.out.extend_from_slice(b"_")?;
                 let mut buffer = Buffer::new();
-                self.out.extend_from_slice(buffer.format(*number).as_bytes())
+                self.out
+                    .extend_from_slice(buffer.format(*number).as_bytes())
             }
             Node::Integer(number) => put_int(&mut self.out, *number),
             Node::Atom(name) => put_atom(&mut self.out, name),
             Node::Structure(name, count) => {
                 put_name(&mut self.out, name)?;
-                self.out.push(b'(')?;
+                self.out.extend_from_slice(b"(")?;
                 self.put_arguments(*count)
             }
         }
@@ -167,13 +169,13 @@ impl InfixPrinter {
 
     /// Has arguments printed, and what ends them.
     fn put_arguments(&mut self, count: usize) -> Result<(), AllocError> {
-        self.due.push(Due::Text(b")"))?;
+        self.wait_for(Due::Text(b")"))?;
         // No structure has more arguments than eight, but one that was cut.
         for place in 0..count.min(MOST_ARGUMENTS) {
             if 0 < place {
-                self.due.push(Due::Text(b","))?;
+                self.wait_for(Due::Text(b","))?;
             }
-            self.due.push(Due::Term(Level::Relation))?;
+            self.wait_for(Due::Term(Level::Relation))?;
         }
         Ok(())
     }

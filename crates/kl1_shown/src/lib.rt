@@ -3,7 +3,6 @@
 
 mod bindings;
 mod infix;
-mod lexemes;
 mod names;
 mod operators;
 mod parsed;

@@ -1,8 +1,10 @@
 // Printed terms that are read as nodes.
 
-use crate::lexemes::{Lexeme, lexeme_in_front};
+use kl1_model::Sign;
+use kl1_model::limits::NUMBER_LIMIT;
+use kl1_read::{Front, Spelled, front_of};
 use kl1_term::Node;
-use kl1_text::AtomText;
+use kl1_text::{AtomText, decimal_up_to};
 use std::alloc::{AllocError, Global};
 
 /// The nodes of a printed term, as far as its text goes.
@@ -36,6 +38,8 @@ struct Reading {
     opened: Vec<Opened>,
     /// Whether a term must come next.
     is_due: bool,
+    /// Whether the sign of an integer came before it.
+    is_negative: bool,
 }
 
 /// The nodes of a printed term. If its text was cut, those that the text has whole.
@@ -44,17 +48,23 @@ pub fn parse_print(alloc: Global, text: &[u8]) -> Result<Parsed, AllocError> {
         nodes: Vec::new(alloc),
         opened: Vec::new(alloc),
         is_due: true,
+        is_negative: false,
     };
     let mut rest = text;
-    // A lexeme has a byte at least.
+    // A token has a byte at least.
     for _ in text {
-        let Some((lexeme, others)) = lexeme_in_front(alloc, rest)? else {
-            break;
-        };
-        if !reading.take(lexeme)? {
-            break;
+        match front_of(rest) {
+            Front::Token(token, others) => {
+                if !reading.take(token)? {
+                    break;
+                }
+                rest = others;
+            }
+            Front::Finished => break,
+            Front::Broken => break,
+            Front::LineEnd(_others) => break,
+            Front::Blank(_others) => break,
         }
-        rest = others;
     }
     let is_whole = rest.is_empty() && !reading.is_due && reading.opened.is_empty();
     if !rest.is_empty() {
@@ -72,28 +82,57 @@ fn cell() -> Node {
     Node::Structure(AtomText::of(b"."), 2)
 }
 
+/// The number of a variable that was printed: its name is `_` and the number.
+fn variable_number(name: &AtomText) -> Option<u64> {
+    match name.unpacked().as_slice() {
+        [_first, digits @ ..] => decimal_up_to(u64::MAX, digits),
+        [] => None,
+    }
+}
+
+/// The integer with these digits, which has a sign or not.
+fn integer_of(digits: u64, is_negative: bool) -> Option<i64> {
+    match i64::try_from(digits) {
+        Ok(number) if is_negative => Some(number.saturating_neg()),
+        Ok(number) => Some(number),
+        Err(_) if is_negative && digits == NUMBER_LIMIT => Some(i64::MIN),
+        Err(_) => None,
+    }
+}
+
 impl Reading {
-    /// Goes on with a lexeme, and answers whether it may stand here.
-    fn take(&mut self, lexeme: Lexeme) -> Result<bool, AllocError> {
+    /// Goes on with a token, and answers whether it may stand here.
+    fn take(&mut self, token: Spelled) -> Result<bool, AllocError> {
         if self.is_due {
-            self.take_front(lexeme)
+            self.take_front(token)
         } else {
-            self.take_behind(lexeme)
+            self.take_behind(token)
         }
     }
 
     /// Goes on with the front of a term.
-    fn take_front(&mut self, lexeme: Lexeme) -> Result<bool, AllocError> {
-        match lexeme {
-            Lexeme::Variable(number) => self.end(Node::Variable(number)),
-            Lexeme::Integer(number) => self.end(Node::Integer(number)),
-            Lexeme::Name(name) => self.end(Node::Atom(name)),
-            Lexeme::OpenList => {
+    fn take_front(&mut self, token: Spelled) -> Result<bool, AllocError> {
+        match token {
+            Spelled::Variable(name) => match variable_number(&name) {
+                Some(number) => self.end(Node::Variable(number)),
+                None => Ok(false),
+            },
+            Spelled::Minus(_digit) => {
+                self.is_negative = true;
+                Ok(true)
+            }
+            Spelled::Digits(digits) => match integer_of(digits, self.is_negative) {
+                Some(number) => self.end(Node::Integer(number)),
+                None => Ok(false),
+            },
+            Spelled::Name(name, _quotes, false) => self.end(Node::Atom(name)),
+            Spelled::Name(name, _quotes, true) => self.open_call(name),
+            Spelled::Sign(Sign::OpenList) => {
                 self.nodes.push(cell())?;
                 self.opened.push(Opened::Element)?;
                 Ok(true)
             }
-            Lexeme::CloseList => {
+            Spelled::Sign(Sign::CloseList) => {
                 // `[` and `]` with nothing between them.
                 let _ = self.nodes.pop();
                 match self.opened.pop() {
@@ -101,6 +140,8 @@ impl Reading {
                     _ => Ok(false),
                 }
             }
+            // The parenthesis after the name of a structure.
+            Spelled::Sign(Sign::Open) => Ok(true),
             _ => Ok(false),
         }
     }
@@ -109,16 +150,16 @@ impl Reading {
     fn end(&mut self, node: Node) -> Result<bool, AllocError> {
         self.nodes.push(node)?;
         self.is_due = false;
+        self.is_negative = false;
         Ok(true)
     }
 
     /// Goes on after a term.
-    fn take_behind(&mut self, lexeme: Lexeme) -> Result<bool, AllocError> {
-        match lexeme {
-            Lexeme::Open => self.open_call(),
-            Lexeme::Colon => self.qualify(),
-            Lexeme::Comma => self.go_on(),
-            Lexeme::Bar => match self.opened.pop() {
+    fn take_behind(&mut self, token: Spelled) -> Result<bool, AllocError> {
+        match token {
+            Spelled::Sign(Sign::Colon) => self.qualify(),
+            Spelled::Sign(Sign::Comma) => self.go_on(),
+            Spelled::Sign(Sign::Bar) => match self.opened.pop() {
                 Some(Opened::Element) => {
                     self.opened.push(Opened::Tail)?;
                     self.is_due = true;
@@ -126,21 +167,18 @@ impl Reading {
                 }
                 _ => Ok(false),
             },
-            Lexeme::CloseList => match self.opened.pop() {
+            Spelled::Sign(Sign::CloseList) => match self.opened.pop() {
                 Some(Opened::Element) => self.end(Node::Atom(AtomText::of(b"[]"))),
                 Some(Opened::Tail) => Ok(true),
                 _ => Ok(false),
             },
-            Lexeme::Close => Ok(self.close_call()),
+            Spelled::Sign(Sign::Close) => Ok(self.close_call()),
             _ => Ok(false),
         }
     }
 
-    /// Makes a structure of the name that was read last.
-    fn open_call(&mut self) -> Result<bool, AllocError> {
-        let Some(Node::Atom(name)) = self.nodes.pop() else {
-            return Ok(false);
-        };
+    /// Begins a structure.
+    fn open_call(&mut self, name: AtomText) -> Result<bool, AllocError> {
         let node = self.nodes.len();
         self.nodes.push(Node::Structure(name, usize::MAX))?;
         self.opened.push(Opened::Call {
@@ -148,7 +186,6 @@ impl Reading {
             name,
             count: 1,
         })?;
-        self.is_due = true;
         Ok(true)
     }
 

@@ -1,6 +1,6 @@
 // A goal's text with operators between their operands, as far as it reads back.
 
-ghost use Rattle.std.specs.Prelude.{IfOk};
+ghost use Rattle.std.specs.Prelude.{IsTrue, IfOk};
 ghost use Rattle.kl1_shown.specs.Readable.{ReadsAs};
 
 use crate::infix::infix_text;
