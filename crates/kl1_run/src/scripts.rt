@@ -1,11 +1,10 @@
 // The script that does the same work, if the program `kl1` takes it.
 
 ghost use Rattle.std.specs.Prelude.{◌≡◌, ◌++◌, ◌≤◌, length, None, IfOk, OnOk, IfErr};
-ghost use Rattle.kl1_model.specs.declared.limits.TheConstants.{MOST_PRIORITY, MOST_COMMAND_BYTES};
+ghost use Rattle.kl1_model.specs.declared.limits.TheConstants.{MOST_COMMAND_BYTES};
 ghost use Rattle.kl1_model.specs.declared.rules.Rules.TheVariants.{Three};
-ghost use Rattle.kl1_model.specs.Opening.{start_line};
 ghost use Rattle.kl1_run_work.specs.Works.{texts_of};
-ghost use Rattle.kl1_run_work.specs.Scripts.{script_of};
+ghost use Rattle.kl1_run_work.specs.Scripts.{start_command, script_of};
 ghost use Rattle.kl1_run.specs.Alone.{alone_of};
 ghost use Rattle.kl1_run.specs.Scripted.{IsTaken, IsTried, IsLong, IsCause};
 
@@ -31,6 +30,7 @@ impl Watch for NoWatch {
 }
 
 /// Loads the sources and starts the goal in an account of its own by the rules of `kl1`, and tells why that is refused, if it is.
+#[tactic(auto, using(crate::proofs::Tried::alone_taken, crate::proofs::Tried::alone_refused))]
 fn try_alone(alloc: Global, work: Work) -> Result<(), Stop>
     ensures { IsTried (alone_of Three (texts_of work.files.items) work.goal work.allowance 0) result }
 {
@@ -55,9 +55,9 @@ fn try_alone(alloc: Global, work: Work) -> Result<(), Stop>
 /// refuses neither a source nor the goal.
 pub fn script_alone(alloc: Global, work: Work, with_reports: bool) -> Result<Vec<u8>, Stop>
     ensures script { IfOk result (λ script. script.items ≡ script_of (texts_of work.files.items) work.goal work.allowance work.steps with_reports) }
-    ensures short { OnOk result (length (start_line work.allowance 0 MOST_PRIORITY work.goal) ≤ MOST_COMMAND_BYTES) }
+    ensures short { OnOk result (length (start_command work.goal work.allowance) ≤ MOST_COMMAND_BYTES) }
     ensures taken { OnOk result (IsTaken (alone_of Three (texts_of work.files.items) work.goal work.allowance 0)) }
-    ensures refused { IfErr result (IsCause (alone_of Three (texts_of work.files.items) work.goal work.allowance 0) (length (start_line work.allowance 0 MOST_PRIORITY work.goal))) }
+    ensures refused { IfErr result (IsCause (alone_of Three (texts_of work.files.items) work.goal work.allowance 0) (length (start_command work.goal work.allowance))) }
 {
     let mut script = Vec::new(alloc);
     match put_short_script(alloc, &work, with_reports, &mut script) {
@@ -77,8 +77,8 @@ fn put_short_script(
     out: &mut Vec<u8>,
 ) -> Result<(), Stop>
     ensures script { OnOk result (out.new.items ≡ out.old.items ++ script_of (texts_of work.now.files.items) work.now.goal work.now.allowance work.now.steps with_reports) }
-    ensures short { OnOk result (length (start_line work.now.allowance 0 MOST_PRIORITY work.now.goal) ≤ MOST_COMMAND_BYTES) }
-    ensures long { IfErr result (IsLong (length (start_line work.now.allowance 0 MOST_PRIORITY work.now.goal))) }
+    ensures short { OnOk result (length (start_command work.now.goal work.now.allowance) ≤ MOST_COMMAND_BYTES) }
+    ensures long { IfErr result (IsLong (length (start_command work.now.goal work.now.allowance))) }
 {
     match start_length(alloc, &work.goal, work.allowance) {
         Ok(length) => {

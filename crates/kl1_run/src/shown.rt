@@ -4,8 +4,13 @@ use crate::asked::Form;
 use kl1_run_work::Term;
 use kl1_shown::{Binding, Parsed, binding_of, parse_print, readable_goal, variable_names};
 use kl1_term::{Node, Printer};
-use kl1_text::AtomText;
 use std::alloc::{AllocError, Global};
+
+/// The most bytes of a goal that is written in another form: to be read, it takes some 70 times as many.
+const MOST_FORMED: usize = 1_048_576;
+
+/// The most bytes of the front of a goal from which it is told that variables have no value.
+const MOST_SEEN: usize = 4_000;
 
 /// How the print of `V = T` begins, and how it does with the sign between the two.
 const EQUATION: &[u8] = b"'='(_1,";
@@ -17,9 +22,11 @@ const READABLE_EQUATION: &[u8] = b"_1 = ";
 pub struct Shown {
     goal: Term,
     /// The names of its variables, by their numbers.
-    names: Vec<AtomText>,
-    /// Its nodes as it is now.
+    names: Vec<Vec<u8>>,
+    /// Its nodes as it is now, or the first of them.
     now: Parsed,
+    /// Whether it is too long to be written in the form that is asked for.
+    is_long: bool,
 }
 
 /// The first line of a text without its end, and what is after it.
@@ -36,8 +43,20 @@ fn first_line(text: &[u8]) -> (&[u8], &[u8]) {
 
 impl Shown {
     /// A goal with its word on the command line, and what was written of it.
-    pub fn new(alloc: Global, word: &str, goal: Term, written: &[u8]) -> Result<Self, AllocError> {
+    pub fn new(
+        alloc: Global,
+        form: Form,
+        word: &str,
+        goal: Term,
+        written: &[u8],
+    ) -> Result<Self, AllocError> {
         let (line, _more) = first_line(written);
+        let is_long = MOST_FORMED < line.len();
+        let seen = if form.is_other() && !is_long {
+            line
+        } else {
+            line.get(..MOST_SEEN).unwrap_or(line)
+        };
         let mut names = variable_names(alloc, word.as_bytes())?;
         if names.len() as u64 != goal.highest() {
             names.clear();
@@ -45,8 +64,14 @@ impl Shown {
         Ok(Shown {
             goal,
             names,
-            now: parse_print(alloc, line)?,
+            now: parse_print(alloc, seen)?,
+            is_long,
         })
+    }
+
+    /// Whether the goal is left as it was written, though another form is asked for.
+    pub fn is_left(&self, form: Form) -> bool {
+        form.is_other() && self.is_long
     }
 
     /// Puts a line for each variable that has a name and no value after the bytes.
@@ -54,10 +79,9 @@ impl Shown {
         let mut number = 0;
         for name in self.names.as_slice() {
             number += 1;
-            let text = name.unpacked();
-            if is_named(text.as_slice()) && self.is_unbound(number) {
+            if is_named(name.as_slice()) && self.is_unbound(number) {
                 out.extend_from_slice(b"kl1_run: warning: ")?;
-                out.extend_from_slice(text.as_slice())?;
+                out.extend_from_slice(name.as_slice())?;
                 out.extend_from_slice(b" has no value\n")?;
             }
         }
@@ -88,9 +112,8 @@ impl Shown {
         let mut number = 0;
         for name in self.names.as_slice() {
             number += 1;
-            let text = name.unpacked();
-            if is_named(text.as_slice()) {
-                out.extend_from_slice(text.as_slice())?;
+            if is_named(name.as_slice()) {
+                out.extend_from_slice(name.as_slice())?;
                 out.extend_from_slice(b" = ")?;
                 if let Some(binding) = binding_of(
                     self.goal.nodes(),
@@ -156,6 +179,9 @@ pub fn in_form(
     shown: &Shown,
     written: &[u8],
 ) -> Result<Vec<u8>, AllocError> {
+    if shown.is_left(form) {
+        return Vec::from_slice(alloc, written);
+    }
     let (line, more) = first_line(written);
     let mut out = Vec::new(alloc);
     if form.has_bindings {

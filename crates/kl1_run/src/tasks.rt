@@ -131,13 +131,16 @@ fn show_goal(
     written: &[u8],
 ) -> Result<(), Fault> {
     let alloc = rt.alloc();
-    let shown = Shown::new(alloc, word, goal, written)?;
+    let shown = Shown::new(alloc, asked.form, word, goal, written)?;
     if asked.form.is_other() {
         let text = in_form(alloc, asked.form, asked.most, &shown, written)?;
         match rt.stdout().write_all(text.as_slice()) {
             Ok(()) => {}
             Err(error) => return Err(Fault::of_write(&error)),
         }
+    }
+    if shown.is_left(asked.form) {
+        eprintln!(rt; "kl1_run: the goal is too long for --bindings and --infix")?;
     }
     if let Ending::Terminated = ending {
         let mut warnings = Vec::new(alloc);

@@ -1,5 +1,5 @@
 -- What is told of a shoen once its run is over.
-use Rattle.std.specs.Prelude.{◌≡◌, ℕ, zero, suc, ◌-◌, nat_eq, nat_lt, Bool, true, false, if◌then◌else◌, List, [], ◌∷◌, ◌++◌, length, map, take, filter, codes, decimal, Option, Some, None, unwrap_or, is_none, Ok, Err}
+use Rattle.std.specs.Prelude.{◌≡◌, ℕ, ◌-◌, ◌==◌, nat_eq, nat_lt, Bool, true, false, if◌then◌else◌, List, [], ◌∷◌, ◌++◌, length, map, take, filter, codes, decimal, Option, Some, None, unwrap_or, is_none, Ok, Err}
 use Rattle.std.specs.List.{starts_with}
 use Rattle.std.specs.declared.result.Result.{Result}
 use Rattle.kl1_model.specs.declared.condition.Condition.{Condition}
@@ -110,7 +110,7 @@ is_by_limit report = starts_with nat_eq report (codes "exception(exhaustion,")
 abbrev pub told_of : ℕ → List (List ℕ) → List (List ℕ)
 told_of room [] = []
 told_of room (e ∷ es) =
-    if is_by_limit e then elim room [ zero ↦ told_of 0 es | suc less ↦ e ∷ told_of less es ]
+    if is_by_limit e then (if nat_lt 0 room then e ∷ told_of (room - 1) es else told_of room es)
     else e ∷ told_of room es
 
 -- how many exceptions are left out
@@ -119,8 +119,7 @@ left_out es = length (filter is_by_limit es) - MOST_BY_LIMIT
 
 -- the line that tells how many are left out, if any is
 abbrev pub left_line : ℕ → List ℕ
-left_line zero = []
-left_line (suc n) = written_line (codes "kl1_run: exceptions by a limit that are left out here: " ++ decimal (suc n))
+left_line n = if n == 0 then [] else written_line (codes "kl1_run: exceptions by a limit that are left out here: " ++ decimal n)
 
 -- what is told of exceptions: all of them, but of those by a limit the first alone, and how many are left out
 abbrev pub exceptions_text : List (List ℕ) → List ℕ

@@ -1,10 +1,8 @@
 // The script that does the same work.
 
 ghost use Rattle.std.specs.Prelude.{◌≡◌, ◌++◌, [], codes, length, if◌then◌else◌, IfOk, OnOk};
-ghost use Rattle.kl1_model.specs.declared.limits.TheConstants.{MOST_PRIORITY};
-ghost use Rattle.kl1_model.specs.Opening.{start_line};
 ghost use Rattle.kl1_model_server.specs.Command.{written_line};
-ghost use Rattle.kl1_run_work.specs.Scripts.{load_line, load_lines, goal_lines, run_lines, question_lines, script_of};
+ghost use Rattle.kl1_run_work.specs.Scripts.{load_line, load_lines, start_command, goal_lines, run_lines, question_lines, script_of};
 ghost use Rattle.kl1_run_work.specs.Works.{texts_of};
 
 use crate::source_file::SourceFile;
@@ -14,7 +12,7 @@ use std::alloc::{AllocError, Global};
 
 /// The bytes of the line that starts the goal with this allowance, without the account's name.
 pub fn start_length(alloc: Global, goal: &Term, allowance: u64) -> Result<usize, AllocError>
-    ensures { IfOk result (λ n. n ≡ length (start_line allowance 0 MOST_PRIORITY goal.now)) }
+    ensures { IfOk result (λ n. n ≡ length (start_command goal.now allowance)) }
 {
     let mut line = Vec::new(alloc);
     put_start(alloc, goal, allowance, &mut line)?;
@@ -29,7 +27,7 @@ fn put_start(
     allowance: u64,
     out: &mut Vec<u8>,
 ) -> Result<(), AllocError>
-    ensures { OnOk result (out.new.items ≡ out.old.items ++ start_line allowance 0 MOST_PRIORITY goal.now) }
+    ensures { OnOk result (out.new.items ≡ out.old.items ++ start_command goal.now allowance) }
 {
     out.extend_from_slice(b"start ")?;
     put_decimal(out, allowance)?;

@@ -20,11 +20,7 @@ pub struct Parsed {
 #[derive(Clone, Copy)]
 enum Opened {
     /// A structure, by the place of its node, and how many of its arguments have begun.
-    Call {
-        node: usize,
-        name: AtomText,
-        count: usize,
-    },
+    Call { node: usize, count: usize },
     /// A list, in an element.
     Element,
     /// A list, in what follows its bar.
@@ -55,7 +51,7 @@ pub fn parse_print(alloc: Global, text: &[u8]) -> Result<Parsed, AllocError> {
     for _ in text {
         match front_of(rest) {
             Front::Token(token, others) => {
-                if !reading.take(token)? {
+                if !reading.take(&token)? {
                     break;
                 }
                 rest = others;
@@ -102,7 +98,7 @@ fn integer_of(digits: u64, is_negative: bool) -> Option<i64> {
 
 impl Reading {
     /// Goes on with a token, and answers whether it may stand here.
-    fn take(&mut self, token: Spelled) -> Result<bool, AllocError> {
+    fn take(&mut self, token: &Spelled) -> Result<bool, AllocError> {
         if self.is_due {
             self.take_front(token)
         } else {
@@ -111,9 +107,9 @@ impl Reading {
     }
 
     /// Goes on with the front of a term.
-    fn take_front(&mut self, token: Spelled) -> Result<bool, AllocError> {
+    fn take_front(&mut self, token: &Spelled) -> Result<bool, AllocError> {
         match token {
-            Spelled::Variable(name) => match variable_number(&name) {
+            Spelled::Variable(name) => match variable_number(name) {
                 Some(number) => self.end(Node::Variable(number)),
                 None => Ok(false),
             },
@@ -121,11 +117,11 @@ impl Reading {
                 self.is_negative = true;
                 Ok(true)
             }
-            Spelled::Digits(digits) => match integer_of(digits, self.is_negative) {
+            Spelled::Digits(digits) => match integer_of(*digits, self.is_negative) {
                 Some(number) => self.end(Node::Integer(number)),
                 None => Ok(false),
             },
-            Spelled::Name(name, _quotes, false) => self.end(Node::Atom(name)),
+            Spelled::Name(name, _quotes, false) => self.end(Node::Atom(*name)),
             Spelled::Name(name, _quotes, true) => self.open_call(name),
             Spelled::Sign(Sign::OpenList) => {
                 self.nodes.push(cell())?;
@@ -155,7 +151,7 @@ impl Reading {
     }
 
     /// Goes on after a term.
-    fn take_behind(&mut self, token: Spelled) -> Result<bool, AllocError> {
+    fn take_behind(&mut self, token: &Spelled) -> Result<bool, AllocError> {
         match token {
             Spelled::Sign(Sign::Colon) => self.qualify(),
             Spelled::Sign(Sign::Comma) => self.go_on(),
@@ -178,24 +174,24 @@ impl Reading {
     }
 
     /// Begins a structure.
-    fn open_call(&mut self, name: AtomText) -> Result<bool, AllocError> {
+    fn open_call(&mut self, name: &AtomText) -> Result<bool, AllocError> {
         let node = self.nodes.len();
-        self.nodes.push(Node::Structure(name, usize::MAX))?;
-        self.opened.push(Opened::Call {
-            node,
-            name,
-            count: 1,
-        })?;
+        self.nodes.push(Node::Structure(*name, usize::MAX))?;
+        self.opened.push(Opened::Call { node, count: 1 })?;
         Ok(true)
     }
 
     /// Makes the name that was read last that of a module.
     fn qualify(&mut self) -> Result<bool, AllocError> {
-        let Some(Node::Atom(module)) = self.nodes.pop() else {
+        match self.nodes.last() {
+            Some(Node::Atom(_name)) => {}
+            _ => return Ok(false),
+        }
+        let Some(module) = self.nodes.pop() else {
             return Ok(false);
         };
         self.nodes.push(Node::Structure(AtomText::of(b":"), 2))?;
-        self.nodes.push(Node::Atom(module))?;
+        self.nodes.push(module)?;
         self.is_due = true;
         Ok(true)
     }
@@ -203,12 +199,9 @@ impl Reading {
     /// Goes on with an argument or an element more.
     fn go_on(&mut self) -> Result<bool, AllocError> {
         match self.opened.pop() {
-            Some(Opened::Call { node, name, count }) => {
-                self.opened.push(Opened::Call {
-                    node,
-                    name,
-                    count: count.saturating_add(1),
-                })?;
+            Some(Opened::Call { node, count }) => {
+                let count = count.saturating_add(1);
+                self.opened.push(Opened::Call { node, count })?;
             }
             Some(Opened::Element) => {
                 self.opened.push(Opened::Element)?;
@@ -222,15 +215,15 @@ impl Reading {
 
     /// Ends a structure, whose arguments are known now.
     fn close_call(&mut self) -> bool {
-        let Some(Opened::Call { node, name, count }) = self.opened.pop() else {
+        let Some(Opened::Call { node, count }) = self.opened.pop() else {
             return false;
         };
         match self.nodes.get_mut(node) {
-            Some(place) => {
-                *place = Node::Structure(name, count);
+            Some(Node::Structure(_name, arguments)) => {
+                *arguments = count;
                 true
             }
-            None => false,
+            _ => false,
         }
     }
 }

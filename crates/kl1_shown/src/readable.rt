@@ -9,6 +9,9 @@ use kl1_read::{ReadFault, read_goal};
 use kl1_term::print_whole;
 use std::alloc::{AllocError, Global};
 
+/// The most bytes of a goal that is read again.
+const MOST_READ: usize = 4_194_304;
+
 /// A text that reads as the same goal as a printed goal: that with operators between their operands, if it does, else the print itself.
 pub fn readable_goal(alloc: Global, print: &[u8]) -> Result<Vec<u8>, AllocError>
     ensures { IfOk result (λ text. ReadsAs print.now text.items) }
@@ -28,6 +31,12 @@ pub fn readable_goal(alloc: Global, print: &[u8]) -> Result<Vec<u8>, AllocError>
 fn read_alike(alloc: Global, print: &[u8], text: &[u8]) -> Result<bool, AllocError>
     ensures { IfOk result (λ same. IsTrue same → ReadsAs print.now text.now) }
 {
+    if MOST_READ < print.len() {
+        return Ok(false);
+    }
+    if MOST_READ < text.len() {
+        return Ok(false);
+    }
     let first = match read_goal(alloc, print) {
         Ok(goal) => goal,
         Err(ReadFault::Bad { line: _line }) => return Ok(false),
