@@ -8,7 +8,7 @@ ghost use Rattle.kl1_run_work.specs.Answers.{shown_in, shown_text, value_text, v
 
 use crate::asked::ask;
 use crate::ending::Ending;
-use crate::exceptions::put_exceptions;
+use crate::exceptions::{is_raised, put_exceptions};
 use crate::reports::{Reported, reported_by};
 use crate::wanted::Wanted;
 use kl1_command::UnbookedHost;
@@ -186,7 +186,7 @@ pub fn answers_of<H: UnbookedHost>(
         reports,
         exceptions,
     } = reported_by(alloc, host, shoen)?;
-    let ending = ending_of(host, shoen, !exceptions.is_empty())?;
+    let ending = ending_of(host, shoen, is_raised(exceptions.as_slice()))?;
     let mut lines = Vec::new(alloc);
     put_exceptions(exceptions.as_slice(), &mut lines)?;
     Ok(Answers {

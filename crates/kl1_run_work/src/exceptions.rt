@@ -1,6 +1,6 @@
 // What is told of a shoen's exceptions.
 
-ghost use Rattle.std.specs.Prelude.{◌≡◌, ◌++◌, length, map, filter, OnOk};
+ghost use Rattle.std.specs.Prelude.{◌≡◌, ◌++◌, nat_lt, length, map, filter, OnOk};
 ghost use Rattle.kl1_model_server.specs.Command.{written_lines};
 ghost use Rattle.kl1_run_work.specs.Answers.{is_exception, is_by_limit, told_of, left_out, left_line, exceptions_text};
 
@@ -23,6 +23,16 @@ fn is_by_limit(report: &[u8]) -> bool
     ensures { result ≡ is_by_limit report.now }
 {
     report.starts_with(b"exception(exhaustion,")
+}
+
+/// Whether there is an exception.
+pub(crate) fn is_raised(exceptions: &[Vec<u8>]) -> bool
+    ensures { result ≡ nat_lt 0 (length (map (λ t. t.items) exceptions.now)) }
+{
+    match exceptions {
+        [] => false,
+        [_first, ..] => true,
+    }
 }
 
 /// How many exceptions are left out.
