@@ -26,6 +26,11 @@ fn number<'a>(alloc: Global, name: &'a str, help: &'a str) -> Result<Arg<'a>, Al
         .conflicts_with("check")
 }
 
+/// An option that is refused beside `--check` and `--script`.
+fn of_run(arg: Arg<'_>) -> Result<Arg<'_>, AllocError> {
+    arg.conflicts_with("check")?.conflicts_with("script")
+}
+
 /// A command that knows the options that take a number too.
 fn with_numbers<'a>(alloc: Global, command: Command<'a>) -> Result<Command<'a>, AllocError> {
     let steps = number(alloc, "steps", "Do at most N reductions")?;
@@ -35,39 +40,42 @@ fn with_numbers<'a>(alloc: Global, command: Command<'a>) -> Result<Command<'a>, 
         "Let the goal be charged N reductions at most",
     )?;
     // A script keeps to the rules of `kl1`.
-    let rules = Arg::new(alloc, "rules")
-        .long("rules")
-        .action(ArgAction::Set)
-        .value_parser(value_parser!(u64).range(3..=4))
-        .help("Keep to the rules of version N, 3 or 4; 4 has the greater limits")
-        .conflicts_with_all(&["check", "script"])?;
+    let rules = of_run(
+        Arg::new(alloc, "rules")
+            .long("rules")
+            .action(ArgAction::Set)
+            .value_parser(value_parser!(u64).range(3..=4))
+            .help("Keep to the rules of version N, 3 or 4; 4 has the greater limits"),
+    )?;
     command.arg(steps)?.arg(allowance)?.arg(rules)
 }
 
-/// The words that the program knows.
-fn command<'a>(alloc: Global) -> Result<Command<'a>, AllocError> {
+/// A command that knows the options about what is told of the goal too.
+fn with_forms<'a>(alloc: Global, command: Command<'a>) -> Result<Command<'a>, AllocError> {
     let reports = flag(alloc, "reports", "Tell the goal's reports too").conflicts_with("check")?;
-    let whole = flag(
+    let whole = of_run(flag(
         alloc,
         "whole",
         "Tell the goal whole, not cut after 4,000 bytes",
-    )
-    .conflicts_with_all(&["check", "script"])?;
-    let bindings = flag(
+    ))?;
+    let bindings = of_run(flag(
         alloc,
         "bindings",
         "Tell the values of the goal's variables by their names",
-    )
-    .conflicts_with_all(&["check", "script"])?;
-    let infix = flag(alloc, "infix", "Put operators between their operands").conflicts_with_all(&[
-        "check", "script",
-    ])?;
-    let journal = Arg::new(alloc, "journal")
-        .long("journal")
-        .action(ArgAction::Set)
-        .value_name("FILE")
-        .help("Write the journal of the run to FILE, which is new, empty or a journal")
-        .conflicts_with_all(&["check", "script"])?;
+    ))?;
+    let infix = of_run(flag(alloc, "infix", "Put operators between their operands"))?;
+    command.arg(reports)?.arg(whole)?.arg(bindings)?.arg(infix)
+}
+
+/// A command that knows the tasks too, and the file for the journal.
+fn with_tasks<'a>(alloc: Global, command: Command<'a>) -> Result<Command<'a>, AllocError> {
+    let journal = of_run(
+        Arg::new(alloc, "journal")
+            .long("journal")
+            .action(ArgAction::Set)
+            .value_name("FILE")
+            .help("Write the journal of the run to FILE, which is new, empty or a journal"),
+    )?;
     let check = flag(
         alloc,
         "check",
@@ -75,24 +83,23 @@ fn command<'a>(alloc: Global) -> Result<Command<'a>, AllocError> {
     )
     .conflicts_with("script")?;
     let script = flag(alloc, "script", "Write the script that does the same work");
+    command.arg(journal)?.arg(check)?.arg(script)
+}
+
+/// The words that the program knows.
+fn command<'a>(alloc: Global) -> Result<Command<'a>, AllocError> {
     let words = Arg::new(alloc, "words")
         .required(true)
         .action(ArgAction::Append)
         .num_args(1..)
         .help("Files with modules, and then a goal");
-    let command = Command::new(alloc, "kl1_run")
+    let plain = Command::new(alloc, "kl1_run")
         .about("Loads modules from files, and runs a goal")
         .version(VERSION)
         .override_usage(USAGE);
-    with_numbers(alloc, command)?
-        .arg(reports)?
-        .arg(whole)?
-        .arg(bindings)?
-        .arg(infix)?
-        .arg(journal)?
-        .arg(check)?
-        .arg(script)?
-        .arg(words)
+    let numbered = with_numbers(alloc, plain)?;
+    let formed = with_forms(alloc, numbered)?;
+    with_tasks(alloc, formed)?.arg(words)
 }
 
 /// The most steps of a task. A script's `run` takes no more than its limit, and by the third rules a journal has no more entries; by

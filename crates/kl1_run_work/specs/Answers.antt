@@ -1,5 +1,5 @@
 -- What is told of a shoen once its run is over.
-use Rattle.std.specs.Prelude.{◌≡◌, ℕ, ◌-◌, ◌==◌, nat_eq, nat_lt, Bool, true, false, if◌then◌else◌, List, [], ◌∷◌, ◌++◌, length, map, take, filter, codes, decimal, Option, Some, None, unwrap_or, is_none, Ok, Err}
+use Rattle.std.specs.Prelude.{◌≡◌, ℕ, ◌-◌, nat_eq, nat_lt, Bool, true, false, if◌then◌else◌, List, [], ◌∷◌, ◌++◌, length, map, take, filter, codes, decimal, Option, Some, None, unwrap_or, is_none, Ok, Err}
 use Rattle.std.specs.List.{starts_with}
 use Rattle.std.specs.declared.result.Result.{Result}
 use Rattle.kl1_model.specs.declared.condition.Condition.{Condition}
@@ -117,9 +117,13 @@ told_of room (e ∷ es) =
 abbrev pub left_out : List (List ℕ) → ℕ
 left_out es = length (filter is_by_limit es) - MOST_BY_LIMIT
 
--- the line that tells how many are left out, if any is
+-- the line that tells how many are left out
+abbrev pub count_line : ℕ → List ℕ
+count_line n = written_line (codes "kl1_run: exceptions by a limit that are left out here: " ++ decimal n)
+
+-- that line, if any is left out
 abbrev pub left_line : ℕ → List ℕ
-left_line n = if n == 0 then [] else written_line (codes "kl1_run: exceptions by a limit that are left out here: " ++ decimal n)
+left_line n = if nat_lt 0 n then count_line n else []
 
 -- what is told of exceptions: all of them, but of those by a limit the first alone, and how many are left out
 abbrev pub exceptions_text : List (List ℕ) → List ℕ

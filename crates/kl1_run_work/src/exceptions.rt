@@ -2,7 +2,7 @@
 
 ghost use Rattle.std.specs.Prelude.{◌≡◌, ◌++◌, nat_lt, length, map, filter, OnOk};
 ghost use Rattle.kl1_model_server.specs.Command.{written_lines};
-ghost use Rattle.kl1_run_work.specs.Answers.{is_exception, is_by_limit, told_of, left_out, left_line, exceptions_text};
+ghost use Rattle.kl1_run_work.specs.Answers.{is_exception, is_by_limit, told_of, left_out, count_line, left_line, exceptions_text};
 
 use crate::reports::put_line;
 use kl1_lines::put_decimal;
@@ -69,16 +69,24 @@ fn put_told(exceptions: &[Vec<u8>], out: &mut Vec<u8>) -> Result<(), AllocError>
     Ok(())
 }
 
-/// Puts the line that tells how many exceptions are left out after the bytes, if any is. After an `Err` some of it may be there.
-fn put_left(count: usize, out: &mut Vec<u8>) -> Result<(), AllocError>
-    ensures { OnOk result (out.new.items ≡ out.old.items ++ left_line count) }
+/// Puts the line that tells how many exceptions are left out after the bytes. After an `Err` some of it may be there.
+fn put_count(count: usize, out: &mut Vec<u8>) -> Result<(), AllocError>
+    ensures { OnOk result (out.new.items ≡ out.old.items ++ count_line count) }
 {
-    if count == 0 {
-        return Ok(());
-    }
     out.extend_from_slice(b"kl1_run: exceptions by a limit that are left out here: ")?;
     put_decimal(out, count as u64)?;
     out.extend_from_slice(b"\n")
+}
+
+/// Puts that line, if any exception is left out. After an `Err` some of it may be there.
+fn put_left(count: usize, out: &mut Vec<u8>) -> Result<(), AllocError>
+    ensures { OnOk result (out.new.items ≡ out.old.items ++ left_line count) }
+{
+    if 0 < count {
+        put_count(count, out)
+    } else {
+        Ok(())
+    }
 }
 
 /// Puts what is told of exceptions after the bytes: all of them, but of those by a limit the first alone, and how many are left out.

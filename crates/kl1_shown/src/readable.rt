@@ -27,7 +27,6 @@ pub fn readable_goal(alloc: Global, print: &[u8]) -> Result<Vec<u8>, AllocError>
 }
 
 /// Whether two texts are seen to read as one goal.
-#[tactic(auto, using(crate::proofs::Alike::reads_alike))]
 fn read_alike(alloc: Global, print: &[u8], text: &[u8]) -> Result<bool, AllocError>
     ensures { IfOk result (λ same. IsTrue same → ReadsAs print.now text.now) }
 {
