@@ -75,7 +75,8 @@ fn put_count(count: usize, out: &mut Vec<u8>) -> Result<(), AllocError>
 {
     out.extend_from_slice(b"kl1_run: exceptions by a limit that are left out here: ")?;
     put_decimal(out, count as u64)?;
-    out.extend_from_slice(b"\n")
+    out.extend_from_slice(b"\n")?;
+    Ok(())
 }
 
 /// Puts that line, if any exception is left out. After an `Err` some of it may be there.
