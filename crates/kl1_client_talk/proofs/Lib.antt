@@ -4,3 +4,4 @@ pub mod Exchanged
 pub mod Paged
 pub mod Said
 pub mod Turns
+pub mod Watched

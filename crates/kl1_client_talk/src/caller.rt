@@ -1,10 +1,11 @@
 // Who gives the commands.
 
-ghost use Rattle.std.specs.Prelude.{◌≡◌, List, ℕ, IfOk, IsTrue};
+ghost use Rattle.std.specs.Prelude.{◌≡◌, None, false, List, ℕ, IfOk, IsTrue};
 ghost use Rattle.std.specs.declared.option.Option.{Option};
 ghost use Rattle.kl1_client_talk.specs.Given.{GivesLine};
 
 use crate::fault::Fault;
+use crate::turn_end::TurnEnd;
 
 /// Who gives the commands of a talk.
 pub trait Caller {
@@ -24,7 +25,17 @@ pub trait Caller {
         ensures file { IfOk result (λ found. IsTrue found → is_file name.now source.new.items) }
         ensures same { remaining self.new ≡ remaining self.old };
 
-    /// Lets some time pass before the next look at a shoen, after this number of looks, from 1.
-    fn pause(&mut self, looks: u64)
+    /// Lets some time pass before the next look at a shoen, after this number of looks, from 1. Tells whether the looks end here: they do
+    /// when these seconds have passed since the first one, and never by time if none are given.
+    fn pause(&mut self, looks: u64, seconds: Option<u64>) -> bool
+        ensures ends { seconds ≡ None → result ≡ false }
+        ensures same { remaining self.new ≡ remaining self.old };
+
+    /// Tells what the commands are that begin with this word, or all of them if there is no word.
+    fn help(&mut self, topic: &[u8])
+        ensures { remaining self.new ≡ remaining self.old };
+
+    /// Is told the last line that came in a turn: after the turn, and how it ended; and in a wait after a look that did no step.
+    fn turned(&mut self, end: TurnEnd, line: &[u8])
         ensures { remaining self.new ≡ remaining self.old };
 }

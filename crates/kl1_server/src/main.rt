@@ -8,10 +8,17 @@ use std::{env, io};
 fn main(rt: HostRuntime) -> ExitCode {
     let mut out = FailureCounter::new(rt.stdout());
     let mut err = FailureCounter::new(rt.stderr());
-    ExitCode::from(match words_in(&rt) {
+    let status = match words_in(&rt) {
         Ok(words) => run_server(&rt, rt.alloc(), words.as_slice(), &mut out, &mut err),
         Err(error) => stop(error, &mut err),
-    })
+    };
+    if status == 0 {
+        // What was served is for programs; who looks on is told that nothing is left.
+        let _ = eprintln!(rt;
+            "kl1_server: all of its connections have ended, so it ends, and its accounts with it"
+        );
+    }
+    ExitCode::from(status)
 }
 
 /// The words of the program, of which the first is its name.

@@ -3,7 +3,7 @@ use Rattle.kl1_model.specs.Line.{without_return}
 use Rattle.kl1_client_talk.specs.Reply.{is_bye}
 use Rattle.kl1_client_talk.specs.Exchanges.{wire, screen}
 use Rattle.kl1_client_talk.specs.UserCommand.{wanted_in}
-use Rattle.kl1_client_talk.proofs.Turns.{nothing_turn, over_turn, stay_turn, one_turn}
+use Rattle.kl1_client_talk.proofs.Turns.{nothing_turn, help_turn, quit_turn, over_turn, stay_turn, one_turn}
 use Rattle.kl1_client_talk.proofs.conversation.take_turn.Goals as goal
 
 pub returns-in-Nothing-clause-ok : goal.returns-in-Nothing-clause-ok
@@ -21,3 +21,11 @@ returns-else-is_bye-clause-ok g c =
 pub returns-in_ok-ask_one-in-OneLine-clause-ok : goal.returns-in_ok-ask_one-in-OneLine-clause-ok
 returns-in_ok-ask_one-in-OneLine-clause-ok g c =
     one_turn g.C.Caller.is_file c.args.shown.now.are_pages_joined (without_return c.args.line.now) (wanted_in c.args.line.now) (wire g.T.Sink.contents g.S.Source.remaining c.args.connection.now) (wire g.T.Sink.contents g.S.Source.remaining c.ask_one-in-OneLine.new.connection) (screen g.O.Sink.contents c.args.shown.now) (screen g.O.Sink.contents c.ask_one-in-OneLine.new.shown) c.without_return-line.result.now c.ask_one-in-OneLine.new.connection.line.items c.without_return-line.ensures c.in-OneLine.ensures c.in_ok-ask_one-in-OneLine.ensures.ok
+
+pub returns-in-Help-clause-ok : goal.returns-in-Help-clause-ok
+returns-in-Help-clause-ok g c =
+    help_turn g.C.Caller.is_file c.args.shown.now.are_pages_joined (without_return c.args.line.now) c.in-Help.topic.now (wanted_in c.args.line.now) (wire g.T.Sink.contents g.S.Source.remaining c.args.connection.now) (screen g.O.Sink.contents c.args.shown.now) c.in-Help.ensures
+
+pub returns-in_ok-log_out-in-Quit-clause-ok : goal.returns-in_ok-log_out-in-Quit-clause-ok
+returns-in_ok-log_out-in-Quit-clause-ok g c =
+    quit_turn g.C.Caller.is_file c.args.shown.now.are_pages_joined (without_return c.args.line.now) c.log_out.new.connection.line.items (wanted_in c.args.line.now) (wire g.T.Sink.contents g.S.Source.remaining c.args.connection.now) (wire g.T.Sink.contents g.S.Source.remaining c.log_out.new.connection) (screen g.O.Sink.contents c.args.shown.now) c.in-Quit.ensures c.in_ok-log_out-in-Quit.ensures.ok
