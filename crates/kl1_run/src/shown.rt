@@ -76,9 +76,9 @@ impl Shown {
 
     /// Puts a line for each variable that has a name and no value after the bytes.
     pub fn put_warnings(&self, out: &mut Vec<u8>) -> Result<(), AllocError> {
-        let mut number = 0;
+        let mut number: u64 = 0;
         for name in self.names.as_slice() {
-            number += 1;
+            number = number.saturating_add(1);
             if is_named(name.as_slice()) && self.is_unbound(number) {
                 out.extend_from_slice(b"kl1_run: warning: ")?;
                 out.extend_from_slice(name.as_slice())?;
@@ -109,9 +109,9 @@ impl Shown {
         most: Option<usize>,
         out: &mut Vec<u8>,
     ) -> Result<(), AllocError> {
-        let mut number = 0;
+        let mut number: u64 = 0;
         for name in self.names.as_slice() {
-            number += 1;
+            number = number.saturating_add(1);
             if is_named(name.as_slice()) {
                 out.extend_from_slice(name.as_slice())?;
                 out.extend_from_slice(b" = ")?;

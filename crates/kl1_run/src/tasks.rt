@@ -179,9 +179,11 @@ fn fault_of(alloc: Global, stop: Stop, names: &[&str], goal: &str) -> Result<Fau
 
 /// Puts a text after the bytes, or its front and three dots if it is long.
 fn put_front(text: &[u8], out: &mut Vec<u8>) -> Result<(), AllocError> {
-    if text.len() <= MOST_TOLD {
-        return out.extend_from_slice(text);
+    if text.len() > MOST_TOLD {
+        if let Some(front) = text.get(..MOST_TOLD) {
+            out.extend_from_slice(front)?;
+            return out.extend_from_slice(b"...");
+        }
     }
-    out.extend_from_slice(&text[..MOST_TOLD])?;
-    out.extend_from_slice(b"...")
+    out.extend_from_slice(text)
 }
