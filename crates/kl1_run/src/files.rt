@@ -69,9 +69,12 @@ pub fn read_each(rt: &HostRuntime, names: &[&str]) -> Result<Modules, Fault> {
         match read_text(rt, name) {
             Ok((id, text)) => {
                 let name = Vec::from_slice(alloc, name.as_bytes())?;
+                let at = files.len();
                 files.push(SourceFile { name, text })?;
                 ids.push(id)?;
-                put_checked(alloc, &files.as_slice()[ids.len() - 1..], &mut faults)?;
+                if let Some(last) = files.as_slice().get(at..) {
+                    put_checked(alloc, last, &mut faults)?;
+                }
             }
             Err(error) => put_file_fault(alloc, name, &error, &mut faults)?,
         }
