@@ -85,15 +85,7 @@ fn compare_anew<N: NameValue>(
 {
     let mut course = Course::new(alloc);
     let mut waits = Vec::new(alloc);
-    let progress = resume(
-        cells,
-        rests,
-        frames,
-        &mut course,
-        &mut waits,
-        left,
-        right,
-    )?;
+    let progress = resume(cells, rests, frames, &mut course, &mut waits, left, right)?;
     match progress {
         Progress::Ends => {
             let is_worth_keeping = course.is_long();

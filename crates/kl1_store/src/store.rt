@@ -308,7 +308,12 @@ impl<N: NameValue> Store<N> {
         ensures hooks { self.new.hooks ≡ self.old.hooks }
         ensures hook_room { self.new.hook_room ≡ self.old.hook_room }
     {
-        keep_each(&self.cells, &mut self.rests, self.alloc, scratch.remembered.as_slice())
+        keep_each(
+            &self.cells,
+            &mut self.rests,
+            self.alloc,
+            scratch.remembered.as_slice(),
+        )
     }
 
     /// Makes room for `variables` variables, `structures` structures, `arguments` arguments and `bindings` bindings more:
