@@ -1,3 +1,5 @@
 pub mod Places
 pub mod Items
 pub mod Reasons
+pub mod Judged
+pub mod Told

@@ -1,11 +1,17 @@
 // Why sources are refused.
 
-ghost use Rattle.std.specs.Prelude.{◌≡◌, IfOk};
-ghost use Rattle.kl1_reasons.specs.Reasons.{Explain, Explains, IsNext};
+ghost use Rattle.std.specs.Prelude.{◌≡◌, ◌++◌, ◌∷◌, [], None, All, length, List, IfOk, OnOk};
+ghost use Rattle.kl1_reasons.specs.declared.reason.Reason as model;
+ghost use Rattle.kl1_reasons.specs.Places.{first_place};
+ghost use Rattle.kl1_reasons.specs.Reasons.{Explain, Explains, IsNext, front_behind};
 
+use crate::cut::front_behind;
+use crate::finding::Words;
+use crate::guess::{Guess, guess_on};
 use crate::item::item_on;
 use crate::judged::line_refused;
-use crate::reason::Reason;
+use crate::place::Place;
+use crate::reason::{Reason, reason_in};
 use kl1_model::limits::MOST_SOURCE_BYTES;
 use std::alloc::{AllocError, Global};
 
@@ -23,6 +29,24 @@ pub fn reasons_of(alloc: Global, text: &[u8], most: usize) -> Result<Vec<Reason>
     }
     put_reasons(alloc, text, most, &mut reasons)?;
     Ok(reasons)
+}
+
+/// The reason for a source that is too long.
+fn too_long(alloc: Global, text: &[u8]) -> Result<Reason, AllocError>
+    ensures { IfOk result (λ reason. reason.place ≡ first_place) }
+{
+    let why = format!(in alloc; "{} bytes and more: a source has at most 65,536", text.len())?;
+    Ok(Reason {
+        line: 1,
+        start: 0,
+        at: 0,
+        end: text.len(),
+        place: Place { line: 1, column: 1 },
+        words: Words {
+            why: why.into_bytes(),
+            hints: Vec::new(alloc),
+        },
+    })
 }
 
 /// Puts the reasons why a source that isn't too long is refused after none.
@@ -50,7 +74,8 @@ fn put_reasons(
     Ok(())
 }
 
-/// The next reason for a source whose front is given up, if any is.
+/// The next reason for a source whose front may be given up.
+#[tactic(auto, using(crate::proofs::Lines::refused_has_line))]
 fn next_reason(
     alloc: Global,
     text: &[u8],
@@ -61,8 +86,9 @@ fn next_reason(
     match line_refused(alloc, text, front)? {
         None => Ok(None),
         Some(line) => {
-            let item = item_on(text, front, line);
-            Ok(Some(reason_for(alloc, text, front, line, item)?))
+            let Guess { start, finding } = guess_on(alloc, text, front, line)?;
+            let item = item_on(text, start, line);
+            Ok(Some(reason_in(text, line, item, finding)))
         }
     }
 }

@@ -1,0 +1,4 @@
+pub mod Feeds
+pub mod FrontFeeds
+pub mod TokenLines
+pub mod Lines
