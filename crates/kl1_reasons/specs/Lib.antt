@@ -3,3 +3,4 @@ pub mod Items
 pub mod Reasons
 pub mod Judged
 pub mod Told
+pub mod Refused

@@ -58,3 +58,8 @@ Explains most text rs = elim (nat_le (length text) MOST_SOURCE_BYTES) [ true ↦
 abbrev pub ExplainsGoal : List ℕ → Option Reason → Type 0
 ExplainsGoal text None = IsTrue (is_good (read_goal text))
 ExplainsGoal text (Some r) = (read_goal text ≡ bad r.line) × (r.at ≤ length text) × (r.place ≡ place_of text r.at)
+
+-- what is told of a text has a place in it
+pub record IsPlaced (text : List ℕ) (r : Reason) : Type 0 where
+  pub within : r.at ≤ length text
+  pub place : r.place ≡ place_of text r.at

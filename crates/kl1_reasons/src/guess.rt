@@ -6,7 +6,7 @@ use crate::finding::{Finding, Say, known, said};
 use crate::item::Item;
 use crate::module_line::module_line_finding;
 use crate::outline::Step;
-use crate::place::place_of;
+use crate::place::{Place, place_of};
 use crate::scan::tokens_of;
 use crate::seen::{Seen, is_otherwise};
 use crate::token::Token;
@@ -80,7 +80,8 @@ pub(crate) fn guess_on(
         let end = item_end(text, start);
         let tokens = tokens_of(alloc, text, Item { start, end })?;
         if here == line {
-            if let Some(finding) = walk.check(tokens.as_slice())? {
+            if let Some(mut finding) = walk.check(tokens.as_slice())? {
+                note_beginning(alloc, text, start, &mut finding)?;
                 return Ok(Guess { start, finding });
             }
             first = first.or(Some(start));
@@ -90,6 +91,30 @@ pub(crate) fn guess_on(
         at = end;
     }
     unfound(&walk, first)
+}
+
+/// Notes where an item begins if what is wrong stands two lines further on or more.
+fn note_beginning(
+    alloc: Global,
+    text: &[u8],
+    start: usize,
+    finding: &mut Finding,
+) -> Result<(), AllocError> {
+    let Place { line, column } = place_of(text, start);
+    if place_of(text, finding.at).line <= line.saturating_add(1) {
+        return Ok(());
+    }
+    let hint = said(
+        alloc,
+        &[
+            Say::Text(b"the item begins at "),
+            Say::Number(line),
+            Say::Text(b":"),
+            Say::Number(column),
+        ],
+    )?;
+    finding.words.hints.push(hint)?;
+    Ok(())
 }
 
 /// How many line feeds stand between two places.
