@@ -2,3 +2,4 @@ pub mod Feeds
 pub mod FrontFeeds
 pub mod TokenLines
 pub mod Lines
+pub mod Refusals

@@ -1,5 +1,3 @@
-pub mod Places
-pub mod Items
 pub mod Reasons
 pub mod Judged
 pub mod Told

@@ -2,11 +2,11 @@
 use Rattle.std.specs.Prelude.{◌≡◌, ℕ, zero, suc, ◌==◌, ◌-◌, ◌≤◌, nat_le, Bool, true, false, IsTrue, List, [], ◌∷◌, ◌++◌, length, take, drop, filter, All, codes, Option, Some, None}
 use Rattle.kl1_model.specs.declared.limits.TheConstants.{MOST_SOURCE_BYTES}
 use Rattle.kl1_model.specs.Module.{Reading, good, bad, read_module, read_goal}
-use Rattle.kl1_reasons.specs.declared.place.Place.{Place}
+use Rattle.kl1_reasons_items.specs.declared.place.Place.{Place}
 use Rattle.kl1_reasons.specs.declared.reason.Reason.{Reason}
-use Rattle.kl1_reasons.specs.declared.within.Within.TheVariants.{Plain}
-use Rattle.kl1_reasons.specs.Places.{first_place, place_of}
-use Rattle.kl1_reasons.specs.Items.{behind_item, behind_otherwise}
+use Rattle.kl1_reasons_items.specs.declared.within.Within.TheVariants.{Plain}
+use Rattle.kl1_reasons_items.specs.Places.{first_place, place_of}
+use Rattle.kl1_reasons_items.specs.Items.{behind_item, front_behind}
 
 -- whether a text is what it is read as
 abbrev pub is_good : {A : Type 0} → Reading A → Bool
@@ -21,10 +21,6 @@ line_feeds bs = filter (λ b. b == 10) bs
 abbrev pub text_from : List ℕ → Option ℕ → List ℕ
 text_from text None = text
 text_from text (Some front) = codes ":- module m." ++ line_feeds (take front text) ++ drop front text
-
--- how much is given up after a bad item: it, and an `otherwise.` directly after it, since the clause before that one is not known
-abbrev pub front_behind : List ℕ → ℕ → ℕ
-front_behind text end = length text - length (behind_otherwise (drop end text))
 
 -- a reason tells of an item that begins on its line, and what it tells of stands in that item or at its end
 pub record IsInItem (text : List ℕ) (r : Reason) : Type 0 where

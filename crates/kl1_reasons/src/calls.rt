@@ -1,14 +1,10 @@
 // Goals whose predicate isn't there.
 
-use crate::finding::{Finding, Say, found_at, said};
-use crate::guards::is_test;
-use crate::heads::is_built_in;
-use crate::outline::Outline;
-use crate::part::{Main, Part};
 use crate::predicates::Predicates;
 use crate::seen::{HeadSeen, head_of};
-use crate::token::Token;
 use crate::warnings::Scope;
+use kl1_reasons_items::Token;
+use kl1_reasons_words::{Finding, Main, Outline, Part, Say, found_at, is_built_in, is_test, said};
 use kl1_text::AtomText;
 use std::alloc::AllocError;
 use strsim::osa_distance;
@@ -58,9 +54,10 @@ impl Scope<'_> {
         tokens: &[Token],
         findings: &mut Vec<Finding>,
     ) -> Result<(), AllocError> {
-        let (Some(module), Some(HeadSeen { token, count })) =
-            (tokens.first(), head_of(tokens.get(2..).unwrap_or(&[])))
-        else {
+        let (Some(module), Some(HeadSeen { token, count })) = (
+            tokens.first(),
+            head_of(tokens.get(2..).unwrap_or(&[])),
+        ) else {
             return Ok(());
         };
         let Some(name) = AtomText::read(module.name(self.text)) else {

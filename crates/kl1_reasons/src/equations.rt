@@ -1,11 +1,9 @@
 // Equations and assignments that can't be meant.
 
-use crate::finding::{Finding, Say, found_at};
-use crate::outline::Outline;
-use crate::part::{Main, Part};
-use crate::token::{Kind, Token};
 use crate::warnings::Scope;
 use kl1_model::Sign;
+use kl1_reasons_items::{Kind, Token};
+use kl1_reasons_words::{Finding, Main, Outline, Part, Say, found_at};
 use std::alloc::AllocError;
 
 /// The two sides of a relation, and the relation.
@@ -173,9 +171,10 @@ impl Scope<'_> {
         let head = outline.tokens_of(head);
         for (one, other) in [(sides.left, sides.right), (sides.right, sides.left)] {
             match variable_in(one) {
-                Some(variable) if variable_in(other).is_none() && self.times(variable, head) == 1 => {
-                    findings.push(self.no_binding(sides.sign, variable)?)?;
-                }
+                Some(variable) if variable_in(other).is_none() && self.times(variable, head) == 1 =>
+                    {
+                        findings.push(self.no_binding(sides.sign, variable)?)?;
+                    }
                 _ => {}
             }
         }

@@ -3,15 +3,10 @@
 ghost use Rattle.std.specs.Prelude.{IfOk};
 ghost use Rattle.kl1_reasons.specs.Reasons.{ExplainsGoal};
 
-use crate::finding::{Finding, Say, known};
-use crate::item::Item;
-use crate::outline::{Outline, Role, Step};
-use crate::part::{Main, Part};
-use crate::place::place_of;
 use crate::reason::Reason;
-use crate::scan::tokens_of;
-use crate::token::Token;
 use kl1_read::{ReadFault, read_goal};
+use kl1_reasons_items::{Item, Token, place_of, tokens_of};
+use kl1_reasons_words::{Finding, Main, Outline, Part, Role, Say, Step, known};
 use std::alloc::{AllocError, Global};
 
 /// Why a text is no goal, if it is none. `module` is the name of the module that a hint names.

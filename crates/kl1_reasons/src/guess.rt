@@ -1,15 +1,11 @@
 // Which item on a line is bad, and what is wrong with it.
 
-use crate::clauses::clause_finding;
-use crate::cut::{blanks_end, dropped, item_end, starts_with};
-use crate::finding::{Finding, Say, known, said};
-use crate::item::Item;
 use crate::module_line::module_line_finding;
-use crate::outline::Step;
-use crate::place::{Place, place_of};
-use crate::scan::tokens_of;
 use crate::seen::{Seen, is_otherwise};
-use crate::token::Token;
+use kl1_reasons_items::{
+    Item, Place, Token, blanks_end, dropped, item_end, place_of, starts_with, tokens_of,
+};
+use kl1_reasons_words::{Finding, Say, Step, clause_finding, known, said};
 use std::alloc::{AllocError, Global};
 
 /// An item that may be bad: how many bytes stand before it, and what is wrong with it.
@@ -129,7 +125,12 @@ fn unfound(walk: &Walk<'_>, first: Option<usize>) -> Result<Guess, AllocError> {
     let alloc = walk.alloc;
     let start = first.unwrap_or(0);
     let finding = if walk.wants_line {
-        known(alloc, start, b"an empty text: a module begins with :- module NAME.", b"")?
+        known(
+            alloc,
+            start,
+            b"an empty text: a module begins with :- module NAME.",
+            b"",
+        )?
     } else if starts_with(dropped(walk.text, start), b"otherwise") {
         let hint = match walk.seen.heads.last() {
             None => Vec::new(alloc),
@@ -144,7 +145,12 @@ fn unfound(walk: &Walk<'_>, first: Option<usize>) -> Result<Guess, AllocError> {
                 ],
             )?,
         };
-        known(alloc, start, b"otherwise. is the last item", hint.as_slice())?
+        known(
+            alloc,
+            start,
+            b"otherwise. is the last item",
+            hint.as_slice(),
+        )?
     } else {
         known(
             alloc,

@@ -4,9 +4,8 @@ ghost use Rattle.std.specs.Prelude.{◌≡◌, ◌++◌, OnOk, IfOk};
 ghost use Rattle.kl1_reasons.specs.Judged.{IsLineRefused};
 ghost use Rattle.kl1_reasons.specs.Reasons.{line_feeds, text_from};
 
-use crate::cut::dropped;
-use crate::place::taken;
 use kl1_read::{ReadFault, read_module};
+use kl1_reasons_items::{dropped, taken};
 use std::alloc::{AllocError, Global};
 
 /// The line of the first bad item of a source whose front may be given up, if what is left is no module.

@@ -29,6 +29,19 @@ pub fn put_reason(
     put_hints(out, reason.words.hints.as_slice())
 }
 
+/// Puts the lines of reasons of this severity, in the file of this name, after the bytes. After an `Err` some of them may be there.
+pub(crate) fn put_each(
+    name: &[u8],
+    severity: &[u8],
+    reasons: &[Reason],
+    out: &mut Vec<u8>,
+) -> Result<(), AllocError> {
+    for reason in reasons {
+        put_reason(out, name, severity, reason)?;
+    }
+    Ok(())
+}
+
 /// Puts a number in decimal after the bytes.
 fn put_number(out: &mut Vec<u8>, number: u64) -> Result<(), AllocError>
     ensures { OnOk result (out.new.items ≡ out.old.items ++ decimal number) }

@@ -1,11 +1,8 @@
 // Why an item is no line of a module.
 
-use crate::alien::alien_finding;
-use crate::cut::dropped;
-use crate::finding::{Finding, Say, found_at, known};
-use crate::outline::Step;
-use crate::token::{Kind, Token};
 use kl1_model::Sign;
+use kl1_reasons_items::{Kind, Token, dropped};
+use kl1_reasons_words::{Finding, Say, Step, alien_finding, found_at, known};
 use std::alloc::{AllocError, Global};
 
 /// The bytes with which a file begins that is marked as UTF-8.
@@ -18,8 +15,7 @@ pub(crate) fn module_line_finding(alloc: Global, text: &[u8], tokens: &[Token]) 
         [neck, word, others @ ..]
             if neck.is(Sign::Neck)
                 && matches!(word.kind, Kind::Name)
-                && word.bytes(text) == b"module".as_slice() =>
-        {
+                && word.bytes(text) == b"module".as_slice() => {
             name_finding(alloc, text, word, others)
         }
         [first, ..] => Ok(Some(no_line(alloc, text, first)?)),
@@ -61,9 +57,7 @@ fn name_finding(alloc: Global, text: &[u8], word: &Token, others: &[Token]) -> S
                     Say::Text(name.bytes(text)),
                     Say::Text(b" is a variable"),
                 ],
-                &[Say::Text(
-                    b"begin it with a small letter, or put it in quotes",
-                )],
+                &[Say::Text(b"begin it with a small letter, or put it in quotes")],
             )?)),
             Kind::Name | Kind::Quoted => rest_finding(alloc, text, name, rest),
             Kind::Alien => Ok(Some(alien_finding(alloc, text, name)?)),
@@ -86,12 +80,7 @@ fn rest_finding(alloc: Global, text: &[u8], name: &Token, rest: &[Token]) -> Ste
                 return Ok(Some(no_more(alloc, first.start)?));
             }
             if name.name(text) == b"shoen".as_slice() {
-                return Ok(Some(known(
-                    alloc,
-                    name.start,
-                    b"no module may be named shoen",
-                    b"",
-                )?));
+                return Ok(Some(known(alloc, name.start, b"no module may be named shoen", b"")?));
             }
             Ok(None)
         }

@@ -2,17 +2,15 @@
 
 ghost use Rattle.std.specs.Prelude.{◌≡◌, ◌++◌, ◌∷◌, [], None, All, length, List, IfOk, OnOk};
 ghost use Rattle.kl1_reasons.specs.declared.reason.Reason as model;
-ghost use Rattle.kl1_reasons.specs.Places.{first_place};
-ghost use Rattle.kl1_reasons.specs.Reasons.{Explain, Explains, IsNext, front_behind};
+ghost use Rattle.kl1_reasons_items.specs.Places.{first_place};
+ghost use Rattle.kl1_reasons.specs.Reasons.{Explain, Explains, IsNext};
 
-use crate::cut::front_behind;
-use crate::finding::Words;
 use crate::guess::{Guess, guess_on};
-use crate::item::item_on;
 use crate::judged::line_refused;
-use crate::place::Place;
 use crate::reason::{Reason, reason_in};
 use kl1_model::limits::MOST_SOURCE_BYTES;
+use kl1_reasons_items::{Place, front_behind, item_on};
+use kl1_reasons_words::Words;
 use std::alloc::{AllocError, Global};
 
 /// The most reasons that are told of one source.
@@ -35,7 +33,12 @@ pub fn reasons_of(alloc: Global, text: &[u8], most: usize) -> Result<Vec<Reason>
 fn too_long(alloc: Global, text: &[u8]) -> Result<Reason, AllocError>
     ensures { IfOk result (λ reason. reason.place ≡ first_place) }
 {
-    let why = format!(in alloc; "{} bytes and more: a source has at most 65,536", text.len())?;
+    let hint = Vec::from_slice(
+        alloc,
+        b"put some of its predicates into a module of their own",
+    )?;
+    let mut hints = Vec::new(alloc);
+    hints.push(hint)?;
     Ok(Reason {
         line: 1,
         start: 0,
@@ -43,8 +46,8 @@ fn too_long(alloc: Global, text: &[u8]) -> Result<Reason, AllocError>
         end: text.len(),
         place: Place { line: 1, column: 1 },
         words: Words {
-            why: why.into_bytes(),
-            hints: Vec::new(alloc),
+            why: Vec::from_slice(alloc, b"a source has at most 65,536 bytes")?,
+            hints,
         },
     })
 }

@@ -1,10 +1,7 @@
 // The predicates that a module has.
 
-use crate::cut::{blanks_end, item_end};
-use crate::item::Item;
-use crate::scan::tokens_of;
 use crate::seen::{HeadSeen, head_of, is_otherwise};
-use crate::token::Token;
+use kl1_reasons_items::{Item, Token, blanks_end, item_end, tokens_of};
 use kl1_text::AtomText;
 use std::alloc::{AllocError, Global};
 use std::collections::HashMap;

@@ -1,14 +1,13 @@
 // Why an item or a goal is refused.
 
 ghost use Rattle.std.specs.Prelude.{◌≡◌, ◌≤◌, length, drop};
-ghost use Rattle.kl1_reasons.specs.declared.within.Within.TheVariants.{Plain};
-ghost use Rattle.kl1_reasons.specs.Items.{behind_item};
-ghost use Rattle.kl1_reasons.specs.Places.{place_of};
+ghost use Rattle.kl1_reasons_items.specs.declared.within.Within.TheVariants.{Plain};
+ghost use Rattle.kl1_reasons_items.specs.Items.{behind_item};
+ghost use Rattle.kl1_reasons_items.specs.Places.{place_of};
 ghost use Rattle.kl1_reasons.specs.Reasons.{IsInItem};
 
-use crate::finding::{Finding, Words};
-use crate::item::Item;
-use crate::place::{Place, place_of};
+use kl1_reasons_items::{Item, Place, place_of};
+use kl1_reasons_words::{Finding, Words};
 
 /// Why an item of a source, or a goal, is refused.
 #[derive(Drop)]

@@ -1,11 +1,9 @@
 // Items before one, as far as what may follow them goes.
 
-use crate::finding::{Say, found_at, known};
-use crate::outline::Step;
-use crate::place::place_of;
-use crate::token::{Kind, Token};
 use kl1_model::Sign;
 use kl1_model::limits::MOST_CLAUSES;
+use kl1_reasons_items::{Kind, Token, place_of};
+use kl1_reasons_words::{Say, Step, found_at, known};
 use std::alloc::{AllocError, Global};
 
 /// The head of a clause.
@@ -140,13 +138,7 @@ impl Seen {
     }
 
     /// Why a clause of another predicate than the last may not follow these, if it may not.
-    fn check_new(
-        &self,
-        alloc: Global,
-        text: &[u8],
-        last: &HeadSeen,
-        head: &HeadSeen,
-    ) -> Step {
+    fn check_new(&self, alloc: Global, text: &[u8], last: &HeadSeen, head: &HeadSeen) -> Step {
         if self.otherwise.is_some() {
             return Ok(Some(found_at(
                 alloc,
@@ -165,7 +157,12 @@ impl Seen {
                 )],
             )?));
         }
-        match self.heads.iter().rev().find(|seen| is_same(text, seen, head)) {
+        match self
+            .heads
+            .iter()
+            .rev()
+            .find(|seen| is_same(text, seen, head))
+        {
             Some(seen) => Ok(Some(found_at(
                 alloc,
                 head.token.start,

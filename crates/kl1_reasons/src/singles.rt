@@ -1,8 +1,8 @@
 // Variables that stand once.
 
-use crate::finding::{Finding, Say, found_at};
-use crate::token::{Kind, Token};
 use crate::warnings::Scope;
+use kl1_reasons_items::{Kind, Token};
+use kl1_reasons_words::{Finding, Say, found_at};
 use kl1_text::AtomText;
 use std::alloc::AllocError;
 use std::collections::HashMap;

@@ -1,13 +1,10 @@
 // Clauses below one that always commits.
 
-use crate::finding::{Finding, Say, found_at};
-use crate::outline::Outline;
-use crate::part::{Main, Part};
-use crate::place::place_of;
 use crate::seen::{HeadSeen, head_of, is_same};
-use crate::token::{Kind, Token};
 use crate::warnings::Scope;
 use kl1_model::Sign;
+use kl1_reasons_items::{Kind, Token, place_of};
+use kl1_reasons_words::{Finding, Main, Outline, Part, Say, found_at};
 use std::alloc::AllocError;
 
 /// The last clause that always commits, and whether something below it was told of.
@@ -153,8 +150,7 @@ fn is_free(outline: &Outline<'_>, token: &Token, others: &[Token]) -> bool {
     let name = token.bytes(outline.text);
     match token.kind {
         Kind::Variable => {
-            name == b"_".as_slice()
-                || !others.iter().any(|other| other.bytes(outline.text) == name)
+            name == b"_".as_slice() || !others.iter().any(|other| other.bytes(outline.text) == name)
         }
         _ => token.is(Sign::Comma) || token.is(Sign::Open) || token.is(Sign::Close),
     }

@@ -3,17 +3,12 @@
 ghost use Rattle.std.specs.Prelude.{All, IfOk};
 ghost use Rattle.kl1_reasons.specs.Reasons.{IsPlaced};
 
-use crate::cut::{blanks_end, item_end};
-use crate::finding::Finding;
-use crate::item::Item;
-use crate::outline::{Outline, Role};
-use crate::place::place_of;
 use crate::predicates::Predicates;
 use crate::reason::Reason;
-use crate::scan::tokens_of;
 use crate::seen::is_otherwise;
-use crate::token::Token;
 use crate::unreached::Committed;
+use kl1_reasons_items::{Item, Token, blanks_end, item_end, place_of, tokens_of};
+use kl1_reasons_words::{Finding, Outline, Role};
 use std::alloc::{AllocError, Global};
 
 /// The most warnings that are told of one source.
@@ -115,6 +110,9 @@ fn look_at(
         scope.look_at_test(&outline, test, findings)?;
     }
     for goal in outline.goals() {
+        if findings.len() >= MOST_WARNINGS {
+            break;
+        }
         scope.look_at_goal(&outline, goal, findings)?;
     }
     Ok(())
