@@ -1,5 +1,8 @@
 // What is found to be wrong.
 
+ghost use Rattle.std.specs.Prelude.{◌≡◌, IfOk};
+ghost use Rattle.kl1_reasons_words.specs.Said.{Finds, said_of};
+
 use itoa::Buffer;
 use std::alloc::{AllocError, Global};
 
@@ -34,7 +37,9 @@ pub fn found_at(
     at: usize,
     why: &[Say<'_>],
     hint: &[Say<'_>],
-) -> Result<Finding, AllocError> {
+) -> Result<Finding, AllocError>
+    ensures { IfOk result (Finds at (said_of why.now)) }
+{
     let mut hints = Vec::new(alloc);
     if !hint.is_empty() {
         hints.push(said(alloc, hint)?)?;
@@ -47,24 +52,35 @@ pub fn found_at(
 }
 
 /// What is wrong at a place, in words that are known, with what may help, if that is not empty.
-pub fn known(alloc: Global, at: usize, why: &[u8], hint: &[u8]) -> Result<Finding, AllocError> {
-    if hint.is_empty() {
-        found_at(alloc, at, &[Say::Text(why)], &[])
-    } else {
-        found_at(alloc, at, &[Say::Text(why)], &[Say::Text(hint)])
+pub fn known(alloc: Global, at: usize, why: &[u8], hint: &[u8]) -> Result<Finding, AllocError>
+    ensures { IfOk result (Finds at why.now) }
+{
+    let mut hints = Vec::new(alloc);
+    if !hint.is_empty() {
+        hints.push(Vec::from_slice(alloc, hint)?)?;
     }
+    let why = Vec::from_slice(alloc, why)?;
+    Ok(Finding {
+        at,
+        words: Words { why, hints },
+    })
 }
 
 /// A line of words.
-pub fn said(alloc: Global, parts: &[Say<'_>]) -> Result<Vec<u8>, AllocError> {
+pub fn said(alloc: Global, parts: &[Say<'_>]) -> Result<Vec<u8>, AllocError>
+    ensures { IfOk result (λ line. line.items ≡ said_of parts.now) }
+{
     let mut line = Vec::new(alloc);
-    for part in parts {
-        match part {
+    let mut rest = parts;
+    while let [first, others @ ..] = rest {
+        match first {
             Say::Text(text) => line.extend_from_slice(text)?,
             Say::Number(number) => {
-                line.extend_from_slice(Buffer::new().format(*number).as_bytes())?
+                let mut buffer = Buffer::new();
+                line.extend_from_slice(buffer.format(*number).as_bytes())?
             }
         }
+        rest = others;
     }
     Ok(line)
 }
