@@ -1,1 +1,3 @@
 pub mod Alone
+pub mod Used
+pub mod Scripted

@@ -1,7 +1,8 @@
 -- The lines of the script that does the same work.
 use Rattle.std.specs.Prelude.{ℕ, Bool, if◌then◌else◌, List, [], ◌∷◌, ◌++◌, length, codes, decimal}
 use Rattle.kl1_model.specs.Term.{Term}
-use Rattle.kl1_model.specs.Print.{print}
+use Rattle.kl1_model.specs.declared.limits.TheConstants.{MOST_PRIORITY}
+use Rattle.kl1_model.specs.Opening.{start_line}
 use Rattle.kl1_model_server.specs.Command.{written_line}
 
 -- the line that loads a text, and the text as a line
@@ -19,7 +20,7 @@ run_lines steps = 10 ∷ [] ++ written_line (codes "me run " ++ decimal steps)
 
 -- the line that starts a goal with an allowance and all priorities, and the line that runs `steps` steps
 abbrev pub goal_lines : Term → ℕ → ℕ → List ℕ
-goal_lines goal allowance steps = (codes "me start " ++ decimal allowance ++ codes " 0 4095 " ++ print goal) ++ run_lines steps
+goal_lines goal allowance steps = (codes "me " ++ start_line allowance 0 MOST_PRIORITY goal) ++ run_lines steps
 
 -- the line that asks for the value, and the line that asks for the first reports if they are wanted
 abbrev pub question_lines : Bool → List ℕ

@@ -8,6 +8,7 @@ ghost use Rattle.kl1_run_work.specs.Answers.{shown_in, shown_text, value_text, v
 
 use crate::asked::ask;
 use crate::ending::Ending;
+use crate::exceptions::put_exceptions;
 use crate::reports::{Reported, reported_by};
 use crate::wanted::Wanted;
 use kl1_command::UnbookedHost;
@@ -22,7 +23,7 @@ pub struct Answers {
     pub value: Vec<u8>,
     /// Its reports.
     pub reports: Vec<u8>,
-    /// The exceptions among them.
+    /// The exceptions among them; of those by a limit the first alone, and how many are left out.
     pub exceptions: Vec<u8>,
     /// How it stands.
     pub ending: Ending,
@@ -186,10 +187,12 @@ pub fn answers_of<H: UnbookedHost>(
         exceptions,
     } = reported_by(alloc, host, shoen)?;
     let ending = ending_of(host, shoen, !exceptions.is_empty())?;
+    let mut lines = Vec::new(alloc);
+    put_exceptions(exceptions.as_slice(), &mut lines)?;
     Ok(Answers {
         value,
         reports,
-        exceptions,
+        exceptions: lines,
         ending,
     })
 }

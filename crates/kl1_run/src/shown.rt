@@ -1,0 +1,170 @@
+// What is written in place of a goal as it was started, and which of its variables have no value.
+
+use crate::asked::Form;
+use kl1_run_work::Term;
+use kl1_shown::{Binding, Parsed, binding_of, parse_print, readable_goal, variable_names};
+use kl1_term::{Node, Printer};
+use kl1_text::AtomText;
+use std::alloc::{AllocError, Global};
+
+/// How the print of `V = T` begins, and how it does with the sign between the two.
+const EQUATION: &[u8] = b"'='(_1,";
+
+const READABLE_EQUATION: &[u8] = b"_1 = ";
+
+/// A goal of the command line, and what was written of it.
+#[derive(Drop)]
+pub struct Shown {
+    goal: Term,
+    /// The names of its variables, by their numbers.
+    names: Vec<AtomText>,
+    /// Its nodes as it is now.
+    now: Parsed,
+}
+
+/// The first line of a text without its end, and what is after it.
+fn first_line(text: &[u8]) -> (&[u8], &[u8]) {
+    for (place, byte) in text.iter().enumerate() {
+        if *byte == b'\n' {
+            let line = text.get(..place).unwrap_or(text);
+            let rest = text.get(place.saturating_add(1)..).unwrap_or(&[]);
+            return (line, rest);
+        }
+    }
+    (text, &[])
+}
+
+impl Shown {
+    /// A goal with its word on the command line, and what was written of it.
+    pub fn new(alloc: Global, word: &str, goal: Term, written: &[u8]) -> Result<Self, AllocError> {
+        let (line, _more) = first_line(written);
+        let mut names = variable_names(alloc, word.as_bytes())?;
+        if names.len() as u64 != goal.highest() {
+            names.clear();
+        }
+        Ok(Shown {
+            goal,
+            names,
+            now: parse_print(alloc, line)?,
+        })
+    }
+
+    /// Puts a line for each variable that has a name and no value after the bytes.
+    pub fn put_warnings(&self, out: &mut Vec<u8>) -> Result<(), AllocError> {
+        let mut number = 0;
+        for name in self.names.as_slice() {
+            number += 1;
+            let text = name.unpacked();
+            if is_named(text.as_slice()) && self.is_unbound(number) {
+                out.extend_from_slice(b"kl1_run: warning: ")?;
+                out.extend_from_slice(text.as_slice())?;
+                out.extend_from_slice(b" has no value\n")?;
+            }
+        }
+        Ok(())
+    }
+
+    /// Whether the variable of this number is known to have no value.
+    fn is_unbound(&self, number: u64) -> bool {
+        match binding_of(self.goal.nodes(), self.now.nodes.as_slice(), number) {
+            Some(
+                Binding {
+                    nodes: [Node::Variable(_other)],
+                    ..
+                },
+            ) => true,
+            _ => false,
+        }
+    }
+
+    /// Puts a line for each variable that has a name after the bytes.
+    pub fn put_bindings(
+        &self,
+        alloc: Global,
+        form: Form,
+        most: Option<usize>,
+        out: &mut Vec<u8>,
+    ) -> Result<(), AllocError> {
+        let mut number = 0;
+        for name in self.names.as_slice() {
+            number += 1;
+            let text = name.unpacked();
+            if is_named(text.as_slice()) {
+                out.extend_from_slice(text.as_slice())?;
+                out.extend_from_slice(b" = ")?;
+                if let Some(binding) = binding_of(
+                    self.goal.nodes(),
+                    self.now.nodes.as_slice(),
+                    number,
+                ) {
+                    put_value(alloc, form, binding, most, out)?;
+                }
+                out.push(b'\n')?;
+            }
+        }
+        Ok(())
+    }
+}
+
+/// Whether a variable's name is one by which it is told: those that begin with `_` aren't.
+fn is_named(name: &[u8]) -> bool {
+    !name.starts_with(b"_")
+}
+
+/// Puts a value after the bytes, cut after `most` bytes if there is such a number.
+fn put_value(
+    alloc: Global,
+    form: Form,
+    binding: Binding<'_>,
+    most: Option<usize>,
+    out: &mut Vec<u8>,
+) -> Result<(), AllocError> {
+    let mut printer = Printer::new(alloc, None);
+    printer.put_all(binding.nodes)?;
+    let print = printer.into_text()?;
+    let text = if form.is_infix {
+        readable_value(alloc, print.as_slice())?
+    } else {
+        print
+    };
+    match most {
+        Some(most) if most < text.len() => {
+            out.extend_from_slice(&text.as_slice()[..most])?;
+            out.extend_from_slice(b"...")
+        }
+        _ => out.extend_from_slice(text.as_slice()),
+    }
+}
+
+/// A printed value with operators between their operands, as it may stand after `V =`.
+fn readable_value(alloc: Global, print: &[u8]) -> Result<Vec<u8>, AllocError> {
+    let mut equation = Vec::from_slice(alloc, EQUATION)?;
+    equation.extend_from_slice(print)?;
+    equation.push(b')')?;
+    let readable = readable_goal(alloc, equation.as_slice())?;
+    match readable.as_slice().strip_prefix(READABLE_EQUATION) {
+        Some(text) => Vec::from_slice(alloc, text),
+        None => Vec::from_slice(alloc, print),
+    }
+}
+
+/// What is written in place of what was: the goal's line in another form, and the other lines.
+pub fn in_form(
+    alloc: Global,
+    form: Form,
+    most: Option<usize>,
+    shown: &Shown,
+    written: &[u8],
+) -> Result<Vec<u8>, AllocError> {
+    let (line, more) = first_line(written);
+    let mut out = Vec::new(alloc);
+    if form.has_bindings {
+        shown.put_bindings(alloc, form, most, &mut out)?;
+    } else {
+        let text = readable_goal(alloc, line)?;
+        out.extend_from_slice(text.as_slice())?;
+        out.push(b'\n')?;
+    }
+    out.extend_from_slice(more)?;
+    Ok(out)
+}
