@@ -33,7 +33,7 @@ impl Scope<'_> {
         match goal.main {
             Main::Relation => self.look_at_equation(outline, goal, findings),
             Main::Name => match self.call_of(outline.tokens.get(goal.place), goal.count) {
-                Some(call) => self.look_at_call(self.own, &call, false, findings),
+                Some(call) => self.look_at_call(self.own, &call, b"this module", findings),
                 None => Ok(()),
             },
             Main::Qualified => self.look_at_qualified(outline.tokens_of(goal), findings),
@@ -65,7 +65,7 @@ impl Scope<'_> {
         };
         let given = self.modules.iter().find(|given| given.is_named(&name));
         match (given, self.call_of(Some(&token), count)) {
-            (Some(given), Some(call)) => self.look_at_call(given, &call, true, findings),
+            (Some(given), Some(call)) => self.look_at_call(given, &call, b"that module", findings),
             _ => Ok(()),
         }
     }
@@ -75,19 +75,14 @@ impl Scope<'_> {
         &self,
         module: &Predicates,
         call: &Call<'_>,
-        is_qualified: bool,
+        place: &[u8],
         findings: &mut Vec<Finding>,
     ) -> Result<(), AllocError> {
         let name = call.token.name(self.text);
-        if module.has(&call.name, call.count) || (!is_qualified && is_built_in(name, call.count)) {
+        if module.has(&call.name, call.count) || is_built_in(name, call.count) {
             return Ok(());
         }
         let hint = self.hint_for(module, call)?;
-        let place: &[u8] = if is_qualified {
-            b" in its module"
-        } else {
-            b" in this module"
-        };
         findings.push(found_at(
             self.alloc,
             call.token.start,
@@ -96,6 +91,7 @@ impl Scope<'_> {
                 Say::Text(call.token.bytes(self.text)),
                 Say::Text(b"/"),
                 Say::Number(call.count),
+                Say::Text(b" in "),
                 Say::Text(place),
             ],
             &[Say::Text(hint.as_slice())],
@@ -132,7 +128,7 @@ impl Scope<'_> {
 
     /// The nearest name of a module, or what comes of a goal without a predicate.
     fn near_hint(&self, module: &Predicates, name: &[u8]) -> Result<Vec<u8>, AllocError> {
-        let most = (name.len() / 3).max(1);
+        let most = name.len() / 3;
         let mut best = None;
         let mut least = most.saturating_add(1);
         for other in &module.names {

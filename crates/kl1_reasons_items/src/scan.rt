@@ -1,6 +1,7 @@
 // How an item is cut into tokens.
 
-ghost use Rattle.std.specs.Prelude.{◌<◌, ◌≤◌, length};
+ghost use Rattle.std.specs.Prelude.{◌<◌, ◌≤◌, length, All, IfOk};
+ghost use Rattle.kl1_reasons_items.specs.Tokens.{IsIn};
 
 use crate::cut::{dropped, ends_before, is_blank};
 use crate::item::Item;
@@ -16,7 +17,9 @@ struct Front {
 }
 
 /// The tokens of an item, its end among them.
-pub fn tokens_of(alloc: Global, text: &[u8], item: Item) -> Result<Vec<Token>, AllocError> {
+pub fn tokens_of(alloc: Global, text: &[u8], item: Item) -> Result<Vec<Token>, AllocError>
+    ensures { IfOk result (λ tokens. All (IsIn text.now) tokens.items) }
+{
     let mut tokens = Vec::new(alloc);
     let mut at = item.start;
     while at < item.end && at < text.len() {
