@@ -3,3 +3,4 @@ pub mod FrontFeeds
 pub mod TokenLines
 pub mod Lines
 pub mod Refusals
+pub mod Explaining

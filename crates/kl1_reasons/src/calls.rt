@@ -14,6 +14,9 @@ const WRITES: [&[u8]; 8] = [
     b"write", b"writeln", b"print", b"format", b"nl", b"display", b"put", b"read",
 ];
 
+/// The most bytes of a name for which a near one is looked for.
+const MOST_COMPARED: usize = 40;
+
 /// A goal as it names its predicate.
 #[derive(Clone, Copy)]
 struct Call<'a> {
@@ -22,7 +25,7 @@ struct Call<'a> {
     count: u64,
 }
 
-impl Scope<'_> {
+impl<'a> Scope<'a> {
     /// Puts what is found in a goal of a body after the others.
     pub(crate) fn look_at_goal(
         &self,
@@ -75,7 +78,7 @@ impl Scope<'_> {
         &self,
         module: &Predicates,
         call: &Call<'_>,
-        place: &[u8],
+        place: &'a [u8],
         findings: &mut Vec<Finding>,
     ) -> Result<(), AllocError> {
         let name = call.token.name(self.text);
@@ -150,9 +153,9 @@ impl Scope<'_> {
         }
     }
 
-    /// In how many letters two names differ; a great number if one isn't text.
+    /// In how many letters two names differ; a great number if they can't be near one another.
     fn distance(&self, one: &[u8], other: &[u8]) -> Result<usize, AllocError> {
-        if one.len().abs_diff(other.len()) > one.len() {
+        if one.len() > MOST_COMPARED || one.len().abs_diff(other.len()) > one.len() / 3 {
             return Ok(usize::MAX);
         }
         match (str::from_utf8(one), str::from_utf8(other)) {

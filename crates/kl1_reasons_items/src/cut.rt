@@ -9,6 +9,7 @@ ghost use Rattle.kl1_reasons_items.specs.Items.{within_behind, is_plain, ends_be
 use crate::within::Within;
 
 /// Where the item that begins at `start` ends.
+#[tactic(auto, using(crate::proofs::Steps::behind_next))]
 pub fn item_end(text: &[u8], start: usize) -> usize
     requires { start ≤ length text.now }
     ensures ends { drop result text.now ≡ behind_item Plain (drop start text.now) }

@@ -7,7 +7,7 @@ use crate::part::Main;
 use kl1_model::limits::{MOST_ARGUMENTS, MOST_DEPTH};
 use kl1_reasons_items::{Place, Token, place_of};
 
-impl Outline<'_> {
+impl<'a> Outline<'a> {
     /// Opens a bracket, which stands after a name if it is that of a call.
     pub(crate) fn open(&mut self, bracket: Bracket, token: &Token, name: Token) -> Step {
         if self.levels.is_empty() {
@@ -81,7 +81,7 @@ impl Outline<'_> {
     }
 
     /// Tells of a bracket that isn't closed before what stands at a place.
-    pub(crate) fn unclosed(&self, level: &Level, before: &[u8], at: usize) -> Step {
+    pub(crate) fn unclosed(&self, level: &Level, before: &'a [u8], at: usize) -> Step {
         let Place { line, column } = place_of(self.text, at);
         self.say(
             level.token.start,

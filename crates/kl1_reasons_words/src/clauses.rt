@@ -47,11 +47,12 @@ impl Outline<'_> {
         if let Some(found) = self.check_head(head)? {
             return Ok(Some(found));
         }
+        let variables = self.variables_of(head)?;
         for test in self.tests() {
             if let Some(found) = self.check_test(test)? {
                 return Ok(Some(found));
             }
-            if let Some(found) = self.check_variables(head, test)? {
+            if let Some(found) = self.check_variables(&variables, test)? {
                 return Ok(Some(found));
             }
         }

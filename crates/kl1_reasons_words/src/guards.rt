@@ -5,6 +5,9 @@ use crate::outline::{Outline, Step};
 use crate::part::{Main, Part};
 use kl1_model::Sign;
 use kl1_reasons_items::{Kind, Token};
+use kl1_text::AtomText;
+use std::alloc::AllocError;
+use std::collections::HashSet;
 
 /// Whether a name with `count` arguments is a test.
 pub fn is_test(name: &[u8], count: u64) -> bool {
@@ -80,11 +83,34 @@ impl Outline<'_> {
         )
     }
 
-    /// Tells of a variable of a test that isn't the head's, if there is one.
-    pub(crate) fn check_variables(&self, head: &Part, part: &Part) -> Step {
-        let heads = self.tokens_of(head);
+    /// The variables of a head; `_` is none of them.
+    pub(crate) fn variables_of(&self, head: &Part) -> Result<HashSet<AtomText>, AllocError> {
+        let mut variables = HashSet::new(self.alloc);
+        for token in self.tokens_of(head) {
+            if let Some(name) = self.named_variable(token) {
+                let _is_new = variables.insert(name)?;
+            }
+        }
+        Ok(variables)
+    }
+
+    /// The variable that a token is, if it is one and not `_`.
+    fn named_variable(&self, token: &Token) -> Option<AtomText> {
+        let name = token.bytes(self.text);
+        match token.kind {
+            Kind::Variable if name != b"_".as_slice() => AtomText::read(name),
+            _ => None,
+        }
+    }
+
+    /// Tells of a variable of a test that isn't among those of the head, if there is one.
+    pub(crate) fn check_variables(&self, heads: &HashSet<AtomText>, part: &Part) -> Step {
         for token in self.tokens_of(part) {
-            if matches!(token.kind, Kind::Variable) && !self.has_variable(heads, token) {
+            let is_found = match self.named_variable(token) {
+                Some(name) => heads.contains(&name),
+                None => !matches!(token.kind, Kind::Variable),
+            };
+            if !is_found {
                 return self.say(
                     token.start,
                     &[
@@ -96,14 +122,5 @@ impl Outline<'_> {
             }
         }
         Ok(None)
-    }
-
-    /// Whether a variable stands among tokens; `_` is another one each time.
-    fn has_variable(&self, tokens: &[Token], variable: &Token) -> bool {
-        let name = variable.bytes(self.text);
-        name != b"_".as_slice()
-            && tokens.iter().any(|token| {
-                matches!(token.kind, Kind::Variable) && token.bytes(self.text) == name
-            })
     }
 }

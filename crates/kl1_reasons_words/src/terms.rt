@@ -49,7 +49,8 @@ impl Outline<'_> {
         if let Some(found) = operator_finding(self.alloc, self.text, self.run)? {
             return Ok(Some(found));
         }
-        self.tell(self.last.start, b"no sign before a term", b"write 0 - X")
+        let at = self.last.start;
+        self.tell(at, b"no sign before a term", b"write 0 - X")
     }
 
     /// Takes a term without operators.
@@ -76,8 +77,26 @@ impl Outline<'_> {
         if count > MOST_NAME_BYTES {
             return self.too_long(token.start, b"a name", count, MOST_NAME_BYTES);
         }
+        for (place, byte) in token.bytes(self.text).iter().enumerate() {
+            if !byte.is_ascii_graphic() && *byte != b' ' {
+                return self.no_name_byte(token.start.saturating_add(place), *byte);
+            }
+        }
         self.take_term(Main::Name);
         Ok(None)
+    }
+
+    /// Tells of a byte that can't stand in a name in quotes.
+    fn no_name_byte(&self, at: usize, byte: u8) -> Step {
+        self.say(
+            at,
+            &[
+                Say::Text(b"byte "),
+                Say::Number(u64::from(byte)),
+                Say::Text(b" can't stand in a name"),
+            ],
+            &[Say::Text(b"names are printable ASCII")],
+        )
     }
 
     /// Tells of a name or a variable that is too long.
