@@ -1,0 +1,111 @@
+// The pieces of a text.
+
+ghost use Rattle.std.specs.Prelude.{◌≡◌, ◌+◌, ◌^◌, ◌<◌, ◌≤◌, ◌==◌, length, map, Some, IfOk, IfErr};
+ghost use Rattle.kl1_model.specs.Text.{before_byte};
+ghost use Rattle.kl1_model.specs.Token.{first_is, is_blank};
+ghost use Rattle.kl1_layout.specs.Written.{written_of, without_last_blanks, comment_of};
+ghost use Rattle.kl1_layout.specs.Layouts.{IsFaultOf};
+ghost use Rattle.kl1_layout.specs.Pieces.{written_piece};
+
+use crate::layout_fault::LayoutFault;
+use crate::piece::{Kind, Piece};
+use kl1_read::{Front, front_of};
+use std::alloc::Global;
+
+/// Whether a byte is a space, a tab, a line feed or a carriage return.
+fn is_blank(byte: u8) -> bool
+    ensures { result ≡ is_blank byte }
+{
+    byte == b' ' || byte == b'\t' || byte == b'\n' || byte == b'\r'
+}
+
+/// Whether a comment is in front.
+fn is_comment(text: &[u8]) -> bool
+    ensures { result ≡ first_is (λ b. b == 37) text.now }
+{
+    match text {
+        [] => false,
+        [first, _rest @ ..] => *first == b'%',
+    }
+}
+
+/// The bytes of the first line.
+fn first_line(text: &[u8]) -> &[u8]
+    ensures { result.now ≡ before_byte 10 text.now }
+{
+    let mut count = 0;
+    while count < text.len() && text[count] != b'\n' {
+        count += 1;
+    }
+    &text[..count]
+}
+
+/// The bytes without the blanks at their end.
+fn without_last_blanks(text: &[u8]) -> &[u8]
+    ensures { result.now ≡ without_last_blanks text.now }
+{
+    let mut kept = text;
+    while let [others @ .., last] = kept {
+        if !is_blank(*last) {
+            return kept;
+        }
+        kept = others;
+    }
+    kept
+}
+
+/// The bytes before `behind`, with which the text ends.
+fn before<'a>(text: &'a [u8], behind: &[u8]) -> &'a [u8]
+    requires { length behind.now ≤ length text.now }
+{
+    &text[..text.len() - behind.len()]
+}
+
+/// The pieces of a text, or the line of its first byte that is no token.
+pub(crate) fn pieces_of<'a>(alloc: Global, text: &'a [u8]) -> Result<Vec<Piece<'a>>, LayoutFault>
+    requires { 1 + length text.now < 2 ^ 64 }
+    ensures pieces { IfOk result (λ pieces. written_of text.now ≡ Some (map written_piece pieces.items)) }
+    ensures fault { IfErr result (IsFaultOf text.now) }
+{
+    let mut line = 1;
+    let mut rest = text;
+    let mut alone = true;
+    let mut breaks = 0;
+    let mut pieces = Vec::new(alloc);
+    'pieces: loop {
+        match front_of(rest) {
+            Front::Finished => return Ok(pieces),
+            Front::Broken => return Err(LayoutFault::Broken { line }),
+            Front::LineEnd(behind) => {
+                line += 1;
+                alone = true;
+                breaks = more_breaks(breaks);
+                rest = behind;
+            }
+            Front::Blank(behind) => {
+                if is_comment(rest) {
+                    let bytes = without_last_blanks(first_line(rest));
+                    let kind = Kind::Comment(alone);
+                    pieces.push(Piece { kind, bytes, is_apart: breaks == 2 })?;
+                    breaks = 0;
+                }
+                rest = behind;
+            }
+            Front::Token(token, behind) => {
+                let bytes = before(rest, behind);
+                let kind = Kind::Token(token);
+                pieces.push(Piece { kind, bytes, is_apart: breaks == 2 })?;
+                alone = false;
+                breaks = 0;
+                rest = behind;
+            }
+        }
+    }
+}
+
+/// The number of line ends after one more, of which two are told.
+fn more_breaks(breaks: u8) -> u8
+    ensures { result ≤ 2 }
+{
+    if breaks == 0 { 1 } else { 2 }
+}
