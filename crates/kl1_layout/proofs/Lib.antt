@@ -1,0 +1,5 @@
+pub mod WrittenSteps
+pub mod PieceSteps
+pub mod TokensWritten
+pub mod ClausesStay
+pub mod LayoutFacts

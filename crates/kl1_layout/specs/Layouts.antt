@@ -6,9 +6,14 @@ use Rattle.kl1_layout.specs.Written.{Written, written_of}
 use Rattle.kl1_layout.specs.declared.layout_fault.LayoutFault.{LayoutFault}
 use Rattle.kl1_layout.specs.declared.layout_fault.LayoutFault.TheVariants.{Broken, Memory}
 
+-- these tokens, if no line has a byte that is no token
+abbrev pub if_unbroken : Option ℕ → List (Token (List ℕ)) → Option (List (Token (List ℕ)))
+if_unbroken None ts = Some ts
+if_unbroken (Some line) ts = None
+
 -- the tokens of a text, without their lines; none if a byte of it is no token
 abbrev pub unplaced : Tokens → Option (List (Token (List ℕ)))
-unplaced ts = elim ts.broken_at [ None ↦ Some (bare_tokens ts.placed) | Some line ↦ None ]
+unplaced ts = if_unbroken ts.broken_at (bare_tokens ts.placed)
 
 -- the name and the clauses of a module that was read
 abbrev pub clauses_read : Reading Module → Option (List ℕ × List Clause)

@@ -2,7 +2,7 @@
 
 ghost use Rattle.std.specs.Prelude.{◌≡◌};
 
-use std::alloc::{AllocError, AllocFailed};
+use std::alloc::AllocError;
 use thiserror::Error;
 
 /// Why a text has no layout.
@@ -22,18 +22,6 @@ impl From<AllocError> for LayoutFault {
     ghost from_gives = { λ _ e. e ≡ Memory };
 
     fn from(_refused: AllocError) -> Self
-        ensures { result ≡ LayoutFault.Memory }
-    {
-        LayoutFault::Memory
-    }
-}
-
-impl<T: Drop> From<AllocFailed<T>> for LayoutFault {
-    ghost use Rattle.kl1_layout.specs.declared.layout_fault.LayoutFault.TheVariants.{Memory};
-
-    ghost from_gives = { λ _ e. e ≡ Memory };
-
-    fn from(_refused: AllocFailed<T>) -> Self
         ensures { result ≡ LayoutFault.Memory }
     {
         LayoutFault::Memory

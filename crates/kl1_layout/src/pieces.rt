@@ -1,16 +1,16 @@
 // The pieces of a text.
 
-ghost use Rattle.std.specs.Prelude.{◌≡◌, ◌+◌, ◌^◌, ◌<◌, ◌≤◌, ◌==◌, length, map, Some, IfOk, IfErr};
+ghost use Rattle.std.specs.Prelude.{◌≡◌, ◌+◌, ◌^◌, ◌<◌, ◌≤◌, ◌==◌, ◌∷◌, ◌++◌, [], length, map, Some, IfOk, IfErr, OnOk};
 ghost use Rattle.kl1_model.specs.Text.{before_byte};
 ghost use Rattle.kl1_model.specs.Token.{first_is, is_blank};
 ghost use Rattle.kl1_layout.specs.Written.{written_of, without_last_blanks, comment_of};
 ghost use Rattle.kl1_layout.specs.Layouts.{IsFaultOf};
-ghost use Rattle.kl1_layout.specs.Pieces.{written_piece};
+ghost use Rattle.kl1_layout.specs.Pieces.{written_as, written_piece};
 
 use crate::layout_fault::LayoutFault;
 use crate::piece::{Kind, Piece};
 use kl1_read::{Front, front_of};
-use std::alloc::Global;
+use std::alloc::{AllocError, Global};
 
 /// Whether a byte is a space, a tab, a line feed or a carriage return.
 fn is_blank(byte: u8) -> bool
@@ -61,6 +61,23 @@ fn before<'a>(text: &'a [u8], behind: &[u8]) -> &'a [u8]
     &text[..text.len() - behind.len()]
 }
 
+/// Puts a piece after the others, before which this number of line ends stands.
+fn put_piece<'a>(
+    pieces: &mut Vec<Piece<'a>>,
+    kind: Kind,
+    bytes: &'a [u8],
+    breaks: u8,
+) -> Result<(), AllocError>
+    ensures { OnOk result (map written_piece pieces.new.items ≡ map written_piece pieces.old.items ++ written_as kind bytes.now ∷ []) }
+{
+    pieces.push(Piece {
+        kind,
+        bytes,
+        is_apart: breaks == 2,
+    })?;
+    Ok(())
+}
+
 /// The pieces of a text, or the line of its first byte that is no token.
 pub(crate) fn pieces_of<'a>(alloc: Global, text: &'a [u8]) -> Result<Vec<Piece<'a>>, LayoutFault>
     requires { 1 + length text.now < 2 ^ 64 }
@@ -86,15 +103,14 @@ pub(crate) fn pieces_of<'a>(alloc: Global, text: &'a [u8]) -> Result<Vec<Piece<'
                 if is_comment(rest) {
                     let bytes = without_last_blanks(first_line(rest));
                     let kind = Kind::Comment(alone);
-                    pieces.push(Piece { kind, bytes, is_apart: breaks == 2 })?;
+                    put_piece(&mut pieces, kind, bytes, breaks)?;
                     breaks = 0;
                 }
                 rest = behind;
             }
             Front::Token(token, behind) => {
                 let bytes = before(rest, behind);
-                let kind = Kind::Token(token);
-                pieces.push(Piece { kind, bytes, is_apart: breaks == 2 })?;
+                put_piece(&mut pieces, Kind::Token(token), bytes, breaks)?;
                 alone = false;
                 breaks = 0;
                 rest = behind;
