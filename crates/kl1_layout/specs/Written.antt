@@ -1,6 +1,7 @@
 -- What is written in a text beside its blanks: its tokens, and its comments between them.
 use Rattle.std.specs.Prelude.{ℕ, zero, suc, ◌==◌, Bool, true, false, if◌then◌else◌, List, [], ◌∷◌, length, reverse, Option, Some, None, option_map}
-use Rattle.kl1_model.specs.Text.{behind_leading, before_byte}
+use Rattle.kl1_model.specs.Text.{behind_leading}
+use Rattle.kl1_model.specs.Line.{line_in}
 use Rattle.kl1_model.specs.Token.{Token, is_blank, first_is, Front, finished, broken, line_end, blank, token, front_of}
 
 -- a token, or a comment with its bytes; a comment tells if it has a line of its own, or stands after a token on its line
@@ -14,7 +15,7 @@ without_last_blanks bs = reverse (behind_leading is_blank (reverse bs))
 
 -- the comment in front of a text: the bytes of its line from `%` on, without the blanks at their end
 abbrev pub comment_of : List ℕ → List ℕ
-comment_of bs = without_last_blanks (before_byte 10 bs)
+comment_of bs = without_last_blanks (line_in bs)
 
 -- with this in front, if there is something
 abbrev pub with_first : Written → Option (List Written) → Option (List Written)

@@ -1,7 +1,6 @@
 // The pieces of a text.
 
 ghost use Rattle.std.specs.Prelude.{◌≡◌, ◌+◌, ◌^◌, ◌<◌, ◌≤◌, ◌==◌, ◌∷◌, ◌++◌, [], length, map, Some, IfOk, IfErr, OnOk};
-ghost use Rattle.kl1_model.specs.Text.{before_byte};
 ghost use Rattle.kl1_model.specs.Token.{first_is, is_blank};
 ghost use Rattle.kl1_layout.specs.Written.{written_of, without_last_blanks, comment_of};
 ghost use Rattle.kl1_layout.specs.Layouts.{IsFaultOf};
@@ -9,6 +8,7 @@ ghost use Rattle.kl1_layout.specs.Pieces.{written_as, written_piece};
 
 use crate::layout_fault::LayoutFault;
 use crate::piece::{Kind, Piece};
+use kl1_lines::split_line;
 use kl1_read::{Front, front_of};
 use std::alloc::{AllocError, Global};
 
@@ -27,17 +27,6 @@ fn is_comment(text: &[u8]) -> bool
         [] => false,
         [first, _rest @ ..] => *first == b'%',
     }
-}
-
-/// The bytes of the first line.
-fn first_line(text: &[u8]) -> &[u8]
-    ensures { result.now ≡ before_byte 10 text.now }
-{
-    let mut count = 0;
-    while count < text.len() && text[count] != b'\n' {
-        count += 1;
-    }
-    &text[..count]
 }
 
 /// The bytes without the blanks at their end.
@@ -101,7 +90,8 @@ pub(crate) fn pieces_of<'a>(alloc: Global, text: &'a [u8]) -> Result<Vec<Piece<'
             }
             Front::Blank(behind) => {
                 if is_comment(rest) {
-                    let bytes = without_last_blanks(first_line(rest));
+                    let (bytes, _others) = split_line(rest);
+                    let bytes = without_last_blanks(bytes);
                     let kind = Kind::Comment(alone);
                     put_piece(&mut pieces, kind, bytes, breaks)?;
                     breaks = 0;

@@ -4,7 +4,7 @@ use crate::piece::{Kind, Piece};
 use kl1_model::Sign;
 use kl1_read::Spelled;
 
-/// A predicate, or what else an item begins with: its first bytes, and its number of arguments.
+/// The predicate of a clause: the bytes of its name, and its number of arguments.
 #[derive(Clone, Copy)]
 pub(crate) struct Predicate<'a> {
     name: &'a [u8],
@@ -39,14 +39,16 @@ fn arity_in(pieces: &[Piece<'_>]) -> usize {
 }
 
 impl<'a> Predicate<'a> {
-    /// The predicate of the item in front.
+    /// The predicate of the item in front; none if it doesn't begin with a name, as the line of a module.
     pub(crate) fn of(pieces: &[Piece<'a>]) -> Option<Self> {
         match pieces {
-            [] => None,
-            [first, others @ ..] => Some(Predicate {
-                name: first.bytes,
-                arity: arity_in(others),
-            }),
+            [first, others @ ..] if matches!(first.kind, Kind::Token(Spelled::Name(_, _, _))) => {
+                Some(Predicate {
+                    name: first.bytes,
+                    arity: arity_in(others),
+                })
+            }
+            _ => None,
         }
     }
 

@@ -1,0 +1,101 @@
+// A goal on an account of its own.
+
+use crate::expectation::Expectation;
+use crate::fault::Fault;
+use crate::tests::Test;
+use kl1_atoms::{AtomTable, SharedAtoms};
+use kl1_codes::PlainCodes;
+use kl1_run_work::{
+    Answers, MOST_ALLOWANCE, SourceFile, Stop, Term, Wanted, Watch, Work, answers_of, do_work,
+};
+use kl1_world::{AccountName, Rules, World};
+use std::alloc::{AllocError, Global};
+
+/// The most reductions of a test that names no number.
+pub const MOST_REDUCTIONS: u64 = 10_000_000;
+
+/// Nobody watches.
+#[derive(Drop)]
+struct Unwatched;
+
+impl Watch for Unwatched {
+    ghost use Rattle.std.specs.Prelude.{None};
+
+    ghost told = { λ u. None };
+
+    fn is_due(&mut self) -> bool {
+        false
+    }
+
+    fn tell(&mut self, _charged: u64, _alive: u64) {}
+}
+
+/// The allowance of a test.
+pub fn allowance_of(wanted: &Expectation<'_>) -> u64 {
+    match wanted {
+        Expectation::Exhausted(allowance) => (*allowance).min(MOST_ALLOWANCE),
+        _ => MOST_REDUCTIONS,
+    }
+}
+
+/// The same files once more.
+fn copies(alloc: Global, files: &[SourceFile]) -> Result<Vec<SourceFile>, Fault> {
+    let mut all = Vec::new(alloc);
+    for file in files {
+        let name = Vec::from_slice(alloc, file.name.as_slice())?;
+        let text = Vec::from_slice(alloc, file.text.as_slice())?;
+        all.push(SourceFile { name, text })?;
+    }
+    Ok(all)
+}
+
+/// The work of a test.
+fn work_of(alloc: Global, files: &[SourceFile], test: &Test<'_>) -> Result<Work, Fault> {
+    let nodes = Vec::from_slice(alloc, test.goal.nodes())?;
+    Ok(Work {
+        files: copies(alloc, files)?,
+        goal: Term::of_nodes(nodes),
+        allowance: allowance_of(&test.wanted),
+        steps: MOST_ALLOWANCE,
+    })
+}
+
+/// What is told of a goal that is run over files, on an account of its own by the fourth rules.
+pub fn tried(alloc: Global, work: Work) -> Result<Answers, Stop> {
+    let name = AccountName::read(b"me").unwrap();
+    match AtomTable::new(alloc, 1) {
+        Ok((table, seats)) => {
+            let names = SharedAtoms { table: &table };
+            match World::new(alloc, names, seats, PlainCodes::new(alloc), &[name], Rules::Four) {
+                Ok(mut world) => {
+                    let mut watch = Unwatched;
+                    match do_work(alloc, &mut world, work, &mut watch) {
+                        Ok(shoen) => {
+                            let wanted = Wanted {
+                                reports: false,
+                                whole: true,
+                            };
+                            match answers_of(alloc, &mut world, shoen, wanted) {
+                                Ok(answers) => Ok(answers),
+                                Err(_) => Err(Stop::Memory),
+                            }
+                        }
+                        Err(stop) => Err(stop),
+                    }
+                }
+                Err(_) => Err(Stop::Memory),
+            }
+        }
+        Err(_) => Err(Stop::Memory),
+    }
+}
+
+/// What is told of the goal of a test.
+pub fn answers_for(
+    alloc: Global,
+    files: &[SourceFile],
+    test: &Test<'_>,
+) -> Result<Result<Answers, Stop>, Fault> {
+    let work = work_of(alloc, files, test)?;
+    Ok(tried(alloc, work))
+}
