@@ -3,3 +3,4 @@ pub mod PieceSteps
 pub mod TokensWritten
 pub mod ClausesStay
 pub mod LayoutFacts
+pub mod LastBlanks

@@ -1,11 +1,11 @@
 -- The pieces of a text, front by front.
-use Rattle.std.specs.Prelude.{◌≡◌, ℕ, suc, ◌==◌, Bool, true, false, if◌then◌else◌, List, [], ◌∷◌, ◌++◌, Option, Some, None, option_map}
+use Rattle.std.specs.Prelude.{◌≡◌, ℕ, Bool, true, false, if◌then◌else◌, List, [], ◌∷◌, ◌++◌, Option, Some, None}
 use Rattle.std.proofs.Common.{refl, ap, sym, ◌∙◌, append_assoc}
 use Rattle.std.proofs.lemmas.List.{append-nil}
-use Rattle.kl1_model.specs.Token.{Token, first_is, Front, finished, broken, line_end, blank, token, front_of, Tokens, tokens_by}
+use Rattle.kl1_model.specs.Token.{Token, Front, finished, broken, line_end, blank, token, front_of, Tokens, tokens_by}
 use Rattle.kl1_model.specs.laws.ReadLaws.{tokens_at}
 use Rattle.kl1_model.proofs.LexSteps.{tokens_go_on}
-use Rattle.kl1_layout.specs.Written.{Written, written_token, written_comment, comment_of, with_first, written_by, written_at}
+use Rattle.kl1_layout.specs.Written.{Written, written_token, with_first, with_comment, written_by, written_at}
 use Rattle.kl1_layout.specs.Pieces.{with_before}
 use Rattle.kl1_layout.proofs.WrittenSteps.{written_goes_on}
 
@@ -26,25 +26,19 @@ ended before alone text all e h = sym h ∙ ap (with_before before) (sym (from_f
 pub behind_line : (before : List Written) (alone : Bool) (text rest : List ℕ) (all : Option (List Written)) → line_end rest ≡ front_of text → with_before before (written_at alone text) ≡ all → with_before before (written_at true rest) ≡ all
 behind_line before alone text rest all e h = ap (with_before before) (from_front (line_end rest) alone text e) ∙ h
 
-blank_case : (c : Bool) (w : Written) (ws : Option (List Written)) → c ≡ false → ws ≡ (if c then with_first w ws else ws)
+-- no comment is in front
+pub blank_case : (c : Bool) (w : Written) (ws : Option (List Written)) → c ≡ false → ws ≡ (if c then with_first w ws else ws)
 blank_case true w ws no = cc
 blank_case false w ws no = refl
 
-comment_case : (c : Bool) (w : Written) (ws : Option (List Written)) → c ≡ true → with_first w ws ≡ (if c then with_first w ws else ws)
+-- a comment is in front
+pub comment_case : (c : Bool) (w : Written) (ws : Option (List Written)) → c ≡ true → with_first w ws ≡ (if c then with_first w ws else ws)
 comment_case true w ws yes = refl
 comment_case false w ws yes = cc
 
--- after a blank
-pub behind_blank : (before : List Written) (alone : Bool) (text rest : List ℕ) (all : Option (List Written)) → blank rest ≡ front_of text → first_is (λ b. b == 37) text ≡ false → with_before before (written_at alone text) ≡ all → with_before before (written_at alone rest) ≡ all
-behind_blank before alone text rest all e no h =
-    ap (with_before before) (blank_case (first_is (λ b. b == 37) text) (written_comment alone (comment_of text)) (written_at alone rest) no ∙ from_front (blank rest) alone text e) ∙ h
-
--- after a comment
-pub behind_comment : (before : List Written) (alone : Bool) (text rest : List ℕ) (all : Option (List Written)) → blank rest ≡ front_of text → first_is (λ b. b == 37) text ≡ true → with_before before (written_at alone text) ≡ all → with_before (before ++ written_comment alone (comment_of text) ∷ []) (written_at alone rest) ≡ all
-behind_comment before alone text rest all e yes h =
-    one_more before (written_comment alone (comment_of text)) (written_at alone rest)
-    ∙ ap (with_before before) (comment_case (first_is (λ b. b == 37) text) (written_comment alone (comment_of text)) (written_at alone rest) yes ∙ from_front (blank rest) alone text e)
-    ∙ h
+-- after a blank or a comment, which is put if it is a comment
+pub behind_blank : (before now : List Written) (alone : Bool) (text rest : List ℕ) (all : Option (List Written)) → blank rest ≡ front_of text → with_before now (written_at alone rest) ≡ with_before before (with_comment alone text (written_at alone rest)) → with_before before (written_at alone text) ≡ all → with_before now (written_at alone rest) ≡ all
+behind_blank before now alone text rest all e put h = put ∙ ap (with_before before) (from_front (blank rest) alone text e) ∙ h
 
 -- after a token
 pub behind_token : (before : List Written) (alone : Bool) (t : Token (List ℕ)) (text rest : List ℕ) (all : Option (List Written)) → token t rest ≡ front_of text → with_before before (written_at alone text) ≡ all → with_before (before ++ written_token t ∷ []) (written_at false rest) ≡ all

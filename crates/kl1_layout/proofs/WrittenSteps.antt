@@ -1,18 +1,17 @@
 -- What is written in a text, without a count of fronts.
-use Rattle.std.specs.Prelude.{◌≡◌, ℕ, zero, suc, ◌==◌, ◌<◌, Bool, true, false, if◌then◌else◌, List, length, Option}
+use Rattle.std.specs.Prelude.{◌≡◌, ℕ, zero, suc, ◌<◌, Bool, true, false, List, length, Option}
 use Rattle.std.proofs.Common.{refl, ap, ◌∙◌, arith}
-use Rattle.kl1_model.specs.Token.{first_is, Front, finished, broken, line_end, blank, token, front_of}
+use Rattle.kl1_model.specs.Token.{Front, finished, broken, line_end, blank, token, front_of}
 use Rattle.kl1_model.specs.laws.ReadLaws.{LeavesLess}
 use Rattle.kl1_model.proofs.LexSteps.{fronts_leave_less}
-use Rattle.kl1_layout.specs.Written.{Written, written_token, written_comment, comment_of, with_first, written_by, written_within, written_at}
+use Rattle.kl1_layout.specs.Written.{Written, written_token, with_first, with_comment, written_by, written_within, written_at}
 
 -- two ways to go on that agree on fewer than `most` bytes give the same
 written_by_same : (f g : Bool → List ℕ → Option (List Written)) (alone : Bool) (text : List ℕ) (most : ℕ) (x : Front) → LeavesLess most x → ((a : Bool) (rest : List ℕ) → length rest < most → f a rest ≡ g a rest) → written_by f alone text x ≡ written_by g alone text x
 written_by_same f g alone text most finished less same = refl
 written_by_same f g alone text most broken less same = refl
 written_by_same f g alone text most (line_end rest) less same = same true rest less
-written_by_same f g alone text most (blank rest) less same =
-    ap (λ (ws : Option (List Written)). if first_is (λ b. b == 37) text then with_first (written_comment alone (comment_of text)) ws else ws) (same alone rest less)
+written_by_same f g alone text most (blank rest) less same = ap (with_comment alone text) (same alone rest less)
 written_by_same f g alone text most (token t rest) less same = ap (λ (ws : Option (List Written)). with_first (written_token t) ws) (same false rest less)
 
 -- more fronts than bytes give the same

@@ -14,7 +14,7 @@ written_as (kind.Comment alone) bytes = written_comment alone bytes
 
 -- what a piece is
 abbrev pub written_piece : Piece → Written
-written_piece p = written_as p.kind p.bytes.now
+written_piece p = written_as p.kind p.bytes.items
 
 -- what is written with these before it
 abbrev pub with_before : List Written → Option (List Written) → Option (List Written)

@@ -21,14 +21,17 @@ comment_of bs = without_last_blanks (line_in bs)
 abbrev pub with_first : Written → Option (List Written) → Option (List Written)
 with_first w ws = option_map (λ vs. w ∷ vs) ws
 
+-- what is written in `text`, in front of which a blank or a comment stands, if this is written after that
+abbrev pub with_comment : Bool → List ℕ → Option (List Written) → Option (List Written)
+with_comment alone text ws = if first_is (λ b. b == 37) text then with_first (written_comment alone (comment_of text)) ws else ws
+
 -- what is written in `text`, by what is at its front; `alone` tells if no token stands before it on its line, and `next` gives what is
 -- written in the rest
 abbrev pub written_by : (Bool → List ℕ → Option (List Written)) → Bool → List ℕ → Front → Option (List Written)
 written_by next alone text finished = Some []
 written_by next alone text broken = None
 written_by next alone text (line_end rest) = next true rest
-written_by next alone text (blank rest) =
-    if first_is (λ b. b == 37) text then with_first (written_comment alone (comment_of text)) (next alone rest) else next alone rest
+written_by next alone text (blank rest) = with_comment alone text (next alone rest)
 written_by next alone text (token t rest) = with_first (written_token t) (next false rest)
 
 -- what is written in a text, in at most `n` fronts; a text has no more fronts than bytes and one

@@ -1,9 +1,7 @@
 // An item laid out.
 
-ghost use Rattle.std.specs.Prelude.{◌≤◌, length};
-
 use crate::piece::{Kind, Piece};
-use crate::placed::{Gap, INDENT, Placed, Spot, placed_pieces};
+use crate::placed::{Gap, INDENT, Place, Spot, places_of};
 use std::alloc::{AllocError, Global};
 
 /// The most bytes of a line, its comment left out.
@@ -30,23 +28,25 @@ impl Breaks {
 }
 
 /// The bytes of pieces on one line, with what stands before each.
-fn width_of(pieces: &[Placed<'_>]) -> usize {
+fn width_of(pieces: &[Piece], places: &[Place]) -> usize {
     let mut width: usize = 0;
-    for placed in pieces {
-        let blanks = match placed.gap {
-            Gap::Nothing => 0,
-            Gap::Blank => 1,
-            Gap::Line(_blanks) => 0,
-        };
-        width = width.saturating_add(placed.piece.bytes.len()).saturating_add(blanks);
+    let mut rest = places;
+    for piece in pieces {
+        if let [Place { gap: Gap::Blank, .. }, _others @ ..] = rest {
+            width = width.saturating_add(1);
+        }
+        if let [_place, others @ ..] = rest {
+            rest = others;
+        }
+        width = width.saturating_add(piece.bytes.len());
     }
     width
 }
 
 /// Whether a comment is among pieces.
-fn has_comment(pieces: &[Placed<'_>]) -> bool {
-    for placed in pieces {
-        if matches!(placed.piece.kind, Kind::Comment(_)) {
+fn has_comment(pieces: &[Piece]) -> bool {
+    for piece in pieces {
+        if let Kind::Comment(_alone) = &piece.kind {
             return true;
         }
     }
@@ -54,49 +54,54 @@ fn has_comment(pieces: &[Placed<'_>]) -> bool {
 }
 
 /// The number of pieces before the body: up to the bar after a guard, or else up to `:-`, or else all.
-fn before_body(pieces: &[Placed<'_>]) -> usize
-    ensures { result ≤ length pieces.now }
-{
-    let mut behind_neck = pieces.len();
-    for (index, placed) in pieces.iter().enumerate() {
-        match placed.spot {
+fn before_body(places: &[Place]) -> usize {
+    let mut behind_neck = places.len();
+    let mut index: usize = 0;
+    for place in places {
+        match place.spot {
             Spot::Bar => return index,
             Spot::Neck => behind_neck = index,
             _ => {}
         }
+        index = index.saturating_add(1);
     }
     behind_neck
 }
 
-/// Puts a number of blanks after the bytes.
-fn put_blanks(out: &mut Vec<u8>, count: usize) -> Result<(), AllocError> {
-    for _blank in 0..count {
-        out.push(b' ')?;
+/// Puts what stands before a piece after the bytes.
+fn put_gap(out: &mut Vec<u8>, gap: Gap) -> Result<(), AllocError> {
+    match gap {
+        Gap::Nothing => {}
+        Gap::Blank => out.push(b' ')?,
+        Gap::Line(blanks) => {
+            out.push(b'\n')?;
+            for _blank in 0..blanks {
+                out.push(b' ')?;
+            }
+        }
     }
     Ok(())
 }
 
 /// Puts pieces after the bytes, with these lines.
-fn put_placed(
+fn put_pieces(
     out: &mut Vec<u8>,
-    pieces: &[Placed<'_>],
+    pieces: &[Piece],
+    places: &[Place],
     breaks: Breaks,
 ) -> Result<(), AllocError> {
-    for placed in pieces {
-        let gap = if breaks.has(placed.spot) {
-            Gap::Line(INDENT)
-        } else {
-            placed.gap
-        };
-        match gap {
-            Gap::Nothing => {}
-            Gap::Blank => out.push(b' ')?,
-            Gap::Line(blanks) => {
-                out.push(b'\n')?;
-                put_blanks(out, blanks)?;
-            }
+    let mut rest = places;
+    for piece in pieces {
+        if let [place, others @ ..] = rest {
+            let gap = if breaks.has(place.spot) {
+                Gap::Line(INDENT)
+            } else {
+                place.gap
+            };
+            put_gap(out, gap)?;
+            rest = others;
         }
-        out.extend_from_slice(placed.piece.bytes)?;
+        out.extend_from_slice(piece.bytes.as_slice())?;
     }
     Ok(())
 }
@@ -106,28 +111,33 @@ fn put_placed(
 pub(crate) fn put_item(
     alloc: Global,
     out: &mut Vec<u8>,
-    item: &[Piece<'_>],
+    item: &[Piece],
 ) -> Result<(), AllocError> {
-    let pieces = placed_pieces(alloc, item)?;
-    let pieces = pieces.as_slice();
-    let has_comment = has_comment(pieces);
-    let count = if has_comment || width_of(pieces) > MOST_COLUMNS {
-        before_body(pieces)
+    let places = places_of(alloc, item)?;
+    let has_comment = has_comment(item);
+    let is_whole = !has_comment && width_of(item, places.as_slice()) <= MOST_COLUMNS;
+    let count = if is_whole {
+        item.len()
     } else {
-        pieces.len()
+        before_body(places.as_slice())
     };
-    let head = &pieces[..count];
-    let body = &pieces[count..];
+    let count = count.min(item.len()).min(places.len());
+    let head = &item[..count];
+    let body = &item[count..];
+    let head_places = &places.as_slice()[..count];
+    let body_places = &places.as_slice()[count..];
     let breaks = Breaks {
-        neck: width_of(head) > MOST_COLUMNS,
+        neck: width_of(head, head_places) > MOST_COLUMNS,
         bar: false,
         comma: false,
     };
-    put_placed(out, head, breaks)?;
+    put_pieces(out, head, head_places, breaks)?;
+    // The blank before the body isn't on its line.
+    let is_long = width_of(body, body_places) > MOST_COLUMNS + 1 - INDENT;
     let breaks = Breaks {
         neck: true,
         bar: true,
-        comma: has_comment || INDENT + width_of(body) > MOST_COLUMNS + 1,
+        comma: has_comment || is_long,
     };
-    put_placed(out, body, breaks)
+    put_pieces(out, body, body_places, breaks)
 }

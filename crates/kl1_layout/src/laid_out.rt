@@ -1,59 +1,42 @@
 // What is written, laid out.
 
-ghost use Rattle.std.specs.Prelude.{◌+◌, ◌≤◌, ◌<◌, length};
+ghost use Rattle.std.specs.Prelude.{◌≤◌, ◌<◌, length};
 
 use crate::item::put_item;
 use crate::piece::{Kind, Piece};
-use crate::predicate::Predicate;
+use crate::predicate::{is_clause, is_otherwise, is_same_predicate};
 use kl1_read::Spelled;
 use std::alloc::{AllocError, Global};
 
-/// What stands above a line.
-#[derive(Clone, Copy)]
-struct Above<'a> {
-    /// The predicate of the last item, if there is one.
-    predicate: Option<Predicate<'a>>,
-    /// Whether a comment with a line of its own is last.
-    is_comment: bool,
-}
-
-impl Above<'_> {
-    /// Whether the item in front, if there is one, begins another predicate than the one above.
-    fn ends_before(&self, pieces: &[Piece<'_>]) -> bool {
-        match (&self.predicate, &Predicate::of(pieces)) {
-            (Some(before), Some(next)) => !before.goes_on(next),
-            _ => false,
-        }
-    }
-}
-
 /// The number of pieces of the item in front.
-fn item_length(pieces: &[Piece<'_>]) -> usize
+fn item_length(pieces: &[Piece]) -> usize
     requires { 0 < length pieces.now }
     ensures some { 0 < result }
     ensures within { result ≤ length pieces.now }
 {
-    for (index, piece) in pieces.iter().enumerate() {
-        if matches!(piece.kind, Kind::Token(Spelled::End)) {
-            return index + 1;
+    let mut rest = pieces;
+    while let [first, others @ ..] = rest {
+        if matches!(&first.kind, Kind::Token(Spelled::End)) {
+            return pieces.len() - others.len();
         }
+        rest = others;
     }
     pieces.len()
 }
 
 /// The item that stands directly below the comments in front.
-fn item_below<'a, 'b>(pieces: &'b [Piece<'a>]) -> &'b [Piece<'a>] {
+fn item_below(pieces: &[Piece]) -> &[Piece] {
     let mut rest = pieces;
+    let mut is_first = true;
     while let [first, others @ ..] = rest {
-        match first.kind {
-            Kind::Token(_token) => return rest,
-            Kind::Comment(_alone) => rest = others,
+        if first.is_apart && !is_first {
+            return &[];
         }
-        if let [next, _others @ ..] = rest {
-            if next.is_apart {
-                return &[];
-            }
+        if let Kind::Token(_token) = &first.kind {
+            return rest;
         }
+        is_first = false;
+        rest = others;
     }
     rest
 }
@@ -69,43 +52,45 @@ fn put_line_end(out: &mut Vec<u8>, is_apart: bool) -> Result<(), AllocError> {
     Ok(())
 }
 
-/// The pieces, laid out: items and comments on lines of their own, and an empty line before each predicate and before each piece
-/// that had one before it.
-pub(crate) fn laid_out(alloc: Global, pieces: &[Piece<'_>]) -> Result<Vec<u8>, AllocError> {
+/// Whether the item in front begins another predicate than the last clause above, if both are there.
+fn begins_another(above: &[Piece], pieces: &[Piece]) -> bool {
+    is_clause(above)
+        && is_clause(pieces)
+        && !is_otherwise(pieces)
+        && !is_same_predicate(above, pieces)
+}
+
+/// The pieces, laid out: items and comments on lines of their own, and an empty line between predicates, and before each item or
+/// comment that had one before it.
+pub(crate) fn laid_out(alloc: Global, pieces: &[Piece]) -> Result<Vec<u8>, AllocError> {
     let mut out = Vec::new(alloc);
-    let mut above = Above {
-        predicate: None,
-        is_comment: false,
-    };
+    // From the last item above on that isn't `otherwise`.
+    let mut above: &[Piece] = &[];
+    let mut is_below_comment = false;
     let mut rest = pieces;
     while let [first, others @ ..] = rest {
-        match first.kind {
+        match &first.kind {
             Kind::Comment(false) => {
                 out.push(b' ')?;
-                out.extend_from_slice(first.bytes)?;
+                out.extend_from_slice(first.bytes.as_slice())?;
                 rest = others;
             }
             Kind::Comment(true) => {
-                let begins = !above.is_comment && above.ends_before(item_below(rest));
+                let begins = !is_below_comment && begins_another(above, item_below(rest));
                 put_line_end(&mut out, first.is_apart || begins)?;
-                out.extend_from_slice(first.bytes)?;
-                above.is_comment = true;
+                out.extend_from_slice(first.bytes.as_slice())?;
+                is_below_comment = true;
                 rest = others;
             }
             Kind::Token(_token) => {
-                let begins = !above.is_comment && above.ends_before(rest);
+                let begins = !is_below_comment && begins_another(above, rest);
                 put_line_end(&mut out, first.is_apart || begins)?;
                 let count = item_length(rest);
                 put_item(alloc, &mut out, &rest[..count])?;
-                let next = Predicate::of(rest);
-                let is_otherwise = match &next {
-                    None => false,
-                    Some(predicate) => predicate.is_otherwise(),
-                };
-                if !is_otherwise {
-                    above.predicate = next;
+                if !is_otherwise(rest) {
+                    above = rest;
                 }
-                above.is_comment = false;
+                is_below_comment = false;
                 rest = &rest[count..];
             }
         }

@@ -1,10 +1,11 @@
 // The pieces of a text.
 
-ghost use Rattle.std.specs.Prelude.{◌≡◌, ◌+◌, ◌^◌, ◌<◌, ◌≤◌, ◌==◌, ◌∷◌, ◌++◌, [], length, map, Some, IfOk, IfErr, OnOk};
+ghost use Rattle.std.specs.declared.option.Option.{Option};
+ghost use Rattle.std.specs.Prelude.{List, ◌≡◌, ◌+◌, ◌-◌, ◌^◌, ◌<◌, ◌≤◌, ◌==◌, ◌∷◌, ◌++◌, [], length, take, map, Some, IfOk, IfErr, OnOk};
 ghost use Rattle.kl1_model.specs.Token.{first_is, is_blank};
-ghost use Rattle.kl1_layout.specs.Written.{written_of, without_last_blanks, comment_of};
+ghost use Rattle.kl1_layout.specs.Written.{Written, written_of, without_last_blanks, with_comment};
 ghost use Rattle.kl1_layout.specs.Layouts.{IsFaultOf};
-ghost use Rattle.kl1_layout.specs.Pieces.{written_as, written_piece};
+ghost use Rattle.kl1_layout.specs.Pieces.{written_as, written_piece, with_before};
 
 use crate::layout_fault::LayoutFault;
 use crate::piece::{Kind, Piece};
@@ -46,29 +47,53 @@ fn without_last_blanks(text: &[u8]) -> &[u8]
 /// The bytes before `behind`, with which the text ends.
 fn before<'a>(text: &'a [u8], behind: &[u8]) -> &'a [u8]
     requires { length behind.now ≤ length text.now }
+    ensures { result.now ≡ take (length text.now - length behind.now) text.now }
 {
     &text[..text.len() - behind.len()]
 }
 
 /// Puts a piece after the others, before which this number of line ends stands.
-fn put_piece<'a>(
-    pieces: &mut Vec<Piece<'a>>,
+fn put_piece(
+    alloc: Global,
+    pieces: &mut Vec<Piece>,
     kind: Kind,
-    bytes: &'a [u8],
+    bytes: &[u8],
     breaks: u8,
 ) -> Result<(), AllocError>
     ensures { OnOk result (map written_piece pieces.new.items ≡ map written_piece pieces.old.items ++ written_as kind bytes.now ∷ []) }
 {
+    let bytes = Vec::from_slice(alloc, bytes)?;
+    let is_apart = breaks == 2;
     pieces.push(Piece {
         kind,
         bytes,
-        is_apart: breaks == 2,
+        is_apart,
     })?;
     Ok(())
 }
 
+/// Puts the comment in front of a text, if one is there and no other blank, after the pieces. Answers how many line ends stand
+/// before the next piece.
+fn put_blank(
+    alloc: Global,
+    pieces: &mut Vec<Piece>,
+    text: &[u8],
+    alone: bool,
+    breaks: u8,
+) -> Result<u8, AllocError>
+    ensures { OnOk result ((ws : Option (List Written)) → with_before (map written_piece pieces.new.items) ws ≡ with_before (map written_piece pieces.old.items) (with_comment alone text.now ws)) }
+{
+    if !is_comment(text) {
+        return Ok(breaks);
+    }
+    let (line, _others) = split_line(text);
+    let kind = Kind::Comment(alone);
+    put_piece(alloc, pieces, kind, without_last_blanks(line), breaks)?;
+    Ok(0)
+}
+
 /// The pieces of a text, or the line of its first byte that is no token.
-pub(crate) fn pieces_of<'a>(alloc: Global, text: &'a [u8]) -> Result<Vec<Piece<'a>>, LayoutFault>
+pub(crate) fn pieces_of(alloc: Global, text: &[u8]) -> Result<Vec<Piece>, LayoutFault>
     requires { 1 + length text.now < 2 ^ 64 }
     ensures pieces { IfOk result (λ pieces. written_of text.now ≡ Some (map written_piece pieces.items)) }
     ensures fault { IfErr result (IsFaultOf text.now) }
@@ -89,18 +114,12 @@ pub(crate) fn pieces_of<'a>(alloc: Global, text: &'a [u8]) -> Result<Vec<Piece<'
                 rest = behind;
             }
             Front::Blank(behind) => {
-                if is_comment(rest) {
-                    let (bytes, _others) = split_line(rest);
-                    let bytes = without_last_blanks(bytes);
-                    let kind = Kind::Comment(alone);
-                    put_piece(&mut pieces, kind, bytes, breaks)?;
-                    breaks = 0;
-                }
+                breaks = put_blank(alloc, &mut pieces, rest, alone, breaks)?;
                 rest = behind;
             }
             Front::Token(token, behind) => {
                 let bytes = before(rest, behind);
-                put_piece(&mut pieces, Kind::Token(token), bytes, breaks)?;
+                put_piece(alloc, &mut pieces, Kind::Token(token), bytes, breaks)?;
                 alone = false;
                 breaks = 0;
                 rest = behind;

@@ -1,4 +1,4 @@
-// Pieces with what stands before each in an item on one line.
+// What stands before each piece of an item on one line.
 
 use crate::piece::{Kind, Piece};
 use crate::spacing::is_blank_between;
@@ -36,10 +36,9 @@ pub(crate) enum Spot {
     Comma,
 }
 
-/// A piece with its place.
+/// The place of a piece.
 #[derive(Clone, Copy)]
-pub(crate) struct Placed<'a> {
-    pub(crate) piece: Piece<'a>,
+pub(crate) struct Place {
     pub(crate) gap: Gap,
     pub(crate) spot: Spot,
 }
@@ -58,6 +57,14 @@ struct Walk {
 }
 
 impl Walk {
+    /// Whether operators stand without blanks in the innermost bracket that is open.
+    fn is_tight(&self) -> bool {
+        match self.open.as_slice() {
+            [] => false,
+            [_others @ .., tight] => *tight,
+        }
+    }
+
     /// What stands before this token.
     fn gap_before(&self, token: &Spelled) -> Gap {
         let Some(last) = &self.last else {
@@ -69,14 +76,18 @@ impl Walk {
                 _ => Gap::Line(INDENT),
             };
         }
-        let is_tight = match self.open.as_slice() {
-            [] => false,
-            [_others @ .., tight] => *tight,
-        };
-        if is_blank_between(last, token, self.open.is_empty(), is_tight) {
+        if is_blank_between(last, token, self.open.is_empty(), self.is_tight()) {
             Gap::Blank
         } else {
             Gap::Nothing
+        }
+    }
+
+    /// Whether the last token is a name with a `(` directly after it.
+    fn is_behind_call(&self) -> bool {
+        match &self.last {
+            Some(Spelled::Name(_text, _quotes, applied)) => *applied,
+            _ => false,
         }
     }
 
@@ -84,15 +95,12 @@ impl Walk {
     fn read(&mut self, token: Spelled) -> Result<(), AllocError> {
         match token {
             Spelled::Sign(Sign::Open) => {
-                let is_call = match self.last {
-                    Some(Spelled::Name(_text, _quotes, applied)) => applied,
-                    _ => false,
-                };
+                let is_call = self.is_behind_call();
                 self.open.push(is_call)?;
             }
             Spelled::Sign(Sign::OpenList) => self.open.push(true)?,
             Spelled::Sign(Sign::Close) | Spelled::Sign(Sign::CloseList) => {
-                self.open.pop();
+                let _bracket = self.open.pop();
             }
             _ => {}
         }
@@ -114,46 +122,45 @@ impl Walk {
             _ => Spot::Inside,
         }
     }
+
+    /// The place of the next piece, which is read.
+    fn place_next(&mut self, kind: &Kind) -> Result<Place, AllocError> {
+        match kind {
+            Kind::Token(token) => {
+                let place = Place {
+                    gap: self.gap_before(token),
+                    spot: self.spot,
+                };
+                self.read(*token)?;
+                Ok(place)
+            }
+            Kind::Comment(alone) => {
+                self.is_behind_comment = true;
+                Ok(Place {
+                    gap: if *alone {
+                        Gap::Line(INDENT)
+                    } else {
+                        Gap::Blank
+                    },
+                    spot: Spot::Inside,
+                })
+            }
+        }
+    }
 }
 
-/// The pieces of an item with what stands before each if it has one line, but for its comments.
-pub(crate) fn placed_pieces<'a>(
-    alloc: Global,
-    item: &[Piece<'a>],
-) -> Result<Vec<Placed<'a>>, AllocError> {
+/// The places of the pieces of an item if it has one line, but for its comments.
+pub(crate) fn places_of(alloc: Global, item: &[Piece]) -> Result<Vec<Place>, AllocError> {
     let mut walk = Walk {
         open: Vec::new(alloc),
         last: None,
         spot: Spot::Inside,
         is_behind_comment: false,
     };
-    let mut all = Vec::new(alloc);
+    let mut places = Vec::new(alloc);
     for piece in item {
-        match piece.kind {
-            Kind::Token(token) => {
-                let gap = walk.gap_before(&token);
-                let spot = walk.spot;
-                all.push(Placed {
-                    piece: *piece,
-                    gap,
-                    spot,
-                })?;
-                walk.read(token)?;
-            }
-            Kind::Comment(alone) => {
-                let gap = if alone {
-                    Gap::Line(INDENT)
-                } else {
-                    Gap::Blank
-                };
-                all.push(Placed {
-                    piece: *piece,
-                    gap,
-                    spot: Spot::Inside,
-                })?;
-                walk.is_behind_comment = true;
-            }
-        }
+        let place = walk.place_next(&piece.kind)?;
+        places.push(place)?;
     }
-    Ok(all)
+    Ok(places)
 }

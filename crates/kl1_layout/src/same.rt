@@ -6,7 +6,7 @@ ghost use Rattle.kl1_layout.specs.Pieces.{written_piece};
 use crate::piece::Piece;
 
 /// Whether two rows of pieces are the same.
-pub(crate) fn is_same_row(one: &[Piece<'_>], other: &[Piece<'_>]) -> bool
+pub(crate) fn is_same_row(one: &[Piece], other: &[Piece]) -> bool
     ensures { IsTrue result → map written_piece one.now ≡ map written_piece other.now }
 {
     let mut rest = one;
