@@ -28,13 +28,13 @@ behind_line before alone text rest all e h = ap (with_before before) (from_front
 
 -- no comment is in front
 pub blank_case : (c : Bool) (w : Written) (ws : Option (List Written)) → c ≡ false → ws ≡ (if c then with_first w ws else ws)
-blank_case true w ws no = cc
-blank_case false w ws no = refl
+blank_case true w ws e = cc
+blank_case false w ws e = refl
 
 -- a comment is in front
 pub comment_case : (c : Bool) (w : Written) (ws : Option (List Written)) → c ≡ true → with_first w ws ≡ (if c then with_first w ws else ws)
-comment_case true w ws yes = refl
-comment_case false w ws yes = cc
+comment_case true w ws e = refl
+comment_case false w ws e = cc
 
 -- after a blank or a comment, which is put if it is a comment
 pub behind_blank : (before now : List Written) (alone : Bool) (text rest : List ℕ) (all : Option (List Written)) → blank rest ≡ front_of text → with_before now (written_at alone rest) ≡ with_before before (with_comment alone text (written_at alone rest)) → with_before before (written_at alone text) ≡ all → with_before now (written_at alone rest) ≡ all

@@ -32,7 +32,7 @@ front_written next go line alone text (blank rest) same =
 front_written next go line alone text (token t rest) same = one_token t (next line rest).broken_at _ (go false rest) (same line false rest)
 
 within : (n line : ℕ) (alone : Bool) (text : List ℕ) → unplaced (tokens_within n line text) ≡ option_map tokens_in (written_within n alone text)
-unfolding tokens_within, written_within
+unfolding tokens_within written_within
 within zero line alone text = refl
 within (suc n) line alone text = front_written (tokens_within n) (written_within n) line alone text (front_of text) (λ l a rest. within n l a rest)
 

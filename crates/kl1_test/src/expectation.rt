@@ -7,17 +7,17 @@ use kl1_read::Spelled;
 use std::alloc::{AllocError, Global};
 
 /// A variable of the goal, with the text of the term that it is to be bound to.
-#[derive(Clone, Copy)]
-pub struct Equation<'a> {
-    pub variable: &'a [u8],
-    pub term: &'a [u8],
+#[derive(Drop)]
+pub struct Equation {
+    pub variable: Vec<u8>,
+    pub term: Vec<u8>,
 }
 
 /// What a test wants.
 #[derive(Drop)]
-pub enum Expectation<'a> {
+pub enum Expectation {
     /// The goal terminates, and its variables are bound like this.
-    Bindings(Vec<Equation<'a>>),
+    Bindings(Vec<Equation>),
     /// The first exception is a failure.
     Failure,
     /// This number of goals wait for ever.
@@ -68,34 +68,31 @@ fn split_comma(text: &[u8]) -> Option<(&[u8], Option<&[u8]>)> {
 }
 
 /// A variable, `=` and a term.
-fn equation_in(text: &[u8]) -> Option<Equation<'_>> {
+fn equation_in(alloc: Global, text: &[u8]) -> Result<Option<Equation>, AllocError> {
     let Some(first) = first_token(text) else {
-        return None;
+        return Ok(None);
     };
     let Some(second) = first_token(first.behind) else {
-        return None;
+        return Ok(None);
     };
     match (first.token, second.token) {
-        (Spelled::Variable(_name), Spelled::Sign(Sign::Equals)) => Some(Equation {
-            variable: first.bytes,
-            term: trimmed(second.behind),
-        }),
-        _ => None,
+        (Spelled::Variable(_name), Spelled::Sign(Sign::Equals)) => Ok(Some(Equation {
+            variable: Vec::from_slice(alloc, first.bytes)?,
+            term: Vec::from_slice(alloc, trimmed(second.behind))?,
+        })),
+        _ => Ok(None),
     }
 }
 
 /// Equations, parted by commas.
-fn equations_in<'a>(
-    alloc: Global,
-    text: &'a [u8],
-) -> Result<Option<Vec<Equation<'a>>>, AllocError> {
+fn equations_in(alloc: Global, text: &[u8]) -> Result<Option<Vec<Equation>>, AllocError> {
     let mut found = Vec::new(alloc);
     let mut left = Some(text);
     while let Some(rest) = left {
         let Some((first, others)) = split_comma(rest) else {
             return Ok(None);
         };
-        let Some(equation) = equation_in(first) else {
+        let Some(equation) = equation_in(alloc, first)? else {
             return Ok(None);
         };
         found.push(equation)?;
@@ -105,10 +102,7 @@ fn equations_in<'a>(
 }
 
 /// What a test wants, if that can be read.
-pub fn expectation_in<'a>(
-    alloc: Global,
-    text: &'a [u8],
-) -> Result<Option<Expectation<'a>>, AllocError> {
+pub fn expectation_in(alloc: Global, text: &[u8]) -> Result<Option<Expectation>, AllocError> {
     let (word, behind) = split_name(text);
     if text == b"failure".as_slice() {
         Ok(Some(Expectation::Failure))

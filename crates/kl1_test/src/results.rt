@@ -41,11 +41,11 @@ fn value_read(alloc: Global, answers: &Answers) -> Result<Option<Term>, AllocErr
 /// The text of the term that a variable of a test's goal is bound to, if the goal has that variable.
 fn text_bound(
     alloc: Global,
-    test: &Test<'_>,
+    test: &Test,
     bound: &Term,
     variable: &[u8],
 ) -> Result<Vec<u8>, AllocError> {
-    match number_of(alloc, test.goal_text, variable)? {
+    match number_of(alloc, test.goal_text.as_slice(), variable)? {
         Some(number) => text_of(alloc, bound_to(test.goal.nodes(), bound.nodes(), number)),
         None => Ok(Vec::new(alloc)),
     }
@@ -54,8 +54,8 @@ fn text_bound(
 /// Whether the variables of equations are bound to what is wanted. Those that have no value are compared by their first places.
 fn has_bindings(
     alloc: Global,
-    test: &Test<'_>,
-    equations: &[Equation<'_>],
+    test: &Test,
+    equations: &[Equation],
     answers: &Answers,
 ) -> Result<bool, AllocError> {
     let Some(bound) = value_read(alloc, answers)? else {
@@ -63,7 +63,7 @@ fn has_bindings(
     };
     let mut row = Vec::new(alloc);
     for equation in equations {
-        let text = text_bound(alloc, test, &bound, equation.variable)?;
+        let text = text_bound(alloc, test, &bound, equation.variable.as_slice())?;
         put_element(&mut row, text.as_slice())?;
     }
     match printed_row(alloc, row.as_slice())? {
@@ -73,7 +73,7 @@ fn has_bindings(
 }
 
 /// Whether a test got what it wants.
-fn is_wanted(alloc: Global, test: &Test<'_>, answers: &Answers) -> Result<bool, AllocError> {
+fn is_wanted(alloc: Global, test: &Test, answers: &Answers) -> Result<bool, AllocError> {
     match (&test.wanted, answers.ending) {
         (Expectation::Bindings(equations), Ending::Terminated) => {
             has_bindings(alloc, test, equations.as_slice(), answers)
@@ -91,8 +91,8 @@ fn is_wanted(alloc: Global, test: &Test<'_>, answers: &Answers) -> Result<bool, 
 fn put_bindings(
     alloc: Global,
     out: &mut Vec<u8>,
-    test: &Test<'_>,
-    equations: &[Equation<'_>],
+    test: &Test,
+    equations: &[Equation],
     answers: &Answers,
 ) -> Result<(), AllocError> {
     let Some(bound) = value_read(alloc, answers)? else {
@@ -105,9 +105,9 @@ fn put_bindings(
             out.extend_from_slice(b", ")?;
         }
         is_first = false;
-        out.extend_from_slice(equation.variable)?;
+        out.extend_from_slice(equation.variable.as_slice())?;
         out.extend_from_slice(b" = ")?;
-        let text = text_bound(alloc, test, &bound, equation.variable)?;
+        let text = text_bound(alloc, test, &bound, equation.variable.as_slice())?;
         out.extend_from_slice(text.as_slice())?;
     }
     Ok(())
@@ -117,7 +117,7 @@ fn put_bindings(
 fn put_got(
     alloc: Global,
     out: &mut Vec<u8>,
-    test: &Test<'_>,
+    test: &Test,
     answers: &Answers,
 ) -> Result<(), AllocError> {
     match answers.ending {
@@ -144,9 +144,9 @@ fn put_got(
 }
 
 /// Puts `expected WANTED, got ` after the bytes, with the place of the test.
-fn put_expected(out: &mut Vec<u8>, test: &Test<'_>) -> Result<(), AllocError> {
-    put_place(out, test.file, test.line, b"expected ")?;
-    out.extend_from_slice(test.wanted_text)?;
+fn put_expected(out: &mut Vec<u8>, test: &Test) -> Result<(), AllocError> {
+    put_place(out, test.file.as_slice(), test.line, b"expected ")?;
+    out.extend_from_slice(test.wanted_text.as_slice())?;
     out.extend_from_slice(b", got ")
 }
 
@@ -165,7 +165,7 @@ fn put_description(out: &mut Vec<u8>, text: &[u8]) -> Result<(), AllocError> {
 fn put_line(
     out: &mut Vec<u8>,
     number: u64,
-    test: &Test<'_>,
+    test: &Test,
     is_passed: bool,
 ) -> Result<(), AllocError> {
     if !is_passed {
@@ -174,11 +174,11 @@ fn put_line(
     out.extend_from_slice(b"ok ")?;
     put_decimal(out, number)?;
     out.extend_from_slice(b" - ")?;
-    put_description(out, test.file)?;
+    put_description(out, test.file.as_slice())?;
     out.push(b':')?;
     put_decimal(out, test.line)?;
     out.push(b' ')?;
-    put_description(out, test.text)?;
+    put_description(out, test.text.as_slice())?;
     out.push(b'\n')?;
     Ok(())
 }
@@ -187,7 +187,7 @@ fn put_line(
 fn put_result(
     alloc: Global,
     files: &[SourceFile],
-    test: &Test<'_>,
+    test: &Test,
     differences: &mut Vec<u8>,
 ) -> Result<bool, Fault> {
     match answers_for(alloc, files, test)? {
@@ -221,7 +221,7 @@ fn put_result(
 pub fn put_results(
     alloc: Global,
     files: &[SourceFile],
-    tests: &[Test<'_>],
+    tests: &[Test],
 ) -> Result<Results, Fault> {
     let mut results = Results {
         lines: Vec::new(alloc),

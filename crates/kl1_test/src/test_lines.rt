@@ -1,28 +1,48 @@
 // The lines of a text that state tests.
 
+ghost use Rattle.std.specs.Prelude.{◌≡◌, ◌++◌, List, map, IfOk, OnOk};
+ghost use Rattle.kl1_test.specs.TestLines.{Stated, with_test, stated_in, stated_of};
+
 use kl1_lines::split_line;
 use std::alloc::{AllocError, Global};
 
 /// A line that states a test.
-#[derive(Clone, Copy)]
-pub struct TestLine<'a> {
+#[derive(Drop)]
+pub struct TestLine {
     /// Its number, from 1.
     pub line: u64,
     /// What stands after `%?`.
-    pub text: &'a [u8],
+    pub text: Vec<u8>,
+}
+
+/// Puts the test that a line of this number states after the others, if it states one.
+fn put_test(
+    alloc: Global,
+    found: &mut Vec<TestLine>,
+    line: u64,
+    text: &[u8],
+) -> Result<(), AllocError>
+    ensures { OnOk result ((others : List Stated) → map stated_of found.new.items ++ others ≡ map stated_of found.old.items ++ with_test line text.now others) }
+{
+    if !text.starts_with(b"%?") {
+        return Ok(());
+    }
+    let text = Vec::from_slice(alloc, &text[2..])?;
+    found.push(TestLine { line, text })?;
+    Ok(())
 }
 
 /// The lines of a text that begin with `%?`, in order.
-pub fn test_lines<'a>(alloc: Global, text: &'a [u8]) -> Result<Vec<TestLine<'a>>, AllocError> {
+pub fn test_lines(alloc: Global, text: &[u8]) -> Result<Vec<TestLine>, AllocError>
+    ensures { IfOk result (λ lines. map stated_of lines.items ≡ stated_in text.now) }
+{
     let mut found = Vec::new(alloc);
     let mut rest = text;
-    let mut line: u64 = 0;
+    let mut line: u64 = 1;
     while !rest.is_empty() {
         let (first, behind) = split_line(rest);
-        line = line.saturating_add(1);
-        if let [b'%', b'?', text @ ..] = first {
-            found.push(TestLine { line, text })?;
-        }
+        put_test(alloc, &mut found, line, first)?;
+        line += 1;
         rest = behind;
     }
     Ok(found)

@@ -12,19 +12,19 @@ use std::alloc::{AllocError, Global};
 
 /// A test of a file.
 #[derive(Drop)]
-pub struct Test<'a> {
+pub struct Test {
     /// The name of the file.
-    pub file: &'a [u8],
+    pub file: Vec<u8>,
     /// The number of its line, from 1.
     pub line: u64,
     /// The test as it is written.
-    pub text: &'a [u8],
+    pub text: Vec<u8>,
     /// Its goal, as written and as read.
-    pub goal_text: &'a [u8],
+    pub goal_text: Vec<u8>,
     pub goal: Term,
     /// What it wants, as written and as read.
-    pub wanted_text: &'a [u8],
-    pub wanted: Expectation<'a>,
+    pub wanted_text: Vec<u8>,
+    pub wanted: Expectation,
     /// The terms that are wanted for variables of the goal, as a row that is printed; nothing if none are.
     pub row: Vec<u8>,
 }
@@ -51,14 +51,14 @@ fn goal_in(alloc: Global, module: &AtomText, text: &[u8]) -> Result<Option<Term>
 fn wanted_row(
     alloc: Global,
     goal: &[u8],
-    equations: &[Equation<'_>],
+    equations: &[Equation],
 ) -> Result<Option<Vec<u8>>, AllocError> {
     let mut row = Vec::new(alloc);
     for equation in equations {
-        if number_of(alloc, goal, equation.variable)?.is_none() {
+        if number_of(alloc, goal, equation.variable.as_slice())?.is_none() {
             return Ok(None);
         }
-        put_element(&mut row, equation.term)?;
+        put_element(&mut row, equation.term.as_slice())?;
     }
     printed_row(alloc, row.as_slice())
 }
@@ -67,7 +67,7 @@ fn wanted_row(
 fn row_for(
     alloc: Global,
     goal: &[u8],
-    wanted: &Expectation<'_>,
+    wanted: &Expectation,
 ) -> Result<Option<Vec<u8>>, AllocError> {
     match wanted {
         Expectation::Bindings(equations) => wanted_row(alloc, goal, equations.as_slice()),
@@ -76,13 +76,13 @@ fn row_for(
 }
 
 /// The test that a line states, if it can be read.
-fn test_in<'a>(
+fn test_in(
     alloc: Global,
-    file: &'a [u8],
+    file: &[u8],
     module: &AtomText,
-    stated: TestLine<'a>,
-) -> Result<Option<Test<'a>>, AllocError> {
-    let text = trimmed(stated.text);
+    stated: &TestLine,
+) -> Result<Option<Test>, AllocError> {
+    let text = trimmed(stated.text.as_slice());
     let Some((goal_text, wanted_text)) = split_arrow(text) else {
         return Ok(None);
     };
@@ -96,22 +96,22 @@ fn test_in<'a>(
         return Ok(None);
     };
     Ok(Some(Test {
-        file,
+        file: Vec::from_slice(alloc, file)?,
         line: stated.line,
-        text,
-        goal_text,
+        text: Vec::from_slice(alloc, text)?,
+        goal_text: Vec::from_slice(alloc, goal_text)?,
         goal,
-        wanted_text,
+        wanted_text: Vec::from_slice(alloc, wanted_text)?,
         wanted,
         row,
     }))
 }
 
 /// Puts the tests of a file after the others, and a line for each that can't be read after the lines.
-fn put_tests<'a>(
+fn put_tests(
     alloc: Global,
-    file: &'a SourceFile,
-    tests: &mut Vec<Test<'a>>,
+    file: &SourceFile,
+    tests: &mut Vec<Test>,
     bad: &mut Vec<u8>,
 ) -> Result<(), Fault> {
     let name = file.name.as_slice();
@@ -119,7 +119,7 @@ fn put_tests<'a>(
         return Err(Fault::Memory);
     };
     let lines = test_lines(alloc, file.text.as_slice())?;
-    for stated in lines {
+    for stated in lines.as_slice() {
         match test_in(alloc, name, &module.name, stated)? {
             Some(test) => tests.push(test)?,
             None => put_place(bad, name, stated.line, b"bad test\n")?,
@@ -143,7 +143,7 @@ pub fn put_place(
 }
 
 /// The tests of files, in order.
-pub fn tests_of<'a>(alloc: Global, files: &'a [SourceFile]) -> Result<Vec<Test<'a>>, Fault> {
+pub fn tests_of(alloc: Global, files: &[SourceFile]) -> Result<Vec<Test>, Fault> {
     let mut tests = Vec::new(alloc);
     let mut bad = Vec::new(alloc);
     for file in files {

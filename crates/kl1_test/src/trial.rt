@@ -1,12 +1,17 @@
 // A goal on an account of its own.
 
+ghost use Rattle.std.specs.Prelude.{◌≡◌, None, IfOk};
+ghost use Rattle.kl1_run_work.specs.Works.{texts_of};
+ghost use Rattle.kl1_test.specs.Trials.{IsTried, IsTriedFrom};
+
 use crate::expectation::Expectation;
 use crate::fault::Fault;
 use crate::tests::Test;
 use kl1_atoms::{AtomTable, SharedAtoms};
 use kl1_codes::PlainCodes;
 use kl1_run_work::{
-    Answers, MOST_ALLOWANCE, SourceFile, Stop, Term, Wanted, Watch, Work, answers_of, do_work,
+    Answers, MOST_ALLOWANCE, SourceFile, Stop, Term, UnbookedHost, Wanted, Watch, Work, answers_of,
+    do_work,
 };
 use kl1_world::{AccountName, Rules, World};
 use std::alloc::{AllocError, Global};
@@ -19,8 +24,6 @@ pub const MOST_REDUCTIONS: u64 = 10_000_000;
 struct Unwatched;
 
 impl Watch for Unwatched {
-    ghost use Rattle.std.specs.Prelude.{None};
-
     ghost told = { λ u. None };
 
     fn is_due(&mut self) -> bool {
@@ -31,7 +34,7 @@ impl Watch for Unwatched {
 }
 
 /// The allowance of a test.
-pub fn allowance_of(wanted: &Expectation<'_>) -> u64 {
+pub fn allowance_of(wanted: &Expectation) -> u64 {
     match wanted {
         Expectation::Exhausted(allowance) => (*allowance).min(MOST_ALLOWANCE),
         _ => MOST_REDUCTIONS,
@@ -50,7 +53,7 @@ fn copies(alloc: Global, files: &[SourceFile]) -> Result<Vec<SourceFile>, Fault>
 }
 
 /// The work of a test.
-fn work_of(alloc: Global, files: &[SourceFile], test: &Test<'_>) -> Result<Work, Fault> {
+fn work_of(alloc: Global, files: &[SourceFile], test: &Test) -> Result<Work, Fault> {
     let nodes = Vec::from_slice(alloc, test.goal.nodes())?;
     Ok(Work {
         files: copies(alloc, files)?,
@@ -60,28 +63,47 @@ fn work_of(alloc: Global, files: &[SourceFile], test: &Test<'_>) -> Result<Work,
     })
 }
 
+/// What is told of a goal that is run over files on a host.
+fn answered<H: UnbookedHost>(alloc: Global, host: &mut H, work: Work) -> Result<Answers, Stop>
+    ensures tried { IfOk result (λ answers. (f : H.Reading) → H.fits host.new f → IsTriedFrom (H.kept f host.old) (texts_of work.files.items) work.goal work.allowance work.steps answers) }
+    ensures beside { H.beside host.new ≡ H.beside host.old }
+{
+    let mut watch = Unwatched;
+    match do_work(alloc, host, work, &mut watch) {
+        Ok(shoen) => {
+            let wanted = Wanted {
+                reports: false,
+                whole: true,
+            };
+            match answers_of(alloc, host, shoen, wanted) {
+                Ok(answers) => Ok(answers),
+                Err(_) => Err(Stop::Memory),
+            }
+        }
+        Err(stop) => Err(stop),
+    }
+}
+
 /// What is told of a goal that is run over files, on an account of its own by the fourth rules.
-pub fn tried(alloc: Global, work: Work) -> Result<Answers, Stop> {
+pub fn tried(alloc: Global, work: Work) -> Result<Answers, Stop>
+    ensures { IfOk result (λ answers. IsTried (texts_of work.files.items) work.goal work.allowance work.steps answers) }
+{
     let name = AccountName::read(b"me").unwrap();
     match AtomTable::new(alloc, 1) {
         Ok((table, seats)) => {
-            let names = SharedAtoms { table: &table };
-            match World::new(alloc, names, seats, PlainCodes::new(alloc), &[name], Rules::Four) {
+            match World::new(
+                alloc,
+                SharedAtoms { table: &table },
+                seats,
+                PlainCodes::new(alloc),
+                &[name],
+                Rules::Four,
+            ) {
                 Ok(mut world) => {
-                    let mut watch = Unwatched;
-                    match do_work(alloc, &mut world, work, &mut watch) {
-                        Ok(shoen) => {
-                            let wanted = Wanted {
-                                reports: false,
-                                whole: true,
-                            };
-                            match answers_of(alloc, &mut world, shoen, wanted) {
-                                Ok(answers) => Ok(answers),
-                                Err(_) => Err(Stop::Memory),
-                            }
-                        }
-                        Err(stop) => Err(stop),
-                    }
+                    let answers = answered(alloc, &mut world, work);
+                    // This is called for the fact that it proves: some reading fits the names.
+                    world.shows_names(0);
+                    answers
                 }
                 Err(_) => Err(Stop::Memory),
             }
@@ -94,7 +116,7 @@ pub fn tried(alloc: Global, work: Work) -> Result<Answers, Stop> {
 pub fn answers_for(
     alloc: Global,
     files: &[SourceFile],
-    test: &Test<'_>,
+    test: &Test,
 ) -> Result<Result<Answers, Stop>, Fault> {
     let work = work_of(alloc, files, test)?;
     Ok(tried(alloc, work))

@@ -1,0 +1,2 @@
+pub mod TestLines
+pub mod Trials
