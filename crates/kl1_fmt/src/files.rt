@@ -1,9 +1,8 @@
 // The files that are read and written.
 
-use std::fs;
 use std::fs::{File, Permissions};
-use std::io;
 use std::io::{Read, Write};
+use std::{fs, io};
 
 /// Reads a file, at most `most` bytes of it.
 pub fn read_up_to(rt: &HostRuntime, name: &str, most: u64) -> io::Result<Vec<u8>> {

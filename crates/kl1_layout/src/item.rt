@@ -32,7 +32,14 @@ fn width_of(pieces: &[Piece], places: &[Place]) -> usize {
     let mut width: usize = 0;
     let mut rest = places;
     for piece in pieces {
-        if let [Place { gap: Gap::Blank, .. }, _others @ ..] = rest {
+        if let [
+            Place {
+                gap: Gap::Blank,
+                ..
+            },
+            _others @ ..,
+        ] = rest
+        {
             width = width.saturating_add(1);
         }
         if let [_place, others @ ..] = rest {
@@ -108,11 +115,7 @@ fn put_pieces(
 
 /// Puts an item after the bytes: on one line, if it fits there; otherwise its body on a line of its own or, if it doesn't fit
 /// there or a comment is in the item, each goal of the body.
-pub(crate) fn put_item(
-    alloc: Global,
-    out: &mut Vec<u8>,
-    item: &[Piece],
-) -> Result<(), AllocError> {
+pub(crate) fn put_item(alloc: Global, out: &mut Vec<u8>, item: &[Piece]) -> Result<(), AllocError> {
     let places = places_of(alloc, item)?;
     let has_comment = has_comment(item);
     let is_whole = !has_comment && width_of(item, places.as_slice()) <= MOST_COLUMNS;

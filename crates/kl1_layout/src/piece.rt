@@ -49,9 +49,7 @@ fn is_same_kind(one: &Kind, other: &Kind, bytes: &[u8], bytes_2: &[u8]) -> bool
 {
     match (one, other) {
         (Kind::Token(token), Kind::Token(token_2)) => is_same_token(token, token_2),
-        (Kind::Comment(alone), Kind::Comment(alone_2)) => {
-            *alone == *alone_2 && bytes == bytes_2
-        }
+        (Kind::Comment(alone), Kind::Comment(alone_2)) => { *alone == *alone_2 && bytes == bytes_2 }
         _ => false,
     }
 }
@@ -61,6 +59,11 @@ impl Piece {
     pub(crate) fn is_same(&self, other: &Piece) -> bool
         ensures { IsTrue result → written_piece self.now ≡ written_piece other.now }
     {
-        is_same_kind(&self.kind, &other.kind, self.bytes.as_slice(), other.bytes.as_slice())
+        is_same_kind(
+            &self.kind,
+            &other.kind,
+            self.bytes.as_slice(),
+            other.bytes.as_slice(),
+        )
     }
 }

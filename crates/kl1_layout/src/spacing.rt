@@ -8,12 +8,8 @@ fn is_operator(token: &Spelled) -> bool {
     match token {
         Spelled::Minus(_digit) => true,
         Spelled::Sign(sign) => match sign {
-            Sign::Comma
-            | Sign::Bar
-            | Sign::Open
-            | Sign::Close
-            | Sign::OpenList
-            | Sign::CloseList => false,
+            Sign::Comma | Sign::Bar | Sign::Open | Sign::Close | Sign::OpenList | Sign::CloseList =>
+                false,
             _ => true,
         },
         _ => false,

@@ -7,8 +7,10 @@ use Rattle.kl1_atoms.specs.Names.{AreNames}
 use Rattle.kl1_journal.specs.Keeping.{Reading, Fits, Held, kept_of}
 use Rattle.kl1_user.specs.Readings.{reading_of, reading_fits}
 use Rattle.kl1_world.specs.Worlds.{account_in, AreFresh}
+use Rattle.std.specs.declared.result.Result.{Result}
 use Rattle.kl1_run_work.specs.declared.answers.Answers.{Answers}
-use Rattle.kl1_test.specs.Trials.{account_name, IsTried, IsTriedFrom}
+use Rattle.kl1_run_work.specs.declared.stop.Stop.{Stop}
+use Rattle.kl1_test.specs.Trials.{account_name, IsOutcome, IsOutcomeFrom}
 
 -- the only account of a world in which nothing has happened
 account_alone : (old : List Held) (i : ℕ) (name : List ℕ) (f : Reading) → name ≡ account_name → AreFresh Four old (name ∷ []) → i ≡ 0 → kept_of f (account_in old i) ≡ fresh_kept Four account_name
@@ -21,11 +23,11 @@ fits_alone new j same known =
     subst P (sym same) (reading_fits (account_in new 0).0.names known)
 
 -- a trial on the account of a world in which nothing has happened
-pub tried_alone : (old new : List Held) (i j : ℕ) (name : List ℕ) (texts : List (List ℕ)) (goal : Term) (allowance steps : ℕ) (a : Answers) →
+pub tried_alone : (old new : List Held) (i j : ℕ) (name : List ℕ) (texts : List (List ℕ)) (goal : Term) (allowance steps : ℕ) (a : Result Answers Stop) →
     name ≡ account_name → AreFresh Four old (name ∷ []) → i ≡ 0 → j ≡ 0 → AreNames (account_in new 0).0.names →
-    ((f : Reading) → Fits (account_in new j).0.names f → IsTriedFrom (kept_of f (account_in old i)) texts goal allowance steps a) →
-    IsTried texts goal allowance steps a
+    ((f : Reading) → Fits (account_in new j).0.names f → IsOutcomeFrom (kept_of f (account_in old i)) texts goal allowance steps a) →
+    IsOutcome texts goal allowance steps a
 tried_alone old new i j name texts goal allowance steps a named fresh first same known does =
     let f = reading_of (account_in new 0).0.names in
-    let P : Kept → Type 0 = λ k. IsTriedFrom k texts goal allowance steps a in
+    let P : Kept → Type 0 = λ k. IsOutcomeFrom k texts goal allowance steps a in
     subst P (account_alone old i name f named fresh first) (does f (fits_alone new j same known))

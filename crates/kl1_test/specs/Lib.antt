@@ -1,2 +1,3 @@
 pub mod TestLines
 pub mod Trials
+pub mod Reports

@@ -29,20 +29,18 @@ pub fn printed_row(alloc: Global, row: &[u8]) -> Result<Option<Vec<u8>>, AllocEr
 }
 
 /// The number that the reader gives to a variable of a goal, if it stands there. Each `_` is a variable of its own.
-pub fn number_of(
-    alloc: Global,
-    goal: &[u8],
-    variable: &[u8],
-) -> Result<Option<u64>, AllocError> {
+pub fn number_of(alloc: Global, goal: &[u8], variable: &[u8]) -> Result<Option<u64>, AllocError> {
     let mut seen: Vec<&[u8]> = Vec::new(alloc);
     let mut count: u64 = 0;
     let mut rest = goal;
-    while let Some(Cut {
-        token,
-        bytes,
-        behind,
-        ..
-    }) = first_token(rest)
+    while let Some(
+        Cut {
+            token,
+            bytes,
+            behind,
+            ..
+        },
+    ) = first_token(rest)
     {
         if let Spelled::Variable(_name) = token {
             let is_old = bytes != b"_".as_slice() && seen.iter().any(|name| *name == bytes);

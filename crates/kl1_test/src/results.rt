@@ -1,5 +1,10 @@
 // What came of tests, as lines.
 
+ghost use Rattle.std.specs.Prelude.{◌≡◌, ◌++◌, Bool, true, length, IfOk, OnOk};
+ghost use Rattle.kl1_model.specs.Line.{line_in};
+ghost use Rattle.kl1_run_work.specs.Works.{texts_of};
+ghost use Rattle.kl1_test.specs.Reports.{is_failure, verdict_by, escaped, plan_line, test_line, IsVerdict, IsReport};
+
 use crate::bindings::{bound_to, number_of, printed_row, put_element, text_of};
 use crate::expectation::{Equation, Expectation};
 use crate::fault::Fault;
@@ -7,7 +12,7 @@ use crate::tests::{Test, put_place};
 use crate::trial::{allowance_of, answers_for};
 use kl1_lines::{put_decimal, split_line};
 use kl1_run_work::{
-    Answers, Ending, ReadFault, SourceFile, Stop, Term, put_fault, read_goal, words_of,
+    Answers, Ending, ReadFault, Refusal, SourceFile, Stop, Term, put_fault, read_goal, words_of,
 };
 use std::alloc::{AllocError, Global};
 
@@ -23,7 +28,9 @@ pub struct Results {
 }
 
 /// The first exception of a shoen.
-fn first_exception(answers: &Answers) -> &[u8] {
+fn first_exception(answers: &Answers) -> &[u8]
+    ensures { result.now ≡ line_in answers.now.exceptions.items }
+{
     let (first, _behind) = split_line(answers.exceptions.as_slice());
     first
 }
@@ -72,16 +79,23 @@ fn has_bindings(
     }
 }
 
+/// Whether the first exception is a failure.
+fn is_failure(answers: &Answers) -> bool
+    ensures { result ≡ is_failure answers.now.exceptions.items }
+{
+    first_exception(answers).starts_with(b"exception(failure,")
+}
+
 /// Whether a test got what it wants.
-fn is_wanted(alloc: Global, test: &Test, answers: &Answers) -> Result<bool, AllocError> {
-    match (&test.wanted, answers.ending) {
+fn is_wanted(alloc: Global, test: &Test, answers: &Answers) -> Result<bool, AllocError>
+    ensures { IfOk result (λ passed. (holds : Bool) × (passed ≡ verdict_by test.now.wanted answers.now holds)) }
+{
+    match (&test.wanted, &answers.ending) {
         (Expectation::Bindings(equations), Ending::Terminated) => {
             has_bindings(alloc, test, equations.as_slice(), answers)
         }
-        (Expectation::Failure, Ending::Raised) => {
-            Ok(first_exception(answers).starts_with(b"exception(failure,"))
-        }
-        (Expectation::Waits(wanted), Ending::Waits(count)) => Ok(*wanted == count),
+        (Expectation::Failure, Ending::Raised) => Ok(is_failure(answers)),
+        (Expectation::Waits(wanted), Ending::Waits(count)) => Ok(*wanted == *count),
         (Expectation::Exhausted(_allowance), Ending::Exhausted) => Ok(true),
         _ => Ok(false),
     }
@@ -151,36 +165,79 @@ fn put_expected(out: &mut Vec<u8>, test: &Test) -> Result<(), AllocError> {
 }
 
 /// Puts a text after the bytes with `\` before each `#`, which has a meaning of its own in such a line.
-fn put_description(out: &mut Vec<u8>, text: &[u8]) -> Result<(), AllocError> {
-    for byte in text {
-        if *byte == b'#' {
+fn put_escaped(out: &mut Vec<u8>, text: &[u8]) -> Result<(), AllocError>
+    ensures { OnOk result (out.new.items ≡ out.old.items ++ escaped text.now) }
+{
+    let mut rest = text;
+    while let [first, others @ ..] = rest {
+        if *first == b'#' {
             out.push(b'\\')?;
         }
-        out.push(*byte)?;
+        out.push(*first)?;
+        rest = others;
     }
     Ok(())
 }
 
 /// Puts the line of a test after the bytes, by its number, from 1, and whether it got what it wants.
-fn put_line(
-    out: &mut Vec<u8>,
-    number: u64,
-    test: &Test,
-    is_passed: bool,
-) -> Result<(), AllocError> {
-    if !is_passed {
-        out.extend_from_slice(b"not ")?;
-    }
-    out.extend_from_slice(b"ok ")?;
+fn put_line(out: &mut Vec<u8>, number: u64, test: &Test, is_passed: bool) -> Result<(), AllocError>
+    ensures { OnOk result (out.new.items ≡ out.old.items ++ test_line number test.now is_passed) }
+{
+    out.extend_from_slice(if is_passed {
+        b"ok ".as_slice()
+    } else {
+        b"not ok ".as_slice()
+    })?;
     put_decimal(out, number)?;
     out.extend_from_slice(b" - ")?;
-    put_description(out, test.file.as_slice())?;
-    out.push(b':')?;
+    put_escaped(out, test.file.as_slice())?;
+    out.extend_from_slice(b":")?;
     put_decimal(out, test.line)?;
-    out.push(b' ')?;
-    put_description(out, test.text.as_slice())?;
-    out.push(b'\n')?;
-    Ok(())
+    out.extend_from_slice(b" ")?;
+    put_escaped(out, test.text.as_slice())?;
+    out.extend_from_slice(b"\n")
+}
+
+/// Puts the line that tells how many tests there are after the bytes.
+fn put_plan(out: &mut Vec<u8>, count: u64) -> Result<(), AllocError>
+    ensures { OnOk result (out.new.items ≡ out.old.items ++ plan_line count) }
+{
+    out.extend_from_slice(b"1..")?;
+    put_decimal(out, count)?;
+    out.extend_from_slice(b"\n")
+}
+
+/// Puts what came of a test that didn't get what it wants after the bytes.
+fn put_difference(
+    alloc: Global,
+    out: &mut Vec<u8>,
+    test: &Test,
+    answers: &Answers,
+) -> Result<(), AllocError> {
+    put_expected(out, test)?;
+    put_got(alloc, out, test, answers)?;
+    out.extend_from_slice(b"\n")
+}
+
+/// Puts why the goal of a test is refused after the bytes.
+fn put_refusal(out: &mut Vec<u8>, test: &Test, refusal: Refusal) -> Result<(), AllocError> {
+    put_expected(out, test)?;
+    out.extend_from_slice(words_of(refusal))?;
+    out.extend_from_slice(b"\n")
+}
+
+/// The line that tells why the source of a file is refused.
+fn fault_of(
+    alloc: Global,
+    files: &[SourceFile],
+    place: usize,
+    refusal: Refusal,
+) -> Result<Vec<u8>, AllocError> {
+    let mut lines = Vec::new(alloc);
+    if place < files.len() {
+        put_fault(&mut lines, files[place].name.as_slice(), refusal)?;
+    }
+    Ok(lines)
 }
 
 /// Runs a test. Answers whether it got what it wants, and if not puts a line after the bytes.
@@ -189,56 +246,63 @@ fn put_result(
     files: &[SourceFile],
     test: &Test,
     differences: &mut Vec<u8>,
-) -> Result<bool, Fault> {
-    match answers_for(alloc, files, test)? {
+) -> Result<bool, Fault>
+    ensures { IfOk result (λ passed. IsVerdict (texts_of files.now) test.now passed) }
+{
+    match answers_for(alloc, files, test) {
         Ok(answers) => {
-            if is_wanted(alloc, test, &answers)? {
-                return Ok(true);
+            let is_passed = is_wanted(alloc, test, &answers)?;
+            if !is_passed {
+                put_difference(alloc, differences, test, &answers)?;
             }
-            put_expected(differences, test)?;
-            put_got(alloc, differences, test, &answers)?;
-            differences.push(b'\n')?;
-            Ok(false)
+            Ok(is_passed)
         }
         Err(Stop::Goal(refusal)) => {
-            put_expected(differences, test)?;
-            differences.extend_from_slice(words_of(refusal))?;
-            differences.push(b'\n')?;
+            put_refusal(differences, test, refusal)?;
             Ok(false)
         }
         Err(Stop::Source { place, refusal }) => {
-            let mut lines = Vec::new(alloc);
-            if let Some(file) = files.get(place) {
-                put_fault(&mut lines, file.name.as_slice(), refusal)?;
-            }
-            Err(Fault::Lines(lines))
+            Err(Fault::Lines(fault_of(alloc, files, place, refusal)?))
         }
-        Err(Stop::Write) | Err(Stop::Memory) => Err(Fault::Memory),
+        Err(Stop::Write) => Err(Fault::Memory),
+        Err(Stop::Memory) => Err(Fault::Memory),
     }
 }
 
-/// Runs the tests, each once, in order.
-pub fn put_results(
+/// Runs the tests, each once, in order, and puts their lines after these. Answers whether all got what they want.
+fn put_each(
     alloc: Global,
     files: &[SourceFile],
     tests: &[Test],
-) -> Result<Results, Fault> {
-    let mut results = Results {
-        lines: Vec::new(alloc),
-        differences: Vec::new(alloc),
-        passed: true,
-    };
-    results.lines.extend_from_slice(b"1..")?;
-    put_decimal(&mut results.lines, tests.len() as u64)?;
-    results.lines.push(b'\n')?;
-    let mut number: u64 = 0;
-    for test in tests {
-        number = number.saturating_add(1);
-        let is_passed = put_result(alloc, files, test, &mut results.differences)?;
-        put_line(&mut results.lines, number, test, is_passed)?;
-        if !is_passed {
-            results.passed = false;
-        }
+    lines: &mut Vec<u8>,
+    differences: &mut Vec<u8>,
+) -> Result<bool, Fault>
+    ensures { IfOk result (λ passed. IsReport (texts_of files.now) 1 tests.now lines.old.items true lines.new.items passed) }
+{
+    let mut passed = true;
+    let mut number: u64 = 1;
+    let mut rest = tests;
+    while let [first, others @ ..] = rest {
+        let is_passed = put_result(alloc, files, first, differences)?;
+        put_line(lines, number, first, is_passed)?;
+        passed = passed && is_passed;
+        number += 1;
+        rest = others;
     }
-    Ok(results)
+    Ok(passed)
+}
+
+/// Runs the tests, each once, in order.
+pub fn put_results(alloc: Global, files: &[SourceFile], tests: &[Test]) -> Result<Results, Fault>
+    ensures { IfOk result (λ results. IsReport (texts_of files.now) 1 tests.now (plan_line (length tests.now)) true results.lines.items results.passed) }
+{
+    let mut lines = Vec::new(alloc);
+    let mut differences = Vec::new(alloc);
+    put_plan(&mut lines, tests.len() as u64)?;
+    let passed = put_each(alloc, files, tests, &mut lines, &mut differences)?;
+    Ok(Results {
+        lines,
+        differences,
+        passed,
+    })
 }

@@ -129,12 +129,7 @@ fn put_tests(
 }
 
 /// Puts `FILE:LINE: ` and a text after the bytes.
-pub fn put_place(
-    out: &mut Vec<u8>,
-    file: &[u8],
-    line: u64,
-    text: &[u8],
-) -> Result<(), AllocError> {
+pub fn put_place(out: &mut Vec<u8>, file: &[u8], line: u64, text: &[u8]) -> Result<(), AllocError> {
     out.extend_from_slice(file)?;
     out.push(b':')?;
     kl1_lines::put_decimal(out, line)?;

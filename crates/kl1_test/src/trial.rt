@@ -2,15 +2,16 @@
 
 ghost use Rattle.std.specs.Prelude.{◌≡◌, None, IfOk};
 ghost use Rattle.kl1_run_work.specs.Works.{texts_of};
-ghost use Rattle.kl1_test.specs.Trials.{IsTried, IsTriedFrom};
+ghost use Rattle.kl1_model.specs.declared.limits.TheConstants.{MOST_ALLOWANCE};
+ghost use Rattle.kl1_test.specs.Trials.{IsOutcome, IsOutcomeFrom};
+ghost use Rattle.kl1_test.specs.Reports.{allowance_of};
 
 use crate::expectation::Expectation;
-use crate::fault::Fault;
 use crate::tests::Test;
 use kl1_atoms::{AtomTable, SharedAtoms};
 use kl1_codes::PlainCodes;
 use kl1_run_work::{
-    Answers, MOST_ALLOWANCE, SourceFile, Stop, Term, UnbookedHost, Wanted, Watch, Work, answers_of,
+    Answers, MOST_ALLOWANCE, SourceFile, Stop, UnbookedHost, Wanted, Watch, Work, answers_of,
     do_work,
 };
 use kl1_world::{AccountName, Rules, World};
@@ -34,15 +35,21 @@ impl Watch for Unwatched {
 }
 
 /// The allowance of a test.
-pub fn allowance_of(wanted: &Expectation) -> u64 {
+pub fn allowance_of(wanted: &Expectation) -> u64
+    ensures { result ≡ allowance_of wanted.now }
+{
     match wanted {
         Expectation::Exhausted(allowance) => (*allowance).min(MOST_ALLOWANCE),
-        _ => MOST_REDUCTIONS,
+        Expectation::Bindings(_equations) => MOST_REDUCTIONS,
+        Expectation::Failure => MOST_REDUCTIONS,
+        Expectation::Waits(_count) => MOST_REDUCTIONS,
     }
 }
 
 /// The same files once more.
-fn copies(alloc: Global, files: &[SourceFile]) -> Result<Vec<SourceFile>, Fault> {
+fn copies(alloc: Global, files: &[SourceFile]) -> Result<Vec<SourceFile>, AllocError>
+    ensures { IfOk result (λ copies. texts_of copies.items ≡ texts_of files.now) }
+{
     let mut all = Vec::new(alloc);
     for file in files {
         let name = Vec::from_slice(alloc, file.name.as_slice())?;
@@ -53,11 +60,15 @@ fn copies(alloc: Global, files: &[SourceFile]) -> Result<Vec<SourceFile>, Fault>
 }
 
 /// The work of a test.
-fn work_of(alloc: Global, files: &[SourceFile], test: &Test) -> Result<Work, Fault> {
-    let nodes = Vec::from_slice(alloc, test.goal.nodes())?;
+fn work_of(alloc: Global, files: &[SourceFile], test: &Test) -> Result<Work, AllocError>
+    ensures texts { IfOk result (λ work. texts_of work.files.items ≡ texts_of files.now) }
+    ensures goal { IfOk result (λ work. work.goal ≡ test.now.goal) }
+    ensures allowance { IfOk result (λ work. work.allowance ≡ allowance_of test.now.wanted) }
+    ensures steps { IfOk result (λ work. work.steps ≡ MOST_ALLOWANCE) }
+{
     Ok(Work {
         files: copies(alloc, files)?,
-        goal: Term::of_nodes(nodes),
+        goal: test.goal.clone()?,
         allowance: allowance_of(&test.wanted),
         steps: MOST_ALLOWANCE,
     })
@@ -65,7 +76,7 @@ fn work_of(alloc: Global, files: &[SourceFile], test: &Test) -> Result<Work, Fau
 
 /// What is told of a goal that is run over files on a host.
 fn answered<H: UnbookedHost>(alloc: Global, host: &mut H, work: Work) -> Result<Answers, Stop>
-    ensures tried { IfOk result (λ answers. (f : H.Reading) → H.fits host.new f → IsTriedFrom (H.kept f host.old) (texts_of work.files.items) work.goal work.allowance work.steps answers) }
+    ensures tried { (f : H.Reading) → H.fits host.new f → IsOutcomeFrom (H.kept f host.old) (texts_of work.files.items) work.goal work.allowance work.steps result }
     ensures beside { H.beside host.new ≡ H.beside host.old }
 {
     let mut watch = Unwatched;
@@ -86,7 +97,7 @@ fn answered<H: UnbookedHost>(alloc: Global, host: &mut H, work: Work) -> Result<
 
 /// What is told of a goal that is run over files, on an account of its own by the fourth rules.
 pub fn tried(alloc: Global, work: Work) -> Result<Answers, Stop>
-    ensures { IfOk result (λ answers. IsTried (texts_of work.files.items) work.goal work.allowance work.steps answers) }
+    ensures { IsOutcome (texts_of work.files.items) work.goal work.allowance work.steps result }
 {
     let name = AccountName::read(b"me").unwrap();
     match AtomTable::new(alloc, 1) {
@@ -113,11 +124,11 @@ pub fn tried(alloc: Global, work: Work) -> Result<Answers, Stop>
 }
 
 /// What is told of the goal of a test.
-pub fn answers_for(
-    alloc: Global,
-    files: &[SourceFile],
-    test: &Test,
-) -> Result<Result<Answers, Stop>, Fault> {
-    let work = work_of(alloc, files, test)?;
-    Ok(tried(alloc, work))
+pub fn answers_for(alloc: Global, files: &[SourceFile], test: &Test) -> Result<Answers, Stop>
+    ensures { IsOutcome (texts_of files.now) test.now.goal (allowance_of test.now.wanted) MOST_ALLOWANCE result }
+{
+    match work_of(alloc, files, test) {
+        Ok(work) => tried(alloc, work),
+        Err(_) => Err(Stop::Memory),
+    }
 }

@@ -23,7 +23,7 @@ pieces-preserved-in-LineEnd c =
 pub pieces-preserved-in-Blank : goal.pieces-preserved-in-Blank
 pieces-preserved-in-Blank c =
     record {
-      same = behind_blank (map written_piece c.pieces.pieces.items) _ c.pieces.alone c.pieces.rest.now c.in-Blank.behind.now (written_of c.args.text.now) c.in-Blank.ensures.value (c.in_ok-put_blank-in-Blank.ensures (written_at c.pieces.alone c.in-Blank.behind.now)) c.pieces.invariant.same;
+      same = behind_blank (map written_piece c.pieces.pieces.items) _ c.pieces.alone c.pieces.rest.now c.in-Blank.behind.now (written_of c.args.text.now) c.in-Blank.ensures.value (c.in_ok-breaks-in-Blank.ensures (written_at c.pieces.alone c.in-Blank.behind.now)) c.pieces.invariant.same;
       broken = break_from (blank c.in-Blank.behind.now) c.pieces.line c.pieces.rest.now (tokens_of_text c.args.text.now).broken_at c.in-Blank.ensures.value c.pieces.invariant.broken;
       lines = omega (arith, c.in-Blank.ensures.less);
     }
