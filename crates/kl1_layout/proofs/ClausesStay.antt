@@ -2,8 +2,8 @@
 use Rattle.std.specs.Prelude.{◌≡◌, ℕ, Bool, true, false, ◌&&◌, not, if◌then◌else◌, List, [], ◌∷◌, ◌++◌, map, Option, Some, None, is_some, is_none, option_map, option_and_then}
 use Rattle.std.proofs.Common.{refl, ap, sym, ◌∙◌}
 use Rattle.std.proofs.lemmas.Option.{none-some, same_Some}
-use Rattle.kl1_model.specs.Token.{Token, Placed, Tokens, tokens_of_text}
-use Rattle.kl1_model.specs.Module.{Clause, Module, Reading, good, bad, Item, is_end, items_from, items_of, named_module, last_of, with_clause, clause_of, is_otherwise, clauses_from, module_of_items, bare_tokens}
+use Rattle.kl1_model.specs.Token.{Token, Placed, tokens_of_text}
+use Rattle.kl1_model.specs.Module.{Clause, Reading, good, bad, Item, is_end, items_from, named_module, last_of, with_clause, clause_of, is_otherwise, clauses_from, module_of_items, bare_tokens}
 use Rattle.kl1_layout.specs.Layouts.{unplaced, clauses_read, clauses_in}
 
 -- what was read, if something was

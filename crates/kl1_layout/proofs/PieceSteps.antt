@@ -2,7 +2,7 @@
 use Rattle.std.specs.Prelude.{◌≡◌, ℕ, Bool, true, false, if◌then◌else◌, List, [], ◌∷◌, ◌++◌, Option, Some, None}
 use Rattle.std.proofs.Common.{refl, ap, sym, ◌∙◌, append_assoc}
 use Rattle.std.proofs.lemmas.List.{append-nil}
-use Rattle.kl1_model.specs.Token.{Token, Front, finished, broken, line_end, blank, token, front_of, Tokens, tokens_by}
+use Rattle.kl1_model.specs.Token.{Token, Front, finished, line_end, blank, token, front_of, Tokens, tokens_by}
 use Rattle.kl1_model.specs.laws.ReadLaws.{tokens_at}
 use Rattle.kl1_model.proofs.LexSteps.{tokens_go_on}
 use Rattle.kl1_layout.specs.Written.{Written, written_token, with_first, with_comment, written_by, written_at}

@@ -1,6 +1,6 @@
 -- The tokens of a text are those that are written in it.
 use Rattle.std.specs.Prelude.{◌≡◌, ℕ, zero, suc, ◌==◌, Bool, true, false, if◌then◌else◌, List, [], ◌∷◌, length, Option, Some, None, option_map}
-use Rattle.std.proofs.Common.{refl, ap, sym, ◌∙◌}
+use Rattle.std.proofs.Common.{refl, sym, ◌∙◌}
 use Rattle.kl1_model.specs.Token.{Token, first_is, Front, finished, broken, line_end, blank, token, front_of, Tokens, tokens_by, tokens_within, tokens_of_text}
 use Rattle.kl1_layout.specs.Written.{Written, written_token, written_comment, comment_of, with_first, written_by, written_within, written_of}
 use Rattle.kl1_layout.specs.Layouts.{if_unbroken, unplaced}

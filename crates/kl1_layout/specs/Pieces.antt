@@ -1,8 +1,7 @@
 -- What the pieces of the code say of a text.
-use Rattle.std.specs.Prelude.{◌≡◌, ℕ, Bool, List, ◌++◌, Option, Some, None, map, option_map}
-use Rattle.kl1_model.specs.laws.ReadLaws.{tokens_at}
+use Rattle.std.specs.Prelude.{ℕ, List, ◌++◌, Option, option_map}
 use Rattle.kl1_read.specs.Views.{spelled_token}
-use Rattle.kl1_layout.specs.Written.{Written, written_token, written_comment, written_at, written_of}
+use Rattle.kl1_layout.specs.Written.{Written, written_token, written_comment}
 use Rattle.kl1_layout.specs.declared.piece.Kind.{Kind}
 use Rattle.kl1_layout.specs.declared.piece.Kind.TheVariants as kind
 use Rattle.kl1_layout.specs.declared.piece.Piece.{Piece}

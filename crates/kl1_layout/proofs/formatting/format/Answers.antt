@@ -1,5 +1,4 @@
-use Rattle.std.proofs.Common.{map, ◌∙◌, sym, ap}
-use Rattle.kl1_layout.specs.Written.{written_of}
+use Rattle.std.proofs.Common.{map}
 use Rattle.kl1_layout.specs.Pieces.{written_piece}
 use Rattle.kl1_layout.proofs.LayoutFacts.{layout_of}
 use Rattle.kl1_layout.proofs.formatting.format.Goals as goal

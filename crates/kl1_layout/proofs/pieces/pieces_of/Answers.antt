@@ -1,4 +1,4 @@
-use Rattle.std.proofs.Common.{add-one, map, arith, sym, ◌∙◌}
+use Rattle.std.proofs.Common.{add-one, map, arith, sym}
 use Rattle.kl1_model.specs.Token.{broken, line_end, blank, token, tokens_of_text}
 use Rattle.kl1_read.specs.Views.{spelled_token}
 use Rattle.kl1_layout.specs.Written.{written_at, written_of}
