@@ -1,3 +1,0 @@
-pub mod TestLines
-pub mod Trials
-pub mod Reports
