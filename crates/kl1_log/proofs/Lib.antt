@@ -1,0 +1,5 @@
+pub mod LinesCut
+pub mod EntriesMore
+pub mod Fronts
+pub mod DeedsDone
+pub mod Growing
