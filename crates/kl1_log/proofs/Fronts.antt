@@ -65,15 +65,13 @@ appends_are_fronts text bytes j k n was is =
 -- ---- a text that is cut
 
 -- the first lines of a journal: its heading and its names
-opening_lines : Journal → List (List ℕ)
+abbrev opening_lines : Journal → List (List ℕ)
 opening_lines j = heading_line j.rules j.sessions (length j.names) ∷ map name_line j.names
 
 opening_written : (j : Journal) → opening_text j ≡ written_lines (opening_lines j)
-unfolding opening_lines
 opening_written j = ap written_lines (append-nil (opening_lines j))
 
 lines_are : (j : Journal) → journal_lines j ≡ opening_lines j ++ map entry_line j.entries
-unfolding opening_lines
 lines_are j = refl
 
 take_map : (es : List Entry) (n : ℕ) → take n (map entry_line es) ≡ map entry_line (take n es)
@@ -108,13 +106,13 @@ take_less [] (suc k) zero h = refl
 take_less [] (suc k) (suc m) h = refl
 take_less (x ∷ xs) zero m h = refl
 take_less (x ∷ xs) (suc k) zero h = absurd (omega (arith, h))
-take_less (x ∷ xs) (suc k) (suc m) h = ap (λ (ys : List X). x ∷ ys) (take_less xs k m (omega (arith, h)))
+take_less {X = X} (x ∷ xs) (suc k) (suc m) h = ap (λ (ys : List X). x ∷ ys) (take_less xs k m (omega (arith, h)))
 
 take_min : {X : Type 0} (xs : List X) (k : ℕ) → take (min k (length xs)) xs ≡ take k xs
 take_min [] zero = refl
 take_min [] (suc k) = refl
 take_min (x ∷ xs) zero = refl
-take_min (x ∷ xs) (suc k) =
+take_min {X = X} (x ∷ xs) (suc k) =
     let is : min (suc k) (suc (length xs)) ≡ suc (min k (length xs)) = omega arith in
     ap (λ (n : ℕ). take n (x ∷ xs)) is ∙ ap (λ (ys : List X). x ∷ ys) (take_min xs k)
 

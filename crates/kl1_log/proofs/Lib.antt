@@ -3,3 +3,8 @@ pub mod EntriesMore
 pub mod Fronts
 pub mod DeedsDone
 pub mod Growing
+pub mod Moments
+pub mod Renaming
+pub mod Restoring
+pub mod Grown
+pub mod Batching

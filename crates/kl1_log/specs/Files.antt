@@ -68,9 +68,13 @@ Renamed s t = (b : Bytes) × (s.next ≡ Some b) × (t ≡ record { now = b; bef
 abbrev pub FolderSynced : FileState → FileState → Type 0
 FolderSynced s t = t ≡ record s { before = None }
 
--- the file is cut, or it is being cut: a crash may leave any length between
+-- of the bytes on the disk only the first `n` are sure
+abbrev pub loosened : ℕ → Bytes → Bytes
+loosened n b = record { synced = take n b.synced; pending = drop n b.synced ++ b.pending }
+
+-- the file is being cut: a crash may leave any length between
 abbrev pub Loosened : ℕ → FileState → FileState → Type 0
-Loosened n s t = t ≡ record s { now = record { synced = take n s.now.synced; pending = drop n s.now.synced ++ s.now.pending } }
+Loosened n s t = t ≡ record s { now = loosened n s.now }
 
 -- the file is its first `n` bytes, which are on the disk
 abbrev pub CutTo : ℕ → FileState → FileState → Type 0
@@ -86,6 +90,10 @@ HasNext s = (b : Bytes) × (s.next ≡ Some b)
 pub record Course : Type 0 where
   pub now : FileState
   pub past : List FileState
+
+-- the states of a course, the last first
+abbrev pub states : Course → List FileState
+states c = c.now ∷ c.past
 
 -- Of a file in memory all is known, and of a file of the system nothing: no contract can say what that holds.
 abbrev pub Known : Type 0
@@ -120,10 +128,6 @@ Leaves P s = (c : List ℕ) → MayLeave s c → P c
 abbrev pub LeavesIn : (List ℕ → Type 0) → List FileState → Type 0
 LeavesIn P [] = ⊤
 LeavesIn P (s ∷ ss) = Leaves P s × LeavesIn P ss
-
--- the states of a course, the last first
-abbrev pub states : Course → List FileState
-states c = c.now ∷ c.past
 
 -- A crash at any moment after the state `old` leaves a file with this property: these are the states since.
 pub record LeavesSince (old new : Course) (P : List ℕ → Type 0) : Type 0 where

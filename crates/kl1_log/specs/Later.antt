@@ -1,7 +1,8 @@
 -- How a journal grows between two resets, and up to where it was put into its file.
-use Rattle.std.specs.Prelude.{⊤, ◌≡◌, ◌⊎◌, ◌≤◌, ℕ, List, [], ◌∷◌, length, Option, Some, None}
+use Rattle.std.specs.Prelude.{⊤, ◌≡◌, ◌⊎◌, ◌≤◌, ℕ, ◌-◌, nat_lt, if◌then◌else◌, List, [], ◌∷◌, length, Option, Some, None}
+use Rattle.kl1_model_server.specs.Command.{written_line}
 use Rattle.kl1_model_server.specs.Journal.{Entry, loads, starts, sends, steps, answers, runs, Journal}
-use Rattle.kl1_model_server.specs.JournalText.{journal_lines, entry_in}
+use Rattle.kl1_model_server.specs.JournalText.{entry_line, journal_lines, entry_in}
 use Rattle.kl1_log.specs.declared.mark.Mark.{Mark}
 
 -- what may become of the last entry: it stays, or is a run and grows
@@ -53,3 +54,13 @@ run_if (Some e) = run_length e
 -- how many reductions the entry of a line has if it is a run, or else 0
 abbrev pub run_of_line : List ℕ → ℕ
 run_of_line line = run_if (entry_in line)
+
+-- how many reductions the entry of the last line has if it is a run, or else 0
+abbrev pub run_of_lines : List (List ℕ) → ℕ
+run_of_lines [] = 0
+run_of_lines (l ∷ []) = run_of_line l
+run_of_lines (l ∷ m ∷ ls) = run_of_lines (m ∷ ls)
+
+-- the line of the reductions by which a run has grown, if it has
+abbrev pub run_line : ℕ → ℕ → List ℕ
+run_line was is = if nat_lt was is then written_line (entry_line (runs (is - was))) else []

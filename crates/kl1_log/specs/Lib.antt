@@ -3,6 +3,7 @@ pub mod Later
 pub mod Cuts
 pub mod Files
 pub mod Batches
+pub mod Memories
 pub mod Waits
 pub mod Receipts
 pub mod LogFiles

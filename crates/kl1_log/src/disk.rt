@@ -1,6 +1,6 @@
 // A journal's file as the log sees it.
 
-ghost use Rattle.std.specs.Prelude.{◌≡◌, ◌≤◌, is_ok, length, None, IfOk, OnOk, OnErr, IsTrue};
+ghost use Rattle.std.specs.Prelude.{◌≡◌, ◌≤◌, Bool, is_ok, length, None, IfOk, OnOk, OnErr, IsTrue};
 ghost use Rattle.kl1_log.specs.Files.{Known, IfKnown, content, HasNext, Does, MayDo, Cuts, Appended, AppendedInPart, Synced, NextWritten, NextTouched, NextSynced, Renamed, FolderSynced, Loosened};
 
 use std::alloc::Global;

@@ -5,7 +5,7 @@ ghost use Rattle.kl1_model_server.specs.Command.{written_line, written_lines};
 ghost use Rattle.kl1_model_server.specs.Journal.{Journal, runs};
 ghost use Rattle.kl1_model_server.specs.JournalText.{entry_line, heading_line, version};
 ghost use Rattle.kl1_log.specs.Deeds.{IsFile};
-ghost use Rattle.kl1_log.specs.Later.{IsLater, IsMark, run_of_line};
+ghost use Rattle.kl1_log.specs.Later.{IsLater, IsMark, run_of_line, run_of_lines, run_line};
 
 use crate::mark::Mark;
 use itoa::Buffer;
@@ -57,27 +57,49 @@ fn put_lines(out: &mut Vec<u8>, lines: &[Vec<u8>]) -> Result<(), AllocError>
     Ok(())
 }
 
+/// How many reductions the entry of the last line has if it is a run, or else 0.
+fn last_run_of(alloc: Global, lines: &[Vec<u8>]) -> Result<u64, AllocError>
+    ensures { IfOk result (λ n. n ≡ run_of_lines (map (λ t. t.items) lines.now)) }
+{
+    let [first, others @ ..] = lines else {
+        return Ok(0);
+    };
+    let mut last = first;
+    let mut rest = others;
+    while let [next, more @ ..] = rest {
+        last = next;
+        rest = more;
+    }
+    run_of(alloc, last)
+}
+
+/// Puts the line of the reductions by which a run has grown, if it has.
+fn put_longer(out: &mut Vec<u8>, was: u64, is: u64) -> Result<(), AllocError>
+    ensures { OnOk result (out.new.items ≡ out.old.items ++ run_line was is) }
+{
+    if was < is {
+        put_run(out, is - was)?;
+    }
+    Ok(())
+}
+
 /// What the file of a journal gets after which the journal has grown to `journal`: the lines of the entries after `mark`, and, if the last
 /// entry before it was a run that is longer now, a run of the reductions that were added to it.
 pub fn grown(alloc: Global, journal: &Journal, mark: Mark) -> Result<Growth, AllocError>
     ensures file { IfOk result (λ growth. (old : Journal) (text : List ℕ) → IsMark mark old → IsLater old journal.now.journal → IsFile text old → IsFile (text ++ growth.bytes.items) journal.now.journal) }
     ensures mark { IfOk result (λ growth. (old : Journal) → IsMark mark old → IsLater old journal.now.journal → IsMark growth.mark journal.now.journal) }
 {
-    let lines = journal.page(alloc, mark.lines, u64::MAX)?;
+    // This is called for the fact that it proves: the journal has a text that reads back.
+    journal.shows_written();
+    let page = journal.page(alloc, mark.lines, u64::MAX)?;
     let mut bytes = Vec::new(alloc);
-    let [last, more @ ..] = lines.texts() else {
+    let [last, more @ ..] = page.texts() else {
         return Ok(Growth { bytes, mark });
     };
-    let run = run_of(alloc, last)?;
-    if mark.run < run {
-        put_run(&mut bytes, run - mark.run)?;
-    }
+    put_longer(&mut bytes, mark.run, run_of(alloc, last)?)?;
     put_lines(&mut bytes, more)?;
-    let run = match more {
-        [] => run,
-        [.., newest] => run_of(alloc, newest)?,
-    };
-    let lines = mark.lines.saturating_add(more.len() as u64);
+    let run = last_run_of(alloc, page.texts())?;
+    let lines = mark.lines.checked_add(more.len() as u64).ok_or(AllocError)?;
     Ok(Growth {
         bytes,
         mark: Mark { lines, run },
@@ -114,21 +136,18 @@ pub fn begun(alloc: Global, journal: &Journal) -> Result<Growth, AllocError>
 {
     // This is called for the fact that it proves: the journal has a text that reads back.
     journal.shows_written();
-    let lines = journal.text_lines(alloc)?;
+    let text = journal.text_lines(alloc)?;
+    let [first, more @ ..] = text.texts() else {
+        return Err(AllocError);
+    };
+    let Some(heading) = heading_of(first) else {
+        return Err(AllocError);
+    };
     let mut bytes = Vec::new(alloc);
-    let mut run = 0;
-    if let [first, more @ ..] = lines.texts() {
-        let names = match heading_of(first) {
-            Some(heading) => heading.names,
-            None => 0,
-        };
-        put_heading(&mut bytes, journal.rules(), names)?;
-        put_lines(&mut bytes, more)?;
-        if let [.., newest] = more {
-            run = run_of(alloc, newest)?;
-        }
-    }
-    let lines = lines.len() as u64;
+    put_heading(&mut bytes, journal.rules(), heading.names)?;
+    put_lines(&mut bytes, more)?;
+    let run = last_run_of(alloc, text.texts())?;
+    let lines = text.len() as u64;
     Ok(Growth {
         bytes,
         mark: Mark { lines, run },

@@ -37,6 +37,7 @@ pub struct LogFile<D: Disk> {
 }
 
 /// Puts bytes after those of a file that is at rest, and has them on disk.
+#[tactic(auto, using(crate::proofs::Moments::append_failed, crate::proofs::Moments::sync_failed, crate::proofs::Moments::appended_moments, crate::proofs::Moments::appended_rests))]
 fn append<D: Disk>(disk: &mut D, bytes: &[u8]) -> io::Result<()>
     requires usable { IsTrue (D.is_usable disk.old) }
     requires at_rest { IsTrue (is_at_rest (D.known disk.old)) }
@@ -46,7 +47,8 @@ fn append<D: Disk>(disk: &mut D, bytes: &[u8]) -> io::Result<()>
     ensures usable { D.is_usable disk.new ≡ is_ok result }
 {
     disk.append(bytes)?;
-    disk.sync()
+    disk.sync()?;
+    Ok(())
 }
 
 /// Puts other bytes in place of those of a file that is at rest, and has them on disk: first under another name, since a crash may leave
@@ -62,7 +64,24 @@ fn begin<D: Disk>(disk: &mut D, bytes: &[u8]) -> io::Result<()>
     disk.write_next(bytes)?;
     disk.sync_next()?;
     disk.rename()?;
-    disk.sync_folder()
+    disk.sync_folder()?;
+    Ok(())
+}
+
+/// Makes a change to a file that is at rest, and has it on disk.
+#[tactic(auto, using(crate::proofs::Batching::appends_so, crate::proofs::Batching::begins_so))]
+fn make<D: Disk>(disk: &mut D, change: &Change) -> io::Result<()>
+    requires usable { IsTrue (D.is_usable disk.old) }
+    requires at_rest { IsTrue (is_at_rest (D.known disk.old)) }
+    ensures at_rest { OnOk result (IsTrue (is_at_rest (D.known disk.new))) }
+    ensures text { OnOk result (text_of (D.known disk.new) ≡ option_map (λ text. text_after text change.now) (text_of (D.known disk.old))) }
+    ensures any_moment { AtAnyMoment (D.known disk.old) (D.known disk.new) (IsLeftOfKnown (D.known disk.old) change.now) }
+    ensures usable { D.is_usable disk.new ≡ is_ok result }
+{
+    match change {
+        Change::Appends(bytes) => append(disk, bytes),
+        Change::Begins(bytes) => begin(disk, bytes),
+    }
 }
 
 /// Reads a file that a crash may have left. If its whole lines are a journal, it is cut to them, and they are on disk; otherwise nothing is
@@ -115,11 +134,7 @@ impl<D: Disk> LogFile<D> {
         if batch.account != self.account || batch.taken != self.changes {
             return Err(LogError::NotNext);
         }
-        let written = match &batch.change {
-            Change::Appends(bytes) => append(&mut self.disk, bytes),
-            Change::Begins(bytes) => begin(&mut self.disk, bytes),
-        };
-        if let Err(error) = written {
+        if let Err(error) = make(&mut self.disk, &batch.change) {
             return Err(LogError::Failed(error));
         }
         self.changes = batch.noted;

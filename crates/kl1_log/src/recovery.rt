@@ -51,8 +51,7 @@ pub(crate) struct Front {
 }
 
 /// The text's heading and the lines of its names, or its whole lines if there are fewer; `None` if its first line is no heading.
-fn opening(text: &[u8]) -> Option<Front>
-{
+fn opening(text: &[u8]) -> Option<Front> {
     let (line, mut rest) = next_line(text)?;
     let heading = heading_of(line)?;
     let mut lines = 1;
@@ -63,12 +62,14 @@ fn opening(text: &[u8]) -> Option<Front>
         lines += 1;
         rest = after;
     }
-    Some(Front { lines, bytes: text.len() - rest.len() })
+    Some(Front {
+        lines,
+        bytes: text.len() - rest.len(),
+    })
 }
 
 /// The lines of a text before the first of those after `front` that is no entry.
-fn good_lines(alloc: Global, text: &[u8], front: Front) -> Result<Front, AllocError>
-{
+fn good_lines(alloc: Global, text: &[u8], front: Front) -> Result<Front, AllocError> {
     let mut lines = front.lines;
     let mut rest = &text[front.bytes..];
     while let Some((line, after)) = next_line(rest) {
@@ -78,7 +79,10 @@ fn good_lines(alloc: Global, text: &[u8], front: Front) -> Result<Front, AllocEr
         lines += 1;
         rest = after;
     }
-    Ok(Front { lines, bytes: text.len() - rest.len() })
+    Ok(Front {
+        lines,
+        bytes: text.len() - rest.len(),
+    })
 }
 
 /// Where the fault of a text is whose whole lines are no journal.
@@ -94,7 +98,10 @@ fn fault_in(alloc: Global, text: &[u8]) -> Result<Found, AllocError>
     }
     let good = good_lines(alloc, text, front)?;
     match Journal::read(alloc, &text[..good.bytes])? {
-        Some(before) => Ok(Found::Fault { line: good.lines + 1, before }),
+        Some(before) => Ok(Found::Fault {
+            line: good.lines + 1,
+            before,
+        }),
         None => Ok(Found::Unopened),
     }
 }
