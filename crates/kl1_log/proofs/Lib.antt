@@ -6,5 +6,6 @@ pub mod Growing
 pub mod Moments
 pub mod Renaming
 pub mod Restoring
-pub mod Grown
+pub mod GrownFiles
 pub mod Batching
+pub mod Faults

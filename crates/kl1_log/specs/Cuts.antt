@@ -1,8 +1,8 @@
 -- What is left of a journal's text that ends too early.
-use Rattle.std.specs.Prelude.{◌≡◌, ℕ, suc, ◌-◌, List, [], ◌∷◌, length, take, Option, Some, None, slice_get, option_and_then}
+use Rattle.std.specs.Prelude.{◌≡◌, ℕ, suc, ◌-◌, List, [], ◌∷◌, length, take, Option, Some, None, option_and_then}
 use Rattle.kl1_model_server.specs.Command.{written_lines}
 use Rattle.kl1_model_server.specs.Journal.{Journal, new_journal}
-use Rattle.kl1_model_server.specs.JournalText.{lines_of, entry_in, heading_in, journal_of}
+use Rattle.kl1_model_server.specs.JournalText.{lines_of, heading_in, journal_of}
 use Rattle.kl1_model_server.specs.laws.TextLaws.{journal_text}
 use Rattle.kl1_log.specs.declared.recovery.Found.{Found}
 use Rattle.kl1_log.specs.declared.recovery.Found.TheVariants.{Whole, Fault, Unopened}
@@ -27,20 +27,18 @@ opening_text j = journal_text (new_journal j.rules j.names j.sessions)
 abbrev pub front_of : Journal → ℕ → Journal
 front_of j n = record j { entries = take n j.entries }
 
--- line `line` of a text, the first being 1, is the first that is no entry: the lines before it are this journal
+-- line `line` of a text, the first being 1, is at fault: the lines before it are this journal, and with it they are none
 pub record IsFault (text : List ℕ) (line : ℕ) (before : Journal) : Type 0 where
   pub good : journal_of (take (line - 1) (whole_lines text)) ≡ Some before
-  pub bad : List ℕ
-  pub there : slice_get (whole_lines text) (line - 1) ≡ Some bad
-  pub none : entry_in bad ≡ None
+  pub bad : journal_of (take line (whole_lines text)) ≡ None
 
 -- the journal of a text's first lines: its heading and as many names as that tells
 abbrev pub opening_of : List (List ℕ) → Option Journal
 opening_of [] = None
 opening_of (line ∷ lines) = option_and_then (λ h. journal_of (take (suc h.names) (line ∷ lines))) (heading_in line)
 
--- what is found in the bytes of a file: the journal of its whole lines, and how many bytes these are; the first line that is no entry, with
--- the journal of those before it; or that the heading or a name is at fault
+-- what is found in the bytes of a file: the journal of its whole lines, and how many bytes these are; the line at fault, with the
+-- journal of those before it; or that the heading or a name is at fault
 abbrev pub IsFound : List ℕ → Found → Type 0
 IsFound text (Whole journal bytes) = (recovered text ≡ Some journal.journal) × (bytes ≡ length (whole_text text)) × (take bytes text ≡ whole_text text)
 IsFound text (Fault line before) = IsFault text line before.journal

@@ -1,9 +1,10 @@
 // What is read from the bytes of a file.
 
-ghost use Rattle.std.specs.Prelude.{◌≡◌, ◌≤◌, length, take, None, IfOk};
-ghost use Rattle.kl1_log.specs.Cuts.{whole_text, recovered, IsFound};
+ghost use Rattle.std.specs.Prelude.{◌≡◌, ◌<◌, ◌≤◌, ◌+◌, length, take, true, false, None, is_some, IfOk, IsNone, IfSome};
+ghost use Rattle.kl1_model_server.specs.JournalText.{journal_of, journal_in};
+ghost use Rattle.kl1_log.specs.Cuts.{whole_lines, whole_text, recovered, opening_of, IsFound};
 
-use kl1_journal_entries::{Journal, entry_of, heading_of, next_line};
+use kl1_journal_entries::{Journal, heading_of, next_line};
 use std::alloc::{AllocError, Global};
 
 /// What is found in the bytes of a file.
@@ -11,7 +12,7 @@ use std::alloc::{AllocError, Global};
 pub enum Found {
     /// The journal of the whole lines, and how many bytes these are.
     Whole { journal: Journal, bytes: usize },
-    /// The first line that is no entry, the first of all being 1, and the journal of the lines before it.
+    /// The first line, the first of all being 1, with which the lines are no journal, and the journal of those before it.
     Fault { line: u64, before: Journal },
     /// The heading or a name is at fault, or missing.
     Unopened,
@@ -41,65 +42,72 @@ pub fn recover(alloc: Global, text: &[u8]) -> Result<Found, AllocError>
     }
 }
 
-/// A text up to one of its lines.
-#[derive(Clone, Copy)]
-pub(crate) struct Front {
-    /// How many lines there are.
-    lines: u64,
-    /// How many bytes they are.
-    bytes: usize,
-}
-
-/// The text's heading and the lines of its names, or its whole lines if there are fewer; `None` if its first line is no heading.
-fn opening(text: &[u8]) -> Option<Front> {
-    let (line, mut rest) = next_line(text)?;
-    let heading = heading_of(line)?;
-    let mut lines = 1;
-    for _ in 0..heading.names {
+/// The first `lines` whole lines of a text, or all of them if there are fewer.
+fn front(text: &[u8], lines: u64) -> &[u8]
+    ensures { journal_in result.now ≡ journal_of (take lines (whole_lines text.now)) }
+{
+    let mut rest = text;
+    let mut count = 0;
+    while count < lines {
         let Some((_, after)) = next_line(rest) else {
-            break;
+            return &text[..text.len() - rest.len()];
         };
-        lines += 1;
         rest = after;
+        count += 1;
     }
-    Some(Front {
-        lines,
-        bytes: text.len() - rest.len(),
-    })
+    &text[..text.len() - rest.len()]
 }
 
-/// The lines of a text before the first of those after `front` that is no entry.
-fn good_lines(alloc: Global, text: &[u8], front: Front) -> Result<Front, AllocError> {
-    let mut lines = front.lines;
-    let mut rest = &text[front.bytes..];
-    while let Some((line, after)) = next_line(rest) {
-        if entry_of(alloc, line)?.is_none() {
-            break;
+/// How many lines of a text are its heading and its names, as the heading tells; `None` if there is no heading.
+fn count_opening(text: &[u8]) -> Option<u64>
+    ensures none { IsNone result → opening_of (whole_lines text.now) ≡ None }
+    ensures some { IfSome result (λ n. opening_of (whole_lines text.now) ≡ journal_of (take n (whole_lines text.now))) }
+{
+    let (line, _) = next_line(text)?;
+    let heading = heading_of(line)?;
+    Some(heading.names + 1)
+}
+
+/// The number of lines before a fault, if the first `low` lines of a text are a journal and the first `high` aren't.
+fn count_good(alloc: Global, text: &[u8], low: u64, high: u64) -> Result<u64, AllocError>
+    requires low { is_some (journal_of (take low (whole_lines text.now))) ≡ true }
+    requires high { is_some (journal_of (take high (whole_lines text.now))) ≡ false }
+    requires order { low < high }
+    ensures good { IfOk result (λ n. is_some (journal_of (take n (whole_lines text.now))) ≡ true) }
+    ensures bad { IfOk result (λ n. is_some (journal_of (take (n + 1) (whole_lines text.now))) ≡ false) }
+    ensures few { IfOk result (λ n. n < high) }
+{
+    let mut good = low;
+    let mut bad = high;
+    while 1 < bad - good {
+        let middle = good + (bad - good) / 2;
+        if Journal::read(alloc, front(text, middle))?.is_some() {
+            good = middle;
+        } else {
+            bad = middle;
         }
-        lines += 1;
-        rest = after;
     }
-    Ok(Front {
-        lines,
-        bytes: text.len() - rest.len(),
-    })
+    Ok(good)
 }
 
-/// Where the fault of a text is whose whole lines are no journal.
+/// Where the fault of a text is whose whole lines are no journal: between two lines of which the first ends a journal, which is found by
+/// halves.
 fn fault_in(alloc: Global, text: &[u8]) -> Result<Found, AllocError>
     requires { recovered text.now ≡ None }
     ensures { IfOk result (λ found. IsFound text.now found) }
 {
-    let Some(front) = opening(text) else {
+    let Some(opening) = count_opening(text) else {
         return Ok(Found::Unopened);
     };
-    if Journal::read(alloc, &text[..front.bytes])?.is_none() {
+    // There are no more lines than bytes.
+    let all = text.len() as u64;
+    if opening >= all || Journal::read(alloc, front(text, opening))?.is_none() {
         return Ok(Found::Unopened);
     }
-    let good = good_lines(alloc, text, front)?;
-    match Journal::read(alloc, &text[..good.bytes])? {
+    let good = count_good(alloc, text, opening, all)?;
+    match Journal::read(alloc, front(text, good))? {
         Some(before) => Ok(Found::Fault {
-            line: good.lines + 1,
+            line: good + 1,
             before,
         }),
         None => Ok(Found::Unopened),

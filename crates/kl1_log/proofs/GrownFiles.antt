@@ -222,11 +222,11 @@ pub record IsPage (was : Journal) (j : Journal) (run : ℕ) (last : List ℕ) (m
   pub lines : run_line run (run_of_line last) ++ written_lines more ≡ written_lines (map entry_line put)
   pub newest : run_of_lines (last ∷ more) ≡ last_run j.entries
 
-first_is : (a b : List ℕ) (as bs : List (List ℕ)) → a ∷ as ≡ b ∷ bs → a ≡ b
-first_is a b as bs h = ap (λ (ls : List (List ℕ)). elim ls [ [] ↦ a | x ∷ xs ↦ x ]) h
+first_is : (a b : List ℕ) (xs ys : List (List ℕ)) → a ∷ xs ≡ b ∷ ys → a ≡ b
+first_is a b xs ys h = ap (λ (ls : List (List ℕ)). elim ls [ [] ↦ a | x ∷ rest ↦ x ]) h
 
-others_are : (a b : List ℕ) (as bs : List (List ℕ)) → a ∷ as ≡ b ∷ bs → as ≡ bs
-others_are a b as bs h = ap (λ (ls : List (List ℕ)). elim ls [ [] ↦ as | x ∷ xs ↦ xs ]) h
+others_are : (a b : List ℕ) (xs ys : List (List ℕ)) → a ∷ xs ≡ b ∷ ys → xs ≡ ys
+others_are a b xs ys h = ap (λ (ls : List (List ℕ)). elim ls [ [] ↦ xs | x ∷ rest ↦ rest ]) h
 
 -- no entry was there
 page_opens : (old j : Journal) (m : Mark) (last : List ℕ) (more : List (List ℕ)) → IsWritten j → IsMark m old → IsLater old j → old.entries ≡ [] → last ∷ more ≡ drop (m.lines - 1) (journal_lines j) → IsPage old j m.run last more
