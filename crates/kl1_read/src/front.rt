@@ -21,7 +21,7 @@ use kl1_model::limits::{MOST_VARIABLE_BYTES, NUMBER_LIMIT};
 use kl1_text::{AtomText, decimal_up_to};
 
 /// What stands in front of a text, with what is after it.
-pub(crate) enum Front<'a> {
+pub enum Front<'a> {
     /// The text is at its end.
     Finished,
     /// A byte or more that are no token.
@@ -35,7 +35,7 @@ pub(crate) enum Front<'a> {
 }
 
 /// What stands in front of a text.
-pub(crate) fn front_of(bytes: &[u8]) -> Front<'_>
+pub fn front_of(bytes: &[u8]) -> Front<'_>
     ensures value { front_view result ≡ front_of bytes.now }
     ensures less { LeavesLess (length bytes.now) (front_view result) }
 {

@@ -46,8 +46,10 @@ mod whole_text;
 mod words;
 
 pub use clause_parts::{ClauseParts, GoalParts};
+pub use front::{Front, front_of};
 pub use goal_kinds::is_goal;
 pub use goals::read_goal;
 pub use modules::read_module;
 pub use read_fault::ReadFault;
 pub use source::Source;
+pub use spelled::Spelled;

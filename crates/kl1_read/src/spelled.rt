@@ -8,7 +8,7 @@ use kl1_text::AtomText;
 
 /// A token whose variables are known by their spellings.
 #[derive(Clone, Copy)]
-pub(crate) enum Spelled {
+pub enum Spelled {
     /// A name, whether it stood in quotes, and whether a `(` stands directly after it.
     Name(AtomText, bool, bool),
     /// A variable.
