@@ -1,5 +1,5 @@
 -- What is left of a journal's text that ends too early.
-use Rattle.std.specs.Prelude.{◌≡◌, ℕ, suc, ◌-◌, List, [], ◌∷◌, length, take, Option, Some, None, option_and_then}
+use Rattle.std.specs.Prelude.{◌≡◌, ℕ, suc, ◌-◌, Bool, true, false, List, [], ◌∷◌, length, take, Option, Some, None, option_and_then}
 use Rattle.kl1_model_server.specs.Command.{written_lines}
 use Rattle.kl1_model_server.specs.Journal.{Journal, new_journal}
 use Rattle.kl1_model_server.specs.JournalText.{lines_of, heading_in, journal_of}
@@ -43,3 +43,9 @@ abbrev pub IsFound : List ℕ → Found → Type 0
 IsFound text (Whole journal bytes) = (recovered text ≡ Some journal.journal) × (bytes ≡ length (whole_text text)) × (take bytes text ≡ whole_text text)
 IsFound text (Fault line before) = IsFault text line before.journal
 IsFound text Unopened = opening_of (whole_lines text) ≡ None
+
+-- whether the whole lines of a file were found to be a journal
+abbrev pub is_whole : Found → Bool
+is_whole (Whole journal bytes) = true
+is_whole (Fault line before) = false
+is_whole Unopened = false

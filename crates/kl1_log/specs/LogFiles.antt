@@ -1,11 +1,9 @@
 -- What the file of an account's journal shows.
-use Rattle.std.specs.Prelude.{ℕ, Bool, true, false, Result, Ok, Err, ⊤}
+use Rattle.std.specs.Prelude.{⊤, ℕ, Result, Ok, Err}
 use Rattle.kl1_log.specs.declared.disk.Disk as disk
 use Rattle.kl1_log.specs.declared.log_file.LogFile.{LogFile}
-use Rattle.kl1_log.specs.declared.log_file.LogError.{LogError}
-use Rattle.kl1_log.specs.declared.log_file.LogError.TheVariants.{Stopped, NotNext, Failed}
-use Rattle.kl1_log.specs.declared.recovery.Found.{Found}
-use Rattle.kl1_log.specs.declared.recovery.Found.TheVariants.{Whole, Fault, Unopened}
+use Rattle.kl1_log.specs.declared.log_error.LogError.{LogError}
+use Rattle.kl1_log.specs.declared.log_error.LogError.TheVariants.{Stopped, NotNext, Failed}
 
 module _ {D : Type 0} {g : disk.Ghosts D} where
   -- the disk
@@ -19,12 +17,6 @@ module _ {D : Type 0} {g : disk.Ghosts D} where
   -- how many changes are on disk
   abbrev pub changes_of : LogFile D g → ℕ
   changes_of f = f.changes
-
--- whether the whole lines of a file were found to be a journal
-abbrev pub is_whole : Found → Bool
-is_whole (Whole journal bytes) = true
-is_whole (Fault line before) = false
-is_whole Unopened = false
 
 -- a call of the file failed
 abbrev pub IsFailed : {T : Type 0} → Result T LogError → Type 0

@@ -8,11 +8,15 @@ mod change;
 mod disk;
 mod folder_file;
 mod growth;
+mod log_error;
 mod log_file;
+mod making;
 mod mark;
 mod memory;
 mod receipt;
 mod recovery;
+mod reopening;
+mod scribe;
 mod waiting;
 
 pub use batch::Batch;
@@ -20,11 +24,13 @@ pub use change::Change;
 pub use disk::Disk;
 pub use folder_file::FolderFile;
 pub use growth::{Growth, begun, grown};
-pub use log_file::{LogError, LogFile, restore};
+pub use log_error::LogError;
+pub use log_file::LogFile;
 pub use mark::Mark;
 pub use memory::Memory;
 pub use receipt::{Receipt, Unsent};
 pub use recovery::{Found, recover};
+pub use reopening::restore;
 pub use waiting::Waiting;
 
 /// Of a journal's text that is cut at any byte after its opening there is recovered a front of the journal, with each entry whose line is

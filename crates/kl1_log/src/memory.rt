@@ -1,7 +1,7 @@
 // A journal's file in memory, for tests.
 
-ghost use Rattle.std.specs.Prelude.{◌≡◌, length, true, OnOk, OnErr, IfOk, is_ok, option_map};
-ghost use Rattle.kl1_log.specs.Files.{content, settled, loosened, states};
+ghost use Rattle.std.specs.Prelude.{◌≡◌, true, IfSome, OnOk, OnErr, IfOk, is_ok, option_map};
+ghost use Rattle.kl1_log.specs.Files.{MayLeave, content, settled, loosened, states};
 ghost use Rattle.kl1_log.specs.Memories.{bytes_of, state_of, course_of, memory_bytes, is_usable_memory};
 
 use crate::disk::Disk;
@@ -18,7 +18,7 @@ pub(crate) struct Image {
 /// What stands under a name, what a crash may bring back there, and what stands beside it.
 #[derive(Drop)]
 pub(crate) struct Snapshot {
-    now: Image,
+    held: Image,
     before: Option<Image>,
     next: Option<Image>,
 }
@@ -28,7 +28,7 @@ pub(crate) struct Snapshot {
 #[derive(Drop)]
 pub struct Memory {
     alloc: Global,
-    now: Snapshot,
+    state: Snapshot,
     past: Vec<Snapshot>,
     left: usize,
     usable: bool,
@@ -57,10 +57,10 @@ fn copy_if(alloc: Global, image: &Option<Image>) -> Result<Option<Image>, AllocE
 fn snapshot_of(alloc: Global, snapshot: &Snapshot) -> Result<Snapshot, AllocError>
     ensures { IfOk result (λ copy. state_of copy ≡ state_of snapshot.now) }
 {
-    let now = copy_of(alloc, &snapshot.now)?;
+    let held = copy_of(alloc, &snapshot.held)?;
     let before = copy_if(alloc, &snapshot.before)?;
     let next = copy_if(alloc, &snapshot.next)?;
-    Ok(Snapshot { now, before, next })
+    Ok(Snapshot { held, before, next })
 }
 
 /// Puts the bytes that aren't on the disk yet after those that are.
@@ -96,14 +96,14 @@ impl Memory {
         ensures bytes { memory_bytes result ≡ bytes.items }
         ensures usable { is_usable_memory result ≡ true }
     {
-        let now = Image {
+        let held = Image {
             synced: bytes,
             pending: Vec::new(alloc),
         };
         Memory {
             alloc,
-            now: Snapshot {
-                now,
+            state: Snapshot {
+                held,
                 before: None,
                 next: None,
             },
@@ -120,7 +120,7 @@ impl Memory {
         ensures usable { is_usable_memory self.new ≡ is_usable_memory self.old }
     {
         self.past.reserve(1)?;
-        self.past.push_reserved(mem::replace(&mut self.now, next));
+        self.past.push_reserved(mem::replace(&mut self.state, next));
         Ok(())
     }
 
@@ -138,11 +138,23 @@ impl Memory {
         Ok(())
     }
 
-    /// How many states there were, with the one of now.
-    pub fn moments(&self) -> usize
-        ensures { result ≡ length (states (course_of self.now)) }
+    /// What a crash may leave now: the bytes on the disk, and the first `pending` of those after them; if `undone`, of the file that the last
+    /// renaming has put away. `None` if no renaming may be undone.
+    pub fn left_by_crash(&self, pending: usize, undone: bool) -> Result<Option<Vec<u8>>, AllocError>
+        ensures { IfOk result (λ left. IfSome left (λ bytes. MayLeave (course_of self.now).now bytes.items)) }
     {
-        self.past.len() + 1
+        let image = if undone {
+            match &self.state.before {
+                None => return Ok(None),
+                Some(image) => image,
+            }
+        } else {
+            &self.state.held
+        };
+        let count = pending.min(image.pending.len());
+        let mut bytes = Vec::from_slice(self.alloc, &image.synced)?;
+        bytes.extend_from_slice(&image.pending[..count])?;
+        Ok(Some(bytes))
     }
 }
 
@@ -161,8 +173,8 @@ impl Disk for Memory {
     fn read(&mut self, alloc: Global) -> io::Result<Vec<u8>> {
         self.pay()?;
         self.usable = false;
-        let mut bytes = Vec::from_slice(alloc, &self.now.now.synced)?;
-        bytes.extend_from_slice(&self.now.now.pending)?;
+        let mut bytes = Vec::from_slice(alloc, &self.state.held.synced)?;
+        bytes.extend_from_slice(&self.state.held.pending)?;
         self.usable = true;
         Ok(bytes)
     }
@@ -171,8 +183,8 @@ impl Disk for Memory {
         self.usable = false;
         let count = bytes.len().min(self.left);
         self.left -= count;
-        let mut next = snapshot_of(self.alloc, &self.now)?;
-        next.now.pending.extend_from_slice(&bytes[..count])?;
+        let mut next = snapshot_of(self.alloc, &self.state)?;
+        next.held.pending.extend_from_slice(&bytes[..count])?;
         self.go_to(next)?;
         if count < bytes.len() {
             return Err(failure());
@@ -183,8 +195,8 @@ impl Disk for Memory {
     fn sync(&mut self) -> io::Result<()> {
         self.pay()?;
         self.usable = false;
-        let mut next = snapshot_of(self.alloc, &self.now)?;
-        settle(&mut next.now)?;
+        let mut next = snapshot_of(self.alloc, &self.state)?;
+        settle(&mut next.held)?;
         self.go_to(next)?;
         self.usable = true;
         Ok(())
@@ -193,11 +205,11 @@ impl Disk for Memory {
     fn cut(&mut self, len: usize) -> io::Result<()> {
         self.pay()?;
         self.usable = false;
-        let mut loose = snapshot_of(self.alloc, &self.now)?;
-        loosen(self.alloc, &mut loose.now, len)?;
-        let mut next = snapshot_of(self.alloc, &self.now)?;
-        settle(&mut next.now)?;
-        next.now.synced.truncate(len);
+        let mut loose = snapshot_of(self.alloc, &self.state)?;
+        loosen(self.alloc, &mut loose.held, len)?;
+        let mut next = snapshot_of(self.alloc, &self.state)?;
+        settle(&mut next.held)?;
+        next.held.synced.truncate(len);
         self.past.reserve(2)?;
         self.go_to(loose)?;
         self.go_to(next)?;
@@ -209,7 +221,7 @@ impl Disk for Memory {
         self.usable = false;
         let count = bytes.len().min(self.left);
         self.left -= count;
-        let mut next = snapshot_of(self.alloc, &self.now)?;
+        let mut next = snapshot_of(self.alloc, &self.state)?;
         let pending = Vec::from_slice(self.alloc, &bytes[..count])?;
         next.next = Some(Image {
             synced: Vec::new(self.alloc),
@@ -225,7 +237,7 @@ impl Disk for Memory {
     fn sync_next(&mut self) -> io::Result<()> {
         self.pay()?;
         self.usable = false;
-        let mut next = snapshot_of(self.alloc, &self.now)?;
+        let mut next = snapshot_of(self.alloc, &self.state)?;
         if let Some(image) = &mut next.next {
             settle(image)?;
         }
@@ -237,13 +249,13 @@ impl Disk for Memory {
     fn rename(&mut self) -> io::Result<()> {
         self.pay()?;
         self.usable = false;
-        let Snapshot { now, next, .. } = snapshot_of(self.alloc, &self.now)?;
+        let Snapshot { held, next, .. } = snapshot_of(self.alloc, &self.state)?;
         let Some(new) = next else {
             return Err(failure());
         };
         self.go_to(Snapshot {
-            now: new,
-            before: Some(now),
+            held: new,
+            before: Some(held),
             next: None,
         })?;
         self.usable = true;
@@ -253,7 +265,7 @@ impl Disk for Memory {
     fn sync_folder(&mut self) -> io::Result<()> {
         self.pay()?;
         self.usable = false;
-        let mut next = snapshot_of(self.alloc, &self.now)?;
+        let mut next = snapshot_of(self.alloc, &self.state)?;
         next.before = None;
         self.go_to(next)?;
         self.usable = true;

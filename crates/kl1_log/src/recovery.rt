@@ -19,6 +19,7 @@ pub enum Found {
 }
 
 /// How many bytes the whole lines of a text are.
+#[tactic(auto, using(crate::proofs::Faults::whole_count))]
 fn count_whole(text: &[u8]) -> usize
     ensures count { result ≡ length (whole_text text.now) }
     ensures front { take result text.now ≡ whole_text text.now }
@@ -43,6 +44,7 @@ pub fn recover(alloc: Global, text: &[u8]) -> Result<Found, AllocError>
 }
 
 /// The first `lines` whole lines of a text, or all of them if there are fewer.
+#[tactic(auto, using(crate::proofs::Faults::split_begins, crate::proofs::Faults::split_goes_on, crate::proofs::Faults::front_whole, crate::proofs::Faults::front_short))]
 fn front(text: &[u8], lines: u64) -> &[u8]
     ensures { journal_in result.now ≡ journal_of (take lines (whole_lines text.now)) }
 {
@@ -59,6 +61,7 @@ fn front(text: &[u8], lines: u64) -> &[u8]
 }
 
 /// How many lines of a text are its heading and its names, as the heading tells; `None` if there is no heading.
+#[tactic(auto, using(crate::proofs::Faults::opening_is, crate::proofs::Faults::no_heading, crate::proofs::Faults::no_lines))]
 fn count_opening(text: &[u8]) -> Option<u64>
     ensures none { IsNone result → opening_of (whole_lines text.now) ≡ None }
     ensures some { IfSome result (λ n. opening_of (whole_lines text.now) ≡ journal_of (take n (whole_lines text.now))) }

@@ -1,7 +1,7 @@
 // What of a journal waits for its file.
 
 ghost use Rattle.std.specs.Prelude.{◌≡◌, ℕ, List, IfOk, OnOk, OnErr};
-ghost use Rattle.kl1_model_server.specs.Journal.{Journal};
+ghost use Rattle.kl1_model_server.specs.Journal as model;
 ghost use Rattle.kl1_log.specs.Deeds.{IsFile};
 ghost use Rattle.kl1_log.specs.Later.{IsLater};
 ghost use Rattle.kl1_log.specs.Batches.{text_after};
@@ -47,7 +47,7 @@ impl Waiting {
 
     /// Notes what has come to the journal by events that are no reset.
     pub fn note(&mut self, journal: &Journal) -> Result<(), AllocError>
-        ensures ok { OnOk result ((text : List ℕ) (old : Journal) → IsUpTo self.old text old → IsLater old journal.now.journal → IsUpTo self.new text journal.now.journal) }
+        ensures ok { OnOk result ((text : List ℕ) (old : model.Journal) → IsUpTo self.old text old → IsLater old journal.now.journal → IsUpTo self.new text journal.now.journal) }
         ensures count { OnOk result (CountsOn self.old self.new) }
         ensures err { OnErr result (Keeps self.old self.new) }
     {
@@ -78,7 +78,7 @@ impl Waiting {
 
     /// Takes what waits, after which nothing does.
     pub fn take(&mut self) -> Batch
-        ensures file { (text : List ℕ) (j : Journal) → IsUpTo self.old text j → IsUpTo self.new (text_after text result.change) j }
+        ensures file { (text : List ℕ) (j : model.Journal) → IsUpTo self.old text j → IsUpTo self.new (text_after text result.change) j }
         ensures taken { IsTaken self.old self.new result }
     {
         let change = mem::replace(&mut self.change, Change::Appends(Vec::new(self.alloc)));

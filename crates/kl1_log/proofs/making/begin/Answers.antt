@@ -1,5 +1,5 @@
 use Rattle.kl1_log.proofs.Renaming.{write_failed, beside_next, sync_failed, ready_next, ready_before, rename_failed, folder_failed, begun_moments, begun_rests}
-use Rattle.kl1_log.proofs.log_file.begin.Goals as goal
+use Rattle.kl1_log.proofs.making.begin.Goals as goal
 
 pub returns-in_err-write_next-clause-any_moment : goal.returns-in_err-write_next-clause-any_moment
 returns-in_err-write_next-clause-any_moment g c =

@@ -1,0 +1,30 @@
+// A file that a crash may have left.
+
+ghost use Rattle.std.specs.Prelude.{◌≡◌, None, IfOk, OnOk, IsTrue, false, option_map};
+ghost use Rattle.kl1_log.specs.Files.{IfKnown, content, AtAnyMoment, is_at_rest};
+ghost use Rattle.kl1_log.specs.Batches.{text_of, IsLeftOfCut};
+ghost use Rattle.kl1_log.specs.Cuts.{whole_text, is_whole, IsFound};
+
+use crate::disk::Disk;
+use crate::recovery::{Found, recover};
+use std::alloc::Global;
+use std::io;
+
+/// Reads a file that a crash may have left. If its whole lines are a journal, it is cut to them, and they are on disk; otherwise nothing is
+/// changed.
+pub fn restore<D: Disk>(alloc: Global, disk: &mut D) -> io::Result<Found>
+    requires usable { IsTrue (D.is_usable disk.old) }
+    requires before { IfKnown (D.known disk.old) (λ s. s.before ≡ None) }
+    ensures found { IfOk result (λ found. IfKnown (D.known disk.old) (λ s. IsFound (content s.now) found)) }
+    ensures whole { IfOk result (λ found. IsTrue (is_whole found) → IsTrue (is_at_rest (D.known disk.new)) × (text_of (D.known disk.new) ≡ option_map whole_text (text_of (D.known disk.old)))) }
+    ensures other { IfOk result (λ found. is_whole found ≡ false → D.known disk.new ≡ D.known disk.old) }
+    ensures any_moment { AtAnyMoment (D.known disk.old) (D.known disk.new) (IsLeftOfCut (D.known disk.old)) }
+    ensures usable { OnOk result (IsTrue (D.is_usable disk.new)) }
+{
+    let bytes = disk.read(alloc)?;
+    let found = recover(alloc, &bytes)?;
+    if let Found::Whole { bytes, .. } = &found {
+        disk.cut(*bytes)?;
+    }
+    Ok(found)
+}
