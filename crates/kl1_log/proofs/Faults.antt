@@ -11,8 +11,8 @@ use Rattle.kl1_model_server.specs.Journal.{Journal}
 use Rattle.kl1_model_server.specs.JournalText.{Lines, lines_of, Heading, heading_in, journal_of, journal_in}
 use Rattle.kl1_model_server.specs.laws.TextLaws.{is_unbroken}
 use Rattle.kl1_model_server.proofs.TextLines.{lines_of_lines, texts_are_lines}
-use Rattle.kl1_log.specs.Cuts.{whole_lines, whole_text, opening_of}
-use Rattle.kl1_log.proofs.LinesCut.{written_more}
+use Rattle.kl1_log.specs.Cuts.{whole_lines, whole_text, recovered, opening_of}
+use Rattle.kl1_log.proofs.LinesCut.{written_more, whole_read}
 
 -- a text is these lines, `count` of them, and then its rest
 abbrev pub IsSplit : List ℕ → List ℕ → ℕ → Type 0
@@ -65,7 +65,7 @@ pub front_short : (text rest : List ℕ) (count lines : ℕ) → IsSplit text re
 front_short text rest count lines s few none =
     let n = s.1 in
     let all : whole_lines text ≡ s.0 = s.2 ∙ ap (λ (ls : Lines). s.0 ++ ls.whole) none ∙ append-nil s.0 in
-    front_read text rest count lines s (sym (ap (take lines) all ∙ take_all s.0 lines (omega (arith, n, few))))
+    front_read text rest count lines s (sym (ap (take lines) all ∙ take_all lines s.0 (omega (arith, n, few))))
 
 -- ---- how many bytes the whole lines are
 
@@ -109,7 +109,7 @@ lines_few (l ∷ ls) =
 pub all_lines : (text : List ℕ) (n : ℕ) → length text ≤ n → take n (whole_lines text) ≡ whole_lines text
 all_lines text n few =
     let ts = ap (length {A = ℕ}) (texts_are_lines text).0 in
-    take_all (whole_lines text) n (omega (arith, few, ts, lines_few (whole_lines text), length-append (whole_text text) (lines_of text).rest))
+    take_all n (whole_lines text) (omega (arith, few, ts, lines_few (whole_lines text), length-append (whole_text text) (lines_of text).rest))
 
 is_none_by : (o : Option Journal) → is_some o ≡ false → o ≡ None
 is_none_by None h = refl
@@ -117,3 +117,17 @@ is_none_by (Some j) h = absurd (false≢true (sym h))
 
 pub none_is : (o : Option Journal) → is_some o ≡ false → o ≡ None
 none_is o h = is_none_by o h
+
+some_is : (o : Option Journal) (j : Journal) → Some j ≡ o → is_some o ≡ true
+some_is o j h = sym (ap (λ (x : Option Journal). is_some x) h)
+
+pub still_none : (o : Option Journal) → o ≡ None → is_some o ≡ false
+still_none o h = ap (λ (x : Option Journal). is_some x) h
+
+-- the lines of a text that isn't a journal are none, if they are all taken
+pub all_none : (text : List ℕ) (n : ℕ) → length text ≤ n → recovered text ≡ None → is_some (journal_of (take n (whole_lines text))) ≡ false
+all_none text n few none = ap (λ (ls : List (List ℕ)). is_some (journal_of ls)) (all_lines text n few) ∙ still_none (recovered text) none
+
+-- what was read of the whole lines
+pub whole_found : (text front : List ℕ) (o : Option Journal) → front ≡ whole_text text → o ≡ journal_in front → recovered text ≡ o
+whole_found text front o is h = sym (whole_read text) ∙ ap journal_in (sym is) ∙ sym h

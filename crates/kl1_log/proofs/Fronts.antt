@@ -108,10 +108,15 @@ take_less (x ∷ xs) zero m h = refl
 take_less (x ∷ xs) (suc k) zero h = absurd (omega (arith, h))
 take_less {X = X} (x ∷ xs) (suc k) (suc m) h = ap (λ (ys : List X). x ∷ ys) (take_less xs k m (omega (arith, h)))
 
+nil_take : {X : Type 0} (n : ℕ) → take n (let x : List X = [] in x) ≡ []
+nil_take zero = refl
+nil_take (suc n) = refl
+
 take_min : {X : Type 0} (xs : List X) (k : ℕ) → take (min k (length xs)) xs ≡ take k xs
-take_min [] zero = refl
-take_min [] (suc k) = refl
-take_min (x ∷ xs) zero = refl
+take_min {X = X} [] k = nil_take {X = X} (min k 0) ∙ sym (nil_take {X = X} k)
+take_min {X = X} (x ∷ xs) zero =
+    let none : min 0 (suc (length xs)) ≡ 0 = omega arith in
+    ap (λ (n : ℕ). take n (x ∷ xs)) none
 take_min {X = X} (x ∷ xs) (suc k) =
     let is : min (suc k) (suc (length xs)) ≡ suc (min k (length xs)) = omega arith in
     ap (λ (n : ℕ). take n (x ∷ xs)) is ∙ ap (λ (ys : List X). x ∷ ys) (take_min xs k)

@@ -49,8 +49,12 @@ take_none zero = refl
 take_none (suc n) = refl
 
 take_twice : (m n : ℕ) (bs : List ℕ) → take m (take n bs) ≡ take (min m n) bs
-take_twice zero n bs = refl
-take_twice (suc m) zero bs = refl
+take_twice zero n bs =
+    let none : 0 ≡ min 0 n = omega arith in
+    ap (λ (k : ℕ). take k bs) none
+take_twice (suc m) zero bs =
+    let none : 0 ≡ min (suc m) 0 = omega arith in
+    ap (λ (k : ℕ). take k bs) none
 take_twice (suc m) (suc n) [] = sym (take_none (min (suc m) (suc n)))
 take_twice (suc m) (suc n) (b ∷ bs) =
     let is : min (suc m) (suc n) ≡ suc (min m n) = omega arith in
@@ -142,7 +146,7 @@ pub whole_synced : (text bytes : List ℕ) (s t : FileState) → IsWhole text by
 whole_synced text bytes s t h y = (ap (λ (x : FileState). x.now) y ∙ ap (λ (b : Bytes). settled (content b)) h.0, ap (λ (x : FileState). x.before) y ∙ h.1)
 
 all_longer : (text bytes : List ℕ) → Longer text bytes (text ++ bytes)
-all_longer text bytes = (length bytes, ap (λ (x : List ℕ). text ++ x) (sym (take_all bytes (length bytes) (omega arith))))
+all_longer text bytes = (length bytes, ap (λ (x : List ℕ). text ++ x) (sym (take_all (length bytes) bytes (omega arith))))
 
 as_appended : (k m : Known) (bytes : List ℕ) → AtAnyMoment k m (Longer (known_text k) bytes) → AtAnyMoment k m (IsAppendedInPart k bytes)
 as_appended None m bytes so = so

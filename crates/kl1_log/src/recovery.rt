@@ -33,6 +33,7 @@ fn count_whole(text: &[u8]) -> usize
 }
 
 /// What is found in the bytes of a file. What is after the last line feed is no line, whatever it is.
+#[tactic(auto, using(crate::proofs::Faults::whole_found))]
 pub fn recover(alloc: Global, text: &[u8]) -> Result<Found, AllocError>
     ensures { IfOk result (λ found. IsFound text.now found) }
 {
@@ -95,6 +96,7 @@ fn count_good(alloc: Global, text: &[u8], low: u64, high: u64) -> Result<u64, Al
 
 /// Where the fault of a text is whose whole lines are no journal: between two lines of which the first ends a journal, which is found by
 /// halves.
+#[tactic(auto, using(crate::proofs::Faults::all_none, crate::proofs::Faults::none_is))]
 fn fault_in(alloc: Global, text: &[u8]) -> Result<Found, AllocError>
     requires { recovered text.now ≡ None }
     ensures { IfOk result (λ found. IsFound text.now found) }
@@ -102,9 +104,12 @@ fn fault_in(alloc: Global, text: &[u8]) -> Result<Found, AllocError>
     let Some(opening) = count_opening(text) else {
         return Ok(Found::Unopened);
     };
+    let Some(_) = Journal::read(alloc, front(text, opening))? else {
+        return Ok(Found::Unopened);
+    };
     // There are no more lines than bytes.
     let all = text.len() as u64;
-    if opening >= all || Journal::read(alloc, front(text, opening))?.is_none() {
+    if opening >= all {
         return Ok(Found::Unopened);
     }
     let good = count_good(alloc, text, opening, all)?;
