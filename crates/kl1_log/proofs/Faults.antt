@@ -131,3 +131,7 @@ all_none text n few none = ap (λ (ls : List (List ℕ)). is_some (journal_of ls
 -- what was read of the whole lines
 pub whole_found : (text front : List ℕ) (o : Option Journal) → front ≡ whole_text text → o ≡ journal_in front → recovered text ≡ o
 whole_found text front o is h = sym (whole_read text) ∙ ap journal_in (sym is) ∙ sym h
+
+-- a journal isn't none
+pub not_both : (o : Option Journal) (j : Journal) → Some j ≡ o → is_some o ≡ false → ⊥
+not_both o j some none = false≢true (sym none ∙ some_is o j some)

@@ -82,3 +82,12 @@ cut_rests (Some c) (Some y) text n is none front d =
       rest_test y.now.now.pending y.now.before (ap (λ (b : Bytes). b.pending) now) (ap (λ (x : FileState). x.before) d.2 ∙ none),
       ap (λ (b : Bytes). let o : Option (List ℕ) = Some (content b) in o) now ∙ ap (λ (x : List ℕ). let o : Option (List ℕ) = Some x in o) (append-nil (whole_text (content c.now.now))),
     )
+
+-- nothing was done
+pub stayed : (k m : Known) (P : List ℕ → Type 0) → m ≡ k → AtAnyMoment k m P
+stayed None m P same = same
+stayed (Some c) m P same = subst (λ (x : Known). AtAnyMoment (Some c) x P) (sym same) (record { since = []; are = refl; each = tt })
+
+-- the same from what was known before a read
+pub cut_from : (k l m : Known) → l ≡ k → AtAnyMoment l m (IsLeftOfCut l) → AtAnyMoment k m (IsLeftOfCut k)
+cut_from k l m same so = subst (λ (x : Known). AtAnyMoment x m (IsLeftOfCut x)) same so
