@@ -50,6 +50,16 @@ cut_failed (Some c) (Some y) text n is none at (inl d) = record {
 }
 cut_failed (Some c) l text n is none at (inr same) = subst (λ (x : Known). AtAnyMoment (Some c) x (IsLeftOfCut (Some c))) (sym same) (record { since = []; are = refl; each = tt })
 
+-- what is less sure is the same
+loose_content : (s t : FileState) (n : ℕ) → Loosened n s t → content t.now ≡ content s.now
+loose_content s t n is =
+    ap (λ (x : FileState). content x.now) is
+    ∙ sym (append_assoc (take n s.now.synced) (drop n s.now.synced) s.now.pending)
+    ∙ ap (λ (x : List ℕ). x ++ s.now.pending) (take-append-drop n s.now.synced)
+
+loose_before : (s t : FileState) (n : ℕ) → s.before ≡ None → Loosened n s t → t.before ≡ None
+loose_before s t n none is = ap (λ (x : FileState). x.before) is ∙ none
+
 -- a file that was cut
 cut_state : (s t : FileState) (text : List ℕ) (n : ℕ) → text ≡ content s.now → take n text ≡ whole_text text → CutTo n s t → t.now ≡ settled (whole_text (content s.now))
 cut_state s t text n is front h =
@@ -60,7 +70,7 @@ cut_moments None l text n is none at front d = d
 cut_moments (Some c) None text n is none at front d = absurd d
 cut_moments (Some c) (Some y) text n is none at front d =
     let here : n ≡ length (whole_text (content c.now.now)) = at ∙ ap (λ (x : List ℕ). length (whole_text x)) is in
-    let now = cut_state c.now y.now text n is front d.2 in
+    let now = cut_state d.0 y.now text n (is ∙ sym (loose_content c.now d.0 n d.1)) front d.2 ∙ ap (λ (x : List ℕ). settled (whole_text x)) (loose_content c.now d.0 n d.1) in
     let last : Leaves (IsLeftOfCut (Some c)) y.now = λ e may. cut_left e may now in
     record {
       since = y.now ∷ d.0 ∷ [];
@@ -72,14 +82,14 @@ cut_moments (Some c) (Some y) text n is none at front d =
     cut_left e (inl l) now =
         let w = whole_text (content c.now.now) in
         (n, left_settled w e (subst (λ (x : Bytes). IsLeftOf x e) now l) ∙ ap whole_text (sym is) ∙ sym front ∙ ap (take n) is, (let same = ap (λ (x : List ℕ). length (whole_text x)) is in omega (arith, at, same)))
-    cut_left e (inr back) now = absurd (subst (λ (x : Option Bytes). IsBroughtBack x e) (ap (λ (x : FileState). x.before) d.2 ∙ none) back)
+    cut_left e (inr back) now = absurd (subst (λ (x : Option Bytes). IsBroughtBack x e) (ap (λ (x : FileState). x.before) d.2 ∙ loose_before c.now d.0 n none d.1) back)
 
 pub cut_rests : (k l : Known) (text : List ℕ) (n : ℕ) → IfKnown k (λ s. text ≡ content s.now) → IfKnown k (λ s. s.before ≡ None) → take n text ≡ whole_text text → Cuts n k l → (is_at_rest l ≡ true) × (text_of l ≡ option_map whole_text (text_of k))
 cut_rests None l text n is none front d = (ap is_at_rest d, ap text_of d)
 cut_rests (Some c) None text n is none front d = absurd d
 cut_rests (Some c) (Some y) text n is none front d =
-    let now = cut_state c.now y.now text n is front d.2 in (
-      rest_test y.now.now.pending y.now.before (ap (λ (b : Bytes). b.pending) now) (ap (λ (x : FileState). x.before) d.2 ∙ none),
+    let now = cut_state d.0 y.now text n (is ∙ sym (loose_content c.now d.0 n d.1)) front d.2 ∙ ap (λ (x : List ℕ). settled (whole_text x)) (loose_content c.now d.0 n d.1) in (
+      rest_test y.now.now.pending y.now.before (ap (λ (b : Bytes). b.pending) now) (ap (λ (x : FileState). x.before) d.2 ∙ loose_before c.now d.0 n none d.1),
       ap (λ (b : Bytes). let o : Option (List ℕ) = Some (content b) in o) now ∙ ap (λ (x : List ℕ). let o : Option (List ℕ) = Some x in o) (append-nil (whole_text (content c.now.now))),
     )
 
