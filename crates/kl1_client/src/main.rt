@@ -1,6 +1,9 @@
 //! The program with which people use a server: it logs in to an account, sends commands, and shows the replies.
 #![tactic(auto)]
 
+mod files;
+mod help;
+mod hints;
 mod key;
 mod started;
 mod terminal;

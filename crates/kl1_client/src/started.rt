@@ -5,15 +5,20 @@ use crate::terminal::Terminal;
 use crate::trouble::Trouble;
 use crate::words::Asked;
 use kl1_client_talk::{
-    Caller, Connection, FailureCounter, LineReader, ReplyWriter, Sink, Source, TalkSummary,
+    Connection, FailureCounter, Fault, LineReader, ReplyWriter, Source, TROUBLE, TalkSummary,
     status_of, talk,
 };
 use std::alloc::{AllocError, Global};
 use std::io::IsTerminal;
-use std::net::TcpStream;
+use std::net::{TcpStream, ToSocketAddrs};
+use std::time::Duration;
+use std::{io, thread};
 
 /// The most bytes of a name that is sent.
 const MOST_NAME_BYTES: usize = 64;
+
+/// How often a server that can't be reached is tried again, a second apart.
+const MOST_TRIES: u64 = 60;
 
 /// Does what the words ask for, and answers the program's status.
 pub fn status_by<'a>(rt: &HostRuntime, asked: &Asked<'a>) -> Result<u8, Trouble<'a>> {
@@ -21,56 +26,119 @@ pub fn status_by<'a>(rt: &HostRuntime, asked: &Asked<'a>) -> Result<u8, Trouble<
         return Err(Trouble::BadName);
     }
     let key = key_of(rt, asked)?;
-    let stream = match TcpStream::connect(rt, asked.address) {
+    if asked.commands.is_empty() {
+        let is_watched = rt.stdin().is_terminal() && rt.stdout().is_terminal();
+        if is_watched {
+            let _ = eprintln!(rt; "kl1_client: help tells the commands, quit ends");
+        }
+        let lines = LineReader::new(rt.alloc(), FailureCounter::new(rt.stdin()));
+        let prompt = if is_watched { Some(asked.name) } else { None };
+        let mut terminal = Terminal::new(rt, lines, prompt);
+        status_with(rt, asked, key.as_slice(), &mut terminal)
+    } else {
+        let text = joined(rt.alloc(), asked.commands.as_slice())?;
+        let lines = LineReader::new(rt.alloc(), FailureCounter::new(text.as_slice()));
+        let mut terminal = Terminal::new(rt, lines, None);
+        status_with(rt, asked, key.as_slice(), &mut terminal)
+    }
+}
+
+/// Talks until the commands are at their end, over one connection or, if that is asked for, one after another, and answers the
+/// program's status.
+fn status_with<'a, S: Source>(
+    rt: &HostRuntime,
+    asked: &Asked<'a>,
+    key: &[u8],
+    terminal: &mut Terminal<'_, S>,
+) -> Result<u8, Trouble<'a>> {
+    let mut least = 0;
+    let mut tries = 0;
+    for _ in 0..u64::MAX {
+        match talk_once(rt, asked, key, terminal) {
+            Ok(summary) => return Ok(status_of(Ok(summary)).max(least)),
+            Err(trouble) => {
+                if !asked.reconnects || tries >= MOST_TRIES {
+                    return Err(trouble);
+                }
+                match trouble {
+                    Trouble::Talk(Fault::Connection) | Trouble::Late(_) => {
+                        let _ = trouble.tell(rt);
+                        let _ = eprintln!(rt;
+                            "kl1_client: the last command may be done or not; connecting again"
+                        );
+                        least = TROUBLE;
+                        tries = 0;
+                    }
+                    Trouble::Address(..) => tries += 1,
+                    _ => return Err(trouble),
+                }
+                thread::sleep(rt, Duration::from_secs(1));
+            }
+        }
+    }
+    Err(Trouble::Talk(Fault::Connection))
+}
+
+/// A stream to the server, within the seconds that are given.
+fn connected(rt: &HostRuntime, address: &str, timeout: Option<Duration>) -> io::Result<TcpStream> {
+    let Some(limit) = timeout else {
+        return TcpStream::connect(rt, address);
+    };
+    let mut last = None;
+    for place in address.to_socket_addrs(rt)? {
+        match TcpStream::connect_timeout(rt, &place, limit) {
+            Ok(stream) => return Ok(stream),
+            Err(error) => last = Some(error),
+        }
+    }
+    match last {
+        Some(error) => Err(error),
+        None => TcpStream::connect(rt, address),
+    }
+}
+
+/// Talks with a server over one connection.
+fn talk_once<'a, S: Source>(
+    rt: &HostRuntime,
+    asked: &Asked<'a>,
+    key: &[u8],
+    terminal: &mut Terminal<'_, S>,
+) -> Result<TalkSummary, Trouble<'a>> {
+    let timeout = asked.timeout.map(Duration::from_secs);
+    let stream = match connected(rt, asked.address, timeout) {
         Ok(stream) => stream,
         Err(error) => return Err(Trouble::Address(asked.address, error)),
     };
     // Each request is one write, so nothing is gained by waiting for more.
     let _ = stream.set_nodelay(true);
+    let _ = stream.set_read_timeout(timeout);
     let mut connection = Connection::new(
         rt.alloc(),
         FailureCounter::new(&stream),
         FailureCounter::new(&stream),
     );
-    let talked = if asked.commands.is_empty() {
-        let is_watched = rt.stdin().is_terminal() && rt.stdout().is_terminal();
-        let mut caller = Terminal {
-            rt,
-            lines: LineReader::new(rt.alloc(), FailureCounter::new(rt.stdin())),
-            prompt: if is_watched { Some(asked.name) } else { None },
-        };
-        talk_by(rt, &mut connection, &mut caller, asked, key.as_slice())?
-    } else {
-        let text = joined(rt.alloc(), asked.commands.as_slice())?;
-        let mut caller = Terminal {
-            rt,
-            lines: LineReader::new(rt.alloc(), FailureCounter::new(text.as_slice())),
-            prompt: None,
-        };
-        talk_by(rt, &mut connection, &mut caller, asked, key.as_slice())?
-    };
-    Ok(status_of(Ok(talked)))
-}
-
-/// Talks with a server.
-fn talk_by<'a, S: Source, T: Sink, C: Caller>(
-    rt: &HostRuntime,
-    connection: &mut Connection<S, T>,
-    caller: &mut C,
-    asked: &Asked<'a>,
-    key: &[u8],
-) -> Result<TalkSummary, Trouble<'a>> {
     let mut replies = ReplyWriter::new(rt.alloc(), FailureCounter::new(rt.stdout()), asked.all);
-    match talk(
+    let talked = talk(
         rt.alloc(),
-        connection,
+        &mut connection,
         &mut replies,
-        caller,
+        terminal,
         asked.name.as_bytes(),
         key,
-    ) {
-        Ok(summary) => Ok(summary),
-        Err(fault) => Err(Trouble::Talk(fault)),
+    );
+    match (talked, asked.timeout) {
+        (Ok(summary), _) => Ok(summary),
+        (Err(Fault::Connection), Some(seconds)) if is_open(&stream) => Err(Trouble::Late(seconds)),
+        (Err(fault), _) => Err(Trouble::Talk(fault)),
+    }
+}
+
+/// Whether a connection on which nothing more came is open all the same.
+fn is_open(stream: &TcpStream) -> bool {
+    let _ = stream.set_nonblocking(true);
+    match stream.peek(&mut [0u8; 1]) {
+        Ok(_) => false,
+        Err(error) => error.kind() == io::ErrorKind::WouldBlock,
     }
 }
 

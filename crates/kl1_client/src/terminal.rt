@@ -4,11 +4,11 @@ ghost use Rattle.std.specs.Prelude.{⊤, option_map};
 ghost use Rattle.kl1_client_talk.specs.Given.{lines_in};
 ghost use Rattle.kl1_client_talk.specs.Streams.{coming};
 
-use kl1_client_talk::{Caller, Fault, LineReader, MOST_SOURCE_BYTES, Source};
-use std::fs::File;
-use std::io::Read;
-use std::time::Duration;
-use std::{io, str, thread};
+use crate::hints::{refusal_hint, standstill_hint};
+use crate::{files, help};
+use kl1_client_talk::{Caller, Fault, LineReader, Source, TurnEnd};
+use std::thread;
+use std::time::{Duration, Instant};
 
 /// The milliseconds of the first pause between two looks at a shoen, by which each further one is longer.
 const PAUSE: u64 = 10;
@@ -23,15 +23,34 @@ pub struct Terminal<'r, S> {
     pub lines: LineReader<S>,
     /// What asks for a command, if somebody sits before the terminal.
     pub prompt: Option<&'r str>,
+    /// When the first look of the last wait was.
+    pub begun: Option<Instant>,
+    /// Whether the seconds of the last wait were over.
+    pub is_late: bool,
 }
 
-/// Puts the bytes of a file in the place of these, at most one more than a source may have.
-fn read_file(rt: &HostRuntime, name: &str, bytes: &mut Vec<u8>) -> io::Result<()> {
-    bytes.clear();
-    File::open(rt, name)?
-        .take(MOST_SOURCE_BYTES as u64 + 1)
-        .read_to_end(bytes)?;
-    Ok(())
+impl<'r, S> Terminal<'r, S> {
+    /// A terminal at which nothing was waited for.
+    pub fn new(rt: &'r HostRuntime, lines: LineReader<S>, prompt: Option<&'r str>) -> Self {
+        Terminal {
+            rt,
+            lines,
+            prompt,
+            begun: None,
+            is_late: false,
+        }
+    }
+
+    /// How much of these seconds is left since the first look; nothing if the clock can't be read.
+    fn left_of(&self, seconds: u64) -> Duration {
+        let Some(begun) = self.begun else {
+            return Duration::ZERO;
+        };
+        match begun.elapsed(self.rt) {
+            Ok(passed) => Duration::from_secs(seconds).saturating_sub(passed),
+            Err(_) => Duration::ZERO,
+        }
+    }
 }
 
 impl<S: Source> Caller for Terminal<'_, S> {
@@ -48,29 +67,59 @@ impl<S: Source> Caller for Terminal<'_, S> {
     }
 
     fn file(&mut self, name: &[u8], source: &mut Vec<u8>) -> Result<bool, Fault> {
-        let Ok(name) = str::from_utf8(name) else {
-            let _ = eprintln!(self.rt; "kl1_client: the name of a file is no UTF-8");
-            return Ok(false);
-        };
-        match read_file(self.rt, name, source) {
-            Ok(()) => {
-                if source.len() <= MOST_SOURCE_BYTES {
-                    return Ok(true);
-                }
-                let _ = eprintln!(self.rt; "kl1_client: {name}: too long");
-            }
-            Err(error) => {
-                if error.kind() == io::ErrorKind::OutOfMemory {
-                    return Err(Fault::Memory);
-                }
-                let _ = eprintln!(self.rt; "kl1_client: {name}: {error}");
+        match files::read(self.rt, name, source) {
+            Ok(()) => Ok(true),
+            Err(trouble) => {
+                files::tell(self.rt, name, &trouble)?;
+                Ok(false)
             }
         }
-        Ok(false)
     }
 
-    fn pause(&mut self, looks: u64) {
-        let millis = looks.min(MOST_PAUSE / PAUSE) * PAUSE;
-        thread::sleep(self.rt, Duration::from_millis(millis));
+    fn save(&mut self, name: &[u8], bytes: &[u8]) -> Result<bool, Fault> {
+        match files::write(self.rt, name, bytes) {
+            Ok(()) => Ok(true),
+            Err(trouble) => {
+                files::tell(self.rt, name, &trouble)?;
+                Ok(false)
+            }
+        }
+    }
+
+    fn pause(&mut self, looks: u64, seconds: Option<u64>) -> bool {
+        let pause = Duration::from_millis(looks.min(MOST_PAUSE / PAUSE) * PAUSE);
+        let Some(seconds) = seconds else {
+            thread::sleep(self.rt, pause);
+            return false;
+        };
+        if looks == 1 {
+            self.begun = Instant::now(self.rt).ok();
+        }
+        let left = self.left_of(seconds);
+        if left.is_zero() {
+            self.is_late = true;
+            return true;
+        }
+        thread::sleep(self.rt, if left < pause { left } else { pause });
+        false
+    }
+
+    fn help(&mut self, topic: &[u8]) {
+        help::tell(self.rt, topic);
+    }
+
+    fn turned(&mut self, end: TurnEnd, refusal: Option<u64>, line: &[u8]) {
+        let is_late = self.is_late;
+        self.is_late = false;
+        if let Some(number) = refusal {
+            if let Some(hint) = refusal_hint(number) {
+                let _ = eprintln!(self.rt; "kl1_client: {hint}");
+            }
+            return;
+        }
+        if matches!(end, TurnEnd::StandsStill) {
+            let hint = standstill_hint(line, is_late);
+            let _ = eprintln!(self.rt; "kl1_client: {hint}");
+        }
     }
 }

@@ -17,6 +17,8 @@ pub enum Trouble<'a> {
     KeyFile(&'a str, io::Error),
     /// The server can't be reached.
     Address(&'a str, io::Error),
+    /// No reply came within this number of seconds.
+    Late(u64),
     /// The talk ended before its commands did.
     Talk(Fault),
 }
@@ -32,6 +34,9 @@ impl Trouble<'_> {
             Trouble::BadKey => eprintln!(rt; "kl1_client: bad key"),
             Trouble::KeyFile(name, error) | Trouble::Address(name, error) => {
                 eprintln!(rt; "kl1_client: {name}: {error}")
+            }
+            Trouble::Late(seconds) => {
+                eprintln!(rt; "kl1_client: no reply within {seconds} seconds")
             }
             Trouble::Talk(fault) => eprintln!(rt; "kl1_client: {}", text_of(*fault)),
         };

@@ -151,3 +151,9 @@ one_longer lines line n e = omega (arith, length-append lines (line ∷ []), e)
 
 pub asks_first : (a b : Wire) (request line first : List ℕ) → first ≡ line → Asks a b request line → Asks a b request first
 asks_first a b request line first e h = let P : List ℕ → Type 0 = λ x. Asks a b request x in subst P (sym e) h
+
+-- lines that were shown are shown after those that wait are written
+pub flushed : (s t u : Screen) (lines : List (List ℕ)) → Shows s t (written_lines lines) → Shows t u [] → Shows s u (written_lines lines)
+flushed s t u lines h k =
+    let P : List ℕ → Type 0 = λ x. Shows s u x in
+    subst P (append-nil (written_lines lines)) (shows_both s t u (written_lines lines) [] h k)

@@ -1,6 +1,6 @@
 -- What is said for one line of the user.
 use Rattle.std.proofs.Common.{◌≡◌, ℕ, ◌+◌, ◌<◌, ◌≤◌, Bool, true, false, not, ◌&&◌, nat_lt, nat_le, zero, suc, max, List, [], ◌∷◌, ◌++◌, length, map, refl, ap, sym, ◌∙◌, subst, inl, inr, add_assoc, arith}
-use Rattle.std.specs.Prelude.{Some}
+use Rattle.std.specs.Prelude.{None, Some}
 use Rattle.std.specs.declared.option.Option.{Option}
 use Rattle.std.proofs.lemmas.List.{append-nil, map-append}
 use Rattle.std.proofs.lemmas.Bool.{le-leb, lt-leb, lt-ltb}
@@ -8,14 +8,14 @@ use Rattle.kl1_model_server.specs.Command.{written_line, written_lines}
 use Rattle.kl1_client_talk.specs.declared.request.Page.{Page}
 use Rattle.std.specs.Str.{IsTrimAscii}
 use Rattle.kl1_client_talk.specs.declared.turn_end.TurnEnd.TheVariants as end
-use Rattle.kl1_client_talk.specs.UserCommand.{Wanted, load}
-use Rattle.kl1_client_talk.specs.Request.{page_line, status_line, load_of}
-use Rattle.kl1_client_talk.specs.Reply.{is_refusal, count_in, is_over}
+use Rattle.kl1_client_talk.specs.UserCommand.{Wanted, load, pages}
+use Rattle.kl1_client_talk.specs.Request.{page_line, load_of}
+use Rattle.kl1_client_talk.specs.Reply.{is_refusal, count_in}
 use Rattle.kl1_client_talk.specs.Exchanges.{Exchange, Exchanges, Wire, Screen, Asks, Hears, Shows, ShowsLines, ShowsOne, Says, screen}
 use Rattle.kl1_client_talk.specs.declared.reply_writer.ReplyWriter.{ReplyWriter}
-use Rattle.kl1_client_talk.specs.Conversation.{Listing, ShowsListing, AsksOne, AsksList, AsksPages, Waits, page_exchanges, page_lines, is_full_page, most_of, status_exchange, TakesTurn}
+use Rattle.kl1_client_talk.specs.Conversation.{Listing, ShowsListing, AsksOne, AsksList, AsksPagesTo, page_exchanges, page_lines, count_of, is_full_page, most_of, TakesTurn}
 use Rattle.kl1_client_talk.proofs.Exchanged.{hears_none, one_exchange, exchanges_both, no_exchange, shows_one, shows_lines_both, shows_none, all_both}
-use Rattle.kl1_client_talk.proofs.Paged.{PagesSoFar, WaitsSoFar, count_of, page_more, count_both, lines_both}
+use Rattle.kl1_client_talk.proofs.Paged.{PagesSoFar, page_more, count_both, lines_both}
 
 pub one_said : (a b : Wire) (s t : Screen) (request line : List ℕ) → ShowsOne a b s t request line → Says a b s t (AsksOne request)
 one_said a b s t request line h = record {
@@ -50,38 +50,6 @@ lines_listed a b s t u first count e c h (lines, more, n) = record {
   shows = shows_lines_both s t u (first ∷ []) lines (shows_one s t first h) more.shows;
 }
 
--- ---- waiting
-
-pub wait_begins : (shoen : ℕ) (a : Wire) → WaitsSoFar shoen a a
-wait_begins shoen a = record { replies = []; made = no_exchange a; none_over = refl }
-
-status_more : (shoen : ℕ) (a b c : Wire) (replies : List (List ℕ)) (line : List ℕ) → Exchanges a b (map (status_exchange shoen) replies) → Asks b c (status_line shoen) line → Exchanges a c (map (status_exchange shoen) (replies ++ line ∷ []))
-status_more shoen a b c replies line made asks =
-    let P : List Exchange → Type 0 = λ es. Exchanges a c es in
-    subst P (sym (map-append (status_exchange shoen) replies (line ∷ []))) (exchanges_both a b c (map (status_exchange shoen) replies) (status_exchange shoen line ∷ []) made (one_exchange b c c (status_line shoen) line [] asks (hears_none c)))
-
-pub wait_goes_on : (shoen : ℕ) (a b c : Wire) (line : List ℕ) → WaitsSoFar shoen a b → Asks b c (status_line shoen) line → is_over line ≡ false → WaitsSoFar shoen a c
-wait_goes_on shoen a b c line w asks e = record {
-  replies = w.replies ++ line ∷ [];
-  made = status_more shoen a b c w.replies line w.made asks;
-  none_over = all_both (λ l. not (is_over l)) w.replies (line ∷ []) w.none_over (rw e refl);
-}
-
-pub wait_ends : (shoen : ℕ) (a b c : Wire) (s t : Screen) (line : List ℕ) → WaitsSoFar shoen a b → Asks b c (status_line shoen) line → is_over line ≡ true → Shows s t (written_line line) → Says a c s t (Waits shoen)
-wait_ends shoen a b c s t line w asks e h = record {
-  exchanges = map (status_exchange shoen) (w.replies ++ line ∷ []);
-  lines = line ∷ [];
-  holds = record { before = w.replies; last = line; asked = refl; none_over = w.none_over; over = e; shown_is = refl };
-  made = status_more shoen a b c w.replies line w.made asks;
-  shows = shows_one s t line h;
-}
-
--- the same from a writer of replies that is as it was
-pub wait_said : {O : Type 0} (contents : O → Option (List ℕ)) (v w : ReplyWriter O) (shoen : ℕ) (a b c : Wire) (t : Screen) (line : List ℕ) → w ≡ v → WaitsSoFar shoen a b → Asks b c (status_line shoen) line → is_over line ≡ true → Shows (screen contents w) t (written_line line) → Says a c (screen contents v) t (Waits shoen)
-wait_said {O} contents v w shoen a b c t line e so_far asks over h =
-    let Q : ReplyWriter O → Type 0 = λ x. Says a c (screen contents x) t (Waits shoen) in
-    subst Q e (wait_ends shoen a b c (screen contents w) t line so_far asks over h)
-
 -- ---- pages
 
 pub pages_begin : (p : Page) (from : ℕ) (a : Wire) (s : Screen) → PagesSoFar p from from a a s s
@@ -109,13 +77,13 @@ page_full p from next after count a b c d s t u first lines g asks e h n most ne
     }
 
 -- the last reply is a refusal
-pub pages_refused : (p : Page) (from next : ℕ) (a b c : Wire) (s t u : Screen) (first : List ℕ) → PagesSoFar p from next a b s t → Asks b c (page_line p next) first → is_refusal first ≡ true → Shows t u (written_line first) → Says a c s u (AsksPages p from)
-pages_refused p from next a b c s t u first g asks e h =
+pub pages_refused : (p : Page) (from next : ℕ) (a b c : Wire) (s t u : Screen) (first line : List ℕ) → PagesSoFar p from next a b s t → Asks b c (page_line p next) first → is_refusal first ≡ true → Shows t u (written_line first) → first ≡ line → Says a c s u (AsksPagesTo p from None line)
+pages_refused p from next a b c s t u first line g asks e h same =
     let l : Listing = record { first = first; lines = [] } in
     record {
       exchanges = page_exchanges p from (g.full ++ l ∷ []);
       lines = page_lines g.full ++ first ∷ [];
-      holds = record { full = g.full; last = l; end = first ∷ []; asked = refl; are_full = g.are_full; is_last = (inl (e, refl), rw e refl, rw e refl); shown_is = refl };
+      holds = (record { full = g.full; last = l; end = first ∷ []; asked = refl; are_full = g.are_full; is_last = (inl (e, refl), rw e refl, rw e refl); shown_is = refl; after_is = rw e refl }, λ none. (page_lines g.full, ap (λ x. page_lines g.full ++ x ∷ []) same));
       made = page_made p from next a b c c s t l g asks (hears_none c);
       shows = shows_lines_both s t u (page_lines g.full) (first ∷ []) g.shows (shows_one t u first h);
     }
@@ -128,18 +96,30 @@ not_full : (most n : ℕ) → n < max most 1 → (nat_le most n && nat_lt 0 n) �
 not_full most zero h = and_false (nat_le most 0)
 not_full most (suc n) h = rw (lt-leb most (suc n) (omega (arith, h))) refl
 
+some_none : (n : ℕ) → Some n ≡ None → ⊥
+some_none n e = cc
+
 -- the last reply is a page that isn't full
-pub pages_end : (p : Page) (from next count : ℕ) (a b c d : Wire) (s t u : Screen) (first : List ℕ) (lines : List (List ℕ)) → PagesSoFar p from next a b s t → Asks b c (page_line p next) first → is_refusal first ≡ false → count_in first ≡ Some count → ShowsLines c d t u lines → length lines ≡ count → count < max (most_of p) 1 → Says a d s u (AsksPages p from)
-pages_end p from next count a b c d s t u first lines g asks e counted h n short =
+pub pages_end : (p : Page) (from next after count : ℕ) (a b c d : Wire) (s t u : Screen) (first line : List ℕ) (lines : List (List ℕ)) → PagesSoFar p from next a b s t → Asks b c (page_line p next) first → is_refusal first ≡ false → count_in first ≡ Some count → ShowsLines c d t u lines → length lines ≡ count → count < max (most_of p) 1 → after ≡ next + count → Says a d s u (AsksPagesTo p from (Some after) line)
+pages_end p from next after count a b c d s t u first line lines g asks e counted h n short next_is =
     let l : Listing = record { first = first; lines = lines } in
     let P : ℕ → Type 0 = λ m. m < max (most_of p) 1 in
+    let after_is : after ≡ (from + count_of g.full) + length lines = omega (arith, next_is, g.next_is, n) in
     record {
       exchanges = page_exchanges p from (g.full ++ l ∷ []);
       lines = page_lines g.full ++ lines;
-      holds = record { full = g.full; last = l; end = lines; asked = refl; are_full = g.are_full; is_last = (inr (e, counted ∙ ap Some (sym n)), rw e (not_full (most_of p) (length lines) (subst P (sym n) short)), rw e refl); shown_is = refl };
+      holds = (record { full = g.full; last = l; end = lines; asked = refl; are_full = g.are_full; is_last = (inr (e, counted ∙ ap Some (sym n)), rw e (not_full (most_of p) (length lines) (subst P (sym n) short)), rw e refl); shown_is = refl; after_is = rw e (ap Some after_is) }, λ none. absurd (some_none after none));
       made = page_made p from next a b c d s t l g asks h.hears;
       shows = shows_lines_both s t u (page_lines g.full) lines g.shows h.shows;
     }
+
+-- what is said up to what is as before
+pub said_to : (a b c : Wire) (s t : Screen) (P : List Exchange → List (List ℕ) → Type 0) → c ≡ b → Says a b s t P → Says a c s t P
+said_to a b c s t P e h = let Q : Wire → Type 0 = λ x. Says a x s t P in subst Q (sym e) h
+
+-- what is said on a screen that is as before
+pub said_on : {O : Type 0} (contents : O → Option (List ℕ)) (v w : ReplyWriter O) (a b : Wire) (t : Screen) (P : List Exchange → List (List ℕ) → Type 0) → w ≡ v → Says a b (screen contents w) t P → Says a b (screen contents v) t P
+said_on {O} contents v w a b t P e h = let Q : ReplyWriter O → Type 0 = λ x. Says a b (screen contents x) t P in subst Q e h
 
 -- ---- turns
 
@@ -166,3 +146,9 @@ pub turn_said : (IsFile : List ℕ → List ℕ → Type 0) (joined : Bool) (lin
 turn_said IsFile joined line wanted is a b s t P e f h =
     let Q : Wanted → Type 0 = λ w. Says a b s t (TakesTurn IsFile joined line w end.GoesOn) in
     subst Q e (says_more a b s t P (TakesTurn IsFile joined line is end.GoesOn) f h)
+
+-- a turn in which pages are joined
+pub joined_turn : (IsFile : List ℕ → List ℕ → Type 0) (joined : Bool) (line told : List ℕ) (wanted : Wanted) (p : Page) (from : ℕ) (after : Option ℕ) (a b : Wire) (s t : Screen) → joined ≡ true → pages p from ≡ wanted → Says a b s t (AsksPagesTo p from after told) → Says a b s t (TakesTurn IsFile joined line wanted end.GoesOn)
+joined_turn IsFile joined line told wanted p from after a b s t j e h =
+    let Q : Bool → Type 0 = λ x. Says a b s t (TakesTurn IsFile x line wanted end.GoesOn) in
+    subst Q (sym j) (turn_said IsFile true line wanted (pages p from) a b s t (AsksPagesTo p from after told) e (λ es lines k. ((after, k.0), refl)) h)

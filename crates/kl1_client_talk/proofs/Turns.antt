@@ -12,11 +12,11 @@ use Rattle.kl1_client_talk.specs.declared.summary.TalkSummary.{TalkSummary}
 use Rattle.kl1_client_talk.specs.declared.turn_end.TurnEnd.{TurnEnd}
 use Rattle.kl1_client_talk.specs.declared.turn_end.TurnEnd.TheVariants as end
 use Rattle.kl1_client_talk.specs.Reply.{is_refusal, is_bye}
-use Rattle.kl1_client_talk.specs.UserCommand.{Wanted, nothing, logout, one_line, wanted_in}
+use Rattle.kl1_client_talk.specs.UserCommand.{Wanted, nothing, help, logout, quit, one_line, wanted_in}
 use Rattle.kl1_client_talk.specs.Exchanges.{Exchange, Exchanges, Wire, Screen, Asks, Shows, ShowsOne, Says}
 use Rattle.kl1_client_talk.specs.Given.{GivesLine, GivesLines, IsAllGiven}
-use Rattle.kl1_client_talk.specs.Conversation.{AsksOne, AsksNothing, TakesTurn, Turn, AreTurns, IsOverAtLast, TakesTurns, FollowsLogin, Talks, asked_in, shown_in, end_of, lacks_file, is_over_at}
-use Rattle.kl1_client_talk.proofs.Exchanged.{hears_none, one_exchange, exchanges_both, no_exchange, shows_one, shows_both, shows_lines_both, shows_none, all_both, or_false, or_true}
+use Rattle.kl1_client_talk.specs.Conversation.{AsksOne, AsksNothing, TakesTurn, Turn, AreTurns, IsOverAtLast, TakesTurns, FollowsLogin, Talks, asked_in, shown_in, end_of, lacks_file, stands_still, is_over_at}
+use Rattle.kl1_client_talk.proofs.Exchanged.{hears_none, one_exchange, exchanges_both, no_exchange, shows_one, shows_both, shows_lines_both, shows_none, flushed, all_both, or_false, or_true}
 use Rattle.kl1_client_talk.proofs.Said.{one_said, turn_said}
 
 -- ---- one turn
@@ -24,6 +24,23 @@ use Rattle.kl1_client_talk.proofs.Said.{one_said, turn_said}
 pub nothing_turn : (IsFile : List ℕ → List ℕ → Type 0) (joined : Bool) (line : List ℕ) (wanted : Wanted) (a : Wire) (s : Screen) → nothing ≡ wanted → Says a a s s (TakesTurn IsFile joined line wanted end.GoesOn)
 nothing_turn IsFile joined line wanted a s e =
     turn_said IsFile joined line wanted nothing a a s s AsksNothing e (λ es lines h. (h, refl)) (record { exchanges = []; lines = []; holds = (refl, refl); made = no_exchange a; shows = shows_none s })
+
+-- help is given without asking
+pub help_turn : (IsFile : List ℕ → List ℕ → Type 0) (joined : Bool) (line topic : List ℕ) (wanted : Wanted) (a : Wire) (s : Screen) → help topic ≡ wanted → Says a a s s (TakesTurn IsFile joined line wanted end.GoesOn)
+help_turn IsFile joined line topic wanted a s e =
+    turn_said IsFile joined line wanted (help topic) a a s s AsksNothing e (λ es lines h. (h, refl)) (record { exchanges = []; lines = []; holds = (refl, refl); made = no_exchange a; shows = shows_none s })
+
+-- a logout whose reply is not shown
+pub quit_turn : (IsFile : List ℕ → List ℕ → Type 0) (joined : Bool) (line reply : List ℕ) (wanted : Wanted) (a b : Wire) (s : Screen) → quit ≡ wanted → Asks a b (written_line (codes "logout")) reply → Says a b s s (TakesTurn IsFile joined line wanted end.Over)
+quit_turn IsFile joined line reply wanted a b s e asks =
+    let Q : Wanted → Type 0 = λ w. Says a b s s (TakesTurn IsFile joined line w end.Over) in
+    subst Q e (record {
+      exchanges = record { request = written_line (codes "logout"); reply = reply ∷ [] } ∷ [];
+      lines = [];
+      holds = ((record { reply = reply; asked = refl }, refl), refl);
+      made = one_exchange a b b (written_line (codes "logout")) reply [] asks (hears_none b);
+      shows = shows_none s;
+    })
 
 shown_one_as : (a b : Wire) (s t : Screen) (told line reply : List ℕ) → told ≡ line → ShowsOne a b s t (written_line told) reply → ShowsOne a b s t (written_line line) reply
 shown_one_as a b s t told line reply same h = let P : List ℕ → Type 0 = λ x. ShowsOne a b s t (written_line x) reply in subst P same h
@@ -120,24 +137,25 @@ are_both IsFile joined [] us h k = k
 are_both IsFile joined (t ∷ ts) us h k = (h.0, are_both IsFile joined ts us h.1 k)
 
 -- these turns were taken, one after another
-pub record TurnsMade (IsFile : List ℕ → List ℕ → Type 0) (joined : Bool) (given given' : Option (List (List ℕ))) (old new : Wire) (before after : Screen) (lacked : Bool) (turns : List Turn) : Type 0 where
+pub record TurnsMade (IsFile : List ℕ → List ℕ → Type 0) (joined : Bool) (given given' : Option (List (List ℕ))) (old new : Wire) (before after : Screen) (lacked still : Bool) (turns : List Turn) : Type 0 where
   pub are_turns : AreTurns IsFile joined turns
   pub lines : GivesLines given given' (map (λ t. t.line) turns)
   pub made : Exchanges old new (asked_in turns)
   pub shows : Shows before after (written_lines (shown_in turns))
   pub lacks : lacked ≡ list_any (λ t. lacks_file (end_of t)) turns
+  pub stands : still ≡ list_any (λ t. stands_still (end_of t)) turns
   pub written : before.waiting ≡ [] → after.waiting ≡ []
 
 -- turns were taken of which none ended the talk
-pub record TurnsSoFar (IsFile : List ℕ → List ℕ → Type 0) (joined : Bool) (given given' : Option (List (List ℕ))) (old new : Wire) (before after : Screen) (lacked : Bool) : Type 0 where
+pub record TurnsSoFar (IsFile : List ℕ → List ℕ → Type 0) (joined : Bool) (given given' : Option (List (List ℕ))) (old new : Wire) (before after : Screen) (lacked still : Bool) : Type 0 where
   pub turns : List Turn
-  pub made : TurnsMade IsFile joined given given' old new before after lacked turns
+  pub made : TurnsMade IsFile joined given given' old new before after lacked still turns
   pub none_over : list_all (λ t. not (is_over_at (end_of t))) turns ≡ true
 
-pub turns_begin : (IsFile : List ℕ → List ℕ → Type 0) (joined : Bool) (g : Option (List (List ℕ))) (a : Wire) (s : Screen) → TurnsSoFar IsFile joined g g a a s s false
+pub turns_begin : (IsFile : List ℕ → List ℕ → Type 0) (joined : Bool) (g : Option (List (List ℕ))) (a : Wire) (s : Screen) → TurnsSoFar IsFile joined g g a a s s false false
 turns_begin IsFile joined g a s = record {
   turns = [];
-  made = record { are_turns = tt; lines = gives_none g; made = no_exchange a; shows = shows_none s; lacks = refl; written = λ e. e };
+  made = record { are_turns = tt; lines = gives_none g; made = no_exchange a; shows = shows_none s; lacks = refl; stands = refl; written = λ e. e };
   none_over = refl;
 }
 
@@ -145,24 +163,21 @@ turns_begin IsFile joined g a s = record {
 abbrev turn_of : (line : List ℕ) (es : List Exchange) (lines : List (List ℕ)) → Turn
 turn_of line es lines = record { line = line; exchanges = es; shown = lines }
 
-flushed : (s t u : Screen) (lines : List (List ℕ)) → Shows s t (written_lines lines) → Shows t u [] → Shows s u (written_lines lines)
-flushed s t u lines h k =
-    let P : List ℕ → Type 0 = λ x. Shows s u x in
-    subst P (append-nil (written_lines lines)) (shows_both s t u (written_lines lines) [] h k)
-
-made_more : (IsFile : List ℕ → List ℕ → Type 0) (joined : Bool) (g g' g'' : Option (List (List ℕ))) (a b c : Wire) (s t u v : Screen) (lacked after : Bool) (line : List ℕ) (e : TurnEnd) (ts : List Turn) → TurnsMade IsFile joined g g' a b s t lacked ts → GivesLine g' g'' line true → (h : Says b c t u (TakesTurn IsFile joined (without_return line) (wanted_in line) e)) → Shows u v [] → v.waiting ≡ [] → after ≡ (lacked || lacks_file e) → TurnsMade IsFile joined g g'' a c s v after (ts ++ turn_of line h.exchanges h.lines ∷ [])
-made_more IsFile joined g g' g'' a b c s t u v lacked after line e ts m gives h flush empty lacks =
+made_more : (IsFile : List ℕ → List ℕ → Type 0) (joined : Bool) (g g' g'' : Option (List (List ℕ))) (a b c : Wire) (s t u v : Screen) (lacked still after stood : Bool) (line : List ℕ) (e : TurnEnd) (ts : List Turn) → TurnsMade IsFile joined g g' a b s t lacked still ts → GivesLine g' g'' line true → (h : Says b c t u (TakesTurn IsFile joined (without_return line) (wanted_in line) e)) → Shows u v [] → v.waiting ≡ [] → after ≡ (lacked || lacks_file e) → stood ≡ (still || stands_still e) → TurnsMade IsFile joined g g'' a c s v after stood (ts ++ turn_of line h.exchanges h.lines ∷ [])
+made_more IsFile joined g g' g'' a b c s t u v lacked still after stood line e ts m gives h flush empty lacks stands =
     let x : Turn = turn_of line h.exchanges h.lines in
     let P : List (List ℕ) → Type 0 = λ z. GivesLines g g'' z in
     let Q : List Exchange → Type 0 = λ z. Exchanges a c z in
     let R : List (List ℕ) → Type 0 = λ z. Shows s v (written_lines z) in
     let lacking : List Turn → Bool = λ z. list_any (λ (w : Turn). lacks_file (end_of w)) z in
+    let standing : List Turn → Bool = λ z. list_any (λ (w : Turn). stands_still (end_of w)) z in
     record {
       are_turns = are_both IsFile joined ts (x ∷ []) m.are_turns (h.holds.0, tt);
       lines = subst P (sym (map-append (λ (w : Turn). w.line) ts (x ∷ []))) (gives_more g g' g'' (map (λ (w : Turn). w.line) ts) line m.lines gives);
       made = subst Q (sym (asked_more ts x)) (exchanges_both a b c (asked_in ts) h.exchanges m.made h.made);
       shows = subst R (sym (shown_more ts x)) (flushed s u v (shown_in ts ++ h.lines) (shows_lines_both s t u (shown_in ts) h.lines m.shows h.shows) flush);
       lacks = lacks ∙ ap (λ z. z || lacks_file e) m.lacks ∙ ap (λ z. lacking ts || z) (ap lacks_file h.holds.1 ∙ sym (or_false (lacks_file (end_of x)))) ∙ sym (list_any-append (λ (w : Turn). lacks_file (end_of w)) ts (x ∷ []));
+      stands = stands ∙ ap (λ z. z || stands_still e) m.stands ∙ ap (λ z. standing ts || z) (ap stands_still h.holds.1 ∙ sym (or_false (stands_still (end_of x)))) ∙ sym (list_any-append (λ (w : Turn). stands_still (end_of w)) ts (x ∷ []));
       written = λ w. empty;
     }
 
@@ -171,12 +186,12 @@ not_and true e = absurd (true≢false e)
 not_and false e = refl
 
 -- a turn more, after which the talk goes on
-pub turns_more : (IsFile : List ℕ → List ℕ → Type 0) (joined : Bool) (g g' g'' : Option (List (List ℕ))) (a b c : Wire) (s t u v : Screen) (lacked after : Bool) (line : List ℕ) (e : TurnEnd) → TurnsSoFar IsFile joined g g' a b s t lacked → GivesLine g' g'' line true → Says b c t u (TakesTurn IsFile joined (without_return line) (wanted_in line) e) → Shows u v [] → v.waiting ≡ [] → after ≡ (lacked || lacks_file e) → is_over_at e ≡ false → TurnsSoFar IsFile joined g g'' a c s v after
-turns_more IsFile joined g g' g'' a b c s t u v lacked after line e f gives h flush empty lacks on =
+pub turns_more : (IsFile : List ℕ → List ℕ → Type 0) (joined : Bool) (g g' g'' : Option (List (List ℕ))) (a b c : Wire) (s t u v : Screen) (lacked still after stood : Bool) (line : List ℕ) (e : TurnEnd) → TurnsSoFar IsFile joined g g' a b s t lacked still → GivesLine g' g'' line true → Says b c t u (TakesTurn IsFile joined (without_return line) (wanted_in line) e) → Shows u v [] → v.waiting ≡ [] → after ≡ (lacked || lacks_file e) → stood ≡ (still || stands_still e) → is_over_at e ≡ false → TurnsSoFar IsFile joined g g'' a c s v after stood
+turns_more IsFile joined g g' g'' a b c s t u v lacked still after stood line e f gives h flush empty lacks stands on =
     let x : Turn = turn_of line h.exchanges h.lines in
     record {
       turns = f.turns ++ x ∷ [];
-      made = made_more IsFile joined g g' g'' a b c s t u v lacked after line e f.turns f.made gives h flush empty lacks;
+      made = made_more IsFile joined g g' g'' a b c s t u v lacked still after stood line e f.turns f.made gives h flush empty lacks stands;
       none_over = all_both (λ (w : Turn). not (is_over_at (end_of w))) f.turns (x ∷ []) f.none_over (not_and (is_over_at (end_of x)) (ap is_over_at (sym h.holds.1) ∙ on));
     }
 
@@ -206,10 +221,10 @@ over_at_last (t ∷ []) x over h e = (not_true (is_over_at (end_of t)) (and_firs
 over_at_last (t ∷ u ∷ ts) x over h e = (not_true (is_over_at (end_of t)) (and_first (stays t) (list_all stays (u ∷ ts)) h), over_at_last (u ∷ ts) x over (and_second (stays t) (list_all stays (u ∷ ts)) h) e)
 
 -- a last turn, which ends the talk
-pub turns_over : (IsFile : List ℕ → List ℕ → Type 0) (joined : Bool) (g g' g'' : Option (List (List ℕ))) (a b c : Wire) (s t u v : Screen) (lacked after : Bool) (line : List ℕ) (e : TurnEnd) → TurnsSoFar IsFile joined g g' a b s t lacked → GivesLine g' g'' line true → Says b c t u (TakesTurn IsFile joined (without_return line) (wanted_in line) e) → Shows u v [] → v.waiting ≡ [] → after ≡ (lacked || lacks_file e) → is_over_at e ≡ true → TakesTurns IsFile joined g g'' a c s v after
-turns_over IsFile joined g g' g'' a b c s t u v lacked after line e f gives h flush empty lacks over =
+pub turns_over : (IsFile : List ℕ → List ℕ → Type 0) (joined : Bool) (g g' g'' : Option (List (List ℕ))) (a b c : Wire) (s t u v : Screen) (lacked still after stood : Bool) (line : List ℕ) (e : TurnEnd) → TurnsSoFar IsFile joined g g' a b s t lacked still → GivesLine g' g'' line true → Says b c t u (TakesTurn IsFile joined (without_return line) (wanted_in line) e) → Shows u v [] → v.waiting ≡ [] → after ≡ (lacked || lacks_file e) → stood ≡ (still || stands_still e) → is_over_at e ≡ true → TakesTurns IsFile joined g g'' a c s v after stood
+turns_over IsFile joined g g' g'' a b c s t u v lacked still after stood line e f gives h flush empty lacks stands over =
     let x : Turn = turn_of line h.exchanges h.lines in
-    let m = made_more IsFile joined g g' g'' a b c s t u v lacked after line e f.turns f.made gives h flush empty lacks in
+    let m = made_more IsFile joined g g' g'' a b c s t u v lacked still after stood line e f.turns f.made gives h flush empty lacks stands in
     let Q : List Exchange → Type 0 = λ z. Exchanges a c z in
     record {
       turns = f.turns ++ x ∷ [];
@@ -222,12 +237,13 @@ turns_over IsFile joined g g' g'' a b c s t u v lacked after line e f gives h fl
       made = subst Q (sym (append-nil (asked_in (f.turns ++ x ∷ [])))) m.made;
       shows = m.shows;
       lacks = m.lacks;
+      stands = m.stands;
       written = m.written;
     }
 
 -- no line is left, and a logout was asked for
-pub turns_end : (IsFile : List ℕ → List ℕ → Type 0) (joined : Bool) (g g' g'' : Option (List (List ℕ))) (a b c : Wire) (s t : Screen) (lacked : Bool) (line reply : List ℕ) → TurnsSoFar IsFile joined g g' a b s t lacked → GivesLine g' g'' line false → Asks b c (written_line (codes "logout")) reply → TakesTurns IsFile joined g g'' a c s t lacked
-turns_end IsFile joined g g' g'' a b c s t lacked line reply f gives asks =
+pub turns_end : (IsFile : List ℕ → List ℕ → Type 0) (joined : Bool) (g g' g'' : Option (List (List ℕ))) (a b c : Wire) (s t : Screen) (lacked still : Bool) (line reply : List ℕ) → TurnsSoFar IsFile joined g g' a b s t lacked still → GivesLine g' g'' line false → Asks b c (written_line (codes "logout")) reply → TakesTurns IsFile joined g g'' a c s t lacked still
+turns_end IsFile joined g g' g'' a b c s t lacked still line reply f gives asks =
     let x : Exchange = record { request = written_line (codes "logout"); reply = reply ∷ [] } in
     record {
       turns = f.turns;
@@ -240,31 +256,32 @@ turns_end IsFile joined g g' g'' a b c s t lacked line reply f gives asks =
       made = exchanges_both a b c (asked_in f.turns) (x ∷ []) f.made.made (one_exchange b c c (written_line (codes "logout")) reply [] asks (hears_none c));
       shows = f.made.shows;
       lacks = f.made.lacks;
+      stands = f.made.stands;
       written = f.made.written;
     }
 
 -- ---- a talk
 
 -- a login is refused
-pub talk_refused : (IsFile : List ℕ → List ℕ → Type 0) (joined : Bool) (login : List ℕ) (g : Option (List (List ℕ))) (a b : Wire) (s t u : Screen) (summary : TalkSummary) (reply told shown : List ℕ) → Asks a b login reply → told ≡ reply → is_refusal told ≡ true → shown ≡ reply → Shows s t (written_line shown) → Shows t u [] → u.waiting ≡ [] → summary.was_refused ≡ true → summary.lacked_file ≡ false → Talks IsFile joined login g g a b s u summary
-talk_refused IsFile joined login g a b s t u summary reply told shown asks same e again h flush empty was lacked =
+pub talk_refused : (IsFile : List ℕ → List ℕ → Type 0) (joined : Bool) (login : List ℕ) (g g' : Option (List (List ℕ))) (a b : Wire) (s t u : Screen) (summary : TalkSummary) (reply told shown : List ℕ) → Asks a b login reply → told ≡ reply → is_refusal told ≡ true → shown ≡ reply → Shows s t (written_line shown) → Shows t u [] → u.waiting ≡ [] → summary.was_refused ≡ true → summary.lacked_file ≡ false → summary.stood_still ≡ false → g' ≡ g → Talks IsFile joined login g g' a b s u summary
+talk_refused IsFile joined login g g' a b s t u summary reply told shown asks same e again h flush empty was lacked stood given =
     let is : is_refusal reply ≡ true = ap is_refusal (sym same) ∙ e in
-    let F : Bool → Type 0 = λ x. FollowsLogin IsFile joined reply g g b b s u summary.lacked_file x in
+    let F : Bool → Type 0 = λ x. FollowsLogin IsFile joined reply g g' b b s u summary.lacked_file summary.stood_still x in
     let P : List ℕ → Type 0 = λ x. Shows s t (written_line x) in
     let Q : List ℕ → Type 0 = λ x. Shows s u x in
     record {
       reply = reply;
       welcomed = b;
       asks = one_exchange a b b login reply [] asks (hears_none b);
-      follows = subst F (sym is) (refl, refl, subst Q (append-nil (written_line reply)) (shows_both s t u (written_line reply) [] (subst P again h) flush), empty, lacked);
+      follows = subst F (sym is) (given, refl, subst Q (append-nil (written_line reply)) (shows_both s t u (written_line reply) [] (subst P again h) flush), empty, lacked, stood);
       refused = was ∙ or_true a.was_refused (is_refusal reply) is ∙ sym asks.refused;
     }
 
 -- a login is not refused
-pub talk_held : (IsFile : List ℕ → List ℕ → Type 0) (joined : Bool) (login : List ℕ) (g g' : Option (List (List ℕ))) (a b c : Wire) (s t : Screen) (summary : TalkSummary) (reply told : List ℕ) → Asks a b login reply → told ≡ reply → is_refusal told ≡ false → TakesTurns IsFile joined g g' b c s t summary.lacked_file → summary.was_refused ≡ c.was_refused → Talks IsFile joined login g g' a c s t summary
+pub talk_held : (IsFile : List ℕ → List ℕ → Type 0) (joined : Bool) (login : List ℕ) (g g' : Option (List (List ℕ))) (a b c : Wire) (s t : Screen) (summary : TalkSummary) (reply told : List ℕ) → Asks a b login reply → told ≡ reply → is_refusal told ≡ false → TakesTurns IsFile joined g g' b c s t summary.lacked_file summary.stood_still → summary.was_refused ≡ c.was_refused → Talks IsFile joined login g g' a c s t summary
 talk_held IsFile joined login g g' a b c s t summary reply told asks same e turns refused =
     let is : is_refusal reply ≡ false = ap is_refusal (sym same) ∙ e in
-    let F : Bool → Type 0 = λ x. FollowsLogin IsFile joined reply g g' b c s t summary.lacked_file x in
+    let F : Bool → Type 0 = λ x. FollowsLogin IsFile joined reply g g' b c s t summary.lacked_file summary.stood_still x in
     record {
       reply = reply;
       welcomed = b;

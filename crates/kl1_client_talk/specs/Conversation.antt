@@ -1,5 +1,5 @@
 -- What is said for the lines of a user, and what is shown of it.
-use Rattle.std.specs.Prelude.{◌≡◌, ℕ, ◌+◌, ◌⊎◌, nat_lt, nat_le, not, ◌&&◌, Bool, true, false, if◌then◌else◌, List, [], ◌∷◌, ◌++◌, length, map, Some, codes}
+use Rattle.std.specs.Prelude.{◌≡◌, ℕ, ◌+◌, ◌⊎◌, nat_lt, nat_le, not, ◌&&◌, Bool, true, false, if◌then◌else◌, List, [], ◌∷◌, ◌++◌, length, map, decimal, ⊤, None, Some, codes}
 use Rattle.std.specs.List.{list_all, list_any}
 use Rattle.kl1_model.specs.declared.limits.TheConstants.{MOST_LISTED}
 use Rattle.kl1_model.specs.Line.{without_return}
@@ -10,8 +10,8 @@ use Rattle.std.specs.Str.{IsTrimAscii}
 use Rattle.kl1_client_talk.specs.declared.turn_end.TurnEnd.{TurnEnd}
 use Rattle.kl1_client_talk.specs.declared.turn_end.TurnEnd.TheVariants as end
 use Rattle.kl1_client_talk.specs.Request.{load_of, page_line, status_line}
-use Rattle.kl1_client_talk.specs.Reply.{is_refusal, count_in, is_over, is_bye}
-use Rattle.kl1_client_talk.specs.UserCommand.{Wanted, nothing, load, wait, pages, list, logout, one_line, wanted_in}
+use Rattle.kl1_client_talk.specs.Reply.{is_refusal, count_in, has_ended, is_over, is_still, is_bye}
+use Rattle.kl1_client_talk.specs.UserCommand.{Wanted, nothing, help, load, save, wait, watch, pages, list, logout, quit, one_line, wanted_in}
 use Rattle.kl1_client_talk.specs.Exchanges.{Exchange, Exchanges, Wire, Screen, Hears, Shows}
 use Rattle.kl1_client_talk.specs.Given.{GivesLines, IsAllGiven}
 use Rattle.kl1_client_talk.specs.declared.summary.TalkSummary.{TalkSummary}
@@ -60,13 +60,23 @@ is_full most lines = nat_le most (length lines) && nat_lt 0 (length lines)
 abbrev pub is_full_page : ℕ → Listing → Bool
 is_full_page most l = not (is_refusal l.first) && is_full most l.lines
 
+-- how many lines pages have
+abbrev pub count_of : List Listing → ℕ
+count_of [] = 0
+count_of (l ∷ ls) = length l.lines + count_of ls
+
+-- where the next page would begin after one that begins at a number, if that is no refusal
+abbrev pub after_page : ℕ → Listing → Option ℕ
+after_page from l = if is_refusal l.first then None else Some (from + length l.lines)
+
 -- the last reply is a refusal, which is shown, or a page that isn't full, of which the lines are shown
 abbrev pub IsLastPage : ℕ → Listing → List (List ℕ) → Type 0
 IsLastPage most l shown =
     IsListing l × (is_full_page most l ≡ false) × (shown ≡ (if is_refusal l.first then l.first ∷ [] else l.lines))
 
--- pages were asked for from a number on, up to one that isn't full or is refused, and their lines are shown
-pub record AsksPages (p : Page) (from : ℕ) (es : List Exchange) (shown : List (List ℕ)) : Type 0 where
+-- pages were asked for from a number on, up to one that isn't full, after which the next one would begin at this number; or up to one
+-- that is refused. Their lines are shown
+pub record AsksPages (p : Page) (from : ℕ) (after : Option ℕ) (es : List Exchange) (shown : List (List ℕ)) : Type 0 where
   pub full : List Listing
   pub last : Listing
   pub end : List (List ℕ)
@@ -74,6 +84,15 @@ pub record AsksPages (p : Page) (from : ℕ) (es : List Exchange) (shown : List 
   pub are_full : list_all (is_full_page (most_of p)) full ≡ true
   pub is_last : IsLastPage (most_of p) last end
   pub shown_is : shown ≡ page_lines full ++ end
+  pub after_is : after ≡ after_page (from + count_of full) last
+
+-- lines end in this one
+abbrev pub EndIn : List ℕ → List (List ℕ) → Type 0
+EndIn line lines = (front : List (List ℕ)) × (lines ≡ front ++ line ∷ [])
+
+-- pages were asked for, and if one is refused, this line is the refusal
+abbrev pub AsksPagesTo : Page → ℕ → Option ℕ → List ℕ → List Exchange → List (List ℕ) → Type 0
+AsksPagesTo p from after line es shown = AsksPages p from after es shown × (after ≡ None → EndIn line shown)
 
 -- ---- waiting
 
@@ -81,14 +100,85 @@ pub record AsksPages (p : Page) (from : ℕ) (es : List Exchange) (shown : List 
 abbrev pub status_exchange : ℕ → List ℕ → Exchange
 status_exchange shoen line = record { request = status_line shoen; reply = line ∷ [] }
 
--- a shoen's status was asked for until it had ended or was refused, and the last reply is shown
-pub record Waits (shoen : ℕ) (es : List Exchange) (shown : List (List ℕ)) : Type 0 where
-  pub before : List (List ℕ)
+-- a request for one step, and its reply
+abbrev pub step_exchange : List ℕ → Exchange
+step_exchange line = record { request = written_line (codes "run 1"); reply = line ∷ [] }
+
+-- a look at a shoen: the replies to a question for its status, and to a request for one step
+pub record Look : Type 0 where
+  pub status : List ℕ
+  pub step : List ℕ
+
+-- what is asked in looks
+abbrev pub look_exchanges : ℕ → List Look → List Exchange
+look_exchanges shoen [] = []
+look_exchanges shoen (l ∷ ls) = status_exchange shoen l.status ∷ step_exchange l.step ∷ look_exchanges shoen ls
+
+-- whether a wait goes on after a look: the shoen had not ended, and a step was done
+abbrev pub goes_on : Look → Bool
+goes_on l = not (is_over l.status) && not (is_still l.step)
+
+-- why a wait ends: the shoen has ended, or the question for its status is refused; or no step could be done in the last look; or there
+-- is a number of seconds after which it ends
+abbrev pub WaitEnds : Option ℕ → List Look → List ℕ → Type 0
+WaitEnds None [] last = is_over last ≡ true
+WaitEnds (Some seconds) [] last = ⊤
+WaitEnds seconds (l ∷ []) last = (is_over l.status ≡ false) × (is_still l.step ≡ true)
+WaitEnds seconds (l ∷ k ∷ ls) last = ⊥
+
+-- a shoen was looked at until its wait ended, and then the last reply to a question for its status is shown
+pub record Waits (shoen : ℕ) (seconds : Option ℕ) (es : List Exchange) (shown : List (List ℕ)) : Type 0 where
+  pub before : List Look
+  pub end : List Look
   pub last : List ℕ
-  pub asked : es ≡ map (status_exchange shoen) (before ++ last ∷ [])
-  pub none_over : list_all (λ line. not (is_over line)) before ≡ true
-  pub over : is_over last ≡ true
+  pub asked : es ≡ look_exchanges shoen (before ++ end) ++ status_exchange shoen last ∷ []
+  pub go_on : list_all goes_on before ≡ true
+  pub ends : WaitEnds seconds end last
   pub shown_is : shown ≡ last ∷ []
+
+-- ---- watching
+
+-- a look at a shoen's reports: its status, and the reports that had come since the look before
+pub record ReportLook : Type 0 where
+  pub status : List ℕ
+  pub exchanges : List Exchange
+  pub reports : List (List ℕ)
+  pub after : ℕ
+
+-- a shoen's reports were looked at from a number on, and it had not ended; each look begins after the reports of the one before
+abbrev pub AreReportLooks : ℕ → ℕ → List ReportLook → ℕ → Type 0
+AreReportLooks shoen from [] next = next ≡ from
+AreReportLooks shoen from (l ∷ ls) next =
+    (is_over l.status ≡ false) × AsksPages (page.Reports shoen) from (Some l.after) l.exchanges l.reports × AreReportLooks shoen l.after ls next
+
+-- what is asked in these looks
+abbrev pub report_exchanges : ℕ → List ReportLook → List Exchange
+report_exchanges shoen [] = []
+report_exchanges shoen (l ∷ ls) = (status_exchange shoen l.status ∷ l.exchanges) ++ report_exchanges shoen ls
+
+-- what is shown of them
+abbrev pub report_lines : List ReportLook → List (List ℕ)
+report_lines [] = []
+report_lines (l ∷ ls) = l.reports ++ report_lines ls
+
+-- how a watch ends: the question for the status is refused, which is shown; or the last reports are shown, and the shoen had ended
+-- before these were asked for, or a page of them is refused
+abbrev pub WatchEnds : ℕ → ℕ → List ℕ → List Exchange → List (List ℕ) → Type 0
+WatchEnds shoen next status rest shown =
+    ((is_refusal status ≡ true) × (rest ≡ []) × (shown ≡ status ∷ []))
+    ⊎ ((after : Option ℕ) × AsksPages (page.Reports shoen) next after rest shown × ((has_ended status ≡ true) ⊎ (after ≡ None)))
+
+-- a shoen's reports were shown as they came, from the first one on
+pub record Watches (shoen : ℕ) (es : List Exchange) (shown : List (List ℕ)) : Type 0 where
+  pub looks : List ReportLook
+  pub next : ℕ
+  pub status : List ℕ
+  pub rest : List Exchange
+  pub end : List (List ℕ)
+  pub are_looks : AreReportLooks shoen 1 looks next
+  pub ends : WatchEnds shoen next status rest end
+  pub asked : es ≡ report_exchanges shoen looks ++ status_exchange shoen status ∷ rest
+  pub shown_is : shown ≡ report_lines looks ++ end
 
 -- ---- one line of the user
 
@@ -117,15 +207,43 @@ pub record AsksLoad (IsFile : List ℕ → List ℕ → Type 0) (text : List ℕ
   pub trimmed : IsTrimAscii text name
   pub asks : (IsFile name source × AsksOne (load_of source) es shown) ⊎ AsksNothing es shown
 
+-- the exchange of a logout
+pub record IsLogout (es : List Exchange) : Type 0 where
+  pub reply : List ℕ
+  pub asked : es ≡ record { request = written_line (codes "logout"); reply = reply ∷ [] } ∷ []
+
+-- the line that tells how many lines were kept
+abbrev pub saved_line : ℕ → List ℕ
+saved_line count = codes "+ saved " ++ decimal count
+
+-- what is shown of a journal that was to be kept as the file of this name: a refusal; or nothing, if the file can't be written; or how
+-- many lines it has
+abbrev pub ShowsSaved : (List ℕ → List ℕ → Type 0) → List ℕ → Option ℕ → List (List ℕ) → List (List ℕ) → Type 0
+ShowsSaved IsFile name None lines shown = (last : List ℕ) × EndIn last lines × (shown ≡ last ∷ [])
+ShowsSaved IsFile name (Some after) lines shown = (shown ≡ []) ⊎ (IsFile name (written_lines lines) × (shown ≡ saved_line (length lines) ∷ []))
+
+-- the whole journal was asked for, and kept as the file whose name is in this
+pub record AsksSave (IsFile : List ℕ → List ℕ → Type 0) (text : List ℕ) (es : List Exchange) (shown : List (List ℕ)) : Type 0 where
+  pub name : List ℕ
+  pub after : Option ℕ
+  pub lines : List (List ℕ)
+  pub trimmed : IsTrimAscii text name
+  pub asks : AsksPages (page.Journal MOST_LISTED) 1 after es lines
+  pub shows : ShowsSaved IsFile name after lines shown
+
 -- what is asked for a line of the user, and what is shown of it; `joined` tells whether pages are joined
 abbrev pub AsksWanted : (List ℕ → List ℕ → Type 0) → Bool → List ℕ → Wanted → List Exchange → List (List ℕ) → Type 0
 AsksWanted IsFile joined line nothing es shown = AsksNothing es shown
 AsksWanted IsFile joined line (load text) es shown = AsksLoad IsFile text es shown
-AsksWanted IsFile joined line (wait shoen) es shown = Waits shoen es shown
-AsksWanted IsFile true line (pages p from) es shown = AsksPages p from es shown
+AsksWanted IsFile joined line (help topic) es shown = AsksNothing es shown
+AsksWanted IsFile joined line (save text) es shown = AsksSave IsFile text es shown
+AsksWanted IsFile joined line (wait shoen seconds) es shown = Waits shoen seconds es shown
+AsksWanted IsFile joined line (watch shoen) es shown = Watches shoen es shown
+AsksWanted IsFile true line (pages p from) es shown = (after : Option ℕ) × AsksPages p from after es shown
 AsksWanted IsFile false line (pages p from) es shown = AsksList (written_line line) es shown
 AsksWanted IsFile joined line list es shown = AsksList (written_line line) es shown
 AsksWanted IsFile joined line logout es shown = AsksOne (written_line line) es shown
+AsksWanted IsFile joined line quit es shown = IsLogout es × (shown ≡ [])
 AsksWanted IsFile joined line one_line es shown = AsksOne (written_line line) es shown
 
 -- whether a farewell is shown
@@ -133,17 +251,36 @@ abbrev pub is_farewell : List (List ℕ) → Bool
 is_farewell [] = false
 is_farewell (line ∷ lines) = is_bye line
 
+-- whether nothing is shown
+abbrev pub is_blank : List (List ℕ) → Bool
+is_blank [] = true
+is_blank (line ∷ lines) = false
+
+-- how the turn of a wait ends, by the last reply to a question for the status
+abbrev pub wait_end : List ℕ → TurnEnd
+wait_end line = if is_over line then end.GoesOn else end.StandsStill
+
+-- whether what is shown is that a wait is over
+abbrev pub is_over_in : List (List ℕ) → Bool
+is_over_in [] = false
+is_over_in (line ∷ lines) = is_over line
+
 -- whether nothing was asked
 abbrev pub is_unasked : List Exchange → Bool
 is_unasked [] = true
 is_unasked (e ∷ es) = false
 
--- how a turn ends: a file is lacking if it was to be loaded and nothing was asked; the talk is over if a logout is answered by a farewell
+-- how a turn ends: a file is lacking if it was to be loaded and nothing was asked, or if a journal was to be kept and nothing is shown;
+-- a shoen stands still if it was waited for and has not ended; the talk is over if the user quits, and if a logout is answered by a farewell
 abbrev pub turn_end : Wanted → List Exchange → List (List ℕ) → TurnEnd
 turn_end (load text) es shown = if is_unasked es then end.LacksFile else end.GoesOn
 turn_end logout es shown = if is_farewell shown then end.Over else end.GoesOn
+turn_end (save text) es shown = if is_blank shown then end.LacksFile else end.GoesOn
+turn_end (wait shoen seconds) es shown = if is_over_in shown then end.GoesOn else end.StandsStill
+turn_end quit es shown = end.Over
 turn_end nothing es shown = end.GoesOn
-turn_end (wait shoen) es shown = end.GoesOn
+turn_end (help topic) es shown = end.GoesOn
+turn_end (watch shoen) es shown = end.GoesOn
 turn_end (pages p from) es shown = end.GoesOn
 turn_end list es shown = end.GoesOn
 turn_end one_line es shown = end.GoesOn
@@ -178,13 +315,22 @@ end_of t = turn_end (wanted_in t.line) t.exchanges t.shown
 abbrev pub lacks_file : TurnEnd → Bool
 lacks_file end.LacksFile = true
 lacks_file end.GoesOn = false
+lacks_file end.StandsStill = false
 lacks_file end.Over = false
+
+-- whether a shoen that was waited for stands still at the end of a turn
+abbrev pub stands_still : TurnEnd → Bool
+stands_still end.StandsStill = true
+stands_still end.GoesOn = false
+stands_still end.LacksFile = false
+stands_still end.Over = false
 
 -- whether the talk is over at the end of a turn
 abbrev pub is_over_at : TurnEnd → Bool
 is_over_at end.Over = true
 is_over_at end.GoesOn = false
 is_over_at end.LacksFile = false
+is_over_at end.StandsStill = false
 
 -- each turn is what its line wants
 abbrev pub AreTurns : (List ℕ → List ℕ → Type 0) → Bool → List Turn → Type 0
@@ -197,18 +343,13 @@ IsOverAtLast [] over = over ≡ false
 IsOverAtLast (t ∷ []) over = is_over_at (end_of t) ≡ over
 IsOverAtLast (t ∷ u ∷ ts) over = (is_over_at (end_of t) ≡ false) × IsOverAtLast (u ∷ ts) over
 
--- the exchange of a logout at the end of what the user gives; its reply is not shown
-pub record IsLogout (es : List Exchange) : Type 0 where
-  pub reply : List ℕ
-  pub asked : es ≡ record { request = written_line (codes "logout"); reply = reply ∷ [] } ∷ []
-
--- turns end by a logout of the user's that is answered by a farewell; or at the end of what the user gives, and then by a logout
+-- turns end by a logout of the user's that is answered by a farewell, or when the user quits; or at the end of what the user gives, and then by a logout
 abbrev pub EndsBy : Option (List (List ℕ)) → Bool → List Exchange → Type 0
 EndsBy given true es = es ≡ []
 EndsBy given false es = IsAllGiven given × IsLogout es
 
 -- the lines of the user were answered in turns, one after another, of which only the last may have ended the talk
-pub record TakesTurns (IsFile : List ℕ → List ℕ → Type 0) (joined : Bool) (given given' : Option (List (List ℕ))) (old new : Wire) (before after : Screen) (lacked : Bool) : Type 0 where
+pub record TakesTurns (IsFile : List ℕ → List ℕ → Type 0) (joined : Bool) (given given' : Option (List (List ℕ))) (old new : Wire) (before after : Screen) (lacked still : Bool) : Type 0 where
   pub turns : List Turn
   pub is_over : Bool
   pub farewell : List Exchange
@@ -219,18 +360,19 @@ pub record TakesTurns (IsFile : List ℕ → List ℕ → Type 0) (joined : Bool
   pub made : Exchanges old new (asked_in turns ++ farewell)
   pub shows : Shows before after (written_lines (shown_in turns))
   pub lacks : lacked ≡ list_any (λ t. lacks_file (end_of t)) turns
+  pub stands : still ≡ list_any (λ t. stands_still (end_of t)) turns
   pub written : before.waiting ≡ [] → after.waiting ≡ []
 
 -- what follows the reply to a login, by whether that is a refusal: it is shown, and nothing is asked; or the lines of the user are answered
-abbrev pub FollowsLogin : (List ℕ → List ℕ → Type 0) → Bool → List ℕ → Option (List (List ℕ)) → Option (List (List ℕ)) → Wire → Wire → Screen → Screen → Bool → Bool → Type 0
-FollowsLogin IsFile joined reply given given' old new before after lacked true =
-    (given' ≡ given) × (new ≡ old) × Shows before after (written_line reply) × (after.waiting ≡ []) × (lacked ≡ false)
-FollowsLogin IsFile joined reply given given' old new before after lacked false = TakesTurns IsFile joined given given' old new before after lacked
+abbrev pub FollowsLogin : (List ℕ → List ℕ → Type 0) → Bool → List ℕ → Option (List (List ℕ)) → Option (List (List ℕ)) → Wire → Wire → Screen → Screen → Bool → Bool → Bool → Type 0
+FollowsLogin IsFile joined reply given given' old new before after lacked still true =
+    (given' ≡ given) × (new ≡ old) × Shows before after (written_line reply) × (after.waiting ≡ []) × (lacked ≡ false) × (still ≡ false)
+FollowsLogin IsFile joined reply given given' old new before after lacked still false = TakesTurns IsFile joined given given' old new before after lacked still
 
 -- a login was asked for and answered, and what follows it was done
 pub record Talks (IsFile : List ℕ → List ℕ → Type 0) (joined : Bool) (login : List ℕ) (given given' : Option (List (List ℕ))) (old new : Wire) (before after : Screen) (summary : TalkSummary) : Type 0 where
   pub reply : List ℕ
   pub welcomed : Wire
   pub asks : Exchanges old welcomed (record { request = login; reply = reply ∷ [] } ∷ [])
-  pub follows : FollowsLogin IsFile joined reply given given' welcomed new before after summary.lacked_file (is_refusal reply)
+  pub follows : FollowsLogin IsFile joined reply given given' welcomed new before after summary.lacked_file summary.stood_still (is_refusal reply)
   pub refused : summary.was_refused ≡ new.was_refused

@@ -1,11 +1,15 @@
 -- What the first lines of replies tell.
 use Rattle.std.specs.Prelude.{ℕ, nat_eq, List, Bool, Option, None, bytes_eq, codes, ◌||◌, if◌then◌else◌}
 use Rattle.std.specs.List.{starts_with}
-use Rattle.kl1_model.specs.Line.{word_in, behind_word_in, only_number}
+use Rattle.kl1_model.specs.Line.{word_in, behind_word_in, number_in, only_number}
 
 -- a reply is a refusal if its first word is a minus sign
 abbrev pub is_refusal : List ℕ → Bool
 is_refusal line = bytes_eq (word_in line) (codes "-")
+
+-- the number of a refusal
+abbrev pub refusal_in : List ℕ → Option ℕ
+refusal_in line = if is_refusal line then number_in (word_in (behind_word_in line)) else None
 
 -- the number after a plus sign, if it is all that is there
 abbrev pub count_in : List ℕ → Option ℕ
@@ -18,6 +22,10 @@ has_ended line = bytes_eq (word_in (behind_word_in line)) (codes "terminated") |
 -- a wait is over: the question for the status is refused, or the shoen has ended
 abbrev pub is_over : List ℕ → Bool
 is_over line = is_refusal line || has_ended line
+
+-- the reply to a run tells that no step was done: the run is refused, or its second word is 0
+abbrev pub is_still : List ℕ → Bool
+is_still line = is_refusal line || bytes_eq (word_in (behind_word_in line)) (codes "0")
 
 -- the reply to a logout is a farewell
 abbrev pub is_bye : List ℕ → Bool

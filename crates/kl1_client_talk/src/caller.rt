@@ -1,10 +1,11 @@
 // Who gives the commands.
 
-ghost use Rattle.std.specs.Prelude.{◌≡◌, List, ℕ, IfOk, IsTrue};
+ghost use Rattle.std.specs.Prelude.{◌≡◌, None, false, List, ℕ, IfOk, IsTrue};
 ghost use Rattle.std.specs.declared.option.Option.{Option};
 ghost use Rattle.kl1_client_talk.specs.Given.{GivesLine};
 
 use crate::fault::Fault;
+use crate::turn_end::TurnEnd;
 
 /// Who gives the commands of a talk.
 pub trait Caller {
@@ -24,7 +25,22 @@ pub trait Caller {
         ensures file { IfOk result (λ found. IsTrue found → is_file name.now source.new.items) }
         ensures same { remaining self.new ≡ remaining self.old };
 
-    /// Lets some time pass before the next look at a shoen, after this number of looks, from 1.
-    fn pause(&mut self, looks: u64)
+    /// Keeps these bytes as the file of this name. `false`: it can't be written, and the caller has told why.
+    fn save(&mut self, name: &[u8], bytes: &[u8]) -> Result<bool, Fault>
+        ensures file { IfOk result (λ kept. IsTrue kept → is_file name.now bytes.now) }
+        ensures same { remaining self.new ≡ remaining self.old };
+
+    /// Lets some time pass before the next look at a shoen, after this number of looks, from 1. Tells whether the looks end here: they do
+    /// when these seconds have passed since the first one, and never by time if none are given.
+    fn pause(&mut self, looks: u64, seconds: Option<u64>) -> bool
+        ensures ends { seconds ≡ None → result ≡ false }
+        ensures same { remaining self.new ≡ remaining self.old };
+
+    /// Tells what the commands are that begin with this word, or all of them if there is no word.
+    fn help(&mut self, topic: &[u8])
+        ensures { remaining self.new ≡ remaining self.old };
+
+    /// Is told, after each turn, how it ended, the number of the last refusal in it, and the last line that came.
+    fn turned(&mut self, end: TurnEnd, refusal: Option<u64>, line: &[u8])
         ensures { remaining self.new ≡ remaining self.old };
 }

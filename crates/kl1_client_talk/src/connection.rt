@@ -1,13 +1,14 @@
 // The connection to a server.
 
-ghost use Rattle.std.specs.Prelude.{◌≡◌, ◌∷◌, [], false, OnOk, OnErr};
+ghost use Rattle.std.specs.Prelude.{◌≡◌, ◌∷◌, [], None, false, if◌then◌else◌, OnOk, OnErr};
 ghost use Rattle.kl1_client_talk.specs.Request.{text_of};
 ghost use Rattle.kl1_client_talk.specs.Exchanges.{wire, Asks, Hears};
+ghost use Rattle.kl1_client_talk.specs.Reply.{is_refusal, refusal_in};
 ghost use Rattle.kl1_lines.specs.Devices.{AppendsFront};
 
 use crate::fault::Fault;
 use crate::line_reader::LineReader;
-use crate::reply::is_refusal;
+use crate::reply::{is_refusal, refusal_in};
 use crate::request::{Request, put_request};
 use kl1_lines::{Sink, Source, finish};
 use std::alloc::Global;
@@ -23,6 +24,8 @@ pub struct Connection<S, T> {
     line: Vec<u8>,
     /// Whether a reply was a refusal.
     was_refused: bool,
+    /// The number of the last refusal that wasn't taken.
+    refusal: Option<u64>,
 }
 
 impl<S: Source, T: Sink> Connection<S, T> {
@@ -36,6 +39,7 @@ impl<S: Source, T: Sink> Connection<S, T> {
             request: Vec::new(alloc),
             line: Vec::new(alloc),
             was_refused: false,
+            refusal: None,
         }
     }
 
@@ -53,9 +57,22 @@ impl<S: Source, T: Sink> Connection<S, T> {
         self.was_refused
     }
 
+    /// Takes the number of the last refusal since it was last taken.
+    pub(crate) fn take_refusal(&mut self) -> Option<u64>
+        ensures value { result ≡ self.old.refusal }
+        ensures none { self.new.refusal ≡ None }
+        ensures line { self.new.line ≡ self.old.line }
+        ensures wire { wire T.contents S.remaining self.new ≡ wire T.contents S.remaining self.old }
+    {
+        let refusal = self.refusal;
+        self.refusal = None;
+        refusal
+    }
+
     /// Sends a request, and takes the first line of its reply.
     pub fn ask(&mut self, request: Request<'_>) -> Result<(), Fault>
         ensures ok { OnOk result (Asks (wire T.contents S.remaining self.old) (wire T.contents S.remaining self.new) (text_of request.entry) self.new.line.items) }
+        ensures refusal { OnOk result (self.new.refusal ≡ (if is_refusal self.new.line.items then refusal_in self.new.line.items else self.old.refusal)) }
         ensures front { OnErr result (AppendsFront (T.contents self.old.sink) (T.contents self.new.sink) (text_of request.entry)) }
     {
         self.request.clear();
@@ -66,6 +83,7 @@ impl<S: Source, T: Sink> Connection<S, T> {
         self.take_line()?;
         if is_refusal(self.line.as_slice()) {
             self.was_refused = true;
+            self.refusal = refusal_in(self.line.as_slice());
             return Ok(());
         }
         if self.line.as_slice().starts_with(b"+ ") {

@@ -1,9 +1,9 @@
 // The first line of a reply.
 
 ghost use Rattle.std.specs.Prelude.{◌≡◌};
-ghost use Rattle.kl1_client_talk.specs.Reply.{count_in, has_ended, is_bye, is_over, is_refusal};
+ghost use Rattle.kl1_client_talk.specs.Reply.{count_in, has_ended, is_bye, is_over, is_refusal, is_still, refusal_in};
 
-use kl1_lines::{is_same, only_number, split_word};
+use kl1_lines::{is_same, number_in, only_number, split_word};
 
 /// Whether a reply is a refusal, by its first line.
 pub fn is_refusal(line: &[u8]) -> bool
@@ -11,6 +11,18 @@ pub fn is_refusal(line: &[u8]) -> bool
 {
     let (word, _) = split_word(line);
     is_same(word, b"-")
+}
+
+/// The number of a refusal, if a reply is one, by its first line.
+pub(crate) fn refusal_in(line: &[u8]) -> Option<u64>
+    ensures { result ≡ refusal_in line.now }
+{
+    if !is_refusal(line) {
+        return None;
+    }
+    let (_, rest) = split_word(line);
+    let (number, _) = split_word(rest);
+    number_in(number)
 }
 
 /// How many lines come after the first one of a reply that lists lines; `None` if it lists none.
@@ -39,6 +51,15 @@ pub(crate) fn is_over(line: &[u8]) -> bool
     ensures { result ≡ is_over line.now }
 {
     is_refusal(line) || has_ended(line)
+}
+
+/// Whether no step was done, by the reply to a run: it is refused, or did none.
+pub(crate) fn is_still(line: &[u8]) -> bool
+    ensures { result ≡ is_still line.now }
+{
+    let (_, rest) = split_word(line);
+    let (count, _) = split_word(rest);
+    is_refusal(line) || is_same(count, b"0")
 }
 
 /// Whether a reply to a logout is a farewell.

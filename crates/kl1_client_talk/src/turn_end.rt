@@ -1,15 +1,17 @@
 // How a turn of a talk ends.
 
 ghost use Rattle.std.specs.Prelude.{◌≡◌, ◌||◌};
-ghost use Rattle.kl1_client_talk.specs.Conversation.{lacks_file, is_over_at};
+ghost use Rattle.kl1_client_talk.specs.Conversation.{lacks_file, stands_still, is_over_at};
 
 /// How a turn of a talk ends, in which one line of the user is answered.
 #[derive(Clone, Copy)]
 pub enum TurnEnd {
     /// The talk goes on.
     GoesOn,
-    /// The talk goes on, and a file could not be loaded.
+    /// The talk goes on, and a file could not be loaded or written.
     LacksFile,
+    /// The talk goes on, and a shoen that was waited for has not ended.
+    StandsStill,
     /// The talk is over.
     Over,
 }
@@ -21,17 +23,27 @@ impl TurnEnd {
     {
         match self {
             TurnEnd::Over => true,
-            TurnEnd::GoesOn | TurnEnd::LacksFile => false,
+            TurnEnd::GoesOn | TurnEnd::LacksFile | TurnEnd::StandsStill => false,
         }
     }
 
-    /// Whether a file could not be loaded in this turn or, as `before` tells, in an earlier one.
+    /// Whether a file could not be loaded or written in this turn or, as `before` tells, in an earlier one.
     pub(crate) fn lacks_file(self, before: bool) -> bool
         ensures { result ≡ (before || lacks_file self) }
     {
         match self {
             TurnEnd::LacksFile => true,
-            TurnEnd::GoesOn | TurnEnd::Over => before,
+            TurnEnd::GoesOn | TurnEnd::StandsStill | TurnEnd::Over => before,
+        }
+    }
+
+    /// Whether a shoen that was waited for has not ended, in this turn or, as `before` tells, in an earlier one.
+    pub(crate) fn stands_still(self, before: bool) -> bool
+        ensures { result ≡ (before || stands_still self) }
+    {
+        match self {
+            TurnEnd::StandsStill => true,
+            TurnEnd::GoesOn | TurnEnd::LacksFile | TurnEnd::Over => before,
         }
     }
 }

@@ -1,8 +1,8 @@
 // What a line of the user asks for.
 
 ghost use Rattle.std.specs.Prelude.{◌≡◌};
-ghost use Rattle.kl1_client_talk.specs.UserCommand.{wanted_in, wanted_of, wanted_by, reports_by, journal_by, wait_by};
-ghost use Rattle.kl1_model.specs.Line.{word_in, behind_word_in, number_in, only_number};
+ghost use Rattle.kl1_client_talk.specs.UserCommand.{wanted_in, wanted_of, reports_by, journal_by, wait_by};
+ghost use Rattle.kl1_model.specs.Line.{word_in, behind_word_in, is_blank_line, number_in, only_number};
 
 use crate::request::Page;
 use kl1_lines::{is_blank_line, is_same, number_in, only_number, split_word, without_return};
@@ -12,16 +12,24 @@ use kl1_lines::{is_blank_line, is_same, number_in, only_number, split_word, with
 pub enum UserCommand<'a> {
     /// Nothing: it is blank.
     Nothing,
+    /// Help on what this names, without the blanks around it, or on all.
+    Help(&'a [u8]),
     /// That the file is loaded whose name is this without the blanks around it.
     Load(&'a [u8]),
-    /// That all waits until the shoen of this number has ended.
-    Wait(u64),
+    /// That the journal is kept as the file whose name is this without the blanks around it.
+    Save(&'a [u8]),
+    /// That all waits until the shoen of this number has ended, or for this number of seconds.
+    Wait(u64, Option<u64>),
+    /// The reports of the shoen of this number as they come, until it has ended.
+    Watch(u64),
     /// Pages from this number on.
     Pages(Page, u64),
     /// A reply that lists lines, if it is no refusal.
     List,
-    /// That the session ends.
+    /// That the session ends, with a farewell that is shown.
     Logout,
+    /// That the session ends.
+    Quit,
     /// A reply of one line.
     OneLine,
 }
@@ -39,9 +47,17 @@ pub fn command_in(line: &[u8]) -> UserCommand<'_>
         } else {
             UserCommand::Load(rest)
         }
+    } else if is_same(word, b"save") {
+        if is_blank_line(rest) {
+            UserCommand::OneLine
+        } else {
+            UserCommand::Save(rest)
+        }
     } else if is_same(word, b"wait") {
+        wait_by(rest)
+    } else if is_same(word, b"watch") {
         match only_number(rest) {
-            Some(shoen) => UserCommand::Wait(shoen),
+            Some(shoen) => UserCommand::Watch(shoen),
             None => UserCommand::OneLine,
         }
     } else if is_same(word, b"reports") {
@@ -52,8 +68,36 @@ pub fn command_in(line: &[u8]) -> UserCommand<'_>
         UserCommand::List
     } else if is_same(word, b"logout") {
         UserCommand::Logout
+    } else if is_same(word, b"quit") {
+        if is_blank_line(rest) {
+            UserCommand::Quit
+        } else {
+            UserCommand::OneLine
+        }
+    } else if is_same(word, b"help") || is_same(word, b"?") {
+        UserCommand::Help(rest)
     } else {
         UserCommand::OneLine
+    }
+}
+
+/// What a line asks for that has this after `wait`.
+fn wait_by(rest: &[u8]) -> UserCommand<'_>
+    ensures { wanted_of result ≡ wait_by (number_in (word_in rest.now)) (is_blank_line (behind_word_in rest.now)) (only_number (behind_word_in rest.now)) }
+{
+    let (first, rest) = split_word(rest);
+    match number_in(first) {
+        None => UserCommand::OneLine,
+        Some(shoen) => {
+            if is_blank_line(rest) {
+                UserCommand::Wait(shoen, None)
+            } else {
+                match only_number(rest) {
+                    None => UserCommand::OneLine,
+                    Some(seconds) => UserCommand::Wait(shoen, Some(seconds)),
+                }
+            }
+        }
     }
 }
 

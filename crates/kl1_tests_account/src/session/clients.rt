@@ -3,12 +3,14 @@
 ghost use Rattle.std.specs.Prelude.{◌≡◌, None};
 
 use crate::session::streams::Pieces;
-use kl1_client_talk::{Caller, Connection, Fault, LineReader, ReplyWriter, status_of, talk};
+use kl1_client_talk::{
+    Caller, Connection, Fault, LineReader, ReplyWriter, TurnEnd, status_of, talk,
+};
 use kl1_lines::{FailureCounter, is_same};
 use kl1_tests_rows::{Text, cut};
 use std::alloc::Global;
 
-/// Who gives the commands: a file has its own name for its bytes, and there is no file `absent`.
+/// Who gives the commands: a file has its own name for its bytes, and there is no file `absent`. A second is one look.
 #[derive(Drop)]
 struct Script<'a> {
     lines: LineReader<FailureCounter<&'a [u8]>>,
@@ -29,7 +31,20 @@ impl Caller for Script<'_> {
         Ok(!is_same(name, b"absent"))
     }
 
-    fn pause(&mut self, _looks: u64) {}
+    fn save(&mut self, name: &[u8], bytes: &[u8]) -> Result<bool, Fault> {
+        Ok(is_same(bytes, name))
+    }
+
+    fn pause(&mut self, looks: u64, seconds: Option<u64>) -> bool {
+        match seconds {
+            Some(seconds) => looks >= seconds,
+            None => false,
+        }
+    }
+
+    fn help(&mut self, _topic: &[u8]) {}
+
+    fn turned(&mut self, _end: TurnEnd, _refusal: Option<u64>, _line: &[u8]) {}
 }
 
 /// The status of a client with these commands, to whom these replies come in pieces of at most `size` bytes; a bar, what it sends, a

@@ -3,7 +3,7 @@ use Rattle.std.proofs.lemmas.Result.{on_ok_weaker}
 use Rattle.kl1_client_talk.specs.Exchanges.{wire, screen}
 use Rattle.kl1_client_talk.specs.Reply.{is_refusal, count_in}
 use Rattle.kl1_client_talk.proofs.Said.{refusal_listed, lines_listed, shown_as}
-use Rattle.kl1_client_talk.proofs.conversation.show_list.Goals as goal
+use Rattle.kl1_client_talk.proofs.listing.show_list.Goals as goal
 
 pub returns-then-is_refusal-clause-ok : goal.returns-then-is_refusal-clause-ok
 returns-then-is_refusal-clause-ok g c =

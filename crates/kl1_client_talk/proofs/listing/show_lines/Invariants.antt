@@ -1,6 +1,6 @@
 use Rattle.std.proofs.Common.{◌≡◌, ℕ, List, length}
 use Rattle.kl1_client_talk.specs.Exchanges.{wire, screen, ShowsLines}
-use Rattle.kl1_client_talk.proofs.conversation.show_lines.Given as goal
+use Rattle.kl1_client_talk.proofs.listing.show_lines.Given as goal
 
 -- as many lines as were counted came and were shown
 abbrev pub invariant-loop : goal.invariant-loop

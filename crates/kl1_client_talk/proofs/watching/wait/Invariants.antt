@@ -1,7 +1,7 @@
 use Rattle.std.proofs.Common.{◌≡◌}
 use Rattle.kl1_client_talk.specs.Exchanges.{wire}
 use Rattle.kl1_client_talk.proofs.Paged.{WaitsSoFar}
-use Rattle.kl1_client_talk.proofs.conversation.wait.Given as goal
+use Rattle.kl1_client_talk.proofs.watching.wait.Given as goal
 
 -- the status was asked for, and the shoen had not ended; nothing was shown
 abbrev pub invariant-loop-looks : goal.invariant-loop-looks

@@ -1,7 +1,7 @@
 use Rattle.std.proofs.Common.{◌≡◌}
 use Rattle.kl1_client_talk.specs.Exchanges.{wire, screen}
 use Rattle.kl1_client_talk.proofs.Paged.{PagesSoFar}
-use Rattle.kl1_client_talk.proofs.conversation.ask_pages.Given as goal
+use Rattle.kl1_client_talk.proofs.listing.ask_pages.Given as goal
 
 -- full pages were asked for and shown, and the next one begins after their last line
 abbrev pub invariant-loop : goal.invariant-loop

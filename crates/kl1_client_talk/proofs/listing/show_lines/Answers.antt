@@ -1,7 +1,7 @@
 use Rattle.std.proofs.Common.{[], ◌∷◌, ◌++◌, ◌∙◌, refl}
 use Rattle.kl1_client_talk.specs.Exchanges.{wire, screen}
 use Rattle.kl1_client_talk.proofs.Exchanged.{hears_none, shows_none, lines_more, one_longer}
-use Rattle.kl1_client_talk.proofs.conversation.show_lines.Goals as goal
+use Rattle.kl1_client_talk.proofs.listing.show_lines.Goals as goal
 
 pub loop-init : goal.loop-init
 loop-init g c = record {

@@ -2,7 +2,7 @@ use Rattle.std.proofs.lemmas.Result.{on_ok_weaker}
 use Rattle.kl1_model_server.specs.Command.{written_line}
 use Rattle.kl1_client_talk.specs.Exchanges.{wire, screen}
 use Rattle.kl1_client_talk.proofs.Said.{list_said}
-use Rattle.kl1_client_talk.proofs.conversation.ask_list.Goals as goal
+use Rattle.kl1_client_talk.proofs.listing.ask_list.Goals as goal
 
 pub returns-clause-ok : goal.returns-clause-ok
 returns-clause-ok g c =

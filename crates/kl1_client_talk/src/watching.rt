@@ -1,0 +1,108 @@
+// What is asked of a shoen until it has ended.
+
+ghost use Rattle.std.specs.Prelude.{◌≡◌, [], codes, OnOk, IfOk};
+ghost use Rattle.kl1_client_talk.specs.Exchanges.{wire, screen, Asks, ShowsOne, Says};
+ghost use Rattle.kl1_client_talk.specs.Conversation.{Watches, TakesTurn, wait_end};
+ghost use Rattle.kl1_client_talk.specs.UserCommand.{wait};
+ghost use Rattle.kl1_client_talk.specs.Request.{status_line};
+ghost use Rattle.kl1_model_server.specs.Command.{written_line};
+
+use crate::caller::Caller;
+use crate::connection::Connection;
+use crate::fault::Fault;
+use crate::listing::{ask_one, ask_pages};
+use crate::reply::{has_ended, is_over, is_refusal, is_still};
+use crate::reply_writer::ReplyWriter;
+use crate::request::{Page, Request};
+use crate::turn_end::TurnEnd;
+use kl1_lines::{Sink, Source};
+
+/// Looks at a shoen until it has ended, or no step can be done, or its seconds are over, and shows the last reply to a question for its
+/// status.
+pub(crate) fn wait<S: Source, T: Sink, O: Sink, C: Caller>(
+    connection: &mut Connection<S, T>,
+    shown: &mut ReplyWriter<O>,
+    caller: &mut C,
+    shoen: u64,
+    seconds: Option<u64>,
+) -> Result<TurnEnd, Fault>
+    ensures ok { IfOk result (λ end. Says (wire T.contents S.remaining connection.old) (wire T.contents S.remaining connection.new) (screen O.contents shown.old) (screen O.contents shown.new) (TakesTurn C.is_file shown.old.are_pages_joined [] (wait shoen seconds) end)) }
+    ensures joined { shown.new.are_pages_joined ≡ shown.old.are_pages_joined }
+    ensures caller { C.remaining caller.new ≡ C.remaining caller.old }
+{
+    for looks in 1..u64::MAX {
+        connection.ask(Request::Status(shoen))?;
+        let status = connection.line();
+        if is_over(status) {
+            shown.line(status)?;
+            return Ok(TurnEnd::GoesOn);
+        }
+        ask_step(connection)?;
+        let done = connection.line();
+        if is_still(done) {
+            return end_wait(connection, shown, shoen);
+        }
+        if caller.pause(looks, seconds) {
+            return end_wait(connection, shown, shoen);
+        }
+    }
+    Err(Fault::Reply)
+}
+
+/// Asks for one step. The reply tells whether one can be done, as `quiet` doesn't, which knows nothing of the journal.
+fn ask_step<S: Source, T: Sink>(connection: &mut Connection<S, T>) -> Result<(), Fault>
+    ensures ok { OnOk result (Asks (wire T.contents S.remaining connection.old) (wire T.contents S.remaining connection.new) (written_line (codes "run 1")) connection.new.line.items) }
+{
+    connection.ask(Request::Line(b"run 1"))
+}
+
+/// Asks once more for the status of a shoen, which may have ended since, and shows it.
+fn end_wait<S: Source, T: Sink, O: Sink>(
+    connection: &mut Connection<S, T>,
+    shown: &mut ReplyWriter<O>,
+    shoen: u64,
+) -> Result<TurnEnd, Fault>
+    ensures ok { IfOk result (λ end. (ShowsOne (wire T.contents S.remaining connection.old) (wire T.contents S.remaining connection.new) (screen O.contents shown.old) (screen O.contents shown.new) (status_line shoen) connection.new.line.items) × (end ≡ wait_end connection.new.line.items)) }
+    ensures joined { shown.new.are_pages_joined ≡ shown.old.are_pages_joined }
+{
+    ask_one(connection, shown, Request::Status(shoen))?;
+    let last = connection.line();
+    if is_over(last) {
+        Ok(TurnEnd::GoesOn)
+    } else {
+        Ok(TurnEnd::StandsStill)
+    }
+}
+
+/// Shows the reports of a shoen as they come, from the first one on, until it has ended or a question is refused.
+pub(crate) fn watch<S: Source, T: Sink, O: Sink, C: Caller>(
+    connection: &mut Connection<S, T>,
+    shown: &mut ReplyWriter<O>,
+    caller: &mut C,
+    shoen: u64,
+) -> Result<(), Fault>
+    ensures ok { OnOk result (Says (wire T.contents S.remaining connection.old) (wire T.contents S.remaining connection.new) (screen O.contents shown.old) (screen O.contents shown.new) (Watches shoen)) }
+    ensures joined { shown.new.are_pages_joined ≡ shown.old.are_pages_joined }
+    ensures caller { C.remaining caller.new ≡ C.remaining caller.old }
+{
+    let mut next = 1;
+    for looks in 1..u64::MAX {
+        connection.ask(Request::Status(shoen))?;
+        let status = connection.line();
+        if is_refusal(status) {
+            return shown.line(status);
+        }
+        // What has ended before its reports are asked for has no more of them.
+        let has_ended = has_ended(status);
+        let Some(after) = ask_pages(connection, shown, Page::Reports { shoen }, next)? else {
+            return Ok(());
+        };
+        if has_ended {
+            return Ok(());
+        }
+        shown.flush()?;
+        next = after;
+        let _ = caller.pause(looks, None);
+    }
+    Err(Fault::Reply)
+}
