@@ -11,11 +11,12 @@ use Rattle.kl1_lines.specs.declared.failure_counter.FailureCounter.{FailureCount
 use Rattle.kl1_lines.specs.Devices.{known_while, PassesOn}
 use Rattle.kl1_client_talk.specs.declared.request.Page.{Page}
 use Rattle.kl1_client_talk.specs.declared.request.Page.TheVariants as page
+use Rattle.kl1_client_talk.specs.declared.turn_end.TurnEnd.{TurnEnd}
 use Rattle.kl1_client_talk.specs.declared.turn_end.TurnEnd.TheVariants as end
 use Rattle.kl1_client_talk.specs.UserCommand.{save}
 use Rattle.kl1_client_talk.specs.Reply.{is_refusal}
 use Rattle.kl1_client_talk.specs.Exchanges.{Exchange, Exchanges, Wire, Screen, Shows, Says}
-use Rattle.kl1_client_talk.specs.Conversation.{Listing, AsksPages, AsksPagesTo, page_lines, count_of, after_page, EndIn, saved_line, TakesTurn}
+use Rattle.kl1_client_talk.specs.Conversation.{Listing, AsksPages, AsksPagesTo, page_lines, count_of, after_page, EndIn, Kept, saved_line, TakesTurn}
 use Rattle.kl1_client_talk.proofs.Exchanged.{shows_one, shows_none}
 use Rattle.kl1_client_talk.proofs.Paged.{lines_counted}
 
@@ -54,12 +55,20 @@ written_all k l m text begins none h flush empty =
     let rest : flush.passed ≡ l.waiting = sym (append-nil flush.passed) ∙ ap (λ x. flush.passed ++ x) (sym empty) ∙ flush.same ∙ append-nil l.waiting in
     second ∙ ap Some (ap (λ x. h.passed ++ x) rest ∙ h.same ∙ ap (λ x. x ++ text) none)
 
-some_list : (xs ys : List ℕ) → Some xs ≡ Some ys → xs ≡ ys
-some_list xs ys e = cc
+-- what is kept in memory begins empty
+pub begins_empty : {W : Type 0} (known : W → Option (List ℕ)) (o : FailureCounter W) (bytes : W) (k : Screen) → k ≡ record { written = known_while known o; waiting = [] } → o ≡ record { inner = bytes; failures = 0 } → known bytes ≡ Some [] → (k.written ≡ Some []) × (k.waiting ≡ [])
+begins_empty {W} known o bytes k e f h = (ap (λ (s : Screen). s.written) e ∙ ap (known_while known) f ∙ h, ap (λ (s : Screen). s.waiting) e)
 
-if_some : (b : Bool) (xs ys : List ℕ) → (if b then Some xs else None) ≡ Some ys → xs ≡ ys
-if_some true xs ys e = some_list xs ys e
-if_some false xs ys e = cc
+if_known : (b : Bool) (x : Option (List ℕ)) (text : List ℕ) → (if b then x else None) ≡ Some text → x ≡ Some text
+if_known true x text e = e
+if_known false x text e = cc
+
+-- what is known of a sink in memory is what it holds
+pub known_kept : {W : Type 0} (known : W → Option (List ℕ)) (o : FailureCounter W) (text : List ℕ) → known_while known o ≡ Some text → known o.inner ≡ Some text
+known_kept {W} known o text e = if_known (nat_lt o.failures (2 ^ 64 - 1)) (known o.inner) text e
+
+pub some_list : (xs ys : List ℕ) → Some xs ≡ Some ys → xs ≡ ys
+some_list xs ys e = cc
 
 -- ---- turns
 
@@ -85,3 +94,30 @@ save_lacks IsFile joined a b k l s text name line after trimmed h = record {
   made = h.made;
   shows = shows_none s;
 }
+
+-- the file is there
+save_keeps : (IsFile : List ℕ → List ℕ → Type 0) (joined : Bool) (a b : Wire) (k l s t : Screen) (text name line bytes : List ℕ) (after : ℕ) → IsTrimAscii text name → Says a b k l (AsksPagesTo (page.Journal MOST_LISTED) 1 (Some after) line) → ((es : List Exchange) (lines : List (List ℕ)) → AsksPages (page.Journal MOST_LISTED) 1 (Some after) es lines → Shows k l (written_lines lines) → bytes ≡ written_lines lines) → IsFile name bytes → Shows s t (written_line (saved_line (after - 1))) → Says a b s t (TakesTurn IsFile joined [] (save text) end.GoesOn)
+save_keeps IsFile joined a b k l s t text name line bytes after trimmed h kept is shows =
+    let count_is : length h.lines ≡ after - 1 = all_counted (page.Journal MOST_LISTED) after h.exchanges h.lines h.holds.0 in
+    let P : List ℕ → Type 0 = λ x. IsFile name x in
+    let Q : ℕ → Type 0 = λ n. Shows s t (written_line (saved_line n)) in
+    record {
+      exchanges = h.exchanges;
+      lines = saved_line (length h.lines) ∷ [];
+      holds = (record { name = name; after = Some after; lines = h.lines; trimmed = trimmed; asks = h.holds.0; shows = inr (subst P (kept h.exchanges h.lines h.holds.0 h.shows) is, refl) }, refl);
+      made = h.made;
+      shows = shows_one s t (saved_line (length h.lines)) (subst Q (sym count_is) shows);
+    }
+
+-- the journal came whole
+pub save_ends : (IsFile : List ℕ → List ℕ → Type 0) (joined : Bool) (a b : Wire) (k l m s t : Screen) (text name line bytes : List ℕ) (after : ℕ) (e : TurnEnd) → IsTrimAscii text name → Says a b k l (AsksPagesTo (page.Journal MOST_LISTED) 1 (Some after) line) → (k.written ≡ Some []) × (k.waiting ≡ []) → Shows l m [] → m.waiting ≡ [] → m.written ≡ Some bytes → Kept IsFile name bytes (after - 1) s t e → Says a b s t (TakesTurn IsFile joined [] (save text) e)
+save_ends IsFile joined a b k l m s t text name line bytes after end.GoesOn trimmed h begins flush empty written kept =
+    save_keeps IsFile joined a b k l s t text name line bytes after trimmed h (λ es lines asks shows. some_list bytes (written_lines lines) (sym written ∙ written_all k l m (written_lines lines) begins.0 begins.1 shows flush empty)) kept.0 kept.1
+save_ends IsFile joined a b k l m s t text name line bytes after end.LacksFile trimmed h begins flush empty written kept =
+    let P : Screen → Type 0 = λ x. Says a b s x (TakesTurn IsFile joined [] (save text) end.LacksFile) in
+    subst P (sym kept) (save_lacks IsFile joined a b k l s text name line after trimmed h)
+save_ends IsFile joined a b k l m s t text name line bytes after end.StandsStill trimmed h begins flush empty written kept = absurd kept
+save_ends IsFile joined a b k l m s t text name line bytes after end.Over trimmed h begins flush empty written kept = absurd kept
+
+pub pages_some : (a b : Wire) (k l : Screen) (line : List ℕ) (told : Option ℕ) (after : ℕ) → told ≡ Some after → Says a b k l (AsksPagesTo (page.Journal MOST_LISTED) 1 told line) → Says a b k l (AsksPagesTo (page.Journal MOST_LISTED) 1 (Some after) line)
+pages_some a b k l line told after e h = let P : Option ℕ → Type 0 = λ x. Says a b k l (AsksPagesTo (page.Journal MOST_LISTED) 1 x line) in subst P e h

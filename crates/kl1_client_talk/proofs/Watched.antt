@@ -6,6 +6,7 @@ use Rattle.std.specs.List.{list_all}
 use Rattle.std.proofs.lemmas.Bool.{true≢false}
 use Rattle.std.proofs.lemmas.List.{append-nil}
 use Rattle.kl1_model_server.specs.Command.{written_line, written_lines}
+use Rattle.kl1_client_talk.specs.declared.request.Page.{Page}
 use Rattle.kl1_client_talk.specs.declared.request.Page.TheVariants as page
 use Rattle.kl1_client_talk.specs.declared.turn_end.TurnEnd.{TurnEnd}
 use Rattle.kl1_client_talk.specs.declared.turn_end.TurnEnd.TheVariants as end
@@ -124,3 +125,9 @@ watch_ends shoen next after a b c d s t u status line w asks h why = record {
   made = status_and shoen a b c d status (report_exchanges shoen w.looks) h.exchanges w.made asks h.made;
   shows = shows_lines_both s t u (report_lines w.looks) h.lines w.shows h.shows;
 }
+
+pub pages_as : (a b : Wire) (s t : Screen) (p : Page) (from : ℕ) (line : List ℕ) (told after : Option ℕ) → told ≡ after → Says a b s t (AsksPagesTo p from told line) → Says a b s t (AsksPagesTo p from after line)
+pages_as a b s t p from line told after e h = let Q : Option ℕ → Type 0 = λ x. Says a b s t (AsksPagesTo p from x line) in subst Q e h
+
+pub over_none : (line : List ℕ) → is_refusal line ≡ false → has_ended line ≡ false → is_over line ≡ false
+over_none line e f = rw (e, f) refl

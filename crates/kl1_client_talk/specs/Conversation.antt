@@ -289,6 +289,13 @@ turn_end one_line es shown = end.GoesOn
 abbrev pub TakesTurn : (List ℕ → List ℕ → Type 0) → Bool → List ℕ → Wanted → TurnEnd → List Exchange → List (List ℕ) → Type 0
 TakesTurn IsFile joined line wanted e es shown = AsksWanted IsFile joined line wanted es shown × (e ≡ turn_end wanted es shown)
 
+-- these bytes were kept as the file of this name, and their number of lines is shown; or the file can't be written
+abbrev pub Kept : (List ℕ → List ℕ → Type 0) → List ℕ → List ℕ → ℕ → Screen → Screen → TurnEnd → Type 0
+Kept IsFile name bytes count before after end.GoesOn = IsFile name bytes × Shows before after (written_line (saved_line count))
+Kept IsFile name bytes count before after end.LacksFile = after ≡ before
+Kept IsFile name bytes count before after end.StandsStill = ⊥
+Kept IsFile name bytes count before after end.Over = ⊥
+
 -- ---- a talk
 
 -- a line of the user, and what is asked and shown for it

@@ -1,9 +1,8 @@
 // The connection to a server.
 
-ghost use Rattle.std.specs.Prelude.{◌≡◌, ◌∷◌, [], None, false, if◌then◌else◌, OnOk, OnErr};
+ghost use Rattle.std.specs.Prelude.{◌≡◌, ◌∷◌, [], None, false, OnOk, OnErr};
 ghost use Rattle.kl1_client_talk.specs.Request.{text_of};
 ghost use Rattle.kl1_client_talk.specs.Exchanges.{wire, Asks, Hears};
-ghost use Rattle.kl1_client_talk.specs.Reply.{is_refusal, refusal_in};
 ghost use Rattle.kl1_lines.specs.Devices.{AppendsFront};
 
 use crate::fault::Fault;
@@ -72,7 +71,6 @@ impl<S: Source, T: Sink> Connection<S, T> {
     /// Sends a request, and takes the first line of its reply.
     pub fn ask(&mut self, request: Request<'_>) -> Result<(), Fault>
         ensures ok { OnOk result (Asks (wire T.contents S.remaining self.old) (wire T.contents S.remaining self.new) (text_of request.entry) self.new.line.items) }
-        ensures refusal { OnOk result (self.new.refusal ≡ (if is_refusal self.new.line.items then refusal_in self.new.line.items else self.old.refusal)) }
         ensures front { OnErr result (AppendsFront (T.contents self.old.sink) (T.contents self.new.sink) (text_of request.entry)) }
     {
         self.request.clear();

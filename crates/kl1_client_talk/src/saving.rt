@@ -2,7 +2,7 @@
 
 ghost use Rattle.std.specs.Prelude.{◌≡◌, ◌++◌, [], OnOk, IfOk};
 ghost use Rattle.kl1_client_talk.specs.Exchanges.{wire, screen, Says};
-ghost use Rattle.kl1_client_talk.specs.Conversation.{TakesTurn, saved_line};
+ghost use Rattle.kl1_client_talk.specs.Conversation.{TakesTurn, Kept, saved_line};
 ghost use Rattle.kl1_client_talk.specs.UserCommand.{save};
 
 use crate::caller::Caller;
@@ -28,22 +28,54 @@ pub(crate) fn save<S: Source, T: Sink, O: Sink, C: Caller>(
     ensures joined { shown.new.are_pages_joined ≡ shown.old.are_pages_joined }
     ensures caller { C.remaining caller.new ≡ C.remaining caller.old }
 {
-    let mut kept = ReplyWriter::new(alloc, FailureCounter::new(Vec::new(alloc)), true);
+    let name = text.trim_ascii();
+    let bytes = Vec::new(alloc);
+    let sink = FailureCounter::new(bytes);
+    let mut kept = ReplyWriter::new(alloc, sink, true);
     let page = Page::Journal {
         count: MOST_LISTED as u64,
     };
     let after = ask_pages(connection, &mut kept, page, 1)?;
     kept.flush()?;
-    let Some(after) = after else {
-        shown.line(connection.line())?;
-        return Ok(TurnEnd::GoesOn);
-    };
-    let is_kept = caller.save(text.trim_ascii(), kept.sink().inner.as_slice())?;
+    match after {
+        None => {
+            let last = connection.line();
+            shown.line(last)?;
+            Ok(TurnEnd::GoesOn)
+        }
+        Some(next) => {
+            let lines = kept.sink();
+            keep(
+                alloc,
+                shown,
+                caller,
+                name,
+                lines.inner.as_slice(),
+                next.saturating_sub(1),
+            )
+        }
+    }
+}
+
+/// Has the caller keep these bytes, of this number of lines, as the file of this name, and shows how many there are.
+fn keep<O: Sink, C: Caller>(
+    alloc: Global,
+    shown: &mut ReplyWriter<O>,
+    caller: &mut C,
+    name: &[u8],
+    bytes: &[u8],
+    count: u64,
+) -> Result<TurnEnd, Fault>
+    ensures ok { IfOk result (λ end. Kept C.is_file name.now bytes.now count (screen O.contents shown.old) (screen O.contents shown.new) end) }
+    ensures joined { shown.new.are_pages_joined ≡ shown.old.are_pages_joined }
+    ensures caller { C.remaining caller.new ≡ C.remaining caller.old }
+{
+    let is_kept = caller.save(name, bytes)?;
     if !is_kept {
         return Ok(TurnEnd::LacksFile);
     }
     let mut line = Vec::new(alloc);
-    put_saved(&mut line, after.saturating_sub(1))?;
+    put_saved(&mut line, count)?;
     shown.line(line.as_slice())?;
     Ok(TurnEnd::GoesOn)
 }

@@ -94,14 +94,15 @@ pub(crate) fn watch<S: Source, T: Sink, O: Sink, C: Caller>(
         }
         // What has ended before its reports are asked for has no more of them.
         let has_ended = has_ended(status);
-        let Some(after) = ask_pages(connection, shown, Page::Reports { shoen }, next)? else {
-            return Ok(());
-        };
+        let after = ask_pages(connection, shown, Page::Reports { shoen }, next)?;
         if has_ended {
             return Ok(());
         }
+        match after {
+            None => return Ok(()),
+            Some(later) => next = later,
+        }
         shown.flush()?;
-        next = after;
         let _ = caller.pause(looks, None);
     }
     Err(Fault::Reply)
