@@ -59,7 +59,9 @@ def hole(crate, root, to):
             if p.name in ("Answers.antt", "Invariants.antt", "Proof.antt") and len(rel.parts) > 1: continue
             q = to/"proofs"/rel; q.parent.mkdir(parents=True, exist_ok=True); shutil.copyfile(p, q)
     for mods, w, f, cycle in fs:
+        if w == "ReadFaultFrom": w = "ReadFaultFromAllocError"
         part = mods + ([w] if w else [])
+        if not cycle and (root/"proofs"/pathlib.Path(*part)/("+" + f)).is_dir(): cycle = f
         if cycle:
             key = tuple(part + ["+" + cycle])
             if key in cycles: continue
