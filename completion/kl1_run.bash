@@ -2,7 +2,7 @@
 
 _kl1_run() {
     local word=${COMP_WORDS[COMP_CWORD]} before=${COMP_WORDS[COMP_CWORD - 1]}
-    local options="--steps --allowance --rules --reports --whole --bindings --infix --journal --check --script --help --version"
+    local options="--steps --allowance --rules --reports --whole --journal --check --script --help"
     COMPREPLY=()
     case $before in
     --steps | --allowance)

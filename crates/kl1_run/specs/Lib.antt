@@ -1,3 +1,1 @@
 pub mod Alone
-pub mod Used
-pub mod Scripted

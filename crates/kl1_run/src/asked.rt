@@ -5,12 +5,9 @@ use kl1_run_work::Wanted;
 use kl1_world::Rules;
 use std::env;
 
-/// The program's version.
-pub const VERSION: &str = "0.1.0";
-
 /// How the program is called.
 pub const USAGE: &str =
-    "kl1_run [--steps N] [--allowance N] [--rules N] [--reports] [--whole] [--bindings] [--infix]\n               [--journal FILE] FILE... GOAL\n       kl1_run --check FILE...\n       kl1_run --script [--steps N] [--allowance N] [--reports] FILE... GOAL\n       kl1_run --help | --version";
+    "kl1_run [--steps N] [--allowance N] [--rules N] [--reports] [--whole] [--journal FILE] FILE... GOAL\n       kl1_run --check FILE...\n       kl1_run --script [--steps N] [--allowance N] [--reports] FILE... GOAL";
 
 /// What is to be done with the files.
 #[derive(Clone, Copy)]
@@ -21,22 +18,6 @@ pub enum Task {
     Script,
     /// A goal over them is run.
     Run,
-}
-
-/// How the goal is written.
-#[derive(Clone, Copy)]
-pub struct Form {
-    /// Whether the values of its variables are written in place of the goal.
-    pub has_bindings: bool,
-    /// Whether operators stand between their operands.
-    pub is_infix: bool,
-}
-
-impl Form {
-    /// Whether it is another than that of a reply.
-    pub fn is_other(self) -> bool {
-        self.has_bindings || self.is_infix
-    }
 }
 
 /// What the words ask for.
@@ -54,10 +35,6 @@ pub struct Asked<'a> {
     pub rules: Rules,
     /// What is told of the goal.
     pub wanted: Wanted,
-    /// How the goal is written.
-    pub form: Form,
-    /// The most bytes that are written of a value, unless it is wanted whole.
-    pub most: Option<usize>,
     /// The name of the file to which the journal of a run is written; `None` if it is written nowhere.
     pub journal: Option<&'a str>,
 }

@@ -2,14 +2,11 @@
 
 use std::alloc::{AllocError, AllocFailed};
 use std::io;
-use std::io::{ErrorKind, Write};
+use std::io::Write;
 use std::process::ExitCode;
 
 /// The status if words, files, sources or the goal are bad, and if memory is refused or a write fails.
 pub const BAD: u8 = 2;
-
-/// The status if nobody reads what is written: 128 and the number of SIGPIPE, as a shell tells of a program that this signal ended.
-pub const LEFT: u8 = 141;
 
 /// Why a task can't be done.
 #[derive(Drop)]
@@ -20,22 +17,11 @@ pub enum Fault {
     System(io::Error),
     /// A write failed.
     Write,
-    /// Nobody reads what is written.
-    Left,
     /// Memory was refused.
     Memory,
 }
 
 impl Fault {
-    /// The fault of a write that failed.
-    pub fn of_write(error: &io::Error) -> Self {
-        if error.kind() == ErrorKind::BrokenPipe {
-            Fault::Left
-        } else {
-            Fault::Write
-        }
-    }
-
     /// Tells the fault, and answers the program's status.
     pub fn tell(&self, rt: &HostRuntime) -> ExitCode {
         let _ = match self {
@@ -43,7 +29,6 @@ impl Fault {
             Fault::System(error) => eprintln!(rt; "kl1_run: {error}"),
             Fault::Write => eprintln!(rt; "kl1_run: write fault"),
             Fault::Memory => eprintln!(rt; "kl1_run: no memory"),
-            Fault::Left => return ExitCode::from(LEFT),
         };
         ExitCode::from(BAD)
     }

@@ -3,14 +3,9 @@
 
 mod alone;
 mod asked;
-mod copied;
 mod fault;
 mod files;
-mod journal_file;
-mod pipe;
 mod progress;
-mod scripts;
-mod shown;
 mod tasks;
 mod told;
 mod words;
@@ -33,6 +28,6 @@ fn status_of(rt: &HostRuntime) -> Result<u8, Fault> {
     let words = words_in(rt)?;
     match asked_in(rt.alloc(), words.as_slice()) {
         Ok(asked) => do_task(rt, &asked),
-        Err(error) => tell(rt, &error),
+        Err(error) => Ok(tell(rt, &error)),
     }
 }

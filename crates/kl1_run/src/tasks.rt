@@ -2,41 +2,49 @@
 
 use crate::alone::{LoneWork, RunResult, run_alone};
 use crate::asked::{Asked, Task, USAGE};
-use crate::copied::Copied;
 use crate::fault::{BAD, Fault};
-use crate::files::{Modules, read_each};
-use crate::journal_file::journal_file;
-use crate::pipe::Pipe;
+use crate::files::{journal_file, read_each};
 use crate::progress::Progress;
-use crate::scripts::script_alone;
-use crate::shown::{Shown, in_form};
-use crate::told::{tell_ending, used_of};
+use crate::told::tell_ending;
 use kl1_run_work::{
-    Ending, FailureCounter, ReadFault, Stop, Term, Work, put_fault, read_goal, words_of,
+    FailureCounter, ReadFault, SourceFile, Stop, Term, Work, put_checked, put_fault, put_script,
+    read_goal, words_of,
 };
 use std::alloc::{AllocError, Global};
 use std::io::Write;
-
-/// The most bytes of a goal that are told with what is wrong with it.
-const MOST_TOLD: usize = 200;
 
 /// Does what the words ask for, and answers the program's status.
 pub fn do_task(rt: &HostRuntime, asked: &Asked<'_>) -> Result<u8, Fault> {
     match (asked.task, asked.words.as_slice()) {
         (Task::Check, names) => {
-            read_each(rt, names)?;
-            Ok(0)
+            let files = read_each(rt, names)?;
+            check(rt, files.as_slice())
         }
         (Task::Script, [names @ .., goal]) if !names.is_empty() => {
-            write_script(rt, asked, names, goal)
+            let files = read_each(rt, names)?;
+            write_script(rt, asked, files.as_slice(), goal)
         }
-        (Task::Run, [names @ .., goal]) if !names.is_empty() => run_goal(rt, asked, names, goal),
+        (Task::Run, [names @ .., goal]) if !names.is_empty() => {
+            let files = read_each(rt, names)?;
+            run_goal(rt, asked, names, files, goal)
+        }
         _ => {
             let line = format!(in rt.alloc();
                 "kl1_run: files and a goal are wanted\nUsage: {USAGE}\n"
             )?;
             Err(Fault::Lines(line.into_bytes()))
         }
+    }
+}
+
+/// Tells each file that is bad.
+fn check(rt: &HostRuntime, files: &[SourceFile]) -> Result<u8, Fault> {
+    let mut lines = Vec::new(rt.alloc());
+    put_checked(rt.alloc(), files, &mut lines)?;
+    if lines.is_empty() {
+        Ok(0)
+    } else {
+        Err(Fault::Lines(lines))
     }
 }
 
@@ -56,39 +64,42 @@ fn goal_in(alloc: Global, word: &str) -> Result<Term, Fault> {
 fn write_script(
     rt: &HostRuntime,
     asked: &Asked<'_>,
-    names: &[&str],
+    files: &[SourceFile],
     word: &str,
 ) -> Result<u8, Fault> {
     let alloc = rt.alloc();
-    let Modules { files, .. } = read_each(rt, names)?;
-    let work = Work {
+    let goal = goal_in(alloc, word)?;
+    let mut script = Vec::new(alloc);
+    put_script(
+        alloc,
         files,
-        goal: goal_in(alloc, word)?,
-        allowance: asked.allowance,
-        steps: asked.steps,
-    };
-    let script = match script_alone(alloc, work, asked.wanted.reports) {
-        Ok(script) => script,
-        Err(stop) => return Err(fault_of(alloc, stop, names, word)?),
-    };
+        &goal,
+        asked.allowance,
+        asked.steps,
+        asked.wanted.reports,
+        &mut script,
+    )?;
     match rt.stdout().write_all(script.as_slice()) {
         Ok(()) => Ok(0),
-        Err(error) => Err(Fault::of_write(&error)),
+        Err(_) => Err(Fault::Write),
     }
 }
 
 /// Runs a goal over the files, and tells what came of it.
-fn run_goal(rt: &HostRuntime, asked: &Asked<'_>, names: &[&str], word: &str) -> Result<u8, Fault> {
+fn run_goal(
+    rt: &HostRuntime,
+    asked: &Asked<'_>,
+    names: &[&str],
+    files: Vec<SourceFile>,
+    word: &str,
+) -> Result<u8, Fault> {
     let alloc = rt.alloc();
-    let Modules { files, ids } = read_each(rt, names)?;
     let goal = goal_in(alloc, word)?;
-    let started = goal.clone()?;
-    let mut journal = journal_file(rt, asked.journal, ids.as_slice())?;
+    check(rt, files.as_slice())?;
     let mut progress = Progress::new(rt);
-    let copied = Copied::new(alloc, Pipe::new(rt.stdout()), asked.form.is_other());
-    let mut out = FailureCounter::new(copied);
-    let mut err = FailureCounter::new(Pipe::new(rt.stderr()));
-    let used = used_of(asked.rules, files.len() as u64, asked.steps);
+    let mut out = FailureCounter::new(rt.stdout());
+    let mut err = FailureCounter::new(rt.stderr());
+    let mut journal = journal_file(rt, asked.journal)?;
     let lone = LoneWork {
         work: Work {
             files,
@@ -104,53 +115,14 @@ fn run_goal(rt: &HostRuntime, asked: &Asked<'_>, names: &[&str], word: &str) -> 
         journal: told,
     } = run_alone(alloc, lone, &mut progress, &mut out, &mut err, &mut journal);
     progress.clear();
-    if out.inner.inner.is_left || err.inner.is_left {
-        return Err(Fault::Left);
-    }
     let status = match ending {
-        Ok(ending) => {
-            show_goal(rt, asked, word, started, ending, out.inner.copy.as_slice())?;
-            tell_ending(rt, ending, used)?
-        }
+        Ok(ending) => tell_ending(rt, ending)?,
         Err(stop) => return Err(fault_of(alloc, stop, names, word)?),
     };
     match told {
         Ok(()) => Ok(status),
         Err(stop) => Err(fault_of(alloc, stop, names, word)?),
     }
-}
-
-/// Writes the goal in its form, if that is another than what was written already, and warns of variables that have no value though
-/// all is done.
-fn show_goal(
-    rt: &HostRuntime,
-    asked: &Asked<'_>,
-    word: &str,
-    goal: Term,
-    ending: Ending,
-    written: &[u8],
-) -> Result<(), Fault> {
-    let alloc = rt.alloc();
-    let shown = Shown::new(alloc, asked.form, word, goal, written)?;
-    if asked.form.is_other() {
-        let text = in_form(alloc, asked.form, asked.most, &shown, written)?;
-        match rt.stdout().write_all(text.as_slice()) {
-            Ok(()) => {}
-            Err(error) => return Err(Fault::of_write(&error)),
-        }
-    }
-    if shown.is_left(asked.form) {
-        eprintln!(rt; "kl1_run: the goal is too long for --bindings and --infix")?;
-    }
-    if let Ending::Terminated = ending {
-        let mut warnings = Vec::new(alloc);
-        shown.put_warnings(&mut warnings)?;
-        match rt.stderr().write_all(warnings.as_slice()) {
-            Ok(()) => {}
-            Err(error) => return Err(Fault::of_write(&error)),
-        }
-    }
-    Ok(())
 }
 
 /// The fault for which work was stopped, of which these are the files and the goal.
@@ -166,7 +138,7 @@ fn fault_of(alloc: Global, stop: Stop, names: &[&str], goal: &str) -> Result<Fau
         Stop::Goal(refusal) => {
             let mut lines = Vec::new(alloc);
             lines.extend_from_slice(b"kl1_run: ")?;
-            put_front(goal.as_bytes(), &mut lines)?;
+            lines.extend_from_slice(goal.as_bytes())?;
             lines.extend_from_slice(b": ")?;
             lines.extend_from_slice(words_of(refusal))?;
             lines.push(b'\n')?;
@@ -175,15 +147,4 @@ fn fault_of(alloc: Global, stop: Stop, names: &[&str], goal: &str) -> Result<Fau
         Stop::Write => Ok(Fault::Write),
         Stop::Memory => Ok(Fault::Memory),
     }
-}
-
-/// Puts a text after the bytes, or its front and three dots if it is long.
-fn put_front(text: &[u8], out: &mut Vec<u8>) -> Result<(), AllocError> {
-    if text.len() > MOST_TOLD {
-        if let Some(front) = text.get(..MOST_TOLD) {
-            out.extend_from_slice(front)?;
-            return out.extend_from_slice(b"...");
-        }
-    }
-    out.extend_from_slice(text)
 }

@@ -1,9 +1,8 @@
 // The words that the program knows, and what they ask for.
 
-use crate::asked::{Asked, Form, Task, USAGE, VERSION};
-use crate::fault::Fault;
+use crate::asked::{Asked, Task, USAGE};
+use crate::fault::BAD;
 use clap::{Arg, ArgAction, Command, Error, value_parser};
-use kl1_model::limits::MOST_PRINTED_BYTES;
 use kl1_run_work::{MOST_ALLOWANCE, MOST_STEPS, Wanted};
 use kl1_world::Rules;
 use std::alloc::{AllocError, Global};
@@ -16,66 +15,48 @@ fn flag<'a>(alloc: Global, name: &'a str, help: &'a str) -> Arg<'a> {
         .help(help)
 }
 
-/// The option of a name that takes a number, with what help says of it. It is refused beside `--check`.
-fn number<'a>(alloc: Global, name: &'a str, help: &'a str) -> Result<Arg<'a>, AllocError> {
+/// The option of a name that takes a number, with what help says of it.
+fn number<'a>(alloc: Global, name: &'a str, help: &'a str) -> Arg<'a> {
     Arg::new(alloc, name)
         .long(name)
         .action(ArgAction::Set)
         .value_parser(value_parser!(u64).range(0..=i64::MAX))
         .help(help)
-        .conflicts_with("check")
-}
-
-/// An option that is refused beside `--check` and `--script`.
-fn of_run(arg: Arg<'_>) -> Result<Arg<'_>, AllocError> {
-    arg.conflicts_with("check")?.conflicts_with("script")
 }
 
 /// A command that knows the options that take a number too.
 fn with_numbers<'a>(alloc: Global, command: Command<'a>) -> Result<Command<'a>, AllocError> {
-    let steps = number(alloc, "steps", "Do at most N reductions")?;
+    let steps = number(alloc, "steps", "Do at most N reductions");
     let allowance = number(
         alloc,
         "allowance",
         "Let the goal be charged N reductions at most",
-    )?;
-    // A script keeps to the rules of `kl1`.
-    let rules = of_run(
-        Arg::new(alloc, "rules")
-            .long("rules")
-            .action(ArgAction::Set)
-            .value_parser(value_parser!(u64).range(3..=4))
-            .help("Keep to the rules of version N, 3 or 4; 4 has the greater limits"),
-    )?;
+    );
+    let rules = Arg::new(alloc, "rules")
+        .long("rules")
+        .action(ArgAction::Set)
+        .value_parser(value_parser!(u64).range(3..=4))
+        .help("Keep to the rules of version N, 3 or 4; 4 has the greater limits");
     command.arg(steps)?.arg(allowance)?.arg(rules)
 }
 
-/// A command that knows the options about what is told of the goal too.
-fn with_forms<'a>(alloc: Global, command: Command<'a>) -> Result<Command<'a>, AllocError> {
-    let reports = flag(alloc, "reports", "Tell the goal's reports too").conflicts_with("check")?;
-    let whole = of_run(flag(
+/// The words that the program knows.
+fn command<'a>(alloc: Global) -> Result<Command<'a>, AllocError> {
+    let reports = flag(alloc, "reports", "Tell the goal's reports too");
+    let whole = flag(
         alloc,
         "whole",
         "Tell the goal whole, not cut after 4,000 bytes",
-    ))?;
-    let bindings = of_run(flag(
-        alloc,
-        "bindings",
-        "Tell the values of the goal's variables by their names",
-    ))?;
-    let infix = of_run(flag(alloc, "infix", "Put operators between their operands"))?;
-    command.arg(reports)?.arg(whole)?.arg(bindings)?.arg(infix)
-}
-
-/// A command that knows the tasks too, and the file for the journal.
-fn with_tasks<'a>(alloc: Global, command: Command<'a>) -> Result<Command<'a>, AllocError> {
-    let journal = of_run(
-        Arg::new(alloc, "journal")
-            .long("journal")
-            .action(ArgAction::Set)
-            .value_name("FILE")
-            .help("Write the journal of the run to FILE, which is new, empty or a journal"),
-    )?;
+    )
+    .conflicts_with("check")?
+    .conflicts_with("script")?;
+    let journal = Arg::new(alloc, "journal")
+        .long("journal")
+        .action(ArgAction::Set)
+        .value_name("FILE")
+        .help("Write the journal of the run to FILE")
+        .conflicts_with("check")?
+        .conflicts_with("script")?;
     let check = flag(
         alloc,
         "check",
@@ -83,23 +64,21 @@ fn with_tasks<'a>(alloc: Global, command: Command<'a>) -> Result<Command<'a>, Al
     )
     .conflicts_with("script")?;
     let script = flag(alloc, "script", "Write the script that does the same work");
-    command.arg(journal)?.arg(check)?.arg(script)
-}
-
-/// The words that the program knows.
-fn command<'a>(alloc: Global) -> Result<Command<'a>, AllocError> {
     let words = Arg::new(alloc, "words")
         .required(true)
         .action(ArgAction::Append)
         .num_args(1..)
         .help("Files with modules, and then a goal");
-    let plain = Command::new(alloc, "kl1_run")
+    let command = Command::new(alloc, "kl1_run")
         .about("Loads modules from files, and runs a goal")
-        .version(VERSION)
         .override_usage(USAGE);
-    let numbered = with_numbers(alloc, plain)?;
-    let formed = with_forms(alloc, numbered)?;
-    with_tasks(alloc, formed)?.arg(words)
+    with_numbers(alloc, command)?
+        .arg(reports)?
+        .arg(whole)?
+        .arg(journal)?
+        .arg(check)?
+        .arg(script)?
+        .arg(words)
 }
 
 /// The most steps of a task. A script's `run` takes no more than its limit, and by the third rules a journal has no more entries; by
@@ -121,14 +100,10 @@ pub fn asked_in<'a>(alloc: Global, words: &'a [String]) -> Result<Asked<'a>, Err
     } else {
         Task::Run
     };
-    let rules = match (task, matches.get_one::<u64>("rules")) {
-        (Task::Script, _) | (_, Some(3)) => Rules::Three,
-        _ => Rules::Four,
-    };
-    let is_whole = matches.get_flag("whole");
-    let form = Form {
-        has_bindings: matches.get_flag("bindings"),
-        is_infix: matches.get_flag("infix"),
+    let rules = if matches.get_one::<u64>("rules") == Some(3) {
+        Rules::Three
+    } else {
+        Rules::Four
     };
     Ok(Asked {
         words: Vec::from_slice(alloc, matches.get_strs("words").unwrap_or(&[]))?,
@@ -141,34 +116,20 @@ pub fn asked_in<'a>(alloc: Global, words: &'a [String]) -> Result<Asked<'a>, Err
             .get_one::<u64>("allowance")
             .unwrap_or(MOST_ALLOWANCE),
         rules,
-        // Of a goal that is cut the last variables would have no value.
         wanted: Wanted {
             reports: matches.get_flag("reports"),
-            whole: is_whole || form.has_bindings,
-        },
-        form,
-        most: if is_whole {
-            None
-        } else {
-            Some(MOST_PRINTED_BYTES)
+            whole: matches.get_flag("whole"),
         },
         journal: matches.get_str("journal"),
     })
 }
 
-/// How the library of words begins what it tells of a fault.
-const ERROR: &str = "error: ";
-
-/// Tells help or the version, or why the words are not understood, and answers the program's status.
-pub fn tell(rt: &HostRuntime, error: &Error) -> Result<u8, Fault> {
-    if !error.use_stderr() {
-        return match error.print(rt) {
-            Ok(()) => Ok(0),
-            Err(failed) => Err(Fault::of_write(&failed)),
-        };
+/// Tells help, or why the words are not understood, and answers the program's status.
+pub fn tell(rt: &HostRuntime, error: &Error) -> u8 {
+    let told = error.print(rt);
+    if error.use_stderr() || told.is_err() {
+        BAD
+    } else {
+        0
     }
-    let text = format!(in rt.alloc(); "{error}")?;
-    let why = text.as_str();
-    let line = format!(in rt.alloc(); "kl1_run: {}", why.strip_prefix(ERROR).unwrap_or(why))?;
-    Err(Fault::Lines(line.into_bytes()))
 }

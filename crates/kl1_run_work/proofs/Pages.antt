@@ -13,7 +13,7 @@ use Rattle.kl1_model.specs.Asking.{reply_to, origin_at, elements_of}
 use Rattle.kl1_model.specs.code.Steps.{reports_of}
 use Rattle.kl1_model_server.specs.Command.{written_line, written_lines}
 use Rattle.kl1_run_work.specs.declared.reports.TheConstants.{MOST_PAGES}
-use Rattle.kl1_run_work.specs.Answers.{listed_in, is_exception, reports_by, reports_in, all_reports, report_lines, exceptions_of}
+use Rattle.kl1_run_work.specs.Answers.{listed_in, is_exception, reports_by, reports_in, all_reports, report_lines, exception_lines}
 
 false_true : (X : Type 0) → false ≡ true → X
 false_true X e = cc
@@ -45,10 +45,10 @@ pub lines_more : (texts page : List (List ℕ)) (done next : ℕ) (before after 
 lines_more texts page done next before after sum is was more =
     more ∙ ap (λ x. x ++ written_lines page) was ∙ ap (λ p. written_lines (take done texts) ++ written_lines p) is ∙ sym (lines_both (take done texts) (take MOST_LISTED (drop done texts))) ∙ ap written_lines (sym (take-add done MOST_LISTED texts)) ∙ ap (λ k. written_lines (take k texts)) (sym sum)
 
--- the exceptions among the first texts and a page more
-pub exceptions_more : (texts page : List (List ℕ)) (done next : ℕ) (before after : List (List ℕ)) → next ≡ done + MOST_LISTED → page ≡ take MOST_LISTED (drop done texts) → before ≡ filter is_exception (take done texts) → after ≡ before ++ filter is_exception page → after ≡ filter is_exception (take next texts)
+-- so of the exceptions among them
+pub exceptions_more : (texts page : List (List ℕ)) (done next : ℕ) (before after : List ℕ) → next ≡ done + MOST_LISTED → page ≡ take MOST_LISTED (drop done texts) → before ≡ written_lines (filter is_exception (take done texts)) → after ≡ before ++ written_lines (filter is_exception page) → after ≡ written_lines (filter is_exception (take next texts))
 exceptions_more texts page done next before after sum is was more =
-    more ∙ ap (λ x. x ++ filter is_exception page) was ∙ ap (λ p. filter is_exception (take done texts) ++ filter is_exception p) is ∙ sym (filter-append is_exception (take done texts) (take MOST_LISTED (drop done texts))) ∙ ap (λ p. filter is_exception p) (sym (take-add done MOST_LISTED texts)) ∙ ap (λ k. filter is_exception (take k texts)) (sym sum)
+    more ∙ ap (λ x. x ++ written_lines (filter is_exception page)) was ∙ ap (λ p. written_lines (filter is_exception (take done texts)) ++ written_lines (filter is_exception p)) is ∙ sym (lines_both (filter is_exception (take done texts)) (filter is_exception (take MOST_LISTED (drop done texts)))) ∙ ap written_lines (sym (filter-append is_exception (take done texts) (take MOST_LISTED (drop done texts)))) ∙ ap (λ p. written_lines (filter is_exception p)) (sym (take-add done MOST_LISTED texts)) ∙ ap (λ k. written_lines (filter is_exception (take k texts))) (sym sum)
 
 -- after a page that isn't full there is no text
 few_texts : (texts : List (List ℕ)) (done : ℕ) → length (take MOST_LISTED (drop done texts)) < MOST_LISTED → length texts ≤ done + MOST_LISTED
@@ -72,6 +72,6 @@ unfolding all_reports
 lines_all s n next lines h all = h ∙ ap written_lines all
 
 -- so of the exceptions among them
-pub exceptions_all : (s : State) (n next : ℕ) (exceptions : List (List ℕ)) → exceptions ≡ filter is_exception (take next (reports_in s n)) → take next (reports_in s n) ≡ take (MOST_LISTED * MOST_PAGES) (reports_in s n) → exceptions ≡ exceptions_of s n
+pub exceptions_all : (s : State) (n next : ℕ) (lines : List ℕ) → lines ≡ written_lines (filter is_exception (take next (reports_in s n))) → take next (reports_in s n) ≡ take (MOST_LISTED * MOST_PAGES) (reports_in s n) → lines ≡ exception_lines s n
 unfolding all_reports
-exceptions_all s n next exceptions h all = h ∙ ap (λ p. filter is_exception p) all
+exceptions_all s n next lines h all = h ∙ ap (λ p. written_lines (filter is_exception p)) all

@@ -1,10 +1,9 @@
 -- Runs that are done in slices.
-use Rattle.std.proofs.Common.{◌≡◌, ℕ, zero, suc, ◌+◌, ◌<◌, ◌==◌, Bool, true, false, if◌then◌else◌, Option, Some, None, ap, sym, subst, ◌∙◌, refl, arith}
+use Rattle.std.proofs.Common.{◌≡◌, ℕ, zero, suc, ◌+◌, ◌==◌, Bool, true, false, if◌then◌else◌, Option, Some, None, ap, sym, ◌∙◌, refl, arith}
 use Rattle.kl1_model.specs.Event.{reduce, ran, Reply, is_refused}
 use Rattle.kl1_model.specs.Choice.{Chosen, first}
 use Rattle.kl1_model_server.specs.Journal.{Kept, Done, done}
 use Rattle.kl1_model_server.specs.Command.{run, said, run_from, act}
-use Rattle.kl1_run_work.specs.Works.{steps_in}
 
 -- a run of one step more, after its first step, which was refused or not
 abbrev on_by : Bool → ℕ → ℕ → Kept → Done → Done
@@ -60,30 +59,6 @@ runs_both (suc a) b (suc c) e n m s = choice_both (first s.state) s a b c n m re
 pub slice_done : (all left slice less : ℕ) (s t u v : Kept) → left ≡ slice + less → (run_from all 0 s).kept ≡ (run_from left 0 t).kept → (run_from slice 0 t).kept ≡ u → v ≡ u → (run_from all 0 s).kept ≡ (run_from less 0 v).kept
 slice_done all left slice less s t u v sum before slice_is same =
     before ∙ runs_both slice less left sum 0 0 t ∙ ap (λ (x : Kept). (run_from less 0 x).kept) (slice_is ∙ sym same)
-
--- a run that was cut short has nothing left to do
-on_short : (r : Bool) (k n m p : ℕ) (s : Kept) (c : Chosen) → first s.state ≡ Some c → is_refused (done s (reduce c.goal c.clause)).reply ≡ r →
-    ((t : Kept) → steps_in (run_from k (suc n) t).reply < suc n + k → (run_from m p (run_from k (suc n) t).kept).kept ≡ (run_from k (suc n) t).kept) →
-    steps_in (on_by r k n s (done s (reduce c.goal c.clause))).reply < n + suc k → (run_from m p (on_by r k n s (done s (reduce c.goal c.clause))).kept).kept ≡ (on_by r k n s (done s (reduce c.goal c.clause))).kept
-on_short true k n m p s c e told h few = refused_stays m p s c e told
-on_short false k n m p s c e told h few = h (done s (reduce c.goal c.clause)).kept (omega (arith, few))
-
-choice_short : (o : Option Chosen) (k n m p : ℕ) (s : Kept) → first s.state ≡ o →
-    ((t : Kept) → steps_in (run_from k (suc n) t).reply < suc n + k → (run_from m p (run_from k (suc n) t).kept).kept ≡ (run_from k (suc n) t).kept) →
-    steps_in (run_by k n s o).reply < n + suc k → (run_from m p (run_by k n s o).kept).kept ≡ (run_by k n s o).kept
-choice_short None k n m p s e h few = quiet_stays m p s e
-choice_short (Some c) k n m p s e h few = on_short (is_refused (done s (reduce c.goal c.clause)).reply) k n m p s c e refl h few
-
-short_stays : (k n m p : ℕ) (s : Kept) → steps_in (run_from k n s).reply < n + k → (run_from m p (run_from k n s).kept).kept ≡ (run_from k n s).kept
-short_stays zero n m p s few = absurd (omega (arith, few))
-short_stays (suc k) n m p s few = choice_short (first s.state) k n m p s refl (λ t. short_stays k (suc n) m p t) few
-
--- a slice that was cut short: what is left of the run does nothing
-pub slice_short : (slice less count : ℕ) (t u v : Kept) → (run_from slice 0 t).kept ≡ u → v ≡ u → count ≡ steps_in (run_from slice 0 t).reply → count < slice → (run_from less 0 v).kept ≡ v
-slice_short slice less count t u v slice_is same counts few =
-    let is : (run_from slice 0 t).kept ≡ v = slice_is ∙ sym same in
-    let P : Kept → Type 0 = λ x. (run_from less 0 x).kept ≡ x in
-    subst P is (short_stays slice 0 less 0 t (omega (arith, few, counts)))
 
 -- the account that a run is said to lead to
 pub act_state : (s after : Kept) (k : ℕ) (reply : Reply) → act s (run k) ≡ record { kept = after; reply = reply } → (run_from k 0 s).kept ≡ after

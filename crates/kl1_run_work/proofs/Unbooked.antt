@@ -1,5 +1,5 @@
 -- What is done without a book.
-use Rattle.std.proofs.Common.{◌≡◌, ℕ, ap, sym, ◌∙◌, subst}
+use Rattle.std.proofs.Common.{◌≡◌, ℕ, ap, subst}
 use Rattle.std.specs.Prelude.{Option, None}
 use Rattle.kl1_model.specs.Event as model
 use Rattle.kl1_model_server.specs.Journal.{Kept, Done, done}
@@ -8,7 +8,6 @@ use Rattle.kl1_user_events.specs.Views.{reply_of}
 use Rattle.kl1_user_events.specs.declared.reply.Reply.{Reply}
 use Rattle.kl1_command.specs.declared.performed.Performed.TheVariants as performed
 use Rattle.kl1_command.specs.Room.{done_within, PerformsWithin}
-use Rattle.kl1_run_work.specs.Works.{steps_in}
 
 -- an event
 pub event_done : (room : Option ℕ) (s : Kept) (e : model.Event) (d : Done) → room ≡ None → done_within room s e ≡ d → done s e ≡ d
@@ -19,9 +18,3 @@ pub whole_run : (room : Option ℕ) (s after : Kept) (k : ℕ) (reply : Reply) �
 whole_run room s after k reply none h =
     let d : run_from k 0 s ≡ record { kept = after; reply = reply_of reply } = subst (λ (r : Option ℕ). PerformsWithin r s (run k) (performed.Whole reply) after) none h in
     ap (λ (x : Done). x.kept) d
-
--- how many steps it did
-pub whole_steps : (room : Option ℕ) (s after : Kept) (k count : ℕ) (reply : Reply) → room ≡ None → PerformsWithin room s (run k) (performed.Whole reply) after → count ≡ steps_in (reply_of reply) → count ≡ steps_in (run_from k 0 s).reply
-whole_steps room s after k count reply none h is =
-    let d : run_from k 0 s ≡ record { kept = after; reply = reply_of reply } = subst (λ (r : Option ℕ). PerformsWithin r s (run k) (performed.Whole reply) after) none h in
-    is ∙ sym (ap (λ (x : Done). steps_in x.reply) d)

@@ -1,5 +1,5 @@
 -- What is told of a shoen once its run is over.
-use Rattle.std.specs.Prelude.{◌≡◌, ℕ, ◌-◌, nat_eq, nat_lt, Bool, true, false, if◌then◌else◌, List, [], ◌∷◌, ◌++◌, length, map, take, filter, codes, decimal, Option, Some, None, unwrap_or, is_none, Ok, Err}
+use Rattle.std.specs.Prelude.{◌≡◌, ℕ, nat_eq, Bool, true, false, if◌then◌else◌, List, [], ◌∷◌, ◌++◌, map, take, filter, codes, Option, Some, None, unwrap_or, is_none, Ok, Err}
 use Rattle.std.specs.List.{starts_with}
 use Rattle.std.specs.declared.result.Result.{Result}
 use Rattle.kl1_model.specs.declared.condition.Condition.{Condition}
@@ -15,7 +15,6 @@ use Rattle.kl1_model_server.specs.Journal.{Kept}
 use Rattle.kl1_model_server.specs.Command.{written_line, written_lines}
 use Rattle.kl1_user_events.specs.Views.{refusal_of}
 use Rattle.kl1_user_events.specs.Whole.{whole_value}
-use Rattle.kl1_run_work.specs.declared.exceptions.TheConstants.{MOST_BY_LIMIT}
 use Rattle.kl1_run_work.specs.declared.answers.Answers.{Answers}
 use Rattle.kl1_run_work.specs.declared.ending.Ending.{Ending}
 use Rattle.kl1_run_work.specs.declared.ending.Ending.TheVariants as ending
@@ -94,44 +93,14 @@ is_exception report = starts_with nat_eq report (codes "exception(")
 abbrev pub report_lines : State → ℕ → List ℕ
 report_lines s n = written_lines (all_reports s n)
 
--- its exceptions
-abbrev pub exceptions_of : State → ℕ → List (List ℕ)
-exceptions_of s n = filter is_exception (all_reports s n)
-
--- whether it has any
-abbrev pub is_raised : State → ℕ → Bool
-is_raised s n = nat_lt 0 (length (exceptions_of s n))
-
--- whether a report tells the exception of a goal by which a limit would be passed
-abbrev pub is_by_limit : List ℕ → Bool
-is_by_limit report = starts_with nat_eq report (codes "exception(exhaustion,")
-
--- exceptions without those by a limit that come after the first `room` of them
-abbrev pub told_of : ℕ → List (List ℕ) → List (List ℕ)
-told_of room [] = []
-told_of room (e ∷ es) =
-    if is_by_limit e then (if nat_lt 0 room then e ∷ told_of (room - 1) es else told_of room es)
-    else e ∷ told_of room es
-
--- how many exceptions are left out
-abbrev pub left_out : List (List ℕ) → ℕ
-left_out es = length (filter is_by_limit es) - MOST_BY_LIMIT
-
--- the line that tells how many are left out
-abbrev pub count_line : ℕ → List ℕ
-count_line n = written_line (codes "kl1_run: exceptions by a limit that are left out here: " ++ decimal n)
-
--- that line, if any is left out
-abbrev pub left_line : ℕ → List ℕ
-left_line n = if nat_lt 0 n then count_line n else []
-
--- what is told of exceptions: all of them, but of those by a limit the first alone, and how many are left out
-abbrev pub exceptions_text : List (List ℕ) → List ℕ
-exceptions_text es = written_lines (told_of MOST_BY_LIMIT es) ++ left_line (left_out es)
-
--- what is told of its exceptions
+-- the lines of its exceptions
 abbrev pub exception_lines : State → ℕ → List ℕ
-exception_lines s n = exceptions_text (exceptions_of s n)
+exception_lines s n = written_lines (filter is_exception (all_reports s n))
+
+-- whether there is a byte
+abbrev pub is_some_byte : List ℕ → Bool
+is_some_byte [] = false
+is_some_byte (b ∷ bs) = true
 
 -- how a shoen stands of which no goal can step, by whether there were exceptions, and how many goals are alive
 abbrev pub ending_quiet : Bool → ℕ → Ending
@@ -175,7 +144,7 @@ pub record Tells (wanted : Wanted) (s : State) (n : ℕ) (a : Answers) : Type 0 
   pub value : a.value.items ≡ value_line wanted.whole s n
   pub reports : a.reports.items ≡ report_lines s n
   pub exceptions : a.exceptions.items ≡ exception_lines s n
-  pub ending : a.ending ≡ ending_of s n (is_raised s n)
+  pub ending : a.ending ≡ ending_of s n (is_some_byte (exception_lines s n))
 
 -- what is written to the first stream: the goal, whole if that is wanted, and the reports if they are wanted
 abbrev pub out_text : Wanted → State → ℕ → List ℕ
@@ -187,7 +156,7 @@ pub record Shows (w : Worked) (wanted : Wanted) (out out' err err' : Stream) (e 
   pub works : w ≡ worked shoen k
   pub value : WritesAll out out' (out_text wanted k.state shoen)
   pub exceptions : WritesAll err err' (exception_lines k.state shoen)
-  pub ending : e ≡ ending_of k.state shoen (is_raised k.state shoen)
+  pub ending : e ≡ ending_of k.state shoen (is_some_byte (exception_lines k.state shoen))
 
 -- the shoen's run is over, and a write of what is told of it to one of two streams failed
 pub record Breaks (w : Worked) (wanted : Wanted) (out out' err err' : Stream) (k : Kept) : Type 0 where

@@ -17,13 +17,9 @@ load_lines (t ∷ ts) = load_line t ++ load_lines ts
 abbrev pub run_lines : ℕ → List ℕ
 run_lines steps = 10 ∷ [] ++ written_line (codes "me run " ++ decimal steps)
 
--- the command that starts a goal with an allowance and all priorities
-abbrev pub start_command : Term → ℕ → List ℕ
-start_command goal allowance = codes "start " ++ decimal allowance ++ codes " 0 4095 " ++ print goal
-
 -- the line that starts a goal with an allowance and all priorities, and the line that runs `steps` steps
 abbrev pub goal_lines : Term → ℕ → ℕ → List ℕ
-goal_lines goal allowance steps = (codes "me " ++ start_command goal allowance) ++ run_lines steps
+goal_lines goal allowance steps = (codes "me start " ++ decimal allowance ++ codes " 0 4095 " ++ print goal) ++ run_lines steps
 
 -- the line that asks for the value, and the line that asks for the first reports if they are wanted
 abbrev pub question_lines : Bool → List ℕ

@@ -54,22 +54,6 @@ opened_in bye = None
 opened_in was_reset = None
 opened_in (refused r) = None
 
--- how many steps the reply to a run tells
-abbrev pub steps_in : Reply → ℕ
-steps_in (ran n) = n
-steps_in (loaded name) = 0
-steps_in (opened n) = 0
-steps_in sent = 0
-steps_in reduced = 0
-steps_in (shown text) = 0
-steps_in (status_is c charged allowance alive) = 0
-steps_in (listed texts) = 0
-steps_in (quiet_is b) = 0
-steps_in (welcome name) = 0
-steps_in bye = 0
-steps_in was_reset = 0
-steps_in (refused r) = 0
-
 -- why a reply opened no shoen
 abbrev pub refusal_told : Option Refusal → Refusal
 refusal_told None = syntax

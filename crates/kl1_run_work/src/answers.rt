@@ -8,7 +8,6 @@ ghost use Rattle.kl1_run_work.specs.Answers.{shown_in, shown_text, value_text, v
 
 use crate::asked::ask;
 use crate::ending::Ending;
-use crate::exceptions::{is_raised, put_exceptions};
 use crate::reports::{Reported, reported_by};
 use crate::wanted::Wanted;
 use kl1_command::UnbookedHost;
@@ -23,7 +22,7 @@ pub struct Answers {
     pub value: Vec<u8>,
     /// Its reports.
     pub reports: Vec<u8>,
-    /// The exceptions among them; of those by a limit the first alone, and how many are left out.
+    /// The exceptions among them.
     pub exceptions: Vec<u8>,
     /// How it stands.
     pub ending: Ending,
@@ -186,13 +185,11 @@ pub fn answers_of<H: UnbookedHost>(
         reports,
         exceptions,
     } = reported_by(alloc, host, shoen)?;
-    let ending = ending_of(host, shoen, is_raised(exceptions.as_slice()))?;
-    let mut lines = Vec::new(alloc);
-    put_exceptions(exceptions.as_slice(), &mut lines)?;
+    let ending = ending_of(host, shoen, !exceptions.is_empty())?;
     Ok(Answers {
         value,
         reports,
-        exceptions: lines,
+        exceptions,
         ending,
     })
 }

@@ -4,10 +4,9 @@ ghost use Rattle.std.specs.Prelude.{◌≡◌, ◌++◌, ◌<◌, ◌*◌, [], l
 ghost use Rattle.kl1_model_server.specs.Command.{written_line, written_lines};
 ghost use Rattle.kl1_model.specs.declared.limits.TheConstants.{MOST_LISTED};
 ghost use Rattle.kl1_user_events.specs.Views.{reply_of};
-ghost use Rattle.kl1_run_work.specs.Answers.{listed_in, is_exception, reports_in, report_lines, exceptions_of};
+ghost use Rattle.kl1_run_work.specs.Answers.{listed_in, is_exception, reports_in, report_lines, exception_lines};
 
 use crate::asked::ask;
-use crate::exceptions::is_exception;
 use kl1_command::UnbookedHost;
 use kl1_model::limits::MOST_LISTED;
 use kl1_user_events::{Listed, Query, Reply, ShoenNo};
@@ -19,11 +18,11 @@ pub(crate) const PAGE: u64 = 64;
 /// The most replies that list the reports of an account.
 const MOST_PAGES: u64 = 262_144;
 
-/// The lines of a shoen's reports, and the exceptions among them.
+/// The lines of a shoen's reports, and of the exceptions among them.
 #[derive(Drop)]
 pub(crate) struct Reported {
     pub(crate) reports: Vec<u8>,
-    pub(crate) exceptions: Vec<Vec<u8>>,
+    pub(crate) exceptions: Vec<u8>,
 }
 
 /// The texts that a reply lists.
@@ -47,6 +46,13 @@ fn listed_in(alloc: Global, reply: Reply) -> Listed
     }
 }
 
+/// Whether a report tells an exception.
+fn is_exception(report: &[u8]) -> bool
+    ensures { result ≡ is_exception report.now }
+{
+    report.starts_with(b"exception(")
+}
+
 /// Puts a line after the bytes. After an `Err` some of it may be there.
 pub(crate) fn put_line(out: &mut Vec<u8>, line: &[u8]) -> Result<(), AllocError>
     ensures { OnOk result (out.new.items ≡ out.old.items ++ written_line line.now) }
@@ -55,17 +61,16 @@ pub(crate) fn put_line(out: &mut Vec<u8>, line: &[u8]) -> Result<(), AllocError>
     out.extend_from_slice(b"\n")
 }
 
-/// Puts the lines of reports, and the exceptions among them, after those before. After an `Err` some of them may be there.
-fn put_page(alloc: Global, texts: &[Vec<u8>], reported: &mut Reported) -> Result<(), AllocError>
+/// Puts the lines of reports, and of the exceptions among them, after those before. After an `Err` some of them may be there.
+fn put_page(texts: &[Vec<u8>], reported: &mut Reported) -> Result<(), AllocError>
     ensures reports { OnOk result (reported.new.reports.items ≡ reported.old.reports.items ++ written_lines (map (λ t. t.items) texts.now)) }
-    ensures exceptions { OnOk result (map (λ t. t.items) reported.new.exceptions.items ≡ map (λ t. t.items) reported.old.exceptions.items ++ filter is_exception (map (λ t. t.items) texts.now)) }
+    ensures exceptions { OnOk result (reported.new.exceptions.items ≡ reported.old.exceptions.items ++ written_lines (filter is_exception (map (λ t. t.items) texts.now))) }
 {
     let mut rest = texts;
     while let [first, others @ ..] = rest {
         put_line(&mut reported.reports, first.as_slice())?;
         if is_exception(first.as_slice()) {
-            let exception = Vec::from_slice(alloc, first.as_slice())?;
-            reported.exceptions.push(exception)?;
+            put_line(&mut reported.exceptions, first.as_slice())?;
         }
         rest = others;
     }
@@ -90,14 +95,14 @@ fn page_from<H: UnbookedHost>(
     Ok(listed_in(alloc, reply))
 }
 
-/// The lines of a shoen's reports, and the exceptions among them.
+/// The lines of a shoen's reports, and of the exceptions among them.
 pub(crate) fn reported_by<H: UnbookedHost>(
     alloc: Global,
     host: &mut H,
     shoen: ShoenNo,
 ) -> Result<Reported, AllocError>
     ensures reports { IfOk result (λ reported. (f : H.Reading) → H.fits host.new f → reported.reports.items ≡ report_lines (H.kept f host.new).state shoen.0) }
-    ensures exceptions { IfOk result (λ reported. (f : H.Reading) → H.fits host.new f → map (λ t. t.items) reported.exceptions.items ≡ exceptions_of (H.kept f host.new).state shoen.0) }
+    ensures exceptions { IfOk result (λ reported. (f : H.Reading) → H.fits host.new f → reported.exceptions.items ≡ exception_lines (H.kept f host.new).state shoen.0) }
     ensures same { (f : H.Reading) → H.fits host.new f → H.kept f host.new ≡ H.kept f host.old }
     ensures before { (f : H.Reading) → H.fits host.new f → H.fits host.old f }
     ensures beside { H.beside host.new ≡ H.beside host.old }
@@ -108,7 +113,7 @@ pub(crate) fn reported_by<H: UnbookedHost>(
     };
     for page in 0..MOST_PAGES {
         let listed = page_from(alloc, host, shoen, PAGE * page)?;
-        put_page(alloc, listed.texts(), &mut reported)?;
+        put_page(listed.texts(), &mut reported)?;
         // No report comes after a page that isn't full.
         if listed.texts().len() < MOST_LISTED {
             return Ok(reported);

@@ -1,9 +1,9 @@
 // A run in slices, which is told as it goes on.
 
-ghost use Rattle.std.specs.Prelude.{◌≡◌, IfOk, OnOk};
+ghost use Rattle.std.specs.Prelude.{◌≡◌, OnOk};
 ghost use Rattle.kl1_model_server.specs.Command.{run_from};
 ghost use Rattle.kl1_user_events.specs.Views.{reply_of};
-ghost use Rattle.kl1_run_work.specs.Works.{steps_in, worked};
+ghost use Rattle.kl1_run_work.specs.Works.{worked};
 ghost use Rattle.kl1_run_work.specs.Watching.{progress_in, Follows};
 
 use crate::asked::ask;
@@ -15,36 +15,14 @@ use std::alloc::AllocError;
 /// The most steps between two looks at what is told.
 const SLICE: u64 = 4_096;
 
-/// How many steps the reply to a run tells.
-fn steps_in(reply: &Reply) -> u64
-    ensures { result ≡ steps_in (reply_of reply.now) }
-{
-    match reply {
-        Reply::Ran(steps) => *steps,
-        Reply::Loaded(_name) => 0,
-        Reply::Opened(_shoen) => 0,
-        Reply::Sent => 0,
-        Reply::Reduced => 0,
-        Reply::Shown(_text) => 0,
-        Reply::Status { .. } => 0,
-        Reply::Listed(_texts) => 0,
-        Reply::Quiet(_is_quiet) => 0,
-        Reply::Welcome(_name) => 0,
-        Reply::Bye => 0,
-        Reply::Reset => 0,
-        Reply::Refused(_refusal) => 0,
-    }
-}
-
-/// Does first steps, at most `steps`, and answers how many were done. After an `Err` some of them may be done.
-fn run_slice<H: UnbookedHost>(host: &mut H, steps: u64) -> Result<u64, AllocError>
+/// Does first steps, at most `steps`. After an `Err` some of them may be done.
+fn run_slice<H: UnbookedHost>(host: &mut H, steps: u64) -> Result<(), AllocError>
     ensures does { OnOk result ((f : H.Reading) → H.fits host.new f → (run_from steps 0 (H.kept f host.old)).kept ≡ H.kept f host.new) }
-    ensures done { IfOk result (λ done. (f : H.Reading) → H.fits host.new f → done ≡ steps_in (run_from steps 0 (H.kept f host.old)).reply) }
     ensures before { (f : H.Reading) → H.fits host.new f → H.fits host.old f }
     ensures beside { H.beside host.new ≡ H.beside host.old }
 {
     match perform(host, &Command::Run(steps)) {
-        Performed::Whole(reply) => Ok(steps_in(&reply)),
+        Performed::Whole(_reply) => Ok(()),
         Performed::Short { steps: _steps } => Err(AllocError),
         Performed::Memory => Err(AllocError),
     }
@@ -110,12 +88,12 @@ pub(crate) fn run_watched<H: UnbookedHost, T: Watch>(
     let mut left = steps;
     while 0 < left {
         let slice = left.min(SLICE);
-        let done = run_slice(host, slice)?;
+        run_slice(host, slice)?;
         left -= slice;
         tell_progress(host, shoen, watch)?;
-        // No goal can step, or the next step is refused.
-        if done < slice {
-            return Ok(());
+        match host.pick() {
+            None => return Ok(()),
+            Some(_next) => {}
         }
     }
     Ok(())

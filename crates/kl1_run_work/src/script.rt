@@ -1,39 +1,14 @@
 // The script that does the same work.
 
-ghost use Rattle.std.specs.Prelude.{◌≡◌, ◌++◌, [], codes, length, if◌then◌else◌, IfOk, OnOk};
+ghost use Rattle.std.specs.Prelude.{◌≡◌, ◌++◌, [], codes, if◌then◌else◌, OnOk};
 ghost use Rattle.kl1_model_server.specs.Command.{written_line};
-ghost use Rattle.kl1_run_work.specs.Scripts.{load_line, load_lines, start_command, goal_lines, run_lines, question_lines, script_of};
+ghost use Rattle.kl1_run_work.specs.Scripts.{load_line, load_lines, goal_lines, run_lines, question_lines, script_of};
 ghost use Rattle.kl1_run_work.specs.Works.{texts_of};
 
 use crate::source_file::SourceFile;
 use kl1_lines::put_decimal;
 use kl1_term::{Term, put_whole};
 use std::alloc::{AllocError, Global};
-
-/// The bytes of the line that starts the goal with this allowance, without the account's name.
-pub fn start_length(alloc: Global, goal: &Term, allowance: u64) -> Result<usize, AllocError>
-    ensures { IfOk result (λ n. n ≡ length (start_command goal.now allowance)) }
-{
-    let mut line = Vec::new(alloc);
-    put_start(alloc, goal, allowance, &mut line)?;
-    Ok(line.len())
-}
-
-/// Puts the line that starts the goal with this allowance, without the account's name, after the bytes. After an `Err` some of it may
-/// be there.
-fn put_start(
-    alloc: Global,
-    goal: &Term,
-    allowance: u64,
-    out: &mut Vec<u8>,
-) -> Result<(), AllocError>
-    ensures { OnOk result (out.new.items ≡ out.old.items ++ start_command goal.now allowance) }
-{
-    out.extend_from_slice(b"start ")?;
-    put_decimal(out, allowance)?;
-    out.extend_from_slice(b" 0 4095 ")?;
-    put_whole(alloc, out, goal)
-}
 
 /// Puts the script that loads the files, starts the goal with this allowance, runs `steps` steps, and asks for the value, and
 /// also for the first 64 reports if they are wanted, after the bytes. After an `Err` some of it may be there.
@@ -88,8 +63,10 @@ fn put_goal(
 ) -> Result<(), AllocError>
     ensures { OnOk result (out.new.items ≡ out.old.items ++ goal_lines goal.now allowance steps) }
 {
-    out.extend_from_slice(b"me ")?;
-    put_start(alloc, goal, allowance, out)?;
+    out.extend_from_slice(b"me start ")?;
+    put_decimal(out, allowance)?;
+    out.extend_from_slice(b" 0 4095 ")?;
+    put_whole(alloc, out, goal)?;
     put_run(steps, out)
 }
 

@@ -8,7 +8,7 @@ use Rattle.kl1_run_work.proofs.reports.put_page.Given as goal
 abbrev pub invariant-loop-rest : goal.invariant-loop-rest
 invariant-loop-rest l = record {
   reports : l.reported.reports.items ++ written_lines (map (λ t. t.items) l.rest) ≡ l.fn.reported.reports.items ++ written_lines (map (λ t. t.items) l.texts);
-  exceptions : map (λ t. t.items) l.reported.exceptions.items ++ filter is_exception (map (λ t. t.items) l.rest) ≡ map (λ t. t.items) l.fn.reported.exceptions.items ++ filter is_exception (map (λ t. t.items) l.texts);
+  exceptions : l.reported.exceptions.items ++ written_lines (filter is_exception (map (λ t. t.items) l.rest)) ≡ l.fn.reported.exceptions.items ++ written_lines (filter is_exception (map (λ t. t.items) l.texts));
 }
 
 abbrev pub decreases-loop-rest : goal.decreases-loop-rest
