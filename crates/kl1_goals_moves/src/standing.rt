@@ -4,6 +4,7 @@ ghost use Rattle.std.specs.Prelude.{◌≡◌, ℕ, List, IfOk, OnOk};
 ghost use Rattle.kl1_model.specs.Module.{Module};
 ghost use Rattle.kl1_model.specs.Term.{Term};
 ghost use Rattle.kl1_text.specs.Reading.{Reads};
+ghost use Rattle.kl1_store.specs.Remembers.{Remembers};
 ghost use Rattle.kl1_clause.specs.Predicates.{AreSome};
 ghost use Rattle.kl1_match.specs.Waiting.{AreUnbound};
 ghost use Rattle.kl1_goals_moves.specs.Kinds.{IsKind, KindIn};
@@ -36,9 +37,11 @@ pub fn standing_of<N: NameValue>(
     requires kind { KindIn store.now.held kind }
     requires predicate { AreSome predicate.names.now predicate.clauses.now }
     ensures unbound { OnOk result (AreUnbound store.now.held trial.new.awaited.items) }
+    ensures remembers { OnOk result (Remembers N.built store.now.held trial.new.scratch.same) }
     ensures standing { IfOk result (λ clause. (f : N → List ℕ) → Reads N.built f → (modules : List Module) (t : Term) → IsKind f store.now.held t kind → HasPredicate f store.now.held modules kind predicate.entry → StandsAs rules modules t trial.new.awaited.items clause) }
 {
     trial.awaited.clear();
+    store.forget(&mut trial.scratch.same);
     match kind {
         Kind::Calls(call) => choose(
             store,

@@ -1,7 +1,8 @@
 // The clause by which a goal can step, among those of its predicate.
 
-ghost use Rattle.std.specs.Prelude.{◌≡◌, ◌<◌, length, IfOk, slice_index_or};
+ghost use Rattle.std.specs.Prelude.{◌≡◌, ◌<◌, length, IfOk, OnOk, slice_index_or};
 ghost use Rattle.kl1_store.specs.Held.{IsIn};
+ghost use Rattle.kl1_store.specs.Remembers.{Remembers};
 ghost use Rattle.kl1_match_verdict.specs.Choices.{AreClauses, IsChoice, is_past, without_clause};
 
 use crate::verdicts::judge;
@@ -56,7 +57,8 @@ pub fn choose<N: NameValue>(
 ) -> Result<Option<u64>, AllocError>
     requires clauses { AreClauses names.now clauses.now }
     requires goal { IsIn store.now.held goal }
-    ensures { IfOk result (IsChoice N.built names.now clauses.now store.now.held goal awaited.old.items awaited.new.items) }
+    ensures choice { IfOk result (IsChoice N.built names.now clauses.now store.now.held goal awaited.old.items awaited.new.items) }
+    ensures remembers { OnOk result (Remembers N.built store.now.held scratch.new.same) }
 {
     let behind = &mut scratch.spans;
     let same = &mut scratch.same;

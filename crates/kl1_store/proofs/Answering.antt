@@ -26,12 +26,12 @@ answers_yes f h xs start longer s e c =
 pub answers_no : {N : Type 0} (f : N → List ℕ) (h : Held N) (xs : List (Cell N)) → some_clash (term_list f h xs) ≡ true → passive_each (term_list f h xs) ≡ differs
 answers_no f h xs c = each_differs (term_list f h xs) c
 
-of_at : (v : ℕ) (xs : List ℕ) (k : ℕ) → k < length xs → get_or xs k v ≡ v → IsOf v xs
+pub of_at : (v : ℕ) (xs : List ℕ) (k : ℕ) → k < length xs → get_or xs k v ≡ v → IsOf v xs
 of_at v [] k lt e = absurd (omega arith)
 of_at v (x ∷ xs) zero lt e = inl e
 of_at v (x ∷ xs) (suc k) lt e = inr (of_at v xs k (omega arith) e)
 
-contains_of : (v : ℕ) (xs : List ℕ) → IsOf v xs → Contains xs v
+pub contains_of : (v : ℕ) (xs : List ℕ) → IsOf v xs → Contains xs v
 contains_of v [] a = absurd a
 contains_of v (x ∷ xs) (inl e) = (0, omega arith, e)
 contains_of v (x ∷ xs) (inr a) = let r = contains_of v xs a in (suc r.0, (let lt = r.1 in omega arith), r.2)

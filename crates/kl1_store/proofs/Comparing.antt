@@ -44,16 +44,16 @@ mutual
   all_awaited_self none = refl
   all_awaited_self (more t ts) = ap (λ l. l ++ all_awaited ts ts) (awaited_self t) ∙ all_awaited_self ts
 
-or-group : (a b c : Bool) → ((a || b) || c) ≡ (a || (b || c))
+pub or-group : (a b c : Bool) → ((a || b) || c) ≡ (a || (b || c))
 or-group true b c = refl
 or-group false b c = refl
 
-clash_among-arguments : (ts us : Terms) (es : List Equation) → clash_among (argument_equations ts us es) ≡ (any_clash ts us || clash_among es)
+pub clash_among-arguments : (ts us : Terms) (es : List Equation) → clash_among (argument_equations ts us es) ≡ (any_clash ts us || clash_among es)
 clash_among-arguments none us es = refl
 clash_among-arguments (more t ts) none es = refl
 clash_among-arguments (more t ts) (more u us) es = ap (λ b. clash t u || b) (clash_among-arguments ts us es) ∙ sym (or-group (clash t u) (any_clash ts us) (clash_among es))
 
-awaited_among-arguments : (ts us : Terms) (es : List Equation) → awaited_among (argument_equations ts us es) ≡ all_awaited ts us ++ awaited_among es
+pub awaited_among-arguments : (ts us : Terms) (es : List Equation) → awaited_among (argument_equations ts us es) ≡ all_awaited ts us ++ awaited_among es
 awaited_among-arguments none us es = refl
 awaited_among-arguments (more t ts) none es = refl
 awaited_among-arguments (more t ts) (more u us) es =
@@ -171,7 +171,7 @@ pub record Structures (t u : Term) (ts us : Terms) : Type 0 where
   pub right : u ≡ structure right_name us
   pub one : bytes_eq left_name right_name && count_of ts == count_of us ≡ true
 
-opened_structures : {N : Type 0} (f : N → List ℕ) (h : Held N) (x y : Cell N) (p : Frame) → IsFormed h → Opens h x y p →
+pub opened_structures : {N : Type 0} (f : N → List ℕ) (h : Held N) (x y : Cell N) (p : Frame) → IsFormed h → Opens h x y p →
     Structures (term_of f h x) (term_of f h y) (terms_of f h (drop p.next (arguments_of h p.left))) (terms_of f h (drop p.next (arguments_of h p.right)))
 opened_structures {N = N} f h x y p formed opens =
     let a = named h p.left opens.is.left in
@@ -191,12 +191,12 @@ opened_structures {N = N} f h x y p formed opens =
       one = goes_if (bytes_eq (f a.0) (f b.0) && count_of ts == count_of us) (argument_equations ts us []) (rest_of f h p []) leads;
     })
 
-clash-structures : (t u : Term) (ts us : Terms) → Structures t u ts us → clash t u ≡ any_clash ts us
+pub clash-structures : (t u : Term) (ts us : Terms) → Structures t u ts us → clash t u ≡ any_clash ts us
 clash-structures t u ts us s =
     ap (λ k. clash k u) s.left ∙ ap (clash (structure s.left_name ts)) s.right
     ∙ cond-true (bytes_eq s.left_name s.right_name && count_of ts == count_of us) (any_clash ts us) true s.one
 
-awaited-structures : (t u : Term) (ts us : Terms) → Structures t u ts us → awaited t u ≡ all_awaited ts us
+pub awaited-structures : (t u : Term) (ts us : Terms) → Structures t u ts us → awaited t u ≡ all_awaited ts us
 awaited-structures t u ts us s = ap (λ k. awaited k u) s.left ∙ ap (awaited (structure s.left_name ts)) s.right
 
 pub looked_open : {N : Type 0} (built : BuiltIn → N) (h : Held N) (x y : Cell N) (p : Frame) (ps now : List Frame) (waits : List ℕ) → IsFormed h → ArePairs h ps → Opens h x y p →

@@ -185,7 +185,7 @@ levels_bind {N = N} old new v x (Err e) ls unbound a lies ok err = let Q : Held 
 
 -- ---- and so does taking back
 
-slice_get-taken : {X : Type 0} (xs ys : List X) (i : ℕ) → take (length xs) ys ≡ xs → i < length xs → slice_get ys i ≡ slice_get xs i
+pub slice_get-taken : {X : Type 0} (xs ys : List X) (i : ℕ) → take (length xs) ys ≡ xs → i < length xs → slice_get ys i ≡ slice_get xs i
 slice_get-taken [] ys i e lt = absurd (omega arith)
 slice_get-taken (x ∷ xs) [] i e lt = absurd (cc)
 slice_get-taken {X = X} (x ∷ xs) (y ∷ ys) zero e lt = let q : y ≡ x = cc in ap (λ (z : X). Some z) q

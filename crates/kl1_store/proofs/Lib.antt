@@ -37,3 +37,6 @@ pub mod Listing
 pub mod Placed
 pub mod Renamed
 pub mod Recalling
+pub mod Standing
+pub mod Resting
+pub mod Resuming

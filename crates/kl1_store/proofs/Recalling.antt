@@ -60,7 +60,7 @@ pub recalled : {N : Type 0} (built : BuiltIn → N) (h : Held N) (r : Remembered
 recalled {N = N} built h r left right waits before after is left_is right_is waits_is e =
     let P : ℕ → Type 0 = λ n. AlikeAs built h (Structure n) (Structure r.right) before after r.alike in
     let Q : ℕ → Type 0 = λ n. AlikeAs built h (Structure left) (Structure n) before after r.alike in
-    subst Q right_is (subst P left_is (alike_after built h (Structure r.left) (Structure r.right) r.waits.items before after r.alike is (e ∙ ap (λ l. before ++ l) waits_is)))
+    subst Q right_is (subst P left_is (alike_after built h (Structure r.left) (Structure r.right) r.waits.items before after r.alike is.0 (e ∙ ap (λ l. before ++ l) waits_is)))
 
 -- if nothing is recalled, nothing was added
 pub not_recalled : {N : Type 0} (built : BuiltIn → N) (h : Held N) (left right : ℕ) (before after : List ℕ) (o : Option Bool) → o ≡ None → RecalledAs built h left right before after o → after ≡ before

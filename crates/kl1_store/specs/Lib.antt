@@ -17,6 +17,8 @@ pub mod Compares
 pub mod ComparesEach
 pub mod Sameness
 pub mod Remembers
+pub mod Resting
+pub mod Resumes
 pub mod Hooks
 pub mod Chains
 pub mod Keeping

@@ -33,7 +33,7 @@ fn wait_for(waits: &mut Vec<u32>, variable: u32) -> Result<bool, AllocError>
 }
 
 /// Looks at two cells that stand for themselves: false if they clash at once.
-fn compare_sides<N: NameValue>(
+pub(crate) fn compare_sides<N: NameValue>(
     cells: &Cells<N>,
     frames: &mut Vec<Frame>,
     waits: &mut Vec<u32>,

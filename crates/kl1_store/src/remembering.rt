@@ -4,12 +4,17 @@ ghost use Rattle.std.specs.Prelude.{◌≡◌, ℕ, ◌<◌, List, [], length, I
 ghost use Rattle.std.specs.List.{All};
 ghost use Rattle.kl1_store.specs.Held.{Held, IsIn};
 ghost use Rattle.kl1_store.specs.Sameness.{AlikeAs};
+ghost use Rattle.kl1_store.specs.Resting.{AreRests};
 ghost use Rattle.kl1_store.specs.Remembers.{IsRemembered, Remembers, RecalledAs};
 
 use crate::cell::Cell;
 use crate::cells::Cells;
 use crate::compare::compare;
+use crate::course::Course;
 use crate::frame::Frame;
+use crate::progress::Progress;
+use crate::rest::Rest;
+use crate::resume::resume;
 use crate::same_scratch::{Remembered, SameScratch};
 use kl1_text::NameValue;
 use std::alloc::{AllocError, Global};
@@ -62,15 +67,75 @@ fn compare_alone<N: NameValue>(
     Ok(true)
 }
 
+/// Compares two structures, from where their comparison was left last.
+fn compare_anew<N: NameValue>(
+    cells: &Cells<N>,
+    rests: &[Rest],
+    frames: &mut Vec<Frame>,
+    alloc: Global,
+    left: u32,
+    right: u32,
+) -> Result<Remembered, AllocError>
+    requires rests { AreRests N.built cells.now.held rests.now }
+    requires left_in { left < length cells.now.held.structures }
+    requires right_in { right < length cells.now.held.structures }
+    ensures remembered { IfOk result (IsRemembered N.built cells.now.held) }
+    ensures left { IfOk result (λ found. found.left ≡ left) }
+    ensures right { IfOk result (λ found. found.right ≡ right) }
+{
+    let mut course = Course::new(alloc);
+    let mut waits = Vec::new(alloc);
+    let progress = resume(cells, rests, frames, &mut course, &mut waits, left, right)?;
+    match progress {
+        Progress::Ends => {
+            let is_worth_keeping = course.is_long();
+            Ok(Remembered {
+                left,
+                right,
+                alike: true,
+                waits,
+                is_worth_keeping,
+                pairs: course.pairs,
+            })
+        }
+        Progress::Clashes => {
+            waits.clear();
+            Ok(Remembered {
+                left,
+                right,
+                alike: false,
+                waits,
+                is_worth_keeping: false,
+                pairs: course.pairs,
+            })
+        }
+        Progress::Tires => {
+            let first = Cell::Structure(left);
+            let second = Cell::Structure(right);
+            let alike = compare_alone(cells, frames, alloc, &mut waits, first, second)?;
+            Ok(Remembered {
+                left,
+                right,
+                alike,
+                waits,
+                is_worth_keeping: false,
+                pairs: course.pairs,
+            })
+        }
+    }
+}
+
 /// Compares two structures, and remembers what this gave, if it isn't remembered already and there aren't too many others.
 fn compare_structures<N: NameValue>(
     cells: &Cells<N>,
+    rests: &[Rest],
     scratch: &mut SameScratch,
     alloc: Global,
     waits: &mut Vec<u32>,
     left: u32,
     right: u32,
 ) -> Result<bool, AllocError>
+    requires rests { AreRests N.built cells.now.held rests.now }
     requires left_in { left < length cells.now.held.structures }
     requires right_in { right < length cells.now.held.structures }
     requires remembers { Remembers N.built cells.now.held scratch.old }
@@ -80,23 +145,11 @@ fn compare_structures<N: NameValue>(
     if let Some(alike) = recall(cells, scratch.remembered.as_slice(), waits, left, right)? {
         return Ok(alike);
     }
-    let mut found = Vec::new(alloc);
-    let alike = compare_alone(
-        cells,
-        &mut scratch.frames,
-        alloc,
-        &mut found,
-        Cell::Structure(left),
-        Cell::Structure(right),
-    )?;
-    waits.extend_from_slice(found.as_slice())?;
+    let found = compare_anew(cells, rests, &mut scratch.frames, alloc, left, right)?;
+    waits.extend_from_slice(found.waits.as_slice())?;
+    let alike = found.alike;
     if scratch.remembered.len() < MOST {
-        scratch.remembered.push(Remembered {
-            left,
-            right,
-            alike,
-            waits: found,
-        })?;
+        scratch.remembered.push(found)?;
     }
     Ok(alike)
 }
@@ -105,12 +158,14 @@ fn compare_structures<N: NameValue>(
 /// those in it.
 pub fn compare_once<N: NameValue>(
     cells: &Cells<N>,
+    rests: &[Rest],
     scratch: &mut SameScratch,
     alloc: Global,
     waits: &mut Vec<u32>,
     left: Cell<N>,
     right: Cell<N>,
 ) -> Result<bool, AllocError>
+    requires rests { AreRests N.built cells.now.held rests.now }
     requires left_in { IsIn cells.now.held left }
     requires right_in { IsIn cells.now.held right }
     requires remembers { Remembers N.built cells.now.held scratch.old }
@@ -121,7 +176,7 @@ pub fn compare_once<N: NameValue>(
     let second = cells.walk(right);
     if let Cell::Structure(structure) = first {
         if let Cell::Structure(other) = second {
-            return compare_structures(cells, scratch, alloc, waits, structure, other);
+            return compare_structures(cells, rests, scratch, alloc, waits, structure, other);
         }
     }
     let alike = compare_alone(

@@ -5,13 +5,16 @@ ghost use Rattle.std.specs.Prelude.{◌≡◌, []};
 use crate::frame::Frame;
 use std::alloc::Global;
 
-/// What comparing two structures, by their numbers, gave: whether they may be the same, and the variables that this waits for.
+/// What comparing two structures, by their numbers, gave: whether they may be the same, and the variables that this waits for. If it is
+/// worth keeping, `pairs` has what is left of it.
 #[derive(Drop)]
 pub(crate) struct Remembered {
     pub(crate) left: u32,
     pub(crate) right: u32,
     pub(crate) alike: bool,
     pub(crate) waits: Vec<u32>,
+    pub(crate) is_worth_keeping: bool,
+    pub(crate) pairs: Vec<Frame>,
 }
 
 /// Lists that a call empties before it uses them, and what comparisons gave since `Store::forget`. It keeps the lists' memory for

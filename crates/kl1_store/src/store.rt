@@ -27,6 +27,7 @@ use crate::levels::Levels;
 use crate::merges::Merges;
 use crate::point::Point;
 use crate::remembering::compare_once;
+use crate::rest::{Rest, forget_rests, keep_each};
 use crate::same::Same;
 use crate::same_scratch::SameScratch;
 use crate::scratch::Scratch;
@@ -48,6 +49,7 @@ pub struct Store<N: NameValue> {
     levels: Levels,
     scratch: Scratch<N>,
     hooks: Hooks,
+    rests: Vec<Rest>,
     alloc: Global,
 }
 
@@ -60,7 +62,7 @@ impl<N: NameValue> Model for Store<N> {
 
     ghost view = { λ s. kept_in s.cells s.hooks };
 
-    ghost invariant = { λ s. IsKept s.cells s.hooks s.levels };
+    ghost invariant = { λ s. IsKept N.built s.cells s.hooks s.levels s.rests.items };
 }
 
 impl<N: NameValue> Store<N> {
@@ -81,6 +83,7 @@ impl<N: NameValue> Store<N> {
                 tasks: Vec::new(alloc),
             },
             hooks: Hooks::new(alloc),
+            rests: Vec::new(alloc),
             alloc,
         }
     }
@@ -207,6 +210,7 @@ impl<N: NameValue> Store<N> {
 
     /// Makes two cells mean the same term, as far as that can be, by as few replacements as serve. After a clash or an error
     /// what was bound so far is still bound.
+    #[tactic(auto, using(crate::proofs::Resting::rests_unified))]
     pub fn unify_cells(&mut self, left: Cell<N>, right: Cell<N>) -> Result<Unified, AllocError>
         requires left_in { IsIn self.old.held left }
         requires right_in { IsIn self.old.held right }
@@ -274,7 +278,15 @@ impl<N: NameValue> Store<N> {
         ensures alike { IfOk result (AlikeAs N.built self.now.held left right waits.old.items waits.new.items) }
         ensures remembers { OnOk result (Remembers N.built self.now.held scratch.new) }
     {
-        compare_once(&self.cells, scratch, self.alloc, waits, left, right)
+        compare_once(
+            &self.cells,
+            self.rests.as_slice(),
+            scratch,
+            self.alloc,
+            waits,
+            left,
+            right,
+        )
     }
 
     /// Forgets what was compared, so that nothing is remembered that isn't so for this store as it is now.
@@ -286,6 +298,28 @@ impl<N: NameValue> Store<N> {
         if !scratch.remembered.is_empty() {
             scratch.let_go();
         }
+    }
+
+    /// Keeps what is left of the comparisons that stay open, if much of them was met, so that those of the same structures go on where
+    /// these were left. If memory is refused, some are kept.
+    #[inline]
+    pub fn keep_rests(&mut self, scratch: &SameScratch) -> Result<(), AllocError>
+        requires { Remembers N.built self.old.held scratch.now }
+        ensures same { self.new.held ≡ self.old.held }
+        ensures room { self.new.room ≡ self.old.room }
+        ensures hooks { self.new.hooks ≡ self.old.hooks }
+        ensures hook_room { self.new.hook_room ≡ self.old.hook_room }
+    {
+        // Most goals wait without a comparison.
+        if scratch.remembered.is_empty() {
+            return Ok(());
+        }
+        keep_each(
+            &self.cells,
+            &mut self.rests,
+            self.alloc,
+            scratch.remembered.as_slice(),
+        )
     }
 
     /// Makes room for `variables` variables, `structures` structures, `arguments` arguments and `bindings` bindings more:
@@ -392,5 +426,6 @@ impl<N: NameValue> Store<N> {
     {
         take_back(&mut self.cells, &mut self.levels, mark.sizes);
         self.hooks.keep(mark.hooks);
+        forget_rests(&mut self.rests);
     }
 }

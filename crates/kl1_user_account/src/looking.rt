@@ -118,6 +118,7 @@ pub(crate) fn hung_standing(
 {
     let standing = standing_of(store, rules, kind, predicate, trial)?;
     if !trial.awaited.is_empty() {
+        store.keep_rests(&trial.scratch.same)?;
         hang_on(store, trial.awaited.as_slice(), number)?;
     }
     Ok(standing)

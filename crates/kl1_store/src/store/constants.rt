@@ -13,6 +13,7 @@ use crate::cells::Cells;
 use crate::levels::Levels;
 use crate::mark::Mark;
 use crate::point::Point;
+use crate::rest::forget_rests;
 use crate::store::Store;
 use crate::take_back::take_back;
 use kl1_text::NameValue;
@@ -56,6 +57,7 @@ impl<N: NameValue> Store<N> {
             variable,
             constant,
         );
+        forget_rests(&mut self.rests);
     }
 
     /// Binds an unbound variable to an atom or an integer: what unification of the two does.

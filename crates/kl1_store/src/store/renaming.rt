@@ -5,6 +5,7 @@ ghost use Rattle.kl1_store.specs.Renames.{renamed_since};
 
 use crate::point::Point;
 use crate::renaming::Renaming;
+use crate::rest::forget_rests;
 use crate::store::Store;
 use kl1_text::NameValue;
 
@@ -19,6 +20,7 @@ impl<N: NameValue> Store<N> {
         ensures hooks { self.new.hooks ≡ self.old.hooks }
         ensures hook_room { self.new.hook_room ≡ self.old.hook_room }
     {
+        forget_rests(&mut self.rests);
         self.cells.rename(mark.sizes, names);
     }
 }

@@ -13,14 +13,14 @@ judge-requires-clause-clause g c =
     let P : CompiledClause → Type 0 = λ k. IsClause c.args.names.now k in
     subst P (sym c.nth-clause.ensures) (clause_in c.args.names.now c.args.clauses.now c.loop-tried.tried c.nth-clause.result.now c.requires.clauses c.loop-tried-test.true)
 
-pub returns-then-is_past : goal.returns-then-is_past
-returns-then-is_past g c =
+pub returns-then-is_past-clause-choice : goal.returns-then-is_past-clause-choice
+returns-then-is_past-clause-choice g c =
     let x = c.nth-clause.result.now in
     section_ended g.N.NameValue.built c.args.names.now c.args.clauses.now c.args.store.now.held c.args.goal c.args.awaited.now.items c.loop-tried.awaited.items c.loop-tried.tried c.loop-tried.waiting x
     c.loop-tried-test.true (sym (ap (λ (k : CompiledClause). is_past c.loop-tried.waiting k.section) c.nth-clause.ensures) ∙ (sym c.is_past.ensures ∙ c.if-is_past.true)) c.loop-tried.invariant.1
 
-pub returns-in-Accepts : goal.returns-in-Accepts
-returns-in-Accepts g c =
+pub returns-in-Accepts-clause-choice : goal.returns-in-Accepts-clause-choice
+returns-in-Accepts-clause-choice g c =
     let x = c.nth-clause.result.now in
     let P : CompiledClause → Type 0 = λ k. IsVerdict g.N.NameValue.built c.args.names.now k c.args.store.now.held c.args.goal c.in_ok-judge.ensures.judged.taken c.loop-tried.awaited.items c.judge.new.awaited.items c.in_ok-judge.field-0 in
     let Q : Verdict → Type 0 = λ v. IsVerdict g.N.NameValue.built c.args.names.now (get_or c.args.clauses.now c.loop-tried.tried x) c.args.store.now.held c.args.goal c.in_ok-judge.ensures.judged.taken c.loop-tried.awaited.items c.judge.new.awaited.items v in
@@ -48,8 +48,8 @@ loop-tried-preserved g c =
           c.loop-tried-test.true (sym (ap (λ (k : CompiledClause). is_past c.loop-tried.waiting k.section) c.nth-clause.ensures) ∙ (sym c.is_past.ensures ∙ c.if-is_past.false)) c.loop-tried.invariant.1 (subst Q c.in-Suspends.is (subst P c.nth-clause.ensures c.in_ok-judge.ensures.judged.holds))),
     )
 
-pub returns : goal.returns
-returns g c =
+pub returns-clause-choice : goal.returns-clause-choice
+returns-clause-choice g c =
     let P : Option ℕ → Type 0 = λ o. IsChoice g.N.NameValue.built c.args.names.now c.args.clauses.now c.args.store.now.held c.args.goal c.args.awaited.now.items c.loop-tried.awaited.items o in
     subst P (sym c.without_clause.ensures) (all_tried g.N.NameValue.built c.args.names.now c.args.clauses.now c.args.store.now.held c.args.goal c.args.awaited.now.items c.loop-tried.awaited.items c.loop-tried.tried c.loop-tried.waiting c.loop-tried-test.false c.loop-tried.invariant.1)
 

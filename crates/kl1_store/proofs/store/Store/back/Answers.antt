@@ -6,9 +6,10 @@ use Rattle.kl1_store.specs.Hooks.{Kept}
 use Rattle.kl1_store.specs.Keeping.{kept_in}
 use Rattle.kl1_store.specs.Spending.{FreesRoom}
 use Rattle.kl1_store.proofs.Rooms.{frees_kept}
+use Rattle.kl1_store.proofs.Resting.{no_rests}
 use Rattle.kl1_store.proofs.store.Store.back.Goals as goal
 
-no_more : (g : _) (c : goal.After-keep g) → c.take_back.new.cells.held.variables ≤ c.self.inside.cells.held.variables
+no_more : (g : _) (c : goal.After-forget_rests g) → c.take_back.new.cells.held.variables ≤ c.self.inside.cells.held.variables
 no_more g c =
     let k = c.requires.0 in
     let G : Kept g.row.N.Denot → Type 0 = λ s. Grown k.held s.held in
@@ -18,7 +19,7 @@ no_more g c =
     omega arith
 
 pub invariant_of-self : goal.invariant_of-self
-invariant_of-self g c = record { levels = c.take_back.ensures.levels; covered = let n = no_more g c in omega arith }
+invariant_of-self g c = record { levels = c.take_back.ensures.levels; covered = let n = no_more g c in omega arith; rests = no_rests g.N.NameValue.built c.take_back.new.cells.held c.forget_rests.new.rests.items c.forget_rests.ensures }
 
 pub returns-clause-room : goal.returns-clause-room
 returns-clause-room g c =

@@ -6,6 +6,7 @@ use Rattle.kl1_store.specs.Hooks.{Kept}
 use Rattle.kl1_store.specs.Levels.{AreLevels}
 use Rattle.kl1_store.specs.Unification.{UnifiesAs}
 use Rattle.kl1_store.proofs.Constants.{constant_free, levels_constant, unifies_constant}
+use Rattle.kl1_store.proofs.Resting.{rests_bound}
 use Rattle.kl1_store.proofs.store.Store.bind_constant.Goals as goal
 
 pub bind-requires-clause-free : goal.bind-requires-clause-free
@@ -19,6 +20,7 @@ invariant_of-self g c =
     let unbound = subst U (sym c.self.view_is) c.requires.unbound in
     record {
       levels = subst P (sym c.in-Ok.ensures.ok) (levels_constant s.cells.held c.args.variable c.args.constant s.levels unbound c.self.invariant.levels c.requires.constant);
+      rests = rests_bound g.N.NameValue.built s.cells.held c.bind.new.self.held c.args.variable c.args.constant s.rests.items c.in-Ok.ensures.ok c.self.invariant.rests;
       covered = let e = ap (λ (h : Held g.row.N.Denot). h.variables) c.in-Ok.ensures.ok in let v = c.self.invariant.covered in omega arith;
     }
 

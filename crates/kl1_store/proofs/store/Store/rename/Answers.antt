@@ -2,6 +2,7 @@ use Rattle.std.proofs.Common.{◌≡◌, ap, ◌∙◌, arith}
 use Rattle.kl1_store.specs.Held.{Held}
 use Rattle.kl1_store.specs.Renames.{held_renamed, unnamed}
 use Rattle.kl1_store.proofs.Bare.{bare_since, levels_alike}
+use Rattle.kl1_store.proofs.Resting.{no_rests}
 use Rattle.kl1_store.proofs.store.Store.rename.Goals as goal
 
 pub invariant_of-self : goal.invariant_of-self
@@ -13,4 +14,5 @@ invariant_of-self g c =
     record {
       levels = levels_alike s.cells.held c.rename.new.self.held s.levels alike c.self.invariant.levels;
       covered = omega (arith, many, c.self.invariant.covered);
+      rests = no_rests g.N.NameValue.built c.rename.new.self.held c.forget_rests.new.rests.items c.forget_rests.ensures;
     }
