@@ -1,0 +1,16 @@
+//! The layout of sources: their tokens and comments with other blanks between them.
+#![tactic(auto)]
+
+mod formatting;
+mod item;
+mod laid_out;
+mod layout_fault;
+mod piece;
+mod pieces;
+mod placed;
+mod predicate;
+mod same;
+mod spacing;
+
+pub use formatting::format;
+pub use layout_fault::LayoutFault;
