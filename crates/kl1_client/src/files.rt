@@ -1,13 +1,19 @@
-// Files that are loaded.
+// Files that are loaded and written.
 
 use kl1_client_talk::{Fault, MOST_SOURCE_BYTES};
 use std::alloc::{AllocError, Global};
 use std::env::VarError;
 use std::fs::File;
-use std::io::Read;
-use std::{env, io, str};
+use std::io::{Read, Write};
+use std::{env, fs, io, str};
 
-/// Why a file can't be read.
+/// What the text of a journal begins with.
+const HEADING: &[u8] = b"journal ";
+
+/// What stands after the name of a file while it is written.
+const PART: &str = ".part";
+
+/// Why a file can't be read or written.
 #[derive(Drop)]
 pub enum FileTrouble {
     /// The name is no UTF-8.
@@ -16,6 +22,8 @@ pub enum FileTrouble {
     System(io::Error),
     /// It has more bytes than a module may have.
     TooLong,
+    /// It is there, or the one beside it in which it is written, and is no journal.
+    NoJournal,
     /// Memory was refused.
     Memory,
 }
@@ -44,6 +52,9 @@ pub fn tell(rt: &HostRuntime, name: &[u8], trouble: &FileTrouble) -> Result<(), 
         FileTrouble::Name => eprintln!(rt; "kl1_client: the name of a file is no UTF-8"),
         FileTrouble::System(error) => eprintln!(rt; "kl1_client: {name}: {error}"),
         FileTrouble::TooLong => eprintln!(rt; "kl1_client: {name}: too long"),
+        FileTrouble::NoJournal => {
+            eprintln!(rt; "kl1_client: {name}: is there, and is no journal")
+        }
     };
     Ok(())
 }
@@ -101,6 +112,50 @@ pub fn read(rt: &HostRuntime, name: &[u8], bytes: &mut Vec<u8>) -> Result<(), Fi
         .read_to_end(bytes)?;
     if bytes.len() > MOST_SOURCE_BYTES {
         return Err(FileTrouble::TooLong);
+    }
+    Ok(())
+}
+
+/// Whether this path is taken by what `save` must leave: a file that is no journal and has a byte, or what is no file.
+fn is_other(rt: &HostRuntime, path: &str) -> Result<bool, FileTrouble> {
+    let found = match fs::metadata(rt, path) {
+        Ok(found) => found,
+        Err(error) => {
+            if error.kind() == io::ErrorKind::NotFound {
+                return Ok(false);
+            }
+            return Err(error.into());
+        }
+    };
+    if !found.is_file() {
+        return Ok(true);
+    }
+    let mut front = Vec::new(rt.alloc());
+    File::open(rt, path)?
+        .take(HEADING.len() as u64)
+        .read_to_end(&mut front)?;
+    Ok(!front.is_empty() && front.as_slice() != HEADING)
+}
+
+/// Writes these bytes to the file of the first path, and then gives it the name of the second.
+fn write_by(rt: &HostRuntime, part: &str, path: &str, bytes: &[u8]) -> io::Result<()> {
+    let mut file = File::create(rt, part)?;
+    file.write_all(bytes)?;
+    file.sync_all()?;
+    fs::rename(rt, part, path)
+}
+
+/// Writes these bytes to a file that is new, empty or a journal. What was there stays until all of them are written beside it.
+pub fn write(rt: &HostRuntime, name: &[u8], bytes: &[u8]) -> Result<(), FileTrouble> {
+    let path = path_of(rt, rt.alloc(), name)?;
+    let mut part = path_of(rt, rt.alloc(), name)?;
+    part.push_str(PART)?;
+    if is_other(rt, path.as_str())? || is_other(rt, part.as_str())? {
+        return Err(FileTrouble::NoJournal);
+    }
+    if let Err(error) = write_by(rt, part.as_str(), path.as_str(), bytes) {
+        let _ = fs::remove_file(rt, part.as_str());
+        return Err(error.into());
     }
     Ok(())
 }

@@ -1,8 +1,9 @@
 // What the client knows of commands.
 
 /// The commands, those of the client first: of each its form, and what it does.
-const COMMANDS: [&str; 21] = [
+const COMMANDS: [&str; 22] = [
     "load FILE         load the module in FILE",
+    "save FILE         write the whole journal to FILE, which is new, empty or a journal",
     "wait S [SECONDS]  wait until shoen S has ended, or can't go on, or SECONDS are over",
     "watch S           show the reports of shoen S as they come, until it has ended",
     "help [COMMAND]    tell the commands, or one of them",

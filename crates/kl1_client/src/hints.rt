@@ -10,7 +10,7 @@ const HINTS: [&str; 13] = [
     "this goal can't take this clause now",
     "the account would use more than 1,024 names, and reset keeps them: use fewer",
     "a limit of the account would be passed: reset begins it anew",
-    "the journal is full: save it by --all -c 'journal 1 64', then reset",
+    "the journal is full: save it, then reset",
     "the server has no memory for this now: try again later",
     "the name or the key is wrong, or a session is open already",
     "the account has 4 open sessions: end one of them",

@@ -81,6 +81,16 @@ impl<S: Source> Caller for Terminal<'_, S> {
         }
     }
 
+    fn save(&mut self, name: &[u8], bytes: &[u8]) -> Result<bool, Fault> {
+        match files::write(self.rt, name, bytes) {
+            Ok(()) => Ok(true),
+            Err(trouble) => {
+                files::tell(self.rt, name, &trouble)?;
+                Ok(false)
+            }
+        }
+    }
+
     fn pause(&mut self, looks: u64, seconds: Option<u64>) -> bool {
         let pause = Duration::from_millis(looks.min(MOST_PAUSE / PAUSE) * PAUSE);
         let Some(seconds) = seconds else {

@@ -4,4 +4,5 @@ pub mod Exchanged
 pub mod Paged
 pub mod Said
 pub mod Turns
+pub mod Saved
 pub mod Watched

@@ -1,5 +1,5 @@
 -- Pages after one another.
-use Rattle.std.proofs.Common.{◌≡◌, ℕ, ◌+◌, true, false, List, [], ◌∷◌, ◌++◌, length, refl, ap, sym, ◌∙◌, append_assoc, add_assoc, add-zero, subst, arith}
+use Rattle.std.proofs.Common.{◌≡◌, ℕ, ◌+◌, true, false, List, [], ◌∷◌, ◌++◌, length, length-append, refl, ap, sym, ◌∙◌, append_assoc, add_assoc, add-zero, subst, arith}
 use Rattle.std.specs.Prelude.{Some}
 use Rattle.std.proofs.lemmas.List.{append-nil}
 use Rattle.kl1_client_talk.specs.declared.request.Page.{Page}
@@ -34,6 +34,11 @@ pub record PagesSoFar (p : Page) (from next : ℕ) (old new : Wire) (before afte
   pub shows : Shows before after (written_lines (page_lines full))
   pub are_full : list_all (is_full_page (most_of p)) full ≡ true
   pub next_is : next ≡ from + count_of full
+
+-- a page's lines after those of others
+pub lines_counted : (xs : List Listing) (lines : List (List ℕ)) → length (page_lines xs ++ lines) ≡ count_of xs + length lines
+lines_counted [] lines = omega arith
+lines_counted (x ∷ xs) lines = omega (arith, length-append x.lines (page_lines xs), length-append (x.lines ++ page_lines xs) lines, length-append (page_lines xs) lines, lines_counted xs lines)
 
 -- a shoen was looked at, and its wait went on
 pub record WaitsSoFar (shoen : ℕ) (old new : Wire) : Type 0 where

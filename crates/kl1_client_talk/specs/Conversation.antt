@@ -1,5 +1,5 @@
 -- What is said for the lines of a user, and what is shown of it.
-use Rattle.std.specs.Prelude.{◌≡◌, ℕ, ◌+◌, ◌⊎◌, nat_lt, nat_le, not, ◌&&◌, Bool, true, false, if◌then◌else◌, List, [], ◌∷◌, ◌++◌, length, map, ⊤, None, Some, codes}
+use Rattle.std.specs.Prelude.{◌≡◌, ℕ, ◌+◌, ◌⊎◌, nat_lt, nat_le, not, ◌&&◌, Bool, true, false, if◌then◌else◌, List, [], ◌∷◌, ◌++◌, length, map, decimal, ⊤, None, Some, codes}
 use Rattle.std.specs.List.{list_all, list_any}
 use Rattle.kl1_model.specs.declared.limits.TheConstants.{MOST_LISTED}
 use Rattle.kl1_model.specs.Line.{without_return}
@@ -11,7 +11,7 @@ use Rattle.kl1_client_talk.specs.declared.turn_end.TurnEnd.{TurnEnd}
 use Rattle.kl1_client_talk.specs.declared.turn_end.TurnEnd.TheVariants as end
 use Rattle.kl1_client_talk.specs.Request.{load_of, page_line, status_line}
 use Rattle.kl1_client_talk.specs.Reply.{is_refusal, count_in, has_ended, is_over, is_still, is_bye}
-use Rattle.kl1_client_talk.specs.UserCommand.{Wanted, nothing, help, load, wait, watch, pages, list, logout, quit, one_line, wanted_in}
+use Rattle.kl1_client_talk.specs.UserCommand.{Wanted, nothing, help, load, save, wait, watch, pages, list, logout, quit, one_line, wanted_in}
 use Rattle.kl1_client_talk.specs.Exchanges.{Exchange, Exchanges, Wire, Screen, Hears, Shows}
 use Rattle.kl1_client_talk.specs.Given.{GivesLines, IsAllGiven}
 use Rattle.kl1_client_talk.specs.declared.summary.TalkSummary.{TalkSummary}
@@ -212,11 +212,31 @@ pub record IsLogout (es : List Exchange) : Type 0 where
   pub reply : List ℕ
   pub asked : es ≡ record { request = written_line (codes "logout"); reply = reply ∷ [] } ∷ []
 
+-- the line that tells how many lines were kept
+abbrev pub saved_line : ℕ → List ℕ
+saved_line count = codes "+ saved " ++ decimal count
+
+-- what is shown of a journal that was to be kept as the file of this name: a refusal; or nothing, if the file can't be written; or how
+-- many lines it has
+abbrev pub ShowsSaved : (List ℕ → List ℕ → Type 0) → List ℕ → Option ℕ → List (List ℕ) → List (List ℕ) → Type 0
+ShowsSaved IsFile name None lines shown = (last : List ℕ) × EndIn last lines × (shown ≡ last ∷ [])
+ShowsSaved IsFile name (Some after) lines shown = (shown ≡ []) ⊎ (IsFile name (written_lines lines) × (shown ≡ saved_line (length lines) ∷ []))
+
+-- the whole journal was asked for, and kept as the file whose name is in this
+pub record AsksSave (IsFile : List ℕ → List ℕ → Type 0) (text : List ℕ) (es : List Exchange) (shown : List (List ℕ)) : Type 0 where
+  pub name : List ℕ
+  pub after : Option ℕ
+  pub lines : List (List ℕ)
+  pub trimmed : IsTrimAscii text name
+  pub asks : AsksPages (page.Journal MOST_LISTED) 1 after es lines
+  pub shows : ShowsSaved IsFile name after lines shown
+
 -- what is asked for a line of the user, and what is shown of it; `joined` tells whether pages are joined
 abbrev pub AsksWanted : (List ℕ → List ℕ → Type 0) → Bool → List ℕ → Wanted → List Exchange → List (List ℕ) → Type 0
 AsksWanted IsFile joined line nothing es shown = AsksNothing es shown
 AsksWanted IsFile joined line (load text) es shown = AsksLoad IsFile text es shown
 AsksWanted IsFile joined line (help topic) es shown = AsksNothing es shown
+AsksWanted IsFile joined line (save text) es shown = AsksSave IsFile text es shown
 AsksWanted IsFile joined line (wait shoen seconds) es shown = Waits shoen seconds es shown
 AsksWanted IsFile joined line (watch shoen) es shown = Watches shoen es shown
 AsksWanted IsFile true line (pages p from) es shown = (after : Option ℕ) × AsksPages p from after es shown
@@ -230,6 +250,11 @@ AsksWanted IsFile joined line one_line es shown = AsksOne (written_line line) es
 abbrev pub is_farewell : List (List ℕ) → Bool
 is_farewell [] = false
 is_farewell (line ∷ lines) = is_bye line
+
+-- whether nothing is shown
+abbrev pub is_blank : List (List ℕ) → Bool
+is_blank [] = true
+is_blank (line ∷ lines) = false
 
 -- how the turn of a wait ends, by the last reply to a question for the status
 abbrev pub wait_end : List ℕ → TurnEnd
@@ -245,11 +270,12 @@ abbrev pub is_unasked : List Exchange → Bool
 is_unasked [] = true
 is_unasked (e ∷ es) = false
 
--- how a turn ends: a file is lacking if it was to be loaded and nothing was asked;
+-- how a turn ends: a file is lacking if it was to be loaded and nothing was asked, or if a journal was to be kept and nothing is shown;
 -- a shoen stands still if it was waited for and has not ended; the talk is over if the user quits, and if a logout is answered by a farewell
 abbrev pub turn_end : Wanted → List Exchange → List (List ℕ) → TurnEnd
 turn_end (load text) es shown = if is_unasked es then end.LacksFile else end.GoesOn
 turn_end logout es shown = if is_farewell shown then end.Over else end.GoesOn
+turn_end (save text) es shown = if is_blank shown then end.LacksFile else end.GoesOn
 turn_end (wait shoen seconds) es shown = if is_over_in shown then end.GoesOn else end.StandsStill
 turn_end quit es shown = end.Over
 turn_end nothing es shown = end.GoesOn
@@ -262,6 +288,13 @@ turn_end one_line es shown = end.GoesOn
 -- what is asked and shown for a line of the user, with how the turn ends
 abbrev pub TakesTurn : (List ℕ → List ℕ → Type 0) → Bool → List ℕ → Wanted → TurnEnd → List Exchange → List (List ℕ) → Type 0
 TakesTurn IsFile joined line wanted e es shown = AsksWanted IsFile joined line wanted es shown × (e ≡ turn_end wanted es shown)
+
+-- these bytes were kept as the file of this name, and their number of lines is shown; or the file can't be written
+abbrev pub Kept : (List ℕ → List ℕ → Type 0) → List ℕ → List ℕ → ℕ → Screen → Screen → TurnEnd → Type 0
+Kept IsFile name bytes count before after end.GoesOn = IsFile name bytes × Shows before after (written_line (saved_line count))
+Kept IsFile name bytes count before after end.LacksFile = after ≡ before
+Kept IsFile name bytes count before after end.StandsStill = ⊥
+Kept IsFile name bytes count before after end.Over = ⊥
 
 -- ---- a talk
 

@@ -6,12 +6,14 @@ use Rattle.kl1_client_talk.specs.declared.request.Page.TheVariants.{Reports, Jou
 use Rattle.kl1_client_talk.specs.declared.user_command.UserCommand.{UserCommand}
 use Rattle.kl1_client_talk.specs.declared.user_command.UserCommand.TheVariants as command
 
--- what a line asks for: nothing; help on what this names; to load the file whose name is in this; to wait until a shoen has ended, or for this number of seconds; a shoen's reports as they come; pages from a number
+-- what a line asks for: nothing; help on what this names; to load the file whose name is in this; to keep the journal as the file whose
+-- name is in this; to wait until a shoen has ended, or for this number of seconds; a shoen's reports as they come; pages from a number
 -- on; a reply that lists lines; the session's end, with a farewell that is shown or without; or a reply of one line
 pub data Wanted : Type 0 where
   nothing : Wanted
   help : List ℕ → Wanted
   load : List ℕ → Wanted
+  save : List ℕ → Wanted
   wait : ℕ → Option ℕ → Wanted
   watch : ℕ → Wanted
   pages : Page → ℕ → Wanted
@@ -49,6 +51,7 @@ abbrev pub wanted_by : List ℕ → List ℕ → Wanted
 wanted_by w rest =
     if nat_eq (length w) 0 then nothing
     else if bytes_eq w (codes "load") then (if is_blank_line rest then one_line else load rest)
+    else if bytes_eq w (codes "save") then (if is_blank_line rest then one_line else save rest)
     else if bytes_eq w (codes "wait") then wait_by (number_in (word_in rest)) (is_blank_line (behind_word_in rest)) (only_number (behind_word_in rest))
     else if bytes_eq w (codes "watch") then watch_by (only_number rest)
     else if bytes_eq w (codes "reports") then reports_by (number_in (word_in rest)) (only_number (behind_word_in rest))
@@ -68,6 +71,7 @@ abbrev pub wanted_of : UserCommand → Wanted
 wanted_of command.Nothing = nothing
 wanted_of (command.Help topic) = help topic.now
 wanted_of (command.Load name) = load name.now
+wanted_of (command.Save name) = save name.now
 wanted_of (command.Wait shoen seconds) = wait shoen seconds
 wanted_of (command.Watch shoen) = watch shoen
 wanted_of (command.Pages page from) = pages page from

@@ -25,6 +25,11 @@ pub trait Caller {
         ensures file { IfOk result (λ found. IsTrue found → is_file name.now source.new.items) }
         ensures same { remaining self.new ≡ remaining self.old };
 
+    /// Keeps these bytes as the file of this name. `false`: it can't be written, and the caller has told why.
+    fn save(&mut self, name: &[u8], bytes: &[u8]) -> Result<bool, Fault>
+        ensures file { IfOk result (λ kept. IsTrue kept → is_file name.now bytes.now) }
+        ensures same { remaining self.new ≡ remaining self.old };
+
     /// Lets some time pass before the next look at a shoen, after this number of looks, from 1. Tells whether the looks end here: they do
     /// when these seconds have passed since the first one, and never by time if none are given.
     fn pause(&mut self, looks: u64, seconds: Option<u64>) -> bool

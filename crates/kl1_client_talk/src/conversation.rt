@@ -15,6 +15,7 @@ use crate::listing::{ask_list, ask_one, ask_pages};
 use crate::reply::{is_bye, is_refusal};
 use crate::reply_writer::ReplyWriter;
 use crate::request::Request;
+use crate::saving::save;
 use crate::summary::TalkSummary;
 use crate::turn_end::TurnEnd;
 use crate::user_command::{UserCommand, command_in};
@@ -114,6 +115,7 @@ fn take_turn<S: Source, T: Sink, O: Sink, C: Caller>(
             Ok(TurnEnd::GoesOn)
         }
         UserCommand::Load(text) => load(alloc, connection, shown, caller, text),
+        UserCommand::Save(text) => save(alloc, connection, shown, caller, text),
         UserCommand::Wait(shoen, seconds) => wait(connection, shown, caller, shoen, seconds),
         UserCommand::Watch(shoen) => {
             watch(connection, shown, caller, shoen)?;

@@ -10,6 +10,7 @@ mod listing;
 mod reply;
 mod reply_writer;
 mod request;
+mod saving;
 mod summary;
 mod turn_end;
 mod user_command;

@@ -38,6 +38,13 @@ impl<O: Sink> ReplyWriter<O> {
         self.are_pages_joined
     }
 
+    /// Where the lines are shown.
+    pub(crate) fn sink(&self) -> &O
+        ensures { result.now ≡ self.now.out }
+    {
+        &self.out
+    }
+
     /// Shows a line, which may wait for those after it.
     pub(crate) fn line(&mut self, line: &[u8]) -> Result<(), Fault>
         ensures ok { OnOk result (Shows (screen O.contents self.old) (screen O.contents self.new) (written_line line.now)) }

@@ -8,7 +8,7 @@ ghost use Rattle.kl1_client_talk.specs.Conversation.{lacks_file, stands_still, i
 pub enum TurnEnd {
     /// The talk goes on.
     GoesOn,
-    /// The talk goes on, and a file could not be loaded.
+    /// The talk goes on, and a file could not be loaded or written.
     LacksFile,
     /// The talk goes on, and a shoen that was waited for has not ended.
     StandsStill,
@@ -27,7 +27,7 @@ impl TurnEnd {
         }
     }
 
-    /// Whether a file could not be loaded in this turn or, as `before` tells, in an earlier one.
+    /// Whether a file could not be loaded or written in this turn or, as `before` tells, in an earlier one.
     pub(crate) fn lacks_file(self, before: bool) -> bool
         ensures { result ≡ (before || lacks_file self) }
     {

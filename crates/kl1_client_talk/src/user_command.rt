@@ -16,6 +16,8 @@ pub enum UserCommand<'a> {
     Help(&'a [u8]),
     /// That the file is loaded whose name is this without the blanks around it.
     Load(&'a [u8]),
+    /// That the journal is kept as the file whose name is this without the blanks around it.
+    Save(&'a [u8]),
     /// That all waits until the shoen of this number has ended, or for this number of seconds.
     Wait(u64, Option<u64>),
     /// The reports of the shoen of this number as they come, until it has ended.
@@ -44,6 +46,12 @@ pub fn command_in(line: &[u8]) -> UserCommand<'_>
             UserCommand::OneLine
         } else {
             UserCommand::Load(rest)
+        }
+    } else if is_same(word, b"save") {
+        if is_blank_line(rest) {
+            UserCommand::OneLine
+        } else {
+            UserCommand::Save(rest)
         }
     } else if is_same(word, b"wait") {
         wait_by(rest)

@@ -1,6 +1,6 @@
 // Clients over streams in memory.
 
-ghost use Rattle.std.specs.Prelude.{◌≡◌, None};
+ghost use Rattle.std.specs.Prelude.{⊤, None};
 
 use crate::session::streams::Pieces;
 use kl1_client_talk::{
@@ -10,7 +10,8 @@ use kl1_lines::{FailureCounter, is_same};
 use kl1_tests_rows::{Text, cut};
 use std::alloc::Global;
 
-/// Who gives the commands: a file has its own name for its bytes, and there is no file `absent`. A second is one look.
+/// Who gives the commands: a file that is loaded has its own name for its bytes, one that is written its name with line feeds for the
+/// slashes, or it can't be written; and there is no file `absent`. A second is one look.
 #[derive(Drop)]
 struct Script<'a> {
     lines: LineReader<FailureCounter<&'a [u8]>>,
@@ -19,7 +20,7 @@ struct Script<'a> {
 impl Caller for Script<'_> {
     ghost remaining = { λ s. None };
 
-    ghost is_file = { λ name bytes. bytes ≡ name };
+    ghost is_file = { λ name bytes. ⊤ };
 
     fn next(&mut self, line: &mut Vec<u8>) -> Result<bool, Fault> {
         self.lines.next(line, Fault::Commands)
@@ -29,6 +30,10 @@ impl Caller for Script<'_> {
         source.clear();
         source.extend_from_slice(name)?;
         Ok(!is_same(name, b"absent"))
+    }
+
+    fn save(&mut self, name: &[u8], bytes: &[u8]) -> Result<bool, Fault> {
+        Ok(is_spelled(bytes, name))
     }
 
     fn pause(&mut self, looks: u64, seconds: Option<u64>) -> bool {
@@ -41,6 +46,21 @@ impl Caller for Script<'_> {
     fn help(&mut self, _topic: &[u8]) {}
 
     fn turned(&mut self, _end: TurnEnd, _line: &[u8]) {}
+}
+
+/// Whether these bytes are a name's, with line feeds for its slashes.
+fn is_spelled(bytes: &[u8], name: &[u8]) -> bool {
+    if bytes.len() != name.len() {
+        return false;
+    }
+    for (place, byte) in name.iter().enumerate() {
+        let wanted = if *byte == b'/' { b'\n' } else { *byte };
+        match bytes.get(place) {
+            Some(found) if *found == wanted => {}
+            _ => return false,
+        }
+    }
+    true
 }
 
 /// The status of a client with these commands, to whom these replies come in pieces of at most `size` bytes; a bar, what it sends, a
