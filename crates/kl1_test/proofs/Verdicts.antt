@@ -1,14 +1,17 @@
 -- Verdicts on tests, and reports of several.
-use Rattle.std.specs.Prelude.{◌≡◌, ℕ, suc, ◌+◌, ◌-◌, ◌≤◌, ◌<◌, ◌&&◌, Bool, true, false, List, [], ◌∷◌, ◌++◌, length, take, drop}
-use Rattle.std.proofs.Common.{inl, inr, refl, ap, subst, arith, get_or}
-use Rattle.std.proofs.lemmas.List.{take_all}
+use Rattle.std.specs.Prelude.{◌≡◌, ℕ, suc, ◌+◌, ◌-◌, ◌≤◌, ◌<◌, ◌&&◌, Bool, true, false, List, [], ◌∷◌, ◌++◌, length, map, take, drop}
+use Rattle.std.specs.List.{All}
+use Rattle.std.proofs.Common.{inl, inr, refl, ap, sym, ◌∙◌, subst, arith, get_or}
+use Rattle.std.proofs.lemmas.List.{take_all, length-map}
 use Rattle.kl1_model.specs.declared.limits.TheConstants.{MOST_ALLOWANCE}
 use Rattle.kl1_run_work.specs.declared.answers.Answers.{Answers}
-use Rattle.kl1_run_work.specs.Works.{worked_of}
+use Rattle.kl1_run_work.specs.declared.source_file.SourceFile.{SourceFile}
+use Rattle.kl1_run_work.specs.Works.{texts_of, worked_of}
 use Rattle.kl1_test_lines.specs.declared.tests.Test.{Test}
-use Rattle.kl1_test_lines.specs.Lines.{test_line}
+use Rattle.kl1_test_lines.specs.Lines.{plan_line, test_line}
+use Rattle.kl1_test_lines.specs.Tests.{placed_of, IsRead}
 use Rattle.kl1_test.specs.Trials.{fresh_account, IsTold, IsRefused}
-use Rattle.kl1_test.specs.Reports.{allowance_of, verdict_by, IsVerdict, IsReport}
+use Rattle.kl1_test.specs.Reports.{allowance_of, verdict_by, tests_in_all, IsVerdict, IsReport, Reports}
 
 -- what is told of a goal is what is wanted or not
 pub verdict_told : (texts : List (List ℕ)) (t : Test) (a : Answers) (v holds : Bool) → IsTold (worked_of fresh_account texts t.goal (allowance_of t.wanted) MOST_ALLOWANCE) a → v ≡ verdict_by t.wanted a holds → IsVerdict texts t v
@@ -45,3 +48,16 @@ count_next n most [] some le = absurd (omega (arith, some))
 count_next n most (t ∷ ts) some le =
     let e : length (take (length (t ∷ ts) - 1) ts) ≡ length ts = ap length (take_all (length (t ∷ ts) - 1) ts (omega arith)) in
     omega (arith, e, le)
+
+-- a report that begins with the plan
+pub report_planned : (texts : List (List ℕ)) (tests : List Test) (start lines : List ℕ) (passed : Bool) → start ≡ plan_line (length tests) → IsReport texts 1 tests start true lines passed → IsReport texts 1 tests (plan_line (length tests)) true lines passed
+report_planned texts tests start lines passed planned report =
+    let P : List ℕ → Type 0 = λ l. IsReport texts 1 tests l true lines passed in
+    subst P planned report
+
+-- a report of the tests that files state
+pub reported : (files : List SourceFile) (tests : List Test) (lines : List ℕ) (passed : Bool) → map placed_of tests ≡ tests_in_all files → All IsRead tests → IsReport (texts_of files) 1 tests (plan_line (length tests)) true lines passed → Reports files lines passed
+reported files tests lines passed stated read report =
+    let P : ℕ → Type 0 = λ n. IsReport (texts_of files) 1 tests (plan_line n) true lines passed in
+    let many : length tests ≡ length (tests_in_all files) = sym (length-map placed_of tests) ∙ ap length stated in
+    record { tests = tests; stated = stated; read = read; report = subst P many report }
