@@ -9,6 +9,7 @@ mod performed;
 mod replies;
 mod run;
 mod steps;
+mod views;
 
 pub use command::Command;
 pub use first_step::FirstStep;
@@ -17,3 +18,4 @@ pub use parsed::{Parsed, command_in, parse};
 pub use performed::{Performed, perform};
 pub use replies::{put_lines, put_reply};
 pub use steps::{Steps, run_steps};
+pub use views::Views;

@@ -1,5 +1,7 @@
 // An account with its seat and its journal.
 
+mod viewing;
+
 ghost use Rattle.std.specs.Prelude.{◌≡◌, ◌↔◌, ℕ, [], IfOk, IsOk, IsTrue, OnErr, option_map};
 ghost use Rattle.kl1_model.specs.Event.{reduce as reduce_event};
 ghost use Rattle.kl1_model.specs.Choice.{first, quiet};

@@ -4,6 +4,7 @@ use crate::acts::{are_reduced, event_of, is_page, is_run_right};
 use crate::again::is_right_again;
 use crate::answers::{is_answered, is_first};
 use crate::player::Player;
+use crate::viewed::{is_shown, is_view};
 use kl1_tests_rows::cut;
 use kl1_world::Rules;
 use std::alloc::Global;
@@ -22,6 +23,7 @@ fn is_act_right(alloc: Global, user: &mut Player, act: &[u8], wanted: &[u8]) -> 
         b"run" => is_run_right(user, words, wanted),
         b"reduces" => are_reduced(user, words, wanted),
         b"journal" => is_page(user, words, wanted),
+        _ if is_view(word) => is_shown(alloc, user, word, words, wanted),
         _ => match event_of(alloc, user, word, words) {
             Some(event) => is_answered(user, &event, wanted),
             None => false,

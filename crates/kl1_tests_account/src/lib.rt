@@ -11,6 +11,7 @@ mod made;
 mod over_accounts;
 mod player;
 mod session;
+mod viewed;
 mod worlds;
 
 pub use accounts::Accounts;

@@ -5,9 +5,11 @@ ghost use Rattle.kl1_world.specs.Worlds.{AreOf};
 
 use kl1_atoms::PlainTable;
 use kl1_codes::PlainCodes;
-use kl1_command::Host;
+use kl1_command::{Host, Views};
 use kl1_model::limits::MOST_ACCOUNTS;
-use kl1_user_events::{ClauseNo, Event, GoalNo, Listed, Reply};
+use kl1_user_events::{
+    ClauseNo, Event, Extent, GoalNo, GoalView, Listed, Presence, Reply, ShoenNo, ShoenView, Usage,
+};
 use kl1_world::{AccountName, Rules, World};
 use std::alloc::{AllocError, Global};
 use std::marker::Model;
@@ -103,5 +105,39 @@ impl Player {
     /// Whether no goal of the first account can step.
     pub fn quiet(&self) -> bool {
         self.world.quiet(0)
+    }
+
+    /// What is shown of the first account's shoens with numbers from one on, of the first `count` of them.
+    pub fn shoens_from(&self, from: ShoenNo, count: usize) -> Result<Vec<ShoenView>, AllocError> {
+        self.world.shoens_from(from, count)
+    }
+
+    /// What is shown of the first account's goals with numbers from one on, of the first `count` of them.
+    pub fn goals_from(&self, from: GoalNo, count: usize) -> Result<Vec<GoalView>, AllocError> {
+        self.world.goals_from(from, count)
+    }
+
+    /// The text of the term of a goal of the first account.
+    pub fn goal_text(
+        &mut self,
+        goal: GoalNo,
+        extent: Extent,
+    ) -> Result<Option<Vec<u8>>, AllocError> {
+        self.world.goal_text_at(0, goal, extent)
+    }
+
+    /// The variables that a goal of the first account waits for.
+    pub fn awaited(&self, goal: GoalNo) -> Result<Option<Vec<u32>>, AllocError> {
+        self.world.awaited(goal)
+    }
+
+    /// Whether a variable is in the term of a goal of the first account, of which at most `most` parts are looked at.
+    pub fn presence(&self, goal: GoalNo, variable: u64, most: u64) -> Result<Presence, AllocError> {
+        self.world.presence(goal, variable, most)
+    }
+
+    /// What the first account has of what is limited.
+    pub fn usage(&self) -> Usage {
+        self.world.usage()
     }
 }

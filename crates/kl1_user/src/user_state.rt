@@ -1,5 +1,7 @@
 // One account over a table of names and a source of codes.
 
+mod viewing;
+
 ghost use Rattle.std.specs.Prelude.{◌≡◌, ◌↔◌, ◌≤◌, ℕ, [], length, IfOk, IsOk, OnErr, IsTrue, option_map};
 ghost use Rattle.kl1_model.specs.declared.limits.TheConstants.{MOST_NAMES};
 ghost use Rattle.kl1_model.specs.State.{fresh, fresh_with};

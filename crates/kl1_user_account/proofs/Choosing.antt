@@ -211,7 +211,7 @@ ready_is g = by_case g.is_enabled
     by_case true = refl
     by_case false = refl
 
-stands_is : (g : Goal CellName) → is_some (standing_now g) ≡ stands g
+pub stands_is : (g : Goal CellName) → is_some (standing_now g) ≡ stands g
 stands_is g = by_case g.is_enabled
   where
     by_case : (b : Bool) → is_some (if b then g.standing else None) ≡ (b && is_some g.standing)
@@ -417,7 +417,7 @@ shown_pairs (Some r) = refl
 abbrev pub AreSettledIn : Account → List Hook → Type 0
 AreSettledIn a hooks = (g : Reading) → Fits a.names g → AreSettled g hooks a.held (program_of a) a.shoens a.goals
 
-stand_in : (f : Reading) (a : Account) (hooks : List Hook) → AreSettled f hooks a.held (program_of a) a.shoens a.goals → AreEnabled a.shoens a.work a.goals → AreStanding (state_of f a) (meaning f a.held) a.goals
+pub stand_in : (f : Reading) (a : Account) (hooks : List Hook) → AreSettled f hooks a.held (program_of a) a.shoens a.goals → AreEnabled a.shoens a.work a.goals → AreStanding (state_of f a) (meaning f a.held) a.goals
 stand_in f a hooks settled enabled = all_stand f hooks a.held (program_of a) a.shoens a.work (state_of f a) a.goals refl refl refl refl settled enabled
 
 -- what the table picks is the definition's first

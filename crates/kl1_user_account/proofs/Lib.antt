@@ -56,3 +56,8 @@ pub mod ReducedKept
 pub mod ReducePut
 pub mod Reductions
 pub mod GivenNames
+mod Paging
+mod Awaiting
+mod Presences
+mod Called
+mod Texts

@@ -130,7 +130,7 @@ substitute_stands h hooks x n vs ws clause stands same hangs program shoens shoe
 
 -- ---- monitors
 
-no_control : (shoens : List (Shoen CellName)) (n : ℕ) → None ≡ shoen_in n shoens → None ≡ control_at shoens n
+pub no_control : (shoens : List (Shoen CellName)) (n : ℕ) → None ≡ shoen_in n shoens → None ≡ control_at shoens n
 no_control shoens n e = ap (λ o. option_map (λ (k : Shoen CellName). k.control) o) e
 
 -- nothing is found of the monitor of a shoen that isn't there

@@ -18,9 +18,10 @@ use Rattle.kl1_user_effects.specs.Fitting.{Reading, Fits, built}
 use Rattle.kl1_user_effects.specs.Account.{meaning}
 use Rattle.kl1_user_account.specs.Tops.{list_cell, stacked_terms}
 
--- with the terms on the stack the printer makes the cell's text, for each reading of these names, and it waits for as many terms
-pub record IsPrinting (ks : List Known) (h : Held CellName) (x : Cell CellName) (most : Option ℕ) (p : Printer) (stack : List (Cell CellName)) : Type 0 where
-  pub text : (f : Reading) → Fits ks f → text_of p (stacked_terms f h stack) ≡ limited most (print (meaning f h x))
+-- with the terms on the stack the printer makes what another made with others, for each reading of these names, and it waits for as
+-- many terms
+pub record IsPrinting (ks : List Known) (h : Held CellName) (before : Printer) (stacked : List (Cell CellName)) (p : Printer) (stack : List (Cell CellName)) : Type 0 where
+  pub text : (f : Reading) → Fits ks f → text_of p (stacked_terms f h stack) ≡ text_of before (stacked_terms f h stacked)
   pub waits : waits_of p ≡ length stack
   pub inside : AreIn h stack
   pub named : (f g : Reading) → Fits ks f → Fits ks g → stacked_terms f h stack ≡ stacked_terms g h stack

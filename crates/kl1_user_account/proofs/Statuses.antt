@@ -39,13 +39,13 @@ parents_read t [] = refl
 parents_read t (s ∷ ss) = ap (λ (ps : List ℕ). s.parent ∷ ps) (parents_read t ss)
 
 -- what a shoen is charged
-charged_read : (t : Means) (s : State) (last : ℕ) (gs : List (Goal CellName)) (ss : List (Shoen CellName)) (work : List ℕ) (n : ℕ) → s.work ≡ work → charged_of (state_with s t last gs ss) n ≡ charged_in ss work n
+pub charged_read : (t : Means) (s : State) (last : ℕ) (gs : List (Goal CellName)) (ss : List (Shoen CellName)) (work : List ℕ) (n : ℕ) → s.work ≡ work → charged_of (state_with s t last gs ss) n ≡ charged_in ss work n
 charged_read t s last gs ss work n e =
     ap (λ ps. count_by (λ w. is_among n (path_within w ps w)) s.work) (parents_read t ss)
     ∙ ap (λ (ws : List ℕ). count_by (λ w. is_on_path_in ss n w) ws) e
 
 -- the state of a shoen
-condition_read : (t : Means) (s : State) (last : ℕ) (gs : List (Goal CellName)) (ss : List (Shoen CellName)) (h : Shoen CellName) (life : Life) (n : ℕ) → charged_of (state_with s t last gs ss) h.number ≡ n →
+pub condition_read : (t : Means) (s : State) (last : ℕ) (gs : List (Goal CellName)) (ss : List (Shoen CellName)) (h : Shoen CellName) (life : Life) (n : ℕ) → charged_of (state_with s t last gs ss) h.number ≡ n →
     asking.condition_by (state_with s t last gs ss) (shoen_with t h) life ≡ condition_at h n life
 condition_read t s last gs ss h Terminated n e = refl
 condition_read t s last gs ss h Aborted n e = refl
@@ -53,7 +53,7 @@ condition_read t s last gs ss h Living n e = ap (λ m. if h.is_stopped then Stop
 
 -- ---- goals below
 
-monitor_read : (t : Means) (k : Task CellName) → model.is_monitor (task_with t k) ≡ is_monitor_task k
+pub monitor_read : (t : Means) (k : Task CellName) → model.is_monitor (task_with t k) ≡ is_monitor_task k
 monitor_read t Monitor = refl
 monitor_read t (Reduces q) = refl
 monitor_read t (Substitutes x) = refl

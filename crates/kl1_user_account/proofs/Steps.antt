@@ -56,7 +56,7 @@ goal_read t n (g ∷ gs) = by_case (g.number == n) (goal_read t n gs)
     by_case true e = refl
     by_case false e = e
 
-finds_goal : (f : Reading) (a : Account) (n : ℕ) (o : Option (Goal CellName)) → find (has_number n) a.goals ≡ o → goal_at n (state_of f a).goals ≡ option_map (goal_with (meaning f a.held)) o
+pub finds_goal : (f : Reading) (a : Account) (n : ℕ) (o : Option (Goal CellName)) → find (has_number n) a.goals ≡ o → goal_at n (state_of f a).goals ≡ option_map (goal_with (meaning f a.held)) o
 finds_goal f a n o e = goal_read (meaning f a.held) n a.goals ∙ ap (option_map (goal_with (meaning f a.held))) e
 
 -- ---- the step of a reduction

@@ -12,3 +12,4 @@ pub mod Sending
 pub mod Beginning
 pub mod Exchanging
 pub mod Answering
+pub mod Viewed

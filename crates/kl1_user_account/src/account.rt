@@ -2,6 +2,7 @@
 
 mod beginning;
 mod sessions;
+mod viewing;
 
 ghost use Rattle.std.specs.Prelude.{◌≡◌, ◌↔◌, ◌&&◌, ℕ, [], IfOk, OnErr, option_map};
 ghost use Rattle.kl1_model.specs.Step.{step};

@@ -35,7 +35,7 @@ use kl1_user_events::{Listed, Refusal, Reply};
 use std::alloc::{AllocError, Global};
 
 /// The state of a shoen as it is shown, if `charged` is what it was charged.
-fn condition_of(shoen: &Shoen<CellName>, charged: u64) -> Condition
+pub(crate) fn condition_of(shoen: &Shoen<CellName>, charged: u64) -> Condition
     ensures { result ≡ condition_by shoen.now charged }
 {
     match shoen.life {

@@ -27,6 +27,7 @@ mod sending;
 mod startable;
 mod starting;
 mod top;
+mod viewing;
 
 pub use account::Account;
 pub use account_name::AccountName;

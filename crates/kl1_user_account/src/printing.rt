@@ -1,6 +1,6 @@
 // Terms printed straight from cells.
 
-ghost use Rattle.std.specs.Prelude.{◌≡◌, ◌<◌, ◌++◌, ◌+◌, ℕ, List, length, reverse, IfOk, OnOk, IsTrue};
+ghost use Rattle.std.specs.Prelude.{◌≡◌, ◌<◌, ◌++◌, ◌+◌, ℕ, List, Some, length, reverse, IfOk, OnOk, IsTrue};
 ghost use Rattle.kl1_model.specs.Print.{print};
 ghost use Rattle.kl1_model.specs.Term.{Term};
 ghost use Rattle.kl1_term.specs.Nodes.{with_node};
@@ -9,15 +9,15 @@ ghost use Rattle.kl1_atoms.specs.declared.known.Known.{Known};
 ghost use Rattle.kl1_term.specs.Page.{limited};
 ghost use Rattle.kl1_store.specs.Held.{IsIn, AreIn, arguments_of};
 ghost use Rattle.kl1_user_effects.specs.Fitting.{Reading, Fits};
-ghost use Rattle.kl1_user_effects.specs.Account.{meaning};
+ghost use Rattle.kl1_user_effects.specs.Account.{meaning, told_in, aim};
 ghost use Rattle.kl1_user_effects.specs.Naming.{AreSmall, Keeps};
 ghost use Rattle.kl1_user_account.specs.declared.top.Top.TheVariants.{Atom, Structure};
-ghost use Rattle.kl1_user_account.specs.Tops.{node_with, count_at, list_cell, IsNext, TakesTop};
+ghost use Rattle.kl1_user_account.specs.Tops.{node_with, count_at, list_cell, stacked_terms, IsNext, TakesTop};
 
 use crate::top::Top;
 use kl1_atoms::AtomSource;
 use kl1_model::BuiltIn;
-use kl1_store::{Cell, Store};
+use kl1_store::{Cell, Qualified, Store};
 use kl1_term::Printer;
 use kl1_text::{AtomNo, AtomText, CellName, NameValue};
 use std::alloc::{AllocError, Global};
@@ -69,7 +69,7 @@ fn top_of(
 /// What is at the top of the first of the terms of cells on a stack, whose arguments take its place there; nothing if the
 /// stack is empty.
 #[tactic(auto, using(crate::proofs::Stacks::top_in, crate::proofs::Stacks::rest_in, crate::proofs::Stacks::takes))]
-fn next_top(
+pub(crate) fn next_top(
     store: &Store<CellName>,
     stack: &mut Vec<Cell<CellName>>,
 ) -> Result<Option<Top>, AllocError>
@@ -173,6 +173,32 @@ fn put_top<A: AtomSource>(
     }
 }
 
+/// The text that a printer makes if the terms of cells on a stack are still to come, the top first; it waits for as many.
+fn print_rest<A: AtomSource>(
+    names: &mut A,
+    seat: &mut A::Seat,
+    store: &Store<CellName>,
+    mut printer: Printer,
+    mut stack: Vec<Cell<CellName>>,
+) -> Result<Vec<u8>, AllocError>
+    requires stack { AreIn store.now.held stack.items }
+    requires waits { waits_of printer ≡ length stack.items }
+    requires of { A.is_of names.old seat.old }
+    requires small { AreSmall (A.knows seat.old) }
+    requires named { (f g : Reading) → Fits (A.knows seat.old) f → Fits (A.knows seat.old) g → stacked_terms f store.now.held stack.items ≡ stacked_terms g store.now.held stack.items }
+    ensures text { IfOk result (λ text. (f : Reading) → Fits (A.knows seat.old) f → text.items ≡ text_with printer (stacked_terms f store.now.held stack.items)) }
+    ensures keeps { Keeps A.is_of A.place A.knows A.published names.old names.new seat.old seat.new }
+    ensures knows { A.knows seat.new ≡ A.knows seat.old }
+{
+    while !printer.is_done() {
+        let Some(top) = next_top(store, &mut stack)? else {
+            break;
+        };
+        put_top(names, seat, &mut printer, top)?;
+    }
+    printer.into_text()
+}
+
 /// The text of a cell's term: if a number of bytes is given, it is cut after these, with three dots if it is longer.
 pub(crate) fn print_cell<A: AtomSource>(
     alloc: Global,
@@ -190,14 +216,57 @@ pub(crate) fn print_cell<A: AtomSource>(
     ensures keeps { Keeps A.is_of A.place A.knows A.published names.old names.new seat.old seat.new }
     ensures knows { A.knows seat.new ≡ A.knows seat.old }
 {
+    let printer = Printer::new(alloc, most);
+    let mut stack = Vec::new(alloc);
+    stack.push(cell)?;
+    print_rest(names, seat, store, printer, stack)
+}
+
+/// The text of a goal in a module by its name, as that of a cell's term.
+fn print_called<A: AtomSource>(
+    alloc: Global,
+    names: &mut A,
+    seat: &mut A::Seat,
+    store: &Store<CellName>,
+    module_name: CellName,
+    cell: Cell<CellName>,
+    most: Option<usize>,
+) -> Result<Vec<u8>, AllocError>
+    requires cell { IsIn store.now.held cell }
+    requires of { A.is_of names.old seat.old }
+    requires small { AreSmall (A.knows seat.old) }
+    requires named { (f g : Reading) → Fits (A.knows seat.old) f → Fits (A.knows seat.old) g → told_in (meaning f store.now.held) (Some module_name) (meaning f store.now.held cell) ≡ told_in (meaning g store.now.held) (Some module_name) (meaning g store.now.held cell) }
+    ensures text { IfOk result (λ text. (f : Reading) → Fits (A.knows seat.old) f → text.items ≡ limited most (print (told_in (meaning f store.now.held) (Some module_name) (meaning f store.now.held cell)))) }
+    ensures keeps { Keeps A.is_of A.place A.knows A.published names.old names.new seat.old seat.new }
+    ensures knows { A.knows seat.new ≡ A.knows seat.old }
+{
     let mut printer = Printer::new(alloc, most);
     let mut stack = Vec::new(alloc);
     stack.push(cell)?;
-    while !printer.is_done() {
-        let Some(top) = next_top(store, &mut stack)? else {
-            break;
-        };
-        put_top(names, seat, &mut printer, top)?;
+    stack.push(Cell::Atom(module_name))?;
+    put_structure(names, seat, &mut printer, CellName::of(BuiltIn::Colon), 2)?;
+    print_rest(names, seat, store, printer, stack)
+}
+
+/// The text of what is to be reduced, as that of a cell's term.
+pub(crate) fn print_qualified<A: AtomSource>(
+    alloc: Global,
+    names: &mut A,
+    seat: &mut A::Seat,
+    store: &Store<CellName>,
+    goal: Qualified<CellName>,
+    most: Option<usize>,
+) -> Result<Vec<u8>, AllocError>
+    requires cell { IsIn store.now.held goal.cell }
+    requires of { A.is_of names.old seat.old }
+    requires small { AreSmall (A.knows seat.old) }
+    requires named { (f g : Reading) → Fits (A.knows seat.old) f → Fits (A.knows seat.old) g → aim f store.now.held goal ≡ aim g store.now.held goal }
+    ensures text { IfOk result (λ text. (f : Reading) → Fits (A.knows seat.old) f → text.items ≡ limited most (print (aim f store.now.held goal))) }
+    ensures keeps { Keeps A.is_of A.place A.knows A.published names.old names.new seat.old seat.new }
+    ensures knows { A.knows seat.new ≡ A.knows seat.old }
+{
+    match goal.module_name {
+        None => print_cell(alloc, names, seat, store, goal.cell, most),
+        Some(name) => print_called(alloc, names, seat, store, name, goal.cell, most),
     }
-    printer.into_text()
 }

@@ -140,7 +140,7 @@ abbrev pub usage_by : Limits → State → Usage
 usage_by limits s = record {
   goals = used (goals_alive s) limits.goals;
   names = used (length s.names) MOST_NAMES;
-  shoens = used (length s.shoens) limits.shoens;
+  shoens = used s.last_shoen limits.shoens;
   variables = used s.variables limits.variables;
   structures = used s.nodes limits.nodes;
   reports = used s.reports limits.reports;

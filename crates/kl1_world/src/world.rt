@@ -1,5 +1,7 @@
 // Accounts over one table of names and one source of codes.
 
+mod viewing;
+
 ghost use Rattle.std.specs.Prelude.{◌≡◌, ℕ, ◌<◌, [], List, IfOk, IfErr, IsOk, IsTrue, OnOk, OnErr, length, take, slice_set, option_map};
 ghost use Rattle.kl1_model.specs.Event.{reduce as reduce_event};
 ghost use Rattle.kl1_model.specs.Choice.{first, quiet};
