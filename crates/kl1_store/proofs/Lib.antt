@@ -37,3 +37,4 @@ pub mod Listing
 pub mod Placed
 pub mod Renamed
 pub mod Recalling
+pub mod Fingering

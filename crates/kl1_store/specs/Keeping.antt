@@ -5,6 +5,9 @@ use Rattle.kl1_store.specs.Held.{Stored}
 use Rattle.kl1_store.specs.Hooks.{Kept}
 use Rattle.kl1_store.specs.Chains.{Hung}
 use Rattle.kl1_store.specs.Levels.{AreLevels}
+use Rattle.kl1_store.specs.Fingers.{AreFingers}
+use Rattle.kl1_store.specs.declared.fingers.Fingers.{Fingers}
+use Rattle.kl1_model.specs.declared.built_in.BuiltIn.{BuiltIn}
 
 -- what the cells and the hooks keep: there is room for a variable if both have it
 abbrev pub kept_in : {N : Type 0} → Stored N → Hung → Kept N
@@ -21,7 +24,8 @@ kept_in s k =
       hook_room = k.room;
     }
 
--- what always holds of the parts: levels are in order, and each variable has a head
-pub record IsKept {N : Type 0} (s : Stored N) (k : Hung) (ls : Levels) : Type 0 where
+-- what always holds of the parts: levels are in order, each variable has a head, and places in lists are right
+pub record IsKept {N : Type 0} (built : BuiltIn → N) (s : Stored N) (k : Hung) (ls : Levels) (gs : Fingers N) : Type 0 where
   pub levels : AreLevels s.held ls
   pub covered : s.held.variables ≤ k.covered
+  pub fingers : AreFingers built s.held gs

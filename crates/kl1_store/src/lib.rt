@@ -9,6 +9,7 @@ mod cell;
 mod cells;
 mod compare;
 mod compare_each;
+mod fingers;
 mod frame;
 mod head;
 mod hooks;
@@ -43,6 +44,7 @@ mod word;
 mod words;
 
 pub use cell::Cell;
+pub use fingers::Finger;
 pub use head::Head;
 pub use point::Point;
 pub use qualified::Qualified;

@@ -16,11 +16,13 @@ ghost use Rattle.kl1_store.specs.Tops.{firsts, others};
 mod build_one;
 mod build_three;
 mod constants;
+mod fingers;
 mod renaming;
 
 use crate::cell::Cell;
 use crate::cells::Cells;
 use crate::compare_each::compare_each;
+use crate::fingers::Fingers;
 use crate::head::Head;
 use crate::hooks::Hooks;
 use crate::levels::Levels;
@@ -48,6 +50,7 @@ pub struct Store<N: NameValue> {
     levels: Levels,
     scratch: Scratch<N>,
     hooks: Hooks,
+    fingers: Fingers<N>,
     alloc: Global,
 }
 
@@ -60,7 +63,7 @@ impl<N: NameValue> Model for Store<N> {
 
     ghost view = { λ s. kept_in s.cells s.hooks };
 
-    ghost invariant = { λ s. IsKept s.cells s.hooks s.levels };
+    ghost invariant = { λ s. IsKept N.built s.cells s.hooks s.levels s.fingers };
 }
 
 impl<N: NameValue> Store<N> {
@@ -81,6 +84,7 @@ impl<N: NameValue> Store<N> {
                 tasks: Vec::new(alloc),
             },
             hooks: Hooks::new(alloc),
+            fingers: Fingers::new(alloc),
             alloc,
         }
     }
@@ -390,6 +394,7 @@ impl<N: NameValue> Store<N> {
         ensures room { FreesRoom self.old.held self.old.room self.new.held self.new.room }
         ensures hook_room { length self.old.hooks + self.old.hook_room ≡ length self.new.hooks + self.new.hook_room }
     {
+        self.fingers.cut(mark.sizes);
         take_back(&mut self.cells, &mut self.levels, mark.sizes);
         self.hooks.keep(mark.hooks);
     }

@@ -19,6 +19,7 @@ impl<N: NameValue> Store<N> {
         ensures hooks { self.new.hooks ≡ self.old.hooks }
         ensures hook_room { self.new.hook_room ≡ self.old.hook_room }
     {
+        self.fingers.let_go();
         self.cells.rename(mark.sizes, names);
     }
 }

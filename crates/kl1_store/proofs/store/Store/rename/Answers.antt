@@ -13,4 +13,5 @@ invariant_of-self g c =
     record {
       levels = levels_alike s.cells.held c.rename.new.self.held s.levels alike c.self.invariant.levels;
       covered = omega (arith, many, c.self.invariant.covered);
+      fingers = c.let_go.ensures c.rename.new.self.held;
     }
