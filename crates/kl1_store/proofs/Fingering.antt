@@ -8,7 +8,6 @@ use Rattle.kl1_model.specs.declared.built_in.BuiltIn.{BuiltIn}
 use Rattle.kl1_model.specs.Term.{Term, structure, none, more, Replacement}
 use Rattle.kl1_model.specs.Meaning.{cell}
 use Rattle.kl1_model.specs.code.Unifying.{replaced}
-use Rattle.kl1_text.specs.Reading.{Reads}
 use Rattle.kl1_store.specs.declared.cell.Cell.{Cell}
 use Rattle.kl1_store.specs.declared.mark.Mark.{Mark}
 use Rattle.kl1_store.specs.declared.fingers.Finger.{Finger}

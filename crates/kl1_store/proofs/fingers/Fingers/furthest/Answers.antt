@@ -1,4 +1,4 @@
-use Rattle.std.proofs.Common.{refl, sym, ◌∙◌, arith}
+use Rattle.std.proofs.Common.{refl, ◌∙◌, arith}
 use Rattle.std.proofs.lemmas.List.Elements.{All-same}
 use Rattle.kl1_store.specs.Fingers.{IsFinger}
 use Rattle.kl1_store.proofs.Fingering.{beginning, each_now, first_finger, other_fingers}
