@@ -10,7 +10,7 @@ pub const VERSION: &str = "0.1.0";
 
 /// How the program is called.
 pub const USAGE: &str =
-    "kl1_run [--steps N] [--allowance N] [--rules N] [--reports] [--whole] [--bindings] [--infix]\n               [--journal FILE] FILE... GOAL\n       kl1_run --check FILE...\n       kl1_run --script [--steps N] [--allowance N] [--reports] FILE... GOAL\n       kl1_run --help | --version";
+    "kl1_run [--steps N] [--allowance N] [--rules N] [--reports] [--whole] [--bindings] [--infix]\n               [--journal FILE] FILE... GOAL\n       kl1_run --check [--warn error] FILE...\n       kl1_run --script [--steps N] [--allowance N] [--reports] FILE... GOAL\n       kl1_run --help | --version";
 
 /// What is to be done with the files.
 #[derive(Clone, Copy)]
@@ -60,6 +60,8 @@ pub struct Asked<'a> {
     pub most: Option<usize>,
     /// The name of the file to which the journal of a run is written; `None` if it is written nowhere.
     pub journal: Option<&'a str>,
+    /// Whether warnings of a check are faults.
+    pub warnings_are_faults: bool,
 }
 
 /// The words of the program, of which the first is its name.

@@ -1,7 +1,8 @@
 // The files that are read.
 
 use crate::fault::Fault;
-use kl1_run_work::{MOST_SOURCE_BYTES, SourceFile, put_checked};
+use crate::reasons::put_refusal;
+use kl1_run_work::{MOST_SOURCE_BYTES, SourceFile};
 use std::alloc::{AllocError, Global};
 use std::fs::{File, Metadata};
 use std::io;
@@ -69,12 +70,10 @@ pub fn read_each(rt: &HostRuntime, names: &[&str]) -> Result<Modules, Fault> {
         match read_text(rt, name) {
             Ok((id, text)) => {
                 let name = Vec::from_slice(alloc, name.as_bytes())?;
-                let at = files.len();
-                files.push(SourceFile { name, text })?;
+                let file = SourceFile { name, text };
+                put_refusal(alloc, &file, &mut faults)?;
+                files.push(file)?;
                 ids.push(id)?;
-                if let Some(last) = files.as_slice().get(at..) {
-                    put_checked(alloc, last, &mut faults)?;
-                }
             }
             Err(error) => put_file_fault(alloc, name, &error, &mut faults)?,
         }

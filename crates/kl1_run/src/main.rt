@@ -9,6 +9,7 @@ mod files;
 mod journal_file;
 mod pipe;
 mod progress;
+mod reasons;
 mod scripts;
 mod shown;
 mod tasks;

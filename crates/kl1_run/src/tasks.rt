@@ -8,12 +8,11 @@ use crate::files::{Modules, read_each};
 use crate::journal_file::journal_file;
 use crate::pipe::Pipe;
 use crate::progress::Progress;
+use crate::reasons::{goal_in, warn};
 use crate::scripts::script_alone;
 use crate::shown::{Shown, in_form};
 use crate::told::{tell_ending, used_of};
-use kl1_run_work::{
-    Ending, FailureCounter, ReadFault, Stop, Term, Work, put_fault, read_goal, words_of,
-};
+use kl1_run_work::{Ending, FailureCounter, Stop, Term, Work, put_fault, words_of};
 use std::alloc::{AllocError, Global};
 use std::io::Write;
 
@@ -24,8 +23,8 @@ const MOST_TOLD: usize = 200;
 pub fn do_task(rt: &HostRuntime, asked: &Asked<'_>) -> Result<u8, Fault> {
     match (asked.task, asked.words.as_slice()) {
         (Task::Check, names) => {
-            read_each(rt, names)?;
-            Ok(0)
+            let Modules { files, .. } = read_each(rt, names)?;
+            warn(rt, files.as_slice(), asked.warnings_are_faults)
         }
         (Task::Script, [names @ .., goal]) if !names.is_empty() => {
             write_script(rt, asked, names, goal)
@@ -40,18 +39,6 @@ pub fn do_task(rt: &HostRuntime, asked: &Asked<'_>) -> Result<u8, Fault> {
     }
 }
 
-/// The goal that the last word is.
-fn goal_in(alloc: Global, word: &str) -> Result<Term, Fault> {
-    match read_goal(alloc, word.as_bytes()) {
-        Ok(goal) => Ok(goal),
-        Err(ReadFault::Bad { line: _line }) => {
-            let line = format!(in alloc; "kl1_run: bad goal: {word}\n")?;
-            Err(Fault::Lines(line.into_bytes()))
-        }
-        Err(ReadFault::Memory) => Err(Fault::Memory),
-    }
-}
-
 /// Writes the script that does the same work.
 fn write_script(
     rt: &HostRuntime,
@@ -61,9 +48,10 @@ fn write_script(
 ) -> Result<u8, Fault> {
     let alloc = rt.alloc();
     let Modules { files, .. } = read_each(rt, names)?;
+    let goal = goal_in(alloc, word, files.as_slice())?;
     let work = Work {
         files,
-        goal: goal_in(alloc, word)?,
+        goal,
         allowance: asked.allowance,
         steps: asked.steps,
     };
@@ -81,7 +69,7 @@ fn write_script(
 fn run_goal(rt: &HostRuntime, asked: &Asked<'_>, names: &[&str], word: &str) -> Result<u8, Fault> {
     let alloc = rt.alloc();
     let Modules { files, ids } = read_each(rt, names)?;
-    let goal = goal_in(alloc, word)?;
+    let goal = goal_in(alloc, word, files.as_slice())?;
     let started = goal.clone()?;
     let mut journal = journal_file(rt, asked.journal, ids.as_slice())?;
     let mut progress = Progress::new(rt);

@@ -50,6 +50,9 @@ fn with_numbers<'a>(alloc: Global, command: Command<'a>) -> Result<Command<'a>, 
     command.arg(steps)?.arg(allowance)?.arg(rules)
 }
 
+/// What warnings may count as.
+const WARNINGS: [&str; 1] = ["error"];
+
 /// A command that knows the options about what is told of the goal too.
 fn with_forms<'a>(alloc: Global, command: Command<'a>) -> Result<Command<'a>, AllocError> {
     let reports = flag(alloc, "reports", "Tell the goal's reports too").conflicts_with("check")?;
@@ -79,11 +82,18 @@ fn with_tasks<'a>(alloc: Global, command: Command<'a>) -> Result<Command<'a>, Al
     let check = flag(
         alloc,
         "check",
-        "Tell the bad item of each file, and run nothing",
+        "Tell what is wrong in each file and what was hardly meant, and run nothing",
     )
     .conflicts_with("script")?;
+    let warn = Arg::new(alloc, "warn")
+        .long("warn")
+        .action(ArgAction::Set)
+        .value_name("error")
+        .value_parser(WARNINGS.as_slice())
+        .requires_arg("check")?
+        .help("Let --check end with status 2 if there is a warning");
     let script = flag(alloc, "script", "Write the script that does the same work");
-    command.arg(journal)?.arg(check)?.arg(script)
+    command.arg(journal)?.arg(check)?.arg(warn)?.arg(script)
 }
 
 /// The words that the program knows.
@@ -153,6 +163,7 @@ pub fn asked_in<'a>(alloc: Global, words: &'a [String]) -> Result<Asked<'a>, Err
             Some(MOST_PRINTED_BYTES)
         },
         journal: matches.get_str("journal"),
+        warnings_are_faults: matches.get_str("warn").is_some(),
     })
 }
 

@@ -1,4 +1,4 @@
-" Compiler file for KL1: :make checks the file of the window, and jumps to the first bad item.
+" Compiler file for KL1: :make checks the file of the window, and jumps to errors and warnings.
 if exists("current_compiler")
   finish
 endif
@@ -9,4 +9,4 @@ if exists(":CompilerSet") != 2
 endif
 
 CompilerSet makeprg=kl1_run\ --check\ %:S
-CompilerSet errorformat=%f:%l:\ %m
+CompilerSet errorformat=%f:%l:%c:\ %trror:\ %m,%f:%l:%c:\ %tarning:\ %m,%-G\ \ \ \ %.%#

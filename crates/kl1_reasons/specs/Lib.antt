@@ -1,0 +1,4 @@
+pub mod Reasons
+pub mod Judged
+pub mod Told
+pub mod Refused

@@ -1,0 +1,74 @@
+// What is told of files and goals: why they are refused, and what was hardly meant.
+
+use crate::fault::Fault;
+use kl1_reasons::{
+    NamedText, Predicates, predicates_of, put_reason, put_reasons, put_warnings, reason_of_goal,
+};
+use kl1_run_work::{ReadFault, SourceFile, Term, read_goal};
+use std::alloc::{AllocError, Global};
+use std::io::Write;
+
+/// What stands in the place of a file's name where a goal is told of.
+const GOAL: &[u8] = b"goal";
+
+/// The source in a file, with the name by which it is told of.
+fn named(file: &SourceFile) -> NamedText<'_> {
+    NamedText {
+        name: file.name.as_slice(),
+        text: file.text.as_slice(),
+    }
+}
+
+/// Puts the lines that tell why the source in a file is refused, if it is, after the bytes.
+pub fn put_refusal(alloc: Global, file: &SourceFile, out: &mut Vec<u8>) -> Result<(), AllocError> {
+    let _is_refused = put_reasons(alloc, named(file), out)?;
+    Ok(())
+}
+
+/// Warns of what was hardly meant in files that are modules, and answers the program's status: warnings are faults if `are_faults`.
+pub fn warn(rt: &HostRuntime, files: &[SourceFile], are_faults: bool) -> Result<u8, Fault> {
+    let alloc = rt.alloc();
+    let mut texts = Vec::new(alloc);
+    for file in files {
+        texts.push(named(file))?;
+    }
+    let mut lines = Vec::new(alloc);
+    let has_warnings = put_warnings(alloc, texts.as_slice(), &mut lines)?;
+    if has_warnings && are_faults {
+        return Err(Fault::Lines(lines));
+    }
+    match rt.stderr().write_all(lines.as_slice()) {
+        Ok(()) => Ok(0),
+        Err(error) => Err(Fault::of_write(&error)),
+    }
+}
+
+/// The goal that a word is, over these files.
+pub fn goal_in(alloc: Global, word: &str, files: &[SourceFile]) -> Result<Term, Fault> {
+    match read_goal(alloc, word.as_bytes()) {
+        Ok(goal) => Ok(goal),
+        Err(ReadFault::Bad { line: _line }) => {
+            Err(Fault::Lines(goal_lines(alloc, word.as_bytes(), files)?))
+        }
+        Err(ReadFault::Memory) => Err(Fault::Memory),
+    }
+}
+
+/// The lines that tell why a text is no goal.
+fn goal_lines(alloc: Global, text: &[u8], files: &[SourceFile]) -> Result<Vec<u8>, AllocError> {
+    let modules = modules_of(alloc, files)?;
+    let mut lines = Vec::new(alloc);
+    if let Some(reason) = reason_of_goal(alloc, text, modules.as_slice())? {
+        put_reason(&mut lines, GOAL, b"error", &reason)?;
+    }
+    Ok(lines)
+}
+
+/// The predicates of the modules in files.
+fn modules_of(alloc: Global, files: &[SourceFile]) -> Result<Vec<Predicates>, AllocError> {
+    let mut modules = Vec::new(alloc);
+    for file in files {
+        modules.push(predicates_of(alloc, file.text.as_slice())?)?;
+    }
+    Ok(modules)
+}
