@@ -63,6 +63,9 @@ impl<'a> Scope<'a> {
         ) else {
             return Ok(());
         };
+        if module.name(self.text) == b"shoen".as_slice() {
+            return self.look_at_shoen(&token, count, findings);
+        }
         let Some(name) = AtomText::read(module.name(self.text)) else {
             return Ok(());
         };
@@ -71,6 +74,31 @@ impl<'a> Scope<'a> {
             (Some(given), Some(call)) => self.look_at_call(given, &call, b"that module", findings),
             _ => Ok(()),
         }
+    }
+
+    /// Puts a finding for a goal of the module that is built in, if that hasn't its predicate.
+    fn look_at_shoen(
+        &self,
+        token: &Token,
+        count: u64,
+        findings: &mut Vec<Finding>,
+    ) -> Result<(), AllocError> {
+        if count == 6 && token.name(self.text) == b"execute".as_slice() {
+            return Ok(());
+        }
+        findings.push(found_at(
+            self.alloc,
+            token.start,
+            &[
+                Say::Text(b"no predicate "),
+                Say::Text(token.bytes(self.text)),
+                Say::Text(b"/"),
+                Say::Number(count),
+                Say::Text(b" in shoen"),
+            ],
+            &[Say::Text(b"there is execute/6, as shoen:execute(G,0,4095,1000,C,R)")],
+        )?)?;
+        Ok(())
     }
 
     /// Puts a finding for a call of a predicate that a module hasn't.

@@ -54,6 +54,11 @@ fn operator_in(tokens: &[Token], text: &[u8]) -> Option<Token> {
     sum.or(product)
 }
 
+/// The operator that one of the sides is about, if it is one that computes.
+fn operator_of(sides: &Sides<'_>, text: &[u8]) -> Option<Token> {
+    operator_in(sides.left, text).or(operator_in(sides.right, text))
+}
+
 /// The variable that tokens are, if they are one alone.
 fn variable_in<'a>(tokens: &'a [Token]) -> Option<&'a Token> {
     match tokens {
@@ -88,8 +93,7 @@ impl Scope<'_> {
         if sides.sign.is(Sign::Becomes) {
             return self.look_at_assignment(&sides, findings);
         }
-        let computes = operator_in(sides.left, self.text).or(operator_in(sides.right, self.text));
-        if let Some(operator) = computes {
+        if let Some(operator) = operator_of(&sides, self.text) {
             findings.push(found_at(
                 self.alloc,
                 sides.sign.start,
@@ -165,6 +169,9 @@ impl Scope<'_> {
         let (Some(head), Some(sides)) = (outline.head(), sides_of(outline, test)) else {
             return Ok(());
         };
+        if let Some(operator) = operator_of(&sides, self.text) {
+            return self.look_at_comparison(sides.sign, &operator, findings);
+        }
         if !sides.sign.is(Sign::Equals) || outline.tests().len() != 1 || !does_nothing(outline) {
             return Ok(());
         }
@@ -178,6 +185,31 @@ impl Scope<'_> {
                 _ => {}
             }
         }
+        Ok(())
+    }
+
+    /// Puts a finding for a test that compares terms where one of them computes.
+    fn look_at_comparison(
+        &self,
+        sign: &Token,
+        operator: &Token,
+        findings: &mut Vec<Finding>,
+    ) -> Result<(), AllocError> {
+        let hint: &[u8] = match sign.kind {
+            Kind::Sign(Sign::Equals) => b"numbers are compared by =:=",
+            Kind::Sign(Sign::Differs) => b"numbers are compared by =\\=",
+            _ => return Ok(()),
+        };
+        findings.push(found_at(
+            self.alloc,
+            sign.start,
+            &[
+                Say::Text(sign.bytes(self.text)),
+                Say::Text(b" computes nothing: this compares with the structure "),
+                Say::Text(operator.bytes(self.text)),
+            ],
+            &[Say::Text(hint)],
+        )?)?;
         Ok(())
     }
 

@@ -36,11 +36,17 @@ fn no_line(alloc: Global, text: &[u8], first: &Token) -> Result<Finding, AllocEr
     if matches!(first.kind, Kind::Alien) && !rest.starts_with(b"#") {
         return alien_finding(alloc, text, first);
     }
+    let is_bare = matches!(first.kind, Kind::Name) && first.bytes(text) == b"module".as_slice();
+    let hint: &[u8] = if is_bare {
+        b"write :- before module"
+    } else {
+        b""
+    };
     known(
         alloc,
         first.start,
         b"the first item must be :- module NAME.",
-        b"",
+        hint,
     )
 }
 
