@@ -53,6 +53,7 @@ fn too_long(alloc: Global, text: &[u8]) -> Result<Reason, AllocError>
 }
 
 /// Puts the reasons why a source that isn't too long is refused after none.
+#[tactic(auto, using(crate::proofs::Explaining::so_far_begins, crate::proofs::Explaining::so_far_more, crate::proofs::Explaining::so_far_none, crate::proofs::Explaining::so_far_full))]
 fn put_reasons(
     alloc: Global,
     text: &[u8],

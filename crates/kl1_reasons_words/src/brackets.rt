@@ -80,6 +80,11 @@ impl<'a> Outline<'a> {
         Ok(None)
     }
 
+    /// The last bracket that is open.
+    pub(crate) fn last_open(&self) -> Option<Level> {
+        self.levels.last().copied()
+    }
+
     /// Tells of a bracket that isn't closed before what stands at a place.
     pub(crate) fn unclosed(&self, level: &Level, before: &'a [u8], at: usize) -> Step {
         let Place { line, column } = place_of(self.text, at);

@@ -83,8 +83,8 @@ impl Outline<'_> {
 
     /// Reads `:-`.
     pub(crate) fn neck(&mut self, token: &Token) -> Step {
-        if let Some(level) = self.levels.last() {
-            return self.unclosed(level, b":-", token.start);
+        if let Some(level) = self.last_open() {
+            return self.unclosed(&level, b":-", token.start);
         }
         match (self.role, self.heads) {
             (Role::Goal, _) => self.tell(
@@ -131,8 +131,8 @@ impl Outline<'_> {
 
     /// Reads the `@` of a priority.
     pub(crate) fn pragma(&mut self, token: &Token) -> Step {
-        if let Some(level) = self.levels.last() {
-            return self.unclosed(level, b"@", token.start);
+        if let Some(level) = self.last_open() {
+            return self.unclosed(&level, b"@", token.start);
         }
         match (self.role, self.heads) {
             (Role::Goal, _) => self.tell(
@@ -211,8 +211,8 @@ impl Outline<'_> {
 
     /// Reads the end of an item.
     pub(crate) fn finish(&mut self, token: &Token) -> Step {
-        if let Some(level) = self.levels.last() {
-            return self.unclosed(level, b"the end of the item", token.start);
+        if let Some(level) = self.last_open() {
+            return self.unclosed(&level, b"the end of the item", token.start);
         }
         match self.role {
             Role::Goal => self.tell(
@@ -238,8 +238,8 @@ impl Outline<'_> {
             Wants::Operator => {}
             _ => return self.tell(at, b"a term is wanted before the end", b""),
         }
-        if let Some(level) = self.levels.last() {
-            return self.unclosed(level, b"the end", at);
+        if let Some(level) = self.last_open() {
+            return self.unclosed(&level, b"the end", at);
         }
         match self.role {
             Role::Goal => {

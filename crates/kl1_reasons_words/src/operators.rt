@@ -163,8 +163,8 @@ impl Outline<'_> {
     /// Tells of a token on a further line, before which something is missing.
     fn goes_on(&self, token: &Token, line: u64) -> Step {
         let word = token.bytes(self.text);
-        match self.levels.last() {
-            Some(level) => self.unclosed(level, word, token.start),
+        match self.last_open() {
+            Some(level) => self.unclosed(&level, word, token.start),
             None => self.say(
                 self.last.end,
                 &[Say::Text(b"a dot or a comma is missing here")],
