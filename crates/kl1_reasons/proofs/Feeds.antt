@@ -56,6 +56,6 @@ split_case false m n k same = same
 
 -- the front and what is left have the line feeds of the whole
 pub feeds_split : (k : ℕ) (bs : List ℕ) → feeds (take k bs) + feeds (drop k bs) ≡ feeds bs
-feeds_split zero bs = refl
-feeds_split (suc k) [] = refl
+feeds_split zero bs = omega arith
+feeds_split (suc k) [] = omega arith
 feeds_split (suc k) (b ∷ bs) = split_case (b == 10) (feeds (take k bs)) (feeds (drop k bs)) (feeds bs) (feeds_split k bs)

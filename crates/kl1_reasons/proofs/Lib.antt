@@ -1,6 +1,8 @@
+pub mod LeftText
 pub mod Feeds
 pub mod FrontFeeds
 pub mod TokenLines
-pub mod Lines
+pub mod RefusedLines
 pub mod Refusals
 pub mod Explaining
+pub mod PutLines

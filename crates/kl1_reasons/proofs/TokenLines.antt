@@ -41,12 +41,18 @@ wider : (low high more most : ℕ) (ts : Tokens) → more ≤ low → high ≤ m
 wider low high more most ts h j k = (each_wider low high more most ts.placed h j k.0, one_wider low high more most ts.broken_at h j k.1)
 
 by_front : (next : ℕ → List ℕ → Tokens) (line most : ℕ) (f : Front) → LeavesFeeds most f → ((l : ℕ) (rest : List ℕ) → AreBetween l (l + feeds rest) (next l rest)) → AreBetween line (line + most) (tokens_by next line f)
+unfolding LeavesFeeds
 by_front next line most finished less go = (tt, tt)
 by_front next line most broken less go = (tt, (omega arith, omega arith))
-by_front next line most (line_end rest) less go = wider (suc line) (suc line + feeds rest) line (line + most) (next (suc line) rest) (omega arith) (omega arith) (go (suc line) rest)
-by_front next line most (blank rest) less go = wider line (line + feeds rest) line (line + most) (next line rest) (omega arith) (omega arith) (go line rest)
+by_front next line most (line_end rest) less go =
+    let fewer : suc (feeds rest) ≤ most = less in
+    wider (suc line) (suc line + feeds rest) line (line + most) (next (suc line) rest) (omega arith) (omega (arith, fewer)) (go (suc line) rest)
+by_front next line most (blank rest) less go =
+    let fewer : feeds rest ≤ most = less in
+    wider line (line + feeds rest) line (line + most) (next line rest) (omega arith) (omega (arith, fewer)) (go line rest)
 by_front next line most (token t rest) less go =
-    let after = wider line (line + feeds rest) line (line + most) (next line rest) (omega arith) (omega arith) (go line rest) in
+    let fewer : feeds rest ≤ most = less in
+    let after = wider line (line + feeds rest) line (line + most) (next line rest) (omega arith) (omega (arith, fewer)) (go line rest) in
     (((omega arith, omega arith), after.0), after.1)
 
 -- the tokens of a text are on its lines

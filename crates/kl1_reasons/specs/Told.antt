@@ -1,9 +1,10 @@
 -- The lines in which reasons are told.
 use Rattle.std.specs.Prelude.{List, [], ◌∷◌, ◌++◌, ℕ, codes, decimal, Vec}
+use Rattle.std.specs.declared.alloc.Global.{Global}
 use Rattle.kl1_reasons.specs.declared.reason.Reason.{Reason}
 
 -- a line for each hint
-abbrev pub hint_lines : List (Vec ℕ) → List ℕ
+abbrev pub hint_lines : List (Vec ℕ Global) → List ℕ
 hint_lines [] = []
 hint_lines (h ∷ hs) = codes "    hint: " ++ h.items ++ 10 ∷ hint_lines hs
 

@@ -7,7 +7,7 @@ use crate::predicates::Predicates;
 use crate::reason::Reason;
 use kl1_read::{ReadFault, read_goal};
 use kl1_reasons_items::{Item, Token, place_of, tokens_of};
-use kl1_reasons_words::{Finding, Main, Outline, Part, Role, Say, Step, known};
+use kl1_reasons_words::{Finding, Main, Outline, Part, Role, Say, Step, known, said};
 use kl1_text::AtomText;
 use std::alloc::{AllocError, Global};
 
@@ -73,24 +73,30 @@ fn token_finding(alloc: Global, text: &[u8], tokens: &[Token], modules: &[Predic
         return Ok(Some(found));
     }
     match outline.head() {
-        Some(part) => part_finding(&outline, part, modules),
+        Some(part) => part_finding(alloc, &outline, part, modules),
         None => Ok(None),
     }
 }
 
 /// What is wrong with the one part of a text that is no goal.
-fn part_finding(outline: &Outline<'_>, part: &Part, modules: &[Predicates]) -> Step {
+fn part_finding(alloc: Global, outline: &Outline<'_>, part: &Part, modules: &[Predicates]) -> Step {
     if let Some(found) = outline.check_goal(part)? {
         return Ok(Some(found));
     }
     match (part.main, outline.tokens.get(part.place)) {
-        (Main::Name, Some(name)) => no_module(outline, name, part.count, modules),
+        (Main::Name, Some(name)) => no_module(alloc, outline, name, part.count, modules),
         _ => outline.check_depth(),
     }
 }
 
 /// What is told of a goal that names no module: which one has its predicate, or else the first.
-fn no_module(outline: &Outline<'_>, name: &Token, count: u64, modules: &[Predicates]) -> Step {
+fn no_module(
+    alloc: Global,
+    outline: &Outline<'_>,
+    name: &Token,
+    count: u64,
+    modules: &[Predicates],
+) -> Step {
     let bytes = name.bytes(outline.text);
     let named = match AtomText::read(name.name(outline.text)) {
         Some(predicate) => module_with(modules, &predicate, count),
@@ -103,6 +109,7 @@ fn no_module(outline: &Outline<'_>, name: &Token, count: u64, modules: &[Predica
     } else {
         outline.text
     };
+    let hint = qualified(alloc, named.as_slice(), goal)?;
     outline.say(
         name.start,
         &[
@@ -111,13 +118,19 @@ fn no_module(outline: &Outline<'_>, name: &Token, count: u64, modules: &[Predica
             Say::Number(count),
             Say::Text(b" names no module"),
         ],
-        &[
-            Say::Text(b"write "),
-            Say::Text(named.as_slice()),
-            Say::Text(b":"),
-            Say::Text(goal),
-        ],
+        &[Say::Text(hint.as_slice())],
     )
+}
+
+/// The hint to write a goal with its module.
+fn qualified<'t>(alloc: Global, module: &'t [u8], goal: &'t [u8]) -> Result<Vec<u8>, AllocError> {
+    let parts = [
+        Say::Text(b"write "),
+        Say::Text(module),
+        Say::Text(b":"),
+        Say::Text(goal),
+    ];
+    said(alloc, &parts)
 }
 
 /// The name of the module that has a predicate with `count` arguments, or else of the first, or `m`.

@@ -79,7 +79,7 @@ fn put_reasons(
 }
 
 /// The next reason for a source whose front may be given up.
-#[tactic(auto, using(crate::proofs::Lines::refused_has_line))]
+#[tactic(auto, using(crate::proofs::RefusedLines::refused_has_line))]
 fn next_reason(
     alloc: Global,
     text: &[u8],

@@ -24,7 +24,7 @@ pub fn put_reasons(
     file: NamedText<'_>,
     out: &mut Vec<u8>,
 ) -> Result<bool, AllocError>
-    ensures { IfOk result (λ refused. refused ≡ is_refused file.text.now) }
+    ensures { IfOk result (λ refused. refused ≡ is_refused file.entry.text.now) }
 {
     let reasons = reasons_of(alloc, file.text, MOST_REASONS)?;
     let is_refused = !reasons.is_empty();

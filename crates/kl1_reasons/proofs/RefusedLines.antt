@@ -9,11 +9,15 @@ use Rattle.kl1_reasons.specs.Reasons.{line_feeds, text_from}
 use Rattle.kl1_reasons.proofs.Feeds.{feeds, line_behind, feeds_append, feeds_filtered, feeds_split}
 use Rattle.kl1_reasons.proofs.TokenLines.{IsBetween, IsOneBetween, ItemsBetween, tokens_on_lines, items_on_lines}
 
-bads : {A : Type 0} (m n : ℕ) → bad {A = A} m ≡ bad n → m ≡ n
+-- what has a fault on a line
+abbrev bad_on : (A : Type 0) → ℕ → Reading A
+bad_on A line = bad line
+
+bads : {A : Type 0} (m n : ℕ) → bad_on A m ≡ bad_on A n → m ≡ n
 bads m n h = cc
 
 module _ (m : List ℕ) (low high fault : ℕ) where
-  named : (line : ℕ) → IsBetween low high line → bad {A = List Clause} line ≡ bad fault → IsBetween low high fault
+  named : (line : ℕ) → IsBetween low high line → bad_on (List Clause) line ≡ bad_on (List Clause) fault → IsBetween low high fault
   named line h is = subst (IsBetween low high) (bads line fault is) h
 
   after_otherwise : (b : Bool) (line : ℕ) (rest : Reading (List Clause)) → (if b then rest else bad line) ≡ bad fault → IsBetween low high line → (rest ≡ bad fault → IsBetween low high fault) → IsBetween low high fault
@@ -69,10 +73,12 @@ module_fault bs line is = items_fault bs (1 + feeds bs) line (items_of (tokens_o
 front_lines : (text : List ℕ) (front : Option ℕ) → feeds (text_from text front) ≡ feeds text
 front_lines text None = refl
 front_lines text (Some k) =
-    feeds_append (codes ":- module m.") (line_feeds (take k text) ++ drop k text)
-    ∙ feeds_append (line_feeds (take k text)) (drop k text)
-    ∙ ap (λ n. n + feeds (drop k text)) (feeds_filtered (take k text))
-    ∙ feeds_split k text
+    let one = feeds_append (codes ":- module m.") (line_feeds (take k text) ++ drop k text) in
+    let none : feeds (codes ":- module m.") ≡ 0 = refl in
+    let two = feeds_append (line_feeds (take k text)) (drop k text) in
+    let three = feeds_filtered (take k text) in
+    let four = feeds_split k text in
+    omega (arith, one, none, two, three, four)
 
 -- a line that the reader names of what is left of a text is a line of the text
 pub refused_has_line : (text : List ℕ) (front : Option ℕ) (line : ℕ) → read_module (text_from text front) ≡ bad line → HasLine text line
