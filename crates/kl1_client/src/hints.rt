@@ -1,5 +1,8 @@
 // What a user can do about a refusal, or about a shoen that stands still.
 
+/// The number of the refusal of a source that is no module.
+pub const BAD_SOURCE: u64 = 2;
+
 /// What is told of refusals, by their numbers from 1.
 const HINTS: [&str; 13] = [
     "this is no command, or its numbers or its goal are none: help tells them",

@@ -5,6 +5,7 @@ mod files;
 mod help;
 mod hints;
 mod key;
+mod loaded;
 mod started;
 mod terminal;
 mod trouble;

@@ -4,7 +4,8 @@ ghost use Rattle.std.specs.Prelude.{⊤, option_map};
 ghost use Rattle.kl1_client_talk.specs.Given.{lines_in};
 ghost use Rattle.kl1_client_talk.specs.Streams.{coming};
 
-use crate::hints::{refusal_hint, standstill_hint};
+use crate::hints::{BAD_SOURCE, refusal_hint, standstill_hint};
+use crate::loaded::Loaded;
 use crate::{files, help};
 use kl1_client_talk::{Caller, Fault, LineReader, Source, TurnEnd, refusal_in};
 use std::thread;
@@ -29,6 +30,8 @@ pub struct Terminal<'r, S> {
     pub is_late: bool,
     /// Whether a hint on a refusal was told in this turn.
     pub is_told: bool,
+    /// The file that was loaded in this turn.
+    pub loaded: Option<Loaded>,
 }
 
 impl<'r, S> Terminal<'r, S> {
@@ -41,6 +44,19 @@ impl<'r, S> Terminal<'r, S> {
             begun: None,
             is_late: false,
             is_told: false,
+            loaded: None,
+        }
+    }
+
+    /// Tells what can be done about the refusal of a number: of a file that is no module, why.
+    fn tell_refusal(&self, number: u64) {
+        match &self.loaded {
+            Some(loaded) if number == BAD_SOURCE && loaded.tell(self.rt) => {}
+            _ => {
+                if let Some(hint) = refusal_hint(number) {
+                    let _ = eprintln!(self.rt; "kl1_client: {hint}");
+                }
+            }
         }
     }
 
@@ -65,6 +81,7 @@ impl<S: Source> Caller for Terminal<'_, S> {
     fn next(&mut self, line: &mut Vec<u8>) -> Result<bool, Fault> {
         self.is_late = false;
         self.is_told = false;
+        self.loaded = None;
         if let Some(name) = self.prompt {
             let _ = eprint!(self.rt; "{name}> ");
         }
@@ -73,7 +90,10 @@ impl<S: Source> Caller for Terminal<'_, S> {
 
     fn file(&mut self, name: &[u8], source: &mut Vec<u8>) -> Result<bool, Fault> {
         match files::read(self.rt, name, source) {
-            Ok(()) => Ok(true),
+            Ok(()) => {
+                self.loaded = Some(Loaded::new(self.rt.alloc(), name, source.as_slice())?);
+                Ok(true)
+            }
             Err(trouble) => {
                 files::tell(self.rt, name, &trouble)?;
                 Ok(false)
@@ -104,10 +124,12 @@ impl<S: Source> Caller for Terminal<'_, S> {
     }
 
     fn turned(&mut self, end: TurnEnd, line: &[u8]) {
+        // Nothing came in this turn.
+        if matches!(end, TurnEnd::LacksFile) {
+            return;
+        }
         if let Some(number) = refusal_in(line) {
-            if let Some(hint) = refusal_hint(number) {
-                let _ = eprintln!(self.rt; "kl1_client: {hint}");
-            }
+            self.tell_refusal(number);
             self.is_told = true;
             return;
         }
