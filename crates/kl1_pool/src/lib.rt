@@ -14,6 +14,7 @@ mod pool;
 mod pool_account;
 mod pool_ids;
 mod shared_tables;
+mod showing;
 mod totals_before_reset;
 mod turn;
 mod working;

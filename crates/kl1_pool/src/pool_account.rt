@@ -1,5 +1,7 @@
 // An account with its book.
 
+mod viewing;
+
 ghost use Rattle.std.specs.Prelude.{◌≡◌, ◌<◌, ◌≤◌, ◌^◌, ◌&&◌, if◌then◌else◌, [], Some, slice_get, IfOk, IsOk, IsTrue, OnErr, true, false, not, option_map};
 ghost use Rattle.kl1_model.specs.Event.{reduce as reduce_event, refused, journal_full};
 ghost use Rattle.kl1_model.specs.Choice.{first, quiet};
