@@ -2,7 +2,7 @@
 
 _kl1_run() {
     local word=${COMP_WORDS[COMP_CWORD]} before=${COMP_WORDS[COMP_CWORD - 1]}
-    local options="--steps --allowance --rules --reports --whole --bindings --infix --journal --check --script --help --version"
+    local options="--steps --allowance --rules --reports --whole --bindings --infix --waits --stats --journal --check --script --help --version"
     COMPREPLY=()
     case $before in
     --steps | --allowance)
@@ -11,6 +11,10 @@ _kl1_run() {
         ;;
     --rules)
         mapfile -t COMPREPLY < <(compgen -W "3 4" -- "$word")
+        return
+        ;;
+    --waits)
+        mapfile -t COMPREPLY < <(compgen -W "all none" -- "$word")
         return
         ;;
     --journal)

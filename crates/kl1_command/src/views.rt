@@ -29,8 +29,7 @@ pub trait Views: Host {
     fn awaited(&self, goal: GoalNo) -> Result<Option<Vec<u32>>, AllocError>
         ensures { IfOk result (λ awaited. (f : Self.Reading) → Self.fits self.now f → AreAwaited (Self.kept f self.now).state goal.0 (option_map (λ numbers. numbers.items) awaited)) };
 
-    /// Whether variable `variable` is in the term of a goal; `Unknown` if it isn't among the first `most` parts, and there are more. No
-    /// goal, and a monitor, have none.
+    /// Whether variable `variable` is in the term of a goal, of which at most `most` parts are looked at.
     fn presence(&self, goal: GoalNo, variable: u64, most: u64) -> Result<Presence, AllocError>
         ensures { IfOk result (λ presence. (f : Self.Reading) → IsPresence variable most (goal_term (Self.kept f self.now).state goal.0) presence) };
 

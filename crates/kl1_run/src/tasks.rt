@@ -1,19 +1,26 @@
 // What is done for each task.
 
+use crate::after::{After, Looks};
 use crate::alone::{LoneWork, RunResult, run_alone};
 use crate::asked::{Asked, Task, USAGE};
 use crate::copied::Copied;
 use crate::fault::{BAD, Fault};
 use crate::files::{Modules, read_each};
 use crate::journal_file::journal_file;
+use crate::origins::{Again, copies_of};
 use crate::pipe::Pipe;
 use crate::progress::Progress;
 use crate::scripts::script_alone;
 use crate::shown::{Shown, in_form};
+use crate::stats::tell_stats;
 use crate::told::{tell_ending, used_of};
+use crate::watched::{write_profile, write_trace};
 use kl1_run_work::{
     Ending, FailureCounter, ReadFault, Stop, Term, Work, put_fault, read_goal, words_of,
 };
+use kl1_shown::variable_names;
+use kl1_steps::Pattern;
+use kl1_watch::Names;
 use std::alloc::{AllocError, Global};
 use std::io::Write;
 
@@ -83,7 +90,15 @@ fn run_goal(rt: &HostRuntime, asked: &Asked<'_>, names: &[&str], word: &str) -> 
     let Modules { files, ids } = read_each(rt, names)?;
     let goal = goal_in(alloc, word)?;
     let started = goal.clone()?;
+    let again = Again {
+        alloc,
+        files: copies_of(alloc, files.as_slice())?,
+        goal: started.clone()?,
+        allowance: asked.allowance,
+        rules: asked.rules,
+    };
     let mut journal = journal_file(rt, asked.journal, ids.as_slice())?;
+    tell_steps(rt, asked, word, &again)?;
     let mut progress = Progress::new(rt);
     let copied = Copied::new(alloc, Pipe::new(rt.stdout()), asked.form.is_other());
     let mut out = FailureCounter::new(copied);
@@ -98,9 +113,15 @@ fn run_goal(rt: &HostRuntime, asked: &Asked<'_>, names: &[&str], word: &str) -> 
         },
         rules: asked.rules,
         wanted: asked.wanted,
+        looks: Looks {
+            most: asked.waits.most(),
+            names: names_in(alloc, word, &started)?,
+            origins: again,
+        },
     };
     let RunResult {
         ending,
+        after,
         journal: told,
     } = run_alone(alloc, lone, &mut progress, &mut out, &mut err, &mut journal);
     progress.clear();
@@ -110,7 +131,9 @@ fn run_goal(rt: &HostRuntime, asked: &Asked<'_>, names: &[&str], word: &str) -> 
     let status = match ending {
         Ok(ending) => {
             show_goal(rt, asked, word, started, ending, out.inner.copy.as_slice())?;
-            tell_ending(rt, ending, used)?
+            let status = tell_ending(rt, ending, used, after.as_ref())?;
+            tell_after(rt, asked, after)?;
+            status
         }
         Err(stop) => return Err(fault_of(alloc, stop, names, word)?),
     };
@@ -118,6 +141,55 @@ fn run_goal(rt: &HostRuntime, asked: &Asked<'_>, names: &[&str], word: &str) -> 
         Ok(()) => Ok(status),
         Err(stop) => Err(fault_of(alloc, stop, names, word)?),
     }
+}
+
+/// The names of a goal's variables, as its word has them.
+fn names_in(alloc: Global, word: &str, goal: &Term) -> Result<Names, AllocError> {
+    let mut names = variable_names(alloc, word.as_bytes())?;
+    if names.len() as u64 != goal.highest() {
+        names.clear();
+    }
+    Ok(Names { names })
+}
+
+/// The pattern of these words, which stand between commas.
+fn pattern_in(alloc: Global, words: &str) -> Result<Pattern, Fault> {
+    let mut pattern = Pattern::all(alloc);
+    for word in words.split(',') {
+        if !word.is_empty() && !pattern.narrow(word.as_bytes())? {
+            let line = format!(in alloc; "kl1_run: no pattern of steps: {word}\n")?;
+            return Err(Fault::Lines(line.into_bytes()));
+        }
+    }
+    Ok(pattern)
+}
+
+/// Tells the steps of a run, and what each predicate did, as far as that is asked for.
+fn tell_steps(rt: &HostRuntime, asked: &Asked<'_>, word: &str, again: &Again) -> Result<(), Fault> {
+    if let Some(words) = asked.trace {
+        let pattern = pattern_in(again.alloc, words)?;
+        let names = names_in(again.alloc, word, &again.goal)?;
+        write_trace(rt, again, names, pattern, asked.steps)?;
+    }
+    if asked.has_profile {
+        write_profile(rt, again, asked.steps)?;
+    }
+    Ok(())
+}
+
+/// Tells what stands still in an account in which a run is over, and what the run used if that is asked for.
+fn tell_after(rt: &HostRuntime, asked: &Asked<'_>, after: Option<After>) -> Result<(), Fault> {
+    let Some(after) = after else {
+        return Err(Fault::Memory);
+    };
+    match rt.stderr().write_all(after.lines.as_slice()) {
+        Ok(()) => {}
+        Err(error) => return Err(Fault::of_write(&error)),
+    }
+    if asked.has_stats {
+        tell_stats(rt, after.reductions, &after.usage)?;
+    }
+    Ok(())
 }
 
 /// Writes the goal in its form, if that is another than what was written already, and warns of variables that have no value though

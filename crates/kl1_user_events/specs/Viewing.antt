@@ -1,11 +1,9 @@
 -- What is shown of an account: its shoens, its goals, what they wait for, and how near it is to its limits.
-use Rattle.std.specs.Prelude.{◌≡◌, ◌<◌, ◌↔◌, ℕ, zero, suc, ◌==◌, nat_le, not, ◌&&◌, Bool, true, false, List, [], map, filter, take, length, count_by, Contains, Option, Some, None, option_map, option_and_then}
-use Rattle.std.proofs.Common.{inl, inr}
-use Rattle.std.specs.List.{list_any}
+use Rattle.std.specs.Prelude.{◌≡◌, ◌≤◌, ◌↔◌, ℕ, zero, suc, ◌-◌, ◌==◌, nat_le, not, ◌&&◌, Bool, true, false, List, [], ◌∷◌, map, filter, take, length, count_by, Contains, Option, Some, None, option_map, option_and_then}
 use Rattle.std.specs.List.Sorted.{IsStrictlyIncreasing}
 use Rattle.kl1_model.specs.declared.limits.TheConstants.{MOST_NAMES}
 use Rattle.kl1_model.specs.declared.limits.Limits.{Limits}
-use Rattle.kl1_model.specs.Term.{Term, occurs}
+use Rattle.kl1_model.specs.Term.{Term, occurs, size}
 use Rattle.kl1_model.specs.Print.{print, cut_print}
 use Rattle.kl1_model.specs.Control.{control_of}
 use Rattle.kl1_model.specs.State.{Task, monitor, reduces, substitutes, Goal, Shoen, State, goal_at, shoen_at, is_monitor, limits_of}
@@ -13,7 +11,6 @@ use Rattle.kl1_model.specs.Tree.{charged_of, goals_alive}
 use Rattle.kl1_model.specs.Asking.{condition_of}
 use Rattle.kl1_model.specs.Choice.{can_step}
 use Rattle.kl1_model.specs.code.Awaited.{awaited_by_control}
-use Rattle.kl1_model.specs.code.TermCode.{NodeCode, nodes_of}
 use Rattle.kl1_model.specs.code.Waits.{awaited_by_term, awaited_by_substitute}
 use Rattle.kl1_user_events.specs.declared.numbers.ShoenNo.{ShoenNo}
 use Rattle.kl1_user_events.specs.declared.shoen_view.ShoenView.{ShoenView}
@@ -125,25 +122,14 @@ AreListedOf (Some ns) (Some all) = AreListed ns all
 abbrev pub AreAwaited : State → ℕ → Option (List ℕ) → Type 0
 AreAwaited s n shown = AreListedOf shown (option_map (awaited_by_goal s) (goal_at n s.goals))
 
--- whether a part of a term is variable `v`
-abbrev pub is_variable_part : ℕ → NodeCode → Bool
-is_variable_part v (inl (inl n)) = v == n
-is_variable_part v (inl (inr i)) = false
-is_variable_part v (inr c) = false
-
--- a term has more than `most` parts, and the first `most` of them in the order of reading aren't variable `v`
-pub record IsLookedAt (v most : ℕ) (t : Term) : Type 0 where
-  pub larger : most < length (nodes_of t)
-  pub without : list_any (is_variable_part v) (take most (nodes_of t)) ≡ false
-
--- what is known of whether variable `v` is in a term, after `most` parts of it were looked at or all of them
+-- what is known of whether variable `v` is in a term, after at least `most` parts of it were looked at or all of them
 abbrev pub IsPresence : ℕ → ℕ → Option Term → Presence → Type 0
 IsPresence v most None Present = ⊥
 IsPresence v most None Absent = Unit {0}
 IsPresence v most None Unknown = ⊥
 IsPresence v most (Some t) Present = occurs v t ≡ true
 IsPresence v most (Some t) Absent = occurs v t ≡ false
-IsPresence v most (Some t) Unknown = IsLookedAt v most t
+IsPresence v most (Some t) Unknown = most ≤ size t
 
 -- what there is beside the most that there may be
 abbrev pub used : ℕ → ℕ → Used

@@ -54,8 +54,7 @@ impl<A: AtomSource, C: CodeSource> UserState<A, C> {
         self.account.awaited(codes, goal.0)
     }
 
-    /// Whether variable `variable` is in the term of a goal; `Unknown` if it isn't among the first `most` parts, and there are more. No
-    /// goal, and a monitor, have none.
+    /// Whether variable `variable` is in the term of a goal, of which at most `most` parts are looked at.
     pub fn presence(&self, goal: GoalNo, variable: u64, most: u64) -> Result<Presence, AllocError>
         ensures { IfOk result (λ presence. (f : Reading) → IsPresence variable most (goal_term (state_of f self.now) goal.0) presence) }
     {

@@ -79,8 +79,7 @@ impl<C: CodeSource> Account<C> {
         }
     }
 
-    /// Whether variable `variable` is in the term of goal `number`; `Unknown` if it isn't among the first `most` parts, and there are
-    /// more. No goal, and a monitor, have none.
+    /// Whether variable `variable` is in the term of goal `number`, of which at most `most` parts are looked at.
     pub fn presence(&self, number: u64, variable: u64, most: u64) -> Result<Presence, AllocError>
         ensures { IfOk result (λ presence. (f : Reading) → IsPresence variable most (goal_term (state_of f self.now) number) presence) }
     {

@@ -1,0 +1,23 @@
+//! Runs that are told step by step, and where variables and exceptions came from.
+#![tactic(auto)]
+
+mod called;
+mod clauses;
+mod equated;
+mod finder;
+mod notes;
+mod pattern;
+mod profile;
+mod seen;
+mod steps;
+mod trace;
+
+pub use called::{Called, called_by};
+pub use clauses::{ClausePlace, clause_at, put_clauses};
+pub use finder::{Finder, Found, Origin};
+pub use notes::{notes_of_found, put_clause};
+pub use pattern::Pattern;
+pub use profile::{Profile, Row};
+pub use seen::{Observer, Seen, Viewer};
+pub use steps::{StepWatch, step_through};
+pub use trace::Trace;
