@@ -40,3 +40,4 @@ pub mod Recalling
 pub mod Standing
 pub mod Resting
 pub mod Resuming
+pub mod Fingering

@@ -7,6 +7,8 @@ use Rattle.kl1_store.specs.Chains.{Hung}
 use Rattle.kl1_store.specs.Levels.{AreLevels}
 use Rattle.kl1_store.specs.Resting.{AreRests}
 use Rattle.kl1_store.specs.declared.rest.Rest.{Rest}
+use Rattle.kl1_store.specs.Fingers.{AreFingers}
+use Rattle.kl1_store.specs.declared.fingers.Fingers.{Fingers}
 use Rattle.kl1_model.specs.declared.built_in.BuiltIn.{BuiltIn}
 
 -- what the cells and the hooks keep: there is room for a variable if both have it
@@ -24,8 +26,10 @@ kept_in s k =
       hook_room = k.room;
     }
 
--- what always holds of the parts: levels are in order, each variable has a head, and what is kept of comparisons was left of them
-pub record IsKept {N : Type 0} (built : BuiltIn → N) (s : Stored N) (k : Hung) (ls : Levels) (rs : List Rest) : Type 0 where
+-- what always holds of the parts: levels are in order, each variable has a head, what is kept of comparisons was left of them, and
+-- places in lists are right
+pub record IsKept {N : Type 0} (built : BuiltIn → N) (s : Stored N) (k : Hung) (ls : Levels) (rs : List Rest) (gs : Fingers N) : Type 0 where
   pub levels : AreLevels s.held ls
   pub covered : s.held.variables ≤ k.covered
   pub rests : AreRests built s.held rs
+  pub fingers : AreFingers built s.held gs

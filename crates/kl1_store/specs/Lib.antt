@@ -33,3 +33,4 @@ pub mod Unbound
 pub mod InModules
 pub mod Constants
 pub mod Renames
+pub mod Fingers

@@ -10,6 +10,7 @@ mod cells;
 mod compare;
 mod compare_each;
 mod course;
+mod fingers;
 mod frame;
 mod head;
 mod hooks;
@@ -47,6 +48,7 @@ mod word;
 mod words;
 
 pub use cell::Cell;
+pub use fingers::Finger;
 pub use head::Head;
 pub use point::Point;
 pub use qualified::Qualified;

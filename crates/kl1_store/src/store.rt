@@ -16,11 +16,13 @@ ghost use Rattle.kl1_store.specs.Tops.{firsts, others};
 mod build_one;
 mod build_three;
 mod constants;
+mod fingers;
 mod renaming;
 
 use crate::cell::Cell;
 use crate::cells::Cells;
 use crate::compare_each::compare_each;
+use crate::fingers::Fingers;
 use crate::head::Head;
 use crate::hooks::Hooks;
 use crate::levels::Levels;
@@ -50,6 +52,7 @@ pub struct Store<N: NameValue> {
     scratch: Scratch<N>,
     hooks: Hooks,
     rests: Vec<Rest>,
+    fingers: Fingers<N>,
     alloc: Global,
 }
 
@@ -62,7 +65,7 @@ impl<N: NameValue> Model for Store<N> {
 
     ghost view = { λ s. kept_in s.cells s.hooks };
 
-    ghost invariant = { λ s. IsKept N.built s.cells s.hooks s.levels s.rests.items };
+    ghost invariant = { λ s. IsKept N.built s.cells s.hooks s.levels s.rests.items s.fingers };
 }
 
 impl<N: NameValue> Store<N> {
@@ -84,6 +87,7 @@ impl<N: NameValue> Store<N> {
             },
             hooks: Hooks::new(alloc),
             rests: Vec::new(alloc),
+            fingers: Fingers::new(alloc),
             alloc,
         }
     }
@@ -210,7 +214,6 @@ impl<N: NameValue> Store<N> {
 
     /// Makes two cells mean the same term, as far as that can be, by as few replacements as serve. After a clash or an error
     /// what was bound so far is still bound.
-    #[tactic(auto, using(crate::proofs::Resting::rests_unified))]
     pub fn unify_cells(&mut self, left: Cell<N>, right: Cell<N>) -> Result<Unified, AllocError>
         requires left_in { IsIn self.old.held left }
         requires right_in { IsIn self.old.held right }
@@ -424,6 +427,7 @@ impl<N: NameValue> Store<N> {
         ensures room { FreesRoom self.old.held self.old.room self.new.held self.new.room }
         ensures hook_room { length self.old.hooks + self.old.hook_room ≡ length self.new.hooks + self.new.hook_room }
     {
+        self.fingers.cut(mark.sizes);
         take_back(&mut self.cells, &mut self.levels, mark.sizes);
         self.hooks.keep(mark.hooks);
         forget_rests(&mut self.rests);

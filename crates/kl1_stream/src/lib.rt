@@ -14,7 +14,7 @@ mod tops;
 pub use answers::unanswered_at;
 pub use console::send_message;
 pub use control::{Control, read_control};
-pub use elements::{next_element, nth_cell};
+pub use elements::{keep_places, next_element, nth_cell};
 pub use exceptions::{exception_of, exception_with};
 pub use reports::{append_report, close_report};
 pub use told::Told;

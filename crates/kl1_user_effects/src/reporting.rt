@@ -12,7 +12,7 @@ ghost use Rattle.kl1_store.specs.Held.{IsIn};
 ghost use Rattle.kl1_store.specs.Sound.{Grown};
 ghost use Rattle.kl1_user_effects.specs.Account.{meaning, goal_with, aim};
 ghost use Rattle.kl1_user_effects.specs.Wholes.{IsWhole};
-ghost use Rattle.kl1_user_effects.specs.Kept.{IsOwned, AreShoensIn};
+ghost use Rattle.kl1_user_effects.specs.Kept.{IsOwned, IsShoenIn, AreShoensIn};
 ghost use Rattle.kl1_user_effects.specs.declared.draft.Draft.{Draft};
 ghost use Rattle.kl1_user_effects.specs.Drafts.{DraftsAll, HasBegun, CanGoBack, one_for};
 ghost use Rattle.kl1_user_effects.specs.Reports.{IsTold, IsDropped};
@@ -24,11 +24,30 @@ use crate::committing::last_of;
 use crate::draft::Draft;
 use kl1_goals::{Goal, Task};
 use kl1_model::BuiltIn;
-use kl1_shoen::ShoenTree;
+use kl1_shoen::{Shoen, ShoenTree};
 use kl1_store::{Cell, Qualified, Store, Unified};
-use kl1_stream::{Told, append_report, close_report, exception_of, exception_with};
+use kl1_stream::{Told, append_report, close_report, exception_of, exception_with, keep_places};
 use kl1_text::{CellName, NameValue};
 use std::alloc::AllocError;
+
+/// Of how many reports of the account one lets the store keep places. It is a prime number, so that shoens that report by turns all
+/// come to it.
+const REPORTS_APART: u64 = 1_021;
+
+/// Lets the store keep places in the report stream of a shoen, if the console started it and this count of the account's reports is
+/// one for it. What the store holds is as before.
+fn keep_at_times(store: &mut Store<CellName>, shoen: &Shoen<CellName>, reports: u64)
+    requires { IsShoenIn store.old.held shoen.now }
+    ensures held { store.new.held ≡ store.old.held }
+    ensures hooks { store.new.hooks ≡ store.old.hooks }
+{
+    if reports % REPORTS_APART != 0 {
+        return;
+    }
+    if let Some(origin) = shoen.origin {
+        keep_places(store, origin.reports);
+    }
+}
 
 /// A report of shoen `number`; it tells whether that is made, and not dropped. If memory is refused, the store may have grown.
 fn tell(
@@ -67,6 +86,7 @@ fn tell(
         Told::Sent(next) => {
             shoens.set_tail(number, Cell::Variable(next))?;
             draft.reports += 1;
+            keep_at_times(store, &shoen, draft.reports);
             Ok(true)
         }
     }

@@ -50,6 +50,7 @@ impl<N: NameValue> Store<N> {
         ensures held { Rebinds mark.sizes variable constant self.old.held self.new.held }
         ensures hooks { self.new.hooks ≡ self.old.hooks }
     {
+        self.fingers.cut(mark.sizes);
         rebind(
             &mut self.cells,
             &mut self.levels,

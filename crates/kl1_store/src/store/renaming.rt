@@ -21,6 +21,7 @@ impl<N: NameValue> Store<N> {
         ensures hook_room { self.new.hook_room ≡ self.old.hook_room }
     {
         forget_rests(&mut self.rests);
+        self.fingers.let_go();
         self.cells.rename(mark.sizes, names);
     }
 }

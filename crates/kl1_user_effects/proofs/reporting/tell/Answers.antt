@@ -1,12 +1,16 @@
 use Rattle.std.proofs.Common.{refl}
 use Rattle.kl1_user_effects.proofs.Frames.{stays_same, stays_changed}
-use Rattle.std.proofs.Common.{◌≡◌, ℕ, suc, ◌+◌, sym, ap, ◌∙◌, arith, subst}
+use Rattle.std.proofs.Common.{◌≡◌, ℕ, suc, ◌+◌, true, sym, ap, ◌∙◌, arith, subst}
 use Rattle.kl1_model.specs.Report.{report}
 use Rattle.kl1_text.specs.declared.cell_name.CellName.{CellName}
 use Rattle.kl1_shoen.specs.Shoens.{Tree}
 use Rattle.kl1_user_effects.specs.Account.{meaning}
 use Rattle.kl1_user_effects.specs.Drafts.{DraftsAll}
-use Rattle.kl1_user_effects.proofs.States.{found_shoen_in}
+use Rattle.kl1_user_effects.specs.Kept.{AreShoensIn}
+use Rattle.kl1_user_effects.specs.Reports.{IsTold}
+use Rattle.kl1_user_effects.specs.Late.{KeepsFree}
+use Rattle.kl1_store.specs.Held.{Held}
+use Rattle.kl1_user_effects.proofs.States.{found_shoen_in, shoen_grown}
 use Rattle.kl1_user_effects.proofs.Works.{torn, tailed, next_in}
 use Rattle.kl1_user_effects.proofs.TreesIn.{changed_in}
 use Rattle.kl1_user_effects.proofs.Streams.{drafts_unheard, drafts_dropped, drafts_broken, drafts_sent}
@@ -44,16 +48,19 @@ returns-in_ok-set_tail-in-Sent-clause-ok c =
     let d = c.args.draft.now in
     let is = c.in_ok-set_tail-in-Sent.ensures.ok in
     let P : ℕ → Type 0 = λ n. DraftsAll (λ f. report c.args.number (meaning f h c.args.message)) h k c.args.shoens.now c.set_tail.new.self d (record d { reports = n }) in
+    let K : Held CellName → Type 0 = λ x. DraftsAll (λ f. report c.args.number (meaning f h c.args.message)) h x c.args.shoens.now c.set_tail.new.self d (record d { reports = d.reports + 1 }) in
     let one : suc d.reports ≡ d.reports + 1 = omega arith in
-    subst P one
+    subst K (sym c.keep_at_times.ensures.held) (subst P one
     (drafts_sent h k c.args.shoens.now c.set_tail.new.self d c.args.number c.in-Sent.next c.in-Some.shoen c.args.message c.in_ok-append_report.ensures.grown (sym c.lend.ensures.value ∙ (sym c.copied.ensures ∙ c.in-Some.is))
-    (rw c.limits.ensures.value at (rw c.in-Sent.is at c.in_ok-append_report.ensures.told)) (ap (λ (x : Tree CellName). x.shoens) is) (ap (λ (x : Tree CellName). x.work) is))
+    (rw c.limits.ensures.value at (rw c.in-Sent.is at c.in_ok-append_report.ensures.told)) (ap (λ (x : Tree CellName). x.shoens) is) (ap (λ (x : Tree CellName). x.work) is)))
 
 pub returns-in_ok-set_tail-in-Sent-clause-shoens : goal.returns-in_ok-set_tail-in-Sent-clause-shoens
 returns-in_ok-set_tail-in-Sent-clause-shoens c =
     let sent = rw c.in-Sent.is at c.in_ok-append_report.ensures.told in
-    changed_in c.args.store.now.held c.append_report.new.store.held c.args.shoens.now c.set_tail.new.self c.args.number (tailed c.in-Sent.next) c.in_ok-append_report.ensures.grown
-    (λ s i. record { control = i.control; tail = next_in c.args.store.now.held c.append_report.new.store.held c.in-Sent.next sent.sent.next_is sent.sent.variables; origin = i.origin; low = i.low; high = i.high }) c.requires.shoens c.in_ok-set_tail-in-Sent.ensures.ok
+    let K : Held CellName → Type 0 = λ x. AreShoensIn x c.set_tail.new.self.shoens in
+    subst K (sym c.keep_at_times.ensures.held)
+    (changed_in c.args.store.now.held c.append_report.new.store.held c.args.shoens.now c.set_tail.new.self c.args.number (tailed c.in-Sent.next) c.in_ok-append_report.ensures.grown
+    (λ s i. record { control = i.control; tail = next_in c.args.store.now.held c.append_report.new.store.held c.in-Sent.next sent.sent.next_is sent.sent.variables; origin = i.origin; low = i.low; high = i.high }) c.requires.shoens c.in_ok-set_tail-in-Sent.ensures.ok)
 
 pub returns-in_default-clause-stays : goal.returns-in_default-clause-stays
 returns-in_default-clause-stays c = stays_same c.args.shoens.now
@@ -83,7 +90,9 @@ returns-in_ok-break_stream-in-Broken-clause-keeps c =
 pub returns-in_ok-set_tail-in-Sent-clause-keeps : goal.returns-in_ok-set_tail-in-Sent-clause-keeps
 returns-in_ok-set_tail-in-Sent-clause-keeps c =
     let told = rw c.in-Sent.is at c.in_ok-append_report.ensures.told in
-    sent_free c.args.store.now.held c.append_report.new.store.held c.args.shoens.now.shoens c.args.number c.in-Some.shoen _ c.args.message c.in-Sent.next (sym c.lend.ensures.value ∙ (sym c.copied.ensures ∙ c.in-Some.is)) told
+    let K : Held CellName → Type 0 = λ x. KeepsFree c.args.number c.args.shoens.now.shoens c.args.store.now.held x in
+    subst K (sym c.keep_at_times.ensures.held)
+    (sent_free c.args.store.now.held c.append_report.new.store.held c.args.shoens.now.shoens c.args.number c.in-Some.shoen _ c.args.message c.in-Sent.next (sym c.lend.ensures.value ∙ (sym c.copied.ensures ∙ c.in-Some.is)) told)
 
 pub returns-in_ok-break_stream-in-Broken-clause-count : goal.returns-in_ok-break_stream-in-Broken-clause-count
 returns-in_ok-break_stream-in-Broken-clause-count c = count_changed c.args.shoens.now c.break_stream.new.self c.args.number torn c.in_ok-break_stream-in-Broken.ensures.ok
@@ -108,8 +117,16 @@ returns-in_ok-break_stream-in-Broken-clause-told c =
 
 pub returns-in_ok-set_tail-in-Sent-clause-told : goal.returns-in_ok-set_tail-in-Sent-clause-told
 returns-in_ok-set_tail-in-Sent-clause-told c =
-    told_sent c.args.store.now.held c.append_report.new.store.held c.args.shoens.now.shoens c.args.draft.now c.args.number c.in-Sent.next c.args.message c.in-Some.shoen (sym c.lend.ensures.value ∙ (sym c.copied.ensures ∙ c.in-Some.is))
-    (rw c.limits.ensures.value at (rw c.in-Sent.is at c.in_ok-append_report.ensures.told))
+    let K : Held CellName → Type 0 = λ x. IsTold c.args.number c.args.message c.args.store.now.held x c.args.shoens.now.shoens c.args.draft.now true in
+    subst K (sym c.keep_at_times.ensures.held)
+    (told_sent c.args.store.now.held c.append_report.new.store.held c.args.shoens.now.shoens c.args.draft.now c.args.number c.in-Sent.next c.args.message c.in-Some.shoen (sym c.lend.ensures.value ∙ (sym c.copied.ensures ∙ c.in-Some.is))
+    (rw c.limits.ensures.value at (rw c.in-Sent.is at c.in_ok-append_report.ensures.told)))
+
+pub keep_at_times-requires : goal.keep_at_times-requires
+keep_at_times-requires c =
+    let k = c.append_report.new.store.held in
+    shoen_grown c.args.store.now.held k c.in_ok-append_report.ensures.grown c.in-Some.shoen
+    (found_shoen_in c.args.store.now.held c.args.number c.args.shoens.now.shoens c.in-Some.shoen c.requires.shoens (sym c.lend.ensures.value ∙ (sym c.copied.ensures ∙ c.in-Some.is)))
 
 pub returns-in_default-clause-dropped : goal.returns-in_default-clause-dropped
 returns-in_default-clause-dropped c = λ e. dropped_unheard c.args.shoens.now c.args.draft.now c.args.number (sym c.lend.ensures.value ∙ (sym c.copied.ensures ∙ c.in_default.is))

@@ -5,6 +5,7 @@ use Rattle.kl1_store.specs.Held.{Held, is_bound, with_binding}
 use Rattle.kl1_store.specs.Hooks.{Kept}
 use Rattle.kl1_store.specs.Levels.{AreLevels}
 use Rattle.kl1_store.specs.Unification.{UnifiesAs}
+use Rattle.kl1_store.proofs.Fingering.{fingers_bound}
 use Rattle.kl1_store.proofs.Constants.{constant_free, levels_constant, unifies_constant}
 use Rattle.kl1_store.proofs.Resting.{rests_bound}
 use Rattle.kl1_store.proofs.store.Store.bind_constant.Goals as goal
@@ -22,6 +23,7 @@ invariant_of-self g c =
       levels = subst P (sym c.in-Ok.ensures.ok) (levels_constant s.cells.held c.args.variable c.args.constant s.levels unbound c.self.invariant.levels c.requires.constant);
       rests = rests_bound g.N.NameValue.built s.cells.held c.bind.new.self.held c.args.variable c.args.constant s.rests.items c.in-Ok.ensures.ok c.self.invariant.rests;
       covered = let e = ap (λ (h : Held g.row.N.Denot). h.variables) c.in-Ok.ensures.ok in let v = c.self.invariant.covered in omega arith;
+      fingers = fingers_bound g.N.NameValue.built s.cells.held c.bind.new.self.held c.args.variable c.args.constant s.fingers c.in-Ok.ensures.ok c.self.invariant.fingers;
     }
 
 pub returns-clause-unifies : goal.returns-clause-unifies

@@ -1,5 +1,6 @@
 use Rattle.std.proofs.Common.{◌≡◌, ℕ, length, reverse, arith}
 use Rattle.kl1_store.specs.Tops.{firsts}
+use Rattle.kl1_store.proofs.Fingering.{fingers_build}
 use Rattle.kl1_store.proofs.Levelling.{levels_build, same_variables}
 use Rattle.kl1_store.proofs.Resting.{rests_build}
 use Rattle.kl1_store.proofs.store.Store.build_top.Goals as goal
@@ -15,4 +16,5 @@ invariant_of-self g c =
       levels = levels_build old new c.args.name top P c.build_top.result c.self.inside.levels c.build_top.ensures.ok c.build_top.ensures.err c.self.invariant.levels;
       covered = omega (arith, e, c.self.invariant.covered);
       rests = rests_build g.N.NameValue.built old new c.args.name top P c.build_top.result c.self.inside.rests.items c.build_top.ensures.ok c.build_top.ensures.err c.self.invariant.rests;
+      fingers = fingers_build g.N.NameValue.built old new c.args.name top P c.build_top.result c.self.inside.fingers c.build_top.ensures.ok c.build_top.ensures.err c.self.invariant.fingers;
     }

@@ -15,4 +15,5 @@ invariant_of-self g c =
       levels = levels_alike s.cells.held c.rename.new.self.held s.levels alike c.self.invariant.levels;
       covered = omega (arith, many, c.self.invariant.covered);
       rests = no_rests g.N.NameValue.built c.rename.new.self.held c.forget_rests.new.rests.items c.forget_rests.ensures;
+      fingers = c.let_go.ensures c.rename.new.self.held;
     }

@@ -1,6 +1,7 @@
 use Rattle.std.proofs.Common.{◌≡◌, false, subst, sym, ap, arith}
 use Rattle.kl1_store.specs.Held.{is_bound}
 use Rattle.kl1_store.specs.Hooks.{Kept}
+use Rattle.kl1_store.proofs.Fingering.{fingers_constant}
 use Rattle.kl1_store.proofs.Constants.{constant_free, kept_constant, took_constant}
 use Rattle.kl1_store.proofs.Resting.{rests_constant}
 use Rattle.kl1_store.proofs.store.Store.unify_constant.Goals as goal
@@ -18,6 +19,7 @@ invariant_of-self g c =
       levels = p.0;
       rests = rests_constant g.N.NameValue.built s.cells.held c.bind.new.self.held c.args.variable c.args.constant c.bind.result s.rests.items c.bind.ensures.ok c.bind.ensures.err c.self.invariant.rests;
       covered = let v = c.self.invariant.covered in omega (arith, p.1, v);
+      fingers = fingers_constant g.N.NameValue.built s.cells.held c.bind.new.self.held c.args.variable c.args.constant c.bind.result s.fingers c.bind.ensures.ok c.bind.ensures.err c.self.invariant.fingers;
     }
 
 pub returns-clause-unifies : goal.returns-clause-unifies
