@@ -1,6 +1,6 @@
 -- Shoens that are shown by their numbers.
 use Rattle.std.proofs.Common.{◌≡◌, ℕ, zero, suc, ◌+◌, ◌-◌, ◌<◌, ◌≤◌, ◌==◌, not, if◌then◌else◌, Bool, true, false, List, [], ◌∷◌, length, get_or, take, drop, ap, sym, subst, ◌∙◌, refl, arith}
-use Rattle.std.specs.Prelude.{find, unwrap_or, option_map, slice_get, None, Some}
+use Rattle.std.specs.Prelude.{find, unwrap_or, option_map, slice_get, Some}
 use Rattle.std.specs.declared.option.Option.{Option}
 use Rattle.std.proofs.lemmas.Bool.{eqb-true, eqb-false}
 use Rattle.std.proofs.lemmas.List.{take_all}
