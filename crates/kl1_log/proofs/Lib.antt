@@ -1,0 +1,11 @@
+pub mod LinesCut
+pub mod EntriesMore
+pub mod Fronts
+pub mod DeedsDone
+pub mod Growing
+pub mod Moments
+pub mod Renaming
+pub mod Restoring
+pub mod GrownFiles
+pub mod Batching
+pub mod Faults
