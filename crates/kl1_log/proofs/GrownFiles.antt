@@ -2,17 +2,19 @@
 use Rattle.std.proofs.Common.{◌≡◌, ◌⊎◌, ℕ, zero, suc, ◌+◌, ◌-◌, ◌≤◌, ◌<◌, ◌==◌, nat_lt, nat_le, Bool, true, false, if◌then◌else◌, List, [], ◌∷◌, ◌++◌, map, length, take, drop, refl, sym, ap, ◌∙◌, subst, arith, inl, inr, append_assoc}
 use Rattle.std.specs.Prelude.{Option, Some, None, option_map, replicate, codes}
 use Rattle.std.specs.List.{list_all, AllByRecursion}
+use Rattle.std.proofs.lemmas.Option.{same_Some}
 use Rattle.std.proofs.lemmas.Bool.{and_from, cases_lt, lt-ltb, le-ltb}
-use Rattle.std.proofs.lemmas.List.{append-nil, length-append, length-drop, length-map, drop_at, map-append, replicate-append-replicate}
+use Rattle.std.proofs.lemmas.List.{append-nil, length-append, length-drop, length-map, length-take, take_all, drop_at, map-append, replicate-append-replicate}
 use Rattle.kl1_model.specs.declared.rules.Rules.{Rules}
 use Rattle.kl1_model.specs.declared.limits.TheConstants.{MOST_LINE_BYTES}
 use Rattle.kl1_model_server.specs.Command.{written_line, written_lines}
 use Rattle.kl1_model_server.specs.Journal.{Entry, runs, Journal}
-use Rattle.kl1_model_server.specs.JournalText.{entry_line, name_line, heading_line, journal_lines, Lines, lines_of, entry_in, journal_of, journal_in}
+use Rattle.kl1_model_server.specs.JournalText.{entry_line, name_line, Heading, heading_in, heading_line, journal_lines, Lines, lines_of, entry_in, journal_of, journal_in}
 use Rattle.kl1_model_server.specs.laws.TextLaws.{HasLine, is_unbroken, IsWritten, journal_text}
 use Rattle.kl1_model_server.proofs.TextEntries.{entries_read_back}
 use Rattle.kl1_model_server.proofs.TextJournals.{journals_read_back}
 use Rattle.kl1_model_server.proofs.TextLines.{lines_of_lines}
+use Rattle.kl1_model_server.proofs.TextNames.{headings_read_back}
 use Rattle.kl1_model_server.proofs.TextUnbroken.{entry_unbroken}
 use Rattle.kl1_log.specs.declared.mark.Mark.{Mark}
 use Rattle.kl1_log.specs.Deeds.{deeds_of, deeds_of_entry, SaysSame, IsFile}
@@ -299,6 +301,14 @@ page_by old j m last more w mark l (inr p) page = page_goes_on old j m last more
 pub page_read : (old j : Journal) (m : Mark) (last : List ℕ) (more : List (List ℕ)) → IsWritten j → IsMark m old → IsLater old j → last ∷ more ≡ drop (m.lines - 1) (journal_lines j) → IsPage old j m.run last more
 page_read old j m last more w mark l page = page_by old j m last more w mark l (later_parts old.entries j.entries l.entries) page
 
+-- lines of which fewer were taken than might have been are all there are
+pub page_all : (old j : Journal) (m : Mark) (page : List (List ℕ)) (most : ℕ) → IsMark m old → page ≡ take most (drop (m.lines - 1) (journal_lines j)) → m.lines + length page ≤ most → page ≡ drop (m.lines - 1) (journal_lines j)
+page_all old j m page most mark is few =
+    let left = drop (m.lines - 1) (journal_lines j) in
+    let was = mark.lines in
+    let long = ap (length {A = List ℕ}) is in
+    is ∙ take_all most left (omega (arith, was, few, long, lines_count old, length-take most left))
+
 -- the file of the journal that has grown
 pub grown_file : (old j : Journal) (m : Mark) (text last : List ℕ) (more : List (List ℕ)) (bytes : List ℕ) → IsWritten j → last ∷ more ≡ drop (m.lines - 1) (journal_lines j) → bytes ≡ run_line m.run (run_of_line last) ++ written_lines more → IsMark m old → IsLater old j → IsFile text old → IsFile (text ++ bytes) j
 grown_file old j m text last more bytes w page put mark l f =
@@ -312,8 +322,8 @@ later_count (d ∷ ds) [] l = absurd l
 later_count (d ∷ ds) (e ∷ es) l = let less = later_count ds es l.1 in omega (arith, less)
 
 -- and up to where it is in its file
-pub grown_mark : (old j : Journal) (m : Mark) (last : List ℕ) (more : List (List ℕ)) (lines run : ℕ) → IsWritten j → last ∷ more ≡ drop (m.lines - 1) (journal_lines j) → lines ≡ m.lines + length more → run ≡ run_of_lines (last ∷ more) → IsMark m old → IsLater old j → IsMark (record { lines = lines; run = run }) j
-grown_mark old j m last more lines run w page count newest mark l =
+pub grown_mark : (old j : Journal) (m : Mark) (last : List ℕ) (more : List (List ℕ)) (end run : ℕ) → IsWritten j → last ∷ more ≡ drop (m.lines - 1) (journal_lines j) → end ≡ m.lines + length (last ∷ more) → run ≡ run_of_lines (last ∷ more) → IsMark m old → IsLater old j → IsMark (record { lines = end - 1; run = run }) j
+grown_mark old j m last more end run w page count newest mark l =
     let p = page_read old j m last more w mark l page in
     let was = mark.lines in
     let names = ap (length {A = List ℕ}) l.names in
@@ -340,6 +350,13 @@ shut j = record j { sessions = 0 }
 
 shut_written : (j : Journal) → IsWritten j → IsWritten (shut j)
 shut_written j w = record { sessions = omega arith; names = w.names; entries = w.entries }
+
+-- the number of names that the first line tells
+pub names_told : (j : Journal) (first : List ℕ) (more : List (List ℕ)) (h : Heading) → IsWritten j → first ∷ more ≡ journal_lines j → Some h ≡ heading_in first → h.names ≡ length j.names
+names_told j first more h w page read =
+    let is = first_is first (heading_line j.rules j.sessions (length j.names)) more (map name_line j.names ++ map entry_line j.entries) page in
+    let back = headings_read_back j.rules j.sessions (length j.names) w.sessions w.names.few in
+    ap (λ (x : Heading). x.names) (same_Some h (record { rules = j.rules; sessions = j.sessions; names = length j.names }) (read ∙ ap heading_in is ∙ back))
 
 pub begun_file : (j : Journal) (first : List ℕ) (more : List (List ℕ)) (bytes : List ℕ) → IsWritten j → first ∷ more ≡ journal_lines j → bytes ≡ written_line (heading_line j.rules 0 (length j.names)) ++ written_lines more → IsFile bytes j
 begun_file j first more bytes w page put =

@@ -7,5 +7,8 @@ pub mod Moments
 pub mod Renaming
 pub mod Restoring
 pub mod GrownFiles
+pub mod LinesPut
 pub mod Batching
 pub mod Faults
+pub mod Courses
+pub mod Waits

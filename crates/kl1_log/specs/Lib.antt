@@ -4,6 +4,7 @@ pub mod Cuts
 pub mod Files
 pub mod Batches
 pub mod Memories
+pub mod FolderFiles
 pub mod Waits
 pub mod Receipts
 pub mod LogFiles

@@ -1,9 +1,9 @@
 -- What a file in memory shows.
-use Rattle.std.specs.Prelude.{ℕ, Bool, List, ◌++◌, map, reverse, option_map}
-use Rattle.kl1_log.specs.declared.memory.Image.{Image}
-use Rattle.kl1_log.specs.declared.memory.Snapshot.{Snapshot}
+use Rattle.std.specs.Prelude.{Bool, map, reverse, option_map}
+use Rattle.kl1_log.specs.declared.snapshot.Image.{Image}
+use Rattle.kl1_log.specs.declared.snapshot.Snapshot.{Snapshot}
 use Rattle.kl1_log.specs.declared.memory.Memory.{Memory}
-use Rattle.kl1_log.specs.Files.{Bytes, FileState, Course, content}
+use Rattle.kl1_log.specs.Files.{Bytes, FileState, Course}
 
 -- its bytes
 abbrev pub bytes_of : Image → Bytes
@@ -16,10 +16,6 @@ state_of s = record { now = bytes_of s.held; before = option_map bytes_of s.befo
 -- its states, the last first
 abbrev pub course_of : Memory → Course
 course_of m = record { now = state_of m.state; past = reverse (map state_of m.past.items) }
-
--- what a read gives
-abbrev pub memory_bytes : Memory → List ℕ
-memory_bytes m = content (bytes_of m.state.held)
 
 -- whether no call has failed
 abbrev pub is_usable_memory : Memory → Bool

@@ -1,5 +1,8 @@
 // A journal's file in a folder of the system.
 
+ghost use Rattle.std.specs.Prelude.{◌≡◌, true, IfOk};
+ghost use Rattle.kl1_log.specs.FolderFiles.{is_usable_file};
+
 use crate::disk::Disk;
 use std::alloc::Global;
 use std::fs::{self, OpenFile, OpenOptions};
@@ -39,6 +42,7 @@ impl<R: Files> FolderFile<R> {
     pub fn open(rt: R, alloc: Global, folder: &str, name: &str) -> io::Result<Self>
     where
         R: Drop,
+        ensures { IfOk result (λ f. is_usable_file f ≡ true) }
     {
         let path = format!(in alloc; "{folder}/{name}.journal")?;
         let next_path = format!(in alloc; "{folder}/{name}.journal.new")?;
@@ -57,16 +61,6 @@ impl<R: Files> FolderFile<R> {
             next: None,
             usable: true,
         })
-    }
-
-    /// The file, if there is one.
-    fn file(&mut self) -> io::Result<&mut R::File> {
-        self.file.as_mut().ok_or(missing())
-    }
-
-    /// The new file, if there is one.
-    fn next(&mut self) -> io::Result<&mut R::File> {
-        self.next.as_mut().ok_or(missing())
     }
 
     /// Removes what was left of a new file, if there is something.
@@ -102,21 +96,21 @@ impl<R: Files> Disk for FolderFile<R> {
 
     fn append(&mut self, bytes: &[u8]) -> io::Result<()> {
         self.usable = false;
-        self.file()?.write_all(bytes)?;
+        self.file.as_mut().ok_or(missing())?.write_all(bytes)?;
         self.usable = true;
         Ok(())
     }
 
     fn sync(&mut self) -> io::Result<()> {
         self.usable = false;
-        self.file()?.sync_data()?;
+        self.file.as_mut().ok_or(missing())?.sync_data()?;
         self.usable = true;
         Ok(())
     }
 
     fn cut(&mut self, len: usize) -> io::Result<()> {
         self.usable = false;
-        let file = self.file()?;
+        let file = self.file.as_mut().ok_or(missing())?;
         file.set_len(len as u64)?;
         file.sync_all()?;
         self.folder.sync_all()?;
@@ -136,7 +130,7 @@ impl<R: Files> Disk for FolderFile<R> {
 
     fn sync_next(&mut self) -> io::Result<()> {
         self.usable = false;
-        self.next()?.sync_all()?;
+        self.next.as_mut().ok_or(missing())?.sync_all()?;
         self.usable = true;
         Ok(())
     }

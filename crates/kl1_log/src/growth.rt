@@ -52,8 +52,10 @@ fn run_of(alloc: Global, line: &[u8]) -> Result<u64, AllocError>
 fn put_lines(out: &mut Vec<u8>, lines: &[Vec<u8>]) -> Result<(), AllocError>
     ensures { OnOk result (out.new.items ≡ out.old.items ++ written_lines (map (λ t. t.items) lines.now)) }
 {
-    for line in lines {
-        put_line(out, line)?;
+    let mut rest = lines;
+    while let [first, others @ ..] = rest {
+        put_line(out, first)?;
+        rest = others;
     }
     Ok(())
 }
@@ -93,6 +95,8 @@ pub fn grown(alloc: Global, journal: &Journal, mark: Mark) -> Result<Growth, All
     // This is called for the fact that it proves: the journal has a text that reads back.
     journal.shows_written();
     let page = journal.page(alloc, mark.lines, u64::MAX)?;
+    // Fewer lines than were asked for are all that are left.
+    let end = mark.lines.checked_add(page.len() as u64).ok_or(AllocError)?;
     let mut bytes = Vec::new(alloc);
     let [last, more @ ..] = page.texts() else {
         return Ok(Growth { bytes, mark });
@@ -100,10 +104,12 @@ pub fn grown(alloc: Global, journal: &Journal, mark: Mark) -> Result<Growth, All
     put_longer(&mut bytes, mark.run, run_of(alloc, last)?)?;
     put_lines(&mut bytes, more)?;
     let run = last_run_of(alloc, page.texts())?;
-    let lines = mark.lines.checked_add(more.len() as u64).ok_or(AllocError)?;
     Ok(Growth {
         bytes,
-        mark: Mark { lines, run },
+        mark: Mark {
+            lines: end - 1,
+            run,
+        },
     })
 }
 

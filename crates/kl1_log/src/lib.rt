@@ -17,6 +17,7 @@ mod receipt;
 mod recovery;
 mod reopening;
 mod scribe;
+mod snapshot;
 mod waiting;
 
 pub use batch::Batch;

@@ -1,27 +1,13 @@
 // A journal's file in memory, for tests.
 
-ghost use Rattle.std.specs.Prelude.{◌≡◌, true, IfSome, OnOk, OnErr, IfOk, is_ok, option_map};
-ghost use Rattle.kl1_log.specs.Files.{MayLeave, content, settled, loosened, states};
-ghost use Rattle.kl1_log.specs.Memories.{bytes_of, state_of, course_of, memory_bytes, is_usable_memory};
+ghost use Rattle.std.specs.Prelude.{◌≡◌, ◌≤◌, [], true, false, None, IfSome, OnOk, OnErr, IfOk, is_ok};
+ghost use Rattle.kl1_log.specs.Files.{MayLeave, settled, states};
+ghost use Rattle.kl1_log.specs.Memories.{state_of, course_of, is_usable_memory};
 
 use crate::disk::Disk;
+use crate::snapshot::{Image, Snapshot};
 use std::alloc::{AllocError, Global};
 use std::{io, mem};
-
-/// Bytes of a file: those on the disk, and those after them that aren't yet.
-#[derive(Drop)]
-pub(crate) struct Image {
-    synced: Vec<u8>,
-    pending: Vec<u8>,
-}
-
-/// What stands under a name, what a crash may bring back there, and what stands beside it.
-#[derive(Drop)]
-pub(crate) struct Snapshot {
-    held: Image,
-    before: Option<Image>,
-    next: Option<Image>,
-}
 
 /// A journal's file in memory, which keeps all its states. It fails once it has done as much as it may: a call costs 1, and so does each
 /// byte that is written.
@@ -34,57 +20,6 @@ pub struct Memory {
     usable: bool,
 }
 
-/// Bytes once more.
-fn copy_of(alloc: Global, image: &Image) -> Result<Image, AllocError>
-    ensures { IfOk result (λ copy. bytes_of copy ≡ bytes_of image.now) }
-{
-    let synced = Vec::from_slice(alloc, &image.synced)?;
-    let pending = Vec::from_slice(alloc, &image.pending)?;
-    Ok(Image { synced, pending })
-}
-
-/// Bytes once more, if there are some.
-fn copy_if(alloc: Global, image: &Option<Image>) -> Result<Option<Image>, AllocError>
-    ensures { IfOk result (λ copy. option_map bytes_of copy ≡ option_map bytes_of image.now) }
-{
-    match image {
-        None => Ok(None),
-        Some(image) => Ok(Some(copy_of(alloc, image)?)),
-    }
-}
-
-/// A state once more.
-fn snapshot_of(alloc: Global, snapshot: &Snapshot) -> Result<Snapshot, AllocError>
-    ensures { IfOk result (λ copy. state_of copy ≡ state_of snapshot.now) }
-{
-    let held = copy_of(alloc, &snapshot.held)?;
-    let before = copy_if(alloc, &snapshot.before)?;
-    let next = copy_if(alloc, &snapshot.next)?;
-    Ok(Snapshot { held, before, next })
-}
-
-/// Puts the bytes that aren't on the disk yet after those that are.
-fn settle(image: &mut Image) -> Result<(), AllocError>
-    ensures { OnOk result (bytes_of image.new ≡ settled (content (bytes_of image.old))) }
-{
-    image.synced.extend_from_slice(&image.pending)?;
-    image.pending.clear();
-    Ok(())
-}
-
-/// Takes as sure only the first `len` of the bytes on the disk.
-fn loosen(alloc: Global, image: &mut Image, len: usize) -> Result<(), AllocError>
-    ensures { OnOk result (bytes_of image.new ≡ loosened len (bytes_of image.old)) }
-{
-    if len < image.synced.len() {
-        let mut pending = Vec::from_slice(alloc, &image.synced[len..])?;
-        pending.extend_from_slice(&image.pending)?;
-        image.pending = pending;
-        image.synced.truncate(len);
-    }
-    Ok(())
-}
-
 /// What a failed call tells.
 fn failure() -> io::Error {
     io::Error::from(io::ErrorKind::Other)
@@ -93,27 +28,45 @@ fn failure() -> io::Error {
 impl Memory {
     /// A file with these bytes, all of them on the disk, which does `left` calls and bytes.
     pub fn new(alloc: Global, bytes: Vec<u8>, left: usize) -> Self
-        ensures bytes { memory_bytes result ≡ bytes.items }
+        ensures course { course_of result ≡ record { now = record { now = settled bytes.items; before = None; next = None }; past = [] } }
         ensures usable { is_usable_memory result ≡ true }
     {
-        let held = Image {
-            synced: bytes,
-            pending: Vec::new(alloc),
-        };
         Memory {
             alloc,
-            state: Snapshot {
-                held,
-                before: None,
-                next: None,
-            },
+            state: Snapshot::of(Image::on_disk(alloc, bytes)),
             past: Vec::new(alloc),
             left,
             usable: true,
         }
     }
 
+    /// Takes what a call costs. Until the call is done the file isn't usable.
+    fn begin(&mut self) -> io::Result<()>
+        ensures course { course_of self.new ≡ course_of self.old }
+        ensures usable { is_usable_memory self.new ≡ false }
+    {
+        self.usable = false;
+        if self.left == 0 {
+            return Err(failure());
+        }
+        self.left -= 1;
+        Ok(())
+    }
+
+    /// How many of `most` bytes are written: each costs 1. Until the call is done the file isn't usable.
+    fn count(&mut self, most: usize) -> usize
+        ensures course { course_of self.new ≡ course_of self.old }
+        ensures usable { is_usable_memory self.new ≡ false }
+        ensures most { result ≤ most }
+    {
+        self.usable = false;
+        let count = most.min(self.left);
+        self.left -= count;
+        count
+    }
+
     /// Comes to another state.
+    #[tactic(auto, using(crate::proofs::Courses::one_more))]
     fn go_to(&mut self, next: Snapshot) -> Result<(), AllocError>
         ensures ok { OnOk result (course_of self.new ≡ record { now = state_of next; past = states (course_of self.old) }) }
         ensures err { OnErr result (course_of self.new ≡ course_of self.old) }
@@ -124,16 +77,14 @@ impl Memory {
         Ok(())
     }
 
-    /// Takes what a call costs, after which it may be done.
-    fn pay(&mut self) -> io::Result<()>
-        ensures course { course_of self.new ≡ course_of self.old }
+    /// Comes to another state, with which a call is done.
+    fn end(&mut self, next: Snapshot) -> io::Result<()>
+        requires { is_usable_memory self.old ≡ false }
+        ensures ok { OnOk result (course_of self.new ≡ record { now = state_of next; past = states (course_of self.old) }) }
+        ensures err { OnErr result (course_of self.new ≡ course_of self.old) }
         ensures usable { is_usable_memory self.new ≡ is_ok result }
     {
-        self.usable = false;
-        if self.left == 0 {
-            return Err(failure());
-        }
-        self.left -= 1;
+        self.go_to(next)?;
         self.usable = true;
         Ok(())
     }
@@ -143,18 +94,7 @@ impl Memory {
     pub fn left_by_crash(&self, pending: usize, undone: bool) -> Result<Option<Vec<u8>>, AllocError>
         ensures { IfOk result (λ left. IfSome left (λ bytes. MayLeave (course_of self.now).now bytes.items)) }
     {
-        let image = if undone {
-            match &self.state.before {
-                None => return Ok(None),
-                Some(image) => image,
-            }
-        } else {
-            &self.state.held
-        };
-        let count = pending.min(image.pending.len());
-        let mut bytes = Vec::from_slice(self.alloc, &image.synced)?;
-        bytes.extend_from_slice(&image.pending[..count])?;
-        Ok(Some(bytes))
+        self.state.left(self.alloc, pending, undone)
     }
 }
 
@@ -171,104 +111,65 @@ impl Disk for Memory {
     }
 
     fn read(&mut self, alloc: Global) -> io::Result<Vec<u8>> {
-        self.pay()?;
-        self.usable = false;
-        let mut bytes = Vec::from_slice(alloc, &self.state.held.synced)?;
-        bytes.extend_from_slice(&self.state.held.pending)?;
+        self.begin()?;
+        let bytes = self.state.held().content(alloc)?;
         self.usable = true;
         Ok(bytes)
     }
 
     fn append(&mut self, bytes: &[u8]) -> io::Result<()> {
-        self.usable = false;
-        let count = bytes.len().min(self.left);
-        self.left -= count;
-        let mut next = snapshot_of(self.alloc, &self.state)?;
-        next.held.pending.extend_from_slice(&bytes[..count])?;
+        let count = self.count(bytes.len());
+        let next = self.state.appended(self.alloc, &bytes[..count])?;
         self.go_to(next)?;
         if count < bytes.len() {
             return Err(failure());
         }
-        self.pay()
+        self.begin()?;
+        self.usable = true;
+        Ok(())
     }
 
     fn sync(&mut self) -> io::Result<()> {
-        self.pay()?;
-        self.usable = false;
-        let mut next = snapshot_of(self.alloc, &self.state)?;
-        settle(&mut next.held)?;
-        self.go_to(next)?;
-        self.usable = true;
-        Ok(())
+        self.begin()?;
+        let next = self.state.synced(self.alloc)?;
+        self.end(next)
     }
 
     fn cut(&mut self, len: usize) -> io::Result<()> {
-        self.pay()?;
-        self.usable = false;
-        let mut loose = snapshot_of(self.alloc, &self.state)?;
-        loosen(self.alloc, &mut loose.held, len)?;
-        let mut next = snapshot_of(self.alloc, &self.state)?;
-        settle(&mut next.held)?;
-        next.held.synced.truncate(len);
-        self.past.reserve(2)?;
+        self.begin()?;
+        let loose = self.state.loosened(self.alloc, len)?;
+        let next = self.state.cut(self.alloc, len)?;
         self.go_to(loose)?;
-        self.go_to(next)?;
-        self.usable = true;
-        Ok(())
+        self.end(next)
     }
 
     fn write_next(&mut self, bytes: &[u8]) -> io::Result<()> {
-        self.usable = false;
-        let count = bytes.len().min(self.left);
-        self.left -= count;
-        let mut next = snapshot_of(self.alloc, &self.state)?;
-        let pending = Vec::from_slice(self.alloc, &bytes[..count])?;
-        next.next = Some(Image {
-            synced: Vec::new(self.alloc),
-            pending,
-        });
+        let count = self.count(bytes.len());
+        let next = self.state.with_next(self.alloc, &bytes[..count])?;
         self.go_to(next)?;
         if count < bytes.len() {
             return Err(failure());
         }
-        self.pay()
+        self.begin()?;
+        self.usable = true;
+        Ok(())
     }
 
     fn sync_next(&mut self) -> io::Result<()> {
-        self.pay()?;
-        self.usable = false;
-        let mut next = snapshot_of(self.alloc, &self.state)?;
-        if let Some(image) = &mut next.next {
-            settle(image)?;
-        }
-        self.go_to(next)?;
-        self.usable = true;
-        Ok(())
+        self.begin()?;
+        let next = self.state.next_synced(self.alloc)?;
+        self.end(next)
     }
 
     fn rename(&mut self) -> io::Result<()> {
-        self.pay()?;
-        self.usable = false;
-        let Snapshot { held, next, .. } = snapshot_of(self.alloc, &self.state)?;
-        let Some(new) = next else {
-            return Err(failure());
-        };
-        self.go_to(Snapshot {
-            held: new,
-            before: Some(held),
-            next: None,
-        })?;
-        self.usable = true;
-        Ok(())
+        self.begin()?;
+        let next = self.state.renamed(self.alloc)?;
+        self.end(next)
     }
 
     fn sync_folder(&mut self) -> io::Result<()> {
-        self.pay()?;
-        self.usable = false;
-        let mut next = snapshot_of(self.alloc, &self.state)?;
-        next.before = None;
-        self.go_to(next)?;
-        self.usable = true;
-        Ok(())
+        self.begin()?;
+        let next = self.state.folder_synced(self.alloc)?;
+        self.end(next)
     }
 }

@@ -53,11 +53,7 @@ impl Waiting {
     {
         let Growth { bytes, mark } = grown(self.alloc, journal, self.mark)?;
         let noted = self.noted.checked_add(1).ok_or(AllocError)?;
-        match &mut self.change {
-            Change::Appends(waiting) | Change::Begins(waiting) => waiting.extend_from_slice(
-                &bytes,
-            )?,
-        }
+        self.change.extend(&bytes)?;
         self.mark = mark;
         self.noted = noted;
         Ok(())
