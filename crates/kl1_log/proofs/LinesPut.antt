@@ -1,10 +1,11 @@
 -- Lines that are put, and lines that were read, one by one.
-use Rattle.std.proofs.Common.{◌≡◌, ℕ, suc, ◌+◌, ◌^◌, ◌≤◌, ◌<◌, List, [], ◌∷◌, ◌++◌, map, length, get_or, drop, refl, sym, ap, ◌∙◌, subst, arith, append_assoc}
+use Rattle.std.proofs.Common.{◌≡◌, ℕ, suc, ◌+◌, ◌-◌, ◌^◌, ◌≤◌, ◌<◌, List, [], ◌∷◌, ◌++◌, map, length, get_or, take, drop, refl, sym, ap, ◌∙◌, subst, arith, append_assoc}
 use Rattle.std.specs.Prelude.{Option, Some, Result, Ok, Err, IfOk, Vec, codes}
 use Rattle.std.specs.Option.{SomeIff}
 use Rattle.std.specs.declared.alloc.Global.{Global}
 use Rattle.std.specs.Fmt.{decimal}
 use Rattle.std.proofs.lemmas.Fmt.{decimal_digit}
+use Rattle.std.proofs.lemmas.List.{take_all}
 use Rattle.kl1_model.specs.declared.rules.Rules.{Rules}
 use Rattle.kl1_model_server.specs.Command.{written_line, written_lines}
 use Rattle.kl1_model_server.specs.JournalText.{version, heading_line}
@@ -14,13 +15,19 @@ use Rattle.kl1_log.specs.Later.{run_of_line, run_of_lines, run_line}
 abbrev pub bytes_in : List (Vec ℕ Global) → List (List ℕ)
 bytes_in ts = map (λ t. t.items) ts
 
+-- the items after the first
+abbrev pub others : {X : Type 0} → List X → List X
+others xs = take (length xs - 1) (drop 1 xs)
+
 -- a list by its first item and the others
-pub first_and_others : {X : Type 0} (xs : List X) (x : X) → 1 ≤ length xs → x ≡ get_or xs 0 x → x ∷ drop 1 xs ≡ xs
+first_and_others : {X : Type 0} (xs : List X) (x : X) → 1 ≤ length xs → x ≡ get_or xs 0 x → x ∷ others xs ≡ xs
 first_and_others [] x some is = absurd (omega (arith, some))
-first_and_others {X = X} (y ∷ ys) x some is = ap (λ (z : X). z ∷ ys) is
+first_and_others {X = X} (y ∷ ys) x some is =
+    let count : suc (length ys) - 1 ≡ length ys = omega arith in
+    ap (λ (z : X). z ∷ take (suc (length ys) - 1) ys) is ∙ ap (λ (n : ℕ). y ∷ take n ys) count ∙ ap (λ (zs : List X). y ∷ zs) (take_all (length ys) ys (omega arith))
 
 -- texts by the first of them and the others
-pub texts_split : (ts : List (Vec ℕ Global)) (t : Vec ℕ Global) (page : List (List ℕ)) → 1 ≤ length ts → t ≡ get_or ts 0 t → bytes_in ts ≡ page → t.items ∷ bytes_in (drop 1 ts) ≡ page
+pub texts_split : (ts : List (Vec ℕ Global)) (t : Vec ℕ Global) (page : List (List ℕ)) → 1 ≤ length ts → t ≡ get_or ts 0 t → bytes_in ts ≡ page → t.items ∷ bytes_in (others ts) ≡ page
 texts_split ts t page some is all = ap bytes_in (first_and_others ts t some is) ∙ all
 
 pub no_texts : (ts : List (Vec ℕ Global)) (page : List (List ℕ)) → length ts < 1 → bytes_in ts ≡ page → [] ≡ page

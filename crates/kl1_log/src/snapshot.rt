@@ -130,19 +130,6 @@ impl Snapshot {
         Ok(Snapshot { held, before, next })
     }
 
-    /// The same with another new file beside it.
-    fn beside(&self, alloc: Global, next: Image) -> Result<Self, AllocError>
-        ensures { IfOk result (λ s. state_of s ≡ record (state_of self.now) { next = Some (bytes_of next) }) }
-    {
-        let held = self.held.copied(alloc)?;
-        let before = copied_if(alloc, &self.before)?;
-        Ok(Snapshot {
-            held,
-            before,
-            next: Some(next),
-        })
-    }
-
     /// What it is after bytes were written after the others.
     pub(crate) fn appended(&self, alloc: Global, bytes: &[u8]) -> Result<Self, AllocError>
         ensures { IfOk result (λ s. Appended bytes.now (state_of self.now) (state_of s)) }
@@ -180,8 +167,14 @@ impl Snapshot {
     pub(crate) fn with_next(&self, alloc: Global, bytes: &[u8]) -> Result<Self, AllocError>
         ensures { IfOk result (λ s. NextWritten bytes.now (state_of self.now) (state_of s)) }
     {
+        let held = self.held.copied(alloc)?;
+        let before = copied_if(alloc, &self.before)?;
         let next = Image::written(alloc, bytes)?;
-        self.beside(alloc, next)
+        Ok(Snapshot {
+            held,
+            before,
+            next: Some(next),
+        })
     }
 
     /// What it is after a sync of the new file; there has to be one.
@@ -190,7 +183,13 @@ impl Snapshot {
     {
         let next = self.next.as_ref().ok_or(AllocError)?;
         let bytes = next.content(alloc)?;
-        self.beside(alloc, Image::on_disk(alloc, bytes))
+        let held = self.held.copied(alloc)?;
+        let before = copied_if(alloc, &self.before)?;
+        Ok(Snapshot {
+            held,
+            before,
+            next: Some(Image::on_disk(alloc, bytes)),
+        })
     }
 
     /// What it is after the new file got the name; there has to be one.

@@ -11,7 +11,7 @@ pub(crate) const TEXT: &[u8] =
 pub(crate) const OPENING: usize = 3;
 
 /// How many line feeds there are in bytes, and how many bytes there are up to the last of them.
-fn counted(bytes: &[u8]) -> (usize, usize) {
+pub(crate) fn counted(bytes: &[u8]) -> (usize, usize) {
     let mut feeds = 0usize;
     let mut upto = 0usize;
     for (place, byte) in bytes.iter().enumerate() {

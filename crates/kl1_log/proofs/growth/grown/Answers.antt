@@ -1,7 +1,7 @@
-use Rattle.std.proofs.Common.{◌≡◌, ◌+◌, ◌-◌, ◌≤◌, ◌<◌, ◌^◌, ◌∷◌, length, drop, sym, ap, ◌∙◌, arith, length-map}
+use Rattle.std.proofs.Common.{◌≡◌, ◌+◌, ◌-◌, ◌≤◌, ◌<◌, ◌^◌, ◌∷◌, length, sym, ap, ◌∙◌, arith}
 use Rattle.kl1_model_server.specs.JournalText.{journal_lines}
 use Rattle.kl1_log.specs.Later.{run_of_lines}
-use Rattle.kl1_log.proofs.LinesPut.{bytes_in, texts_split, no_texts, counted, grown_put}
+use Rattle.kl1_log.proofs.LinesPut.{bytes_in, others, texts_split, no_texts, counted, grown_put}
 use Rattle.kl1_log.proofs.GrownFiles.{page_all, page_some, grown_file, grown_mark}
 use Rattle.kl1_log.proofs.growth.grown.Goals as goal
 
@@ -32,7 +32,7 @@ returns-clause-file c = λ old text mark later file.
     let j = c.args.journal.now.journal in
     let m = c.args.mark in
     let last = c.last-item.result.items in
-    let more = bytes_in (drop 1 c.texts.result.now) in
+    let more = bytes_in (others c.texts.result.now) in
     let page = c.in_ok-page.page in
     let sum = counted c.checked_add.result c.in_ok-end.end m.lines c.len.result c.in_ok-end.ensures.ok_part c.checked_add.ensures in
     let fits : m.lines + length page ≤ 18446744073709551615 = omega (arith, sum.0, c.len.ensures) in
@@ -46,7 +46,7 @@ returns-clause-mark c = λ old mark later.
     let j = c.args.journal.now.journal in
     let m = c.args.mark in
     let last = c.last-item.result.items in
-    let more = bytes_in (drop 1 c.texts.result.now) in
+    let more = bytes_in (others c.texts.result.now) in
     let page = c.in_ok-page.page in
     let sum = counted c.checked_add.result c.in_ok-end.end m.lines c.len.result c.in_ok-end.ensures.ok_part c.checked_add.ensures in
     let fits : m.lines + length page ≤ 18446744073709551615 = omega (arith, sum.0, c.len.ensures) in
