@@ -51,11 +51,11 @@ cut_failed (Some c) (Some y) text n is none at (inl d) = record {
 cut_failed (Some c) l text n is none at (inr same) = subst (λ (x : Known). AtAnyMoment (Some c) x (IsLeftOfCut (Some c))) (sym same) (record { since = []; are = refl; each = tt })
 
 -- what is less sure is the same
+pub loose_bytes : (b : Bytes) (n : ℕ) → content (loosened n b) ≡ content b
+loose_bytes b n = sym (append_assoc (take n b.synced) (drop n b.synced) b.pending) ∙ ap (λ (x : List ℕ). x ++ b.pending) (take-append-drop n b.synced)
+
 loose_content : (s t : FileState) (n : ℕ) → Loosened n s t → content t.now ≡ content s.now
-loose_content s t n is =
-    ap (λ (x : FileState). content x.now) is
-    ∙ sym (append_assoc (take n s.now.synced) (drop n s.now.synced) s.now.pending)
-    ∙ ap (λ (x : List ℕ). x ++ s.now.pending) (take-append-drop n s.now.synced)
+loose_content s t n is = ap (λ (x : FileState). content x.now) is ∙ loose_bytes s.now n
 
 loose_before : (s t : FileState) (n : ℕ) → s.before ≡ None → Loosened n s t → t.before ≡ None
 loose_before s t n none is = ap (λ (x : FileState). x.before) is ∙ none

@@ -181,7 +181,9 @@ impl Snapshot {
     pub(crate) fn next_synced(&self, alloc: Global) -> Result<Self, AllocError>
         ensures { IfOk result (λ s. NextSynced (state_of self.now) (state_of s)) }
     {
-        let next = self.next.as_ref().ok_or(AllocError)?;
+        let Some(next) = &self.next else {
+            return Err(AllocError);
+        };
         let bytes = next.content(alloc)?;
         let held = self.held.copied(alloc)?;
         let before = copied_if(alloc, &self.before)?;

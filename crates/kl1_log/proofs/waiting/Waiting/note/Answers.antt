@@ -1,6 +1,4 @@
 use Rattle.std.proofs.Common.{ℕ, List, ◌++◌, ap, ◌∙◌}
-use Rattle.std.specs.Prelude.{Vec}
-use Rattle.std.specs.declared.alloc.Global.{Global}
 use Rattle.kl1_log.specs.Batches.{text_after}
 use Rattle.kl1_log.proofs.Waits.{same_file}
 use Rattle.kl1_log.proofs.waiting.Waiting.note.Goals as goal
@@ -11,7 +9,7 @@ returns-clause-ok c = λ text old up later.
     record {
       file =
           same_file (front ++ c.in_ok-bytes.field-0.bytes.items) (text_after text c.extend.new.self) c.args.journal.now.journal
-          (c.in_ok-extend.ensures.ok text ∙ ap (λ (x : List ℕ). front ++ x) (c.deref.ensures.value ∙ ap (λ (v : Vec ℕ Global). v.items) c.in_ok-bytes.bytes-is))
+          (c.in_ok-extend.ensures.ok text ∙ ap (λ (x : List ℕ). front ++ x) c.deref.ensures.value)
           (c.in_ok-bytes.ensures.file old front up.mark later up.file);
       mark = c.in_ok-bytes.ensures.mark old up.mark later;
     }
