@@ -41,7 +41,11 @@ fn is_restored<R: Files>(rt: &R, alloc: Global, bytes: &[u8]) -> io::Result<bool
     let (front, last, change) = match found {
         Found::Whole { bytes: whole, .. } if whole == upto => {
             let entry = Vec::from_slice(alloc, ENTRY)?;
-            (&bytes[..whole], ENTRY, Change::Appends(entry))
+            (
+                bytes.get(..whole).unwrap_or(bytes),
+                ENTRY,
+                Change::Appends(entry),
+            )
         }
         Found::Unopened if feeds < OPENING => {
             let heading = Vec::from_slice(alloc, HEADING)?;

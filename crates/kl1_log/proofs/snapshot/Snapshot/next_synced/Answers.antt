@@ -11,5 +11,5 @@ returns c =
       next,
       ap (option_map bytes_of) c.in-Some.is,
       same_states (bytes_of c.in_ok-held.held) (bytes_of c.args.self.now.held) (option_map bytes_of c.in_ok-before.before) (option_map bytes_of c.args.self.now.before) (Some (bytes_of c.on_disk.result)) (Some (settled (content next))) c.in_ok-held.ensures c.in_ok-before.ensures
-      (ap (λ (b : Bytes). let o : Option Bytes = Some b in o) (c.on_disk.ensures ∙ ap settled c.in_ok-bytes.ensures)),
+          (ap (λ (b : Bytes). let o : Option Bytes = Some b in o) (c.on_disk.ensures ∙ ap settled c.in_ok-bytes.ensures)),
     )
