@@ -1,14 +1,13 @@
 -- What deeds do, one after another.
-use Rattle.std.proofs.Common.{◌≡◌, ℕ, zero, suc, ◌+◌, Bool, true, false, if◌then◌else◌, List, [], ◌∷◌, ◌++◌, length, take, drop, refl, sym, ap, ◌∙◌, append_assoc}
+use Rattle.std.proofs.Common.{◌≡◌, ℕ, zero, suc, Bool, true, false, if◌then◌else◌, List, [], ◌∷◌, ◌++◌, length, take, drop, refl, sym, ap, ◌∙◌, append_assoc}
 use Rattle.std.specs.Prelude.{replicate}
 use Rattle.std.proofs.Math.Seq.{take-append_seam}
 use Rattle.std.proofs.lemmas.List.{take-append-drop}
 use Rattle.kl1_model.specs.State.{State, has_runs, fresh_with}
 use Rattle.kl1_model.specs.Event.{Transition, syntax, refuse}
-use Rattle.kl1_model_server.specs.Journal.{Entry, loads, starts, sends, steps, answers, runs, first_step, first_steps, entry_step, Journal}
+use Rattle.kl1_model_server.specs.Journal.{Entry, loads, starts, sends, steps, answers, runs, first_step, first_steps, entry_step}
 use Rattle.kl1_model_server.proofs.RulesKept.{entry_rules}
-use Rattle.kl1_log.specs.Deeds.{deeds_of_entry, deeds_of, after_entries, account_after, SaysSame}
-use Rattle.kl1_log.specs.Cuts.{front_of}
+use Rattle.kl1_log.specs.Deeds.{deeds_of_entry, deeds_of, after_entries}
 use Rattle.kl1_log.specs.laws.LogLaws.{ReplaysOfFronts}
 
 -- deeds after others

@@ -1,19 +1,19 @@
 -- What is recovered from a journal's file that is cut, or that is being made longer.
-use Rattle.std.proofs.Common.{◌≡◌, ℕ, zero, suc, ◌+◌, ◌≤◌, ◌-◌, min, Bool, true, List, [], ◌∷◌, ◌++◌, map, length, take, refl, sym, ap, ◌∙◌, subst, arith, append_assoc}
+use Rattle.std.proofs.Common.{◌≡◌, ℕ, zero, suc, ◌+◌, ◌≤◌, ◌-◌, min, List, [], ◌∷◌, ◌++◌, map, length, take, refl, sym, ap, ◌∙◌, subst, arith}
 use Rattle.std.specs.Prelude.{Option, Some, None, option_map}
 use Rattle.std.specs.List.{AllByRecursion}
 use Rattle.std.proofs.Math.Seq.{take-append-add, take-append_seam}
-use Rattle.std.proofs.lemmas.List.{append-nil, length-append, length-map, length-take, take_all}
+use Rattle.std.proofs.lemmas.List.{append-nil, length-append, length-map}
 use Rattle.std.proofs.lemmas.Option.{none-some, same_Some}
 use Rattle.kl1_model_server.specs.Command.{written_lines}
-use Rattle.kl1_model_server.specs.Journal.{Entry, Journal, new_journal}
-use Rattle.kl1_model_server.specs.JournalText.{entry_line, name_line, heading_line, journal_lines, Lines, lines_of, entries_in, journal_of, journal_in}
-use Rattle.kl1_model_server.specs.laws.TextLaws.{HasLine, is_unbroken, IsWritten, journal_text}
+use Rattle.kl1_model_server.specs.Journal.{Entry, Journal}
+use Rattle.kl1_model_server.specs.JournalText.{entry_line, name_line, heading_line, journal_lines, Lines, lines_of, entries_in, journal_of}
+use Rattle.kl1_model_server.specs.laws.TextLaws.{HasLine, IsWritten, journal_text}
 use Rattle.kl1_model_server.proofs.TextJournals.{journals_read_back, text_lines, lines_unbroken}
 use Rattle.kl1_model_server.proofs.TextLines.{lines_of_lines, texts_are_lines}
 use Rattle.kl1_log.specs.Cuts.{whole_lines, recovered, opening_text, front_of}
 use Rattle.kl1_log.specs.laws.LogLaws.{CutsAreFronts, TornIsDropped, AppendsAreFronts}
-use Rattle.kl1_log.proofs.LinesCut.{lines_then, lines_back, IsCut, cut_lines, text_of_journal}
+use Rattle.kl1_log.proofs.LinesCut.{lines_then, IsCut, cut_lines, text_of_journal}
 use Rattle.kl1_log.proofs.EntriesMore.{with_more, journal_then, entries_front}
 
 pub torn_is_dropped : TornIsDropped

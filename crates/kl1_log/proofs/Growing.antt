@@ -1,10 +1,10 @@
 -- How journals grow.
 use Rattle.std.proofs.Common.{◌≡◌, ℕ, zero, suc, ◌≤◌, Bool, true, false, if◌then◌else◌, List, [], ◌∷◌, ◌++◌, refl, sym, ap, ◌∙◌, subst, arith, inl, inr}
 use Rattle.kl1_model.specs.State.{State}
-use Rattle.kl1_model.specs.Event.{Event, load, start, control, reduce, read, login, logout, reset, answer, Transition, is_refused}
+use Rattle.kl1_model.specs.Event.{Event, load, start, control, reduce, read, login, logout, reset, answer, is_refused}
 use Rattle.kl1_model.specs.Choice.{is_in_run}
 use Rattle.kl1_model.specs.Step.{step}
-use Rattle.kl1_model_server.specs.Journal.{Entry, runs, Journal, without_last, entered, stepped, with_event, Kept}
+use Rattle.kl1_model_server.specs.Journal.{Entry, runs, Journal, without_last, entered, stepped, with_event}
 use Rattle.kl1_model_server.specs.laws.HistoryLaws.{EndsInRun}
 use Rattle.kl1_model_server.proofs.RunsKept.{run_with, reduction_run, run_goes_on}
 use Rattle.kl1_log.specs.Later.{Grows, GrowsBefore, AreLater, IsLater, run_length}

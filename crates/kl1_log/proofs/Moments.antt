@@ -1,11 +1,11 @@
 -- What a crash leaves between the calls of a file.
-use Rattle.std.proofs.Common.{◌≡◌, ◌⊎◌, ℕ, zero, suc, ◌≤◌, min, Bool, true, false, ◌&&◌, List, [], ◌∷◌, ◌++◌, length, take, drop, refl, sym, ap, ◌∙◌, subst, arith, inl, inr}
-use Rattle.std.specs.Prelude.{⊤, Option, Some, None, option_map, is_none}
+use Rattle.std.proofs.Common.{◌≡◌, ℕ, zero, suc, min, true, ◌&&◌, List, [], ◌∷◌, ◌++◌, length, take, refl, sym, ap, ◌∙◌, subst, arith, inl, inr}
+use Rattle.std.specs.Prelude.{Option, Some, None, option_map, is_none}
 use Rattle.std.proofs.lemmas.Bool.{and_parts, false≢true}
 use Rattle.std.proofs.lemmas.List.{append-nil, take_all}
 use Rattle.std.proofs.lemmas.Option.{none-some, same_Some}
-use Rattle.kl1_log.specs.Files.{Bytes, content, settled, FileState, IsLeftOf, IsBroughtBack, MayLeave, Appended, AppendedInPart, Synced, NextWritten, NextTouched, NextSynced, Renamed, FolderSynced, HasNext, Course, states, Known, Does, MayDo, IfKnown, Leaves, AtAnyMoment, is_nil, is_at_rest}
-use Rattle.kl1_log.specs.Batches.{text_of, IsAppendedInPart, IsOldOrNew}
+use Rattle.kl1_log.specs.Files.{Bytes, content, settled, FileState, IsLeftOf, IsBroughtBack, Appended, AppendedInPart, Synced, Course, Known, Does, MayDo, IfKnown, Leaves, AtAnyMoment, is_nil, is_at_rest}
+use Rattle.kl1_log.specs.Batches.{text_of, IsAppendedInPart}
 
 -- ---- how a run of calls goes on
 

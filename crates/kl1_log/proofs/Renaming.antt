@@ -1,5 +1,5 @@
 -- What a crash leaves while a file is begun anew.
-use Rattle.std.proofs.Common.{◌≡◌, ◌⊎◌, ℕ, Bool, true, List, [], ◌∷◌, ◌++◌, refl, sym, ap, ◌∙◌, subst, inl, inr}
+use Rattle.std.proofs.Common.{◌≡◌, ◌⊎◌, ℕ, true, List, [], refl, sym, ap, ◌∙◌, subst, inl, inr}
 use Rattle.std.specs.Prelude.{Option, Some, None, option_map}
 use Rattle.std.proofs.lemmas.Option.{same_Some}
 use Rattle.kl1_log.specs.Files.{Bytes, content, settled, FileState, IsLeftOf, IsBroughtBack, NextWritten, NextTouched, NextSynced, Renamed, FolderSynced, HasNext, Known, Does, MayDo, IfKnown, Leaves, AtAnyMoment, is_at_rest}

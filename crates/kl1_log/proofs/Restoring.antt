@@ -1,12 +1,12 @@
 -- What a crash leaves while a file is cut to its whole lines.
-use Rattle.std.proofs.Common.{◌≡◌, ℕ, ◌+◌, ◌≤◌, min, Bool, true, List, [], ◌∷◌, ◌++◌, length, take, drop, refl, sym, ap, ◌∙◌, subst, arith, inl, inr, append_assoc}
+use Rattle.std.proofs.Common.{◌≡◌, ℕ, ◌+◌, ◌≤◌, min, true, List, [], ◌∷◌, ◌++◌, length, take, drop, refl, sym, ap, ◌∙◌, subst, arith, inl, inr, append_assoc}
 use Rattle.std.specs.Prelude.{Option, Some, None, option_map}
 use Rattle.std.proofs.Math.Seq.{take-append-add}
 use Rattle.std.proofs.lemmas.List.{append-nil, take-append-drop, length-take, length-append}
 use Rattle.kl1_model_server.specs.JournalText.{lines_of}
 use Rattle.kl1_model_server.proofs.TextLines.{texts_are_lines}
 use Rattle.kl1_log.specs.Cuts.{whole_text}
-use Rattle.kl1_log.specs.Files.{Bytes, content, settled, loosened, FileState, IsLeftOf, IsBroughtBack, MayLeave, Loosened, CutTo, Cuts, Course, Known, Does, MayDo, IfKnown, Leaves, AtAnyMoment, is_at_rest}
+use Rattle.kl1_log.specs.Files.{Bytes, content, settled, loosened, FileState, IsLeftOf, IsBroughtBack, MayLeave, Loosened, CutTo, Cuts, Known, MayDo, IfKnown, Leaves, AtAnyMoment, is_at_rest}
 use Rattle.kl1_log.specs.Batches.{text_of, IsLeftOfCut}
 use Rattle.kl1_log.proofs.Moments.{rest_test, left_settled}
 

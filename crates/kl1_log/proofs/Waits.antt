@@ -1,5 +1,5 @@
 -- What waits for a file.
-use Rattle.std.proofs.Common.{◌≡◌, ℕ, List, [], ◌++◌, refl, sym, ap, ◌∙◌, subst, append_assoc}
+use Rattle.std.proofs.Common.{◌≡◌, ℕ, List, [], ◌++◌, sym, ap, ◌∙◌, subst, append_assoc}
 use Rattle.std.proofs.lemmas.List.{append-nil}
 use Rattle.kl1_model_server.specs.Journal.{Journal}
 use Rattle.kl1_log.specs.Deeds.{IsFile}

@@ -1,5 +1,5 @@
 -- What waits for an account's file, and what was taken of it.
-use Rattle.std.specs.Prelude.{◌≡◌, ◌⊎◌, ◌≤◌, ℕ, suc, List, [], ◌++◌}
+use Rattle.std.specs.Prelude.{◌≡◌, ◌⊎◌, ℕ, suc, List}
 use Rattle.kl1_model_server.specs.Journal.{Journal}
 use Rattle.kl1_log.specs.Deeds.{IsFile}
 use Rattle.kl1_log.specs.Later.{IsMark}

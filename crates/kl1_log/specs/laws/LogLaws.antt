@@ -1,12 +1,12 @@
 -- What holds of a journal's file: of its fronts, of what is read from them, and of how journals grow.
-use Rattle.std.specs.Prelude.{◌≡◌, ◌≤◌, ℕ, List, [], ◌++◌, length, take, Some, IsTrue}
+use Rattle.std.specs.Prelude.{◌≡◌, ◌≤◌, ℕ, List, ◌++◌, length, take, Some, IsTrue}
 use Rattle.kl1_model.specs.Event.{Event, reset}
 use Rattle.kl1_model_server.specs.Journal.{Journal, replay, Kept, done}
 use Rattle.kl1_model_server.specs.JournalText.{journal_in}
 use Rattle.kl1_model_server.specs.laws.HistoryLaws.{IsReplay}
 use Rattle.kl1_model_server.specs.laws.TextLaws.{is_unbroken, IsWritten, journal_text}
-use Rattle.kl1_log.specs.Deeds.{deeds_of, account_after, SaysSame, IsFile}
-use Rattle.kl1_log.specs.Later.{AreLater, IsLater}
+use Rattle.kl1_log.specs.Deeds.{deeds_of, account_after, SaysSame}
+use Rattle.kl1_log.specs.Later.{IsLater}
 use Rattle.kl1_log.specs.Cuts.{recovered, opening_text, front_of}
 
 -- A journal's text that is cut at any byte after its opening: there is recovered a front of the journal, with each entry whose line is whole.

@@ -1,5 +1,4 @@
-use Rattle.std.proofs.Common.{◌≡◌, ◌+◌, ◌-◌, ◌≤◌, ◌<◌, ◌^◌, ◌∷◌, length, sym, ap, ◌∙◌, arith}
-use Rattle.kl1_model_server.specs.JournalText.{journal_lines}
+use Rattle.std.proofs.Common.{◌≡◌, ◌+◌, ◌≤◌, ◌∷◌, length, sym, ap, ◌∙◌, arith}
 use Rattle.kl1_log.specs.Later.{run_of_lines}
 use Rattle.kl1_log.proofs.LinesPut.{bytes_in, others, texts_split, no_texts, counted, grown_put}
 use Rattle.kl1_log.proofs.GrownFiles.{page_all, page_some, grown_file, grown_mark}

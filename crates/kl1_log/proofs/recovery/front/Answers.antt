@@ -1,4 +1,4 @@
-use Rattle.std.proofs.Common.{◌+◌, ◌≤◌, refl, arith}
+use Rattle.std.proofs.Common.{refl, arith}
 use Rattle.kl1_log.proofs.Faults.{split_goes_on, front_whole, front_short}
 use Rattle.kl1_log.proofs.recovery.front.Goals as goal
 

@@ -1,4 +1,4 @@
-use Rattle.std.proofs.Common.{ℕ, ◌-◌, ◌≤◌, length}
+use Rattle.std.proofs.Common.{◌-◌, ◌≤◌}
 use Rattle.kl1_log.proofs.Faults.{IsSplit}
 use Rattle.kl1_log.proofs.recovery.front.Given as goal
 
