@@ -59,5 +59,5 @@ report_planned texts tests start lines passed planned report =
 pub reported : (files : List SourceFile) (tests : List Test) (lines : List ℕ) (passed : Bool) → map placed_of tests ≡ tests_in_all files → All IsRead tests → IsReport (texts_of files) 1 tests (plan_line (length tests)) true lines passed → Reports files lines passed
 reported files tests lines passed stated read report =
     let P : ℕ → Type 0 = λ n. IsReport (texts_of files) 1 tests (plan_line n) true lines passed in
-    let many : length tests ≡ length (tests_in_all files) = sym (length-map placed_of tests) ∙ ap length stated in
+    let many : length tests ≡ length (tests_in_all files) = sym (length-map tests placed_of) ∙ ap length stated in
     record { tests = tests; stated = stated; read = read; report = subst P many report }

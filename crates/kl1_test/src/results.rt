@@ -238,7 +238,7 @@ fn put_each(
     while let [first, others @ ..] = rest {
         let is_passed = put_result(alloc, files, first, differences)?;
         put_line(lines, number, first, is_passed)?;
-        passed = passed && is_passed;
+        passed &= is_passed;
         number += 1;
         rest = others;
     }
