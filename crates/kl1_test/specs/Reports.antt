@@ -1,9 +1,8 @@
 -- What is reported of tests.
-use Rattle.std.specs.Prelude.{◌≡◌, ℕ, suc, ◌==◌, nat_eq, ◌&&◌, ◌⊎◌, Bool, true, false, if◌then◌else◌, List, [], ◌∷◌, ◌++◌, length, map, codes, decimal, nat_le}
+use Rattle.std.specs.Prelude.{◌≡◌, ℕ, suc, ◌==◌, nat_eq, ◌&&◌, ◌⊎◌, Bool, true, false, if◌then◌else◌, List, [], ◌∷◌, ◌++◌, length, map, codes, nat_le}
 use Rattle.std.specs.List.{All, starts_with}
 use Rattle.kl1_model.specs.declared.limits.TheConstants.{MOST_ALLOWANCE}
 use Rattle.kl1_model.specs.Line.{line_in}
-use Rattle.kl1_model_server.specs.Command.{written_line}
 use Rattle.kl1_run_work.specs.declared.answers.Answers.{Answers}
 use Rattle.kl1_run_work.specs.declared.ending.Ending.{Ending}
 use Rattle.kl1_run_work.specs.declared.ending.Ending.TheVariants.{Terminated, Raised, Waits, Exhausted, Unfinished}

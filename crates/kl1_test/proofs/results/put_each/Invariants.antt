@@ -1,4 +1,4 @@
-use Rattle.std.proofs.Common.{◌≡◌, ℕ, ◌+◌, ◌≤◌, Bool, true, List, length}
+use Rattle.std.proofs.Common.{ℕ, ◌+◌, ◌≤◌, Bool, true, List, length}
 use Rattle.kl1_run_work.specs.Works.{texts_of}
 use Rattle.kl1_test.specs.Reports.{IsReport}
 use Rattle.kl1_test.proofs.results.put_each.Given as goal

@@ -1,4 +1,4 @@
-use Rattle.std.proofs.Common.{◌≡◌, true, List, length, map, subst}
+use Rattle.std.proofs.Common.{true, List, length, subst}
 use Rattle.std.proofs.lemmas.Result.{IfOk-weaker}
 use Rattle.kl1_run_work.specs.Works.{texts_of}
 use Rattle.kl1_test_lines.specs.Lines.{plan_line}
