@@ -12,7 +12,7 @@ use Rattle.kl1_lines.proofs.DeviceLaws.{appends_none}
 use Rattle.kl1_reasons.specs.Told.{PutsReasons}
 use Rattle.kl1_client_talk.specs.declared.turn_end.TurnEnd.{TurnEnd}
 use Rattle.kl1_client_talk.specs.declared.turn_end.TurnEnd.TheVariants as end
-use Rattle.kl1_client_talk.specs.UserCommand.{Wanted, load, pages}
+use Rattle.kl1_client_talk.specs.UserCommand.{Wanted, load, pages, list}
 use Rattle.kl1_client_talk.specs.Request.{page_line, load_of}
 use Rattle.kl1_client_talk.specs.Reply.{is_refusal, is_bad_source, count_in}
 use Rattle.kl1_client_talk.specs.Exchanges.{Exchange, Exchanges, Wire, Screen, Asks, Hears, Shows, ShowsLines, ShowsOne, Says, screen}
@@ -195,3 +195,16 @@ pub joined_turn : (IsFile : List ℕ → List ℕ → Type 0) (joined : Bool) (l
 joined_turn IsFile joined line told wanted p from after a b s t j e h =
     let Q : Bool → Type 0 = λ x. Says a b s t (TakesTurn IsFile x line wanted [] end.GoesOn) in
     subst Q (sym j) (turn_said IsFile true line wanted (pages p from) a b s t (AsksPagesTo p from after told) e (λ es lines k. (((after, k.0), refl), refl)) h)
+
+-- a turn in which one page is asked for
+pub page_turn : (IsFile : List ℕ → List ℕ → Type 0) (joined : Bool) (line told : List ℕ) (wanted : Wanted) (p : Page) (from : ℕ) (a b : Wire) (s t : Screen) → joined ≡ false → told ≡ line → pages p from ≡ wanted → Says a b s t (AsksList (written_line told)) → Says a b s t (TakesTurn IsFile joined line wanted [] end.GoesOn)
+page_turn IsFile joined line told wanted p from a b s t j same e h =
+    let P : List ℕ → Type 0 = λ x. Says a b s t (AsksList (written_line x)) in
+    let Q : Bool → Type 0 = λ x. Says a b s t (TakesTurn IsFile x line wanted [] end.GoesOn) in
+    subst Q (sym j) (turn_said IsFile false line wanted (pages p from) a b s t (AsksList (written_line line)) e (λ es lines k. ((k, refl), refl)) (subst P same h))
+
+-- a turn in which a list is asked for
+pub list_turn : (IsFile : List ℕ → List ℕ → Type 0) (joined : Bool) (line told : List ℕ) (wanted : Wanted) (a b : Wire) (s t : Screen) → told ≡ line → list ≡ wanted → Says a b s t (AsksList (written_line told)) → Says a b s t (TakesTurn IsFile joined line wanted [] end.GoesOn)
+list_turn IsFile joined line told wanted a b s t same e h =
+    let P : List ℕ → Type 0 = λ x. Says a b s t (AsksList (written_line x)) in
+    turn_said IsFile joined line wanted list a b s t (AsksList (written_line line)) e (λ es lines k. ((k, refl), refl)) (subst P same h)

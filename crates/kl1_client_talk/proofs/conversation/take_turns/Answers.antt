@@ -15,9 +15,9 @@ returns-then-not-found g c =
 
 pub loop-preserved : goal.loop-preserved
 loop-preserved g c =
-    let said = turn_as g.C.Caller.is_file c.loop.shown.are_pages_joined c.args.shown.now.are_pages_joined c.as_slice.result.now c.next.new.line.items c.in_ok-end.ensures.ok.0 c.in_ok-end.end (wire g.T.Sink.contents g.S.Source.remaining c.loop.connection) (wire g.T.Sink.contents g.S.Source.remaining c.take_turn.new.connection) (screen g.O.Sink.contents c.loop.shown) (screen g.O.Sink.contents c.take_turn.new.shown) c.loop.invariant.joined c.as_slice.ensures.value c.in_ok-end.ensures.ok.1.0 in
+    let said = turn_as g.C.Caller.is_file c.loop.shown.are_pages_joined c.args.shown.now.are_pages_joined c.as_slice.result.now c.next.new.line.items c.in_ok-end.ensures.ok.0 c.in_ok-end.end (wire g.T.Sink.contents g.S.Source.remaining c.loop.connection) (wire g.T.Sink.contents g.S.Source.remaining c.take_turn.new.connection) (screen g.O.Sink.contents c.loop.shown) (screen g.O.Sink.contents c.take_turn.new.shown) c.loop.invariant.joined c.as_slice.ensures.value c.in_ok-end.ensures.ok.1 in
     let gives = found_line (g.C.Caller.remaining c.loop.caller) (g.C.Caller.remaining c.next.new.self) (g.C.Caller.remaining c.turned.new.self) c.next.new.line.items c.in_ok-found.found c.if-not-found.false (c.turned.ensures.same ∙ c.in_ok-end.ensures.caller) c.in_ok-found.ensures.line in
-    let tells = told_through (g.C.Caller.told c.loop.caller) (g.C.Caller.told c.next.new.self) (g.C.Caller.told c.take_turn.new.caller) (g.C.Caller.told c.turned.new.self) c.in_ok-end.ensures.ok.0 c.in_ok-found.ensures.told c.turned.ensures.told c.in_ok-end.ensures.ok.1.1 in
+    let tells = told_through (g.C.Caller.told c.loop.caller) (g.C.Caller.told c.next.new.self) (g.C.Caller.told c.take_turn.new.caller) (g.C.Caller.told c.turned.new.self) c.in_ok-end.ensures.ok.0 c.in_ok-found.ensures.told c.turned.ensures.told c.in_ok-end.ensures.ok.2 in
     record {
       turns = turns_more g.C.Caller.is_file c.args.shown.now.are_pages_joined (g.C.Caller.remaining c.args.caller.now) (g.C.Caller.remaining c.loop.caller) (g.C.Caller.remaining c.turned.new.self) (g.C.Caller.told c.args.caller.now) (g.C.Caller.told c.loop.caller) (g.C.Caller.told c.turned.new.self) (wire g.T.Sink.contents g.S.Source.remaining c.args.connection.now) (wire g.T.Sink.contents g.S.Source.remaining c.loop.connection) (wire g.T.Sink.contents g.S.Source.remaining c.take_turn.new.connection) (screen g.O.Sink.contents c.args.shown.now) (screen g.O.Sink.contents c.loop.shown) (screen g.O.Sink.contents c.take_turn.new.shown) (screen g.O.Sink.contents c.flush.new.self) c.loop.lacked_file c.loop.stood_still c.lacks_file-lacked_file.result c.stands_still-stood_still.result c.next.new.line.items c.in_ok-end.ensures.ok.0 c.in_ok-end.end c.loop.invariant.turns gives said tells c.in_ok-flush.ensures.ok c.flush.ensures.empty c.lacks_file-lacked_file.ensures c.stands_still-stood_still.ensures (sym c.is_over.ensures ∙ c.if-is_over.false);
       joined = c.in_ok-flush.ensures.joined ∙ c.in_ok-end.ensures.joined ∙ c.loop.invariant.joined;
@@ -25,7 +25,7 @@ loop-preserved g c =
 
 pub returns-then-is_over : goal.returns-then-is_over
 returns-then-is_over g c =
-    let said = turn_as g.C.Caller.is_file c.loop.shown.are_pages_joined c.args.shown.now.are_pages_joined c.as_slice.result.now c.next.new.line.items c.in_ok-end.ensures.ok.0 c.in_ok-end.end (wire g.T.Sink.contents g.S.Source.remaining c.loop.connection) (wire g.T.Sink.contents g.S.Source.remaining c.take_turn.new.connection) (screen g.O.Sink.contents c.loop.shown) (screen g.O.Sink.contents c.take_turn.new.shown) c.loop.invariant.joined c.as_slice.ensures.value c.in_ok-end.ensures.ok.1.0 in
+    let said = turn_as g.C.Caller.is_file c.loop.shown.are_pages_joined c.args.shown.now.are_pages_joined c.as_slice.result.now c.next.new.line.items c.in_ok-end.ensures.ok.0 c.in_ok-end.end (wire g.T.Sink.contents g.S.Source.remaining c.loop.connection) (wire g.T.Sink.contents g.S.Source.remaining c.take_turn.new.connection) (screen g.O.Sink.contents c.loop.shown) (screen g.O.Sink.contents c.take_turn.new.shown) c.loop.invariant.joined c.as_slice.ensures.value c.in_ok-end.ensures.ok.1 in
     let gives = found_line (g.C.Caller.remaining c.loop.caller) (g.C.Caller.remaining c.next.new.self) (g.C.Caller.remaining c.turned.new.self) c.next.new.line.items c.in_ok-found.found c.if-not-found.false (c.turned.ensures.same ∙ c.in_ok-end.ensures.caller) c.in_ok-found.ensures.line in
-    let tells = told_through (g.C.Caller.told c.loop.caller) (g.C.Caller.told c.next.new.self) (g.C.Caller.told c.take_turn.new.caller) (g.C.Caller.told c.turned.new.self) c.in_ok-end.ensures.ok.0 c.in_ok-found.ensures.told c.turned.ensures.told c.in_ok-end.ensures.ok.1.1 in
+    let tells = told_through (g.C.Caller.told c.loop.caller) (g.C.Caller.told c.next.new.self) (g.C.Caller.told c.take_turn.new.caller) (g.C.Caller.told c.turned.new.self) c.in_ok-end.ensures.ok.0 c.in_ok-found.ensures.told c.turned.ensures.told c.in_ok-end.ensures.ok.2 in
     record { ok = turns_over g.C.Caller.is_file c.args.shown.now.are_pages_joined (g.C.Caller.remaining c.args.caller.now) (g.C.Caller.remaining c.loop.caller) (g.C.Caller.remaining c.turned.new.self) (g.C.Caller.told c.args.caller.now) (g.C.Caller.told c.loop.caller) (g.C.Caller.told c.turned.new.self) (wire g.T.Sink.contents g.S.Source.remaining c.args.connection.now) (wire g.T.Sink.contents g.S.Source.remaining c.loop.connection) (wire g.T.Sink.contents g.S.Source.remaining c.take_turn.new.connection) (screen g.O.Sink.contents c.args.shown.now) (screen g.O.Sink.contents c.loop.shown) (screen g.O.Sink.contents c.take_turn.new.shown) (screen g.O.Sink.contents c.flush.new.self) c.loop.lacked_file c.loop.stood_still c.lacks_file-lacked_file.result c.stands_still-stood_still.result c.next.new.line.items c.in_ok-end.ensures.ok.0 c.in_ok-end.end c.loop.invariant.turns gives said tells c.in_ok-flush.ensures.ok c.flush.ensures.empty c.lacks_file-lacked_file.ensures c.stands_still-stood_still.ensures (sym c.is_over.ensures ∙ c.if-is_over.true) }
