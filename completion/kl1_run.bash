@@ -2,7 +2,7 @@
 
 _kl1_run() {
     local word=${COMP_WORDS[COMP_CWORD]} before=${COMP_WORDS[COMP_CWORD - 1]}
-    local options="--steps --allowance --rules --reports --whole --bindings --infix --journal --check --warn --script --help --version"
+    local options="--steps --allowance --rules --reports --whole --bindings --infix --waits --stats --journal --check --warn --script --help --version"
     COMPREPLY=()
     case $before in
     --steps | --allowance)
@@ -15,6 +15,10 @@ _kl1_run() {
         ;;
     --warn)
         mapfile -t COMPREPLY < <(compgen -W "error" -- "$word")
+        return
+        ;;
+    --waits)
+        mapfile -t COMPREPLY < <(compgen -W "all none" -- "$word")
         return
         ;;
     --journal)

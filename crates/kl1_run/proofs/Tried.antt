@@ -25,13 +25,13 @@ stop_refused w q out out' err err' stop.Memory k h = tt
 stop_refused w q out out' err err' stop.Write k h = tt
 
 -- work that came to its end was taken
-pub alone_taken : (rules : Rules) (texts : List (List ℕ)) (goal : Term) (allowance steps : ℕ) (q : Wanted) (out out' err err' book book' : Stream) (r : RunResult) (e : Ending) → RunsAlone rules texts goal allowance steps q out out' err err' book book' r → r.ending ≡ Ok e → IsTaken (alone_of rules texts goal allowance steps)
-alone_taken rules texts goal allowance steps q out out' err err' book book' r e h is =
+pub alone_taken : (rules : Rules) (texts : List (List ℕ)) (goal : Term) (allowance steps : ℕ) (q : Wanted) (most : ℕ) (out out' err err' book book' : Stream) (r : RunResult) (e : Ending) → RunsAlone rules texts goal allowance steps q most out out' err err' book book' r → r.ending ≡ Ok e → IsTaken (alone_of rules texts goal allowance steps)
+alone_taken rules texts goal allowance steps q most out out' err err' book book' r e h is =
     let P : Result Ending Stop → Type 0 = λ x. IsRun (alone_of rules texts goal allowance steps) q out out' err err' x h.after in
     shows_taken (alone_of rules texts goal allowance steps) q out out' err err' e h.after (subst P is h.runs)
 
 -- work that stopped was refused for what it tells
-pub alone_refused : (rules : Rules) (texts : List (List ℕ)) (goal : Term) (allowance steps : ℕ) (q : Wanted) (out out' err err' book book' : Stream) (r : RunResult) (e : Stop) → RunsAlone rules texts goal allowance steps q out out' err err' book book' r → r.ending ≡ Err e → IsRefused (alone_of rules texts goal allowance steps) e
-alone_refused rules texts goal allowance steps q out out' err err' book book' r e h is =
+pub alone_refused : (rules : Rules) (texts : List (List ℕ)) (goal : Term) (allowance steps : ℕ) (q : Wanted) (most : ℕ) (out out' err err' book book' : Stream) (r : RunResult) (e : Stop) → RunsAlone rules texts goal allowance steps q most out out' err err' book book' r → r.ending ≡ Err e → IsRefused (alone_of rules texts goal allowance steps) e
+alone_refused rules texts goal allowance steps q most out out' err err' book book' r e h is =
     let P : Result Ending Stop → Type 0 = λ x. IsRun (alone_of rules texts goal allowance steps) q out out' err err' x h.after in
     stop_refused (alone_of rules texts goal allowance steps) q out out' err err' e h.after (subst P is h.runs)

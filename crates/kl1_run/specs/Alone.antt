@@ -1,5 +1,5 @@
 -- What work on an account of its own comes to.
-use Rattle.std.specs.Prelude.{ℕ, List, codes, Option, None, Some}
+use Rattle.std.specs.Prelude.{ℕ, List, codes, Option, None, Some, IfSome}
 use Rattle.kl1_model.specs.declared.rules.Rules.{Rules}
 use Rattle.kl1_model.specs.Term.{Term}
 use Rattle.kl1_model_server.specs.Journal.{Kept, fresh_kept}
@@ -7,6 +7,7 @@ use Rattle.kl1_run_work.specs.declared.wanted.Wanted.{Wanted}
 use Rattle.kl1_run_work.specs.Works.{Worked, worked_of}
 use Rattle.kl1_run_work.specs.Streams.{Stream, seen, IsTold}
 use Rattle.kl1_run_work.specs.Answers.{IsRun}
+use Rattle.kl1_run.specs.After.{IsAfter}
 use Rattle.kl1_run.specs.declared.alone.RunResult.{RunResult}
 
 -- the name of the account
@@ -24,8 +25,9 @@ abbrev pub alone_of : Rules → List (List ℕ) → Term → ℕ → ℕ → Wor
 alone_of rules texts goal allowance steps = worked_of (fresh_kept rules account_name) texts goal allowance steps
 
 -- that work is done, and what came of it was written to two streams, by how the work ended; and the journal of the account after it
--- was written to a third
-pub record RunsAlone (rules : Rules) (texts : List (List ℕ)) (goal : Term) (allowance steps : ℕ) (wanted : Wanted) (out out' err err' book book' : Stream) (result : RunResult) : Type 0 where
+-- was written to a third; and what is told of that account, of at most `most` goals that wait
+pub record RunsAlone (rules : Rules) (texts : List (List ℕ)) (goal : Term) (allowance steps : ℕ) (wanted : Wanted) (most : ℕ) (out out' err err' book book' : Stream) (result : RunResult) : Type 0 where
   pub after : Kept
   pub runs : IsRun (alone_of rules texts goal allowance steps) wanted out out' err err' result.ending after
+  pub left : IfSome result.after (IsAfter after.state most result.ending)
   pub journal : IsTold after.journal book book' result.journal

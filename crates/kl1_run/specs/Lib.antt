@@ -1,3 +1,4 @@
+pub mod After
 pub mod Alone
 pub mod Used
 pub mod Scripted

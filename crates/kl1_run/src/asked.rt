@@ -10,7 +10,10 @@ pub const VERSION: &str = "0.1.0";
 
 /// How the program is called.
 pub const USAGE: &str =
-    "kl1_run [--steps N] [--allowance N] [--rules N] [--reports] [--whole] [--bindings] [--infix]\n               [--journal FILE] FILE... GOAL\n       kl1_run --check [--warn error] FILE...\n       kl1_run --script [--steps N] [--allowance N] [--reports] FILE... GOAL\n       kl1_run --help | --version";
+    "kl1_run [--steps N] [--allowance N] [--rules N] [--reports] [--whole] [--bindings] [--infix]\n               [--waits WHICH] [--stats] [--journal FILE] FILE... GOAL\n       kl1_run --check [--warn error] FILE...\n       kl1_run --script [--steps N] [--allowance N] [--reports] FILE... GOAL\n       kl1_run --help | --version";
+
+/// The most goals that wait of which it is told for what, unless all are asked for.
+const MOST_WAITS: usize = 8;
 
 /// What is to be done with the files.
 #[derive(Clone, Copy)]
@@ -39,6 +42,28 @@ impl Form {
     }
 }
 
+/// Of which goals that wait it is told for what.
+#[derive(Clone, Copy)]
+pub enum Waits {
+    /// The first few.
+    First,
+    /// All.
+    All,
+    /// None.
+    None,
+}
+
+impl Waits {
+    /// The most goals of which it is told.
+    pub fn most(self) -> usize {
+        match self {
+            Waits::First => MOST_WAITS,
+            Waits::All => usize::MAX,
+            Waits::None => 0,
+        }
+    }
+}
+
 /// What the words ask for.
 #[derive(Drop)]
 pub struct Asked<'a> {
@@ -58,6 +83,10 @@ pub struct Asked<'a> {
     pub form: Form,
     /// The most bytes that are written of a value, unless it is wanted whole.
     pub most: Option<usize>,
+    /// Of which goals that wait it is told for what.
+    pub waits: Waits,
+    /// Whether it is told what the run used.
+    pub has_stats: bool,
     /// The name of the file to which the journal of a run is written; `None` if it is written nowhere.
     pub journal: Option<&'a str>,
     /// Whether warnings of a check are faults.

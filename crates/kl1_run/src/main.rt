@@ -1,17 +1,20 @@
 //! The program that tries modules from files: it loads them, runs a goal, and tells what came of it.
 #![tactic(auto)]
 
+mod after;
 mod alone;
 mod asked;
 mod copied;
 mod fault;
 mod files;
 mod journal_file;
+mod origins;
 mod pipe;
 mod progress;
 mod reasons;
 mod scripts;
 mod shown;
+mod stats;
 mod tasks;
 mod told;
 mod words;

@@ -8,9 +8,12 @@ ghost use Rattle.kl1_run_work.specs.Scripts.{start_command, script_of};
 ghost use Rattle.kl1_run.specs.Alone.{alone_of};
 ghost use Rattle.kl1_run.specs.Scripted.{IsTaken, IsTried, IsLong, IsCause};
 
+use crate::after::Looks;
 use crate::alone::{LoneWork, run_alone};
+use crate::origins::NoOrigins;
 use kl1_model::limits::MOST_COMMAND_BYTES;
 use kl1_run_work::{FailureCounter, Refusal, Stop, Wanted, Watch, Work, put_script, start_length};
+use kl1_watch::Names;
 use kl1_world::Rules;
 use std::alloc::Global;
 use std::io;
@@ -40,6 +43,13 @@ fn try_alone(alloc: Global, work: Work) -> Result<(), Stop>
         wanted: Wanted {
             reports: false,
             whole: false,
+        },
+        looks: Looks {
+            most: 0,
+            names: Names {
+                names: Vec::new(alloc),
+            },
+            origins: NoOrigins { alloc },
         },
     };
     let mut out = FailureCounter::new(io::sink());

@@ -1,18 +1,23 @@
 // What is done for each task.
 
+use crate::after::{After, Looks};
 use crate::alone::{LoneWork, RunResult, run_alone};
 use crate::asked::{Asked, Task, USAGE};
 use crate::copied::Copied;
 use crate::fault::{BAD, Fault};
 use crate::files::{Modules, read_each};
 use crate::journal_file::journal_file;
+use crate::origins::{Again, copies_of};
 use crate::pipe::Pipe;
 use crate::progress::Progress;
 use crate::reasons::{goal_in, warn};
 use crate::scripts::script_alone;
 use crate::shown::{Shown, in_form};
+use crate::stats::tell_stats;
 use crate::told::{tell_ending, used_of};
 use kl1_run_work::{Ending, FailureCounter, Stop, Term, Work, put_fault, words_of};
+use kl1_shown::variable_names;
+use kl1_watch::Names;
 use std::alloc::{AllocError, Global};
 use std::io::Write;
 
@@ -71,6 +76,13 @@ fn run_goal(rt: &HostRuntime, asked: &Asked<'_>, names: &[&str], word: &str) -> 
     let Modules { files, ids } = read_each(rt, names)?;
     let goal = goal_in(alloc, word, files.as_slice())?;
     let started = goal.clone()?;
+    let again = Again {
+        alloc,
+        files: copies_of(alloc, files.as_slice())?,
+        goal: started.clone()?,
+        allowance: asked.allowance,
+        rules: asked.rules,
+    };
     let mut journal = journal_file(rt, asked.journal, ids.as_slice())?;
     let mut progress = Progress::new(rt);
     let copied = Copied::new(alloc, Pipe::new(rt.stdout()), asked.form.is_other());
@@ -86,9 +98,15 @@ fn run_goal(rt: &HostRuntime, asked: &Asked<'_>, names: &[&str], word: &str) -> 
         },
         rules: asked.rules,
         wanted: asked.wanted,
+        looks: Looks {
+            most: asked.waits.most(),
+            names: names_in(alloc, word, &started)?,
+            origins: again,
+        },
     };
     let RunResult {
         ending,
+        after,
         journal: told,
     } = run_alone(alloc, lone, &mut progress, &mut out, &mut err, &mut journal);
     progress.clear();
@@ -98,7 +116,9 @@ fn run_goal(rt: &HostRuntime, asked: &Asked<'_>, names: &[&str], word: &str) -> 
     let status = match ending {
         Ok(ending) => {
             show_goal(rt, asked, word, started, ending, out.inner.copy.as_slice())?;
-            tell_ending(rt, ending, used)?
+            let status = tell_ending(rt, ending, used, after.as_ref())?;
+            tell_after(rt, asked, after)?;
+            status
         }
         Err(stop) => return Err(fault_of(alloc, stop, names, word)?),
     };
@@ -106,6 +126,30 @@ fn run_goal(rt: &HostRuntime, asked: &Asked<'_>, names: &[&str], word: &str) -> 
         Ok(()) => Ok(status),
         Err(stop) => Err(fault_of(alloc, stop, names, word)?),
     }
+}
+
+/// The names of a goal's variables, as its word has them.
+fn names_in(alloc: Global, word: &str, goal: &Term) -> Result<Names, AllocError> {
+    let mut names = variable_names(alloc, word.as_bytes())?;
+    if names.len() as u64 != goal.highest() {
+        names.clear();
+    }
+    Ok(Names { names })
+}
+
+/// Tells what stands still in an account in which a run is over, and what the run used if that is asked for.
+fn tell_after(rt: &HostRuntime, asked: &Asked<'_>, after: Option<After>) -> Result<(), Fault> {
+    let Some(after) = after else {
+        return Err(Fault::Memory);
+    };
+    match rt.stderr().write_all(after.lines.as_slice()) {
+        Ok(()) => {}
+        Err(error) => return Err(Fault::of_write(&error)),
+    }
+    if asked.has_stats {
+        tell_stats(rt, after.reductions, &after.usage)?;
+    }
+    Ok(())
 }
 
 /// Writes the goal in its form, if that is another than what was written already, and warns of variables that have no value though

@@ -3,7 +3,10 @@
 ghost use Rattle.std.specs.Prelude.{◌≡◌, ◌+◌, ℕ};
 ghost use Rattle.kl1_run.specs.Used.{used_of};
 
+use crate::after::After;
+use kl1_model::Condition;
 use kl1_run_work::Ending;
+use kl1_watch::Standing;
 use kl1_world::Rules;
 use std::io;
 
@@ -29,15 +32,43 @@ pub fn used_of(rules: Rules, files: u64, steps: u64) -> Used
     }
 }
 
+/// Whether goals stand still in exhausted shoens alone: none waits, for a variable or for an answer.
+fn is_exhausted(standing: &Standing) -> bool {
+    if 0 < standing.count || !standing.unanswered.is_empty() {
+        return false;
+    }
+    for shoen in standing.still.as_slice() {
+        if let Condition::Exhausted = shoen.condition {
+            return true;
+        }
+    }
+    false
+}
+
+/// The status of a run after which goals are left that can't step.
+fn waiting_status(after: Option<&After>) -> u8 {
+    match after {
+        Some(
+            After {
+                standing: Some(standing),
+                ..
+            },
+        ) if is_exhausted(standing) => 4,
+        _ => 3,
+    }
+}
+
 /// Tells how a shoen stands if it didn't terminate, and answers the program's status.
-pub fn tell_ending<R: Eprint>(rt: &R, ending: Ending, used: Used) -> io::Result<u8> {
+pub fn tell_ending<R: Eprint>(
+    rt: &R,
+    ending: Ending,
+    used: Used,
+    after: Option<&After>,
+) -> io::Result<u8> {
     match ending {
         Ending::Terminated => Ok(0),
         Ending::Raised => Ok(1),
-        Ending::Waits(goals) => {
-            eprintln!(rt; "kl1_run: goals that wait for ever: {goals}")?;
-            Ok(3)
-        }
+        Ending::Waits(_goals) => Ok(waiting_status(after)),
         Ending::Exhausted => {
             eprintln!(rt; "kl1_run: the allowance ran out")?;
             Ok(4)

@@ -1,6 +1,6 @@
 // The words that the program knows, and what they ask for.
 
-use crate::asked::{Asked, Form, Task, USAGE, VERSION};
+use crate::asked::{Asked, Form, Task, USAGE, VERSION, Waits};
 use crate::fault::Fault;
 use clap::{Arg, ArgAction, Command, Error, value_parser};
 use kl1_model::limits::MOST_PRINTED_BYTES;
@@ -70,6 +70,23 @@ fn with_forms<'a>(alloc: Global, command: Command<'a>) -> Result<Command<'a>, Al
     command.arg(reports)?.arg(whole)?.arg(bindings)?.arg(infix)
 }
 
+/// The words for which goals that wait are told.
+const WAITS: &[&str] = &["all", "none"];
+
+/// A command that knows the options about what is told of the account too.
+fn with_looks<'a>(alloc: Global, command: Command<'a>) -> Result<Command<'a>, AllocError> {
+    let waits = of_run(
+        Arg::new(alloc, "waits")
+            .long("waits")
+            .action(ArgAction::Set)
+            .value_parser(WAITS)
+            .value_name("WHICH")
+            .help("Tell what all goals that wait wait for, or none; without it, the first 8"),
+    )?;
+    let stats = of_run(flag(alloc, "stats", "Tell what the run used on standard error"))?;
+    command.arg(waits)?.arg(stats)
+}
+
 /// A command that knows the tasks too, and the file for the journal.
 fn with_tasks<'a>(alloc: Global, command: Command<'a>) -> Result<Command<'a>, AllocError> {
     let journal = of_run(
@@ -109,7 +126,8 @@ fn command<'a>(alloc: Global) -> Result<Command<'a>, AllocError> {
         .override_usage(USAGE);
     let numbered = with_numbers(alloc, plain)?;
     let formed = with_forms(alloc, numbered)?;
-    with_tasks(alloc, formed)?.arg(words)
+    let looked = with_looks(alloc, formed)?;
+    with_tasks(alloc, looked)?.arg(words)
 }
 
 /// The most steps of a task. A script's `run` takes no more than its limit, and by the third rules a journal has no more entries; by
@@ -162,6 +180,12 @@ pub fn asked_in<'a>(alloc: Global, words: &'a [String]) -> Result<Asked<'a>, Err
         } else {
             Some(MOST_PRINTED_BYTES)
         },
+        waits: match matches.get_str("waits") {
+            Some("all") => Waits::All,
+            Some(_) => Waits::None,
+            None => Waits::First,
+        },
+        has_stats: matches.get_flag("stats"),
         journal: matches.get_str("journal"),
         warnings_are_faults: matches.get_str("warn").is_some(),
     })

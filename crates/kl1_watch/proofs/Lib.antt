@@ -1,0 +1,4 @@
+mod Seen
+mod Paths
+mod Orders
+mod Counts

@@ -1,0 +1,106 @@
+// Which goals have a variable.
+
+ghost use Rattle.std.specs.Prelude.{◌≡◌, ◌↔◌, ◌+◌, ◌<◌, ◌≤◌, [], unwrap_or, option_map, IsTrue, IfOk, OnOk};
+ghost use Rattle.kl1_watch.specs.Standing.{IsNoted, IsCounted, AreHolders};
+
+use kl1_command::Views;
+use kl1_user_events::{GoalNo, GoalView, Presence};
+use std::alloc::{AllocError, Global};
+
+/// The most parts of a goal's term that are looked at for a variable.
+const MOST_PARTS: u64 = 100_000;
+
+/// The most goals that are told of those that have a variable.
+const MOST_NAMED: u64 = 2;
+
+/// Which other goals have a variable.
+#[derive(Drop)]
+pub struct Holders {
+    /// The first of them.
+    pub first: Vec<GoalNo>,
+    /// How many have it.
+    pub count: u64,
+    /// Of how many more it isn't known, as their terms are too large.
+    pub unknown: u64,
+}
+
+impl Holders {
+    /// Whether it is known that no other goal has the variable.
+    pub fn is_none(&self) -> bool
+        ensures { IsTrue result ↔ ((self.now.count ≡ 0) × (self.now.unknown ≡ 0)) }
+    {
+        self.count == 0 && self.unknown == 0
+    }
+
+    /// Counts a goal by what is known of the variable's presence in it.
+    fn note(&mut self, goal: GoalNo, presence: Presence) -> Result<(), AllocError>
+        requires { self.old.count + self.old.unknown < 9223372036854775808 }
+        ensures { OnOk result (IsNoted goal presence self.old self.new) }
+    {
+        match presence {
+            Presence::Present => {
+                if self.count < MOST_NAMED {
+                    self.first.push(goal)?;
+                }
+                self.count += 1;
+            }
+            Presence::Absent => {}
+            Presence::Unknown => self.unknown += 1,
+        }
+        Ok(())
+    }
+}
+
+/// The variables that a goal waits for, or none if there is no such goal.
+pub(crate) fn variables_of(awaited: &Option<Vec<u32>>) -> &[u32]
+    ensures { result.now ≡ unwrap_or (option_map (λ numbers. numbers.items) awaited.now) [] }
+{
+    match awaited {
+        Some(variables) => variables.as_slice(),
+        None => &[],
+    }
+}
+
+/// Counts a goal that is another than this one by whether it has a variable.
+#[tactic(auto, using(crate::proofs::Counts::pass_over, crate::proofs::Counts::count_on, crate::proofs::Counts::noted_few))]
+fn note_in<H: Views>(
+    host: &H,
+    view: &GoalView,
+    goal: GoalNo,
+    variable: u32,
+    holders: &mut Holders,
+) -> Result<(), AllocError>
+    requires { holders.old.count + holders.old.unknown < 9223372036854775808 }
+    ensures counted { OnOk result ((f : H.Reading) → IsCounted (H.kept f host.now).state goal.0 variable view.now holders.old holders.new) }
+    ensures few { OnOk result (holders.new.count + holders.new.unknown ≤ holders.old.count + holders.old.unknown + 1) }
+{
+    if view.number.0 == goal.0 {
+        return Ok(());
+    }
+    let presence = host.presence(view.number, u64::from(variable), MOST_PARTS)?;
+    holders.note(view.number, presence)
+}
+
+/// Which of the goals but this one have a variable.
+#[tactic(auto, using(crate::proofs::Counts::none_counted))]
+pub(crate) fn holders_of<H: Views>(
+    alloc: Global,
+    host: &H,
+    goals: &[GoalView],
+    goal: GoalNo,
+    variable: u32,
+) -> Result<Holders, AllocError>
+    ensures { IfOk result (λ holders. (f : H.Reading) → AreHolders (H.kept f host.now).state goals.now goal.0 variable holders) }
+{
+    let mut holders = Holders {
+        first: Vec::new(alloc),
+        count: 0,
+        unknown: 0,
+    };
+    let mut rest = goals;
+    while let [first, others @ ..] = rest {
+        note_in(host, first, goal, variable, &mut holders)?;
+        rest = others;
+    }
+    Ok(holders)
+}

@@ -1,0 +1,19 @@
+//! What is told of an account that stands still: which goals wait, for which variables, and who else has them.
+#![tactic(auto)]
+
+mod circle;
+mod held;
+mod holders;
+mod lines;
+mod names;
+mod notes;
+mod ordered;
+mod snapshot;
+mod standing;
+mod waiting;
+
+pub use holders::Holders;
+pub use lines::{Told, put_standing};
+pub use names::Names;
+pub use notes::{Note, Notes, Origins};
+pub use standing::{Awaited, Standing, WaitingGoal, standing_of};

@@ -1,0 +1,120 @@
+// In which order goals that wait are told.
+
+ghost use Rattle.std.specs.Prelude.{◌≡◌, IsTrue, IfOk, OnOk, All, count_by};
+ghost use Rattle.kl1_watch.specs.Standing.{is_holder, IsRoot, IsPut, AreOrdered};
+
+use crate::holders::{holders_of, variables_of};
+use kl1_command::Views;
+use kl1_user_events::{GoalNo, GoalView};
+use std::alloc::{AllocError, Global};
+
+/// The most goals of which it is looked whether others have the variables that they wait for: each is looked for in all goals.
+const MOST_LOOKED: usize = 128;
+
+/// Whether it is known that no other of the goals has a variable.
+fn is_alone<H: Views>(
+    alloc: Global,
+    host: &H,
+    goals: &[GoalView],
+    goal: GoalNo,
+    variable: &u32,
+) -> Result<bool, AllocError>
+    ensures { IfOk result (λ alone. (f : H.Reading) → IsTrue alone → count_by (is_holder (H.kept f host.now).state goal.0 variable.now) goals.now ≡ 0) }
+{
+    let holders = holders_of(alloc, host, goals, goal, *variable)?;
+    Ok(holders.is_none())
+}
+
+/// Whether it is known that no other of the goals has any of these variables.
+fn are_alone<H: Views>(
+    alloc: Global,
+    host: &H,
+    goals: &[GoalView],
+    goal: GoalNo,
+    variables: &[u32],
+) -> Result<bool, AllocError>
+    ensures { IfOk result (λ alone. (f : H.Reading) → IsTrue alone → All (λ v. count_by (is_holder (H.kept f host.now).state goal.0 v) goals.now ≡ 0) variables.now) }
+{
+    let mut rest = variables;
+    while let [first, others @ ..] = rest {
+        let alone = is_alone(alloc, host, goals, goal, first)?;
+        if !alone {
+            return Ok(false);
+        }
+        rest = others;
+    }
+    Ok(true)
+}
+
+/// Whether it is known that no other of the goals has a variable that this one waits for.
+fn is_root<H: Views>(
+    alloc: Global,
+    host: &H,
+    goals: &[GoalView],
+    goal: &GoalView,
+) -> Result<bool, AllocError>
+    ensures { IfOk result (λ root. (f : H.Reading) → H.fits host.now f → IsTrue root → IsRoot (H.kept f host.now).state goals.now goal.now) }
+{
+    let awaited = host.awaited(goal.number)?;
+    let variables = variables_of(&awaited);
+    let alone = are_alone(alloc, host, goals, goal.number, variables)?;
+    Ok(alone)
+}
+
+/// Whether a goal comes before those that aren't known to be roots, if it is the one of this number among those that wait, from 0.
+fn comes_first<H: Views>(
+    alloc: Global,
+    host: &H,
+    goals: &[GoalView],
+    goal: &GoalView,
+    number: usize,
+) -> Result<bool, AllocError>
+    ensures { IfOk result (λ root. (f : H.Reading) → H.fits host.now f → IsTrue root → IsRoot (H.kept f host.now).state goals.now goal.now) }
+{
+    if number < MOST_LOOKED {
+        is_root(alloc, host, goals, goal)
+    } else {
+        Ok(false)
+    }
+}
+
+/// Puts a goal after the roots or after the others.
+fn put_in(
+    is_first: bool,
+    goal: &GoalView,
+    roots: &mut Vec<GoalView>,
+    others: &mut Vec<GoalView>,
+) -> Result<(), AllocError>
+    ensures { OnOk result (IsPut is_first goal.now roots.old.items others.old.items roots.new.items others.new.items) }
+{
+    if is_first {
+        roots.push(*goal)?;
+    } else {
+        others.push(*goal)?;
+    }
+    Ok(())
+}
+
+/// Goals that wait, in the order in which they are told: first those of which no other goal has the variables, as far as that was looked
+/// at, and then the others.
+pub(crate) fn ordered<H: Views>(
+    alloc: Global,
+    host: &H,
+    goals: &[GoalView],
+    waiting: &[GoalView],
+) -> Result<Vec<GoalView>, AllocError>
+    ensures { IfOk result (λ order. (f : H.Reading) → H.fits host.now f → AreOrdered (H.kept f host.now).state goals.now waiting.now order.items) }
+{
+    let mut roots = Vec::new(alloc);
+    let mut others = Vec::new(alloc);
+    let mut number: usize = 0;
+    let mut rest = waiting;
+    while let [first, more @ ..] = rest {
+        let is_first = comes_first(alloc, host, goals, first, number)?;
+        put_in(is_first, first, &mut roots, &mut others)?;
+        number = number.saturating_add(1);
+        rest = more;
+    }
+    roots.extend_from_slice(others.as_slice())?;
+    Ok(roots)
+}
