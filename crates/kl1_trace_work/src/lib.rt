@@ -1,0 +1,25 @@
+//! What is told of the steps of a run: each one in a trace, what each predicate did in a profile, and processes in a picture.
+#![tactic(auto)]
+
+mod columns;
+mod equated;
+mod json;
+mod pattern;
+mod predicates;
+mod profile;
+mod seen;
+mod table;
+mod texts;
+mod trace;
+mod viewer;
+mod waits;
+
+pub use json::profile_json;
+pub use pattern::Pattern;
+pub use predicates::{Calling, Predicates};
+pub use profile::{Counts, Profile, Row};
+pub use seen::{NewGoal, Next, Observer, Seen};
+pub use table::put_table;
+pub use texts::Texts;
+pub use trace::Trace;
+pub use viewer::{Viewer, Watched, watch_first, watch_once, watch_step};

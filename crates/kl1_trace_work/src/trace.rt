@@ -1,0 +1,278 @@
+// The lines of a trace.
+
+ghost use Rattle.std.specs.Prelude.{◌≡◌};
+
+use crate::columns::{put_blanks, put_front, put_right};
+use crate::equated::{equated, split_term};
+use crate::pattern::Pattern;
+use crate::predicates::Predicates;
+use crate::seen::{NewGoal, Next, Observer, Seen};
+use crate::texts::{Texts, word_of};
+use kl1_command::{UnbookedHost, Views};
+use kl1_lines::put_decimal;
+use kl1_shown::parse_print;
+use kl1_term::Node;
+use kl1_user_events::{Extent, GoalNo, ShoenNo, TaskKind};
+use std::alloc::AllocError;
+use std::io::Write;
+
+/// The most bytes of a goal.
+const MOST_GOAL: usize = 100;
+
+/// The column of a goal.
+const GOAL_COLUMN: usize = 38;
+
+/// Lines are held back until they have this many bytes.
+const MOST_HELD: usize = 65_536;
+
+/// What writes a trace.
+#[derive(Drop)]
+pub struct Trace<'a, W> {
+    pub texts: Texts<'a>,
+    pub pattern: Pattern,
+    out: W,
+    /// What is to be written.
+    held: Vec<u8>,
+    /// Whether a write failed.
+    pub has_failed: bool,
+}
+
+/// Puts the blanks before a sign, and it, after the bytes.
+fn put_sign(sign: &[u8], out: &mut Vec<u8>) -> Result<(), AllocError> {
+    let begin = out.len();
+    put_blanks(begin, GOAL_COLUMN, out)?;
+    out.extend_from_slice(sign)
+}
+
+/// Puts the line of a report after the bytes.
+fn put_report(shoen: ShoenNo, text: &[u8], out: &mut Vec<u8>) -> Result<(), AllocError> {
+    put_sign(b"! shoen ", out)?;
+    put_decimal(out, shoen.0)?;
+    out.extend_from_slice(b": ")?;
+    put_front(text, MOST_GOAL.saturating_add(50), out)?;
+    out.push(b'\n')?;
+    Ok(())
+}
+
+/// Puts the lines of goals that wake after the bytes.
+fn put_woken(woken: &[GoalNo], out: &mut Vec<u8>) -> Result<(), AllocError> {
+    for goal in woken {
+        put_sign(b"~ ", out)?;
+        put_decimal(out, goal.0)?;
+        out.extend_from_slice(b" wakes\n")?;
+    }
+    Ok(())
+}
+
+impl<'a, W: Write + Drop> Trace<'a, W> {
+    /// What writes the steps of a pattern.
+    pub fn new(texts: Texts<'a>, pattern: Pattern, out: W) -> Self {
+        let held = Vec::new(texts.alloc);
+        Trace {
+            texts,
+            pattern,
+            out,
+            held,
+            has_failed: false,
+        }
+    }
+
+    /// Writes what is held back.
+    pub fn flush(&mut self) {
+        if !self.has_failed && self.out.write_all(self.held.as_slice()).is_err() {
+            self.has_failed = true;
+        }
+        self.held.clear();
+    }
+
+    /// Tells lines.
+    pub fn tell(&mut self, lines: &[u8]) -> Result<(), AllocError> {
+        self.held.extend_from_slice(lines)?;
+        if MOST_HELD <= self.held.len() {
+            self.flush();
+        }
+        Ok(())
+    }
+
+    /// Puts the first line of a step after the bytes.
+    fn put_head(
+        &self,
+        predicates: &Predicates,
+        seen: &Seen,
+        out: &mut Vec<u8>,
+    ) -> Result<(), AllocError> {
+        let alloc = self.texts.alloc;
+        let begin = out.len();
+        put_right(alloc, seen.step.number, 5, out)?;
+        put_right(alloc, seen.step.goal.number.0, 6, out)?;
+        out.push(b'/')?;
+        put_decimal(out, seen.step.goal.shoen.0)?;
+        out.push(b' ')?;
+        put_blanks(begin, 15, out)?;
+        self.texts.put_place(predicates, seen, out)?;
+        out.push(b' ')?;
+        put_blanks(begin, GOAL_COLUMN, out)?;
+        if let Some(text) = &seen.text {
+            self.texts.put_term(text.as_slice(), MOST_GOAL, out)?;
+        }
+        out.push(b'\n')?;
+        Ok(())
+    }
+
+    /// Puts what the goal of a step binds after the bytes, if it is an equation that has a solution.
+    fn put_bindings(&self, seen: &Seen, out: &mut Vec<u8>) -> Result<(), AllocError> {
+        let Some(text) = &seen.text else {
+            return Ok(());
+        };
+        if 0 < seen.raised {
+            return Ok(());
+        }
+        let alloc = self.texts.alloc;
+        let parsed = parse_print(alloc, text.as_slice())?;
+        let sides = match parsed.nodes.as_slice() {
+            [Node::Structure(name, 2), sides @ ..]
+                if name.unpacked().as_slice() == b"=".as_slice() => sides,
+            _ => return Ok(()),
+        };
+        let (left, rest) = split_term(sides);
+        let (right, _none) = split_term(rest);
+        let all = equated(alloc, left, right)?;
+        for one in all.as_slice() {
+            put_sign(b"= ", out)?;
+            self.texts.names.put_variable(one.variable, out)?;
+            out.extend_from_slice(b" <- ")?;
+            self.texts.put_nodes(one.value, MOST_GOAL, out)?;
+            out.push(b'\n')?;
+        }
+        Ok(())
+    }
+
+    /// Puts what shoens reported in a step after the bytes, as far as it is seen.
+    fn put_reports(
+        &self,
+        predicates: &Predicates,
+        seen: &Seen,
+        out: &mut Vec<u8>,
+    ) -> Result<(), AllocError> {
+        for shoen in seen.opened.as_slice() {
+            put_report(shoen.number, b"started", out)?;
+        }
+        if 0 < seen.raised {
+            let mut text = Vec::new(self.texts.alloc);
+            self.texts
+                .put_exception(predicates, seen, MOST_GOAL, &mut text)?;
+            put_report(seen.step.goal.shoen, text.as_slice(), out)?;
+        }
+        for shoen in seen.changed.as_slice() {
+            put_report(shoen.number, word_of(shoen.condition), out)?;
+        }
+        Ok(())
+    }
+
+    /// Puts the line of a new goal after the bytes. That of a substitute is told as an exception, and monitors aren't told.
+    fn put_new<H: Views>(
+        &self,
+        host: &mut H,
+        goal: &NewGoal,
+        out: &mut Vec<u8>,
+    ) -> Result<(), AllocError>
+        ensures same { (f : H.Reading) → H.fits host.new f → H.kept f host.new ≡ H.kept f host.old }
+        ensures before { (f : H.Reading) → H.fits host.new f → H.fits host.old f }
+        ensures beside { H.beside host.new ≡ H.beside host.old }
+    {
+        match goal.view.task {
+            TaskKind::Reduces => {}
+            _ => return Ok(()),
+        }
+        let Some(text) = host.goal_text(goal.view.number, Extent::Cut)? else {
+            return Ok(());
+        };
+        put_sign(b"+ ", out)?;
+        put_decimal(out, goal.view.number.0)?;
+        out.push(b' ')?;
+        self.texts.put_term(text.as_slice(), MOST_GOAL, out)?;
+        if !goal.view.can_step {
+            self.put_awaited(host, goal, out)?;
+        }
+        out.push(b'\n')?;
+        Ok(())
+    }
+
+    /// Puts what a new goal waits for after the bytes.
+    fn put_awaited<H: Views>(
+        &self,
+        host: &H,
+        goal: &NewGoal,
+        out: &mut Vec<u8>,
+    ) -> Result<(), AllocError> {
+        let mut words: &[u8] = b"  waits for ";
+        if let Some(variables) = host.awaited(goal.view.number)? {
+            for variable in variables.as_slice() {
+                out.extend_from_slice(words)?;
+                self.texts.names.put_variable(u64::from(*variable), out)?;
+                words = b", ";
+            }
+        }
+        Ok(())
+    }
+
+    /// Puts the lines of new goals after the bytes.
+    pub fn put_all_new<H: Views>(
+        &self,
+        host: &mut H,
+        new: &[NewGoal],
+        out: &mut Vec<u8>,
+    ) -> Result<(), AllocError>
+        ensures same { (f : H.Reading) → H.fits host.new f → H.kept f host.new ≡ H.kept f host.old }
+        ensures before { (f : H.Reading) → H.fits host.new f → H.fits host.old f }
+        ensures beside { H.beside host.new ≡ H.beside host.old }
+    {
+        let mut rest = new;
+        while let [first, others @ ..] = rest {
+            self.put_new(host, first, out)?;
+            rest = others;
+        }
+        Ok(())
+    }
+
+    /// The lines of a step.
+    fn lines_of<H: Views>(
+        &self,
+        host: &mut H,
+        predicates: &Predicates,
+        seen: &Seen,
+    ) -> Result<Vec<u8>, AllocError>
+        ensures same { (f : H.Reading) → H.fits host.new f → H.kept f host.new ≡ H.kept f host.old }
+        ensures before { (f : H.Reading) → H.fits host.new f → H.fits host.old f }
+        ensures beside { H.beside host.new ≡ H.beside host.old }
+    {
+        let mut out = Vec::new(self.texts.alloc);
+        self.put_head(predicates, seen, &mut out)?;
+        self.put_all_new(host, seen.new.as_slice(), &mut out)?;
+        self.put_bindings(seen, &mut out)?;
+        put_woken(seen.woken.as_slice(), &mut out)?;
+        self.put_reports(predicates, seen, &mut out)?;
+        Ok(out)
+    }
+}
+
+impl<H: UnbookedHost + Views, W: Write + Drop> Observer<H> for Trace<'_, W> {
+    fn wants_text(&self, predicates: &Predicates, step: &Next) -> bool {
+        let called = predicates.called(step.predicate);
+        self.pattern.may_have(step, called.as_ref())
+    }
+
+    fn see(
+        &mut self,
+        host: &mut H,
+        predicates: &Predicates,
+        seen: &Seen,
+    ) -> Result<bool, AllocError> {
+        let called = predicates.called(seen.step.predicate);
+        if self.pattern.has(seen, called.as_ref()) {
+            let lines = self.lines_of(host, predicates, seen)?;
+            self.tell(lines.as_slice())?;
+        }
+        Ok(!self.has_failed && !self.pattern.is_over(seen.step.number))
+    }
+}

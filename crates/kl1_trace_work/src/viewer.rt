@@ -1,0 +1,349 @@
+// What looks at an account before and after each step.
+
+ghost use Rattle.std.specs.Prelude.{◌≡◌};
+
+use crate::predicates::Predicates;
+use crate::seen::{NewGoal, Next, Observer, Seen};
+use crate::waits::{ALL, Waits};
+use kl1_command::{UnbookedHost, Views};
+use kl1_model::Condition;
+use kl1_shown::parse_print;
+use kl1_term::Node;
+use kl1_user_events::{ClauseNo, Extent, GoalNo, GoalView, ShoenNo, ShoenView, TaskKind};
+use std::alloc::{AllocError, Global};
+
+/// What came of a step that was tried.
+#[derive(Clone, Copy)]
+pub enum Watched {
+    /// It was done, and more are wanted.
+    More,
+    /// It was done, and no more are wanted.
+    Enough,
+    /// It was refused, or no goal can step.
+    Refused,
+}
+
+/// What looks at an account before and after each step, for an observer.
+#[derive(Drop)]
+pub struct Viewer<O> {
+    alloc: Global,
+    pub observer: O,
+    pub predicates: Predicates,
+    /// How many steps were seen.
+    pub number: u64,
+    /// The greatest number of a goal so far.
+    last_goal: u64,
+    /// How many reports were made before the step.
+    reports: u64,
+    shoens: Vec<ShoenView>,
+    /// The goals that can't step, unless who wakes doesn't matter.
+    waits: Option<Waits>,
+}
+
+/// What is known before a step.
+#[derive(Drop)]
+struct Before {
+    step: Next,
+    text: Option<Vec<u8>>,
+    is_built_in: bool,
+}
+
+/// The greatest number of goals, which are in order of their numbers.
+fn last_of(goals: &[GoalView], before: u64) -> u64 {
+    match goals.last() {
+        Some(goal) => before.max(goal.number.0),
+        None => before,
+    }
+}
+
+/// Whether two states are one.
+fn is_same(one: Condition, other: Condition) -> bool {
+    match (one, other) {
+        (Condition::Terminated, Condition::Terminated) => true,
+        (Condition::Aborted, Condition::Aborted) => true,
+        (Condition::Stopped, Condition::Stopped) => true,
+        (Condition::Exhausted, Condition::Exhausted) => true,
+        (Condition::Running, Condition::Running) => true,
+        _ => false,
+    }
+}
+
+/// The shoens that are in another state than before. They are in order of their numbers.
+fn changed_among(
+    alloc: Global,
+    before: &[ShoenView],
+    now: &[ShoenView],
+) -> Result<Vec<ShoenView>, AllocError> {
+    let mut changed = Vec::new(alloc);
+    for (old, shoen) in before.iter().zip(now.iter()) {
+        if !is_same(old.condition, shoen.condition) {
+            changed.push(*shoen)?;
+        }
+    }
+    Ok(changed)
+}
+
+/// How many of goals wait for an answer to an exception.
+fn raised_among(new: &[NewGoal]) -> u64 {
+    let mut count: u64 = 0;
+    for goal in new {
+        if let TaskKind::Substitutes = goal.view.task {
+            count = count.saturating_add(1);
+        }
+    }
+    count
+}
+
+/// The variables of a printed goal, each of them once; `None` if its text is cut.
+fn variables_of(alloc: Global, text: &[u8]) -> Result<Option<Vec<u64>>, AllocError> {
+    let parsed = parse_print(alloc, text)?;
+    if !parsed.is_whole {
+        return Ok(None);
+    }
+    let mut variables = Vec::new(alloc);
+    for node in parsed.nodes.as_slice() {
+        if let Node::Variable(number) = node {
+            if !variables.contains(number) {
+                variables.push(*number)?;
+            }
+        }
+    }
+    Ok(Some(variables))
+}
+
+/// Shoens that are new, and shoens in another state than before.
+#[derive(Drop)]
+struct Shoens {
+    opened: Vec<ShoenView>,
+    changed: Vec<ShoenView>,
+}
+
+impl<O: Drop> Viewer<O> {
+    /// What looks at an account as it is now; at who wakes only if that matters.
+    pub fn new<H: Views>(
+        alloc: Global,
+        host: &mut H,
+        observer: O,
+        is_waking: bool,
+    ) -> Result<Self, AllocError>
+        ensures same { (f : H.Reading) → H.fits host.new f → H.kept f host.new ≡ H.kept f host.old }
+        ensures before { (f : H.Reading) → H.fits host.new f → H.fits host.old f }
+        ensures beside { H.beside host.new ≡ H.beside host.old }
+    {
+        let mut viewer = Viewer {
+            alloc,
+            observer,
+            predicates: Predicates::new(alloc)?,
+            number: 0,
+            last_goal: 0,
+            reports: 0,
+            shoens: Vec::new(alloc),
+            waits: if is_waking {
+                Some(Waits::new(alloc))
+            } else {
+                None
+            },
+        };
+        let _new = viewer.look_anew(host)?;
+        Ok(viewer)
+    }
+
+    /// Looks at an account in which something else than a step was done. Answers the goals that are new.
+    pub fn look_anew<H: Views>(&mut self, host: &mut H) -> Result<Vec<NewGoal>, AllocError>
+        ensures same { (f : H.Reading) → H.fits host.new f → H.kept f host.new ≡ H.kept f host.old }
+        ensures before { (f : H.Reading) → H.fits host.new f → H.fits host.old f }
+        ensures beside { H.beside host.new ≡ H.beside host.old }
+    {
+        let new = host.goals_from(GoalNo(self.last_goal.saturating_add(1)), ALL)?;
+        self.reports = host.usage().reports.count;
+        self.shoens = host.shoens_from(ShoenNo(0), ALL)?;
+        if let Some(waits) = &mut self.waits {
+            let mut woken = Vec::new(self.alloc);
+            waits.look_at_all(host, self.last_goal, &mut woken)?;
+            waits.take(host, new.as_slice())?;
+        }
+        self.last_goal = last_of(new.as_slice(), self.last_goal);
+        self.predicates.take(host, new.as_slice())
+    }
+
+    /// What became of the shoens in a step, of which reports were made if something did.
+    fn look_at_shoens<H: Views>(&mut self, host: &H) -> Result<Shoens, AllocError> {
+        let shoens = host.shoens_from(ShoenNo(0), ALL)?;
+        let opened = shoens.as_slice().get(self.shoens.len()..).unwrap_or(&[]);
+        let seen = Shoens {
+            opened: Vec::from_slice(self.alloc, opened)?,
+            changed: changed_among(self.alloc, self.shoens.as_slice(), shoens.as_slice())?,
+        };
+        self.shoens = shoens;
+        Ok(seen)
+    }
+
+    /// The goals that a step woke: of those that were there, and if not all may have been, of those that wait for a variable of its goal.
+    fn woken_by<H: Views>(
+        &mut self,
+        host: &H,
+        before: &Before,
+        all: bool,
+    ) -> Result<Vec<GoalNo>, AllocError> {
+        let mut woken = Vec::new(self.alloc);
+        let Some(waits) = &mut self.waits else {
+            return Ok(woken);
+        };
+        if !all && !before.is_built_in {
+            return Ok(woken);
+        }
+        let variables = match &before.text {
+            Some(text) if !all => variables_of(self.alloc, text.as_slice())?,
+            _ => None,
+        };
+        match variables {
+            Some(variables) => waits.look(host, variables.as_slice(), &mut woken)?,
+            None => waits.look_at_all(host, self.last_goal, &mut woken)?,
+        }
+        woken.sort_by_key(|goal: &GoalNo| goal.0)?;
+        Ok(woken)
+    }
+}
+
+/// What is known before a step; `None` if there is no such goal.
+fn look_before<H: UnbookedHost + Views, O: Observer<H> + Drop>(
+    viewer: &Viewer<O>,
+    host: &mut H,
+    goal: GoalNo,
+    clause: ClauseNo,
+) -> Result<Option<Before>, AllocError>
+    ensures same { (f : H.Reading) → H.fits host.new f → H.kept f host.new ≡ H.kept f host.old }
+    ensures before { (f : H.Reading) → H.fits host.new f → H.fits host.old f }
+    ensures beside { H.beside host.new ≡ H.beside host.old }
+{
+    let view = match host.goals_from(goal, 1)?.as_slice() {
+        [view, ..] if view.number.0 == goal.0 => *view,
+        _ => return Ok(None),
+    };
+    let step = Next {
+        number: viewer.number.saturating_add(1),
+        goal: view,
+        predicate: viewer.predicates.of(goal),
+        clause,
+    };
+    let is_built_in = match viewer.predicates.called(step.predicate) {
+        Some(called) => called.module.is_none(),
+        None => false,
+    };
+    let is_waking = is_built_in && viewer.waits.is_some();
+    let text = if is_waking || viewer.observer.wants_text(&viewer.predicates, &step) {
+        host.goal_text(goal, Extent::Cut)?
+    } else {
+        None
+    };
+    Ok(Some(Before {
+        step,
+        text,
+        is_built_in,
+    }))
+}
+
+impl<O: Drop> Viewer<O> {
+    /// What is seen of a step that was done.
+    fn look_after<H: Views>(&mut self, host: &mut H, before: Before) -> Result<Seen, AllocError>
+        ensures same { (f : H.Reading) → H.fits host.new f → H.kept f host.new ≡ H.kept f host.old }
+        ensures before { (f : H.Reading) → H.fits host.new f → H.fits host.old f }
+        ensures beside { H.beside host.new ≡ H.beside host.old }
+    {
+        let goals = host.goals_from(GoalNo(self.last_goal.saturating_add(1)), ALL)?;
+        let usage = host.usage();
+        let is_monitor = match before.step.goal.task {
+            TaskKind::Monitor => true,
+            _ => false,
+        };
+        let is_told = is_monitor || usage.reports.count != self.reports;
+        let shoens = if is_told {
+            self.look_at_shoens(host)?
+        } else {
+            Shoens {
+                opened: Vec::new(self.alloc),
+                changed: Vec::new(self.alloc),
+            }
+        };
+        let woken = self.woken_by(host, &before, is_told)?;
+        if let Some(waits) = &mut self.waits {
+            waits.take(host, goals.as_slice())?;
+        }
+        self.reports = usage.reports.count;
+        self.last_goal = last_of(goals.as_slice(), self.last_goal);
+        self.number = before.step.number;
+        self.predicates.forget(before.step.goal.number);
+        let Before { step, text, .. } = before;
+        let new = self
+            .predicates
+            .take_made(host, step.predicate, step.clause.0, goals.as_slice())?;
+        Ok(Seen {
+            step,
+            text,
+            raised: raised_among(new.as_slice()),
+            new,
+            woken,
+            opened: shoens.opened,
+            changed: shoens.changed,
+            alive: usage.goals.count,
+        })
+    }
+}
+
+/// Reduces a goal by a clause, and has that seen.
+pub fn watch_step<H: UnbookedHost + Views, O: Observer<H> + Drop>(
+    host: &mut H,
+    goal: GoalNo,
+    clause: ClauseNo,
+    viewer: &mut Viewer<O>,
+) -> Result<Watched, AllocError>
+    ensures before { (f : H.Reading) → H.fits host.new f → H.fits host.old f }
+    ensures beside { H.beside host.new ≡ H.beside host.old }
+{
+    let Some(before) = look_before(viewer, host, goal, clause)? else {
+        return Ok(Watched::Refused);
+    };
+    match host.reduce(goal, clause) {
+        Ok(None) => {
+            let seen = viewer.look_after(host, before)?;
+            let goes = viewer.observer.see(host, &viewer.predicates, &seen)?;
+            Ok(if goes { Watched::More } else { Watched::Enough })
+        }
+        Ok(Some(_refusal)) => Ok(Watched::Refused),
+        Err(error) => Err(error),
+    }
+}
+
+/// Does the first step, and has it seen.
+pub fn watch_once<H: UnbookedHost + Views, O: Observer<H> + Drop>(
+    host: &mut H,
+    viewer: &mut Viewer<O>,
+) -> Result<Watched, AllocError>
+    ensures before { (f : H.Reading) → H.fits host.new f → H.fits host.old f }
+    ensures beside { H.beside host.new ≡ H.beside host.old }
+{
+    let Some((goal, clause)) = host.pick() else {
+        return Ok(Watched::Refused);
+    };
+    watch_step(host, goal, clause, viewer)
+}
+
+/// Does first steps, at most `most`, and has each seen; ends if none can be done, or no more are wanted. Answers what came of the last.
+pub fn watch_first<H: UnbookedHost + Views, O: Observer<H> + Drop>(
+    host: &mut H,
+    most: u64,
+    viewer: &mut Viewer<O>,
+) -> Result<Watched, AllocError>
+    ensures before { (f : H.Reading) → H.fits host.new f → H.fits host.old f }
+    ensures beside { H.beside host.new ≡ H.beside host.old }
+{
+    let mut left = most;
+    while 0 < left {
+        left -= 1;
+        match watch_once(host, viewer)? {
+            Watched::More => {}
+            other => return Ok(other),
+        }
+    }
+    Ok(Watched::More)
+}
