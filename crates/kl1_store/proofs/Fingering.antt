@@ -74,7 +74,7 @@ no_fingers {N = N} built h gs empty start =
 pub fingers_grown : {N : Type 0} (built : BuiltIn → N) (old new : Held N) (gs : Fingers N) → Grown old new → AreFingers built old gs → AreFingers built new gs
 fingers_grown built old new gs grown a = record { past = a.past; since = a.since; formed = a.formed; grown = Grown-trans a.past old new a.grown grown; each = a.each }
 
-fingers_same : {N : Type 0} (built : BuiltIn → N) (old new : Held N) (gs : Fingers N) → new ≡ old → AreFingers built old gs → AreFingers built new gs
+pub fingers_same : {N : Type 0} (built : BuiltIn → N) (old new : Held N) (gs : Fingers N) → new ≡ old → AreFingers built old gs → AreFingers built new gs
 fingers_same {N = N} built old new gs e a = let P : Held N → Type 0 = λ h. AreFingers built h gs in subst P (sym e) a
 
 pub fingers_fresh : {N X E : Type 0} (built : BuiltIn → N) (old new : Held N) (P : X → Type 0) (r : Result X E) (gs : Fingers N) → IfOk r (λ (v : X). P v × (new ≡ with_variable old)) → OnErr r (new ≡ old) →

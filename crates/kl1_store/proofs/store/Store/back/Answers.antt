@@ -19,7 +19,7 @@ no_more g c =
     let e = ap (λ (h : Held g.row.N.Denot). h.variables) (c.take_back.ensures.held k.held (ap (λ (p : Point). p.sizes) c.requires.1.0) grown) in
     omega arith
 
-cut_back : (g : _) (c : goal.After-keep g) → AreFingers g.N.NameValue.built c.take_back.new.cells.held c.cut.new.self
+cut_back : (g : _) (c : goal.After-forget_rests g) → AreFingers g.N.NameValue.built c.take_back.new.cells.held c.cut.new.self
 cut_back g c =
     let s = c.self.inside in
     let k = c.requires.0 in
