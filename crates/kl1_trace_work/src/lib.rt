@@ -4,7 +4,11 @@
 mod columns;
 mod equated;
 mod json;
+mod labels;
+mod lanes;
+mod observers;
 mod pattern;
+mod picture;
 mod predicates;
 mod profile;
 mod seen;
@@ -15,7 +19,10 @@ mod viewer;
 mod waits;
 
 pub use json::profile_json;
+pub use lanes::Timeline;
+pub use observers::Observers;
 pub use pattern::Pattern;
+pub use picture::put_picture;
 pub use predicates::{Calling, Predicates};
 pub use profile::{Counts, Profile, Row};
 pub use seen::{NewGoal, Next, Observer, Seen};

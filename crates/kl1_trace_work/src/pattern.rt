@@ -77,10 +77,13 @@ fn named_in(word: &[u8]) -> Option<Named> {
 impl Named {
     /// Whether what is called is named.
     fn has(&self, called: &Called) -> bool {
-        match (self.module, called.module) {
-            (None, None) => {}
-            (Some(module), Some(other)) if module == other => {}
-            _ => return false,
+        let is_module = match (self.module, called.module) {
+            (None, None) => true,
+            (Some(module), Some(other)) => module == other,
+            _ => false,
+        };
+        if !is_module {
+            return false;
         }
         match self.predicate {
             None => true,
@@ -145,16 +148,26 @@ impl Pattern {
         self.to <= number
     }
 
+    /// Whether a step of this number is told, as far as that says.
+    pub fn is_between(&self, number: u64) -> bool {
+        self.from <= number && number <= self.to
+    }
+
+    /// Whether goals that call this are told.
+    pub fn names(&self, called: Option<&Called>) -> bool {
+        self.named.is_empty() || self.is_named(called)
+    }
+
     /// Whether a step is told of a goal that calls this, unless that depends on what it does.
     pub fn may_have(&self, step: &Next, called: Option<&Called>) -> bool {
-        if step.number < self.from || self.to < step.number {
+        if !self.is_between(step.number) {
             return false;
         }
         match self.shoen {
             Some(shoen) if step.goal.shoen.0 != shoen => return false,
             _ => {}
         }
-        self.named.is_empty() || self.is_named(called)
+        self.names(called)
     }
 
     /// Whether a step is told of a goal that calls this.

@@ -1,10 +1,7 @@
 // What each predicate did in a run.
 
-ghost use Rattle.std.specs.Prelude.{◌≡◌};
-
 use crate::predicates::{Calling, Predicates};
-use crate::seen::{NewGoal, Next, Observer, Seen};
-use kl1_command::{UnbookedHost, Views};
+use crate::seen::{NewGoal, Seen};
 use kl1_user_events::TaskKind;
 use std::alloc::{AllocError, Global};
 
@@ -119,21 +116,13 @@ impl Profile {
     }
 }
 
-impl<H: UnbookedHost + Views> Observer<H> for Profile {
-    fn wants_text(&self, _predicates: &Predicates, _step: &Next) -> bool {
-        false
-    }
-
-    fn see(
-        &mut self,
-        _host: &mut H,
-        _predicates: &Predicates,
-        seen: &Seen,
-    ) -> Result<bool, AllocError> {
+impl Profile {
+    /// Counts a step and the goals that it made.
+    pub fn take(&mut self, seen: &Seen) -> Result<(), AllocError> {
         self.count(seen)?;
         for goal in seen.new.as_slice() {
             self.count_waiting(goal)?;
         }
-        Ok(true)
+        Ok(())
     }
 }

@@ -12,7 +12,9 @@ const HEAD: &[u8] = b"reductions      %   new goals      waited  exceptions  pre
 
 /// Puts the tenths of a hundredth that a count is of another as a number with one digit after the point after the bytes.
 fn put_share(alloc: Global, count: u64, of: u64, out: &mut Vec<u8>) -> Result<(), AllocError> {
-    let share = u128::from(count) * 1_000 / u128::from(of.max(1));
+    // Half of what is left out is added, so that it is rounded.
+    let whole = u128::from(of.max(1));
+    let share = (u128::from(count) * 1_000 + whole / 2) / whole;
     let tenths = u64::try_from(share).unwrap_or(1_000);
     put_right(alloc, tenths / 10, 5, out)?;
     out.push(b'.')?;

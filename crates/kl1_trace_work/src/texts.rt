@@ -131,6 +131,16 @@ impl Texts<'_> {
     }
 }
 
+/// Puts the exception of a step, without its goal, after the bytes.
+pub fn put_kind(
+    predicates: &Predicates,
+    seen: &Seen,
+    out: &mut Vec<u8>,
+) -> Result<(), AllocError> {
+    let called = predicates.called(seen.step.predicate);
+    out.extend_from_slice(kind_of(seen.step.clause.0, called.as_ref()))
+}
+
 /// The word for a shoen that came into this state.
 pub fn word_of(condition: Condition) -> &'static [u8] {
     match condition {

@@ -6,9 +6,9 @@ use crate::columns::{put_blanks, put_front, put_right};
 use crate::equated::{equated, split_term};
 use crate::pattern::Pattern;
 use crate::predicates::Predicates;
-use crate::seen::{NewGoal, Next, Observer, Seen};
+use crate::seen::{NewGoal, Next, Seen};
 use crate::texts::{Texts, word_of};
-use kl1_command::{UnbookedHost, Views};
+use kl1_command::Views;
 use kl1_lines::put_decimal;
 use kl1_shown::parse_print;
 use kl1_term::Node;
@@ -30,7 +30,7 @@ const MOST_HELD: usize = 65_536;
 pub struct Trace<'a, W> {
     pub texts: Texts<'a>,
     pub pattern: Pattern,
-    out: W,
+    pub out: W,
     /// What is to be written.
     held: Vec<u8>,
     /// Whether a write failed.
@@ -256,18 +256,24 @@ impl<'a, W: Write + Drop> Trace<'a, W> {
     }
 }
 
-impl<H: UnbookedHost + Views, W: Write + Drop> Observer<H> for Trace<'_, W> {
-    fn wants_text(&self, predicates: &Predicates, step: &Next) -> bool {
+impl<W: Write + Drop> Trace<'_, W> {
+    /// Whether a step may be told.
+    pub fn may_tell(&self, predicates: &Predicates, step: &Next) -> bool {
         let called = predicates.called(step.predicate);
         self.pattern.may_have(step, called.as_ref())
     }
 
-    fn see(
+    /// Tells a step, if the pattern has it. Answers whether later steps may be told.
+    pub fn take<H: Views>(
         &mut self,
         host: &mut H,
         predicates: &Predicates,
         seen: &Seen,
-    ) -> Result<bool, AllocError> {
+    ) -> Result<bool, AllocError>
+        ensures same { (f : H.Reading) → H.fits host.new f → H.kept f host.new ≡ H.kept f host.old }
+        ensures before { (f : H.Reading) → H.fits host.new f → H.fits host.old f }
+        ensures beside { H.beside host.new ≡ H.beside host.old }
+    {
         let called = predicates.called(seen.step.predicate);
         if self.pattern.has(seen, called.as_ref()) {
             let lines = self.lines_of(host, predicates, seen)?;

@@ -29,6 +29,8 @@ pub struct Viewer<O> {
     alloc: Global,
     pub observer: O,
     pub predicates: Predicates,
+    /// The goals that were there at the beginning.
+    pub begun: Vec<NewGoal>,
     /// How many steps were seen.
     pub number: u64,
     /// The greatest number of a goal so far.
@@ -134,6 +136,7 @@ impl<O: Drop> Viewer<O> {
             alloc,
             observer,
             predicates: Predicates::new(alloc)?,
+            begun: Vec::new(alloc),
             number: 0,
             last_goal: 0,
             reports: 0,
@@ -144,7 +147,7 @@ impl<O: Drop> Viewer<O> {
                 None
             },
         };
-        let _new = viewer.look_anew(host)?;
+        viewer.begun = viewer.look_anew(host)?;
         Ok(viewer)
     }
 

@@ -1,0 +1,462 @@
+// The processes of a run, each in a lane.
+
+ghost use Rattle.std.specs.Prelude.{◌≡◌};
+
+use crate::columns::put_front;
+use crate::labels::label_of;
+use crate::pattern::Pattern;
+use crate::predicates::{Calling, Predicates};
+use crate::seen::{NewGoal, Next, Seen};
+use crate::texts::{put_kind, put_name, word_of};
+use kl1_command::Views;
+use kl1_model::Condition;
+use kl1_steps::Called;
+use kl1_user_events::{Extent, GoalNo, ShoenNo, TaskKind};
+use std::alloc::{AllocError, Global};
+use std::collections::HashMap;
+
+/// The most lanes that are drawn.
+pub const MOST_LANES: usize = 40;
+
+/// The most steps that are drawn.
+pub const MOST_STEPS: u64 = 2_000;
+
+/// The most bytes of the text of a step.
+const MOST_TEXT: usize = 200;
+
+/// A process: a goal, and after each of its steps the goal that goes on with it.
+#[derive(Drop)]
+pub struct Lane {
+    pub label: Vec<u8>,
+    pub shoen: u64,
+    /// The step that made it, and the one after which none of its goals is left, if there is one.
+    pub begin: u64,
+    pub end: Option<u64>,
+    /// How many goals of it there are.
+    alive: u64,
+}
+
+/// How a step is drawn.
+#[derive(Clone, Copy)]
+pub enum Mark {
+    Reduction,
+    BuiltIn,
+    Exception,
+}
+
+/// A step in a lane.
+#[derive(Drop)]
+pub struct Dot {
+    pub lane: usize,
+    pub step: u64,
+    pub mark: Mark,
+    pub text: Vec<u8>,
+}
+
+/// A time in which a goal of a lane couldn't step: after a step, and up to another, if it wakes.
+#[derive(Clone, Copy)]
+pub struct Bar {
+    pub lane: usize,
+    pub goal: u64,
+    pub begin: u64,
+    pub end: Option<u64>,
+}
+
+/// What one lane did to another in a step.
+#[derive(Clone, Copy)]
+pub struct Arrow {
+    pub from: usize,
+    pub to: usize,
+    pub step: u64,
+    /// The goal that woke; `None` if the other lane was made.
+    pub woken: Option<u64>,
+}
+
+/// What a shoen reported in a step.
+#[derive(Drop)]
+pub struct Report {
+    pub step: u64,
+    pub text: Vec<u8>,
+    pub is_exception: bool,
+}
+
+/// The lanes of a run, and what happens in them.
+#[derive(Drop)]
+pub struct Timeline {
+    alloc: Global,
+    pattern: Pattern,
+    pub lanes: Vec<Lane>,
+    /// How many lanes more there are.
+    pub left_out: u64,
+    pub dots: Vec<Dot>,
+    pub bars: Vec<Bar>,
+    pub arrows: Vec<Arrow>,
+    pub reports: Vec<Report>,
+    /// The first and the last step that are drawn; 0 if none is.
+    pub first: u64,
+    pub last: u64,
+    /// Whether the run goes on after that.
+    pub is_cut: bool,
+    /// The lanes of goals; `MOST_LANES` for one that isn't drawn.
+    places: HashMap<u64, usize>,
+}
+
+/// Whether what is called is a predicate of a module of the user's.
+fn is_process(calling: Calling) -> bool {
+    match calling {
+        Calling::Calls(Called {
+            module: Some(module), ..
+        }) => module.unpacked().as_slice() != b"shoen".as_slice(),
+        _ => false,
+    }
+}
+
+/// The goal among new ones that goes on with a process: of the same predicate, or else the only one that is a process.
+fn heir_of(predicates: &Predicates, seen: &Seen) -> Option<GoalNo> {
+    if !is_process(predicates.calling(seen.step.predicate)) {
+        return None;
+    }
+    let mut only = None;
+    let mut count: u64 = 0;
+    for goal in seen.new.as_slice() {
+        if goal.view.shoen.0 == seen.step.goal.shoen.0
+            && is_process(predicates.calling(goal.predicate))
+        {
+            if goal.predicate == seen.step.predicate {
+                return Some(goal.view.number);
+            }
+            only = Some(goal.view.number);
+            count = count.saturating_add(1);
+        }
+    }
+    if count == 1 { only } else { None }
+}
+
+impl Timeline {
+    /// The lanes of the steps of a pattern; its predicates are those with which lanes begin.
+    pub fn new(alloc: Global, pattern: Pattern) -> Self {
+        Timeline {
+            alloc,
+            pattern,
+            lanes: Vec::new(alloc),
+            left_out: 0,
+            dots: Vec::new(alloc),
+            bars: Vec::new(alloc),
+            arrows: Vec::new(alloc),
+            reports: Vec::new(alloc),
+            first: 0,
+            last: 0,
+            is_cut: false,
+            places: HashMap::new(alloc),
+        }
+    }
+
+    /// Whether a step may be drawn.
+    pub fn may_draw(&self, _predicates: &Predicates, step: &Next) -> bool {
+        self.pattern.is_between(step.number)
+    }
+
+    /// The lane of a goal, if it is drawn.
+    fn place_of(&self, goal: u64) -> Option<usize> {
+        let place = *self.places.get(&goal)?;
+        if place < self.lanes.len() {
+            Some(place)
+        } else {
+            None
+        }
+    }
+
+    /// Begins a lane for a goal, unless there are enough.
+    fn open(
+        &mut self,
+        goal: u64,
+        label: Vec<u8>,
+        shoen: ShoenNo,
+        begin: u64,
+    ) -> Result<(), AllocError> {
+        let place = if self.lanes.len() < MOST_LANES {
+            self.lanes.push(Lane {
+                label,
+                shoen: shoen.0,
+                begin,
+                end: None,
+                alive: 1,
+            })?;
+            self.lanes.len().saturating_sub(1)
+        } else {
+            self.left_out = self.left_out.saturating_add(1);
+            MOST_LANES
+        };
+        let _before = self.places.insert(goal, place)?;
+        Ok(())
+    }
+
+    /// Puts a goal into a lane.
+    fn join(&mut self, goal: u64, place: usize) -> Result<(), AllocError> {
+        let _before = self.places.insert(goal, place)?;
+        if let Some(lane) = self.lanes.get_mut(place) {
+            lane.alive = lane.alive.saturating_add(1);
+        }
+        Ok(())
+    }
+
+    /// Takes a goal that is gone out of its lane, which ends if it was the last.
+    fn leave(&mut self, goal: u64, step: u64) {
+        if let Some(place) = self.places.remove(&goal) {
+            if let Some(lane) = self.lanes.get_mut(place) {
+                lane.alive = lane.alive.saturating_sub(1);
+                if lane.alive == 0 && lane.end.is_none() {
+                    lane.end = Some(step);
+                }
+            }
+        }
+    }
+
+    /// Takes goals that are there at the beginning, or that came up otherwise than in a step.
+    pub fn begin<H: Views>(
+        &mut self,
+        host: &mut H,
+        predicates: &Predicates,
+        goals: &[NewGoal],
+        step: u64,
+    ) -> Result<(), AllocError>
+        ensures same { (f : H.Reading) → H.fits host.new f → H.kept f host.new ≡ H.kept f host.old }
+        ensures before { (f : H.Reading) → H.fits host.new f → H.fits host.old f }
+        ensures beside { H.beside host.new ≡ H.beside host.old }
+    {
+        let mut rest = goals;
+        while let [first, others @ ..] = rest {
+            self.take_new(host, predicates, first, None, step)?;
+            rest = others;
+        }
+        Ok(())
+    }
+
+    /// Takes a goal that is new: into the lane of the step that made it, if that is given and the goal is no process of its own, or into
+    /// a lane of its own.
+    fn take_new<H: Views>(
+        &mut self,
+        host: &mut H,
+        predicates: &Predicates,
+        goal: &NewGoal,
+        parent: Option<usize>,
+        step: u64,
+    ) -> Result<(), AllocError>
+        ensures same { (f : H.Reading) → H.fits host.new f → H.kept f host.new ≡ H.kept f host.old }
+        ensures before { (f : H.Reading) → H.fits host.new f → H.fits host.old f }
+        ensures beside { H.beside host.new ≡ H.beside host.old }
+    {
+        if let TaskKind::Monitor = goal.view.task {
+            return Ok(());
+        }
+        let number = goal.view.number;
+        let calling = predicates.calling(goal.predicate);
+        match parent {
+            Some(place) if !is_process(calling) => return self.join(number.0, place),
+            _ => {}
+        }
+        if !self.pattern.names(predicates.called(goal.predicate).as_ref()) {
+            return Ok(());
+        }
+        let label = match host.goal_text(number, Extent::Cut)? {
+            Some(text) => label_of(self.alloc, text.as_slice())?,
+            None => Vec::new(self.alloc),
+        };
+        self.open(number.0, label, goal.view.shoen, step)?;
+        if !goal.view.can_step {
+            self.wait(number.0, step)?;
+        }
+        if let (Some(from), Some(to)) = (parent, self.place_of(number.0)) {
+            self.arrows.push(Arrow {
+                from,
+                to,
+                step,
+                woken: None,
+            })?;
+        }
+        Ok(())
+    }
+
+    /// Begins a time in which a goal can't step.
+    fn wait(&mut self, goal: u64, step: u64) -> Result<(), AllocError> {
+        if let Some(lane) = self.place_of(goal) {
+            self.bars.push(Bar {
+                lane,
+                goal,
+                begin: step,
+                end: None,
+            })?;
+        }
+        Ok(())
+    }
+
+    /// Ends the time in which a goal couldn't step.
+    fn wake(&mut self, goal: u64, step: u64, place: Option<usize>) -> Result<(), AllocError> {
+        for bar in &mut self.bars {
+            if bar.goal == goal && bar.end.is_none() {
+                bar.end = Some(step);
+            }
+        }
+        if let (Some(from), Some(to)) = (place, self.place_of(goal)) {
+            if from != to {
+                self.arrows.push(Arrow {
+                    from,
+                    to,
+                    step,
+                    woken: Some(goal),
+                })?;
+            }
+        }
+        Ok(())
+    }
+
+    /// Takes the goals that a step made.
+    fn take_made<H: Views>(
+        &mut self,
+        host: &mut H,
+        predicates: &Predicates,
+        seen: &Seen,
+        place: Option<usize>,
+    ) -> Result<(), AllocError>
+        ensures same { (f : H.Reading) → H.fits host.new f → H.kept f host.new ≡ H.kept f host.old }
+        ensures before { (f : H.Reading) → H.fits host.new f → H.fits host.old f }
+        ensures beside { H.beside host.new ≡ H.beside host.old }
+    {
+        let step = seen.step.number;
+        let heir = heir_of(predicates, seen);
+        let mut rest = seen.new.as_slice();
+        while let [first, others @ ..] = rest {
+            let number = first.view.number.0;
+            match (place, heir) {
+                (Some(lane), Some(GoalNo(next))) if next == number => {
+                    self.join(number, lane)?;
+                    if !first.view.can_step {
+                        self.wait(number, step)?;
+                    }
+                }
+                _ => self.take_new(host, predicates, first, place, step)?,
+            }
+            rest = others;
+        }
+        Ok(())
+    }
+
+    /// Puts the step itself into its lane.
+    fn put_dot(
+        &mut self,
+        predicates: &Predicates,
+        seen: &Seen,
+        lane: usize,
+    ) -> Result<(), AllocError> {
+        let mark = if 0 < seen.raised {
+            Mark::Exception
+        } else if is_process(predicates.calling(seen.step.predicate)) {
+            Mark::Reduction
+        } else {
+            Mark::BuiltIn
+        };
+        let mut text = Vec::new(self.alloc);
+        match &seen.text {
+            Some(print) => put_front(print.as_slice(), MOST_TEXT, &mut text)?,
+            None => put_name(predicates.calling(seen.step.predicate), &mut text)?,
+        }
+        self.dots.push(Dot {
+            lane,
+            step: seen.step.number,
+            mark,
+            text,
+        })?;
+        Ok(())
+    }
+
+    /// Puts a report of a shoen to the others.
+    fn put_report(
+        &mut self,
+        step: u64,
+        shoen: ShoenNo,
+        word: &[u8],
+        is_exception: bool,
+    ) -> Result<(), AllocError> {
+        let mut text = Vec::new(self.alloc);
+        text.push(b's')?;
+        kl1_lines::put_decimal(&mut text, shoen.0)?;
+        text.push(b' ')?;
+        text.extend_from_slice(word)?;
+        self.reports.push(Report {
+            step,
+            text,
+            is_exception,
+        })?;
+        Ok(())
+    }
+
+    /// Puts what shoens reported in a step to the others.
+    fn put_reports(&mut self, predicates: &Predicates, seen: &Seen) -> Result<(), AllocError> {
+        let step = seen.step.number;
+        for shoen in seen.opened.as_slice() {
+            self.put_report(step, shoen.number, b"started", false)?;
+        }
+        if 0 < seen.raised {
+            let mut text = Vec::new(self.alloc);
+            put_kind(predicates, seen, &mut text)?;
+            self.put_report(step, seen.step.goal.shoen, text.as_slice(), true)?;
+        }
+        for shoen in seen.changed.as_slice() {
+            self.put_report(step, shoen.number, word_of(shoen.condition), false)?;
+            if let Condition::Aborted = shoen.condition {
+                self.end_all(shoen.number, step);
+            }
+        }
+        Ok(())
+    }
+
+    /// Ends the lanes of a shoen whose goals are gone.
+    fn end_all(&mut self, shoen: ShoenNo, step: u64) {
+        for (place, lane) in self.lanes.iter_mut().enumerate() {
+            if lane.shoen == shoen.0 && lane.end.is_none() {
+                lane.end = Some(step);
+                for bar in &mut self.bars {
+                    if bar.lane == place && bar.end.is_none() {
+                        bar.end = Some(step);
+                    }
+                }
+            }
+        }
+    }
+
+    /// Draws a step. Answers whether later steps may be drawn.
+    pub fn take<H: Views>(
+        &mut self,
+        host: &mut H,
+        predicates: &Predicates,
+        seen: &Seen,
+    ) -> Result<bool, AllocError>
+        ensures same { (f : H.Reading) → H.fits host.new f → H.kept f host.new ≡ H.kept f host.old }
+        ensures before { (f : H.Reading) → H.fits host.new f → H.fits host.old f }
+        ensures beside { H.beside host.new ≡ H.beside host.old }
+    {
+        let step = seen.step.number;
+        if !self.pattern.is_between(step) {
+            return Ok(!self.pattern.is_over(step));
+        }
+        if self.first == 0 {
+            self.first = step;
+        }
+        if MOST_STEPS <= step - self.first {
+            self.is_cut = true;
+            return Ok(false);
+        }
+        self.last = step;
+        let place = self.place_of(seen.step.goal.number.0);
+        if let Some(lane) = place {
+            self.put_dot(predicates, seen, lane)?;
+        }
+        self.take_made(host, predicates, seen, place)?;
+        self.leave(seen.step.goal.number.0, step);
+        for goal in seen.woken.as_slice() {
+            self.wake(goal.0, step, place)?;
+        }
+        self.put_reports(predicates, seen)?;
+        Ok(!self.pattern.is_over(step))
+    }
+}
