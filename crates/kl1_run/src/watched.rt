@@ -59,10 +59,7 @@ fn observers_for<'a>(
     };
     let timeline = match asked.timeline {
         None => None,
-        Some(_file) => Some(Timeline::new(
-            alloc,
-            pattern_in(alloc, asked.lanes.unwrap_or(""))?,
-        )),
+        Some(_file) => Some(Timeline::new(alloc, pattern_in(alloc, asked.lanes.unwrap_or(""))?)),
     };
     Ok(Observers {
         trace,
@@ -92,7 +89,14 @@ fn write_profile(
             lines.extend_from_slice(value.to_string(alloc)?.as_bytes())?;
             lines.push(b'\n')?;
         }
-        _ => put_table(alloc, rows, profile.steps, profile.alive, &usage, &mut lines)?,
+        _ => put_table(
+            alloc,
+            rows,
+            profile.steps,
+            profile.alive,
+            &usage,
+            &mut lines,
+        )?,
     }
     match rt.stderr().write_all(lines.as_slice()) {
         Ok(()) => Ok(()),

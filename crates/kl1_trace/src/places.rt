@@ -49,11 +49,7 @@ impl Places {
 }
 
 /// The clauses of the modules that the entries of a text load.
-pub fn places_in(
-    alloc: Global,
-    text: &[u8],
-    sources: &[NamedText],
-) -> Result<Places, AllocError> {
+pub fn places_in(alloc: Global, text: &[u8], sources: &[NamedText]) -> Result<Places, AllocError> {
     let mut places = Places {
         clauses: Vec::new(alloc),
         files: Vec::new(alloc),

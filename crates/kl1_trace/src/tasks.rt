@@ -19,10 +19,7 @@ use std::alloc::{AllocError, Global};
 const NO_JOURNAL: u8 = 1;
 
 /// An account in which nothing has happened.
-fn fresh_world(
-    alloc: Global,
-    rules: Rules,
-) -> Result<World<PlainTable, PlainCodes>, AllocError> {
+fn fresh_world(alloc: Global, rules: Rules) -> Result<World<PlainTable, PlainCodes>, AllocError> {
     let name = AccountName::read(b"me").unwrap();
     let (table, seats) = PlainTable::new(alloc, 1)?;
     World::new(alloc, table, seats, PlainCodes::new(alloc), &[name], rules)

@@ -76,7 +76,14 @@ fn write_profile<H: Views>(
             lines.extend_from_slice(value.to_string(alloc)?.as_bytes())?;
             lines.push(b'\n')?;
         }
-        _ => put_table(alloc, rows, profile.steps, profile.alive, &usage, &mut lines)?,
+        _ => put_table(
+            alloc,
+            rows,
+            profile.steps,
+            profile.alive,
+            &usage,
+            &mut lines,
+        )?,
     }
     match rt.stdout().write_all(lines.as_slice()) {
         Ok(()) => Ok(()),

@@ -2,24 +2,25 @@
 #![tactic(auto)]
 
 mod columns;
+mod drawn;
 mod equated;
 mod json;
 mod labels;
-mod lanes;
 mod observers;
 mod pattern;
 mod picture;
 mod predicates;
 mod profile;
 mod seen;
+mod svg;
 mod table;
 mod texts;
+mod timeline;
 mod trace;
 mod viewer;
 mod waits;
 
 pub use json::profile_json;
-pub use lanes::Timeline;
 pub use observers::Observers;
 pub use pattern::Pattern;
 pub use picture::put_picture;
@@ -28,5 +29,6 @@ pub use profile::{Counts, Profile, Row};
 pub use seen::{NewGoal, Next, Observer, Seen};
 pub use table::put_table;
 pub use texts::Texts;
+pub use timeline::Timeline;
 pub use trace::Trace;
 pub use viewer::{Viewer, Watched, watch_first, watch_once, watch_step};

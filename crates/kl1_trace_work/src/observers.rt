@@ -2,10 +2,10 @@
 
 ghost use Rattle.std.specs.Prelude.{◌≡◌};
 
-use crate::lanes::Timeline;
 use crate::predicates::Predicates;
 use crate::profile::Profile;
 use crate::seen::{Next, Observer, Seen};
+use crate::timeline::Timeline;
 use crate::trace::Trace;
 use kl1_command::{UnbookedHost, Views};
 use std::alloc::AllocError;
@@ -27,6 +27,8 @@ impl<W> Observers<'_, W> {
 }
 
 impl<H: UnbookedHost + Views, W: Write + Drop> Observer<H> for Observers<'_, W> {
+    ghost has_seen = { λ o ss. Unit {0} };
+
     fn wants_text(&self, predicates: &Predicates, step: &Next) -> bool {
         if let Some(trace) = &self.trace {
             if trace.may_tell(predicates, step) {

@@ -1,22 +1,34 @@
 // Lanes as a picture.
 
-use crate::lanes::{Arrow, Bar, Dot, Lane, MOST_LANES, Mark, Report, Timeline};
+use crate::columns::put_front;
+use crate::drawn::{Arrow, Bar, Dot, Lane, Mark, Report};
+use crate::svg::{LEGEND, STYLE, put_escaped, put_tenths, put_text};
+use crate::timeline::{MOST_LANES, Timeline};
 use kl1_lines::put_decimal;
 use std::alloc::{AllocError, Global};
 
 /// All places in a picture are tenths of its units.
 const LEFT: u64 = 2_100;
+
 const RIGHT: u64 = 300;
+
 const TOP: u64 = 760;
+
 const ROW: u64 = 220;
 
 /// How wide the steps are together, if there are few, and the least and the most of a step.
 const WIDTH: u64 = 9_600;
+
 const LEAST_STEP: u64 = 12;
+
 const MOST_STEP: u64 = 300;
+
+/// The most bytes of a title.
+const MOST_TITLE: usize = 110;
 
 /// The height of a line of reports, and the width of a letter of it.
 const REPORT_ROW: u64 = 130;
+
 const LETTER: u64 = 56;
 
 /// How many tenths a step is wide.
@@ -30,27 +42,6 @@ struct Picture<'a> {
     timeline: &'a Timeline,
     step: u64,
     out: &'a mut Vec<u8>,
-}
-
-/// Puts tenths after the bytes.
-fn put_tenths(tenths: u64, out: &mut Vec<u8>) -> Result<(), AllocError> {
-    put_decimal(out, tenths / 10)?;
-    out.push(b'.')?;
-    put_decimal(out, tenths % 10)
-}
-
-/// Puts a text after the bytes, as it stands in a picture.
-pub fn put_escaped(text: &[u8], out: &mut Vec<u8>) -> Result<(), AllocError> {
-    for byte in text {
-        match *byte {
-            b'&' => out.extend_from_slice(b"&amp;")?,
-            b'<' => out.extend_from_slice(b"&lt;")?,
-            b'>' => out.extend_from_slice(b"&gt;")?,
-            b'"' => out.extend_from_slice(b"&quot;")?,
-            other => out.push(other)?,
-        }
-    }
-    Ok(())
 }
 
 /// Where the rows of reports end, by the place from which each is free.
@@ -297,45 +288,6 @@ impl Picture<'_> {
     }
 }
 
-/// The forms and colours, which are told apart by their lightness too.
-const STYLE: &[u8] = b"<style>
-text { font-family: DejaVu Sans, Verdana, sans-serif; font-size: 11px; fill: #222 }
-.title { font-size: 14px; font-weight: bold }
-.legend { fill: #555 }
-.number { font-size: 9px; fill: #666; text-anchor: middle }
-.grid { stroke: #eee }
-.label { text-anchor: end }
-.shoen { fill: #8a4b00 }
-.lane { stroke: #9fb4c8; stroke-width: 2 }
-.wait { fill: #fbe3b0; stroke: #c98a00; stroke-width: 0.6 }
-.fork { stroke: #aaa; stroke-width: 0.8; stroke-dasharray: 3,2 }
-.wake { stroke: #00734d; stroke-width: 1.1 }
-.reduction { fill: #12365c }
-.built-in { fill: #5b88b5 }
-.exception { fill: #d55e00; stroke: #5c1a00; stroke-width: 1 }
-.report { stroke: #888; stroke-width: 0.7; stroke-dasharray: 1,3 }
-.raised { stroke: #d55e00; stroke-width: 0.9; stroke-dasharray: 1,3 }
-.report-text { font-size: 9px; fill: #444 }
-.raised-text { font-size: 9px; fill: #a33f00; font-weight: bold }
-</style>
-<defs><marker id=\"head\" markerWidth=\"7\" markerHeight=\"7\" refX=\"5\" refY=\"3\" orient=\"auto\"><path d=\"M0,0 L6,3 L0,6 z\" fill=\"#00734d\"/></marker></defs>
-<rect width=\"100%\" height=\"100%\" fill=\"white\"/>
-";
-
-/// What the forms mean.
-const LEGEND: &[u8] = b"a lane for each process; dot: reduction, small dot: = or :=, square: exception, bar: waits, arrow: a binding wakes, dashes: new process, dots: reports";
-
-/// Puts a line of text at a height after the bytes.
-fn put_text(class: &[u8], y: u64, text: &[u8], out: &mut Vec<u8>) -> Result<(), AllocError> {
-    out.extend_from_slice(b"<text class=\"")?;
-    out.extend_from_slice(class)?;
-    out.extend_from_slice(b"\" x=\"10\" y=\"")?;
-    put_decimal(out, y)?;
-    out.extend_from_slice(b"\">")?;
-    put_escaped(text, out)?;
-    out.extend_from_slice(b"</text>\n")
-}
-
 /// What is said of the steps, and of what isn't drawn.
 fn note_of(alloc: Global, timeline: &Timeline) -> Result<Vec<u8>, AllocError> {
     let mut note = Vec::new(alloc);
@@ -389,10 +341,12 @@ fn put_all(
         picture.put_report(report, right, &mut rows)?;
     }
     let lines = rows.ends.len() as u64;
-    Ok(picture
-        .bottom()
-        .saturating_add(280)
-        .saturating_add(lines.saturating_mul(REPORT_ROW)))
+    Ok(
+        picture
+            .bottom()
+            .saturating_add(280)
+            .saturating_add(lines.saturating_mul(REPORT_ROW)),
+    )
 }
 
 /// Puts the picture of lanes, with a title, after the bytes.
@@ -419,14 +373,11 @@ pub fn put_picture(
     put_tenths(bottom, out)?;
     out.extend_from_slice(b"\">\n")?;
     out.extend_from_slice(STYLE)?;
-    put_text(b"title", 20, title, out)?;
+    let mut front = Vec::new(alloc);
+    put_front(title, MOST_TITLE, &mut front)?;
+    put_text(b"title", 20, front.as_slice(), out)?;
     put_text(b"legend", 36, LEGEND, out)?;
-    put_text(
-        b"legend",
-        52,
-        note_of(alloc, timeline)?.as_slice(),
-        out,
-    )?;
+    put_text(b"legend", 52, note_of(alloc, timeline)?.as_slice(), out)?;
     out.extend_from_slice(inner.as_slice())?;
     out.extend_from_slice(b"</svg>\n")
 }

@@ -1,6 +1,7 @@
 // Which predicates the goals of an account call.
 
-ghost use Rattle.std.specs.Prelude.{◌≡◌};
+ghost use Rattle.std.specs.Prelude.{◌≡◌, ◌∷◌, ◌++◌, [], IfOk, OnOk};
+ghost use Rattle.kl1_trace_work.specs.Seen.{views_of};
 
 use crate::seen::NewGoal;
 use kl1_command::Views;
@@ -39,7 +40,9 @@ struct Predicate {
 
 /// The places of what is no predicate.
 const MONITOR: usize = 0;
+
 const SUBSTITUTE: usize = 1;
+
 const UNKNOWN: usize = 2;
 
 /// Which predicate each goal calls, by its place. A clause makes goals of the same predicates each time.
@@ -164,6 +167,7 @@ impl Predicates {
         host: &mut H,
         goals: &[GoalView],
     ) -> Result<Vec<NewGoal>, AllocError>
+        ensures views { IfOk result (λ new. views_of new.items ≡ goals.now) }
         ensures same { (f : H.Reading) → H.fits host.new f → H.kept f host.new ≡ H.kept f host.old }
         ensures before { (f : H.Reading) → H.fits host.new f → H.fits host.old f }
         ensures beside { H.beside host.new ≡ H.beside host.old }
@@ -184,7 +188,9 @@ impl Predicates {
         goal: &GoalView,
         predicate: usize,
         taken: &mut Vec<NewGoal>,
-    ) -> Result<(), AllocError> {
+    ) -> Result<(), AllocError>
+        ensures { OnOk result (taken.new.items ≡ taken.old.items ++ record { view = goal.now; predicate = predicate } ∷ []) }
+    {
         let _before = self.goals.insert(goal.number.0, predicate)?;
         taken.push(NewGoal {
             view: *goal,
@@ -212,6 +218,7 @@ impl Predicates {
         clause: u64,
         goals: &[GoalView],
     ) -> Result<Vec<NewGoal>, AllocError>
+        ensures views { IfOk result (λ new. views_of new.items ≡ goals.now) }
         ensures same { (f : H.Reading) → H.fits host.new f → H.kept f host.new ≡ H.kept f host.old }
         ensures before { (f : H.Reading) → H.fits host.new f → H.fits host.old f }
         ensures beside { H.beside host.new ≡ H.beside host.old }
@@ -246,21 +253,26 @@ impl Predicates {
         &mut self,
         known: &[usize],
         goals: &[GoalView],
-    ) -> Result<Vec<NewGoal>, AllocError> {
+    ) -> Result<Vec<NewGoal>, AllocError>
+        ensures { IfOk result (λ new. views_of new.items ≡ goals.now) }
+    {
         let mut taken = Vec::new(self.alloc);
-        for (goal, predicate) in goals.iter().zip(known.iter()) {
-            self.put(goal, *predicate, &mut taken)?;
+        let mut rest = goals;
+        let mut predicates = known;
+        while let [goal, others @ ..] = rest {
+            let mut predicate = UNKNOWN;
+            if let [first, later @ ..] = predicates {
+                predicate = *first;
+                predicates = later;
+            }
+            self.put(goal, predicate, &mut taken)?;
+            rest = others;
         }
         Ok(taken)
     }
 
     /// Notes the goals that a clause makes.
-    fn put_body(
-        &mut self,
-        place: usize,
-        clause: u64,
-        taken: &[NewGoal],
-    ) -> Result<(), AllocError> {
+    fn put_body(&mut self, place: usize, clause: u64, taken: &[NewGoal]) -> Result<(), AllocError> {
         let mut predicates = Vec::new(self.alloc);
         for goal in taken {
             predicates.push(goal.predicate)?;

@@ -1,6 +1,6 @@
 // What is seen of a step.
 
-ghost use Rattle.std.specs.Prelude.{◌≡◌};
+ghost use Rattle.std.specs.Prelude.{◌≡◌, ◌∷◌, ◌++◌, List, [], OnOk};
 
 use crate::predicates::Predicates;
 use kl1_command::{UnbookedHost, Views};
@@ -45,6 +45,9 @@ pub struct Seen {
 
 /// What sees each step. It may look at the account, and changes nothing.
 pub trait Observer<H: UnbookedHost + Views> {
+    // Whether it has seen just these steps, as far as that is known.
+    ghost has_seen: { Self → List Seen → Type 0 };
+
     /// Whether it wants to know the text of the goal of a step.
     fn wants_text(&self, predicates: &Predicates, step: &Next) -> bool;
 
@@ -55,6 +58,7 @@ pub trait Observer<H: UnbookedHost + Views> {
         predicates: &Predicates,
         seen: &Seen,
     ) -> Result<bool, AllocError>
+        ensures seen { OnOk result ((ss : List Seen) → has_seen self.old ss → has_seen self.new (ss ++ seen.now ∷ [])) }
         ensures same { (f : H.Reading) → H.fits host.new f → H.kept f host.new ≡ H.kept f host.old }
         ensures before { (f : H.Reading) → H.fits host.new f → H.fits host.old f }
         ensures beside { H.beside host.new ≡ H.beside host.old };

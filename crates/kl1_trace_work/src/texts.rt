@@ -43,12 +43,7 @@ fn kind_of(clause: u64, called: Option<&Called>) -> &'static [u8] {
 
 impl Texts<'_> {
     /// Puts a printed term after the bytes, at most `most` of its own, as a program writes it, with the names of variables.
-    pub fn put_term(
-        &self,
-        print: &[u8],
-        most: usize,
-        out: &mut Vec<u8>,
-    ) -> Result<(), AllocError> {
+    pub fn put_term(&self, print: &[u8], most: usize, out: &mut Vec<u8>) -> Result<(), AllocError> {
         let front = print.get(..MOST_READ).unwrap_or(print);
         let parsed = parse_print(self.alloc, front)?;
         self.put_nodes(parsed.nodes.as_slice(), most, out)?;
@@ -132,11 +127,7 @@ impl Texts<'_> {
 }
 
 /// Puts the exception of a step, without its goal, after the bytes.
-pub fn put_kind(
-    predicates: &Predicates,
-    seen: &Seen,
-    out: &mut Vec<u8>,
-) -> Result<(), AllocError> {
+pub fn put_kind(predicates: &Predicates, seen: &Seen, out: &mut Vec<u8>) -> Result<(), AllocError> {
     let called = predicates.called(seen.step.predicate);
     out.extend_from_slice(kind_of(seen.step.clause.0, called.as_ref()))
 }
@@ -160,11 +151,15 @@ pub fn put_name(calling: Calling, out: &mut Vec<u8>) -> Result<(), AllocError> {
         Calling::Unknown => return out.extend_from_slice(b"(other)"),
         Calling::Calls(called) => called,
     };
-    if let Some(module) = called.module {
-        out.extend_from_slice(module.printed_as_name().as_slice())?;
-        out.push(b':')?;
+    match called.module {
+        Some(module) => {
+            out.extend_from_slice(module.printed_as_name().as_slice())?;
+            out.push(b':')?;
+            out.extend_from_slice(called.predicate.printed_as_name().as_slice())?;
+        }
+        // The names of built-in goals are told without quotes.
+        None => out.extend_from_slice(called.predicate.unpacked().as_slice())?,
     }
-    out.extend_from_slice(called.predicate.printed_as_name().as_slice())?;
     out.push(b'/')?;
     put_decimal(out, called.arity)
 }

@@ -110,9 +110,9 @@ impl<'a, W: Write + Drop> Trace<'a, W> {
         out.push(b' ')?;
         put_blanks(begin, 15, out)?;
         self.texts.put_place(predicates, seen, out)?;
-        out.push(b' ')?;
-        put_blanks(begin, GOAL_COLUMN, out)?;
         if let Some(text) = &seen.text {
+            out.push(b' ')?;
+            put_blanks(begin, GOAL_COLUMN, out)?;
             self.texts.put_term(text.as_slice(), MOST_GOAL, out)?;
         }
         out.push(b'\n')?;

@@ -1,6 +1,8 @@
 // What looks at an account before and after each step.
 
-ghost use Rattle.std.specs.Prelude.{◌≡◌};
+ghost use Rattle.std.specs.Prelude.{◌≡◌, IfOk, IfSome, OnOk};
+ghost use Rattle.kl1_trace_work.specs.Seen.{last_among, views_of, IsNext, IsSeen, AreTold};
+ghost use Rattle.kl1_trace_work.specs.Tried.{IsTried};
 
 use crate::predicates::Predicates;
 use crate::seen::{NewGoal, Next, Observer, Seen};
@@ -34,7 +36,7 @@ pub struct Viewer<O> {
     /// How many steps were seen.
     pub number: u64,
     /// The greatest number of a goal so far.
-    last_goal: u64,
+    pub last_goal: u64,
     /// How many reports were made before the step.
     reports: u64,
     shoens: Vec<ShoenView>,
@@ -51,10 +53,12 @@ struct Before {
 }
 
 /// The greatest number of goals, which are in order of their numbers.
-fn last_of(goals: &[GoalView], before: u64) -> u64 {
-    match goals.last() {
-        Some(goal) => before.max(goal.number.0),
-        None => before,
+fn last_of(goals: &[GoalView], before: u64) -> u64
+    ensures { result ≡ last_among before goals.now }
+{
+    match goals {
+        [.., goal] if before < goal.number.0 => goal.number.0,
+        _ => before,
     }
 }
 
@@ -215,6 +219,7 @@ fn look_before<H: UnbookedHost + Views, O: Observer<H> + Drop>(
     goal: GoalNo,
     clause: ClauseNo,
 ) -> Result<Option<Before>, AllocError>
+    ensures next { IfOk result (λ found. IfSome found (λ before. (f : H.Reading) → H.fits host.new f → IsNext viewer.now.number (H.kept f host.new) (record { goal = goal.0; clause = clause.0 }) before.step)) }
     ensures same { (f : H.Reading) → H.fits host.new f → H.kept f host.new ≡ H.kept f host.old }
     ensures before { (f : H.Reading) → H.fits host.new f → H.fits host.old f }
     ensures beside { H.beside host.new ≡ H.beside host.old }
@@ -249,6 +254,11 @@ fn look_before<H: UnbookedHost + Views, O: Observer<H> + Drop>(
 impl<O: Drop> Viewer<O> {
     /// What is seen of a step that was done.
     fn look_after<H: Views>(&mut self, host: &mut H, before: Before) -> Result<Seen, AllocError>
+        ensures step { IfOk result (λ seen. seen.step ≡ before.step) }
+        ensures seen { IfOk result (λ seen. (f : H.Reading) → H.fits host.new f → IsSeen self.old.last_goal (H.kept f host.new) seen) }
+        ensures last { IfOk result (λ seen. self.new.last_goal ≡ last_among self.old.last_goal (views_of seen.new.items)) }
+        ensures number { OnOk result (self.new.number ≡ before.step.number) }
+        ensures observer { self.new.observer ≡ self.old.observer }
         ensures same { (f : H.Reading) → H.fits host.new f → H.kept f host.new ≡ H.kept f host.old }
         ensures before { (f : H.Reading) → H.fits host.new f → H.fits host.old f }
         ensures beside { H.beside host.new ≡ H.beside host.old }
@@ -259,7 +269,9 @@ impl<O: Drop> Viewer<O> {
             TaskKind::Monitor => true,
             _ => false,
         };
-        let is_told = is_monitor || usage.reports.count != self.reports;
+        let is_told = is_monitor
+            || usage.reports.count != self.reports
+            || usage.shoens.count != self.shoens.len() as u64;
         let shoens = if is_told {
             self.look_at_shoens(host)?
         } else {
@@ -300,6 +312,7 @@ pub fn watch_step<H: UnbookedHost + Views, O: Observer<H> + Drop>(
     clause: ClauseNo,
     viewer: &mut Viewer<O>,
 ) -> Result<Watched, AllocError>
+    ensures told { IfOk result (λ watched. (f : H.Reading) → H.fits host.new f → IsTried O.has_seen viewer.old.number viewer.old.last_goal (H.kept f host.old) (record { goal = goal.0; clause = clause.0 }) viewer.old.observer watched viewer.new.number viewer.new.last_goal (H.kept f host.new) viewer.new.observer) }
     ensures before { (f : H.Reading) → H.fits host.new f → H.fits host.old f }
     ensures beside { H.beside host.new ≡ H.beside host.old }
 {
@@ -322,6 +335,7 @@ pub fn watch_once<H: UnbookedHost + Views, O: Observer<H> + Drop>(
     host: &mut H,
     viewer: &mut Viewer<O>,
 ) -> Result<Watched, AllocError>
+    ensures told { OnOk result ((f : H.Reading) → H.fits host.new f → AreTold O.has_seen viewer.old.number viewer.old.last_goal (H.kept f host.old) viewer.old.observer viewer.new.number viewer.new.last_goal (H.kept f host.new) viewer.new.observer) }
     ensures before { (f : H.Reading) → H.fits host.new f → H.fits host.old f }
     ensures beside { H.beside host.new ≡ H.beside host.old }
 {
@@ -337,6 +351,7 @@ pub fn watch_first<H: UnbookedHost + Views, O: Observer<H> + Drop>(
     most: u64,
     viewer: &mut Viewer<O>,
 ) -> Result<Watched, AllocError>
+    ensures told { OnOk result ((f : H.Reading) → H.fits host.new f → AreTold O.has_seen viewer.old.number viewer.old.last_goal (H.kept f host.old) viewer.old.observer viewer.new.number viewer.new.last_goal (H.kept f host.new) viewer.new.observer) }
     ensures before { (f : H.Reading) → H.fits host.new f → H.fits host.old f }
     ensures beside { H.beside host.new ≡ H.beside host.old }
 {

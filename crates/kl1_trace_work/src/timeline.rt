@@ -3,12 +3,14 @@
 ghost use Rattle.std.specs.Prelude.{◌≡◌};
 
 use crate::columns::put_front;
+use crate::drawn::{Arrow, Bar, Dot, Lane, Mark, Report};
 use crate::labels::label_of;
 use crate::pattern::Pattern;
 use crate::predicates::{Calling, Predicates};
 use crate::seen::{NewGoal, Next, Seen};
 use crate::texts::{put_kind, put_name, word_of};
 use kl1_command::Views;
+use kl1_lines::put_decimal;
 use kl1_model::Condition;
 use kl1_steps::Called;
 use kl1_user_events::{Extent, GoalNo, ShoenNo, TaskKind};
@@ -23,62 +25,6 @@ pub const MOST_STEPS: u64 = 2_000;
 
 /// The most bytes of the text of a step.
 const MOST_TEXT: usize = 200;
-
-/// A process: a goal, and after each of its steps the goal that goes on with it.
-#[derive(Drop)]
-pub struct Lane {
-    pub label: Vec<u8>,
-    pub shoen: u64,
-    /// The step that made it, and the one after which none of its goals is left, if there is one.
-    pub begin: u64,
-    pub end: Option<u64>,
-    /// How many goals of it there are.
-    alive: u64,
-}
-
-/// How a step is drawn.
-#[derive(Clone, Copy)]
-pub enum Mark {
-    Reduction,
-    BuiltIn,
-    Exception,
-}
-
-/// A step in a lane.
-#[derive(Drop)]
-pub struct Dot {
-    pub lane: usize,
-    pub step: u64,
-    pub mark: Mark,
-    pub text: Vec<u8>,
-}
-
-/// A time in which a goal of a lane couldn't step: after a step, and up to another, if it wakes.
-#[derive(Clone, Copy)]
-pub struct Bar {
-    pub lane: usize,
-    pub goal: u64,
-    pub begin: u64,
-    pub end: Option<u64>,
-}
-
-/// What one lane did to another in a step.
-#[derive(Clone, Copy)]
-pub struct Arrow {
-    pub from: usize,
-    pub to: usize,
-    pub step: u64,
-    /// The goal that woke; `None` if the other lane was made.
-    pub woken: Option<u64>,
-}
-
-/// What a shoen reported in a step.
-#[derive(Drop)]
-pub struct Report {
-    pub step: u64,
-    pub text: Vec<u8>,
-    pub is_exception: bool,
-}
 
 /// The lanes of a run, and what happens in them.
 #[derive(Drop)]
@@ -104,9 +50,12 @@ pub struct Timeline {
 /// Whether what is called is a predicate of a module of the user's.
 fn is_process(calling: Calling) -> bool {
     match calling {
-        Calling::Calls(Called {
-            module: Some(module), ..
-        }) => module.unpacked().as_slice() != b"shoen".as_slice(),
+        Calling::Calls(
+            Called {
+                module: Some(module),
+                ..
+            },
+        ) => module.unpacked().as_slice() != b"shoen".as_slice(),
         _ => false,
     }
 }
@@ -255,7 +204,10 @@ impl Timeline {
             Some(place) if !is_process(calling) => return self.join(number.0, place),
             _ => {}
         }
-        if !self.pattern.names(predicates.called(goal.predicate).as_ref()) {
+        if !self
+            .pattern
+            .names(predicates.called(goal.predicate).as_ref())
+        {
             return Ok(());
         }
         let label = match host.goal_text(number, Extent::Cut)? {
@@ -334,11 +286,31 @@ impl Timeline {
                         self.wait(number, step)?;
                     }
                 }
+                (None, _) if !is_process(predicates.calling(first.predicate)) => {}
                 _ => self.take_new(host, predicates, first, place, step)?,
             }
             rest = others;
         }
         Ok(())
+    }
+
+    /// Begins a lane for the goal of a step, if it is a process that was made before the first step.
+    fn find(&mut self, predicates: &Predicates, seen: &Seen) -> Result<(), AllocError> {
+        let goal = seen.step.goal;
+        if self.places.contains_key(&goal.number.0)
+            || !is_process(predicates.calling(seen.step.predicate))
+            || !self
+                .pattern
+                .names(predicates.called(seen.step.predicate).as_ref())
+        {
+            return Ok(());
+        }
+        let label = match &seen.text {
+            Some(text) => label_of(self.alloc, text.as_slice())?,
+            None => Vec::new(self.alloc),
+        };
+        let begin = self.first.saturating_sub(1);
+        self.open(goal.number.0, label, goal.shoen, begin)
     }
 
     /// Puts the step itself into its lane.
@@ -379,7 +351,7 @@ impl Timeline {
     ) -> Result<(), AllocError> {
         let mut text = Vec::new(self.alloc);
         text.push(b's')?;
-        kl1_lines::put_decimal(&mut text, shoen.0)?;
+        put_decimal(&mut text, shoen.0)?;
         text.push(b' ')?;
         text.extend_from_slice(word)?;
         self.reports.push(Report {
@@ -447,6 +419,7 @@ impl Timeline {
             return Ok(false);
         }
         self.last = step;
+        self.find(predicates, seen)?;
         let place = self.place_of(seen.step.goal.number.0);
         if let Some(lane) = place {
             self.put_dot(predicates, seen, lane)?;
