@@ -14,7 +14,7 @@ pub struct Places {
 }
 
 /// The name of the file that has this text, if one has.
-fn name_among(sources: &[NamedText], text: &[u8]) -> Option<&[u8]> {
+fn name_among<'a>(sources: &'a [NamedText], text: &[u8]) -> Option<&'a [u8]> {
     for source in sources {
         if source.text.as_slice() == text {
             return Some(source.name.as_slice());

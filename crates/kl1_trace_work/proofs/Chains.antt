@@ -17,7 +17,7 @@ seen_both a b k (s ∷ ss) a' b' m ts a'' b'' n (c, next, found, does, is, seen,
 pub told_none : {O : Type 0} (has : O → List Seen → Type 0) (a b : ℕ) (k : Kept) (old : O) (a' b' : ℕ) (n : Kept) (new : O) → IsNothingTold a b k old a' b' n new → AreTold has a b k old a' b' n new
 told_none has a b k old a' b' n new h = record {
   seen = [];
-  lead = (h.same, h.number, h.last);
+  lead = (h.same, h.counted, h.greatest);
   told = λ ss before. subst (λ o. has o (ss ++ [])) (sym h.observer) (subst (λ l. has old l) (sym (append-nil ss)) before);
 }
 
@@ -25,7 +25,7 @@ told_none has a b k old a' b' n new h = record {
 pub told_one : {O : Type 0} (has : O → List Seen → Type 0) (a b : ℕ) (k : Kept) (c : Chosen) (old : O) (a' b' : ℕ) (n : Kept) (new : O) → first k.state ≡ Some c → IsStepTold has a b k c old a' b' n new → AreTold has a b k old a' b' n new
 told_one has a b k c old a' b' n new found h = record {
   seen = h.seen ∷ [];
-  lead = (c, n, found, h.does, h.next, h.is, (refl, h.number, h.last));
+  lead = (c, n, found, h.does, h.next, h.is, (refl, h.counted, h.greatest));
   told = h.told;
 }
 

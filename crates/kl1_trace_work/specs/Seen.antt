@@ -26,8 +26,8 @@ last_among before (g ∷ []) = if nat_lt before g.number.0 then g.number.0 else 
 last_among before (g ∷ h ∷ gs) = last_among before (h ∷ gs)
 
 -- a step that comes next: its number, its goal as it is in the account, and its clause
-pub record IsNext (number : ℕ) (k : Kept) (c : Chosen) (x : Next) : Type 0 where
-  pub number : x.number ≡ number_after number
+pub record IsNext (before : ℕ) (k : Kept) (c : Chosen) (x : Next) : Type 0 where
+  pub number : x.number ≡ number_after before
   pub goal : Some x.goal ≡ option_map (goal_view k.state) (goal_at c.goal k.state.goals)
   pub clause : x.clause.0 ≡ c.clause
 
@@ -50,15 +50,15 @@ pub record IsStepTold {O : Type 0} (has_seen : O → List Seen → Type 0) (numb
   pub does : done k (reduce c.goal c.clause) ≡ record { kept = after; reply = reduced }
   pub next : IsNext number k c seen.step
   pub is : IsSeen last after seen
-  pub number : number' ≡ seen.step.number
-  pub last : last' ≡ last_among last (views_of seen.new.items)
+  pub counted : number' ≡ seen.step.number
+  pub greatest : last' ≡ last_among last (views_of seen.new.items)
   pub told : (ss : List Seen) → has_seen old ss → has_seen new (ss ++ seen ∷ [])
 
 -- nothing is done or told
 pub record IsNothingTold {O : Type 0} (number last : ℕ) (k : Kept) (old : O) (number' last' : ℕ) (after : Kept) (new : O) : Type 0 where
   pub same : after ≡ k
-  pub number : number' ≡ number
-  pub last : last' ≡ last
+  pub counted : number' ≡ number
+  pub greatest : last' ≡ last
   pub observer : new ≡ old
 
 -- first steps lead from one account to another, and what is seen of them is told to an observer, in order

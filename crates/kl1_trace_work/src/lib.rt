@@ -2,6 +2,7 @@
 #![tactic(auto)]
 
 mod columns;
+mod computed;
 mod drawn;
 mod equated;
 mod json;
@@ -10,6 +11,7 @@ mod observers;
 mod pattern;
 mod picture;
 mod predicates;
+mod prints;
 mod profile;
 mod seen;
 mod svg;

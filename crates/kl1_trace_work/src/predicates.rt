@@ -109,8 +109,8 @@ impl Predicates {
     }
 
     /// The predicate of a place, if it is one.
-    pub fn called(&self, place: usize) -> Option<Called> {
-        match self.calling(place) {
+    pub fn called(&self, place: usize) -> Option<&Called> {
+        match &self.predicates.get(place)?.calling {
             Calling::Calls(called) => Some(called),
             _ => None,
         }
@@ -243,7 +243,7 @@ impl Predicates {
     /// Whether the predicate of a place has clauses.
     fn is_of_clauses(&self, place: usize) -> bool {
         match self.called(place) {
-            Some(called) => has_clauses(&called),
+            Some(called) => has_clauses(called),
             None => false,
         }
     }

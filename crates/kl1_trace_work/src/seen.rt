@@ -45,6 +45,8 @@ pub struct Seen {
 
 /// What sees each step. It may look at the account, and changes nothing.
 pub trait Observer<H: UnbookedHost + Views> {
+    ghost use Rattle.kl1_trace_work.specs.declared.seen.Seen.{Seen};
+
     // Whether it has seen just these steps, as far as that is known.
     ghost has_seen: { Self → List Seen → Type 0 };
 

@@ -2,8 +2,8 @@
 
 ghost use Rattle.std.specs.Prelude.{◌≡◌};
 
-use crate::columns::put_front;
 use crate::predicates::{Calling, Predicates};
+use crate::prints::{may_have_operators, sides_of};
 use crate::seen::Seen;
 use kl1_lines::put_decimal;
 use kl1_model::Condition;
@@ -13,8 +13,48 @@ use kl1_term::Node;
 use kl1_watch::Names;
 use std::alloc::{AllocError, Global};
 
-/// The most bytes of a print that are read to show its front.
-const MOST_READ: usize = 600;
+/// The most bytes of a print with operators that are read to show its front, which is shorter than they are.
+const MOST_READ: usize = 300;
+
+/// How many bytes more than are shown are looked at, as a variable's name may be shorter than its number.
+const BESIDE: usize = 60;
+
+/// The front of a text.
+fn front_of(text: &[u8], most: usize) -> &[u8] {
+    text.get(..most).unwrap_or(text)
+}
+
+/// Cuts what was put after so many bytes if it is longer than `most`, and puts dots after it if it is, or if there is more of it.
+fn cut_after(
+    begin: usize,
+    most: usize,
+    has_more: bool,
+    out: &mut Vec<u8>,
+) -> Result<(), AllocError> {
+    let end = begin.saturating_add(most);
+    if end < out.len() {
+        out.truncate(end);
+        return out.extend_from_slice(b"...");
+    }
+    if has_more {
+        return out.extend_from_slice(b"...");
+    }
+    Ok(())
+}
+
+/// Puts a printed term after the bytes, at most `most` of its own, with operators between their operands.
+pub fn put_readable(
+    alloc: Global,
+    print: &[u8],
+    most: usize,
+    out: &mut Vec<u8>,
+) -> Result<(), AllocError> {
+    let begin = out.len();
+    let parsed = parse_print(alloc, front_of(print, MOST_READ))?;
+    let text = infix_text(alloc, parsed.nodes.as_slice())?;
+    out.extend_from_slice(text.as_slice())?;
+    cut_after(begin, most, !parsed.is_whole, out)
+}
 
 /// What texts are made of: the names of the goal's variables, and the clauses of the sources with the sources' files.
 #[derive(Drop)]
@@ -44,16 +84,30 @@ fn kind_of(clause: u64, called: Option<&Called>) -> &'static [u8] {
 impl Texts<'_> {
     /// Puts a printed term after the bytes, at most `most` of its own, as a program writes it, with the names of variables.
     pub fn put_term(&self, print: &[u8], most: usize, out: &mut Vec<u8>) -> Result<(), AllocError> {
-        let front = print.get(..MOST_READ).unwrap_or(print);
-        let parsed = parse_print(self.alloc, front)?;
-        self.put_nodes(parsed.nodes.as_slice(), most, out)?;
-        if !parsed.is_whole {
-            // What isn't read is left out, and what is too long is marked already.
-            if !out.ends_with(b"...") {
-                out.extend_from_slice(b"...")?;
-            }
+        let limit = most.saturating_add(BESIDE);
+        if let Some((left, right)) = sides_of(print) {
+            let begin = out.len();
+            self.names.put_named(front_of(left, limit), out)?;
+            out.extend_from_slice(b" = ")?;
+            self.names.put_named(front_of(right, limit), out)?;
+            return cut_after(begin, most, limit < right.len(), out);
         }
-        Ok(())
+        if !may_have_operators(front_of(print, MOST_READ)) {
+            return self.put_plain(print, most, out);
+        }
+        let parsed = parse_print(self.alloc, front_of(print, MOST_READ))?;
+        let begin = out.len();
+        let text = infix_text(self.alloc, parsed.nodes.as_slice())?;
+        self.names.put_named(front_of(text.as_slice(), limit), out)?;
+        cut_after(begin, most, !parsed.is_whole, out)
+    }
+
+    /// Puts a text without operators after the bytes, at most `most` of its own, with the names of variables.
+    pub fn put_plain(&self, text: &[u8], most: usize, out: &mut Vec<u8>) -> Result<(), AllocError> {
+        let limit = most.saturating_add(BESIDE);
+        let begin = out.len();
+        self.names.put_named(front_of(text, limit), out)?;
+        cut_after(begin, most, limit < text.len(), out)
     }
 
     /// Puts a term after the bytes, at most `most` of its own, as a program writes it, with the names of variables.
@@ -64,9 +118,7 @@ impl Texts<'_> {
         out: &mut Vec<u8>,
     ) -> Result<(), AllocError> {
         let text = infix_text(self.alloc, nodes)?;
-        let mut named = Vec::new(self.alloc);
-        self.names.put_named(text.as_slice(), &mut named)?;
-        put_front(named.as_slice(), most, out)
+        self.put_plain(text.as_slice(), most, out)
     }
 
     /// Puts where the clause of a step stands after the bytes, or what else the step is.
@@ -76,11 +128,13 @@ impl Texts<'_> {
         seen: &Seen,
         out: &mut Vec<u8>,
     ) -> Result<(), AllocError> {
+        if let Some(called) = predicates.called(seen.step.predicate) {
+            return self.put_clause_of(called, seen.step.clause.0, out);
+        }
         match predicates.calling(seen.step.predicate) {
             Calling::Monitor => out.extend_from_slice(b"monitor"),
             Calling::Substitute => out.extend_from_slice(b"answer"),
-            Calling::Unknown => out.extend_from_slice(b"-"),
-            Calling::Calls(called) => self.put_clause_of(&called, seen.step.clause.0, out),
+            _ => out.extend_from_slice(b"-"),
         }
     }
 
@@ -116,7 +170,7 @@ impl Texts<'_> {
     ) -> Result<(), AllocError> {
         let called = predicates.called(seen.step.predicate);
         out.extend_from_slice(b"exception(")?;
-        out.extend_from_slice(kind_of(seen.step.clause.0, called.as_ref()))?;
+        out.extend_from_slice(kind_of(seen.step.clause.0, called))?;
         if let Some(text) = &seen.text {
             out.push(b',')?;
             self.put_term(text.as_slice(), most, out)?;
@@ -129,7 +183,7 @@ impl Texts<'_> {
 /// Puts the exception of a step, without its goal, after the bytes.
 pub fn put_kind(predicates: &Predicates, seen: &Seen, out: &mut Vec<u8>) -> Result<(), AllocError> {
     let called = predicates.called(seen.step.predicate);
-    out.extend_from_slice(kind_of(seen.step.clause.0, called.as_ref()))
+    out.extend_from_slice(kind_of(seen.step.clause.0, called))
 }
 
 /// The word for a shoen that came into this state.

@@ -2,13 +2,12 @@
 
 ghost use Rattle.std.specs.Prelude.{◌≡◌};
 
-use crate::columns::put_front;
 use crate::drawn::{Arrow, Bar, Dot, Lane, Mark, Report};
 use crate::labels::label_of;
 use crate::pattern::Pattern;
 use crate::predicates::{Calling, Predicates};
 use crate::seen::{NewGoal, Next, Seen};
-use crate::texts::{put_kind, put_name, word_of};
+use crate::texts::{put_kind, put_name, put_readable, word_of};
 use kl1_command::Views;
 use kl1_lines::put_decimal;
 use kl1_model::Condition;
@@ -204,10 +203,7 @@ impl Timeline {
             Some(place) if !is_process(calling) => return self.join(number.0, place),
             _ => {}
         }
-        if !self
-            .pattern
-            .names(predicates.called(goal.predicate).as_ref())
-        {
+        if !self.pattern.names(predicates.called(goal.predicate)) {
             return Ok(());
         }
         let label = match host.goal_text(number, Extent::Cut)? {
@@ -299,9 +295,7 @@ impl Timeline {
         let goal = seen.step.goal;
         if self.places.contains_key(&goal.number.0)
             || !is_process(predicates.calling(seen.step.predicate))
-            || !self
-                .pattern
-                .names(predicates.called(seen.step.predicate).as_ref())
+            || !self.pattern.names(predicates.called(seen.step.predicate))
         {
             return Ok(());
         }
@@ -329,7 +323,7 @@ impl Timeline {
         };
         let mut text = Vec::new(self.alloc);
         match &seen.text {
-            Some(print) => put_front(print.as_slice(), MOST_TEXT, &mut text)?,
+            Some(print) => put_readable(self.alloc, print.as_slice(), MOST_TEXT, &mut text)?,
             None => put_name(predicates.calling(seen.step.predicate), &mut text)?,
         }
         self.dots.push(Dot {

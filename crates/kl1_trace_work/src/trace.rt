@@ -3,9 +3,11 @@
 ghost use Rattle.std.specs.Prelude.{◌≡◌};
 
 use crate::columns::{put_blanks, put_front, put_right};
+use crate::computed::value_of;
 use crate::equated::{equated, split_term};
 use crate::pattern::Pattern;
 use crate::predicates::Predicates;
+use crate::prints::{sides_of, variable_in};
 use crate::seen::{NewGoal, Next, Seen};
 use crate::texts::{Texts, word_of};
 use kl1_command::Views;
@@ -119,23 +121,63 @@ impl<'a, W: Write + Drop> Trace<'a, W> {
         Ok(())
     }
 
-    /// Puts what the goal of a step binds after the bytes, if it is an equation that has a solution.
+    /// Puts what the goal of a step binds after the bytes, if it is an equation that has a solution, or computes a number.
     fn put_bindings(&self, seen: &Seen, out: &mut Vec<u8>) -> Result<(), AllocError> {
         let Some(text) = &seen.text else {
             return Ok(());
         };
-        if 0 < seen.raised {
+        let print = text.as_slice();
+        if 0 < seen.raised || !print.starts_with(b"'") {
             return Ok(());
         }
+        if let Some((left, right)) = sides_of(print) {
+            match (variable_in(left), variable_in(right)) {
+                // Of two variables the later one is bound to the other.
+                (Some(one), Some(other)) if one < other => {
+                    return self.put_binding(other, left, out);
+                }
+                (Some(one), Some(other)) if one == other => return Ok(()),
+                (Some(one), _) => return self.put_binding(one, right, out),
+                (None, Some(other)) => return self.put_binding(other, left, out),
+                (None, None) => {}
+            }
+        }
+        self.put_equated(print, out)
+    }
+
+    /// Puts the line of a variable that is bound to a printed term without operators after the bytes.
+    fn put_binding(
+        &self,
+        variable: u64,
+        value: &[u8],
+        out: &mut Vec<u8>,
+    ) -> Result<(), AllocError> {
+        put_sign(b"= ", out)?;
+        self.texts.names.put_variable(variable, out)?;
+        out.extend_from_slice(b" <- ")?;
+        self.texts.put_plain(value, MOST_GOAL, out)?;
+        out.push(b'\n')?;
+        Ok(())
+    }
+
+    /// Puts what a printed goal binds after the bytes, as it is seen in the terms of its two sides.
+    fn put_equated(&self, print: &[u8], out: &mut Vec<u8>) -> Result<(), AllocError> {
         let alloc = self.texts.alloc;
-        let parsed = parse_print(alloc, text.as_slice())?;
-        let sides = match parsed.nodes.as_slice() {
-            [Node::Structure(name, 2), sides @ ..]
-                if name.unpacked().as_slice() == b"=".as_slice() => sides,
-            _ => return Ok(()),
+        let parsed = parse_print(alloc, print)?;
+        let [Node::Structure(name, 2), sides @ ..] = parsed.nodes.as_slice() else {
+            return Ok(());
         };
         let (left, rest) = split_term(sides);
         let (right, _none) = split_term(rest);
+        let mut value = Vec::new(alloc);
+        let name = name.unpacked();
+        let is_equation = name.as_slice() == b"=".as_slice();
+        if name.as_slice() == b":=".as_slice() {
+            if let Some(number) = value_of(alloc, right)? {
+                value.push(Node::Integer(number))?;
+            }
+        }
+        let right = if is_equation { right } else { value.as_slice() };
         let all = equated(alloc, left, right)?;
         for one in all.as_slice() {
             put_sign(b"= ", out)?;
@@ -260,7 +302,7 @@ impl<W: Write + Drop> Trace<'_, W> {
     /// Whether a step may be told.
     pub fn may_tell(&self, predicates: &Predicates, step: &Next) -> bool {
         let called = predicates.called(step.predicate);
-        self.pattern.may_have(step, called.as_ref())
+        self.pattern.may_have(step, called)
     }
 
     /// Tells a step, if the pattern has it. Answers whether later steps may be told.
@@ -275,7 +317,7 @@ impl<W: Write + Drop> Trace<'_, W> {
         ensures beside { H.beside host.new ≡ H.beside host.old }
     {
         let called = predicates.called(seen.step.predicate);
-        if self.pattern.has(seen, called.as_ref()) {
+        if self.pattern.has(seen, called) {
             let lines = self.lines_of(host, predicates, seen)?;
             self.tell(lines.as_slice())?;
         }

@@ -5,12 +5,11 @@ ghost use Rattle.kl1_trace_work.specs.Seen.{last_among, views_of, IsNext, IsSeen
 ghost use Rattle.kl1_trace_work.specs.Tried.{IsTried};
 
 use crate::predicates::Predicates;
+use crate::prints::{is_cut, variables_of};
 use crate::seen::{NewGoal, Next, Observer, Seen};
 use crate::waits::{ALL, Waits};
 use kl1_command::{UnbookedHost, Views};
 use kl1_model::Condition;
-use kl1_shown::parse_print;
-use kl1_term::Node;
 use kl1_user_events::{ClauseNo, Extent, GoalNo, GoalView, ShoenNo, ShoenView, TaskKind};
 use std::alloc::{AllocError, Global};
 
@@ -100,23 +99,6 @@ fn raised_among(new: &[NewGoal]) -> u64 {
     count
 }
 
-/// The variables of a printed goal, each of them once; `None` if its text is cut.
-fn variables_of(alloc: Global, text: &[u8]) -> Result<Option<Vec<u64>>, AllocError> {
-    let parsed = parse_print(alloc, text)?;
-    if !parsed.is_whole {
-        return Ok(None);
-    }
-    let mut variables = Vec::new(alloc);
-    for node in parsed.nodes.as_slice() {
-        if let Node::Variable(number) = node {
-            if !variables.contains(number) {
-                variables.push(*number)?;
-            }
-        }
-    }
-    Ok(Some(variables))
-}
-
 /// Shoens that are new, and shoens in another state than before.
 #[derive(Drop)]
 struct Shoens {
@@ -200,7 +182,9 @@ impl<O: Drop> Viewer<O> {
             return Ok(woken);
         }
         let variables = match &before.text {
-            Some(text) if !all => variables_of(self.alloc, text.as_slice())?,
+            Some(text) if !all && !is_cut(text.as_slice()) => {
+                Some(variables_of(self.alloc, text.as_slice())?)
+            }
             _ => None,
         };
         match variables {
