@@ -167,7 +167,7 @@ impl Picture<'_> {
         self.put(b">")?;
         put_escaped(lane.label.as_slice(), self.out)?;
         if lane.shoen != 1 {
-            self.put(b"<tspan class=\"shoen\"> s")?;
+            self.put(b"<tspan class=\"shoen\" dx=\"4\">s")?;
             put_decimal(self.out, lane.shoen)?;
             self.put(b"</tspan>")?;
         }

@@ -180,10 +180,15 @@ impl Texts<'_> {
     }
 }
 
-/// Puts the exception of a step, without its goal, after the bytes.
+/// Puts the kind of the exception of a step after the bytes, or just that it is one.
 pub fn put_kind(predicates: &Predicates, seen: &Seen, out: &mut Vec<u8>) -> Result<(), AllocError> {
     let called = predicates.called(seen.step.predicate);
-    out.extend_from_slice(kind_of(seen.step.clause.0, called))
+    let kind = kind_of(seen.step.clause.0, called);
+    out.extend_from_slice(if kind == b"_".as_slice() {
+        b"exception"
+    } else {
+        kind
+    })
 }
 
 /// The word for a shoen that came into this state.

@@ -271,7 +271,10 @@ impl<O: Drop> Viewer<O> {
         self.reports = usage.reports.count;
         self.last_goal = last_of(goals.as_slice(), self.last_goal);
         self.number = before.step.number;
-        self.predicates.forget(before.step.goal.number);
+        // A monitor goes on under its number.
+        if !is_monitor {
+            self.predicates.forget(before.step.goal.number);
+        }
         let Before { step, text, .. } = before;
         let new = self
             .predicates
