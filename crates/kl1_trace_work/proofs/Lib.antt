@@ -1,1 +1,2 @@
 mod Chains
+mod Sums

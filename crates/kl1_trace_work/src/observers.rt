@@ -1,6 +1,7 @@
 // Observers of one run.
 
-ghost use Rattle.std.specs.Prelude.{◌≡◌};
+ghost use Rattle.std.specs.Prelude.{◌≡◌, IfSome};
+ghost use Rattle.kl1_trace_work.specs.Counting.{HasCounted};
 
 use crate::predicates::Predicates;
 use crate::profile::Profile;
@@ -27,7 +28,8 @@ impl<W> Observers<'_, W> {
 }
 
 impl<H: UnbookedHost + Views, W: Write + Drop> Observer<H> for Observers<'_, W> {
-    ghost has_seen = { λ o ss. Unit {0} };
+    // The profile has counted them, if there is one.
+    ghost has_seen = { λ o ss. IfSome o.profile (λ p. HasCounted p ss) };
 
     fn wants_text(&self, predicates: &Predicates, step: &Next) -> bool {
         if let Some(trace) = &self.trace {
