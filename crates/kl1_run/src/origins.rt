@@ -1,10 +1,9 @@
 // Where variables and exceptions came from.
 
-ghost use Rattle.std.specs.Prelude.{None};
-
+use crate::progress::NoWatch;
 use kl1_atoms::PlainTable;
 use kl1_codes::PlainCodes;
-use kl1_run_work::{SourceFile, Stop, Term, Watch, Work, do_work};
+use kl1_run_work::{SourceFile, Stop, Term, Work, do_work};
 use kl1_steps::{ClausePlace, Finder, notes_of_found, put_clauses, step_through};
 use kl1_watch::{Notes, Origins, Standing};
 use kl1_world::{AccountName, Rules, World};
@@ -34,20 +33,6 @@ fn no_notes(alloc: Global) -> Notes {
         variables: Vec::new(alloc),
         exceptions: Vec::new(alloc),
     }
-}
-
-/// What is told nothing.
-#[derive(Drop)]
-struct NoWatch;
-
-impl Watch for NoWatch {
-    ghost told = { λ w. None };
-
-    fn is_due(&mut self) -> bool {
-        false
-    }
-
-    fn tell(&mut self, _charged: u64, _alive: u64) {}
 }
 
 /// An account of its own for the same work.

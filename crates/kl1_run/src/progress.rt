@@ -1,4 +1,4 @@
-// The line that tells how a run goes on.
+// What is told while a run goes on.
 
 ghost use Rattle.std.specs.Prelude.{None};
 
@@ -75,4 +75,18 @@ impl Watch for Progress<'_> {
         self.next = self.now.saturating_add(BETWEEN_LINES);
         self.is_shown = true;
     }
+}
+
+/// What is told nothing, and shows nothing.
+#[derive(Drop)]
+pub struct NoWatch;
+
+impl Watch for NoWatch {
+    ghost told = { λ w. None };
+
+    fn is_due(&mut self) -> bool {
+        false
+    }
+
+    fn tell(&mut self, _charged: u64, _alive: u64) {}
 }

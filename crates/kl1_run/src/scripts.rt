@@ -1,6 +1,6 @@
 // The script that does the same work, if the program `kl1` takes it.
 
-ghost use Rattle.std.specs.Prelude.{◌≡◌, ◌++◌, ◌≤◌, length, None, IfOk, OnOk, IfErr};
+ghost use Rattle.std.specs.Prelude.{◌≡◌, ◌++◌, ◌≤◌, length, IfOk, OnOk, IfErr};
 ghost use Rattle.kl1_model.specs.declared.limits.TheConstants.{MOST_COMMAND_BYTES};
 ghost use Rattle.kl1_model.specs.declared.rules.Rules.TheVariants.{Three};
 ghost use Rattle.kl1_run_work.specs.Works.{texts_of};
@@ -11,26 +11,13 @@ ghost use Rattle.kl1_run.specs.Scripted.{IsTaken, IsTried, IsLong, IsCause};
 use crate::after::Looks;
 use crate::alone::{LoneWork, run_alone};
 use crate::origins::NoOrigins;
+use crate::progress::NoWatch;
 use kl1_model::limits::MOST_COMMAND_BYTES;
-use kl1_run_work::{FailureCounter, Refusal, Stop, Wanted, Watch, Work, put_script, start_length};
+use kl1_run_work::{FailureCounter, Refusal, Stop, Wanted, Work, put_script, start_length};
 use kl1_watch::Names;
 use kl1_world::Rules;
 use std::alloc::Global;
 use std::io;
-
-/// What is told nothing.
-#[derive(Drop)]
-struct NoWatch;
-
-impl Watch for NoWatch {
-    ghost told = { λ w. None };
-
-    fn is_due(&mut self) -> bool {
-        false
-    }
-
-    fn tell(&mut self, _charged: u64, _alive: u64) {}
-}
 
 /// Loads the sources and starts the goal in an account of its own by the rules of `kl1`, and tells why that is refused, if it is.
 #[tactic(auto, using(crate::proofs::Tried::alone_taken, crate::proofs::Tried::alone_refused))]

@@ -1,6 +1,6 @@
 -- Orders of goals.
 use Rattle.std.proofs.Common.{◌≡◌, ◌-◌, ◌<◌, ◌≤◌, Bool, true, false, List, [], ◌∷◌, ◌++◌, length, get_or, take, drop, append_assoc, sym, refl, subst, arith}
-use Rattle.std.specs.Prelude.{All, IsTrue}
+use Rattle.std.specs.Prelude.{All, IsTrue, IsFalse}
 use Rattle.std.proofs.lemmas.List.{take_all, append-nil}
 use Rattle.std.proofs.lemmas.List.Elements.{All-nil, All-cons, All-append}
 use Rattle.kl1_user_events.specs.declared.goal_view.GoalView.{GoalView}
@@ -34,6 +34,11 @@ next_put all r o r' o' (x ∷ xs) d b some put h = subst (λ l. IsPermutation al
 pub first_on : (P : GoalView → Type 0) (r o r' o' : List GoalView) (g : GoalView) (b : Bool) → IsPut b g r o r' o' → (IsTrue b → P g) → All P r → All P r'
 first_on P r o r' o' g true put h all = subst (All P) (sym put.0) (All-append P r (g ∷ []) all (All-cons P g [] (h refl) (All-nil P)))
 first_on P r o r' o' g false put h all = subst (All P) (sym put.0) all
+
+-- what holds of the others holds of one more
+pub other_on : (P : GoalView → Type 0) (r o r' o' : List GoalView) (g : GoalView) (b : Bool) → IsPut b g r o r' o' → (IsFalse b → P g) → All P o → All P o'
+other_on P r o r' o' g false put h all = subst (All P) (sym put.1) (All-append P o (g ∷ []) all (All-cons P g [] (h refl) (All-nil P)))
+other_on P r o r' o' g true put h all = subst (All P) (sym put.1) all
 
 -- no goal is left
 pub all_put : (all r o rest : List GoalView) → length rest < 1 → IsPermutation all (r ++ (o ++ rest)) → IsPermutation all (r ++ o)
