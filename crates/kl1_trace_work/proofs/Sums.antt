@@ -43,11 +43,11 @@ more_at false c s r n w x er en ew ex =
     ∙ ap (λ a. record { reductions = counted (r + 0); new = counted (n + 0); waited = counted w; exceptions = a }) (ex ∙ ap counted (omega arith))
 
 pushed : (ss : List Seen) (s : Seen) (p : ℕ) → record {
-    reductions = counted (sum_at p (λ x. 1) ss + (if s.step.predicate == p then 1 else 0));
-    new = counted (sum_at p (λ x. count_by is_reduced x.new.items) ss + (if s.step.predicate == p then count_by is_reduced s.new.items else 0));
-    waited = counted (sum_by (λ x. waiting_at p x.new.items) ss + waiting_at p s.new.items);
-    exceptions = counted (sum_at p (λ x. x.raised) ss + (if s.step.predicate == p then s.raised else 0));
-  } ≡ counts_of p (ss ++ s ∷ [])
+  reductions = counted (sum_at p (λ x. 1) ss + (if s.step.predicate == p then 1 else 0));
+  new = counted (sum_at p (λ x. count_by is_reduced x.new.items) ss + (if s.step.predicate == p then count_by is_reduced s.new.items else 0));
+  waited = counted (sum_by (λ x. waiting_at p x.new.items) ss + waiting_at p s.new.items);
+  exceptions = counted (sum_at p (λ x. x.raised) ss + (if s.step.predicate == p then s.raised else 0));
+} ≡ counts_of p (ss ++ s ∷ [])
 pushed ss s p =
     ap (λ a. record { reductions = counted a; new = counted (sum_at p (λ x. count_by is_reduced x.new.items) ss + (if s.step.predicate == p then count_by is_reduced s.new.items else 0)); waited = counted (sum_by (λ x. waiting_at p x.new.items) ss + waiting_at p s.new.items); exceptions = counted (sum_at p (λ x. x.raised) ss + (if s.step.predicate == p then s.raised else 0)) }) (sym (sum_by_push (λ x. if x.step.predicate == p then 1 else 0) ss s))
     ∙ ap (λ a. record { reductions = counted (sum_at p (λ x. 1) (ss ++ s ∷ [])); new = counted a; waited = counted (sum_by (λ x. waiting_at p x.new.items) ss + waiting_at p s.new.items); exceptions = counted (sum_at p (λ x. x.raised) ss + (if s.step.predicate == p then s.raised else 0)) }) (sym (sum_by_push (λ x. if x.step.predicate == p then count_by is_reduced x.new.items else 0) ss s))

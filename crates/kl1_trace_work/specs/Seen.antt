@@ -1,5 +1,5 @@
 -- What is seen of steps, one after another.
-use Rattle.std.specs.Prelude.{◌≡◌, ◌+◌, ◌-◌, ◌^◌, ℕ, suc, nat_lt, if◌then◌else◌, List, [], ◌∷◌, ◌++◌, map, min, Option, Some, option_map}
+use Rattle.std.specs.Prelude.{◌≡◌, ◌+◌, ◌-◌, ◌^◌, ℕ, suc, List, [], ◌∷◌, ◌++◌, map, fold, min, max, Option, Some, option_map}
 use Rattle.kl1_model.specs.Choice.{Chosen, first}
 use Rattle.kl1_model.specs.State.{goal_at}
 use Rattle.kl1_model.specs.Tree.{goals_alive}
@@ -19,11 +19,9 @@ number_after n = min (n + 1) (2 ^ 64 - 1)
 abbrev pub views_of : List NewGoal → List GoalView
 views_of gs = map (λ g. g.view) gs
 
--- the number of the last goal, if there are any, or the greatest before
+-- the greatest number of goals, and of one before
 abbrev pub last_among : ℕ → List GoalView → ℕ
-last_among before [] = before
-last_among before (g ∷ []) = if nat_lt before g.number.0 then g.number.0 else before
-last_among before (g ∷ h ∷ gs) = last_among before (h ∷ gs)
+last_among before gs = fold (λ n g. max n g.number.0) before gs
 
 -- a step that comes next: its number, its goal as it is in the account, and its clause
 pub record IsNext (before : ℕ) (k : Kept) (c : Chosen) (x : Next) : Type 0 where

@@ -51,14 +51,17 @@ struct Before {
     is_built_in: bool,
 }
 
-/// The greatest number of goals, which are in order of their numbers.
+/// The greatest number of goals, and of one before.
 fn last_of(goals: &[GoalView], before: u64) -> u64
     ensures { result ≡ last_among before goals.now }
 {
-    match goals {
-        [.., goal] if before < goal.number.0 => goal.number.0,
-        _ => before,
+    let mut last = before;
+    let mut rest = goals;
+    while let [goal, others @ ..] = rest {
+        last = last.max(goal.number.0);
+        rest = others;
     }
+    last
 }
 
 /// Whether two states are one.
