@@ -5,7 +5,6 @@ use crate::fault::Fault;
 use crate::files::FileId;
 use crate::journal_file::picture_file;
 use crate::origins::{Again, OwnWorld};
-use crate::pipe::Pipe;
 use kl1_command::Views;
 use kl1_steps::ClausePlace;
 use kl1_trace_work::{
@@ -17,7 +16,7 @@ use std::alloc::Global;
 use std::io::{Stderr, Write};
 
 /// What tells the steps of a run.
-type Told<'a> = Observers<'a, Pipe<Stderr>>;
+type Told<'a> = Observers<'a, Stderr>;
 
 /// The pattern of these words, which stand between commas.
 fn pattern_in(alloc: Global, words: &str) -> Result<Pattern, Fault> {
@@ -50,7 +49,7 @@ fn observers_for<'a>(
                 files,
             };
             let pattern = pattern_in(alloc, words)?;
-            Some(Trace::new(texts, pattern, Pipe::new(rt.stderr())))
+            Some(Trace::new(texts, pattern, rt.stderr()))
         }
     };
     let profile = match asked.profile {
@@ -150,11 +149,8 @@ pub fn tell_steps(
     let _last = watch_first(&mut world, asked.steps, &mut viewer)?;
     if let Some(trace) = &mut viewer.observer.trace {
         trace.flush();
-        if trace.out.is_left {
-            return Err(Fault::Left);
-        }
-        if trace.has_failed {
-            return Err(Fault::Write);
+        if let Some(error) = &trace.failure {
+            return Err(Fault::of_write(error));
         }
     }
     write_profile(rt, asked, &viewer, &world)?;

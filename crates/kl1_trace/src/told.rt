@@ -102,8 +102,8 @@ pub fn finish<H: Views>(
     let alloc = rt.alloc();
     if let Some(trace) = &mut viewer.observer.trace {
         trace.flush();
-        if trace.has_failed {
-            return Err(Fault::Left);
+        if let Some(error) = &trace.failure {
+            return Err(Fault::of_write(error));
         }
     }
     write_profile(rt, asked, viewer, host)?;

@@ -16,6 +16,7 @@ use kl1_shown::parse_print;
 use kl1_term::Node;
 use kl1_user_events::{Extent, GoalNo, ShoenNo, TaskKind};
 use std::alloc::AllocError;
+use std::io;
 use std::io::Write;
 
 /// The most bytes of a goal.
@@ -32,11 +33,11 @@ const MOST_HELD: usize = 65_536;
 pub struct Trace<'a, W> {
     pub texts: Texts<'a>,
     pub pattern: Pattern,
-    pub out: W,
+    out: W,
     /// What is to be written.
     held: Vec<u8>,
-    /// Whether a write failed.
-    pub has_failed: bool,
+    /// Why a write failed, after which nothing is written.
+    pub failure: Option<io::Error>,
 }
 
 /// Puts the blanks before a sign, and it, after the bytes.
@@ -75,14 +76,16 @@ impl<'a, W: Write + Drop> Trace<'a, W> {
             pattern,
             out,
             held,
-            has_failed: false,
+            failure: None,
         }
     }
 
     /// Writes what is held back.
     pub fn flush(&mut self) {
-        if !self.has_failed && self.out.write_all(self.held.as_slice()).is_err() {
-            self.has_failed = true;
+        if self.failure.is_none() {
+            if let Err(error) = self.out.write_all(self.held.as_slice()) {
+                self.failure = Some(error);
+            }
         }
         self.held.clear();
     }
@@ -321,6 +324,6 @@ impl<W: Write + Drop> Trace<'_, W> {
             let lines = self.lines_of(host, predicates, seen)?;
             self.tell(lines.as_slice())?;
         }
-        Ok(!self.has_failed && !self.pattern.is_over(seen.step.number))
+        Ok(self.failure.is_none() && !self.pattern.is_over(seen.step.number))
     }
 }
