@@ -5,20 +5,26 @@ use crate::fault::Fault;
 use clap::{Arg, ArgAction, Command, Error};
 use std::alloc::{AllocError, Global};
 
-/// An option whose value may be left out, and stands after a `=`.
-fn with_choice<'a>(alloc: Global, name: &'a str, value: &'a str, help: &'a str) -> Arg<'a> {
+/// An option whose value stands after a `=`, with what it is if it is left out.
+fn with_choice<'a>(
+    alloc: Global,
+    name: &'a str,
+    value: &'a str,
+    missing: &'a str,
+    help: &'a str,
+) -> Arg<'a> {
     Arg::new(alloc, name)
         .long(name)
         .action(ArgAction::Set)
         .num_args(0..=1)
         .require_equals(true)
-        .default_missing_value("")
+        .default_missing_value(missing)
         .value_name(value)
         .help(help)
 }
 
-/// The forms of a profile; without a word it is a table.
-const PROFILES: &[&str] = &["json", ""];
+/// The forms of a profile.
+const PROFILES: &[&str] = &["json", "table"];
 
 /// A command that knows the options about what is told of steps too.
 fn with_steps<'a>(alloc: Global, command: Command<'a>) -> Result<Command<'a>, AllocError> {
@@ -26,12 +32,14 @@ fn with_steps<'a>(alloc: Global, command: Command<'a>) -> Result<Command<'a>, Al
         alloc,
         "trace",
         "PATTERN",
+        "",
         "Tell each step, or those of PATTERN; so it is without an option too",
     );
     let profile = with_choice(
         alloc,
         "profile",
-        "json",
+        "FORM",
+        "table",
         "Tell what each predicate did, as a table or as JSON",
     )
     .value_parser(PROFILES);
