@@ -1,10 +1,12 @@
 // What an expression comes to.
 
+use crate::prints::Computing;
+use kl1_lines::only_number;
 use kl1_term::Node;
 use std::alloc::{AllocError, Global};
 
 /// What an operator makes of two numbers, if it is one and that is a number.
-fn computed(name: &[u8], left: i64, right: i64) -> Option<i64> {
+pub fn computed(name: &[u8], left: i64, right: i64) -> Option<i64> {
     match name {
         b"+" => left.checked_add(right),
         b"-" => left.checked_sub(right),
@@ -40,4 +42,16 @@ pub fn value_of(alloc: Global, nodes: &[Node]) -> Result<Option<i64>, AllocError
         [value] => Ok(Some(*value)),
         _ => Ok(None),
     }
+}
+
+/// The number that a print is, if it is one that isn't negative.
+fn number_in(print: &[u8]) -> Option<i64> {
+    i64::try_from(only_number(print)?).ok()
+}
+
+/// What a goal that computes with one operator comes to, if that is a number.
+pub fn value_in(computing: &Computing<'_>) -> Option<i64> {
+    let left = number_in(computing.left)?;
+    let right = number_in(computing.right)?;
+    computed(computing.operator, left, right)
 }

@@ -99,3 +99,47 @@ pub fn variables_of(alloc: Global, print: &[u8]) -> Result<Vec<u64>, AllocError>
     }
     Ok(variables)
 }
+
+/// A printed goal that computes: what is to be bound, and an operator with its operands, which are no expressions and no negative
+/// numbers.
+#[derive(Clone, Copy)]
+pub struct Computing<'a> {
+    pub target: &'a [u8],
+    pub left: &'a [u8],
+    pub operator: &'a [u8],
+    pub right: &'a [u8],
+}
+
+/// How the print of a goal that computes begins.
+const COMPUTING: &[u8] = b"':='(";
+
+/// Whether a print is no expression and no negative number.
+fn is_operand(print: &[u8]) -> bool {
+    !print.starts_with(b"-") && !may_have_operators(print)
+}
+
+/// A printed goal as one that computes with one operator, if it does.
+pub fn computing_in(print: &[u8]) -> Option<Computing<'_>> {
+    let inner = print
+        .strip_prefix(COMPUTING)?
+        .strip_suffix(b")".as_slice())?;
+    let (target, expression) = split_comma(inner)?;
+    let [b'\'', _, b'\'', b'(', operands @ .., b')'] = expression else {
+        return None;
+    };
+    let operator = expression.get(1..2)?;
+    match operator {
+        b"+" | b"-" | b"*" | b"/" => {}
+        _ => return None,
+    }
+    let (left, right) = split_comma(operands)?;
+    if is_operand(target) && is_operand(left) && is_operand(right) {
+        return Some(Computing {
+            target,
+            left,
+            operator,
+            right,
+        });
+    }
+    None
+}

@@ -3,7 +3,7 @@
 ghost use Rattle.std.specs.Prelude.{◌≡◌};
 
 use crate::predicates::{Calling, Predicates};
-use crate::prints::{may_have_operators, sides_of};
+use crate::prints::{Computing, computing_in, may_have_operators, sides_of};
 use crate::seen::Seen;
 use kl1_lines::put_decimal;
 use kl1_model::Condition;
@@ -95,11 +95,32 @@ impl Texts<'_> {
         if !may_have_operators(front_of(print, MOST_READ)) {
             return self.put_plain(print, most, out);
         }
+        if let Some(computing) = computing_in(print) {
+            return self.put_computing(&computing, most, out);
+        }
         let parsed = parse_print(self.alloc, front_of(print, MOST_READ))?;
         let begin = out.len();
         let text = infix_text(self.alloc, parsed.nodes.as_slice())?;
         self.names.put_named(front_of(text.as_slice(), limit), out)?;
         cut_after(begin, most, !parsed.is_whole, out)
+    }
+
+    /// Puts a goal that computes after the bytes, at most `most` of its own, with the names of variables.
+    fn put_computing(
+        &self,
+        computing: &Computing<'_>,
+        most: usize,
+        out: &mut Vec<u8>,
+    ) -> Result<(), AllocError> {
+        let begin = out.len();
+        self.names.put_named(computing.target, out)?;
+        out.extend_from_slice(b" := ")?;
+        self.names.put_named(computing.left, out)?;
+        out.push(b' ')?;
+        out.extend_from_slice(computing.operator)?;
+        out.push(b' ')?;
+        self.names.put_named(computing.right, out)?;
+        cut_after(begin, most, false, out)
     }
 
     /// Puts a text without operators after the bytes, at most `most` of its own, with the names of variables.

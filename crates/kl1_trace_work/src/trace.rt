@@ -3,17 +3,18 @@
 ghost use Rattle.std.specs.Prelude.{◌≡◌};
 
 use crate::columns::{put_blanks, put_front, put_right};
-use crate::computed::value_of;
+use crate::computed::{value_in, value_of};
 use crate::equated::{equated, split_term};
 use crate::pattern::Pattern;
 use crate::predicates::Predicates;
-use crate::prints::{sides_of, variable_in};
+use crate::prints::{computing_in, sides_of, variable_in};
 use crate::seen::{NewGoal, Next, Seen};
 use crate::texts::{Texts, word_of};
 use kl1_command::Views;
 use kl1_lines::put_decimal;
 use kl1_shown::parse_print;
 use kl1_term::Node;
+use kl1_text::put_int;
 use kl1_user_events::{Extent, GoalNo, ShoenNo, TaskKind};
 use std::alloc::AllocError;
 use std::io;
@@ -143,6 +144,16 @@ impl<'a, W: Write + Drop> Trace<'a, W> {
                 (Some(one), _) => return self.put_binding(one, right, out),
                 (None, Some(other)) => return self.put_binding(other, left, out),
                 (None, None) => {}
+            }
+        }
+        if let Some(computing) = computing_in(print) {
+            if let (Some(variable), Some(value)) = (
+                variable_in(computing.target),
+                value_in(&computing),
+            ) {
+                let mut text = Vec::new(self.texts.alloc);
+                put_int(&mut text, value)?;
+                return self.put_binding(variable, text.as_slice(), out);
             }
         }
         self.put_equated(print, out)
