@@ -3,6 +3,7 @@ use Rattle.std.proofs.Common.{◌≡◌, ◌+◌, ◌-◌, ◌^◌, ℕ, suc, �
 use Rattle.std.specs.Prelude.{count_by, fold, max}
 use Rattle.std.specs.List.{sum_by}
 use Rattle.std.proofs.lemmas.List.Sums.{sum_by_push, fold-append}
+use Rattle.std.proofs.lemmas.List.{length-append}
 use Rattle.kl1_trace_work.specs.declared.seen.NewGoal.{NewGoal}
 use Rattle.kl1_trace_work.specs.declared.seen.Seen.{Seen}
 use Rattle.kl1_trace_work.specs.declared.profile.Counts.{Counts}
@@ -65,3 +66,15 @@ counted_at ss s p c d e is added waits =
     let x = sum_at p (λ y. y.raised) ss in
     let first = added ∙ more_at (s.step.predicate == p) c s r n w x (ap (λ (k : Counts). k.reductions) is) (ap (λ (k : Counts). k.new) is) (ap (λ (k : Counts). k.waited) is) (ap (λ (k : Counts). k.exceptions) is) in
     waits ∙ waits_counted p s.new.items d w (ap (λ (k : Counts). k.waited) first) ∙ ap (λ (k : Counts). record k { waited = counted (w + waiting_at p s.new.items) }) first ∙ pushed ss s p
+
+-- a step is counted: first what its own predicate did, and then the goals that wait
+pub took : (old new : Profile) (s : Seen) (own : Counts) (mid : List Counts) → own ≡ record { reductions = 1; new = count_by is_reduced s.new.items; waited = 0; exceptions = s.raised } →
+    ((p : ℕ) → counts_at mid p ≡ (if s.step.predicate == p then plus (counts_at old.counts.items p) own else counts_at old.counts.items p)) →
+    ((p : ℕ) → counts_at new.counts.items p ≡ waits_at p s.new.items (counts_at mid p)) →
+    new.alive ≡ max old.alive s.alive → new.steps ≡ counted (old.steps + 1) →
+    (ss : List Seen) → HasCounted old ss → HasCounted new (ss ++ s ∷ [])
+took old new s own mid is added waits alive steps ss h = record {
+  each = λ p. counted_at ss s p (counts_at old.counts.items p) (counts_at mid p) (counts_at new.counts.items p) (h.each p) (added p ∙ ap (λ o. if s.step.predicate == p then plus (counts_at old.counts.items p) o else counts_at old.counts.items p) is) (waits p);
+  alive = alive ∙ ap (λ n. max n s.alive) h.alive ∙ sym (fold-append (λ n (x : Seen). max n x.alive) 0 ss (s ∷ []));
+  steps = steps ∙ ap (λ n. counted (n + 1)) h.steps ∙ counted_on (length ss) 1 ∙ ap counted (sym (length-append ss (s ∷ [])));
+}

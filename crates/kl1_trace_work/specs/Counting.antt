@@ -1,6 +1,6 @@
 -- What a profile counts of steps.
-use Rattle.std.specs.Prelude.{◌≡◌, ◌+◌, ◌-◌, ◌^◌, ℕ, ◌==◌, not, ◌&&◌, Bool, true, false, if◌then◌else◌, List, [], ◌∷◌, fold, length, min, max, count_by}
-use Rattle.std.specs.List.{get_or, sum_by}
+use Rattle.std.specs.Prelude.{◌≡◌, ◌+◌, ◌-◌, ◌^◌, ℕ, ◌==◌, not, ◌&&◌, Bool, true, false, if◌then◌else◌, List, [], ◌∷◌, fold, length, min, max, count_by, get_or}
+use Rattle.std.specs.List.{sum_by}
 use Rattle.kl1_user_events.specs.declared.goal_view.TaskKind.TheVariants.{Monitor, Reduces, Substitutes}
 use Rattle.kl1_trace_work.specs.declared.seen.NewGoal.{NewGoal}
 use Rattle.kl1_trace_work.specs.declared.seen.Seen.{Seen}
