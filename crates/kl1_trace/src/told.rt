@@ -67,17 +67,26 @@ fn write_profile<H: Views>(
     };
     let alloc = rt.alloc();
     let usage = host.usage();
-    let rows = profile.rows(alloc, &viewer.predicates)?;
+    let predicates = &viewer.predicates;
+    let rows = profile.rows(alloc)?;
     let rows = rows.as_slice();
     let mut lines = Vec::new(alloc);
     match asked.profile {
         Profiles::Json => {
-            let value = profile_json(alloc, rows, profile.steps, profile.alive, &usage)?;
+            let value = profile_json(
+                alloc,
+                predicates,
+                rows,
+                profile.steps,
+                profile.alive,
+                &usage,
+            )?;
             lines.extend_from_slice(value.to_string(alloc)?.as_bytes())?;
             lines.push(b'\n')?;
         }
         _ => put_table(
             alloc,
+            predicates,
             rows,
             profile.steps,
             profile.alive,

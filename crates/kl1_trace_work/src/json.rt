@@ -1,5 +1,6 @@
 // A profile as JSON.
 
+use crate::predicates::Predicates;
 use crate::profile::Row;
 use crate::texts::put_name;
 use kl1_user_events::{Usage, Used};
@@ -13,9 +14,9 @@ fn used_json(alloc: Global, used: Used) -> Result<Value, AllocError> {
 }
 
 /// What a predicate did.
-fn row_json(alloc: Global, row: &Row) -> Result<Value, AllocError> {
+fn row_json(alloc: Global, predicates: &Predicates, row: &Row) -> Result<Value, AllocError> {
     let mut name = Vec::new(alloc);
-    put_name(row.calling, &mut name)?;
+    put_name(predicates.calling(row.predicate), &mut name)?;
     let name = str::from_utf8(name.as_slice()).unwrap_or("");
     let counts = row.counts;
     json!(in alloc; {
@@ -30,14 +31,15 @@ fn row_json(alloc: Global, row: &Row) -> Result<Value, AllocError> {
 /// What each predicate did, and all steps, with the most goals that were alive after one, and what the account has of its limits.
 pub fn profile_json(
     alloc: Global,
+    predicates: &Predicates,
     rows: &[Row],
     steps: u64,
     alive: u64,
     usage: &Usage,
 ) -> Result<Value, AllocError> {
-    let mut predicates = Vec::new(alloc);
+    let mut values = Vec::new(alloc);
     for row in rows {
-        push(&mut predicates, row_json(alloc, row)?)?;
+        push(&mut values, row_json(alloc, predicates, row)?)?;
     }
     let goals = used_json(
         alloc,
@@ -50,9 +52,9 @@ pub fn profile_json(
     let structures = used_json(alloc, usage.structures)?;
     let shoens = used_json(alloc, usage.shoens)?;
     let reports = used_json(alloc, usage.reports)?;
-    let predicates = Value::Array(predicates);
+    let values = Value::Array(values);
     json!(in alloc; {
-        "predicates": predicates,
+        "predicates": values,
         "reductions": steps,
         "goals": goals,
         "variables": variables,

@@ -4,7 +4,6 @@ ghost use Rattle.std.specs.Prelude.{◌≡◌, ◌==◌, ◌<◌, ◌++◌, ◌�
 ghost use Rattle.kl1_trace_work.specs.declared.seen.Seen.{Seen};
 ghost use Rattle.kl1_trace_work.specs.Counting.{is_reduced, is_waiting, plus, waited_more, counts_at, waits_at, HasCounted};
 
-use crate::predicates::{Calling, Predicates};
 use crate::seen::{NewGoal, Seen};
 use kl1_user_events::TaskKind;
 use std::alloc::{AllocError, Global};
@@ -19,10 +18,10 @@ pub struct Counts {
     pub exceptions: u64,
 }
 
-/// A predicate and what it did.
+/// The place of a predicate and what it did.
 #[derive(Clone, Copy)]
 pub struct Row {
-    pub calling: Calling,
+    pub predicate: usize,
     pub counts: Counts,
 }
 
@@ -167,15 +166,19 @@ impl Profile {
     }
 
     /// The predicates and what they did, those with the most reductions first.
-    pub fn rows(&self, alloc: Global, predicates: &Predicates) -> Result<Vec<Row>, AllocError> {
+    pub fn rows(&self, alloc: Global) -> Result<Vec<Row>, AllocError> {
         let mut rows = Vec::new(alloc);
-        for (place, counts) in self.counts.iter().enumerate() {
+        let mut rest = self.counts.as_slice();
+        let mut predicate: usize = 0;
+        while let [counts, others @ ..] = rest {
             if 0 < counts.reductions || 0 < counts.waited {
                 rows.push(Row {
-                    calling: predicates.calling(place),
+                    predicate,
                     counts: *counts,
                 })?;
             }
+            predicate = predicate.saturating_add(1);
+            rest = others;
         }
         rows.sort_by_key(|row: &Row| u64::MAX - row.counts.reductions)?;
         Ok(rows)

@@ -1,6 +1,7 @@
 // A profile as a table.
 
 use crate::columns::{put_blanks, put_right};
+use crate::predicates::Predicates;
 use crate::profile::Row;
 use crate::texts::put_name;
 use kl1_lines::put_decimal;
@@ -22,14 +23,20 @@ fn put_share(alloc: Global, count: u64, of: u64, out: &mut Vec<u8>) -> Result<()
 }
 
 /// Puts the line of a predicate after the bytes.
-fn put_row(alloc: Global, row: &Row, total: u64, out: &mut Vec<u8>) -> Result<(), AllocError> {
+fn put_row(
+    alloc: Global,
+    predicates: &Predicates,
+    row: &Row,
+    total: u64,
+    out: &mut Vec<u8>,
+) -> Result<(), AllocError> {
     put_right(alloc, row.counts.reductions, 10, out)?;
     put_share(alloc, row.counts.reductions, total, out)?;
     put_right(alloc, row.counts.new, 12, out)?;
     put_right(alloc, row.counts.waited, 12, out)?;
     put_right(alloc, row.counts.exceptions, 12, out)?;
     out.extend_from_slice(b"  ")?;
-    put_name(row.calling, out)?;
+    put_name(predicates.calling(row.predicate), out)?;
     out.push(b'\n')?;
     Ok(())
 }
@@ -46,6 +53,7 @@ fn put_used(words: &[u8], used: Used, out: &mut Vec<u8>) -> Result<(), AllocErro
 /// the account has of its limits.
 pub fn put_table(
     alloc: Global,
+    predicates: &Predicates,
     rows: &[Row],
     steps: u64,
     alive: u64,
@@ -54,7 +62,7 @@ pub fn put_table(
 ) -> Result<(), AllocError> {
     out.extend_from_slice(HEAD)?;
     for row in rows {
-        put_row(alloc, row, steps, out)?;
+        put_row(alloc, predicates, row, steps, out)?;
     }
     put_right(alloc, steps, 10, out)?;
     put_share(alloc, steps, steps, out)?;
