@@ -200,6 +200,7 @@ impl<O: Drop> Viewer<O> {
 }
 
 /// What is known before a step; `None` if there is no such goal.
+#[tactic(auto, using(crate::proofs::Pages::page_first))]
 fn look_before<H: UnbookedHost + Views, O: Observer<H> + Drop>(
     viewer: &Viewer<O>,
     host: &mut H,
@@ -321,6 +322,7 @@ pub fn watch_step<H: UnbookedHost + Views, O: Observer<H> + Drop>(
 }
 
 /// Does the first step, and has it seen.
+#[tactic(auto, using(crate::proofs::Chains::told_none, crate::proofs::Chains::told_one))]
 pub fn watch_once<H: UnbookedHost + Views, O: Observer<H> + Drop>(
     host: &mut H,
     viewer: &mut Viewer<O>,
@@ -336,6 +338,7 @@ pub fn watch_once<H: UnbookedHost + Views, O: Observer<H> + Drop>(
 }
 
 /// Does first steps, at most `most`, and has each seen; ends if none can be done, or no more are wanted. Answers what came of the last.
+#[tactic(auto, using(crate::proofs::Chains::told_none, crate::proofs::Chains::told_both))]
 pub fn watch_first<H: UnbookedHost + Views, O: Observer<H> + Drop>(
     host: &mut H,
     most: u64,
