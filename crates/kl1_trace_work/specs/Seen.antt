@@ -1,5 +1,5 @@
 -- What is seen of steps, one after another.
-use Rattle.std.specs.Prelude.{◌≡◌, ◌+◌, ◌-◌, ◌^◌, ℕ, suc, List, [], ◌∷◌, ◌++◌, map, fold, min, max, Option, Some, option_map}
+use Rattle.std.specs.Prelude.{◌≡◌, ◌+◌, ◌-◌, ◌^◌, ℕ, List, [], ◌∷◌, ◌++◌, map, fold, min, max, Option, Some, option_map}
 use Rattle.kl1_model.specs.Choice.{Chosen, first}
 use Rattle.kl1_model.specs.State.{goal_at}
 use Rattle.kl1_model.specs.Tree.{goals_alive}
@@ -11,7 +11,7 @@ use Rattle.kl1_trace_work.specs.declared.seen.Next.{Next}
 use Rattle.kl1_trace_work.specs.declared.seen.NewGoal.{NewGoal}
 use Rattle.kl1_trace_work.specs.declared.seen.Seen.{Seen}
 
--- the number of the step after this one; steps are counted up to 2 ^ 64 - 1
+-- the number after this one; numbers go up to 2 ^ 64 - 1
 abbrev pub number_after : ℕ → ℕ
 number_after n = min (n + 1) (2 ^ 64 - 1)
 
@@ -31,7 +31,7 @@ pub record IsNext (before : ℕ) (k : Kept) (c : Chosen) (x : Next) : Type 0 whe
 
 -- what is seen of a step after it: the goals of the account whose numbers are above `last`, and how many goals are alive
 pub record IsSeen (last : ℕ) (after : Kept) (s : Seen) : Type 0 where
-  pub new : views_of s.new.items ≡ goal_page after.state (suc last) 4294967296
+  pub new : views_of s.new.items ≡ goal_page after.state (number_after last) 4294967296
   pub alive : s.alive ≡ goals_alive after.state
 
 -- first steps, one after another, lead from one account to another, and this is seen of them in order: each is accepted, and is of the goal that

@@ -1,6 +1,8 @@
 // What looks at an account before and after each step.
 
-ghost use Rattle.std.specs.Prelude.{◌≡◌, IfOk, IfSome, OnOk};
+ghost use Rattle.std.specs.Prelude.{◌≡◌, Some, IfOk, IfSome, OnOk, option_map};
+ghost use Rattle.kl1_model.specs.State.{goal_at};
+ghost use Rattle.kl1_user_events.specs.Viewing.{goal_view};
 ghost use Rattle.kl1_trace_work.specs.Seen.{last_among, views_of, IsNext, IsSeen, AreTold};
 ghost use Rattle.kl1_trace_work.specs.Tried.{IsTried};
 
@@ -159,7 +161,10 @@ impl<O: Drop> Viewer<O> {
     }
 
     /// What became of the shoens in a step, of which reports were made if something did.
-    fn look_at_shoens<H: Views>(&mut self, host: &H) -> Result<Shoens, AllocError> {
+    fn look_at_shoens<H: Views>(&mut self, host: &H) -> Result<Shoens, AllocError>
+        ensures observer { self.new.observer ≡ self.old.observer }
+        ensures last { self.new.last_goal ≡ self.old.last_goal }
+    {
         let shoens = host.shoens_from(ShoenNo(0), ALL)?;
         let opened = shoens.as_slice().get(self.shoens.len()..).unwrap_or(&[]);
         let seen = Shoens {
@@ -176,7 +181,10 @@ impl<O: Drop> Viewer<O> {
         host: &H,
         before: &Before,
         all: bool,
-    ) -> Result<Vec<GoalNo>, AllocError> {
+    ) -> Result<Vec<GoalNo>, AllocError>
+        ensures observer { self.new.observer ≡ self.old.observer }
+        ensures last { self.new.last_goal ≡ self.old.last_goal }
+    {
         let mut woken = Vec::new(self.alloc);
         let Some(waits) = &mut self.waits else {
             return Ok(woken);
@@ -199,8 +207,44 @@ impl<O: Drop> Viewer<O> {
     }
 }
 
+/// The goal of a number, as it is now, if there is one.
+#[tactic(auto, using(crate::proofs::Pages::found_first))]
+fn view_of<H: Views>(host: &H, goal: GoalNo) -> Result<Option<GoalView>, AllocError>
+    ensures { IfOk result (λ found. IfSome found (λ view. (f : H.Reading) → H.fits host.now f → Some view ≡ option_map (goal_view (H.kept f host.now).state) (goal_at goal.0 (H.kept f host.now).state.goals))) }
+{
+    match host.goals_from(goal, 1)?.as_slice() {
+        [view, ..] if view.number.0 == goal.0 => Ok(Some(*view)),
+        _ => Ok(None),
+    }
+}
+
+/// The text of a goal, if that is wanted.
+fn text_if<H: Views>(
+    host: &mut H,
+    goal: GoalNo,
+    is_wanted: bool,
+) -> Result<Option<Vec<u8>>, AllocError>
+    ensures same { (f : H.Reading) → H.fits host.new f → H.kept f host.new ≡ H.kept f host.old }
+    ensures before { (f : H.Reading) → H.fits host.new f → H.fits host.old f }
+    ensures beside { H.beside host.new ≡ H.beside host.old }
+{
+    if !is_wanted {
+        return Ok(None);
+    }
+    host.goal_text(goal, Extent::Cut)
+}
+
+impl<O> Viewer<O> {
+    /// Whether a goal of the predicate of a place is built in.
+    fn is_built_in(&self, place: usize) -> bool {
+        match self.predicates.called(place) {
+            Some(called) => called.module.is_none(),
+            None => false,
+        }
+    }
+}
+
 /// What is known before a step; `None` if there is no such goal.
-#[tactic(auto, using(crate::proofs::Pages::page_first))]
 fn look_before<H: UnbookedHost + Views, O: Observer<H> + Drop>(
     viewer: &Viewer<O>,
     host: &mut H,
@@ -212,9 +256,8 @@ fn look_before<H: UnbookedHost + Views, O: Observer<H> + Drop>(
     ensures before { (f : H.Reading) → H.fits host.new f → H.fits host.old f }
     ensures beside { H.beside host.new ≡ H.beside host.old }
 {
-    let view = match host.goals_from(goal, 1)?.as_slice() {
-        [view, ..] if view.number.0 == goal.0 => *view,
-        _ => return Ok(None),
+    let Some(view) = view_of(host, goal)? else {
+        return Ok(None);
     };
     let step = Next {
         number: viewer.number.saturating_add(1),
@@ -222,16 +265,10 @@ fn look_before<H: UnbookedHost + Views, O: Observer<H> + Drop>(
         predicate: viewer.predicates.of(goal),
         clause,
     };
-    let is_built_in = match viewer.predicates.called(step.predicate) {
-        Some(called) => called.module.is_none(),
-        None => false,
-    };
+    let is_built_in = viewer.is_built_in(step.predicate);
     let is_waking = is_built_in && viewer.waits.is_some();
-    let text = if is_waking || viewer.observer.wants_text(&viewer.predicates, &step) {
-        host.goal_text(goal, Extent::Cut)?
-    } else {
-        None
-    };
+    let is_wanted = is_waking || viewer.observer.wants_text(&viewer.predicates, &step);
+    let text = text_if(host, goal, is_wanted)?;
     Ok(Some(Before {
         step,
         text,
