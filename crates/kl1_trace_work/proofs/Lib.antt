@@ -1,3 +1,4 @@
 mod Chains
 mod Pages
+mod Rows
 mod Sums

@@ -1,5 +1,5 @@
 -- What stands first on a page of goals.
-use Rattle.std.proofs.Common.{◌≡◌, ◌≤◌, ℕ, ◌==◌, Bool, true, false, if◌then◌else◌, List, [], ◌∷◌, map, take, length, Option, Some, None, option_map, ap, ◌∙◌, refl, sym, subst, absurd, arith}
+use Rattle.std.proofs.Common.{◌≡◌, ◌≤◌, ℕ, ◌==◌, Bool, true, false, if◌then◌else◌, List, [], ◌∷◌, map, take, length, Option, Some, None, option_map, ap, ◌∙◌, refl, sym, subst, arith}
 use Rattle.std.specs.Prelude.{filter, find, nat_le, get_or, slice_index_or}
 use Rattle.std.proofs.lemmas.Bool.{eqb-true, eqb-false, leb-false}
 use Rattle.kl1_model.specs.State.{Goal, State, goal_at}
@@ -17,7 +17,7 @@ first_by s n v rest g gs true false le is more page number =
     absurd (eqb-false g.number n is (ap (λ l. (get_or l 0 v).number.0) page ∙ number))
 first_by s n v rest g gs false true le is more page number =
     let same = eqb-true g.number n is in
-    absurd (leb-false n g.number le (omega (arith, same)))
+    absurd (omega (arith, leb-false n g.number le, same))
 first_by s n v rest g gs false false le is more page number = more page
 
 first_among : (s : State) (n : ℕ) (v : GoalView) (rest : List GoalView) (gs : List Goal) → map (goal_view s) (take 1 (from_on n gs)) ≡ v ∷ rest → v.number.0 ≡ n → Some v ≡ option_map (goal_view s) (goal_at n gs)

@@ -89,6 +89,7 @@ fn plus(counts: Counts, more: Counts) -> Counts
 }
 
 /// Makes a row reach a place.
+#[tactic(auto, using(crate::proofs::Rows::pushed_nothing))]
 fn reach(row: &mut Vec<Counts>, place: usize) -> Result<(), AllocError>
     ensures same { OnOk result ((p : ℕ) → counts_at row.new.items p ≡ counts_at row.old.items p) }
     ensures long { OnOk result (place < length row.new.items) }
@@ -100,6 +101,7 @@ fn reach(row: &mut Vec<Counts>, place: usize) -> Result<(), AllocError>
 }
 
 /// Puts more to the counts of a place.
+#[tactic(auto, using(crate::proofs::Rows::added_at))]
 fn add_at(row: &mut Vec<Counts>, place: usize, more: Counts) -> Result<(), AllocError>
     ensures { OnOk result ((p : ℕ) → counts_at row.new.items p ≡ if place == p then plus (counts_at row.old.items p) more else counts_at row.old.items p) }
 {
@@ -109,6 +111,7 @@ fn add_at(row: &mut Vec<Counts>, place: usize, more: Counts) -> Result<(), Alloc
 }
 
 /// Counts a goal that waits at a place.
+#[tactic(auto, using(crate::proofs::Rows::waited_at))]
 fn wait_at(row: &mut Vec<Counts>, place: usize) -> Result<(), AllocError>
     ensures { OnOk result ((p : ℕ) → counts_at row.new.items p ≡ if place == p then waited_more (counts_at row.old.items p) else counts_at row.old.items p) }
 {
