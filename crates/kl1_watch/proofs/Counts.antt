@@ -1,6 +1,6 @@
 -- Counts of the goals that have a variable.
 use Rattle.std.proofs.Common.{◌≡◌, ℕ, zero, suc, ◌+◌, ◌-◌, ◌<◌, ◌≤◌, ◌==◌, not, ◌&&◌, if◌then◌else◌, Bool, true, false, List, [], ◌∷◌, ◌++◌, inl, inr, length, get_or, take, drop, map, append_assoc, Option, Some, None, ap, sym, subst, ◌∙◌, refl, arith}
-use Rattle.std.specs.Prelude.{All, Contains, count_by, filter, ◌⊎◌, cond, nat_lt}
+use Rattle.std.specs.Prelude.{All, Contains, count_by, filter, cond, nat_lt}
 use Rattle.std.proofs.lemmas.Bool.{lt-ltb, ltb-true, ltb-false, true≢false}
 use Rattle.std.proofs.lemmas.List.{take_all, take-append-le, length-append, length-map, map-append, append-nil}
 use Rattle.std.proofs.lemmas.List.Sums.{sum_by-cons, length-filter}
@@ -15,7 +15,7 @@ use Rattle.kl1_user_events.specs.declared.goal_view.Presence.{Presence}
 use Rattle.kl1_user_events.specs.declared.goal_view.Presence.TheVariants.{Present, Absent, Unknown}
 use Rattle.kl1_watch.specs.declared.holders.Holders.{Holders}
 use Rattle.kl1_watch.specs.declared.standing.Awaited.{Awaited}
-use Rattle.kl1_watch.specs.Standing.{is_in, is_holder, has_many_parts, is_large, IsNoted, IsKnown, IsCounted, AreAmong, AreHolders, MayHave}
+use Rattle.kl1_watch.specs.Standing.{is_in, is_holder, parts_looked, has_more_parts, is_large, IsNoted, IsKnown, IsCounted, AreAmong, AreHolders, MayHave}
 
 present_in : (v most : ℕ) (t : Option Term) → IsPresence v most t Present → is_in v t ≡ true
 present_in v most None h = absurd h
@@ -43,21 +43,21 @@ same_is : (s : State) (n v : ℕ) (g : GoalView) → (g.number.0 == n) ≡ true 
 same_is s n v g e = ap (λ b. not b && is_in v (goal_term s g.number.0)) e
 
 -- the goal that waits counts for none
-pub pass_over : (s : State) (n v : ℕ) (g : GoalView) (h : Holders) → (g.number.0 == n) ≡ true → IsCounted s n v g h h
-pass_over s n v g h e = record { presence = Absent; known = same_is s n v g e; noted = (refl, refl, refl) }
+pub pass_over : (s : State) (most n v : ℕ) (g : GoalView) (h : Holders) → (g.number.0 == n) ≡ true → IsCounted s most n v g h h
+pass_over s most n v g h e = record { presence = Absent; known = same_is s n v g e; noted = (refl, refl, refl) }
 
-large_is : (v : ℕ) (t : Option Term) → IsPresence v 100000 t Unknown → has_many_parts t ≡ true
-large_is v None h = absurd h
-large_is v (Some t) h = lt-ltb 100000 (length (nodes_of t)) h.larger
+large_is : (v most : ℕ) (t : Option Term) → IsPresence v most t Unknown → has_more_parts most t ≡ true
+large_is v most None h = absurd h
+large_is v most (Some t) h = lt-ltb most (length (nodes_of t)) h.larger
 
-known_is : (s : State) (n v : ℕ) (g : GoalView) (p : Presence) → (g.number.0 == n) ≡ false → IsPresence v 100000 (goal_term s g.number.0) p → IsKnown s n v g p
-known_is s n v g Present e is = other_is s n v g e ∙ present_in v 100000 (goal_term s g.number.0) is
-known_is s n v g Absent e is = other_is s n v g e ∙ absent_in v 100000 (goal_term s g.number.0) is
-known_is s n v g Unknown e is = large_is v (goal_term s g.number.0) is
+known_is : (s : State) (most n v : ℕ) (g : GoalView) (p : Presence) → (g.number.0 == n) ≡ false → IsPresence v most (goal_term s g.number.0) p → IsKnown s most n v g p
+known_is s most n v g Present e is = other_is s n v g e ∙ present_in v most (goal_term s g.number.0) is
+known_is s most n v g Absent e is = other_is s n v g e ∙ absent_in v most (goal_term s g.number.0) is
+known_is s most n v g Unknown e is = large_is v most (goal_term s g.number.0) is
 
 -- another goal is counted by what is known of it
-pub count_on : (s : State) (n v : ℕ) (g : GoalView) (p : Presence) (old new : Holders) → (g.number.0 == n) ≡ false → IsPresence v 100000 (goal_term s g.number.0) p → IsNoted g.number p old new → IsCounted s n v g old new
-count_on s n v g p old new e is noted = record { presence = p; known = known_is s n v g p e is; noted = noted }
+pub count_on : (s : State) (most n v : ℕ) (g : GoalView) (p : Presence) (old new : Holders) → (g.number.0 == n) ≡ false → IsPresence v most (goal_term s g.number.0) p → IsNoted g.number p old new → IsCounted s most n v g old new
+count_on s most n v g p old new e is noted = record { presence = p; known = known_is s most n v g p e is; noted = noted }
 
 -- how many were counted after each presence
 pub noted_few : (m : GoalNo) (p : Presence) (old new : Holders) → IsNoted m p old new → new.count + new.unknown ≤ old.count + old.unknown + 1
@@ -66,13 +66,13 @@ noted_few m Absent old new noted = omega (arith, noted.0, noted.1)
 noted_few m Unknown old new noted = omega (arith, noted.0, noted.1)
 
 -- how the counts stand that were made so far, of the goals that are left and of all
-pub record Stands (s : State) (n v : ℕ) (goals rest : List GoalView) (h : Holders) : Type 0 where
+pub record Stands (s : State) (most n v : ℕ) (goals rest : List GoalView) (h : Holders) : Type 0 where
   pub known : List GoalView
   pub among : (more : List GoalView) → AreAmong more (filter (is_holder s n v) rest) → AreAmong (known ++ more) (filter (is_holder s n v) goals)
   pub first : h.first.items ≡ take 2 (map (λ g. g.number) known)
   pub count : h.count ≡ length known
-  pub most : count_by (is_holder s n v) goals ≤ h.count + h.unknown + count_by (is_holder s n v) rest
-  pub large : h.unknown + count_by (is_large s) rest ≤ count_by (is_large s) goals
+  pub all : count_by (is_holder s n v) goals ≤ h.count + h.unknown + count_by (is_holder s n v) rest
+  pub large : h.unknown + count_by (is_large s most) rest ≤ count_by (is_large s most) goals
 
 -- a goal that has the variable is among those that do
 taken_on : (b : Bool) (g : GoalView) (gs more : List GoalView) → b ≡ true → AreAmong more gs → AreAmong (g ∷ more) (if b then g ∷ gs else gs)
@@ -99,46 +99,46 @@ named_with known g old new first count noted =
     ∙ named_on (map (λ k. k.number) known) g.number old.count (nat_lt old.count 2) refl (count ∙ sym (length-map known (λ k. k.number)))
     ∙ ap (take 2) (sym (map-append (λ k. k.number) known (g ∷ [])))
 
-one_more : (s : State) (n v : ℕ) (goals : List GoalView) (g : GoalView) (rest : List GoalView) (old new : Holders) (p : Presence) → IsKnown s n v g p → IsNoted g.number p old new → Stands s n v goals (g ∷ rest) old → Stands s n v goals rest new
-one_more s n v goals g rest old new Present is noted st =
+one_more : (s : State) (most n v : ℕ) (goals : List GoalView) (g : GoalView) (rest : List GoalView) (old new : Holders) (p : Presence) → IsKnown s most n v g p → IsNoted g.number p old new → Stands s most n v goals (g ∷ rest) old → Stands s most n v goals rest new
+one_more s most n v goals g rest old new Present is noted st =
     let P = is_holder s n v in
     let all = count_cons P g rest in
     let one : one_if (P g) ≡ 1 = ap one_if is in
-    let large = count_cons (is_large s) g rest in
+    let large = count_cons (is_large s most) g rest in
     let more : length (st.known ++ g ∷ []) ≡ length st.known + 1 = length-append st.known (g ∷ []) in
     record {
       known = st.known ++ g ∷ [];
       among = λ ks h. subst (λ l. AreAmong l (filter P goals)) (sym (append_assoc st.known (g ∷ []) ks)) (st.among (g ∷ ks) (taken_on (P g) g (filter P rest) ks is h));
       first = named_with st.known g old new st.first st.count noted.2;
       count = omega (arith, noted.0, st.count, more);
-      most = omega (arith, all, one, noted.0, noted.1, st.most);
+      all = omega (arith, all, one, noted.0, noted.1, st.all);
       large = omega (arith, large, noted.1, st.large);
     }
-one_more s n v goals g rest old new Absent is noted st =
+one_more s most n v goals g rest old new Absent is noted st =
     let P = is_holder s n v in
     let all = count_cons P g rest in
     let none : one_if (P g) ≡ 0 = ap one_if is in
-    let large = count_cons (is_large s) g rest in
+    let large = count_cons (is_large s most) g rest in
     record {
       known = st.known;
       among = λ ks h. st.among ks (passed_on (P g) g (filter P rest) ks h);
       first = noted.2 ∙ st.first;
       count = noted.0 ∙ st.count;
-      most = omega (arith, all, none, noted.0, noted.1, st.most);
+      all = omega (arith, all, none, noted.0, noted.1, st.all);
       large = omega (arith, large, noted.1, st.large);
     }
-one_more s n v goals g rest old new Unknown is noted st =
+one_more s most n v goals g rest old new Unknown is noted st =
     let P = is_holder s n v in
     let all = count_cons P g rest in
     let few = one_most (P g) in
-    let large = count_cons (is_large s) g rest in
-    let one : one_if (is_large s g) ≡ 1 = ap one_if is in
+    let large = count_cons (is_large s most) g rest in
+    let one : one_if (is_large s most g) ≡ 1 = ap one_if is in
     record {
       known = st.known;
       among = λ ks h. st.among ks (passed_on (P g) g (filter P rest) ks h);
       first = noted.2 ∙ st.first;
       count = noted.0 ∙ st.count;
-      most = omega (arith, all, few, noted.0, noted.1, st.most);
+      all = omega (arith, all, few, noted.0, noted.1, st.all);
       large = omega (arith, large, one, noted.1, st.large);
     }
 
@@ -146,32 +146,32 @@ rest_is : {A : Type 0} (x : A) (xs : List A) → take (length (x ∷ xs) - 1) (d
 rest_is x xs = take_all (length (x ∷ xs) - 1) xs (omega arith)
 
 -- the first of the goals that are left is counted
-pub next_counted : (s : State) (n v : ℕ) (goals rest : List GoalView) (d : GoalView) (old new : Holders) → 1 ≤ length rest → IsCounted s n v (get_or rest 0 d) old new → Stands s n v goals rest old → Stands s n v goals (take (length rest - 1) (drop 1 rest)) new
-next_counted s n v goals [] d old new some counted st = absurd (omega (arith, some))
-next_counted s n v goals (x ∷ xs) d old new some counted st = subst (λ l. Stands s n v goals l new) (sym (rest_is x xs)) (one_more s n v goals x xs old new counted.presence counted.known counted.noted st)
+pub next_counted : (s : State) (most n v : ℕ) (goals rest : List GoalView) (d : GoalView) (old new : Holders) → 1 ≤ length rest → IsCounted s most n v (get_or rest 0 d) old new → Stands s most n v goals rest old → Stands s most n v goals (take (length rest - 1) (drop 1 rest)) new
+next_counted s most n v goals [] d old new some counted st = absurd (omega (arith, some))
+next_counted s most n v goals (x ∷ xs) d old new some counted st = subst (λ l. Stands s most n v goals l new) (sym (rest_is x xs)) (one_more s most n v goals x xs old new counted.presence counted.known counted.noted st)
 
 -- the counts are of no goal at first
-pub none_counted : (s : State) (n v : ℕ) (goals : List GoalView) (h : Holders) → h.first.items ≡ [] → h.count ≡ 0 → h.unknown ≡ 0 → Stands s n v goals goals h
-none_counted s n v goals h e c u = record {
+pub none_counted : (s : State) (most n v : ℕ) (goals : List GoalView) (h : Holders) → h.first.items ≡ [] → h.count ≡ 0 → h.unknown ≡ 0 → Stands s most n v goals goals h
+none_counted s most n v goals h e c u = record {
   known = [];
   among = λ ks among. among;
   first = e;
   count = c;
-  most = omega arith;
+  all = omega arith;
   large = omega (arith, u);
 }
 
 -- in the end they are of all
-pub all_counted : (s : State) (n v : ℕ) (goals rest : List GoalView) (h : Holders) → length rest < 1 → Stands s n v goals rest h → AreHolders s goals n v h
-all_counted s n v goals [] h none st = record {
+pub all_counted : (s : State) (most n v : ℕ) (goals rest : List GoalView) (h : Holders) → most ≡ parts_looked (length goals) → length rest < 1 → Stands s most n v goals rest h → AreHolders s goals n v h
+all_counted s most n v goals [] h is none st = record {
   known = st.known;
   among = subst (λ l. AreAmong l (filter (is_holder s n v) goals)) (append-nil st.known) (st.among [] refl);
   first = st.first;
   count = st.count;
-  most = omega (arith, st.most);
-  large = omega (arith, st.large);
+  most = omega (arith, st.all);
+  large = subst (λ m. h.unknown ≤ count_by (is_large s m) goals) is (omega (arith, st.large));
 }
-all_counted s n v goals (x ∷ xs) h none st = absurd (omega (arith, none))
+all_counted s most n v goals (x ∷ xs) h is none st = absurd (omega (arith, none))
 
 -- none is counted, and of none it isn't known
 pub none_holds : (s : State) (n v : ℕ) (goals : List GoalView) (h : Holders) → AreHolders s goals n v h → h.count ≡ 0 → h.unknown ≡ 0 → count_by (is_holder s n v) goals ≡ 0

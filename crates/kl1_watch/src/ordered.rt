@@ -1,15 +1,35 @@
 // In which order goals that wait are told.
 
-ghost use Rattle.std.specs.Prelude.{◌≡◌, IsTrue, IsFalse, IfOk, OnOk, All, count_by};
-ghost use Rattle.kl1_watch.specs.Standing.{is_holder, IsRoot, MayHave, MayHaveOne, IsShared, IsPut, AreOrdered};
+ghost use Rattle.std.specs.Prelude.{◌≡◌, IsTrue, IsFalse, IfOk, OnOk, All, count_by, length, take, drop};
+ghost use Rattle.kl1_watch.specs.Standing.{goals_looked, is_holder, IsRoot, MayHave, MayHaveOne, IsShared, IsPut, AreOrdered};
 
 use crate::holders::{holders_of, variables_of};
 use kl1_command::Views;
 use kl1_user_events::{GoalNo, GoalView};
 use std::alloc::{AllocError, Global};
 
-/// The most goals of which it is looked whether others have the variables that they wait for: each is looked for in all goals.
-const MOST_LOOKED: usize = 128;
+/// Of how many goals that wait it is looked whether others have their variables, each of which is looked for in all goals.
+fn goals_looked(goals: usize) -> usize
+    ensures { result ≡ goals_looked goals }
+{
+    if goals <= 10_000 { 128 } else { 16 }
+}
+
+/// The goals that wait of which it is looked whether others have their variables: the first ones.
+fn looked_of<'a>(goals: &[GoalView], waiting: &'a [GoalView]) -> &'a [GoalView]
+    ensures { result.now ≡ take (goals_looked (length goals.now)) waiting.now }
+{
+    let most = goals_looked(goals.len());
+    waiting.get(..most).unwrap_or(waiting)
+}
+
+/// The goals that wait after those.
+fn later_of<'a>(goals: &[GoalView], waiting: &'a [GoalView]) -> &'a [GoalView]
+    ensures { result.now ≡ drop (goals_looked (length goals.now)) waiting.now }
+{
+    let most = goals_looked(goals.len());
+    waiting.get(most..).unwrap_or(&[])
+}
 
 /// Whether it is known that no other of the goals has a variable.
 fn is_alone<H: Views>(
@@ -91,8 +111,8 @@ pub(crate) fn ordered<H: Views>(
 ) -> Result<Vec<GoalView>, AllocError>
     ensures { IfOk result (λ order. (f : H.Reading) → H.fits host.now f → AreOrdered (H.kept f host.now).state goals.now waiting.now order.items) }
 {
-    let looked = waiting.get(..MOST_LOOKED).unwrap_or(waiting);
-    let later = waiting.get(MOST_LOOKED..).unwrap_or(&[]);
+    let looked = looked_of(goals, waiting);
+    let later = later_of(goals, waiting);
     let mut roots = Vec::new(alloc);
     let mut others = Vec::new(alloc);
     let mut rest = looked;

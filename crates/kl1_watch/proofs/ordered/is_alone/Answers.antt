@@ -1,4 +1,4 @@
-use Rattle.std.proofs.Common.{true, false, sym, ◌∙◌}
+use Rattle.std.proofs.Common.{sym, ◌∙◌}
 use Rattle.std.proofs.lemmas.Bool.{true≢false}
 use Rattle.kl1_watch.proofs.Counts.{none_holds, one_holds}
 use Rattle.kl1_watch.proofs.ordered.is_alone.Goals as goal
