@@ -7,9 +7,9 @@ use crate::journal_file::picture_file;
 use crate::origins::{Again, OwnWorld};
 use kl1_command::Views;
 use kl1_steps::ClausePlace;
+use kl1_timeline::{Observers, Timeline, put_picture};
 use kl1_trace_work::{
-    Observers, Pattern, Profile, Texts, Timeline, Trace, Viewer, profile_json, put_picture,
-    put_table, watch_first,
+    Pattern, Profile, Texts, Trace, Viewer, profile_json, put_table, watch_first,
 };
 use kl1_watch::Names;
 use std::alloc::Global;

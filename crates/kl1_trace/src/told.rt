@@ -4,10 +4,8 @@ use crate::asked::{Asked, Profiles};
 use crate::fault::Fault;
 use crate::files::write_picture;
 use kl1_command::Views;
-use kl1_trace_work::{
-    Observers, Pattern, Profile, Texts, Timeline, Trace, Viewer, profile_json, put_picture,
-    put_table,
-};
+use kl1_timeline::{Observers, Timeline, put_picture};
+use kl1_trace_work::{Pattern, Profile, Texts, Trace, Viewer, profile_json, put_table};
 use std::alloc::Global;
 use std::io::{Stdout, Write};
 

@@ -2,7 +2,7 @@
 use Rattle.std.proofs.Common.{◌≡◌, ◌+◌, ◌-◌, ◌^◌, ℕ, suc, ◌==◌, ◌&&◌, Bool, true, false, if◌then◌else◌, List, [], ◌∷◌, ◌++◌, length, ap, sym, subst, ◌∙◌, refl, arith}
 use Rattle.std.specs.Prelude.{count_by, fold, max}
 use Rattle.std.specs.List.{sum_by}
-use Rattle.std.proofs.lemmas.List.Sums.{sum_by_push, fold-append}
+use Rattle.std.proofs.lemmas.List.Sums.{sum_by-cons, sum_by_push, fold-append}
 use Rattle.std.proofs.lemmas.List.{length-append}
 use Rattle.kl1_trace_work.specs.declared.seen.NewGoal.{NewGoal}
 use Rattle.kl1_trace_work.specs.declared.seen.Seen.{Seen}
@@ -14,21 +14,20 @@ use Rattle.kl1_trace_work.specs.Counting.{counted, is_reduced, is_waiting, plus,
 pub counted_on : (a b : ℕ) → counted (counted a + b) ≡ counted (a + b)
 counted_on a b = omega arith
 
-waits_by : (p : ℕ) (gs : List NewGoal) (b : Bool) (c : Counts) (w n : ℕ) → c.waited ≡ counted w → ((d : Counts) (v : ℕ) → d.waited ≡ counted v → waits_at p gs d ≡ record d { waited = counted (v + n) }) → waits_at p gs (if b then waited_more c else c) ≡ record c { waited = counted (w + (if b then suc n else n)) }
+waits_by : (p : ℕ) (gs : List NewGoal) (b : Bool) (c : Counts) (w n : ℕ) → c.waited ≡ counted w → ((d : Counts) (v : ℕ) → d.waited ≡ counted v → waits_at p gs d ≡ record d { waited = counted (v + n) }) → waits_at p gs (if b then waited_more c else c) ≡ record c { waited = counted (w + ((if b then 1 else 0) + n)) }
 waits_by p gs true c w n e more =
     more (waited_more c) (w + 1) (ap (λ x. counted (x + 1)) e ∙ counted_on w 1)
     ∙ ap (λ x. record c { waited = counted x }) (omega arith)
-waits_by p gs false c w n e more = more c w e
+waits_by p gs false c w n e more = more c w e ∙ ap (λ x. record c { waited = counted x }) (omega arith)
 
 -- goals that wait are counted on
 pub waits_counted : (p : ℕ) (gs : List NewGoal) (c : Counts) (w : ℕ) → c.waited ≡ counted w → waits_at p gs c ≡ record c { waited = counted (w + waiting_at p gs) }
 waits_counted p [] c w e = ap (λ x. record c { waited = x }) (e ∙ ap counted (omega arith))
-waits_counted p (g ∷ gs) c w e = waits_by p gs (is_waiting g && g.predicate == p) c w (waiting_at p gs) e (waits_counted p gs)
+waits_counted p (g ∷ gs) c w e =
+    waits_by p gs (is_waiting g && g.predicate == p) c w (waiting_at p gs) e (waits_counted p gs)
+    ∙ ap (λ x. record c { waited = counted (w + x) }) (sym (sum_by-cons (λ h. if is_waiting h && h.predicate == p then 1 else 0) g gs))
 
--- a sum over the steps of a place, and one step more
-abbrev own : ℕ → Seen → Counts
-own raised s = record { reductions = 1; new = count_by is_reduced s.new.items; waited = 0; exceptions = raised }
-
+-- the counts of a place, and one step more
 more_at : (b : Bool) (c : Counts) (s : Seen) (r n w x : ℕ) → c.reductions ≡ counted r → c.new ≡ counted n → c.waited ≡ counted w → c.exceptions ≡ counted x →
     (if b then plus c (record { reductions = 1; new = count_by is_reduced s.new.items; waited = 0; exceptions = s.raised }) else c)
     ≡ record { reductions = counted (r + (if b then 1 else 0)); new = counted (n + (if b then count_by is_reduced s.new.items else 0)); waited = counted w; exceptions = counted (x + (if b then s.raised else 0)) }

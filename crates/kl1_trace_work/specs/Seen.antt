@@ -1,11 +1,12 @@
 -- What is seen of steps, one after another.
-use Rattle.std.specs.Prelude.{◌≡◌, ◌+◌, ◌-◌, ◌^◌, ℕ, List, [], ◌∷◌, ◌++◌, map, fold, min, max, Option, Some, option_map}
+use Rattle.std.specs.Prelude.{◌≡◌, ◌+◌, ◌-◌, ◌^◌, ℕ, Bool, true, false, List, [], ◌∷◌, ◌++◌, map, fold, count_by, min, max, Option, Some, option_map}
 use Rattle.kl1_model.specs.Choice.{Chosen, first}
 use Rattle.kl1_model.specs.State.{goal_at}
 use Rattle.kl1_model.specs.Tree.{goals_alive}
 use Rattle.kl1_model.specs.Event.{reduce, reduced}
 use Rattle.kl1_model_server.specs.Journal.{Kept, done}
 use Rattle.kl1_user_events.specs.declared.goal_view.GoalView.{GoalView}
+use Rattle.kl1_user_events.specs.declared.goal_view.TaskKind.TheVariants.{Monitor, Reduces, Substitutes}
 use Rattle.kl1_user_events.specs.Viewing.{goal_view, goal_page}
 use Rattle.kl1_trace_work.specs.declared.seen.Next.{Next}
 use Rattle.kl1_trace_work.specs.declared.seen.NewGoal.{NewGoal}
@@ -29,9 +30,15 @@ pub record IsNext (before : ℕ) (k : Kept) (c : Chosen) (x : Next) : Type 0 whe
   pub goal : Some x.goal ≡ option_map (goal_view k.state) (goal_at c.goal k.state.goals)
   pub clause : x.clause.0 ≡ c.clause
 
--- what is seen of a step after it: the goals of the account whose numbers are above `last`, and how many goals are alive
+-- whether a new goal waits for what takes the place of a goal that raised an exception
+abbrev pub is_substitute : NewGoal → Bool
+is_substitute g = elim g.view.task [ Monitor ↦ false | Reduces ↦ false | Substitutes ↦ true ]
+
+-- what is seen of a step after it: the goals of the account whose numbers are above `last`, how many of them wait for what takes the place of
+-- a goal that raised an exception, and how many goals are alive
 pub record IsSeen (last : ℕ) (after : Kept) (s : Seen) : Type 0 where
   pub new : views_of s.new.items ≡ goal_page after.state (number_after last) 4294967296
+  pub raised : s.raised ≡ count_by is_substitute s.new.items
   pub alive : s.alive ≡ goals_alive after.state
 
 -- first steps, one after another, lead from one account to another, and this is seen of them in order: each is accepted, and is of the goal that

@@ -3,7 +3,7 @@
 ghost use Rattle.std.specs.Prelude.{◌≡◌, ◌∷◌, ◌++◌, [], IfOk, OnOk};
 ghost use Rattle.kl1_trace_work.specs.Seen.{views_of};
 
-use crate::seen::NewGoal;
+use crate::seen::{NewGoal, Next};
 use kl1_command::Views;
 use kl1_shown::parse_print;
 use kl1_steps::{Called, called_by};
@@ -240,6 +240,25 @@ impl Predicates {
         Ok(taken)
     }
 
+    /// Takes the goals that a step made, and forgets its goal.
+    pub fn take_after<H: Views>(
+        &mut self,
+        host: &mut H,
+        step: &Next,
+        goals: &[GoalView],
+    ) -> Result<Vec<NewGoal>, AllocError>
+        ensures views { IfOk result (λ new. views_of new.items ≡ goals.now) }
+        ensures same { (f : H.Reading) → H.fits host.new f → H.kept f host.new ≡ H.kept f host.old }
+        ensures before { (f : H.Reading) → H.fits host.new f → H.fits host.old f }
+        ensures beside { H.beside host.new ≡ H.beside host.old }
+    {
+        // A monitor goes on under its number.
+        if !is_monitor(&step.goal) {
+            self.forget(step.goal.number);
+        }
+        self.take_made(host, step.predicate, step.clause.0, goals)
+    }
+
     /// Whether the predicate of a place has clauses.
     fn is_of_clauses(&self, place: usize) -> bool {
         match self.called(place) {
@@ -281,6 +300,14 @@ impl Predicates {
             predicate.bodies.push(Body { clause, predicates })?;
         }
         Ok(())
+    }
+}
+
+/// Whether a goal is the monitor of a shoen.
+pub fn is_monitor(goal: &GoalView) -> bool {
+    match goal.task {
+        TaskKind::Monitor => true,
+        _ => false,
     }
 }
 

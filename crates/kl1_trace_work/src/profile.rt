@@ -151,7 +151,6 @@ impl Profile {
     }
 
     /// Counts a step and the goals that it made.
-    #[tactic(auto, using(crate::proofs::Sums::took))]
     pub fn take(&mut self, seen: &Seen) -> Result<(), AllocError>
         ensures { OnOk result ((ss : List Seen) → HasCounted self.old ss → HasCounted self.new (ss ++ seen.now ∷ [])) }
     {

@@ -1,18 +1,18 @@
 // What looks at an account before and after each step.
 
-ghost use Rattle.std.specs.Prelude.{◌≡◌, Some, IfOk, IfSome, OnOk, option_map};
+ghost use Rattle.std.specs.Prelude.{◌≡◌, Some, IfOk, IfSome, OnOk, option_map, count_by};
 ghost use Rattle.kl1_model.specs.State.{goal_at};
 ghost use Rattle.kl1_user_events.specs.Viewing.{goal_view};
-ghost use Rattle.kl1_trace_work.specs.Seen.{last_among, views_of, IsNext, IsSeen, AreTold};
+ghost use Rattle.kl1_trace_work.specs.Seen.{is_substitute, last_among, views_of, IsNext, IsSeen, AreTold};
 ghost use Rattle.kl1_trace_work.specs.Tried.{IsTried};
 
-use crate::predicates::Predicates;
+use crate::predicates::{Predicates, is_monitor};
 use crate::prints::{is_cut, variables_of};
 use crate::seen::{NewGoal, Next, Observer, Seen};
 use crate::waits::{ALL, Waits};
 use kl1_command::{UnbookedHost, Views};
 use kl1_model::Condition;
-use kl1_user_events::{ClauseNo, Extent, GoalNo, GoalView, ShoenNo, ShoenView, TaskKind};
+use kl1_user_events::{ClauseNo, Extent, GoalNo, GoalView, ShoenNo, ShoenView, TaskKind, Usage};
 use std::alloc::{AllocError, Global};
 
 /// What came of a step that was tried.
@@ -93,13 +93,28 @@ fn changed_among(
     Ok(changed)
 }
 
-/// How many of goals wait for an answer to an exception.
-fn raised_among(new: &[NewGoal]) -> u64 {
-    let mut count: u64 = 0;
-    for goal in new {
-        if let TaskKind::Substitutes = goal.view.task {
-            count = count.saturating_add(1);
+/// Whether a goal waits for an answer to an exception.
+fn is_substitute(goal: &NewGoal) -> bool
+    ensures { result ≡ is_substitute goal.now }
+{
+    match goal.view.task {
+        TaskKind::Substitutes => true,
+        TaskKind::Monitor => false,
+        TaskKind::Reduces => false,
+    }
+}
+
+/// How many of new goals wait for an answer to an exception.
+fn raised_among(new: &[NewGoal]) -> usize
+    ensures { result ≡ count_by is_substitute new.now }
+{
+    let mut count = 0;
+    let mut rest = new;
+    while let [goal, others @ ..] = rest {
+        if is_substitute(goal) {
+            count += 1;
         }
+        rest = others;
     }
     count
 }
@@ -109,6 +124,13 @@ fn raised_among(new: &[NewGoal]) -> u64 {
 struct Shoens {
     opened: Vec<ShoenView>,
     changed: Vec<ShoenView>,
+}
+
+/// What became in a step of what was there before it.
+#[derive(Drop)]
+struct Others {
+    woken: Vec<GoalNo>,
+    shoens: Shoens,
 }
 
 impl<O: Drop> Viewer<O> {
@@ -277,7 +299,38 @@ fn look_before<H: UnbookedHost + Views, O: Observer<H> + Drop>(
 }
 
 impl<O: Drop> Viewer<O> {
+    /// What became in a step of the shoens and goals that were there before it. `goals` are new, and are looked at from now on.
+    fn look_at_others<H: Views>(
+        &mut self,
+        host: &H,
+        before: &Before,
+        goals: &[GoalView],
+        usage: &Usage,
+    ) -> Result<Others, AllocError>
+        ensures observer { self.new.observer ≡ self.old.observer }
+        ensures last { self.new.last_goal ≡ self.old.last_goal }
+    {
+        let is_told = is_monitor(&before.step.goal)
+            || usage.reports.count != self.reports
+            || usage.shoens.count != self.shoens.len() as u64;
+        let shoens = if is_told {
+            self.look_at_shoens(host)?
+        } else {
+            Shoens {
+                opened: Vec::new(self.alloc),
+                changed: Vec::new(self.alloc),
+            }
+        };
+        let woken = self.woken_by(host, before, is_told)?;
+        if let Some(waits) = &mut self.waits {
+            waits.take(host, goals)?;
+        }
+        self.reports = usage.reports.count;
+        Ok(Others { woken, shoens })
+    }
+
     /// What is seen of a step that was done.
+    #[tactic(auto, using(crate::proofs::Chains::seen_after, crate::proofs::Chains::last_after))]
     fn look_after<H: Views>(&mut self, host: &mut H, before: Before) -> Result<Seen, AllocError>
         ensures step { IfOk result (λ seen. seen.step ≡ before.step) }
         ensures seen { IfOk result (λ seen. (f : H.Reading) → H.fits host.new f → IsSeen self.old.last_goal (H.kept f host.new) seen) }
@@ -290,44 +343,19 @@ impl<O: Drop> Viewer<O> {
     {
         let goals = host.goals_from(GoalNo(self.last_goal.saturating_add(1)), ALL)?;
         let usage = host.usage();
-        let is_monitor = match before.step.goal.task {
-            TaskKind::Monitor => true,
-            _ => false,
-        };
-        let is_told = is_monitor
-            || usage.reports.count != self.reports
-            || usage.shoens.count != self.shoens.len() as u64;
-        let shoens = if is_told {
-            self.look_at_shoens(host)?
-        } else {
-            Shoens {
-                opened: Vec::new(self.alloc),
-                changed: Vec::new(self.alloc),
-            }
-        };
-        let woken = self.woken_by(host, &before, is_told)?;
-        if let Some(waits) = &mut self.waits {
-            waits.take(host, goals.as_slice())?;
-        }
-        self.reports = usage.reports.count;
+        let others = self.look_at_others(host, &before, goals.as_slice(), &usage)?;
         self.last_goal = last_of(goals.as_slice(), self.last_goal);
         self.number = before.step.number;
-        // A monitor goes on under its number.
-        if !is_monitor {
-            self.predicates.forget(before.step.goal.number);
-        }
         let Before { step, text, .. } = before;
-        let new = self
-            .predicates
-            .take_made(host, step.predicate, step.clause.0, goals.as_slice())?;
+        let new = self.predicates.take_after(host, &step, goals.as_slice())?;
         Ok(Seen {
             step,
             text,
-            raised: raised_among(new.as_slice()),
+            raised: raised_among(new.as_slice()) as u64,
             new,
-            woken,
-            opened: shoens.opened,
-            changed: shoens.changed,
+            woken: others.woken,
+            opened: others.shoens.opened,
+            changed: others.shoens.changed,
             alive: usage.goals.count,
         })
     }
@@ -351,7 +379,11 @@ pub fn watch_step<H: UnbookedHost + Views, O: Observer<H> + Drop>(
         Ok(None) => {
             let seen = viewer.look_after(host, before)?;
             let goes = viewer.observer.see(host, &viewer.predicates, &seen)?;
-            Ok(if goes { Watched::More } else { Watched::Enough })
+            if goes {
+                Ok(Watched::More)
+            } else {
+                Ok(Watched::Enough)
+            }
         }
         Ok(Some(_refusal)) => Ok(Watched::Refused),
         Err(error) => Err(error),
@@ -359,7 +391,7 @@ pub fn watch_step<H: UnbookedHost + Views, O: Observer<H> + Drop>(
 }
 
 /// Does the first step, and has it seen.
-#[tactic(auto, using(crate::proofs::Chains::told_none, crate::proofs::Chains::told_one))]
+#[tactic(auto, using(crate::proofs::Chains::told_none))]
 pub fn watch_once<H: UnbookedHost + Views, O: Observer<H> + Drop>(
     host: &mut H,
     viewer: &mut Viewer<O>,
@@ -371,7 +403,8 @@ pub fn watch_once<H: UnbookedHost + Views, O: Observer<H> + Drop>(
     let Some((goal, clause)) = host.pick() else {
         return Ok(Watched::Refused);
     };
-    watch_step(host, goal, clause, viewer)
+    let watched = watch_step(host, goal, clause, viewer)?;
+    Ok(watched)
 }
 
 /// Does first steps, at most `most`, and has each seen; ends if none can be done, or no more are wanted. Answers what came of the last.

@@ -1,10 +1,11 @@
 // Lanes as a picture.
 
-use crate::columns::put_front;
 use crate::drawn::{Arrow, Bar, Dot, Lane, Mark, Report};
+use crate::lanes::MOST_LANES;
 use crate::svg::{LEGEND, STYLE, put_escaped, put_tenths, put_text};
-use crate::timeline::{MOST_LANES, Timeline};
+use crate::timeline::Timeline;
 use kl1_lines::put_decimal;
+use kl1_trace_work::put_front;
 use std::alloc::{AllocError, Global};
 
 /// All places in a picture are tenths of its units.
@@ -125,7 +126,7 @@ impl Picture<'_> {
 
     /// The lower edge of the lanes.
     fn bottom(&self) -> u64 {
-        TOP.saturating_add((self.timeline.lanes.len() as u64).saturating_mul(ROW))
+        TOP.saturating_add((self.timeline.drawn.lanes.len() as u64).saturating_mul(ROW))
     }
 
     /// Puts the places of a line.
@@ -298,11 +299,11 @@ fn note_of(alloc: Global, timeline: &Timeline) -> Result<Vec<u8>, AllocError> {
     if timeline.is_cut {
         note.extend_from_slice(b"; cut here: the run goes on")?;
     }
-    if 0 < timeline.left_out {
+    if 0 < timeline.drawn.left_out {
         note.extend_from_slice(b"; only the first ")?;
         put_decimal(&mut note, MOST_LANES as u64)?;
         note.extend_from_slice(b" processes are drawn, not ")?;
-        put_decimal(&mut note, timeline.left_out)?;
+        put_decimal(&mut note, timeline.drawn.left_out)?;
         note.extend_from_slice(b" more")?;
     }
     Ok(note)
@@ -322,13 +323,13 @@ fn put_all(
         out,
     };
     picture.put_grid()?;
-    for (place, lane) in timeline.lanes.iter().enumerate() {
+    for (place, lane) in timeline.drawn.lanes.iter().enumerate() {
         picture.put_lane(place, lane)?;
     }
-    for bar in timeline.bars.as_slice() {
+    for bar in timeline.drawn.bars.as_slice() {
         picture.put_bar(bar)?;
     }
-    for arrow in timeline.arrows.as_slice() {
+    for arrow in timeline.drawn.arrows.as_slice() {
         picture.put_arrow(arrow)?;
     }
     for dot in timeline.dots.as_slice() {

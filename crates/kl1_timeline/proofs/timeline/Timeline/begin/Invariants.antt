@@ -1,5 +1,5 @@
 use Rattle.std.proofs.Common.{◌≡◌, length}
-use Rattle.kl1_trace_work.proofs.timeline.Timeline.take_made.Given as goal
+use Rattle.kl1_timeline.proofs.timeline.Timeline.begin.Given as goal
 
 -- the account stays as it was
 abbrev pub invariant-loop-rest : goal.invariant-loop-rest

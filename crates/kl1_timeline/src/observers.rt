@@ -3,12 +3,9 @@
 ghost use Rattle.std.specs.Prelude.{◌≡◌, IfSome};
 ghost use Rattle.kl1_trace_work.specs.Counting.{HasCounted};
 
-use crate::predicates::Predicates;
-use crate::profile::Profile;
-use crate::seen::{Next, Observer, Seen};
 use crate::timeline::Timeline;
-use crate::trace::Trace;
 use kl1_command::{UnbookedHost, Views};
+use kl1_trace_work::{Next, Observer, Predicates, Profile, Seen, Trace};
 use std::alloc::AllocError;
 use std::io::Write;
 

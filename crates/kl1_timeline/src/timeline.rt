@@ -2,22 +2,18 @@
 
 ghost use Rattle.std.specs.Prelude.{◌≡◌};
 
-use crate::drawn::{Arrow, Bar, Dot, Lane, Mark, Report};
+use crate::drawn::{Dot, Mark, Report};
 use crate::labels::label_of;
-use crate::pattern::Pattern;
-use crate::predicates::{Calling, Predicates};
-use crate::seen::{NewGoal, Next, Seen};
-use crate::texts::{put_kind, put_name, put_readable, word_of};
+use crate::lanes::Lanes;
 use kl1_command::Views;
 use kl1_lines::put_decimal;
 use kl1_model::Condition;
 use kl1_steps::Called;
+use kl1_trace_work::{
+    Calling, NewGoal, Next, Pattern, Predicates, Seen, put_kind, put_name, put_readable, word_of,
+};
 use kl1_user_events::{Extent, GoalNo, ShoenNo, TaskKind};
 use std::alloc::{AllocError, Global};
-use std::collections::HashMap;
-
-/// The most lanes that are drawn.
-pub const MOST_LANES: usize = 40;
 
 /// The most steps that are drawn.
 pub const MOST_STEPS: u64 = 2_000;
@@ -30,20 +26,14 @@ const MOST_TEXT: usize = 200;
 pub struct Timeline {
     alloc: Global,
     pattern: Pattern,
-    pub lanes: Vec<Lane>,
-    /// How many lanes more there are.
-    pub left_out: u64,
+    pub drawn: Lanes,
     pub dots: Vec<Dot>,
-    pub bars: Vec<Bar>,
-    pub arrows: Vec<Arrow>,
     pub reports: Vec<Report>,
     /// The first and the last step that are drawn; 0 if none is.
     pub first: u64,
     pub last: u64,
     /// Whether the run goes on after that.
     pub is_cut: bool,
-    /// The lanes of goals; `MOST_LANES` for one that isn't drawn.
-    places: HashMap<u64, usize>,
 }
 
 /// Whether what is called is a predicate of a module of the user's.
@@ -86,78 +76,18 @@ impl Timeline {
         Timeline {
             alloc,
             pattern,
-            lanes: Vec::new(alloc),
-            left_out: 0,
+            drawn: Lanes::new(alloc),
             dots: Vec::new(alloc),
-            bars: Vec::new(alloc),
-            arrows: Vec::new(alloc),
             reports: Vec::new(alloc),
             first: 0,
             last: 0,
             is_cut: false,
-            places: HashMap::new(alloc),
         }
     }
 
     /// Whether a step may be drawn.
     pub fn may_draw(&self, _predicates: &Predicates, step: &Next) -> bool {
         self.pattern.is_between(step.number)
-    }
-
-    /// The lane of a goal, if it is drawn.
-    fn place_of(&self, goal: u64) -> Option<usize> {
-        let place = *self.places.get(&goal)?;
-        if place < self.lanes.len() {
-            Some(place)
-        } else {
-            None
-        }
-    }
-
-    /// Begins a lane for a goal, unless there are enough.
-    fn open(
-        &mut self,
-        goal: u64,
-        label: Vec<u8>,
-        shoen: ShoenNo,
-        begin: u64,
-    ) -> Result<(), AllocError> {
-        let place = if self.lanes.len() < MOST_LANES {
-            self.lanes.push(Lane {
-                label,
-                shoen: shoen.0,
-                begin,
-                end: None,
-                alive: 1,
-            })?;
-            self.lanes.len().saturating_sub(1)
-        } else {
-            self.left_out = self.left_out.saturating_add(1);
-            MOST_LANES
-        };
-        let _before = self.places.insert(goal, place)?;
-        Ok(())
-    }
-
-    /// Puts a goal into a lane.
-    fn join(&mut self, goal: u64, place: usize) -> Result<(), AllocError> {
-        let _before = self.places.insert(goal, place)?;
-        if let Some(lane) = self.lanes.get_mut(place) {
-            lane.alive = lane.alive.saturating_add(1);
-        }
-        Ok(())
-    }
-
-    /// Takes a goal that is gone out of its lane, which ends if it was the last.
-    fn leave(&mut self, goal: u64, step: u64) {
-        if let Some(place) = self.places.remove(&goal) {
-            if let Some(lane) = self.lanes.get_mut(place) {
-                lane.alive = lane.alive.saturating_sub(1);
-                if lane.alive == 0 && lane.end.is_none() {
-                    lane.end = Some(step);
-                }
-            }
-        }
     }
 
     /// Takes goals that are there at the beginning, or that came up otherwise than in a step.
@@ -200,7 +130,7 @@ impl Timeline {
         let number = goal.view.number;
         let calling = predicates.calling(goal.predicate);
         match parent {
-            Some(place) if !is_process(calling) => return self.join(number.0, place),
+            Some(place) if !is_process(calling) => return self.drawn.join(number.0, place),
             _ => {}
         }
         if !self.pattern.names(predicates.called(goal.predicate)) {
@@ -210,52 +140,11 @@ impl Timeline {
             Some(text) => label_of(self.alloc, text.as_slice())?,
             None => Vec::new(self.alloc),
         };
-        self.open(number.0, label, goal.view.shoen, step)?;
+        self.drawn.open(number.0, label, goal.view.shoen, step)?;
         if !goal.view.can_step {
-            self.wait(number.0, step)?;
+            self.drawn.wait(number.0, step)?;
         }
-        if let (Some(from), Some(to)) = (parent, self.place_of(number.0)) {
-            self.arrows.push(Arrow {
-                from,
-                to,
-                step,
-                woken: None,
-            })?;
-        }
-        Ok(())
-    }
-
-    /// Begins a time in which a goal can't step.
-    fn wait(&mut self, goal: u64, step: u64) -> Result<(), AllocError> {
-        if let Some(lane) = self.place_of(goal) {
-            self.bars.push(Bar {
-                lane,
-                goal,
-                begin: step,
-                end: None,
-            })?;
-        }
-        Ok(())
-    }
-
-    /// Ends the time in which a goal couldn't step.
-    fn wake(&mut self, goal: u64, step: u64, place: Option<usize>) -> Result<(), AllocError> {
-        for bar in &mut self.bars {
-            if bar.goal == goal && bar.end.is_none() {
-                bar.end = Some(step);
-            }
-        }
-        if let (Some(from), Some(to)) = (place, self.place_of(goal)) {
-            if from != to {
-                self.arrows.push(Arrow {
-                    from,
-                    to,
-                    step,
-                    woken: Some(goal),
-                })?;
-            }
-        }
-        Ok(())
+        self.drawn.fork(parent, number.0, step)
     }
 
     /// Takes the goals that a step made.
@@ -277,9 +166,9 @@ impl Timeline {
             let number = first.view.number.0;
             match (place, heir) {
                 (Some(lane), Some(GoalNo(next))) if next == number => {
-                    self.join(number, lane)?;
+                    self.drawn.join(number, lane)?;
                     if !first.view.can_step {
-                        self.wait(number, step)?;
+                        self.drawn.wait(number, step)?;
                     }
                 }
                 (None, _) if !is_process(predicates.calling(first.predicate)) => {}
@@ -293,7 +182,7 @@ impl Timeline {
     /// Begins a lane for the goal of a step, if it is a process that was made before the first step.
     fn find(&mut self, predicates: &Predicates, seen: &Seen) -> Result<(), AllocError> {
         let goal = seen.step.goal;
-        if self.places.contains_key(&goal.number.0)
+        if self.drawn.has(goal.number.0)
             || !is_process(predicates.calling(seen.step.predicate))
             || !self.pattern.names(predicates.called(seen.step.predicate))
         {
@@ -304,7 +193,7 @@ impl Timeline {
             None => Vec::new(self.alloc),
         };
         let begin = self.first.saturating_sub(1);
-        self.open(goal.number.0, label, goal.shoen, begin)
+        self.drawn.open(goal.number.0, label, goal.shoen, begin)
     }
 
     /// Puts the step itself into its lane.
@@ -370,24 +259,10 @@ impl Timeline {
         for shoen in seen.changed.as_slice() {
             self.put_report(step, shoen.number, word_of(shoen.condition), false)?;
             if let Condition::Aborted = shoen.condition {
-                self.end_all(shoen.number, step);
+                self.drawn.end_all(shoen.number, step);
             }
         }
         Ok(())
-    }
-
-    /// Ends the lanes of a shoen whose goals are gone.
-    fn end_all(&mut self, shoen: ShoenNo, step: u64) {
-        for (place, lane) in self.lanes.iter_mut().enumerate() {
-            if lane.shoen == shoen.0 && lane.end.is_none() {
-                lane.end = Some(step);
-                for bar in &mut self.bars {
-                    if bar.lane == place && bar.end.is_none() {
-                        bar.end = Some(step);
-                    }
-                }
-            }
-        }
     }
 
     /// Draws a step. Answers whether later steps may be drawn.
@@ -408,20 +283,20 @@ impl Timeline {
         if self.first == 0 {
             self.first = step;
         }
-        if MOST_STEPS <= step - self.first {
+        if MOST_STEPS <= step.saturating_sub(self.first) {
             self.is_cut = true;
             return Ok(false);
         }
         self.last = step;
         self.find(predicates, seen)?;
-        let place = self.place_of(seen.step.goal.number.0);
+        let place = self.drawn.place_of(seen.step.goal.number.0);
         if let Some(lane) = place {
             self.put_dot(predicates, seen, lane)?;
         }
         self.take_made(host, predicates, seen, place)?;
-        self.leave(seen.step.goal.number.0, step);
+        self.drawn.leave(seen.step.goal.number.0, step);
         for goal in seen.woken.as_slice() {
-            self.wake(goal.0, step, place)?;
+            self.drawn.wake(goal.0, step, place)?;
         }
         self.put_reports(predicates, seen)?;
         Ok(!self.pattern.is_over(step))

@@ -1,11 +1,10 @@
 // What a lane is called.
 
-use crate::columns::put_front;
-use crate::equated::split_term;
 use kl1_lines::put_decimal;
 use kl1_shown::parse_print;
 use kl1_term::Node;
 use kl1_text::{AtomText, put_atom, put_int};
+use kl1_trace_work::{put_front, split_term};
 use std::alloc::{AllocError, Global};
 
 /// The most bytes of a label.
