@@ -1,6 +1,7 @@
 // Observers of one run.
 
-ghost use Rattle.std.specs.Prelude.{◌≡◌, IfSome};
+ghost use Rattle.std.specs.Prelude.{◌≡◌, ◌∷◌, ◌++◌, [], List, IfSome, OnOk};
+ghost use Rattle.kl1_trace_work.specs.declared.seen.Seen.{Seen};
 ghost use Rattle.kl1_trace_work.specs.Counting.{HasCounted};
 
 use crate::timeline::Timeline;
@@ -46,21 +47,56 @@ impl<H: UnbookedHost + Views, W: Write + Drop> Observer<H> for Observers<'_, W> 
         predicates: &Predicates,
         seen: &Seen,
     ) -> Result<bool, AllocError> {
-        let mut goes = false;
-        if let Some(trace) = &mut self.trace {
-            if trace.take(host, predicates, seen)? {
-                goes = true;
-            }
-        }
-        if let Some(profile) = &mut self.profile {
+        let is_traced = trace_step(&mut self.trace, host, predicates, seen)?;
+        let is_counted = count_step(&mut self.profile, seen)?;
+        let is_drawn = draw_step(&mut self.timeline, host, predicates, seen)?;
+        Ok(is_traced || is_counted || is_drawn)
+    }
+}
+
+/// Has a step told, if there is a trace. Answers whether later steps may be told.
+fn trace_step<H: Views, W: Write + Drop>(
+    trace: &mut Option<Trace<'_, W>>,
+    host: &mut H,
+    predicates: &Predicates,
+    seen: &Seen,
+) -> Result<bool, AllocError>
+    ensures same { (f : H.Reading) → H.fits host.new f → H.kept f host.new ≡ H.kept f host.old }
+    ensures before { (f : H.Reading) → H.fits host.new f → H.fits host.old f }
+    ensures beside { H.beside host.new ≡ H.beside host.old }
+{
+    match trace {
+        Some(trace) => trace.take(host, predicates, seen),
+        None => Ok(false),
+    }
+}
+
+/// Has a step counted, if there is a profile. Answers whether there is.
+fn count_step(profile: &mut Option<Profile>, seen: &Seen) -> Result<bool, AllocError>
+    ensures { OnOk result ((ss : List Seen) → IfSome profile.old (λ p. HasCounted p ss) → IfSome profile.new (λ p. HasCounted p (ss ++ seen.now ∷ []))) }
+{
+    match profile {
+        Some(profile) => {
             profile.take(seen)?;
-            goes = true;
+            Ok(true)
         }
-        if let Some(timeline) = &mut self.timeline {
-            if timeline.take(host, predicates, seen)? {
-                goes = true;
-            }
-        }
-        Ok(goes)
+        None => Ok(false),
+    }
+}
+
+/// Has a step drawn, if there is a picture. Answers whether later steps may be drawn.
+fn draw_step<H: Views>(
+    timeline: &mut Option<Timeline>,
+    host: &mut H,
+    predicates: &Predicates,
+    seen: &Seen,
+) -> Result<bool, AllocError>
+    ensures same { (f : H.Reading) → H.fits host.new f → H.kept f host.new ≡ H.kept f host.old }
+    ensures before { (f : H.Reading) → H.fits host.new f → H.fits host.old f }
+    ensures beside { H.beside host.new ≡ H.beside host.old }
+{
+    match timeline {
+        Some(timeline) => timeline.take(host, predicates, seen),
+        None => Ok(false),
     }
 }

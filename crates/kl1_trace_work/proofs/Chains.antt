@@ -1,6 +1,6 @@
 -- What is seen of steps, and then of more steps.
 use Rattle.std.proofs.Common.{◌≡◌, ℕ, List, [], ◌∷◌, ◌++◌, append_assoc, Option, Some, None, ap, sym, subst, ◌∙◌, refl}
-use Rattle.std.specs.Prelude.{count_by}
+use Rattle.std.specs.Prelude.{count_by, IfSome}
 use Rattle.std.proofs.lemmas.List.{append-nil}
 use Rattle.kl1_model.specs.Choice.{Chosen, first}
 use Rattle.kl1_model.specs.Event.{reduce, reduced}
@@ -18,6 +18,10 @@ use Rattle.kl1_trace_work.specs.declared.viewer.Watched.{Watched}
 use Rattle.kl1_trace_work.specs.declared.viewer.Watched.TheVariants.{More, Enough, Refused}
 use Rattle.kl1_trace_work.specs.Seen.{number_after, views_of, is_substitute, last_among, IsNext, IsSeen, AreSeen, IsStepTold, IsNothingTold, AreTold}
 use Rattle.kl1_trace_work.specs.Tried.{IsTried}
+
+-- what holds of a value if there is one holds of one that is there
+pub if_there : {A : Type 0} (P : A → Type 0) (o : Option A) (x : A) → o ≡ Some x → IfSome o P → P x
+if_there P o x is h = subst (λ y. IfSome y P) is h
 
 -- steps that are seen, and then more of them
 seen_both : (a b : ℕ) (k : Kept) (ss : List Seen) (a' b' : ℕ) (m : Kept) (ts : List Seen) (a'' b'' : ℕ) (n : Kept) → AreSeen a b k ss a' b' m → AreSeen a' b' m ts a'' b'' n → AreSeen a b k (ss ++ ts) a'' b'' n

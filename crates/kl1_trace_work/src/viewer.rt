@@ -408,7 +408,6 @@ pub fn watch_once<H: UnbookedHost + Views, O: Observer<H> + Drop>(
 }
 
 /// Does first steps, at most `most`, and has each seen; ends if none can be done, or no more are wanted. Answers what came of the last.
-#[tactic(auto, using(crate::proofs::Chains::told_none, crate::proofs::Chains::told_both))]
 pub fn watch_first<H: UnbookedHost + Views, O: Observer<H> + Drop>(
     host: &mut H,
     most: u64,
@@ -421,9 +420,10 @@ pub fn watch_first<H: UnbookedHost + Views, O: Observer<H> + Drop>(
     let mut left = most;
     while 0 < left {
         left -= 1;
-        match watch_once(host, viewer)? {
+        let watched = watch_once(host, viewer)?;
+        match watched {
             Watched::More => {}
-            other => return Ok(other),
+            _ => return Ok(watched),
         }
     }
     Ok(Watched::More)
