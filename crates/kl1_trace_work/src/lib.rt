@@ -1,6 +1,7 @@
 //! What is told of the steps of a run: each one in a trace, and what each predicate did in a profile.
 #![tactic(auto)]
 
+mod changes;
 mod columns;
 mod computed;
 mod equated;

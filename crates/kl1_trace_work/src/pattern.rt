@@ -6,13 +6,20 @@ use kl1_steps::Called;
 use kl1_text::AtomText;
 use std::alloc::{AllocError, Global};
 
+/// A predicate's name and arity.
+#[derive(Clone, Copy)]
+struct NameAndArity {
+    name: AtomText,
+    arity: u64,
+}
+
 /// A predicate, or all of a module, or a built-in goal.
 #[derive(Clone, Copy)]
 struct Named {
     /// The module; `None` of built-in goals.
     module: Option<AtomText>,
-    /// The predicate's name and arity; `None` of all predicates.
-    predicate: Option<(AtomText, u64)>,
+    /// `None` of all predicates of the module.
+    predicate: Option<NameAndArity>,
 }
 
 /// Which steps are told: those of some predicates, in some shoen, in which an exception is raised, and from and to some number.
@@ -50,9 +57,12 @@ fn split_at_first(text: &[u8], byte: u8) -> Option<(&[u8], &[u8])> {
 }
 
 /// The name and the arity that a word has: `p/2`.
-fn predicate_in(word: &[u8]) -> Option<(AtomText, u64)> {
+fn predicate_in(word: &[u8]) -> Option<NameAndArity> {
     let (name, arity) = split_at_last(word, b'/')?;
-    Some((AtomText::read(name)?, only_number(arity)?))
+    Some(NameAndArity {
+        name: AtomText::read(name)?,
+        arity: only_number(arity)?,
+    })
 }
 
 /// The module, the predicate or the built-in goals that a word names: `m:`, `m:p/2` or `:=/2`.
@@ -87,7 +97,7 @@ impl Named {
         }
         match self.predicate {
             None => true,
-            Some((name, arity)) => name == called.predicate && arity == called.arity,
+            Some(wanted) => wanted.name == called.predicate && wanted.arity == called.arity,
         }
     }
 }
@@ -110,16 +120,19 @@ impl Pattern {
             self.has_exception = true;
             return Ok(true);
         }
-        if let Some(is_known) = self.limit(word) {
-            return Ok(is_known);
+        match self.limit(word) {
+            Some(is_known) => Ok(is_known),
+            None => self.name(word),
         }
-        match named_in(word) {
-            Some(named) => {
-                self.named.push(named)?;
-                Ok(true)
-            }
-            None => Ok(false),
-        }
+    }
+
+    /// Narrows the pattern by what a word names, if it names something, and answers whether it does.
+    fn name(&mut self, word: &[u8]) -> Result<bool, AllocError> {
+        let Some(named) = named_in(word) else {
+            return Ok(false);
+        };
+        self.named.push(named)?;
+        Ok(true)
     }
 
     /// Narrows the pattern by a number, if the word gives one, and answers whether it is one.

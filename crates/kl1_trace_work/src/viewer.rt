@@ -1,18 +1,18 @@
 // What looks at an account before and after each step.
 
-ghost use Rattle.std.specs.Prelude.{◌≡◌, Some, IfOk, IfSome, OnOk, option_map, count_by};
+ghost use Rattle.std.specs.Prelude.{◌≡◌, Some, IfOk, IfSome, OnOk, option_map};
 ghost use Rattle.kl1_model.specs.State.{goal_at};
 ghost use Rattle.kl1_user_events.specs.Viewing.{goal_view};
-ghost use Rattle.kl1_trace_work.specs.Seen.{is_substitute, last_among, views_of, IsNext, IsSeen, AreTold};
+ghost use Rattle.kl1_trace_work.specs.Seen.{last_among, views_of, IsNext, IsSeen, AreTold};
 ghost use Rattle.kl1_trace_work.specs.Tried.{IsTried};
 
+use crate::changes::{Shoens, changed_among, last_of, raised_among};
 use crate::predicates::{Predicates, is_monitor};
 use crate::prints::{is_cut, variables_of};
 use crate::seen::{NewGoal, Next, Observer, Seen};
 use crate::waits::{ALL, Waits};
 use kl1_command::{UnbookedHost, Views};
-use kl1_model::Condition;
-use kl1_user_events::{ClauseNo, Extent, GoalNo, GoalView, ShoenNo, ShoenView, TaskKind, Usage};
+use kl1_user_events::{ClauseNo, Extent, GoalNo, GoalView, ShoenNo, ShoenView, Usage};
 use std::alloc::{AllocError, Global};
 
 /// What came of a step that was tried.
@@ -51,79 +51,6 @@ struct Before {
     step: Next,
     text: Option<Vec<u8>>,
     is_built_in: bool,
-}
-
-/// The greatest number of goals, and of one before.
-fn last_of(goals: &[GoalView], before: u64) -> u64
-    ensures { result ≡ last_among before goals.now }
-{
-    let mut last = before;
-    let mut rest = goals;
-    while let [goal, others @ ..] = rest {
-        last = last.max(goal.number.0);
-        rest = others;
-    }
-    last
-}
-
-/// Whether two states are one.
-fn is_same(one: Condition, other: Condition) -> bool {
-    match (one, other) {
-        (Condition::Terminated, Condition::Terminated) => true,
-        (Condition::Aborted, Condition::Aborted) => true,
-        (Condition::Stopped, Condition::Stopped) => true,
-        (Condition::Exhausted, Condition::Exhausted) => true,
-        (Condition::Running, Condition::Running) => true,
-        _ => false,
-    }
-}
-
-/// The shoens that are in another state than before. They are in order of their numbers.
-fn changed_among(
-    alloc: Global,
-    before: &[ShoenView],
-    now: &[ShoenView],
-) -> Result<Vec<ShoenView>, AllocError> {
-    let mut changed = Vec::new(alloc);
-    for (old, shoen) in before.iter().zip(now.iter()) {
-        if !is_same(old.condition, shoen.condition) {
-            changed.push(*shoen)?;
-        }
-    }
-    Ok(changed)
-}
-
-/// Whether a goal waits for an answer to an exception.
-fn is_substitute(goal: &NewGoal) -> bool
-    ensures { result ≡ is_substitute goal.now }
-{
-    match goal.view.task {
-        TaskKind::Substitutes => true,
-        TaskKind::Monitor => false,
-        TaskKind::Reduces => false,
-    }
-}
-
-/// How many of new goals wait for an answer to an exception.
-fn raised_among(new: &[NewGoal]) -> usize
-    ensures { result ≡ count_by is_substitute new.now }
-{
-    let mut count = 0;
-    let mut rest = new;
-    while let [goal, others @ ..] = rest {
-        if is_substitute(goal) {
-            count += 1;
-        }
-        rest = others;
-    }
-    count
-}
-
-/// Shoens that are new, and shoens in another state than before.
-#[derive(Drop)]
-struct Shoens {
-    opened: Vec<ShoenView>,
-    changed: Vec<ShoenView>,
 }
 
 /// What became in a step of what was there before it.

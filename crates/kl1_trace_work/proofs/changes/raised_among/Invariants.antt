@@ -1,7 +1,7 @@
 use Rattle.std.proofs.Common.{◌≡◌, ◌+◌, ◌≤◌, length}
 use Rattle.std.specs.Prelude.{count_by}
 use Rattle.kl1_trace_work.specs.Seen.{is_substitute}
-use Rattle.kl1_trace_work.proofs.viewer.raised_among.Given as goal
+use Rattle.kl1_trace_work.proofs.changes.raised_among.Given as goal
 
 -- those that were counted, and those among the goals that are left, are all
 abbrev pub invariant-loop-rest : goal.invariant-loop-rest

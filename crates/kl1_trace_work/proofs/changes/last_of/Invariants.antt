@@ -1,6 +1,6 @@
 use Rattle.std.proofs.Common.{◌≡◌, length}
 use Rattle.kl1_trace_work.specs.Seen.{last_among}
-use Rattle.kl1_trace_work.proofs.viewer.last_of.Given as goal
+use Rattle.kl1_trace_work.proofs.changes.last_of.Given as goal
 
 -- the greatest number so far, with the goals that are left, is that of all
 abbrev pub invariant-loop-rest : goal.invariant-loop-rest
