@@ -1,3 +1,4 @@
 pub mod Counting
 pub mod Seen
+pub mod Telling
 pub mod Tried

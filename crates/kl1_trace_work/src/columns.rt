@@ -1,30 +1,31 @@
 // Texts in columns.
 
+ghost use Rattle.std.specs.Prelude.{◌≡◌, ◌-◌, ◌++◌, length, replicate, decimal, OnOk};
+ghost use Rattle.kl1_trace_work.specs.Telling.{right};
+
 use kl1_lines::put_decimal;
 use std::alloc::{AllocError, Global};
 
-/// Puts blanks after the bytes until they are so many more than at the beginning.
-pub fn put_blanks(begin: usize, width: usize, out: &mut Vec<u8>) -> Result<(), AllocError> {
-    for _ in 0..width {
-        if width <= out.len().saturating_sub(begin) {
-            return Ok(());
-        }
-        out.push(b' ')?;
+/// Puts blanks after the bytes until there are `end` of them.
+#[tactic(auto, using(crate::proofs::Heads::filled, crate::proofs::Heads::not_filled))]
+pub fn put_blanks(end: usize, out: &mut Vec<u8>) -> Result<(), AllocError>
+    ensures { OnOk result (out.new.items ≡ out.old.items ++ replicate (end - length out.old.items) 32) }
+{
+    if out.len() < end {
+        out.resize(end, b' ')?;
     }
     Ok(())
 }
 
-/// Puts a number after the bytes, with blanks before it.
-pub fn put_right(
-    alloc: Global,
-    number: u64,
-    width: usize,
-    out: &mut Vec<u8>,
-) -> Result<(), AllocError> {
+/// Puts a number after the bytes, at the right of a column of this width.
+#[tactic(auto, using(crate::proofs::Heads::righted))]
+pub fn put_right(alloc: Global, number: u64, width: u8, out: &mut Vec<u8>) -> Result<(), AllocError>
+    ensures { OnOk result (out.new.items ≡ out.old.items ++ right width (decimal number)) }
+{
     let mut digits = Vec::new(alloc);
     put_decimal(&mut digits, number)?;
-    let begin = out.len();
-    put_blanks(begin, width.saturating_sub(digits.len()), out)?;
+    let blanks = usize::from(width).saturating_sub(digits.len());
+    put_blanks(out.len() + blanks, out)?;
     out.extend_from_slice(digits.as_slice())
 }
 

@@ -128,10 +128,19 @@ impl Pattern {
 
     /// Narrows the pattern by what a word names, if it names something, and answers whether it does.
     fn name(&mut self, word: &[u8]) -> Result<bool, AllocError> {
-        let Some(named) = named_in(word) else {
-            return Ok(false);
-        };
-        self.named.push(named)?;
+        match named_in(word) {
+            Some(named) => self.put(named.module, named.predicate),
+            None => Ok(false),
+        }
+    }
+
+    /// Narrows the pattern by a predicate, or all of a module.
+    fn put(
+        &mut self,
+        module: Option<AtomText>,
+        predicate: Option<NameAndArity>,
+    ) -> Result<bool, AllocError> {
+        self.named.push(Named { module, predicate })?;
         Ok(true)
     }
 

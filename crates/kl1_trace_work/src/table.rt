@@ -67,7 +67,7 @@ pub fn put_table(
     put_right(alloc, steps, 10, out)?;
     put_share(alloc, steps, steps, out)?;
     let begin = out.len();
-    put_blanks(begin, 36, out)?;
+    put_blanks(begin.saturating_add(36), out)?;
     let goals = Used {
         count: alive,
         most: usage.goals.most,

@@ -1,6 +1,7 @@
 // The lines of a trace.
 
-ghost use Rattle.std.specs.Prelude.{◌≡◌};
+ghost use Rattle.std.specs.Prelude.{◌≡◌, ◌++◌, IfOk, OnOk};
+ghost use Rattle.kl1_trace_work.specs.Telling.{head_text, AreLines};
 
 use crate::columns::{put_blanks, put_front, put_right};
 use crate::computed::{value_in, value_of};
@@ -16,12 +17,15 @@ use kl1_shown::parse_print;
 use kl1_term::Node;
 use kl1_text::put_int;
 use kl1_user_events::{Extent, GoalNo, ShoenNo, TaskKind};
-use std::alloc::AllocError;
+use std::alloc::{AllocError, Global};
 use std::io;
 use std::io::Write;
 
 /// The most bytes of a goal.
 const MOST_GOAL: usize = 100;
+
+/// The column of a clause's place.
+const PLACE_COLUMN: usize = 15;
 
 /// The column of a goal.
 const GOAL_COLUMN: usize = 38;
@@ -41,10 +45,22 @@ pub struct Trace<'a, W> {
     pub failure: Option<io::Error>,
 }
 
+/// Puts how the lines of a step begin after the bytes: its number, its goal and the goal's shoen.
+#[tactic(auto, using(crate::proofs::Heads::begun))]
+fn put_begin(alloc: Global, step: &Next, out: &mut Vec<u8>) -> Result<(), AllocError>
+    ensures { OnOk result (out.new.items ≡ out.old.items ++ head_text step.now) }
+{
+    put_right(alloc, step.number, 5, out)?;
+    put_right(alloc, step.goal.number.0, 6, out)?;
+    out.push(b'/')?;
+    put_decimal(out, step.goal.shoen.0)?;
+    out.push(b' ')?;
+    Ok(())
+}
+
 /// Puts the blanks before a sign, and it, after the bytes.
 fn put_sign(sign: &[u8], out: &mut Vec<u8>) -> Result<(), AllocError> {
-    let begin = out.len();
-    put_blanks(begin, GOAL_COLUMN, out)?;
+    put_blanks(out.len().saturating_add(GOAL_COLUMN), out)?;
     out.extend_from_slice(sign)
 }
 
@@ -100,25 +116,19 @@ impl<'a, W: Write + Drop> Trace<'a, W> {
         Ok(())
     }
 
-    /// Puts the first line of a step after the bytes.
+    /// Puts the rest of the first line of a step after the bytes, after what it begins with, which is `begin` bytes long.
     fn put_head(
         &self,
         predicates: &Predicates,
         seen: &Seen,
+        begin: usize,
         out: &mut Vec<u8>,
     ) -> Result<(), AllocError> {
-        let alloc = self.texts.alloc;
-        let begin = out.len();
-        put_right(alloc, seen.step.number, 5, out)?;
-        put_right(alloc, seen.step.goal.number.0, 6, out)?;
-        out.push(b'/')?;
-        put_decimal(out, seen.step.goal.shoen.0)?;
-        out.push(b' ')?;
-        put_blanks(begin, 15, out)?;
+        put_blanks(PLACE_COLUMN.saturating_sub(begin), out)?;
         self.texts.put_place(predicates, seen, out)?;
         if let Some(text) = &seen.text {
             out.push(b' ')?;
-            put_blanks(begin, GOAL_COLUMN, out)?;
+            put_blanks(GOAL_COLUMN.saturating_sub(begin), out)?;
             self.texts.put_term(text.as_slice(), MOST_GOAL, out)?;
         }
         out.push(b'\n')?;
@@ -292,22 +302,28 @@ impl<'a, W: Write + Drop> Trace<'a, W> {
     }
 
     /// The lines of a step.
+    #[tactic(auto, using(crate::proofs::Heads::lines_are))]
     fn lines_of<H: Views>(
         &self,
         host: &mut H,
         predicates: &Predicates,
         seen: &Seen,
     ) -> Result<Vec<u8>, AllocError>
+        ensures lines { IfOk result (λ lines. AreLines seen.now.step lines.items) }
         ensures same { (f : H.Reading) → H.fits host.new f → H.kept f host.new ≡ H.kept f host.old }
         ensures before { (f : H.Reading) → H.fits host.new f → H.fits host.old f }
         ensures beside { H.beside host.new ≡ H.beside host.old }
     {
-        let mut out = Vec::new(self.texts.alloc);
-        self.put_head(predicates, seen, &mut out)?;
-        self.put_all_new(host, seen.new.as_slice(), &mut out)?;
-        self.put_bindings(seen, &mut out)?;
-        put_woken(seen.woken.as_slice(), &mut out)?;
-        self.put_reports(predicates, seen, &mut out)?;
+        let alloc = self.texts.alloc;
+        let mut out = Vec::new(alloc);
+        put_begin(alloc, &seen.step, &mut out)?;
+        let mut rest = Vec::new(alloc);
+        self.put_head(predicates, seen, out.len(), &mut rest)?;
+        self.put_all_new(host, seen.new.as_slice(), &mut rest)?;
+        self.put_bindings(seen, &mut rest)?;
+        put_woken(seen.woken.as_slice(), &mut rest)?;
+        self.put_reports(predicates, seen, &mut rest)?;
+        out.extend_from_slice(rest.as_slice())?;
         Ok(out)
     }
 }
