@@ -1,6 +1,6 @@
 -- What stands first on a page of goals.
-use Rattle.std.proofs.Common.{◌≡◌, ◌≤◌, ℕ, ◌==◌, Bool, true, false, if◌then◌else◌, List, [], ◌∷◌, map, take, length, Option, Some, None, option_map, ap, ◌∙◌, refl, sym, subst, arith}
-use Rattle.std.specs.Prelude.{filter, find, nat_le, get_or, slice_index_or}
+use Rattle.std.proofs.Common.{◌≡◌, ◌≤◌, ℕ, ◌==◌, Bool, true, false, if◌then◌else◌, List, [], ◌∷◌, map, take, length, Some, option_map, ap, ◌∙◌, refl, sym, arith}
+use Rattle.std.specs.Prelude.{filter, nat_le, get_or, slice_index_or}
 use Rattle.std.proofs.lemmas.Bool.{eqb-true, eqb-false, leb-false}
 use Rattle.kl1_model.specs.State.{Goal, State, goal_at}
 use Rattle.kl1_user_events.specs.declared.goal_view.GoalView.{GoalView}
