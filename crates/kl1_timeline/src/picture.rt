@@ -144,7 +144,7 @@ impl Picture<'_> {
         let bottom = self.bottom();
         let first = self.timeline.first.saturating_sub(1);
         for step in first..self.timeline.last.saturating_add(1) {
-            if step % each == 0 {
+            if let Some(0) = step.checked_rem(each) {
                 let x = self.across(step);
                 self.put(b"<line class=\"grid\"")?;
                 self.put_line((x, TOP), (x, bottom))?;
