@@ -73,9 +73,7 @@ fn put_refusal(refusal: Refusal, faults: &mut Vec<u8>) -> Result<(), AllocError>
 fn hint_of(refusal: Refusal) -> Option<&'static [u8]> {
     match refusal {
         Refusal::Exists => Some(b":reload loads all files anew"),
-        Refusal::NoShoen => Some(
-            b":shoens tells which there are; those that programs opened take no messages from here",
-        ),
+        Refusal::NoShoen => Some(b":shoens tells which there are"),
         Refusal::Ended => Some(b"start another goal"),
         Refusal::Names | Refusal::Limit => Some(b":reload begins the account anew"),
         Refusal::Answer => Some(b":reports S tells the reports of shoen S, counted from 1"),
