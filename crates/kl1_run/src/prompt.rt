@@ -311,13 +311,18 @@ impl Session<'_, '_> {
         Ok(())
     }
 
-    /// Begins the account anew with all files as they are now, if they are modules.
-    fn reload(&mut self, world: &mut OwnWorld) -> Result<(), Fault> {
+    /// All files as they are now, if they are modules.
+    fn read_again(&mut self) -> Result<Option<Vec<SourceFile>>, Fault> {
         let mut names: Vec<&[u8]> = Vec::new(self.alloc);
         for file in self.files.as_slice() {
             names.push(file.name.as_slice())?;
         }
-        let Some(files) = read_modules(self.rt, names.as_slice(), &mut self.told.faults)? else {
+        read_modules(self.rt, names.as_slice(), &mut self.told.faults)
+    }
+
+    /// Begins the account anew with all files as they are now, if they are modules.
+    fn reload(&mut self, world: &mut OwnWorld) -> Result<(), Fault> {
+        let Some(files) = self.read_again()? else {
             return Ok(());
         };
         self.last = None;
