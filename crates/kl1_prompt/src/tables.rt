@@ -58,6 +58,7 @@ pub fn put_waits<H: Views>(
     let notes = Notes {
         variables: Vec::new(alloc),
         exceptions: Vec::new(alloc),
+        limit: None,
     };
     let told = Told {
         program: PROGRAM,

@@ -32,6 +32,7 @@ fn no_notes(alloc: Global) -> Notes {
     Notes {
         variables: Vec::new(alloc),
         exceptions: Vec::new(alloc),
+        limit: None,
     }
 }
 
@@ -131,12 +132,16 @@ impl Origins for Again {
         };
         let clauses = self.clauses()?;
         let names = self.names()?;
-        notes_of_found(
+        let notes = notes_of_found(
             alloc,
             finder.found.as_slice(),
             clauses.as_slice(),
             names.as_slice(),
-        )
+        )?;
+        Ok(Notes {
+            limit: finder.limit,
+            ..notes
+        })
     }
 }
 

@@ -4,7 +4,7 @@ ghost use Rattle.std.specs.Prelude.{None};
 
 use crate::steps::StepWatch;
 use kl1_command::{UnbookedHost, Views};
-use kl1_user_events::{ClauseNo, Extent, GoalNo, GoalView, TaskKind};
+use kl1_user_events::{ClauseNo, Extent, GoalNo, GoalView, TaskKind, Usage};
 use std::alloc::{AllocError, Global};
 
 /// The most goals that one step makes, as far as they are looked at.
@@ -36,6 +36,16 @@ pub struct Found {
     pub text: Vec<u8>,
 }
 
+impl Found {
+    /// Whether it is an exception by a limit: a clause was to be committed to, but one would have been passed.
+    pub(crate) fn is_by_limit(&self) -> bool {
+        match self.origin {
+            Origin::Exception => 0 < self.clause.0,
+            Origin::Fresh(_) | Origin::Answer | Origin::Reports => false,
+        }
+    }
+}
+
 /// What is looked for in a run, and what is found.
 #[derive(Drop)]
 pub struct Finder {
@@ -45,6 +55,8 @@ pub struct Finder {
     goals: Vec<u64>,
     /// What is found, in the order of steps.
     pub found: Vec<Found>,
+    /// What the account had before the first step that raised an exception by a limit, once that is looked for.
+    pub limit: Option<Usage>,
     /// Whether all is found, and only the goals' texts are looked for.
     has_all: bool,
     step: u64,
@@ -81,6 +93,7 @@ impl Finder {
             variables,
             goals,
             found: Vec::new(alloc),
+            limit: None,
             has_all: false,
             step: 0,
             last_variable: fresh.saturating_add(reports),
@@ -160,6 +173,16 @@ impl Finder {
         false
     }
 
+    /// Whether an exception by a limit was found in the step that comes now.
+    fn is_limit_now(&self) -> bool {
+        for found in self.found.as_slice() {
+            if found.step == self.step && found.is_by_limit() {
+                return true;
+            }
+        }
+        false
+    }
+
     /// Keeps the text of the goal of the step that comes now.
     fn keep_text(&mut self, text: &[u8]) -> Result<(), AllocError> {
         let step = self.step;
@@ -198,6 +221,9 @@ impl<H: UnbookedHost + Views> StepWatch<H> for Finder {
         }
         if !self.is_found_now() {
             return Ok(());
+        }
+        if self.limit.is_none() && self.is_limit_now() {
+            self.limit = Some(host.usage());
         }
         match host.goal_text(goal, Extent::Cut)? {
             Some(text) => self.keep_text(text.as_slice()),

@@ -17,6 +17,7 @@ pub fn notes_of_found(
     let mut notes = Notes {
         variables: Vec::new(alloc),
         exceptions: Vec::new(alloc),
+        limit: None,
     };
     for one in found {
         let text = note_text(alloc, one, clauses, files)?;
@@ -46,8 +47,7 @@ fn note_text(
         Origin::Answer => out.extend_from_slice(b" (for the answer to an exception)")?,
         Origin::Reports => out.extend_from_slice(b" (the rest of a shoen's reports)")?,
         Origin::Exception => {
-            // A clause was to be committed to, but a limit would have been passed.
-            let kind: &[u8] = if 0 < found.clause.0 {
+            let kind: &[u8] = if found.is_by_limit() {
                 b"exhaustion"
             } else {
                 kind_of(alloc, found)?

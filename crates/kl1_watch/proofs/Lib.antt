@@ -2,3 +2,4 @@ mod Seen
 mod Paths
 mod Orders
 mod Counts
+mod Numbers

@@ -1,12 +1,12 @@
 -- Orders of goals.
-use Rattle.std.proofs.Common.{◌≡◌, ◌-◌, ◌<◌, ◌≤◌, Bool, true, false, List, [], ◌∷◌, ◌++◌, length, get_or, take, drop, append_assoc, sym, refl, subst, arith}
-use Rattle.std.specs.Prelude.{All, IsTrue}
+use Rattle.std.proofs.Common.{◌≡◌, ◌-◌, ◌<◌, ◌≤◌, Bool, true, false, List, [], ◌∷◌, ◌++◌, length, get_or, take, drop, append_assoc, ap, sym, refl, subst, ◌∙◌, arith}
+use Rattle.std.specs.Prelude.{All, IsTrue, IsFalse}
 use Rattle.std.proofs.lemmas.List.{take_all, append-nil}
 use Rattle.std.proofs.lemmas.List.Elements.{All-nil, All-cons, All-append}
 use Rattle.kl1_user_events.specs.declared.goal_view.GoalView.{GoalView}
 use Rattle.kl1_watch.specs.Standing.{IsPut}
 use Rattle.std.specs.List.Sorted.{IsPermutation}
-use Rattle.std.proofs.lemmas.List.Sorted.{IsPermutation-trans, IsPermutation-append_right, IsPermutation-middle}
+use Rattle.std.proofs.lemmas.List.Sorted.{IsPermutation-refl, IsPermutation-trans, IsPermutation-append_right, IsPermutation-middle}
 
 -- the first of what is left goes to the end of the first part
 pub to_first : {X : Type 0} (all xs ys : List X) (x : X) (zs : List X) → IsPermutation all (xs ++ (ys ++ x ∷ zs)) → IsPermutation all ((xs ++ x ∷ []) ++ (ys ++ zs))
@@ -34,6 +34,22 @@ next_put all r o r' o' (x ∷ xs) d b some put h = subst (λ l. IsPermutation al
 pub first_on : (P : GoalView → Type 0) (r o r' o' : List GoalView) (g : GoalView) (b : Bool) → IsPut b g r o r' o' → (IsTrue b → P g) → All P r → All P r'
 first_on P r o r' o' g true put h all = subst (All P) (sym put.0) (All-append P r (g ∷ []) all (All-cons P g [] (h refl) (All-nil P)))
 first_on P r o r' o' g false put h all = subst (All P) (sym put.0) all
+
+-- what holds of the others holds of one more
+pub other_on : (P : GoalView → Type 0) (r o r' o' : List GoalView) (g : GoalView) (b : Bool) → IsPut b g r o r' o' → (IsFalse b → P g) → All P o → All P o'
+other_on P r o r' o' g false put h all = subst (All P) (sym put.1) (All-append P o (g ∷ []) all (All-cons P g [] (h refl) (All-nil P)))
+other_on P r o r' o' g true put h all = subst (All P) (sym put.1) all
+
+-- no goal is put at first
+pub put_none : (all r o rest : List GoalView) → r ≡ [] → o ≡ [] → rest ≡ all → IsPermutation all (r ++ (o ++ rest))
+put_none all r o rest first second e =
+    let P : List GoalView → List GoalView → Type 0 = λ x y. IsPermutation all (x ++ (y ++ rest)) in
+    let none : IsPermutation all rest = subst (IsPermutation all) (sym e) (IsPermutation-refl all) in
+    subst (λ x. P x o) (sym first) (subst (λ y. P [] y) (sym second) none)
+
+-- all parts, one after another
+pub parts_of : (r o later l m n : List GoalView) → m ≡ r ++ o → n ≡ m ++ l → l ≡ later → n ≡ r ++ (o ++ later)
+parts_of r o later l m n first second is = second ∙ ap (λ x. x ++ l) first ∙ append_assoc r o l ∙ ap (λ x. r ++ (o ++ x)) is
 
 -- no goal is left
 pub all_put : (all r o rest : List GoalView) → length rest < 1 → IsPermutation all (r ++ (o ++ rest)) → IsPermutation all (r ++ o)

@@ -1,5 +1,5 @@
 -- Which goals are held back by shoens, and which wait, as it is seen in what is shown of an account.
-use Rattle.std.specs.Prelude.{ℕ, ◌==◌, not, ◌&&◌, Bool, true, false, List, map, find, option_map, unwrap_or, None, Some}
+use Rattle.std.specs.Prelude.{◌≡◌, ℕ, suc, ◌==◌, not, ◌&&◌, Bool, true, false, List, [], ◌∷◌, map, find, option_map, unwrap_or, None, Some}
 use Rattle.std.specs.declared.option.Option.{Option}
 use Rattle.std.specs.List.{list_any}
 use Rattle.kl1_model.specs.declared.condition.Condition.{Condition}
@@ -35,6 +35,11 @@ is_still Exhausted = true
 -- whether the shoen of this number is shown, and doesn't let its goals go on
 abbrev pub holds_back : List ShoenView → ℕ → Bool
 holds_back shoens n = unwrap_or (option_map (λ h. not (is_running h.condition)) (find (λ h. h.number.0 == n) shoens)) false
+
+-- shoens are shown by their numbers, from this one on
+abbrev pub AreNumbered : ℕ → List ShoenView → Type 0
+AreNumbered n [] = Unit {0}
+AreNumbered n (h ∷ hs) = (h.number.0 ≡ n) × AreNumbered (suc n) hs
 
 -- the numbers of the parents of shoens that are shown
 abbrev pub parent_numbers : List ShoenView → List ℕ

@@ -1,14 +1,11 @@
 // Which goals have a variable.
 
 ghost use Rattle.std.specs.Prelude.{◌≡◌, ◌↔◌, ◌+◌, ◌<◌, ◌≤◌, [], unwrap_or, option_map, IsTrue, IfOk, OnOk};
-ghost use Rattle.kl1_watch.specs.Standing.{IsNoted, IsCounted, AreHolders};
+ghost use Rattle.kl1_watch.specs.Standing.{parts_looked, IsNoted, IsCounted, AreHolders};
 
 use kl1_command::Views;
 use kl1_user_events::{GoalNo, GoalView, Presence};
 use std::alloc::{AllocError, Global};
-
-/// The most parts of a goal's term that are looked at for a variable.
-const MOST_PARTS: u64 = 100_000;
 
 /// The most goals that are told of those that have a variable.
 const MOST_NAMED: u64 = 2;
@@ -61,23 +58,40 @@ pub(crate) fn variables_of(awaited: &Option<Vec<u32>>) -> &[u32]
     }
 }
 
-/// Counts a goal that is another than this one by whether it has a variable.
+/// How many parts of each goal's term are looked at for a variable, by how many goals there are: of many goals at most a hundred million
+/// in all, and of fewer about a million.
+fn parts_looked(goals: usize) -> u64
+    ensures { result ≡ parts_looked goals }
+{
+    if goals <= 10 {
+        100_000
+    } else if goals <= 100 {
+        10_000
+    } else if goals <= 1_000 {
+        1_000
+    } else {
+        100
+    }
+}
+
+/// Counts a goal that is another than this one by whether it has a variable, of its term at most `most` parts are looked at.
 #[tactic(auto, using(crate::proofs::Counts::pass_over, crate::proofs::Counts::count_on, crate::proofs::Counts::noted_few))]
 fn note_in<H: Views>(
     host: &H,
+    most: u64,
     view: &GoalView,
     goal: GoalNo,
     variable: u32,
     holders: &mut Holders,
 ) -> Result<(), AllocError>
     requires { holders.old.count + holders.old.unknown < 9223372036854775808 }
-    ensures counted { OnOk result ((f : H.Reading) → IsCounted (H.kept f host.now).state goal.0 variable view.now holders.old holders.new) }
+    ensures counted { OnOk result ((f : H.Reading) → IsCounted (H.kept f host.now).state most goal.0 variable view.now holders.old holders.new) }
     ensures few { OnOk result (holders.new.count + holders.new.unknown ≤ holders.old.count + holders.old.unknown + 1) }
 {
     if view.number.0 == goal.0 {
         return Ok(());
     }
-    let presence = host.presence(view.number, u64::from(variable), MOST_PARTS)?;
+    let presence = host.presence(view.number, u64::from(variable), most)?;
     holders.note(view.number, presence)
 }
 
@@ -97,9 +111,10 @@ pub(crate) fn holders_of<H: Views>(
         count: 0,
         unknown: 0,
     };
+    let most = parts_looked(goals.len());
     let mut rest = goals;
     while let [first, others @ ..] = rest {
-        note_in(host, first, goal, variable, &mut holders)?;
+        note_in(host, most, first, goal, variable, &mut holders)?;
         rest = others;
     }
     Ok(holders)

@@ -4,6 +4,7 @@
 mod circle;
 mod held;
 mod holders;
+mod limit;
 mod lines;
 mod names;
 mod notes;

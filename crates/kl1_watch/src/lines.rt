@@ -4,6 +4,7 @@ ghost use Rattle.std.specs.Prelude.{◌≡◌};
 
 use crate::circle::put_circle;
 use crate::holders::Holders;
+use crate::limit::put_limit;
 use crate::names::Names;
 use crate::notes::{Notes, note_of};
 use crate::standing::{Awaited, Standing, WaitingGoal};
@@ -28,11 +29,11 @@ pub struct Told<'a> {
     pub notes: &'a Notes,
 }
 
-/// The most exceptions and shoens that are told.
-const MOST_SHOENS: usize = 8;
+/// The most exceptions that are told, and the most shoens.
+const MOST_SHOENS: u64 = 8;
 
 /// Puts the lines that tell what stands still after the bytes: how many goals wait and the first of them, exceptions without an answer
-/// in shoens that programs opened, and shoens. The lines that aren't of a goal begin with the name of a program. After an `Err` some of
+/// in shoens that programs opened, shoens, and the limit that was met. The lines that aren't of a goal begin with the name of a program. After an `Err` some of
 /// them may be there.
 pub fn put_standing<H: Views>(
     alloc: Global,
@@ -49,7 +50,11 @@ pub fn put_standing<H: Views>(
     put_waiting(alloc, host, standing.waiting.as_slice(), told, out)?;
     put_more(standing, out)?;
     put_circle(alloc, standing.waiting.as_slice(), out)?;
-    put_shoens(standing, told, out)
+    put_shoens(standing, told, out)?;
+    match &told.notes.limit {
+        Some(usage) => put_limit(usage, told.program, out),
+        None => Ok(()),
+    }
 }
 
 /// Puts the line that tells how many goals wait after the bytes, if any do.
@@ -66,30 +71,47 @@ fn put_count(standing: &Standing, program: &[u8], out: &mut Vec<u8>) -> Result<(
 
 /// Puts the lines of exceptions without an answer and of shoens that hold their goals back after the bytes.
 fn put_shoens(standing: &Standing, told: &Told<'_>, out: &mut Vec<u8>) -> Result<(), AllocError> {
-    let mut left = MOST_SHOENS;
+    let mut count: u64 = 0;
     for goal in standing.unanswered.as_slice() {
         // The reports of the console's shoens are told anyway.
         if let Some(parent) = parent_of(standing.shoens.as_slice(), goal.shoen) {
-            if 0 < left {
+            if count < MOST_SHOENS {
                 put_unanswered(goal, parent, told, out)?;
-                left -= 1;
             }
+            count = count.saturating_add(1);
         }
     }
-    for shoen in standing.still.iter().take(MOST_SHOENS) {
+    put_left_out(told.program, b"unanswered exceptions", count, out)?;
+    for shoen in standing.still.iter().take(MOST_SHOENS as usize) {
         put_still(shoen, told.program, out)?;
     }
+    let still = standing.still.len() as u64;
+    put_left_out(told.program, b"stopped or exhausted shoens", still, out)
+}
+
+/// Puts the line that tells how many of these aren't told after the bytes, if there are more than the most that are.
+fn put_left_out(
+    program: &[u8],
+    words: &[u8],
+    count: u64,
+    out: &mut Vec<u8>,
+) -> Result<(), AllocError> {
+    if count <= MOST_SHOENS {
+        return Ok(());
+    }
+    out.extend_from_slice(program)?;
+    out.extend_from_slice(b": ")?;
+    out.extend_from_slice(words)?;
+    out.extend_from_slice(b" that are left out here: ")?;
+    put_decimal(out, count - MOST_SHOENS)?;
+    out.push(b'\n')?;
     Ok(())
 }
 
-/// The parent of a shoen, if a program opened it.
+/// The parent of a shoen, if a program opened it. Shoens are shown in the order of their numbers, from 1.
 fn parent_of(shoens: &[ShoenView], number: ShoenNo) -> Option<ShoenNo> {
-    for shoen in shoens {
-        if shoen.number.0 == number.0 {
-            return shoen.parent;
-        }
-    }
-    None
+    let place = usize::try_from(number.0.checked_sub(1)?).ok()?;
+    shoens.get(place)?.parent
 }
 
 /// Puts the lines of goals that wait after the bytes.

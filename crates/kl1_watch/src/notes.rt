@@ -1,6 +1,7 @@
 // What is known of where variables and exceptions came from.
 
 use crate::standing::Standing;
+use kl1_user_events::Usage;
 use std::alloc::AllocError;
 
 /// What is told of a variable after its number, or of the exception for which a goal waits.
@@ -16,6 +17,8 @@ pub struct Note {
 pub struct Notes {
     pub variables: Vec<Note>,
     pub exceptions: Vec<Note>,
+    /// What the account had when the first of these exceptions that are by a limit was raised, if one was.
+    pub limit: Option<Usage>,
 }
 
 /// What finds where the variables and exceptions of an account that stands still came from.

@@ -3,7 +3,7 @@
 ghost use Rattle.std.specs.Prelude.{◌≡◌, filter, IfOk};
 ghost use Rattle.kl1_watch.specs.Held.{waits_in, is_left_in, is_still};
 
-use crate::held::{is_left_in, is_still, waits_in};
+use crate::held::{are_numbered, is_left_in, is_still, waits_in};
 use kl1_user_events::{GoalView, ShoenView};
 use std::alloc::{AllocError, Global};
 
@@ -15,10 +15,11 @@ pub(crate) fn waiting_among(
 ) -> Result<Vec<GoalView>, AllocError>
     ensures { IfOk result (λ waiting. waiting.items ≡ filter (waits_in shoens.now) goals.now) }
 {
+    let is_numbered = are_numbered(shoens);
     let mut waiting = Vec::new(alloc);
     let mut rest = goals;
     while let [goal, others @ ..] = rest {
-        if waits_in(shoens, goal) {
+        if waits_in(shoens, is_numbered, goal) {
             waiting.push(*goal)?;
         }
         rest = others;
@@ -34,10 +35,11 @@ pub(crate) fn unanswered_among(
 ) -> Result<Vec<GoalView>, AllocError>
     ensures { IfOk result (λ unanswered. unanswered.items ≡ filter (is_left_in shoens.now) goals.now) }
 {
+    let is_numbered = are_numbered(shoens);
     let mut unanswered = Vec::new(alloc);
     let mut rest = goals;
     while let [goal, others @ ..] = rest {
-        if is_left_in(shoens, goal) {
+        if is_left_in(shoens, is_numbered, goal) {
             unanswered.push(*goal)?;
         }
         rest = others;

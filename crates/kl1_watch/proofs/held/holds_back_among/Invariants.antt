@@ -1,6 +1,6 @@
 use Rattle.std.proofs.Common.{◌≡◌, length}
 use Rattle.kl1_watch.specs.Held.{holds_back}
-use Rattle.kl1_watch.proofs.held.holds_back.Given as goal
+use Rattle.kl1_watch.proofs.held.holds_back_among.Given as goal
 
 -- none of the shoens before is that of the number
 abbrev pub invariant-loop-rest : goal.invariant-loop-rest
