@@ -88,9 +88,10 @@ begins_with b (x ∷ xs) = x == b
 
 -- what a line without its end asks for: nothing if it has blanks alone or a comment, what the word after a colon says, or that it is run as
 -- a goal; `most` steps are done if it doesn't say how many
-unfoldable pub line_of : ℕ → List ℕ → Line
+abbrev pub line_of : ℕ → List ℕ → Line
 line_of most text =
-    if is_blank_line text || begins_with 37 (word_in text) then blank
+    if is_blank_line text then blank
+    else if begins_with 37 (word_in text) then blank
     else if begins_with 58 (word_in text) then order_by most (word_in text) (behind_word_in text)
     else goal_line (read_goal text)
 

@@ -4,6 +4,7 @@ ghost use Rattle.std.specs.Prelude.{◌≡◌, drop, IfOk};
 ghost use Rattle.kl1_model.specs.Line.{only_number, up_to};
 ghost use Rattle.kl1_model.specs.Module.{read_goal};
 ghost use Rattle.kl1_model_server.specs.Command as model;
+ghost use Rattle.kl1_command.specs.Commands.{parsed_view};
 ghost use Rattle.kl1_prompt.specs.declared.parsed.TheConstants.{MOST_TRACED};
 ghost use Rattle.kl1_prompt.specs.Lines as lines;
 ghost use Rattle.kl1_prompt.specs.Lines.{line_of, line_view, alone, by_number_or, by_name, by_command, reports_line, without_colon, order_by, goal_line, begins_with};
@@ -23,7 +24,9 @@ pub fn parse_line(alloc: Global, text: &[u8], most: u64) -> Result<Line, AllocEr
     ensures { IfOk result (λ line. line_view line ≡ line_of most text.now) }
 {
     let (word, rest) = split_word(text);
-    if is_blank_line(text) || begins_with(b'%', word) {
+    if is_blank_line(text) {
+        Ok(Line::Blank)
+    } else if begins_with(b'%', word) {
         Ok(Line::Blank)
     } else if begins_with(b':', word) {
         parse_order(alloc, word, rest, most)
@@ -152,9 +155,17 @@ fn parse_command(alloc: Global, word: &[u8], rest: &[u8]) -> Result<Line, AllocE
 {
     let mut text = Vec::from_slice(alloc, without_first(word))?;
     text.extend_from_slice(rest)?;
-    match parse(alloc, text.as_slice())? {
-        Parsed::Command(command) => Ok(Line::Command(command)),
-        Parsed::Refused => Ok(Line::Unknown),
+    let parsed = parse(alloc, text.as_slice())?;
+    Ok(command_line(parsed))
+}
+
+/// The line that is this command, if there is one.
+fn command_line(parsed: Parsed) -> Line
+    ensures { line_view result ≡ by_command (parsed_view parsed) }
+{
+    match parsed {
+        Parsed::Command(command) => Line::Command(command),
+        Parsed::Refused => Line::Unknown,
     }
 }
 

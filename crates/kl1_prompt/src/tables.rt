@@ -34,11 +34,26 @@ pub fn put_table<H: Views>(
     ensures before { (f : H.Reading) → H.fits host.new f → H.fits host.old f }
     ensures beside { H.beside host.new ≡ H.beside host.old }
 {
+    let before = out.len();
     match table {
-        Table::Goals => put_goals(alloc, host, names, out),
-        Table::Waits => put_waits(alloc, host, usize::MAX, names, out),
-        Table::Shoens => put_shoens(host, out),
-        Table::Used => put_usage(&host.usage(), out),
+        Table::Goals => put_goals(alloc, host, names, out)?,
+        Table::Waits => put_waits(alloc, host, usize::MAX, names, out)?,
+        Table::Shoens => put_shoens(host, out)?,
+        Table::Used => put_usage(&host.usage(), out)?,
+    }
+    if before < out.len() {
+        return Ok(());
+    }
+    out.extend_from_slice(nothing_of(table))
+}
+
+/// What is told of a table without rows.
+fn nothing_of(table: Table) -> &'static [u8] {
+    match table {
+        Table::Goals => b"no goals\n",
+        Table::Waits => b"nothing stands still\n",
+        Table::Shoens => b"no shoens\n",
+        Table::Used => b"",
     }
 }
 
