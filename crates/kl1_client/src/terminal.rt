@@ -1,12 +1,15 @@
 // Who gives the commands: words of the program, or standard input.
 
-ghost use Rattle.std.specs.Prelude.{⊤, option_map};
+ghost use Rattle.std.specs.Prelude.{⊤, None, option_map};
 ghost use Rattle.kl1_client_talk.specs.Given.{lines_in};
 ghost use Rattle.kl1_client_talk.specs.Streams.{coming};
 
 use crate::hints::{refusal_hint, standstill_hint};
 use crate::{files, help};
-use kl1_client_talk::{Caller, Fault, LineReader, Source, TurnEnd, refusal_in};
+use kl1_client_talk::{
+    Caller, Fault, LineReader, Source, TurnEnd, UserCommand, command_in, is_bad_source, refusal_in,
+};
+use std::io::Write;
 use std::thread;
 use std::time::{Duration, Instant};
 
@@ -29,6 +32,10 @@ pub struct Terminal<'r, S> {
     pub is_late: bool,
     /// Whether a hint on a refusal was told in this turn.
     pub is_told: bool,
+    /// Whether it was told in this turn why a file is no module.
+    pub is_explained: bool,
+    /// Whether the line of this turn asks the server for nothing.
+    pub is_silent: bool,
 }
 
 impl<'r, S> Terminal<'r, S> {
@@ -41,7 +48,23 @@ impl<'r, S> Terminal<'r, S> {
             begun: None,
             is_late: false,
             is_told: false,
+            is_explained: false,
+            is_silent: false,
         }
+    }
+
+    /// Tells what can be done about the refusal in this line, unless it was told why a file is no module. Answers whether it is one.
+    fn tells_refusal(&self, line: &[u8]) -> bool {
+        let Some(number) = refusal_in(line) else {
+            return false;
+        };
+        if self.is_explained && is_bad_source(line) {
+            return true;
+        }
+        if let Some(hint) = refusal_hint(number) {
+            let _ = eprintln!(self.rt; "kl1_client: {hint}");
+        }
+        true
     }
 
     /// How much of these seconds is left since the first look; nothing if the clock can't be read.
@@ -59,16 +82,25 @@ impl<'r, S> Terminal<'r, S> {
 impl<S: Source> Caller for Terminal<'_, S> {
     ghost remaining = { λ t. option_map lines_in (coming S.remaining t.lines) };
 
+    // What is on standard error isn't known.
+    ghost told = { λ t. None };
+
     // Any file may have any bytes.
     ghost is_file = { λ name bytes. ⊤ };
 
     fn next(&mut self, line: &mut Vec<u8>) -> Result<bool, Fault> {
         self.is_late = false;
         self.is_told = false;
+        self.is_explained = false;
         if let Some(name) = self.prompt {
             let _ = eprint!(self.rt; "{name}> ");
         }
-        self.lines.next(line, Fault::Commands)
+        let found = self.lines.next(line, Fault::Commands)?;
+        self.is_silent = matches!(
+            command_in(line.as_slice()),
+            UserCommand::Nothing | UserCommand::Help(_)
+        );
+        Ok(found)
     }
 
     fn file(&mut self, name: &[u8], source: &mut Vec<u8>) -> Result<bool, Fault> {
@@ -78,6 +110,12 @@ impl<S: Source> Caller for Terminal<'_, S> {
                 files::tell(self.rt, name, &trouble)?;
                 Ok(false)
             }
+        }
+    }
+
+    fn explain(&mut self, lines: &[u8]) {
+        if !lines.is_empty() {
+            self.is_explained = self.rt.stderr().write_all(lines).is_ok();
         }
     }
 
@@ -114,10 +152,11 @@ impl<S: Source> Caller for Terminal<'_, S> {
     }
 
     fn turned(&mut self, end: TurnEnd, line: &[u8]) {
-        if let Some(number) = refusal_in(line) {
-            if let Some(hint) = refusal_hint(number) {
-                let _ = eprintln!(self.rt; "kl1_client: {hint}");
-            }
+        // The line came in an earlier turn.
+        if self.is_silent || matches!(end, TurnEnd::LacksFile) {
+            return;
+        }
+        if self.tells_refusal(line) {
             self.is_told = true;
             return;
         }

@@ -6,15 +6,19 @@ use Rattle.std.proofs.lemmas.List.{append-nil}
 use Rattle.std.proofs.lemmas.Bool.{le-leb, lt-leb, lt-ltb}
 use Rattle.kl1_model_server.specs.Command.{written_line, written_lines}
 use Rattle.kl1_client_talk.specs.declared.request.Page.{Page}
+use Rattle.std.specs.Io.KnownBytes.{Appends}
 use Rattle.std.specs.Str.{IsTrimAscii}
+use Rattle.kl1_lines.proofs.DeviceLaws.{appends_none}
+use Rattle.kl1_reasons.specs.Told.{PutsReasons}
+use Rattle.kl1_client_talk.specs.declared.turn_end.TurnEnd.{TurnEnd}
 use Rattle.kl1_client_talk.specs.declared.turn_end.TurnEnd.TheVariants as end
-use Rattle.kl1_client_talk.specs.UserCommand.{Wanted, load, pages}
+use Rattle.kl1_client_talk.specs.UserCommand.{Wanted, load, pages, list}
 use Rattle.kl1_client_talk.specs.Request.{page_line, load_of}
-use Rattle.kl1_client_talk.specs.Reply.{is_refusal, count_in}
+use Rattle.kl1_client_talk.specs.Reply.{is_refusal, is_bad_source, count_in}
 use Rattle.kl1_client_talk.specs.Exchanges.{Exchange, Exchanges, Wire, Screen, Asks, Hears, Shows, ShowsLines, ShowsOne, Says, screen}
 use Rattle.kl1_client_talk.specs.declared.reply_writer.ReplyWriter.{ReplyWriter}
-use Rattle.kl1_client_talk.specs.Conversation.{Listing, ShowsListing, AsksOne, AsksList, AsksPagesTo, page_exchanges, page_lines, count_of, is_full_page, most_of, TakesTurn}
-use Rattle.kl1_client_talk.proofs.Exchanged.{hears_none, one_exchange, exchanges_both, no_exchange, shows_one, shows_lines_both, shows_none, all_both}
+use Rattle.kl1_client_talk.specs.Conversation.{Listing, ShowsListing, AsksOne, AsksList, AsksPagesTo, page_exchanges, page_lines, count_of, is_full_page, most_of, TellsLoad, TakesTurn}
+use Rattle.kl1_client_talk.proofs.Exchanged.{hears_none, one_exchange, exchanges_both, no_exchange, shows_one, shows_lines_both, shows_none, flushed, all_both}
 use Rattle.kl1_client_talk.proofs.Paged.{PagesSoFar, page_more, count_both, lines_both}
 
 pub one_said : (a b : Wire) (s t : Screen) (request line : List ℕ) → ShowsOne a b s t request line → Says a b s t (AsksOne request)
@@ -123,28 +127,84 @@ said_on {O} contents v w a b t P e h = let Q : ReplyWriter O → Type 0 = λ x. 
 pub says_more : (a b : Wire) (s t : Screen) (P Q : List Exchange → List (List ℕ) → Type 0) → ((es : List Exchange) (lines : List (List ℕ)) → P es lines → Q es lines) → Says a b s t P → Says a b s t Q
 says_more a b s t P Q f h = record { exchanges = h.exchanges; lines = h.lines; holds = f h.exchanges h.lines h.holds; made = h.made; shows = h.shows }
 
-pub load_said : (IsFile : List ℕ → List ℕ → Type 0) (joined : Bool) (a b : Wire) (s t : Screen) (text name source sent line : List ℕ) → IsTrimAscii text name → IsFile name source → sent ≡ source → ShowsOne a b s t (load_of sent) line → Says a b s t (TakesTurn IsFile joined [] (load text) end.GoesOn)
-load_said IsFile joined a b s t text name source sent line trimmed is e h =
-    let P : List ℕ → Type 0 = λ x. ShowsOne a b s t (load_of x) line in
-    says_more a b s t (AsksOne (load_of source)) (TakesTurn IsFile joined [] (load text) end.GoesOn) (λ es lines one. (record { name = name; source = source; trimmed = trimmed; asks = inl (is, one) }, rw one.asked refl)) (one_said a b s t (load_of source) line (subst P e h))
+-- nothing is told in what this was said of
+pub untold_from : (x y : Option (List ℕ)) → y ≡ x → Appends x y []
+untold_from x y e = let P : Option (List ℕ) → Type 0 = λ w. Appends x w [] in subst P (sym e) (appends_none x)
 
-pub load_lacks : (IsFile : List ℕ → List ℕ → Type 0) (joined : Bool) (a : Wire) (s : Screen) (text name : List ℕ) → IsTrimAscii text name → Says a a s s (TakesTurn IsFile joined [] (load text) end.LacksFile)
-load_lacks IsFile joined a s text name trimmed = record {
-  exchanges = [];
-  lines = [];
-  holds = (record { name = name; source = []; trimmed = trimmed; asks = inr (refl, refl) }, refl);
-  made = no_exchange a;
-  shows = shows_none s;
-}
+-- a turn in which nothing is told
+pub untold : (IsFile : List ℕ → List ℕ → Type 0) (joined : Bool) (line : List ℕ) (wanted : Wanted) (e : TurnEnd) (a b : Wire) (s t : Screen) (x y : Option (List ℕ)) → y ≡ x → Says a b s t (TakesTurn IsFile joined line wanted [] e) → (told : List ℕ) × Says a b s t (TakesTurn IsFile joined line wanted told e) × Appends x y told
+untold IsFile joined line wanted e a b s t x y same h = ([], h, untold_from x y same)
+
+-- a source is told nothing of
+pub explains_none : (is : Bool) (name source : List ℕ) (x : Option (List ℕ)) → is ≡ false → (told : List ℕ) × TellsLoad is name source told × Appends x x told
+explains_none is name source x e = let P : Bool → Type 0 = λ b. TellsLoad b name source [] in ([], subst P (sym e) refl, appends_none x)
+
+-- what was put after nothing is told of a source
+pub explains : (is : Bool) (name source old new lines : List ℕ) (x y : Option (List ℕ)) → is ≡ true → old ≡ [] → PutsReasons name source old new → lines ≡ new → Appends x y lines → (told : List ℕ) × TellsLoad is name source told × Appends x y told
+explains is name source old new lines x y e empty (told, tells, put) same appends =
+    let P : Bool → Type 0 = λ b. TellsLoad b name source told in
+    let Q : List ℕ → Type 0 = λ w. Appends x y w in
+    (told, subst P (sym e) tells, subst Q (same ∙ put ∙ ap (λ w. w ++ told) empty) appends)
+
+-- a source was loaded, and then it was told why it is no module if it was refused as one that is none
+pub load_said : (IsFile : List ℕ → List ℕ → Type 0) (joined : Bool) (a b : Wire) (s t u : Screen) (text name source sent line reply : List ℕ) (x y z : Option (List ℕ)) → IsTrimAscii text name → IsFile name source → sent ≡ source → ShowsOne a b s t (load_of sent) line → Shows t u [] → reply ≡ line → y ≡ x → (told : List ℕ) × TellsLoad (is_bad_source reply) name sent told × Appends y z told → (told : List ℕ) × Says a b s u (TakesTurn IsFile joined [] (load text) told end.GoesOn) × Appends x z told
+load_said IsFile joined a b s t u text name source sent line reply x y z trimmed is e h flush same given (told, tells, appends) =
+    let P : List ℕ → Type 0 = λ w. ShowsOne a b s t (load_of w) line in
+    let Q : List ℕ → Type 0 = λ w. TellsLoad (is_bad_source reply) name w told in
+    let R : List ℕ → Type 0 = λ w. TellsLoad (is_bad_source w) name source told in
+    let A : Option (List ℕ) → Type 0 = λ w. Appends w z told in
+    let one : ShowsOne a b s t (load_of source) line = subst P e h in (
+      told,
+      record {
+        exchanges = record { request = load_of source; reply = line ∷ [] } ∷ [];
+        lines = line ∷ [];
+        holds = (record { name = name; source = source; trimmed = trimmed; asks = inl (is, record { reply = line; asked = refl; shown_is = refl; tells = subst R same (subst Q e tells) }) }, refl);
+        made = one_exchange a b b (load_of source) line [] one.asks (hears_none b);
+        shows = flushed s t u (line ∷ []) (shows_one s t line one.shows) flush;
+      },
+      subst A given appends,
+    )
+
+pub load_lacks : (IsFile : List ℕ → List ℕ → Type 0) (joined : Bool) (a : Wire) (s : Screen) (text name : List ℕ) (x y : Option (List ℕ)) → IsTrimAscii text name → y ≡ x → (told : List ℕ) × Says a a s s (TakesTurn IsFile joined [] (load text) told end.LacksFile) × Appends x y told
+load_lacks IsFile joined a s text name x y trimmed same = (
+  [],
+  record {
+    exchanges = [];
+    lines = [];
+    holds = (record { name = name; source = []; trimmed = trimmed; asks = inr ((refl, refl), refl) }, refl);
+    made = no_exchange a;
+    shows = shows_none s;
+  },
+  untold_from x y same,
+)
+
+-- the same turn for the line that wants it
+pub same_turn : (IsFile : List ℕ → List ℕ → Type 0) (joined : Bool) (line told : List ℕ) (wanted is : Wanted) (e : TurnEnd) (a b : Wire) (s t : Screen) → is ≡ wanted → ((es : List Exchange) (lines : List (List ℕ)) → TakesTurn IsFile joined [] is told e es lines → TakesTurn IsFile joined line is told e es lines) → Says a b s t (TakesTurn IsFile joined [] is told e) → Says a b s t (TakesTurn IsFile joined line wanted told e)
+same_turn IsFile joined line told wanted is e a b s t same f h =
+    let Q : Wanted → Type 0 = λ w. Says a b s t (TakesTurn IsFile joined line w told e) in
+    subst Q same (says_more a b s t (TakesTurn IsFile joined [] is told e) (TakesTurn IsFile joined line is told e) f h)
 
 -- a turn for a line that wants this
-pub turn_said : (IsFile : List ℕ → List ℕ → Type 0) (joined : Bool) (line : List ℕ) (wanted is : Wanted) (a b : Wire) (s t : Screen) (P : List Exchange → List (List ℕ) → Type 0) → is ≡ wanted → ((es : List Exchange) (lines : List (List ℕ)) → P es lines → TakesTurn IsFile joined line is end.GoesOn es lines) → Says a b s t P → Says a b s t (TakesTurn IsFile joined line wanted end.GoesOn)
+pub turn_said : (IsFile : List ℕ → List ℕ → Type 0) (joined : Bool) (line : List ℕ) (wanted is : Wanted) (a b : Wire) (s t : Screen) (P : List Exchange → List (List ℕ) → Type 0) → is ≡ wanted → ((es : List Exchange) (lines : List (List ℕ)) → P es lines → TakesTurn IsFile joined line is [] end.GoesOn es lines) → Says a b s t P → Says a b s t (TakesTurn IsFile joined line wanted [] end.GoesOn)
 turn_said IsFile joined line wanted is a b s t P e f h =
-    let Q : Wanted → Type 0 = λ w. Says a b s t (TakesTurn IsFile joined line w end.GoesOn) in
-    subst Q e (says_more a b s t P (TakesTurn IsFile joined line is end.GoesOn) f h)
+    let Q : Wanted → Type 0 = λ w. Says a b s t (TakesTurn IsFile joined line w [] end.GoesOn) in
+    subst Q e (says_more a b s t P (TakesTurn IsFile joined line is [] end.GoesOn) f h)
 
 -- a turn in which pages are joined
-pub joined_turn : (IsFile : List ℕ → List ℕ → Type 0) (joined : Bool) (line told : List ℕ) (wanted : Wanted) (p : Page) (from : ℕ) (after : Option ℕ) (a b : Wire) (s t : Screen) → joined ≡ true → pages p from ≡ wanted → Says a b s t (AsksPagesTo p from after told) → Says a b s t (TakesTurn IsFile joined line wanted end.GoesOn)
+pub joined_turn : (IsFile : List ℕ → List ℕ → Type 0) (joined : Bool) (line told : List ℕ) (wanted : Wanted) (p : Page) (from : ℕ) (after : Option ℕ) (a b : Wire) (s t : Screen) → joined ≡ true → pages p from ≡ wanted → Says a b s t (AsksPagesTo p from after told) → Says a b s t (TakesTurn IsFile joined line wanted [] end.GoesOn)
 joined_turn IsFile joined line told wanted p from after a b s t j e h =
-    let Q : Bool → Type 0 = λ x. Says a b s t (TakesTurn IsFile x line wanted end.GoesOn) in
-    subst Q (sym j) (turn_said IsFile true line wanted (pages p from) a b s t (AsksPagesTo p from after told) e (λ es lines k. ((after, k.0), refl)) h)
+    let Q : Bool → Type 0 = λ x. Says a b s t (TakesTurn IsFile x line wanted [] end.GoesOn) in
+    subst Q (sym j) (turn_said IsFile true line wanted (pages p from) a b s t (AsksPagesTo p from after told) e (λ es lines k. (((after, k.0), refl), refl)) h)
+
+-- a turn in which one page is asked for
+pub page_turn : (IsFile : List ℕ → List ℕ → Type 0) (joined : Bool) (line told : List ℕ) (wanted : Wanted) (p : Page) (from : ℕ) (a b : Wire) (s t : Screen) → joined ≡ false → told ≡ line → pages p from ≡ wanted → Says a b s t (AsksList (written_line told)) → Says a b s t (TakesTurn IsFile joined line wanted [] end.GoesOn)
+page_turn IsFile joined line told wanted p from a b s t j same e h =
+    let P : List ℕ → Type 0 = λ x. Says a b s t (AsksList (written_line x)) in
+    let Q : Bool → Type 0 = λ x. Says a b s t (TakesTurn IsFile x line wanted [] end.GoesOn) in
+    subst Q (sym j) (turn_said IsFile false line wanted (pages p from) a b s t (AsksList (written_line line)) e (λ es lines k. ((k, refl), refl)) (subst P same h))
+
+-- a turn in which a list is asked for
+pub list_turn : (IsFile : List ℕ → List ℕ → Type 0) (joined : Bool) (line told : List ℕ) (wanted : Wanted) (a b : Wire) (s t : Screen) → told ≡ line → list ≡ wanted → Says a b s t (AsksList (written_line told)) → Says a b s t (TakesTurn IsFile joined line wanted [] end.GoesOn)
+list_turn IsFile joined line told wanted a b s t same e h =
+    let P : List ℕ → Type 0 = λ x. Says a b s t (AsksList (written_line x)) in
+    turn_said IsFile joined line wanted list a b s t (AsksList (written_line line)) e (λ es lines k. ((k, refl), refl)) (subst P same h)

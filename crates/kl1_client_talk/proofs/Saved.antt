@@ -81,30 +81,30 @@ pages_some : (a b : Wire) (k l : Screen) (line : List ℕ) (told : Option ℕ) (
 pages_some a b k l line told after e h = let P : Option ℕ → Type 0 = λ x. Says a b k l (AsksPagesTo (page.Journal MOST_LISTED) 1 x line) in subst P e h
 
 -- a page is refused
-pub save_refused : (IsFile : List ℕ → List ℕ → Type 0) (joined : Bool) (a b : Wire) (k l s t : Screen) (text name line told : List ℕ) (after : Option ℕ) → IsTrimAscii text name → Says a b k l (AsksPagesTo (page.Journal MOST_LISTED) 1 after line) → after ≡ None → told ≡ line → Shows s t (written_line told) → Says a b s t (TakesTurn IsFile joined [] (save text) end.GoesOn)
+pub save_refused : (IsFile : List ℕ → List ℕ → Type 0) (joined : Bool) (a b : Wire) (k l s t : Screen) (text name line told : List ℕ) (after : Option ℕ) → IsTrimAscii text name → Says a b k l (AsksPagesTo (page.Journal MOST_LISTED) 1 after line) → after ≡ None → told ≡ line → Shows s t (written_line told) → Says a b s t (TakesTurn IsFile joined [] (save text) [] end.GoesOn)
 save_refused IsFile joined a b k l s t text name line told after trimmed h e same shows =
     let P : List ℕ → Type 0 = λ x. Shows s t (written_line x) in
     let Q : Option ℕ → Type 0 = λ x. AsksPages (page.Journal MOST_LISTED) 1 x h.exchanges h.lines in
     record {
       exchanges = h.exchanges;
       lines = line ∷ [];
-      holds = (record { name = name; after = None; lines = h.lines; trimmed = trimmed; asks = subst Q e h.holds.0; shows = (line, h.holds.1 e, refl) }, refl);
+      holds = ((record { name = name; after = None; lines = h.lines; trimmed = trimmed; asks = subst Q e h.holds.0; shows = (line, h.holds.1 e, refl) }, refl), refl);
       made = h.made;
       shows = shows_one s t line (subst P same shows);
     }
 
 -- the file can't be written
-save_lacks : (IsFile : List ℕ → List ℕ → Type 0) (joined : Bool) (a b : Wire) (k l s : Screen) (text name line : List ℕ) (after : ℕ) → IsTrimAscii text name → Says a b k l (AsksPagesTo (page.Journal MOST_LISTED) 1 (Some after) line) → Says a b s s (TakesTurn IsFile joined [] (save text) end.LacksFile)
+save_lacks : (IsFile : List ℕ → List ℕ → Type 0) (joined : Bool) (a b : Wire) (k l s : Screen) (text name line : List ℕ) (after : ℕ) → IsTrimAscii text name → Says a b k l (AsksPagesTo (page.Journal MOST_LISTED) 1 (Some after) line) → Says a b s s (TakesTurn IsFile joined [] (save text) [] end.LacksFile)
 save_lacks IsFile joined a b k l s text name line after trimmed h = record {
   exchanges = h.exchanges;
   lines = [];
-  holds = (record { name = name; after = Some after; lines = h.lines; trimmed = trimmed; asks = h.holds.0; shows = inl refl }, refl);
+  holds = ((record { name = name; after = Some after; lines = h.lines; trimmed = trimmed; asks = h.holds.0; shows = inl refl }, refl), refl);
   made = h.made;
   shows = shows_none s;
 }
 
 -- the file is there
-save_keeps : (IsFile : List ℕ → List ℕ → Type 0) (joined : Bool) (a b : Wire) (k l s t : Screen) (text name line bytes : List ℕ) (after count : ℕ) → IsTrimAscii text name → Says a b k l (AsksPagesTo (page.Journal MOST_LISTED) 1 (Some after) line) → ((lines : List (List ℕ)) → Shows k l (written_lines lines) → bytes ≡ written_lines lines) → count ≡ after - 1 → IsFile name bytes → Shows s t (written_line (saved_line count)) → Says a b s t (TakesTurn IsFile joined [] (save text) end.GoesOn)
+save_keeps : (IsFile : List ℕ → List ℕ → Type 0) (joined : Bool) (a b : Wire) (k l s t : Screen) (text name line bytes : List ℕ) (after count : ℕ) → IsTrimAscii text name → Says a b k l (AsksPagesTo (page.Journal MOST_LISTED) 1 (Some after) line) → ((lines : List (List ℕ)) → Shows k l (written_lines lines) → bytes ≡ written_lines lines) → count ≡ after - 1 → IsFile name bytes → Shows s t (written_line (saved_line count)) → Says a b s t (TakesTurn IsFile joined [] (save text) [] end.GoesOn)
 save_keeps IsFile joined a b k l s t text name line bytes after count trimmed h kept counts is shows =
     let count_is : count ≡ length h.lines = counts ∙ sym (all_counted (page.Journal MOST_LISTED) after h.exchanges h.lines h.holds.0) in
     let P : List ℕ → Type 0 = λ x. IsFile name x in
@@ -112,17 +112,17 @@ save_keeps IsFile joined a b k l s t text name line bytes after count trimmed h 
     record {
       exchanges = h.exchanges;
       lines = saved_line (length h.lines) ∷ [];
-      holds = (record { name = name; after = Some after; lines = h.lines; trimmed = trimmed; asks = h.holds.0; shows = inr (subst P (kept h.lines h.shows) is, refl) }, refl);
+      holds = ((record { name = name; after = Some after; lines = h.lines; trimmed = trimmed; asks = h.holds.0; shows = inr (subst P (kept h.lines h.shows) is, refl) }, refl), refl);
       made = h.made;
       shows = shows_one s t (saved_line (length h.lines)) (subst Q count_is shows);
     }
 
 -- the journal came whole: it was written to what is empty at first, of which these bytes are all that is written
-pub save_ends : (IsFile : List ℕ → List ℕ → Type 0) (joined : Bool) (a b : Wire) (k l m s t : Screen) (text name line bytes : List ℕ) (after count : ℕ) (told : Option ℕ) (e : TurnEnd) → IsTrimAscii text name → Says a b k l (AsksPagesTo (page.Journal MOST_LISTED) 1 told line) → told ≡ Some after → (k.written ≡ Some []) × (k.waiting ≡ []) → Shows l m [] → m.waiting ≡ [] → ((whole : List ℕ) → m.written ≡ Some whole → bytes ≡ whole) → count ≡ after - 1 → Kept IsFile name bytes count s t e → Says a b s t (TakesTurn IsFile joined [] (save text) e)
+pub save_ends : (IsFile : List ℕ → List ℕ → Type 0) (joined : Bool) (a b : Wire) (k l m s t : Screen) (text name line bytes : List ℕ) (after count : ℕ) (told : Option ℕ) (e : TurnEnd) → IsTrimAscii text name → Says a b k l (AsksPagesTo (page.Journal MOST_LISTED) 1 told line) → told ≡ Some after → (k.written ≡ Some []) × (k.waiting ≡ []) → Shows l m [] → m.waiting ≡ [] → ((whole : List ℕ) → m.written ≡ Some whole → bytes ≡ whole) → count ≡ after - 1 → Kept IsFile name bytes count s t e → Says a b s t (TakesTurn IsFile joined [] (save text) [] e)
 save_ends IsFile joined a b k l m s t text name line bytes after count told end.GoesOn trimmed h some begins flush empty written counts kept =
     save_keeps IsFile joined a b k l s t text name line bytes after count trimmed (pages_some a b k l line told after some h) (λ lines shows. written (written_lines lines) (written_all k l m (written_lines lines) begins.0 begins.1 shows flush empty)) counts kept.0 kept.1
 save_ends IsFile joined a b k l m s t text name line bytes after count told end.LacksFile trimmed h some begins flush empty written counts kept =
-    let P : Screen → Type 0 = λ x. Says a b s x (TakesTurn IsFile joined [] (save text) end.LacksFile) in
+    let P : Screen → Type 0 = λ x. Says a b s x (TakesTurn IsFile joined [] (save text) [] end.LacksFile) in
     subst P (sym kept) (save_lacks IsFile joined a b k l s text name line after trimmed (pages_some a b k l line told after some h))
 save_ends IsFile joined a b k l m s t text name line bytes after count told end.StandsStill trimmed h some begins flush empty written counts kept = absurd kept
 save_ends IsFile joined a b k l m s t text name line bytes after count told end.Over trimmed h some begins flush empty written counts kept = absurd kept

@@ -42,11 +42,11 @@ last_asked : (shoen : ℕ) (a b c : Wire) (looks : List Look) (last : List ℕ) 
 last_asked shoen a b c looks last made asks = exchanges_both a b c (look_exchanges shoen looks) (status_exchange shoen last ∷ []) made (one_exchange b c c (status_line shoen) last [] asks (hears_none c))
 
 -- a wait that ends after these looks
-wait_made : (IsFile : List ℕ → List ℕ → Type 0) (joined : Bool) (shoen : ℕ) (seconds : Option ℕ) (e : TurnEnd) (a b c : Wire) (s t : Screen) (before ending : List Look) (last : List ℕ) → Exchanges a b (look_exchanges shoen (before ++ ending)) → list_all goes_on before ≡ true → WaitEnds seconds ending last → ShowsOne b c s t (status_line shoen) last → e ≡ wait_end last → Says a c s t (TakesTurn IsFile joined [] (wait shoen seconds) e)
+wait_made : (IsFile : List ℕ → List ℕ → Type 0) (joined : Bool) (shoen : ℕ) (seconds : Option ℕ) (e : TurnEnd) (a b c : Wire) (s t : Screen) (before ending : List Look) (last : List ℕ) → Exchanges a b (look_exchanges shoen (before ++ ending)) → list_all goes_on before ≡ true → WaitEnds seconds ending last → ShowsOne b c s t (status_line shoen) last → e ≡ wait_end last → Says a c s t (TakesTurn IsFile joined [] (wait shoen seconds) [] e)
 wait_made IsFile joined shoen seconds e a b c s t before ending last made go_on ends one is = record {
   exchanges = look_exchanges shoen (before ++ ending) ++ status_exchange shoen last ∷ [];
   lines = last ∷ [];
-  holds = (record { before = before; end = ending; last = last; asked = refl; go_on = go_on; ends = ends; shown_is = refl }, is);
+  holds = ((record { before = before; end = ending; last = last; asked = refl; go_on = go_on; ends = ends; shown_is = refl }, refl), is);
   made = last_asked shoen a b c (before ++ ending) last made one.asks;
   shows = shows_one s t last one.shows;
 }
@@ -66,7 +66,7 @@ over_end : (last : List ℕ) → is_over last ≡ true → end.GoesOn ≡ wait_e
 over_end last e = rw e refl
 
 -- the shoen has ended, or the question is refused
-pub wait_over : (IsFile : List ℕ → List ℕ → Type 0) (joined : Bool) (shoen : ℕ) (seconds : Option ℕ) (a b c : Wire) (s t : Screen) (last : List ℕ) → WaitsSoFar shoen a b → ShowsOne b c s t (status_line shoen) last → is_over last ≡ true → Says a c s t (TakesTurn IsFile joined [] (wait shoen seconds) end.GoesOn)
+pub wait_over : (IsFile : List ℕ → List ℕ → Type 0) (joined : Bool) (shoen : ℕ) (seconds : Option ℕ) (a b c : Wire) (s t : Screen) (last : List ℕ) → WaitsSoFar shoen a b → ShowsOne b c s t (status_line shoen) last → is_over last ≡ true → Says a c s t (TakesTurn IsFile joined [] (wait shoen seconds) [] end.GoesOn)
 wait_over IsFile joined shoen seconds a b c s t last w one e =
     wait_made IsFile joined shoen seconds end.GoesOn a b c s t w.looks [] last (none_more shoen a b w.looks w.made) w.go_on (over_ends seconds last e) one (over_end last e)
 
@@ -75,12 +75,12 @@ still_ends None status step last over still = (over, still)
 still_ends (Some n) status step last over still = (over, still)
 
 -- no step could be done
-pub wait_still : (IsFile : List ℕ → List ℕ → Type 0) (joined : Bool) (shoen : ℕ) (seconds : Option ℕ) (e : TurnEnd) (a b c d f : Wire) (s t : Screen) (status step last : List ℕ) → WaitsSoFar shoen a b → Asks b c (status_line shoen) status → Asks c d (written_line (codes "run 1")) step → is_over status ≡ false → is_still step ≡ true → ShowsOne d f s t (status_line shoen) last → e ≡ wait_end last → Says a f s t (TakesTurn IsFile joined [] (wait shoen seconds) e)
+pub wait_still : (IsFile : List ℕ → List ℕ → Type 0) (joined : Bool) (shoen : ℕ) (seconds : Option ℕ) (e : TurnEnd) (a b c d f : Wire) (s t : Screen) (status step last : List ℕ) → WaitsSoFar shoen a b → Asks b c (status_line shoen) status → Asks c d (written_line (codes "run 1")) step → is_over status ≡ false → is_still step ≡ true → ShowsOne d f s t (status_line shoen) last → e ≡ wait_end last → Says a f s t (TakesTurn IsFile joined [] (wait shoen seconds) [] e)
 wait_still IsFile joined shoen seconds e a b c d f s t status step last w asks steps over still one is =
     wait_made IsFile joined shoen seconds e a d f s t w.looks (record { status = status; step = step } ∷ []) last (look_made shoen a b c d w.looks status step w.made asks steps) w.go_on (still_ends seconds status step last over still) one is
 
 -- the seconds are over
-pub wait_late : (IsFile : List ℕ → List ℕ → Type 0) (joined : Bool) (shoen : ℕ) (seconds : Option ℕ) (e : TurnEnd) (a b c : Wire) (s t : Screen) (last : List ℕ) (late : Bool) → WaitsSoFar shoen a b → (seconds ≡ None → late ≡ false) → late ≡ true → ShowsOne b c s t (status_line shoen) last → e ≡ wait_end last → Says a c s t (TakesTurn IsFile joined [] (wait shoen seconds) e)
+pub wait_late : (IsFile : List ℕ → List ℕ → Type 0) (joined : Bool) (shoen : ℕ) (seconds : Option ℕ) (e : TurnEnd) (a b c : Wire) (s t : Screen) (last : List ℕ) (late : Bool) → WaitsSoFar shoen a b → (seconds ≡ None → late ≡ false) → late ≡ true → ShowsOne b c s t (status_line shoen) last → e ≡ wait_end last → Says a c s t (TakesTurn IsFile joined [] (wait shoen seconds) [] e)
 wait_late IsFile joined shoen seconds e a b c s t last late w h is_late one is =
     wait_made IsFile joined shoen seconds e a b c s t w.looks [] last (none_more shoen a b w.looks w.made) w.go_on (late_ends seconds last late h is_late) one is
 

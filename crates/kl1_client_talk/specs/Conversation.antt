@@ -7,10 +7,12 @@ use Rattle.kl1_model_server.specs.Command.{written_line, written_lines}
 use Rattle.kl1_client_talk.specs.declared.request.Page.{Page}
 use Rattle.kl1_client_talk.specs.declared.request.Page.TheVariants as page
 use Rattle.std.specs.Str.{IsTrimAscii}
+use Rattle.std.specs.Io.KnownBytes.{Appends}
+use Rattle.kl1_reasons.specs.Told.{TellsReasons}
 use Rattle.kl1_client_talk.specs.declared.turn_end.TurnEnd.{TurnEnd}
 use Rattle.kl1_client_talk.specs.declared.turn_end.TurnEnd.TheVariants as end
 use Rattle.kl1_client_talk.specs.Request.{load_of, page_line, status_line}
-use Rattle.kl1_client_talk.specs.Reply.{is_refusal, count_in, has_ended, is_over, is_still, is_bye}
+use Rattle.kl1_client_talk.specs.Reply.{is_refusal, is_bad_source, count_in, has_ended, is_over, is_still, is_bye}
 use Rattle.kl1_client_talk.specs.UserCommand.{Wanted, nothing, help, load, save, wait, watch, pages, list, logout, quit, one_line, wanted_in}
 use Rattle.kl1_client_talk.specs.Exchanges.{Exchange, Exchanges, Wire, Screen, Hears, Shows}
 use Rattle.kl1_client_talk.specs.Given.{GivesLines, IsAllGiven}
@@ -199,13 +201,25 @@ pub record AsksList (request : List ℕ) (es : List Exchange) (shown : List (Lis
 abbrev pub AsksNothing : List Exchange → List (List ℕ) → Type 0
 AsksNothing es shown = (es ≡ []) × (shown ≡ [])
 
+-- what is told after the load of a file's source, by whether it is refused as no module: why it is none, or nothing
+abbrev pub TellsLoad : Bool → List ℕ → List ℕ → List ℕ → Type 0
+TellsLoad true name source told = TellsReasons name source told
+TellsLoad false name source told = told ≡ []
+
+-- a source of a file was loaded: the reply is shown, and what there is to tell is told
+pub record LoadsFile (name source told : List ℕ) (es : List Exchange) (shown : List (List ℕ)) : Type 0 where
+  pub reply : List ℕ
+  pub asked : es ≡ record { request = load_of source; reply = reply ∷ [] } ∷ []
+  pub shown_is : shown ≡ reply ∷ []
+  pub tells : TellsLoad (is_bad_source reply) name source told
+
 -- a file whose name is in this was asked for: it was loaded, or it couldn't be read, and then nothing was asked. `IsFile` tells whether
 -- a file of a name may have these bytes
-pub record AsksLoad (IsFile : List ℕ → List ℕ → Type 0) (text : List ℕ) (es : List Exchange) (shown : List (List ℕ)) : Type 0 where
+pub record AsksLoad (IsFile : List ℕ → List ℕ → Type 0) (text told : List ℕ) (es : List Exchange) (shown : List (List ℕ)) : Type 0 where
   pub name : List ℕ
   pub source : List ℕ
   pub trimmed : IsTrimAscii text name
-  pub asks : (IsFile name source × AsksOne (load_of source) es shown) ⊎ AsksNothing es shown
+  pub asks : (IsFile name source × LoadsFile name source told es shown) ⊎ (AsksNothing es shown × (told ≡ []))
 
 -- the exchange of a logout
 pub record IsLogout (es : List Exchange) : Type 0 where
@@ -231,20 +245,20 @@ pub record AsksSave (IsFile : List ℕ → List ℕ → Type 0) (text : List ℕ
   pub asks : AsksPages (page.Journal MOST_LISTED) 1 after es lines
   pub shows : ShowsSaved IsFile name after lines shown
 
--- what is asked for a line of the user, and what is shown of it; `joined` tells whether pages are joined
-abbrev pub AsksWanted : (List ℕ → List ℕ → Type 0) → Bool → List ℕ → Wanted → List Exchange → List (List ℕ) → Type 0
-AsksWanted IsFile joined line nothing es shown = AsksNothing es shown
-AsksWanted IsFile joined line (load text) es shown = AsksLoad IsFile text es shown
-AsksWanted IsFile joined line (help topic) es shown = AsksNothing es shown
-AsksWanted IsFile joined line (save text) es shown = AsksSave IsFile text es shown
-AsksWanted IsFile joined line (wait shoen seconds) es shown = Waits shoen seconds es shown
-AsksWanted IsFile joined line (watch shoen) es shown = Watches shoen es shown
-AsksWanted IsFile true line (pages p from) es shown = (after : Option ℕ) × AsksPages p from after es shown
-AsksWanted IsFile false line (pages p from) es shown = AsksList (written_line line) es shown
-AsksWanted IsFile joined line list es shown = AsksList (written_line line) es shown
-AsksWanted IsFile joined line logout es shown = AsksOne (written_line line) es shown
-AsksWanted IsFile joined line quit es shown = IsLogout es × (shown ≡ [])
-AsksWanted IsFile joined line one_line es shown = AsksOne (written_line line) es shown
+-- what is asked for a line of the user, what is shown of it, and what is told besides; `joined` tells whether pages are joined
+abbrev pub AsksWanted : (List ℕ → List ℕ → Type 0) → Bool → List ℕ → Wanted → List ℕ → List Exchange → List (List ℕ) → Type 0
+AsksWanted IsFile joined line nothing told es shown = AsksNothing es shown × (told ≡ [])
+AsksWanted IsFile joined line (load text) told es shown = AsksLoad IsFile text told es shown
+AsksWanted IsFile joined line (help topic) told es shown = AsksNothing es shown × (told ≡ [])
+AsksWanted IsFile joined line (save text) told es shown = AsksSave IsFile text es shown × (told ≡ [])
+AsksWanted IsFile joined line (wait shoen seconds) told es shown = Waits shoen seconds es shown × (told ≡ [])
+AsksWanted IsFile joined line (watch shoen) told es shown = Watches shoen es shown × (told ≡ [])
+AsksWanted IsFile true line (pages p from) told es shown = ((after : Option ℕ) × AsksPages p from after es shown) × (told ≡ [])
+AsksWanted IsFile false line (pages p from) told es shown = AsksList (written_line line) es shown × (told ≡ [])
+AsksWanted IsFile joined line list told es shown = AsksList (written_line line) es shown × (told ≡ [])
+AsksWanted IsFile joined line logout told es shown = AsksOne (written_line line) es shown × (told ≡ [])
+AsksWanted IsFile joined line quit told es shown = (IsLogout es × (shown ≡ [])) × (told ≡ [])
+AsksWanted IsFile joined line one_line told es shown = AsksOne (written_line line) es shown × (told ≡ [])
 
 -- whether a farewell is shown
 abbrev pub is_farewell : List (List ℕ) → Bool
@@ -285,9 +299,9 @@ turn_end (pages p from) es shown = end.GoesOn
 turn_end list es shown = end.GoesOn
 turn_end one_line es shown = end.GoesOn
 
--- what is asked and shown for a line of the user, with how the turn ends
-abbrev pub TakesTurn : (List ℕ → List ℕ → Type 0) → Bool → List ℕ → Wanted → TurnEnd → List Exchange → List (List ℕ) → Type 0
-TakesTurn IsFile joined line wanted e es shown = AsksWanted IsFile joined line wanted es shown × (e ≡ turn_end wanted es shown)
+-- what is asked, shown and told for a line of the user, with how the turn ends
+abbrev pub TakesTurn : (List ℕ → List ℕ → Type 0) → Bool → List ℕ → Wanted → List ℕ → TurnEnd → List Exchange → List (List ℕ) → Type 0
+TakesTurn IsFile joined line wanted told e es shown = AsksWanted IsFile joined line wanted told es shown × (e ≡ turn_end wanted es shown)
 
 -- these bytes were kept as the file of this name, and their number of lines is shown; or the file can't be written
 abbrev pub Kept : (List ℕ → List ℕ → Type 0) → List ℕ → List ℕ → ℕ → Screen → Screen → TurnEnd → Type 0
@@ -298,11 +312,12 @@ Kept IsFile name bytes count before after end.Over = ⊥
 
 -- ---- a talk
 
--- a line of the user, and what is asked and shown for it
+-- a line of the user, and what is asked, shown and told for it
 pub record Turn : Type 0 where
   pub line : List ℕ
   pub exchanges : List Exchange
   pub shown : List (List ℕ)
+  pub told : List ℕ
 
 -- what is asked in turns
 abbrev pub asked_in : List Turn → List Exchange
@@ -313,6 +328,11 @@ asked_in (t ∷ ts) = t.exchanges ++ asked_in ts
 abbrev pub shown_in : List Turn → List (List ℕ)
 shown_in [] = []
 shown_in (t ∷ ts) = t.shown ++ shown_in ts
+
+-- what is told in them
+abbrev pub told_in : List Turn → List ℕ
+told_in [] = []
+told_in (t ∷ ts) = t.told ++ told_in ts
 
 -- how a turn ends
 abbrev pub end_of : Turn → TurnEnd
@@ -342,7 +362,7 @@ is_over_at end.StandsStill = false
 -- each turn is what its line wants
 abbrev pub AreTurns : (List ℕ → List ℕ → Type 0) → Bool → List Turn → Type 0
 AreTurns IsFile joined [] = Unit {0}
-AreTurns IsFile joined (t ∷ ts) = AsksWanted IsFile joined (without_return t.line) (wanted_in t.line) t.exchanges t.shown × AreTurns IsFile joined ts
+AreTurns IsFile joined (t ∷ ts) = AsksWanted IsFile joined (without_return t.line) (wanted_in t.line) t.told t.exchanges t.shown × AreTurns IsFile joined ts
 
 -- no turn but the last ends the talk, and this tells whether the last does
 abbrev pub IsOverAtLast : List Turn → Bool → Type 0
@@ -356,7 +376,7 @@ EndsBy given true es = es ≡ []
 EndsBy given false es = IsAllGiven given × IsLogout es
 
 -- the lines of the user were answered in turns, one after another, of which only the last may have ended the talk
-pub record TakesTurns (IsFile : List ℕ → List ℕ → Type 0) (joined : Bool) (given given' : Option (List (List ℕ))) (old new : Wire) (before after : Screen) (lacked still : Bool) : Type 0 where
+pub record TakesTurns (IsFile : List ℕ → List ℕ → Type 0) (joined : Bool) (given given' : Option (List (List ℕ))) (told told' : Option (List ℕ)) (old new : Wire) (before after : Screen) (lacked still : Bool) : Type 0 where
   pub turns : List Turn
   pub is_over : Bool
   pub farewell : List Exchange
@@ -366,20 +386,21 @@ pub record TakesTurns (IsFile : List ℕ → List ℕ → Type 0) (joined : Bool
   pub ends : EndsBy given' is_over farewell
   pub made : Exchanges old new (asked_in turns ++ farewell)
   pub shows : Shows before after (written_lines (shown_in turns))
+  pub tells : Appends told told' (told_in turns)
   pub lacks : lacked ≡ list_any (λ t. lacks_file (end_of t)) turns
   pub stands : still ≡ list_any (λ t. stands_still (end_of t)) turns
   pub written : before.waiting ≡ [] → after.waiting ≡ []
 
 -- what follows the reply to a login, by whether that is a refusal: it is shown, and nothing is asked; or the lines of the user are answered
-abbrev pub FollowsLogin : (List ℕ → List ℕ → Type 0) → Bool → List ℕ → Option (List (List ℕ)) → Option (List (List ℕ)) → Wire → Wire → Screen → Screen → Bool → Bool → Bool → Type 0
-FollowsLogin IsFile joined reply given given' old new before after lacked still true =
-    (given' ≡ given) × (new ≡ old) × Shows before after (written_line reply) × (after.waiting ≡ []) × (lacked ≡ false) × (still ≡ false)
-FollowsLogin IsFile joined reply given given' old new before after lacked still false = TakesTurns IsFile joined given given' old new before after lacked still
+abbrev pub FollowsLogin : (List ℕ → List ℕ → Type 0) → Bool → List ℕ → Option (List (List ℕ)) → Option (List (List ℕ)) → Option (List ℕ) → Option (List ℕ) → Wire → Wire → Screen → Screen → Bool → Bool → Bool → Type 0
+FollowsLogin IsFile joined reply given given' told told' old new before after lacked still true =
+    (given' ≡ given) × (told' ≡ told) × (new ≡ old) × Shows before after (written_line reply) × (after.waiting ≡ []) × (lacked ≡ false) × (still ≡ false)
+FollowsLogin IsFile joined reply given given' told told' old new before after lacked still false = TakesTurns IsFile joined given given' told told' old new before after lacked still
 
 -- a login was asked for and answered, and what follows it was done
-pub record Talks (IsFile : List ℕ → List ℕ → Type 0) (joined : Bool) (login : List ℕ) (given given' : Option (List (List ℕ))) (old new : Wire) (before after : Screen) (summary : TalkSummary) : Type 0 where
+pub record Talks (IsFile : List ℕ → List ℕ → Type 0) (joined : Bool) (login : List ℕ) (given given' : Option (List (List ℕ))) (told told' : Option (List ℕ)) (old new : Wire) (before after : Screen) (summary : TalkSummary) : Type 0 where
   pub reply : List ℕ
   pub welcomed : Wire
   pub asks : Exchanges old welcomed (record { request = login; reply = reply ∷ [] } ∷ [])
-  pub follows : FollowsLogin IsFile joined reply given given' welcomed new before after summary.lacked_file summary.stood_still (is_refusal reply)
+  pub follows : FollowsLogin IsFile joined reply given given' told told' welcomed new before after summary.lacked_file summary.stood_still (is_refusal reply)
   pub refused : summary.was_refused ≡ new.was_refused

@@ -1,5 +1,6 @@
 -- What the first lines of replies tell.
-use Rattle.std.specs.Prelude.{ℕ, nat_eq, List, Bool, Option, None, bytes_eq, codes, ◌||◌, if◌then◌else◌}
+use Rattle.std.specs.Prelude.{ℕ, nat_eq, List, Bool, false, Option, Some, None, bytes_eq, codes, ◌||◌, if◌then◌else◌}
+use Rattle.kl1_client_talk.specs.declared.reply.TheConstants.{BAD_SOURCE}
 use Rattle.std.specs.List.{starts_with}
 use Rattle.kl1_model.specs.Line.{word_in, behind_word_in, number_in, only_number}
 
@@ -10,6 +11,15 @@ is_refusal line = bytes_eq (word_in line) (codes "-")
 -- the number of a refusal
 abbrev pub refusal_in : List ℕ → Option ℕ
 refusal_in line = if is_refusal line then number_in (word_in (behind_word_in line)) else None
+
+-- whether the number of a refusal is that of a source that is no module
+abbrev pub is_bad_source_by : Option ℕ → Bool
+is_bad_source_by None = false
+is_bad_source_by (Some number) = nat_eq number BAD_SOURCE
+
+-- a reply refuses a source, which is no module
+abbrev pub is_bad_source : List ℕ → Bool
+is_bad_source line = is_bad_source_by (refusal_in line)
 
 -- the number after a plus sign, if it is all that is there
 abbrev pub count_in : List ℕ → Option ℕ

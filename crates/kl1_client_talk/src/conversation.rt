@@ -1,9 +1,11 @@
 // A whole talk.
 
-ghost use Rattle.std.specs.Prelude.{◌≡◌, [], codes, OnOk, IfOk};
+ghost use Rattle.std.specs.Prelude.{◌≡◌, [], codes, List, ℕ, OnOk, IfOk};
+ghost use Rattle.std.specs.Io.KnownBytes.{Appends};
 ghost use Rattle.kl1_model.specs.Line.{without_return};
 ghost use Rattle.kl1_client_talk.specs.Exchanges.{wire, screen, Asks, Says};
-ghost use Rattle.kl1_client_talk.specs.Conversation.{TakesTurn, TakesTurns, Talks};
+ghost use Rattle.kl1_client_talk.specs.Conversation.{TakesTurn, TakesTurns, Talks, TellsLoad};
+ghost use Rattle.kl1_client_talk.specs.Reply.{is_bad_source};
 ghost use Rattle.kl1_client_talk.specs.UserCommand.{wanted_in, load};
 ghost use Rattle.kl1_client_talk.specs.Request.{login_line};
 ghost use Rattle.kl1_model_server.specs.Command.{written_line};
@@ -12,7 +14,7 @@ use crate::caller::Caller;
 use crate::connection::Connection;
 use crate::fault::Fault;
 use crate::listing::{ask_list, ask_one, ask_pages};
-use crate::reply::{is_bye, is_refusal};
+use crate::reply::{is_bad_source, is_bye, is_refusal};
 use crate::reply_writer::ReplyWriter;
 use crate::request::Request;
 use crate::saving::save;
@@ -21,6 +23,7 @@ use crate::turn_end::TurnEnd;
 use crate::user_command::{UserCommand, command_in};
 use crate::watching::{wait, watch};
 use kl1_lines::{Sink, Source, without_return};
+use kl1_reasons::{NamedText, put_reasons};
 use std::alloc::Global;
 
 /// Logs in to the account, asks for what the caller's lines ask for, one after another, shows the replies, and logs out. The reply to
@@ -33,7 +36,7 @@ pub fn talk<S: Source, T: Sink, O: Sink, C: Caller>(
     name: &[u8],
     key: &[u8],
 ) -> Result<TalkSummary, Fault>
-    ensures ok { IfOk result (λ s. Talks C.is_file shown.old.are_pages_joined (login_line name.now key.now) (C.remaining caller.old) (C.remaining caller.new) (wire T.contents S.remaining connection.old) (wire T.contents S.remaining connection.new) (screen O.contents shown.old) (screen O.contents shown.new) s) }
+    ensures ok { IfOk result (λ s. Talks C.is_file shown.old.are_pages_joined (login_line name.now key.now) (C.remaining caller.old) (C.remaining caller.new) (C.told caller.old) (C.told caller.new) (wire T.contents S.remaining connection.old) (wire T.contents S.remaining connection.new) (screen O.contents shown.old) (screen O.contents shown.new) s) }
 {
     connection.ask(Request::Login(name, key))?;
     let first = connection.line();
@@ -64,7 +67,7 @@ fn take_turns<S: Source, T: Sink, O: Sink, C: Caller>(
     shown: &mut ReplyWriter<O>,
     caller: &mut C,
 ) -> Result<(bool, bool), Fault>
-    ensures ok { IfOk result (λ r. TakesTurns C.is_file shown.old.are_pages_joined (C.remaining caller.old) (C.remaining caller.new) (wire T.contents S.remaining connection.old) (wire T.contents S.remaining connection.new) (screen O.contents shown.old) (screen O.contents shown.new) r.0 r.1) }
+    ensures ok { IfOk result (λ r. TakesTurns C.is_file shown.old.are_pages_joined (C.remaining caller.old) (C.remaining caller.new) (C.told caller.old) (C.told caller.new) (wire T.contents S.remaining connection.old) (wire T.contents S.remaining connection.new) (screen O.contents shown.old) (screen O.contents shown.new) r.0 r.1) }
 {
     let mut line = Vec::new(alloc);
     let mut lacked_file = false;
@@ -102,7 +105,7 @@ fn take_turn<S: Source, T: Sink, O: Sink, C: Caller>(
     caller: &mut C,
     line: &[u8],
 ) -> Result<TurnEnd, Fault>
-    ensures ok { IfOk result (λ end. Says (wire T.contents S.remaining connection.old) (wire T.contents S.remaining connection.new) (screen O.contents shown.old) (screen O.contents shown.new) (TakesTurn C.is_file shown.old.are_pages_joined (without_return line.now) (wanted_in line.now) end)) }
+    ensures ok { IfOk result (λ end. (told : List ℕ) × Says (wire T.contents S.remaining connection.old) (wire T.contents S.remaining connection.new) (screen O.contents shown.old) (screen O.contents shown.new) (TakesTurn C.is_file shown.old.are_pages_joined (without_return line.now) (wanted_in line.now) told end) × Appends (C.told caller.old) (C.told caller.new) told) }
     ensures joined { shown.new.are_pages_joined ≡ shown.old.are_pages_joined }
     ensures caller { C.remaining caller.new ≡ C.remaining caller.old }
 {
@@ -161,17 +164,38 @@ fn load<S: Source, T: Sink, O: Sink, C: Caller>(
     caller: &mut C,
     text: &[u8],
 ) -> Result<TurnEnd, Fault>
-    ensures ok { IfOk result (λ end. Says (wire T.contents S.remaining connection.old) (wire T.contents S.remaining connection.new) (screen O.contents shown.old) (screen O.contents shown.new) (TakesTurn C.is_file shown.old.are_pages_joined [] (load text.now) end)) }
+    ensures ok { IfOk result (λ end. (told : List ℕ) × Says (wire T.contents S.remaining connection.old) (wire T.contents S.remaining connection.new) (screen O.contents shown.old) (screen O.contents shown.new) (TakesTurn C.is_file shown.old.are_pages_joined [] (load text.now) told end) × Appends (C.told caller.old) (C.told caller.new) told) }
     ensures joined { shown.new.are_pages_joined ≡ shown.old.are_pages_joined }
     ensures caller { C.remaining caller.new ≡ C.remaining caller.old }
 {
     let mut source = Vec::new(alloc);
     let name = text.trim_ascii();
     let found = caller.file(name, &mut source)?;
-    if found {
-        ask_one(connection, shown, Request::Load(source.as_slice()))?;
-        Ok(TurnEnd::GoesOn)
-    } else {
-        Ok(TurnEnd::LacksFile)
+    if !found {
+        return Ok(TurnEnd::LacksFile);
     }
+    let text = source.as_slice();
+    ask_one(connection, shown, Request::Load(text))?;
+    shown.flush()?;
+    explain(alloc, caller, NamedText { name, text }, connection.line())?;
+    Ok(TurnEnd::GoesOn)
+}
+
+/// Has the caller told why a file is no module, if it was refused as one that is none.
+fn explain<C: Caller>(
+    alloc: Global,
+    caller: &mut C,
+    file: NamedText<'_>,
+    reply: &[u8],
+) -> Result<(), Fault>
+    ensures told { OnOk result ((told : List ℕ) × TellsLoad (is_bad_source reply.now) file.entry.name.now file.entry.text.now told × Appends (C.told caller.old) (C.told caller.new) told) }
+    ensures caller { C.remaining caller.new ≡ C.remaining caller.old }
+{
+    if !is_bad_source(reply) {
+        return Ok(());
+    }
+    let mut lines = Vec::new(alloc);
+    let _is_refused = put_reasons(alloc, file, &mut lines)?;
+    caller.explain(lines.as_slice());
+    Ok(())
 }

@@ -23,7 +23,7 @@ pub use fault::Fault;
 pub use kl1_lines::{DeviceFailed, FailureCounter, Sink, Source};
 pub use kl1_model::limits::MOST_SOURCE_BYTES;
 pub use line_reader::{LineReader, MOST_LINE_BYTES};
-pub use reply::{count_in, has_ended, is_refusal, refusal_in};
+pub use reply::{count_in, has_ended, is_bad_source, is_refusal, refusal_in};
 pub use reply_writer::ReplyWriter;
 pub use request::{Page, Request};
 pub use summary::{ALL_WELL, BAD_WORDS, REFUSED, STOOD_STILL, TROUBLE, TalkSummary, status_of};

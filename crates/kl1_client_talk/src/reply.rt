@@ -1,9 +1,12 @@
 // The first line of a reply.
 
 ghost use Rattle.std.specs.Prelude.{◌≡◌};
-ghost use Rattle.kl1_client_talk.specs.Reply.{count_in, has_ended, is_bye, is_over, is_refusal, is_still, refusal_in};
+ghost use Rattle.kl1_client_talk.specs.Reply.{count_in, has_ended, is_bad_source, is_bye, is_over, is_refusal, is_still, refusal_in};
 
 use kl1_lines::{is_same, number_in, only_number, split_word};
+
+/// The number of the refusal of a source that is no module.
+const BAD_SOURCE: u64 = 2;
 
 /// Whether a reply is a refusal, by its first line.
 pub fn is_refusal(line: &[u8]) -> bool
@@ -23,6 +26,16 @@ pub fn refusal_in(line: &[u8]) -> Option<u64>
     let (_, rest) = split_word(line);
     let (number, _) = split_word(rest);
     number_in(number)
+}
+
+/// Whether a reply is the refusal of a source that is no module.
+pub fn is_bad_source(line: &[u8]) -> bool
+    ensures { result ≡ is_bad_source line.now }
+{
+    match refusal_in(line) {
+        Some(number) => number == BAD_SOURCE,
+        None => false,
+    }
 }
 
 /// How many lines come after the first one of a reply that lists lines; `None` if it lists none.

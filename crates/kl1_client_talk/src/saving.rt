@@ -24,9 +24,10 @@ pub(crate) fn save<S: Source, T: Sink, O: Sink, C: Caller>(
     caller: &mut C,
     text: &[u8],
 ) -> Result<TurnEnd, Fault>
-    ensures ok { IfOk result (λ end. Says (wire T.contents S.remaining connection.old) (wire T.contents S.remaining connection.new) (screen O.contents shown.old) (screen O.contents shown.new) (TakesTurn C.is_file shown.old.are_pages_joined [] (save text.now) end)) }
+    ensures ok { IfOk result (λ end. Says (wire T.contents S.remaining connection.old) (wire T.contents S.remaining connection.new) (screen O.contents shown.old) (screen O.contents shown.new) (TakesTurn C.is_file shown.old.are_pages_joined [] (save text.now) [] end)) }
     ensures joined { shown.new.are_pages_joined ≡ shown.old.are_pages_joined }
     ensures caller { C.remaining caller.new ≡ C.remaining caller.old }
+    ensures told { C.told caller.new ≡ C.told caller.old }
 {
     let name = text.trim_ascii();
     let bytes = Vec::new(alloc);
@@ -69,6 +70,7 @@ fn keep<O: Sink, C: Caller>(
     ensures ok { IfOk result (λ end. Kept C.is_file name.now bytes.now count (screen O.contents shown.old) (screen O.contents shown.new) end) }
     ensures joined { shown.new.are_pages_joined ≡ shown.old.are_pages_joined }
     ensures caller { C.remaining caller.new ≡ C.remaining caller.old }
+    ensures told { C.told caller.new ≡ C.told caller.old }
 {
     let is_kept = caller.save(name, bytes)?;
     if !is_kept {

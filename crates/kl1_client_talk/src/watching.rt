@@ -26,9 +26,10 @@ pub(crate) fn wait<S: Source, T: Sink, O: Sink, C: Caller>(
     shoen: u64,
     seconds: Option<u64>,
 ) -> Result<TurnEnd, Fault>
-    ensures ok { IfOk result (λ end. Says (wire T.contents S.remaining connection.old) (wire T.contents S.remaining connection.new) (screen O.contents shown.old) (screen O.contents shown.new) (TakesTurn C.is_file shown.old.are_pages_joined [] (wait shoen seconds) end)) }
+    ensures ok { IfOk result (λ end. Says (wire T.contents S.remaining connection.old) (wire T.contents S.remaining connection.new) (screen O.contents shown.old) (screen O.contents shown.new) (TakesTurn C.is_file shown.old.are_pages_joined [] (wait shoen seconds) [] end)) }
     ensures joined { shown.new.are_pages_joined ≡ shown.old.are_pages_joined }
     ensures caller { C.remaining caller.new ≡ C.remaining caller.old }
+    ensures told { C.told caller.new ≡ C.told caller.old }
 {
     for looks in 1..u64::MAX {
         connection.ask(Request::Status(shoen))?;
@@ -85,6 +86,7 @@ pub(crate) fn watch<S: Source, T: Sink, O: Sink, C: Caller>(
     ensures ok { OnOk result (Says (wire T.contents S.remaining connection.old) (wire T.contents S.remaining connection.new) (screen O.contents shown.old) (screen O.contents shown.new) (Watches shoen)) }
     ensures joined { shown.new.are_pages_joined ≡ shown.old.are_pages_joined }
     ensures caller { C.remaining caller.new ≡ C.remaining caller.old }
+    ensures told { C.told caller.new ≡ C.told caller.old }
 {
     let mut next = 1;
     for looks in 1..u64::MAX {

@@ -1,8 +1,8 @@
 -- How many lines a text has.
 use Rattle.std.specs.Prelude.{◌≡◌, ℕ, zero, suc, ◌+◌, ◌≤◌, ◌==◌, Bool, true, false, if◌then◌else◌, List, [], ◌∷◌, ◌++◌, take, drop}
-use Rattle.std.proofs.Common.{refl, ap, sym, ◌∙◌, arith}
+use Rattle.std.proofs.Common.{refl, ap, ◌∙◌, arith}
 use Rattle.kl1_reasons_items.specs.declared.place.Place.{Place}
-use Rattle.kl1_reasons_items.specs.Places.{next_place, place_behind}
+use Rattle.kl1_reasons_items.specs.Places.{place_behind}
 use Rattle.kl1_reasons.specs.Reasons.{line_feeds}
 
 -- how many line feeds there are among bytes

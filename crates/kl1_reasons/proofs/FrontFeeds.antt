@@ -1,6 +1,6 @@
 -- What is after the front of a text has no more line feeds than the text, and one less after the end of a line.
-use Rattle.std.specs.Prelude.{◌≡◌, ℕ, zero, suc, ◌≤◌, ◌==◌, ◌||◌, nat_le, Bool, true, false, if◌then◌else◌, List, [], ◌∷◌, ◌++◌, length, drop, Option, Some, None}
-use Rattle.std.proofs.Common.{refl, subst, sym, arith}
+use Rattle.std.specs.Prelude.{ℕ, zero, suc, ◌≤◌, ◌==◌, ◌||◌, nat_le, Bool, true, false, if◌then◌else◌, List, [], ◌∷◌, ◌++◌, length, drop, Option, Some, None}
+use Rattle.std.proofs.Common.{arith}
 use Rattle.kl1_model.specs.declared.sign.Sign.{Sign}
 use Rattle.kl1_model.specs.declared.sign.Sign.TheVariants.{Neck}
 use Rattle.kl1_model.specs.Text.{is_name_byte, behind_leading}

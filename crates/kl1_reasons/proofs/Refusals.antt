@@ -1,6 +1,6 @@
 -- There are reasons exactly if a source is refused.
-use Rattle.std.specs.Prelude.{◌≡◌, ℕ, zero, suc, ◌<◌, ◌==◌, nat_le, not, ◌&&◌, Bool, true, false, List, [], ◌∷◌, length, Option, None}
-use Rattle.std.proofs.Common.{refl, ap, sym, ◌∙◌, arith}
+use Rattle.std.specs.Prelude.{◌≡◌, ℕ, zero, suc, ◌<◌, ◌==◌, nat_le, not, ◌&&◌, Bool, true, false, List, [], ◌∷◌, length, None}
+use Rattle.std.proofs.Common.{ap, sym, ◌∙◌, arith}
 use Rattle.std.proofs.Math.Dec.{eqb-suc-zero}
 use Rattle.kl1_model.specs.declared.limits.TheConstants.{MOST_SOURCE_BYTES}
 use Rattle.kl1_model.specs.Module.{read_module}

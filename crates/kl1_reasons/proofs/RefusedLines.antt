@@ -1,10 +1,10 @@
 -- A line that the reader names is one of the text.
-use Rattle.std.specs.Prelude.{◌≡◌, ℕ, suc, ◌+◌, ◌≤◌, ◌==◌, ◌&&◌, Bool, true, false, if◌then◌else◌, List, [], ◌∷◌, ◌++◌, length, take, drop, codes, Option, Some, None, is_some, is_none, option_and_then}
-use Rattle.std.proofs.Common.{refl, ap, sym, ◌∙◌, subst, arith}
-use Rattle.kl1_model.specs.Token.{Token, Tokens, tokens_of_text}
+use Rattle.std.specs.Prelude.{◌≡◌, ℕ, suc, ◌+◌, ◌≤◌, ◌&&◌, Bool, true, false, if◌then◌else◌, List, [], ◌∷◌, ◌++◌, length, take, drop, codes, Option, Some, None, is_some, is_none, option_and_then}
+use Rattle.std.proofs.Common.{refl, ap, subst, arith}
+use Rattle.kl1_model.specs.Token.{tokens_of_text}
 use Rattle.kl1_model.specs.Module.{Clause, Module, Reading, good, bad, Item, named_module, clause_of, last_of, with_clause, is_otherwise, items_of, clauses_from, module_of_items, read_module}
 use Rattle.kl1_reasons_items.specs.Places.{HasLine}
-use Rattle.kl1_reasons_items.specs.Places.{first_place, place_behind}
+use Rattle.kl1_reasons_items.specs.Places.{first_place}
 use Rattle.kl1_reasons.specs.Reasons.{line_feeds, text_from}
 use Rattle.kl1_reasons.proofs.Feeds.{feeds, line_behind, feeds_append, feeds_filtered, feeds_split}
 use Rattle.kl1_reasons.proofs.TokenLines.{IsBetween, IsOneBetween, ItemsBetween, tokens_on_lines, items_on_lines}

@@ -1,8 +1,8 @@
 -- Tokens, items and the reader's faults are on lines of the text.
-use Rattle.std.specs.Prelude.{◌≡◌, ℕ, zero, suc, ◌+◌, ◌≤◌, ◌&&◌, Bool, true, false, if◌then◌else◌, List, [], ◌∷◌, ◌++◌, Option, Some, None, is_some, is_none, option_and_then, unwrap_or}
-use Rattle.std.proofs.Common.{refl, arith}
+use Rattle.std.specs.Prelude.{ℕ, zero, suc, ◌+◌, ◌≤◌, Bool, true, false, List, [], ◌∷◌, ◌++◌, Option, Some, None, unwrap_or}
+use Rattle.std.proofs.Common.{arith}
 use Rattle.kl1_model.specs.Token.{Token, Front, finished, broken, line_end, blank, token, front_of, Placed, Tokens, tokens_by, tokens_within}
-use Rattle.kl1_model.specs.Module.{Clause, Module, Reading, good, bad, Item, is_end, last_item, items_from, named_module, clause_of, last_of, with_clause, is_otherwise, clauses_from, module_of_items}
+use Rattle.kl1_model.specs.Module.{Item, is_end, last_item, items_from}
 use Rattle.kl1_reasons.proofs.Feeds.{feeds}
 use Rattle.kl1_reasons.proofs.FrontFeeds.{LeavesFeeds, fronts_leave_feeds}
 

@@ -1,8 +1,7 @@
 -- What the reader makes of a source whose front may be given up.
-use Rattle.std.specs.Prelude.{◌≡◌, ℕ, ◌≤◌, IsTrue, List, Option, Some, None}
-use Rattle.kl1_model.specs.Module.{Module, Reading, bad, read_module}
-use Rattle.kl1_reasons_items.specs.Places.{first_place, place_behind}
-use Rattle.kl1_reasons.specs.Reasons.{is_good, text_from}
+use Rattle.std.specs.Prelude.{◌≡◌, ℕ, IsTrue, List, Option, Some, None}
+use Rattle.kl1_model.specs.Module.{bad, read_module}
+use Rattle.kl1_reasons.specs.Reasons.{is_good}
 
 -- the line of a text's first bad item, if it is no module
 abbrev pub IsLineRefused : List ℕ → Option ℕ → Type 0

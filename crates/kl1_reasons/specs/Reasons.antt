@@ -1,8 +1,7 @@
 -- What reasons say of a text, in the words of the reader's definitions.
-use Rattle.std.specs.Prelude.{◌≡◌, ℕ, zero, suc, ◌==◌, ◌-◌, ◌≤◌, nat_le, Bool, true, false, IsTrue, List, [], ◌∷◌, ◌++◌, length, take, drop, filter, All, codes, Option, Some, None}
+use Rattle.std.specs.Prelude.{◌≡◌, ℕ, zero, suc, ◌==◌, ◌≤◌, nat_le, Bool, true, false, IsTrue, List, [], ◌∷◌, ◌++◌, length, take, drop, filter, All, codes, Option, Some, None}
 use Rattle.kl1_model.specs.declared.limits.TheConstants.{MOST_SOURCE_BYTES}
 use Rattle.kl1_model.specs.Module.{Reading, good, bad, read_module, read_goal}
-use Rattle.kl1_reasons_items.specs.declared.place.Place.{Place}
 use Rattle.kl1_reasons.specs.declared.reason.Reason.{Reason}
 use Rattle.kl1_reasons_items.specs.declared.within.Within.TheVariants.{Plain}
 use Rattle.kl1_reasons_items.specs.Places.{first_place, place_of}

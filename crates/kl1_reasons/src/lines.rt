@@ -1,7 +1,7 @@
 // The lines in which reasons are told.
 
 ghost use Rattle.std.specs.Prelude.{◌≡◌, ◌++◌, OnOk, decimal};
-ghost use Rattle.kl1_reasons.specs.Told.{hint_lines, lines_of};
+ghost use Rattle.kl1_reasons.specs.Told.{hint_lines, lines_of, lines_of_each};
 
 use crate::reason::Reason;
 use itoa::Buffer;
@@ -35,9 +35,13 @@ pub(crate) fn put_each(
     severity: &[u8],
     reasons: &[Reason],
     out: &mut Vec<u8>,
-) -> Result<(), AllocError> {
-    for reason in reasons {
-        put_reason(out, name, severity, reason)?;
+) -> Result<(), AllocError>
+    ensures { OnOk result (out.new.items ≡ out.old.items ++ lines_of_each name.now severity.now reasons.now) }
+{
+    let mut rest = reasons;
+    while let [first, others @ ..] = rest {
+        put_reason(out, name, severity, first)?;
+        rest = others;
     }
     Ok(())
 }

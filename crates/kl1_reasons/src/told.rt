@@ -2,6 +2,7 @@
 
 ghost use Rattle.std.specs.Prelude.{◌≡◌, IfOk};
 ghost use Rattle.kl1_reasons.specs.Refused.{is_refused};
+ghost use Rattle.kl1_reasons.specs.Told.{PutsReasons};
 
 use crate::lines::put_each;
 use crate::modules::{MOST_REASONS, reasons_of};
@@ -24,7 +25,8 @@ pub fn put_reasons(
     file: NamedText<'_>,
     out: &mut Vec<u8>,
 ) -> Result<bool, AllocError>
-    ensures { IfOk result (λ refused. refused ≡ is_refused file.entry.text.now) }
+    ensures refused { IfOk result (λ refused. refused ≡ is_refused file.entry.text.now) }
+    ensures told { IfOk result (λ refused. PutsReasons file.entry.name.now file.entry.text.now out.old.items out.new.items) }
 {
     let reasons = reasons_of(alloc, file.text, MOST_REASONS)?;
     let is_refused = !reasons.is_empty();

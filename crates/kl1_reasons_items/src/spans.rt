@@ -18,8 +18,14 @@ pub(crate) enum Class {
     Line,
 }
 
-/// The signs, each before those that it begins with.
+/// The signs, each before those that it begins with, and those first that stand most often.
 const SIGNS: [(&[u8], Sign); 21] = [
+    (b",", Sign::Comma),
+    (b"(", Sign::Open),
+    (b")", Sign::Close),
+    (b"[", Sign::OpenList),
+    (b"]", Sign::CloseList),
+    (b"|", Sign::Bar),
     (b":-", Sign::Neck),
     (b":=", Sign::Becomes),
     (b"=:=", Sign::SameValue),
@@ -35,12 +41,6 @@ const SIGNS: [(&[u8], Sign); 21] = [
     (b"*", Sign::Star),
     (b"/", Sign::Slash),
     (b"@", Sign::At),
-    (b"|", Sign::Bar),
-    (b",", Sign::Comma),
-    (b"(", Sign::Open),
-    (b")", Sign::Close),
-    (b"[", Sign::OpenList),
-    (b"]", Sign::CloseList),
 ];
 
 /// Whether a byte is one of a class.

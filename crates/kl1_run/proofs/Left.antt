@@ -1,7 +1,6 @@
 -- What is left in an account in which a run is over.
 use Rattle.std.proofs.Common.{◌≡◌, ℕ, true, false, ap, sym, ◌∙◌, subst}
 use Rattle.std.specs.Prelude.{Some, None, is_some, IfSome}
-use Rattle.std.specs.declared.option.Option.{Option}
 use Rattle.std.specs.declared.result.Result.{Result}
 use Rattle.kl1_model.specs.State.{State}
 use Rattle.kl1_user_events.specs.Viewing.{usage_of}

@@ -15,10 +15,14 @@ use std::alloc::Global;
 #[derive(Drop)]
 struct Script<'a> {
     lines: LineReader<FailureCounter<&'a [u8]>>,
+    /// What it was told of why files are no modules.
+    told: Text,
 }
 
 impl Caller for Script<'_> {
     ghost remaining = { λ s. None };
+
+    ghost told = { λ s. None };
 
     ghost is_file = { λ name bytes. ⊤ };
 
@@ -30,6 +34,10 @@ impl Caller for Script<'_> {
         source.clear();
         source.extend_from_slice(name)?;
         Ok(!is_same(name, b"absent"))
+    }
+
+    fn explain(&mut self, lines: &[u8]) {
+        self.told.put(lines);
     }
 
     fn save(&mut self, name: &[u8], bytes: &[u8]) -> Result<bool, Fault> {
@@ -64,12 +72,13 @@ fn is_spelled(bytes: &[u8], name: &[u8]) -> bool {
 }
 
 /// The status of a client with these commands, to whom these replies come in pieces of at most `size` bytes; a bar, what it sends, a
-/// bar and what it shows.
+/// bar and what it shows; and a bar and what its caller is told of files, if that is something.
 fn talk_of(alloc: Global, commands: &[u8], replies: &[u8], size: usize, is_paged: bool) -> Text {
     let mut sent = Vec::new(alloc);
     let mut shown = Vec::new(alloc);
     let mut caller = Script {
         lines: LineReader::new(alloc, FailureCounter::new(commands)),
+        told: Text::new(alloc),
     };
     let source = FailureCounter::new(Pieces {
         bytes: replies,
@@ -93,6 +102,10 @@ fn talk_of(alloc: Global, commands: &[u8], replies: &[u8], size: usize, is_paged
     text.put(sent.as_slice());
     text.put(b"|");
     text.put(shown.as_slice());
+    if !caller.told.bytes.is_empty() {
+        text.put(b"|");
+        text.put(caller.told.bytes.as_slice());
+    }
     text
 }
 

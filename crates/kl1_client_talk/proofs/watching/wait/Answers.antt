@@ -7,13 +7,14 @@ use Rattle.kl1_client_talk.proofs.Watched.{wait_begins, wait_goes_on, wait_over,
 use Rattle.kl1_client_talk.proofs.watching.wait.Goals as goal
 
 pub loop-looks-init : goal.loop-looks-init
-loop-looks-init g c = record { waits = wait_begins c.args.shoen _; same = refl; given = refl }
+loop-looks-init g c = record { waits = wait_begins c.args.shoen _; same = refl; given = refl; told = refl }
 
 pub loop-looks-preserved : goal.loop-looks-preserved
 loop-looks-preserved g c = record {
   waits = wait_goes_on c.args.shoen (wire g.T.Sink.contents g.S.Source.remaining c.args.connection.now) (wire g.T.Sink.contents g.S.Source.remaining c.loop-looks.connection) (wire g.T.Sink.contents g.S.Source.remaining c.ask.new.self) (wire g.T.Sink.contents g.S.Source.remaining c.ask_step.new.connection) c.line-status.result.now c.line-done.result.now c.loop-looks.invariant.waits (asks_first _ _ _ _ _ c.line-status.ensures c.in_ok-ask.ensures.ok) (asks_first _ _ _ _ _ c.line-done.ensures c.in_ok-ask_step.ensures.ok) (sym c.is_over.ensures ∙ c.if-is_over.false) (sym c.is_still.ensures ∙ c.if-is_still.false);
   same = c.loop-looks.invariant.same;
   given = c.pause.ensures.same ∙ c.loop-looks.invariant.given;
+  told = c.pause.ensures.told ∙ c.loop-looks.invariant.told;
 }
 
 pub returns-then-is_over-clause-ok : goal.returns-then-is_over-clause-ok

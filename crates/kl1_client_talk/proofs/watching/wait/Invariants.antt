@@ -9,4 +9,5 @@ invariant-loop-looks g l = record {
   waits : WaitsSoFar l.shoen (wire g.T.Sink.contents g.S.Source.remaining l.fn.connection) (wire g.T.Sink.contents g.S.Source.remaining l.connection);
   same : l.shown ≡ l.fn.shown;
   given : g.C.Caller.remaining l.caller ≡ g.C.Caller.remaining l.fn.caller;
+  told : g.C.Caller.told l.caller ≡ g.C.Caller.told l.fn.caller;
 }

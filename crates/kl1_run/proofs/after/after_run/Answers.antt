@@ -9,5 +9,5 @@ returns-clause-after g c = λ f fits.
     let same = c.put_standing.ensures.same f fits in
     let before = c.put_standing.ensures.before f fits in
     after_some (g.H.Host.kept f c.put_standing.new.host).state c.args.looks.now.most c.args.ending.now _ c.in_ok-standing.standing
-    (c.usage.ensures f ∙ ap (λ k. usage_of k.state) (sym same)) refl (search rules)
+    (c.usage-usage.ensures f ∙ ap (λ k. usage_of k.state) (sym same)) refl (search rules)
     (subst (λ k. IsStanding k.state c.args.looks.now.most c.in_ok-standing.standing) (sym same) (c.in_ok-standing.ensures f before))

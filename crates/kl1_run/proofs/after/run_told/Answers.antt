@@ -1,4 +1,4 @@
-use Rattle.std.proofs.Common.{◌∙◌, sym, subst}
+use Rattle.std.proofs.Common.{sym, subst}
 use Rattle.kl1_model_server.specs.Journal.{Kept}
 use Rattle.kl1_run_work.specs.Works.{texts_of, worked_of}
 use Rattle.kl1_run_work.specs.Streams.{seen}

@@ -1,0 +1,14 @@
+pub mod LinesCut
+pub mod EntriesMore
+pub mod Fronts
+pub mod DeedsDone
+pub mod Growing
+pub mod Moments
+pub mod Renaming
+pub mod Restoring
+pub mod GrownFiles
+pub mod LinesPut
+pub mod Batching
+pub mod Faults
+pub mod Courses
+pub mod Waits

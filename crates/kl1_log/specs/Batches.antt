@@ -1,0 +1,40 @@
+-- What is to be done to a file, and what a crash leaves meanwhile.
+use Rattle.std.specs.Prelude.{⊤, ◌≡◌, ◌⊎◌, ◌≤◌, ℕ, min, List, ◌++◌, length, take, Option, Some, None, option_map}
+use Rattle.kl1_log.specs.declared.change.Change.{Change}
+use Rattle.kl1_log.specs.declared.change.Change.TheVariants.{Appends, Begins}
+use Rattle.kl1_log.specs.Cuts.{whole_text}
+use Rattle.kl1_log.specs.Files.{Known, content}
+
+-- the text of a file after a change
+abbrev pub text_after : List ℕ → Change → List ℕ
+text_after text (Appends bytes) = text ++ bytes.items
+text_after text (Begins bytes) = bytes.items
+
+-- what a crash may leave of a file with this text while it is changed: a file that is begun anew is the old or the new, and never a part
+abbrev pub IsLeftBy : List ℕ → Change → List ℕ → Type 0
+IsLeftBy text (Appends bytes) c = (n : ℕ) × (c ≡ text ++ take n bytes.items)
+IsLeftBy text (Begins bytes) c = (c ≡ text) ⊎ (c ≡ bytes.items)
+
+-- the bytes that a file has, if something is known of it
+abbrev pub text_of : Known → Option (List ℕ)
+text_of known = option_map (λ c. content c.now.now) known
+
+-- what a crash may leave of a file while it is changed, if something is known of it
+abbrev pub IsLeftOfKnown : Known → Change → List ℕ → Type 0
+IsLeftOfKnown None change c = ⊤
+IsLeftOfKnown (Some k) change c = IsLeftBy (content k.now.now) change c
+
+-- what a crash may leave of a file while bytes are appended
+abbrev pub IsAppendedInPart : Known → List ℕ → List ℕ → Type 0
+IsAppendedInPart None bytes c = ⊤
+IsAppendedInPart (Some k) bytes c = (n : ℕ) × (c ≡ content k.now.now ++ take n bytes)
+
+-- what a crash may leave of a file while others are put in their place
+abbrev pub IsOldOrNew : Known → List ℕ → List ℕ → Type 0
+IsOldOrNew None bytes c = ⊤
+IsOldOrNew (Some k) bytes c = (c ≡ content k.now.now) ⊎ (c ≡ bytes)
+
+-- what a crash may leave of a file while it is cut to its whole lines: a front of it, which has each whole line that was on the disk
+abbrev pub IsLeftOfCut : Known → List ℕ → Type 0
+IsLeftOfCut None c = ⊤
+IsLeftOfCut (Some k) c = (n : ℕ) × (c ≡ take n (content k.now.now)) × (min (length (whole_text (content k.now.now))) (length k.now.now.synced) ≤ n)

@@ -1,0 +1,11 @@
+pub mod Deeds
+pub mod Later
+pub mod Cuts
+pub mod Files
+pub mod Batches
+pub mod Memories
+pub mod FolderFiles
+pub mod Waits
+pub mod Receipts
+pub mod LogFiles
+pub mod laws

@@ -1,0 +1,26 @@
+-- What the file of an account's journal shows.
+use Rattle.std.specs.Prelude.{⊤, ℕ, Result, Ok, Err}
+use Rattle.kl1_log.specs.declared.disk.Disk as disk
+use Rattle.kl1_log.specs.declared.log_file.LogFile.{LogFile}
+use Rattle.kl1_log.specs.declared.log_error.LogError.{LogError}
+use Rattle.kl1_log.specs.declared.log_error.LogError.TheVariants.{Stopped, NotNext, Failed}
+
+module _ {D : Type 0} {g : disk.Ghosts D} where
+  -- the disk
+  abbrev pub disk_of : LogFile D g → D
+  disk_of f = f.disk
+
+  -- the account whose file it is
+  abbrev pub account_of : LogFile D g → ℕ
+  account_of f = f.account
+
+  -- how many changes are on disk
+  abbrev pub changes_of : LogFile D g → ℕ
+  changes_of f = f.changes
+
+-- a call of the file failed
+abbrev pub IsFailed : {T : Type 0} → Result T LogError → Type 0
+IsFailed (Ok t) = ⊥
+IsFailed (Err (Failed error)) = ⊤
+IsFailed (Err Stopped) = ⊥
+IsFailed (Err NotNext) = ⊥

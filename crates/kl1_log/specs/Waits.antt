@@ -1,0 +1,49 @@
+-- What waits for an account's file, and what was taken of it.
+use Rattle.std.specs.Prelude.{◌≡◌, ◌⊎◌, ℕ, suc, List}
+use Rattle.kl1_model_server.specs.Journal.{Journal}
+use Rattle.kl1_log.specs.Deeds.{IsFile}
+use Rattle.kl1_log.specs.Later.{IsMark}
+use Rattle.kl1_log.specs.Batches.{text_after}
+use Rattle.kl1_log.specs.declared.batch.Batch.{Batch}
+use Rattle.kl1_log.specs.declared.waiting.Waiting.{Waiting}
+
+-- the account that it is for
+abbrev pub account_of : Waiting → ℕ
+account_of w = w.account
+
+-- how many changes were noted
+abbrev pub noted_of : Waiting → ℕ
+noted_of w = w.noted
+
+-- how many of them were taken
+abbrev pub taken_of : Waiting → ℕ
+taken_of w = w.taken
+
+-- a file of this text is one of this journal once it has got what waits, and the mark is at the journal's end
+pub record IsUpTo (w : Waiting) (text : List ℕ) (j : Journal) : Type 0 where
+  pub file : IsFile (text_after text w.change) j
+  pub mark : IsMark w.mark j
+
+-- one change more was noted, if there was any
+pub record CountsOn (old new : Waiting) : Type 0 where
+  pub account : new.account ≡ old.account
+  pub taken : new.taken ≡ old.taken
+  pub noted : (new.noted ≡ suc old.noted) ⊎ ((new.noted ≡ old.noted) × ((text : List ℕ) → text_after text new.change ≡ text_after text old.change))
+
+-- the same waits
+pub record Keeps (old new : Waiting) : Type 0 where
+  pub account : new.account ≡ old.account
+  pub taken : new.taken ≡ old.taken
+  pub noted : new.noted ≡ old.noted
+  pub mark : new.mark ≡ old.mark
+  pub change : (text : List ℕ) → text_after text new.change ≡ text_after text old.change
+
+-- all that waited was taken
+pub record IsTaken (old new : Waiting) (b : Batch) : Type 0 where
+  pub batch_account : b.account ≡ old.account
+  pub batch_taken : b.taken ≡ old.taken
+  pub batch_noted : b.noted ≡ old.noted
+  pub change : (text : List ℕ) → text_after text b.change ≡ text_after text old.change
+  pub account : new.account ≡ old.account
+  pub taken : new.taken ≡ old.noted
+  pub noted : new.noted ≡ old.noted

@@ -1,0 +1,16 @@
+// The file of an account's journal.
+
+ghost use Rattle.std.specs.Prelude.{IsTrue};
+ghost use Rattle.kl1_log.specs.Files.{is_at_rest};
+
+use crate::disk::Disk;
+
+/// The file of an account's journal: all that was written is on disk, as long as no call of it has failed.
+#[derive(Drop)]
+pub struct LogFile<D: Disk> {
+    pub(crate) disk: D,
+    pub(crate) account: u32,
+    /// How many changes are on disk.
+    pub(crate) changes: u64,
+    ghost at_rest: { IsTrue (D.is_usable disk) → IsTrue (is_at_rest (D.known disk)) },
+}

@@ -1,0 +1,60 @@
+// What the scribe does to the file of an account's journal.
+
+ghost use Rattle.std.specs.Prelude.{◌≡◌, IfOk, OnOk, IsErr, IsTrue, false, option_map, MatchResult};
+ghost use Rattle.kl1_log.specs.Files.{AtAnyMoment, is_at_rest};
+ghost use Rattle.kl1_log.specs.Batches.{text_after, text_of, IsLeftOfKnown};
+ghost use Rattle.kl1_log.specs.LogFiles.{account_of, changes_of, disk_of, IsFailed};
+ghost use Rattle.kl1_log.specs.Receipts as receipts;
+
+use crate::batch::Batch;
+use crate::disk::Disk;
+use crate::log_error::LogError;
+use crate::log_file::LogFile;
+use crate::making::make;
+use crate::receipt::Receipt;
+
+impl<D: Disk> LogFile<D> {
+    /// The file of this account, of which nothing was written yet that isn't on disk.
+    pub fn new(disk: D, account: u32) -> Self
+        requires { IsTrue (is_at_rest (D.known disk)) }
+        ensures disk { disk_of result ≡ disk }
+        ensures account { account_of result ≡ account }
+        ensures changes { changes_of result ≡ 0 }
+    {
+        LogFile {
+            disk,
+            account,
+            changes: 0,
+        }
+    }
+
+    /// The disk.
+    pub fn disk(&self) -> &D
+        ensures { result.now ≡ disk_of self.now }
+    {
+        &self.disk
+    }
+
+    /// Writes a batch, and has it on disk. On an error nothing that isn't on disk is told, and after one of a call the file gets nothing more.
+    pub fn write(&mut self, batch: Batch) -> Result<Receipt, LogError>
+        ensures receipt { IfOk result (λ r. (receipts.account_of r ≡ batch.account) × (receipts.changes_of r ≡ batch.noted)) }
+        ensures next { OnOk result ((batch.account ≡ account_of self.old) × (batch.taken ≡ changes_of self.old)) }
+        ensures on_disk { OnOk result (IsTrue (is_at_rest (D.known (disk_of self.new))) × (text_of (D.known (disk_of self.new)) ≡ option_map (λ text. text_after text batch.change) (text_of (D.known (disk_of self.old))))) }
+        ensures any_moment { AtAnyMoment (D.known (disk_of self.old)) (D.known (disk_of self.new)) (IsLeftOfKnown (D.known (disk_of self.old)) batch.change) }
+        ensures stopped { D.is_usable (disk_of self.old) ≡ false → IsErr result × (D.known (disk_of self.new) ≡ D.known (disk_of self.old)) × (D.is_usable (disk_of self.new) ≡ false) }
+        ensures failed { IsFailed result → D.is_usable (disk_of self.new) ≡ false }
+        ensures count { (account_of self.new ≡ account_of self.old) × MatchResult result (λ r. changes_of self.new ≡ receipts.changes_of r) (λ _. changes_of self.new ≡ changes_of self.old) }
+    {
+        if !self.disk.may_be_used() {
+            return Err(LogError::Stopped);
+        }
+        if batch.account != self.account || batch.taken != self.changes {
+            return Err(LogError::NotNext);
+        }
+        if let Err(error) = make(&mut self.disk, &batch.change) {
+            return Err(LogError::Failed(error));
+        }
+        self.changes = batch.noted;
+        Ok(Receipt::new(self.account, self.changes))
+    }
+}

@@ -1,0 +1,104 @@
+// What of a journal waits for its file.
+
+ghost use Rattle.std.specs.Prelude.{◌≡◌, ℕ, List, IfOk, OnOk, OnErr};
+ghost use Rattle.kl1_model_server.specs.Journal as model;
+ghost use Rattle.kl1_log.specs.Deeds.{IsFile};
+ghost use Rattle.kl1_log.specs.Later.{IsLater};
+ghost use Rattle.kl1_log.specs.Batches.{text_after};
+ghost use Rattle.kl1_log.specs.Waits.{account_of, taken_of, noted_of, IsUpTo, CountsOn, Keeps, IsTaken};
+
+use crate::batch::Batch;
+use crate::change::Change;
+use crate::growth::{Growth, begun, grown};
+use crate::mark::Mark;
+use kl1_journal_entries::Journal;
+use std::alloc::{AllocError, Global};
+use std::mem;
+
+/// What of an account's journal waits for its file. It stands under the account's lock.
+#[derive(Drop)]
+pub struct Waiting {
+    account: u32,
+    mark: Mark,
+    change: Change,
+    /// How many changes were taken, and how many were noted.
+    taken: u64,
+    noted: u64,
+    alloc: Global,
+}
+
+impl Waiting {
+    /// Nothing waits: the file of this account is one of `journal`.
+    pub fn new(alloc: Global, account: u32, journal: &Journal) -> Result<Self, AllocError>
+        ensures file { IfOk result (λ w. (text : List ℕ) → IsFile text journal.now.journal → IsUpTo w text journal.now.journal) }
+        ensures account { IfOk result (λ w. account_of w ≡ account) }
+        ensures none { IfOk result (λ w. (taken_of w ≡ 0) × (noted_of w ≡ 0)) }
+    {
+        let Growth { mark, .. } = begun(alloc, journal)?;
+        Ok(Waiting {
+            account,
+            mark,
+            change: Change::Appends(Vec::new(alloc)),
+            taken: 0,
+            noted: 0,
+            alloc,
+        })
+    }
+
+    /// Notes what has come to the journal by events that are no reset.
+    pub fn note(&mut self, journal: &Journal) -> Result<(), AllocError>
+        ensures ok { OnOk result ((text : List ℕ) (old : model.Journal) → IsUpTo self.old text old → IsLater old journal.now.journal → IsUpTo self.new text journal.now.journal) }
+        ensures count { OnOk result (CountsOn self.old self.new) }
+        ensures err { OnErr result (Keeps self.old self.new) }
+    {
+        let Growth { bytes, mark } = grown(self.alloc, journal, self.mark)?;
+        let noted = self.noted.checked_add(1).ok_or(AllocError)?;
+        self.change.extend(&bytes)?;
+        self.mark = mark;
+        self.noted = noted;
+        Ok(())
+    }
+
+    /// Notes that the journal has begun anew.
+    pub fn note_reset(&mut self, journal: &Journal) -> Result<(), AllocError>
+        ensures ok { OnOk result ((text : List ℕ) → IsUpTo self.new text journal.now.journal) }
+        ensures count { OnOk result (CountsOn self.old self.new) }
+        ensures err { OnErr result (Keeps self.old self.new) }
+    {
+        let Growth { bytes, mark } = begun(self.alloc, journal)?;
+        self.noted = self.noted.checked_add(1).ok_or(AllocError)?;
+        self.change = Change::Begins(bytes);
+        self.mark = mark;
+        Ok(())
+    }
+
+    /// Takes what waits, after which nothing does.
+    pub fn take(&mut self) -> Batch
+        ensures file { (text : List ℕ) (j : model.Journal) → IsUpTo self.old text j → IsUpTo self.new (text_after text result.change) j }
+        ensures taken { IsTaken self.old self.new result }
+    {
+        let change = mem::replace(&mut self.change, Change::Appends(Vec::new(self.alloc)));
+        let taken = self.taken;
+        self.taken = self.noted;
+        Batch {
+            account: self.account,
+            taken,
+            noted: self.noted,
+            change,
+        }
+    }
+
+    /// The account that it is for.
+    pub(crate) fn account(&self) -> u32
+        ensures { result ≡ account_of self.now }
+    {
+        self.account
+    }
+
+    /// How many changes were noted.
+    pub(crate) fn noted(&self) -> u64
+        ensures { result ≡ noted_of self.now }
+    {
+        self.noted
+    }
+}

@@ -1,0 +1,3 @@
+pub mod LastBlanks
+pub mod LineSteps
+pub mod Finding

@@ -1,0 +1,3 @@
+pub mod TestLines
+pub mod Tests
+pub mod Lines
