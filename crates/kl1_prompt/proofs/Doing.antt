@@ -1,5 +1,5 @@
 -- Commands that are done in order.
-use Rattle.std.proofs.Common.{◌≡◌, ℕ, zero, suc, ◌==◌, Bool, true, false, if◌then◌else◌, List, [], ◌∷◌, ◌++◌, Option, Some, None, ap, sym, subst, ◌∙◌, append_assoc, refl}
+use Rattle.std.proofs.Common.{◌≡◌, ◌≤◌, ℕ, zero, suc, ◌==◌, Bool, true, false, if◌then◌else◌, List, [], ◌∷◌, ◌++◌, map, length, drop, get_or, Option, Some, None, ap, sym, subst, ◌∙◌, append_assoc, refl, arith, rules}
 use Rattle.kl1_model.specs.Event as model
 use Rattle.kl1_model.specs.Event.{reduce, is_refused}
 use Rattle.kl1_model.specs.Choice.{Chosen, first}
@@ -39,9 +39,12 @@ run_by most n k o = elim o [
   | Some c ↦ let x = done k (reduce c.goal c.clause) in on_by (is_refused x.reply) most n k x
 ]
 
+some_done : (n : ℕ) → (suc n == 0) ≡ false
+some_done n = search rules
+
 -- a run of which steps are done isn't refused
 goes_by : (r : Bool) (most n : ℕ) (k : Kept) (x : Done) → ((p : ℕ) (t : Kept) → is_refused (run_from most (suc p) t).reply ≡ false) → is_refused (on_by r most (suc n) k x).reply ≡ false
-goes_by true most n k x h = refl
+goes_by true most n k x h = ap (λ (b : Bool). is_refused (if b then x.reply else model.ran (suc n))) (some_done n)
 goes_by false most n k x h = h (suc n) x.kept
 
 goes_first : (o : Option Chosen) (most n : ℕ) (k : Kept) → ((p : ℕ) (t : Kept) → is_refused (run_from most (suc p) t).reply ≡ false) → is_refused (run_by most (suc n) k o).reply ≡ false
@@ -84,25 +87,30 @@ more_told : (rs : List model.Reply) (r : model.Reply) (e : Ended) → told_first
 more_told rs r e = ap (λ replies. let x : Ended = record { kept = e.kept; replies = replies } in x) (sym (append_assoc rs (r ∷ []) e.replies))
 
 accepted : (k : Kept) (cs : List Command) (next : Kept) (reply : model.Reply) (b : Bool) → is_refused reply ≡ b → b ≡ false → done_by k cs (record { kept = next; reply = reply }) ≡ told_first (reply ∷ []) (all_done next cs)
-accepted k cs next reply b is no = ap (λ (x : Bool). if x then (let y : Ended = record { kept = k; replies = reply ∷ [] } in y) else told_first (reply ∷ []) (all_done next cs)) (is ∙ no)
+accepted k cs next reply b is goes = ap (λ (x : Bool). if x then (let y : Ended = record { kept = k; replies = reply ∷ [] } in y) else told_first (reply ∷ []) (all_done next cs)) (is ∙ goes)
 
 -- a command was done that isn't refused
 pub more_done : (k next : Kept) (c : Command) (cs : List Command) (reply : model.Reply) (rs : List model.Reply) (e : Ended) (b : Bool) →
     act k c ≡ record { kept = next; reply = reply } → b ≡ is_refused reply → b ≡ false →
     e ≡ told_first rs (all_done k (c ∷ cs)) → e ≡ told_first (rs ++ reply ∷ []) (all_done next cs)
-more_done k next c cs reply rs e b is refused no before =
-    before ∙ ap (told_first rs) (done_first k next c cs reply is ∙ accepted k cs next reply b (sym refused) no) ∙ more_told rs reply (all_done next cs)
+more_done k next c cs reply rs e b is refused goes before =
+    before ∙ ap (told_first rs) (done_first k next c cs reply is ∙ accepted k cs next reply b (sym refused) goes) ∙ more_told rs reply (all_done next cs)
 
 rejected : (k : Kept) (cs : List Command) (next : Kept) (reply : model.Reply) → is_refused reply ≡ true → next ≡ k → done_by k cs (record { kept = next; reply = reply }) ≡ record { kept = next; replies = reply ∷ [] }
-rejected k cs next reply yes same =
-    ap (λ (x : Bool). if x then (let y : Ended = record { kept = k; replies = reply ∷ [] } in y) else told_first (reply ∷ []) (all_done next cs)) yes
+rejected k cs next reply ends same =
+    ap (λ (x : Bool). if x then (let y : Ended = record { kept = k; replies = reply ∷ [] } in y) else told_first (reply ∷ []) (all_done next cs)) ends
     ∙ ap (λ (t : Kept). let y : Ended = record { kept = t; replies = reply ∷ [] } in y) (sym same)
 
 -- a command was refused
 pub over_done : (k next : Kept) (c : Command) (cs : List Command) (reply : model.Reply) (rs : List model.Reply) (e : Ended) (b : Bool) →
     act k c ≡ record { kept = next; reply = reply } → b ≡ is_refused reply → b ≡ true →
     e ≡ told_first rs (all_done k (c ∷ cs)) → e ≡ record { kept = next; replies = rs ++ reply ∷ [] }
-over_done k next c cs reply rs e b is refused yes before =
-    let told : is_refused reply ≡ true = sym refused ∙ yes in
+over_done k next c cs reply rs e b is refused ends before =
+    let told : is_refused reply ≡ true = sym refused ∙ ends in
     let same : next ≡ k = sym (ap (λ (x : Done). x.kept) is) ∙ command_stays k c (ap (λ (x : Done). is_refused x.reply) is ∙ told) in
     before ∙ ap (told_first rs) (done_first k next c cs reply is ∙ rejected k cs next reply told same)
+
+-- a list of at least one element is that element and the others
+pub first_split : {A B : Type 0} (g : A → B) (xs : List A) (x : A) → 1 ≤ length xs → x ≡ get_or xs 0 x → map g xs ≡ g x ∷ map g (drop 1 xs)
+first_split g [] x some is = absurd (omega (arith, some))
+first_split g (y ∷ ys) x some is = ap (λ t. g t ∷ map g ys) (sym is)
