@@ -61,7 +61,7 @@ abbrev pub without_colon : List ℕ → List ℕ → List ℕ
 without_colon w rest = drop 1 w ++ rest
 
 -- the line whose first word is `w`, with a colon before it, by what is after it; `most` steps are done if it has no number
-abbrev pub order_by : ℕ → List ℕ → List ℕ → Line
+unfoldable pub order_by : ℕ → List ℕ → List ℕ → Line
 order_by most w rest =
     if bytes_eq w (codes ":step") then by_number_or step most (only_number rest) rest
     else if bytes_eq w (codes ":trace") then by_number_or trace 1 (up_to MOST_TRACED (only_number rest)) rest

@@ -56,6 +56,7 @@ fn parse_goal(alloc: Global, text: &[u8]) -> Result<Line, AllocError>
     }
 }
 
+#[tactic(auto, unfolding(crate::specs::Lines::order_by))]
 /// What a word with a colon before it and what is after it ask for.
 fn parse_order(alloc: Global, word: &[u8], rest: &[u8], most: u64) -> Result<Line, AllocError>
     ensures { IfOk result (λ line. line_view line ≡ order_by most word.now rest.now) }
