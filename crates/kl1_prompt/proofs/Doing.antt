@@ -1,5 +1,5 @@
 -- Commands that are done in order.
-use Rattle.std.proofs.Common.{◌≡◌, ◌≤◌, ℕ, zero, suc, ◌==◌, Bool, true, false, if◌then◌else◌, List, [], ◌∷◌, ◌++◌, map, length, drop, get_or, Option, Some, None, ap, sym, subst, ◌∙◌, append_assoc, refl, arith, rules}
+use Rattle.std.proofs.Common.{◌≡◌, ◌≤◌, ℕ, zero, suc, ◌==◌, Bool, true, false, if◌then◌else◌, List, [], ◌∷◌, ◌++◌, map, length, drop, get_or, Option, Some, None, ap, sym, ◌∙◌, append_assoc, refl, arith, rules}
 use Rattle.kl1_model.specs.Event as model
 use Rattle.kl1_model.specs.Event.{reduce, is_refused}
 use Rattle.kl1_model.specs.Choice.{Chosen, first}

@@ -1,5 +1,5 @@
 -- What lines of a prompt do to an account.
-use Rattle.std.specs.Prelude.{◌≡◌, ℕ, Bool, true, false, if◌then◌else◌, List, [], ◌∷◌, ◌++◌, map, Ok, Err}
+use Rattle.std.specs.Prelude.{ℕ, if◌then◌else◌, List, [], ◌∷◌, ◌++◌, map}
 use Rattle.kl1_model.specs.declared.limits.TheConstants.{MOST_PRIORITY}
 use Rattle.kl1_model.specs.Event.{load, start, reset, Reply, is_refused}
 use Rattle.kl1_model_server.specs.Journal.{Kept}

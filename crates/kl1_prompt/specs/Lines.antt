@@ -1,5 +1,5 @@
 -- What a line of a prompt asks for.
-use Rattle.std.specs.Prelude.{ℕ, nat_le, ◌==◌, ◌&&◌, ◌||◌, not, Bool, true, false, if◌then◌else◌, List, [], ◌∷◌, ◌++◌, drop, codes, bytes_eq, Option, Some, None}
+use Rattle.std.specs.Prelude.{ℕ, ◌==◌, ◌||◌, not, Bool, false, if◌then◌else◌, List, [], ◌∷◌, ◌++◌, drop, codes, bytes_eq, Option, Some, None}
 use Rattle.kl1_model.specs.Term.{Term}
 use Rattle.kl1_model.specs.Line.{word_in, behind_word_in, only_number, up_to, is_blank_line}
 use Rattle.kl1_model.specs.Module.{Reading, good, bad, read_goal}
