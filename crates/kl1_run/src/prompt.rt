@@ -58,6 +58,10 @@ pub fn run_prompt(rt: &HostRuntime, asked: &Asked<'_>, names: &[&str]) -> Result
     let mut journal = journal_file(rt, asked.journal, ids.as_slice())?;
     let mut world = fresh_world(alloc, asked.rules)?;
     let replies = load_all(alloc, &mut world, files.as_slice())?;
+    let mut faults = Vec::new(alloc);
+    if !put_loaded(files.as_slice(), replies.as_slice(), &mut faults)? {
+        return Err(Fault::Lines(faults));
+    }
     let mut session = Session {
         rt,
         alloc,
@@ -70,13 +74,10 @@ pub fn run_prompt(rt: &HostRuntime, asked: &Asked<'_>, names: &[&str]) -> Result
         last: None,
         told: Told {
             answers: Vec::new(alloc),
-            faults: Vec::new(alloc),
+            faults,
         },
         has_faults: false,
     };
-    if !session.put_loaded(replies.as_slice())? {
-        return Err(Fault::Lines(session.told.faults));
-    }
     let is_watched = rt.stdin().is_terminal() && rt.stdout().is_terminal();
     session.read_lines(&mut world, is_watched)?;
     if let Some(sink) = &mut journal {
@@ -277,23 +278,6 @@ impl Session<'_, '_> {
         Ok(())
     }
 
-    /// Puts which source was refused, if one was. Answers whether none was.
-    fn put_loaded(&mut self, replies: &[Reply]) -> Result<bool, Fault> {
-        // Before the loads stands the reply to a reset, if there was one.
-        let loads = match replies {
-            [Reply::Reset, rest @ ..] => rest,
-            _ => replies,
-        };
-        let Some(Reply::Refused(refusal)) = loads.last() else {
-            return Ok(true);
-        };
-        let place = loads.len().saturating_sub(1);
-        if let Some(file) = self.files.get(place) {
-            put_fault(&mut self.told.faults, file.name.as_slice(), *refusal)?;
-        }
-        Ok(false)
-    }
-
     /// Loads the module in a file too.
     fn load(&mut self, world: &mut OwnWorld, name: &[u8]) -> Result<(), Fault> {
         let Some(files) = read_modules(self.rt, &[name], &mut self.told.faults)? else {
@@ -328,13 +312,38 @@ impl Session<'_, '_> {
         self.last = None;
         let replies = reload(self.alloc, world, files.as_slice())?;
         self.files = files;
-        if self.put_loaded(replies.as_slice())? {
+        if put_loaded(
+            self.files.as_slice(),
+            replies.as_slice(),
+            &mut self.told.faults,
+        )? {
             for reply in replies.as_slice() {
                 put_answer(reply, &mut self.told.answers, &mut self.told.faults)?;
             }
         }
         Ok(())
     }
+}
+
+/// Puts which source of these was refused, if one was. Answers whether none was.
+fn put_loaded(
+    files: &[SourceFile],
+    replies: &[Reply],
+    faults: &mut Vec<u8>,
+) -> Result<bool, Fault> {
+    // Before the loads stands the reply to a reset, if there was one.
+    let loads = match replies {
+        [Reply::Reset, rest @ ..] => rest,
+        _ => replies,
+    };
+    let Some(Reply::Refused(refusal)) = loads.last() else {
+        return Ok(true);
+    };
+    let place = loads.len().saturating_sub(1);
+    if let Some(file) = files.get(place) {
+        put_fault(faults, file.name.as_slice(), *refusal)?;
+    }
+    Ok(false)
 }
 
 /// Reads the files of these names, if all are modules, and puts what is wrong with them if not.
