@@ -2,7 +2,7 @@
 
 _kl1_run() {
     local word=${COMP_WORDS[COMP_CWORD]} before=${COMP_WORDS[COMP_CWORD - 1]}
-    local options="--steps --allowance --rules --reports --whole --bindings --infix --waits --stats --journal --check --warn --script --help --version"
+    local options="--steps --allowance --rules --reports --whole --bindings --infix --waits --stats --journal --check --warn --script --prompt --help --version"
     COMPREPLY=()
     case $before in
     --steps | --allowance)

@@ -182,6 +182,7 @@ fn load<S: Source, T: Sink, O: Sink, C: Caller>(
 }
 
 /// Has the caller told why a file is no module, if it was refused as one that is none.
+#[tactic(auto, using(crate::proofs::Said::explains_none, crate::proofs::Said::explains))]
 fn explain<C: Caller>(
     alloc: Global,
     caller: &mut C,

@@ -10,7 +10,13 @@ pub const VERSION: &str = "0.1.0";
 
 /// How the program is called.
 pub const USAGE: &str =
-    "kl1_run [--steps N] [--allowance N] [--rules N] [--reports] [--whole] [--bindings] [--infix]\n               [--waits WHICH] [--stats] [--journal FILE] FILE... GOAL\n       kl1_run --check [--warn error] FILE...\n       kl1_run --script [--steps N] [--allowance N] [--reports] FILE... GOAL\n       kl1_run --help | --version";
+    "kl1_run [--steps N] [--allowance N] [--rules N] [--reports] [--whole] [--bindings] [--infix]\n               [--waits WHICH] [--stats] [--journal FILE] FILE... GOAL\n       kl1_run [--prompt] [OPTION]... FILE...\n       kl1_run --check [--warn error] FILE...\n       kl1_run --script [--steps N] [--allowance N] [--reports] FILE... GOAL\n       kl1_run --help | --version";
+
+/// The most steps that are done for a line of a prompt, unless another number is asked for.
+pub const MOST_AT_A_TIME: u64 = 1_000_000;
+
+/// How the names of files with modules end: no goal does.
+pub const MODULE: &str = ".kl1";
 
 /// The most goals that wait of which it is told for what, unless all are asked for.
 const MOST_WAITS: usize = 8;
@@ -24,6 +30,8 @@ pub enum Task {
     Script,
     /// A goal over them is run.
     Run,
+    /// Lines of standard input say what is done over them.
+    Prompt,
 }
 
 /// How the goal is written.
@@ -67,7 +75,7 @@ impl Waits {
 /// What the words ask for.
 #[derive(Drop)]
 pub struct Asked<'a> {
-    /// The names of the files, and after them the goal, unless the files are checked.
+    /// The names of the files, and after them the goal, unless the files are checked or there is a prompt.
     pub words: Vec<&'a str>,
     /// What is to be done with the files.
     pub task: Task,

@@ -11,6 +11,7 @@ mod journal_file;
 mod origins;
 mod pipe;
 mod progress;
+mod prompt;
 mod reasons;
 mod scripts;
 mod shown;

@@ -61,7 +61,7 @@ pub fn copies_of(alloc: Global, files: &[SourceFile]) -> Result<Vec<SourceFile>,
 }
 
 /// An account in which nothing has happened.
-fn fresh_world(alloc: Global, rules: Rules) -> Result<OwnWorld, AllocError> {
+pub fn fresh_world(alloc: Global, rules: Rules) -> Result<OwnWorld, AllocError> {
     let name = AccountName::read(b"me").unwrap();
     let (table, seats) = PlainTable::new(alloc, 1)?;
     World::new(alloc, table, seats, PlainCodes::new(alloc), &[name], rules)

@@ -55,7 +55,7 @@ pub fn goal_in(alloc: Global, word: &str, files: &[SourceFile]) -> Result<Term, 
 }
 
 /// The lines that tell why a text is no goal.
-fn goal_lines(alloc: Global, text: &[u8], files: &[SourceFile]) -> Result<Vec<u8>, AllocError> {
+pub fn goal_lines(alloc: Global, text: &[u8], files: &[SourceFile]) -> Result<Vec<u8>, AllocError> {
     let modules = modules_of(alloc, files)?;
     let mut lines = Vec::new(alloc);
     if let Some(reason) = reason_of_goal(alloc, text, modules.as_slice())? {

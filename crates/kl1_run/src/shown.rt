@@ -4,6 +4,7 @@ use crate::asked::Form;
 use kl1_run_work::Term;
 use kl1_shown::{Binding, Parsed, binding_of, parse_print, readable_goal, variable_names};
 use kl1_term::{Node, Printer};
+use kl1_watch::Names;
 use std::alloc::{AllocError, Global};
 
 /// The most bytes of a goal that is written in another form: to be read, it takes some 70 times as many.
@@ -11,6 +12,12 @@ const MOST_FORMED: usize = 1_048_576;
 
 /// The most bytes of the front of a goal from which it is told that variables have no value.
 const MOST_SEEN: usize = 4_000;
+
+/// The greatest number of a variable that is told by a name.
+const MOST_NUMBERED: u64 = 65_536;
+
+/// A name that isn't told.
+const NO_NAME: &[u8] = b"_";
 
 /// How the print of `V = T` begins, and how it does with the sign between the two.
 const EQUATION: &[u8] = b"'='(_1,";
@@ -88,6 +95,27 @@ impl Shown {
         Ok(())
     }
 
+    /// The names of the variables that have no value, by the numbers that they have now.
+    pub fn names_now(&self, alloc: Global) -> Result<Names, AllocError> {
+        let mut names = Vec::new(alloc);
+        let mut number: u64 = 0;
+        for name in self.names.as_slice() {
+            number = number.saturating_add(1);
+            if let Some(
+                Binding {
+                    nodes: [Node::Variable(now)],
+                    ..
+                },
+            ) = binding_of(self.goal.nodes(), self.now.nodes.as_slice(), number)
+            {
+                if *now <= MOST_NUMBERED {
+                    put_name(alloc, *now, name.as_slice(), &mut names)?;
+                }
+            }
+        }
+        Ok(Names { names })
+    }
+
     /// Whether the variable of this number is known to have no value.
     fn is_unbound(&self, number: u64) -> bool {
         match binding_of(self.goal.nodes(), self.now.nodes.as_slice(), number) {
@@ -127,6 +155,27 @@ impl Shown {
         }
         Ok(())
     }
+}
+
+/// Puts a name in the place of a number, from 1; numbers before it that have none get one that isn't told.
+fn put_name(
+    alloc: Global,
+    number: u64,
+    name: &[u8],
+    names: &mut Vec<Vec<u8>>,
+) -> Result<(), AllocError> {
+    let Some(place) = number.checked_sub(1) else {
+        return Ok(());
+    };
+    for _ in 0..number {
+        if names.len() as u64 <= place {
+            names.push(Vec::from_slice(alloc, NO_NAME)?)?;
+        }
+    }
+    if let Some(last) = names.as_mut_slice().get_mut(place as usize) {
+        *last = Vec::from_slice(alloc, name)?;
+    }
+    Ok(())
 }
 
 /// Whether a variable's name is one by which it is told: those that begin with `_` aren't.

@@ -10,6 +10,7 @@ use crate::journal_file::journal_file;
 use crate::origins::{Again, copies_of};
 use crate::pipe::Pipe;
 use crate::progress::Progress;
+use crate::prompt::run_prompt;
 use crate::reasons::{goal_in, warn};
 use crate::scripts::script_alone;
 use crate::shown::{Shown, in_form};
@@ -31,6 +32,7 @@ pub fn do_task(rt: &HostRuntime, asked: &Asked<'_>) -> Result<u8, Fault> {
             let Modules { files, .. } = read_each(rt, names)?;
             warn(rt, files.as_slice(), asked.warnings_are_faults)
         }
+        (Task::Prompt, names) => run_prompt(rt, asked, names),
         (Task::Script, [names @ .., goal]) if !names.is_empty() => {
             write_script(rt, asked, names, goal)
         }

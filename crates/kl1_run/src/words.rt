@@ -1,6 +1,6 @@
 // The words that the program knows, and what they ask for.
 
-use crate::asked::{Asked, Form, Task, USAGE, VERSION, Waits};
+use crate::asked::{Asked, Form, MODULE, MOST_AT_A_TIME, Task, USAGE, VERSION, Waits};
 use crate::fault::Fault;
 use clap::{Arg, ArgAction, Command, Error, value_parser};
 use kl1_model::limits::MOST_PRINTED_BYTES;
@@ -110,16 +110,25 @@ fn with_tasks<'a>(alloc: Global, command: Command<'a>) -> Result<Command<'a>, Al
         .requires_arg("check")?
         .help("Let --check end with status 2 if there is a warning");
     let script = flag(alloc, "script", "Write the script that does the same work");
-    command.arg(journal)?.arg(check)?.arg(warn)?.arg(script)
+    let prompt = of_run(flag(
+        alloc,
+        "prompt",
+        "Read goals and commands from standard input, as without a goal",
+    ))?;
+    command
+        .arg(journal)?
+        .arg(check)?
+        .arg(warn)?
+        .arg(script)?
+        .arg(prompt)
 }
 
 /// The words that the program knows.
 fn command<'a>(alloc: Global) -> Result<Command<'a>, AllocError> {
     let words = Arg::new(alloc, "words")
-        .required(true)
         .action(ArgAction::Append)
-        .num_args(1..)
-        .help("Files with modules, and then a goal");
+        .num_args(0..)
+        .help("Files with modules, and then a goal; without one there is a prompt");
     let plain = Command::new(alloc, "kl1_run")
         .about("Loads modules from files, and runs a goal")
         .version(VERSION)
@@ -134,18 +143,30 @@ fn command<'a>(alloc: Global) -> Result<Command<'a>, AllocError> {
 /// the fourth rules a run ends at its allowance.
 fn most_steps(task: Task, rules: Rules) -> u64 {
     match (task, rules) {
-        (Task::Check | Task::Run, Rules::Four) => MOST_ALLOWANCE,
+        (Task::Check | Task::Run | Task::Prompt, Rules::Four) => MOST_ALLOWANCE,
         _ => MOST_STEPS,
+    }
+}
+
+/// The steps of a task if none are asked for.
+fn default_steps(task: Task) -> u64 {
+    match task {
+        Task::Check | Task::Script | Task::Run => MOST_ALLOWANCE,
+        Task::Prompt => MOST_AT_A_TIME,
     }
 }
 
 /// What the words ask for, of which the first is the program's name.
 pub fn asked_in<'a>(alloc: Global, words: &'a [String]) -> Result<Asked<'a>, Error> {
     let matches = command(alloc)?.try_get_matches_from(words)?;
+    let words = matches.get_strs("words").unwrap_or(&[]);
+    let has_goal = words.last().is_none_or(|word| !word.ends_with(MODULE));
     let task = if matches.get_flag("check") {
         Task::Check
     } else if matches.get_flag("script") {
         Task::Script
+    } else if matches.get_flag("prompt") || !has_goal {
+        Task::Prompt
     } else {
         Task::Run
     };
@@ -155,15 +176,15 @@ pub fn asked_in<'a>(alloc: Global, words: &'a [String]) -> Result<Asked<'a>, Err
     };
     let is_whole = matches.get_flag("whole");
     let form = Form {
-        has_bindings: matches.get_flag("bindings"),
+        has_bindings: matches.get_flag("bindings") || matches!(task, Task::Prompt),
         is_infix: matches.get_flag("infix"),
     };
     Ok(Asked {
-        words: Vec::from_slice(alloc, matches.get_strs("words").unwrap_or(&[]))?,
+        words: Vec::from_slice(alloc, words)?,
         task,
         steps: matches
             .get_one::<u64>("steps")
-            .unwrap_or(MOST_ALLOWANCE)
+            .unwrap_or(default_steps(task))
             .min(most_steps(task, rules)),
         allowance: matches
             .get_one::<u64>("allowance")

@@ -1,0 +1,181 @@
+// What lines of a prompt ask for.
+
+ghost use Rattle.std.specs.Prelude.{◌≡◌, drop, IfOk};
+ghost use Rattle.kl1_model.specs.Line.{only_number, up_to};
+ghost use Rattle.kl1_model.specs.Module.{read_goal};
+ghost use Rattle.kl1_model_server.specs.Command as model;
+ghost use Rattle.kl1_command.specs.Commands.{parsed_view};
+ghost use Rattle.kl1_prompt.specs.declared.parsed.TheConstants.{MOST_TRACED};
+ghost use Rattle.kl1_prompt.specs.Lines as lines;
+ghost use Rattle.kl1_prompt.specs.Lines.{line_of, line_view, alone, by_number_or, by_name, by_command, reports_line, without_colon, order_by, goal_line, begins_with};
+
+use crate::line::{Line, Table};
+use kl1_command::{Command, Parsed, parse};
+use kl1_lines::{is_blank_line, is_same, only_number, split_word, up_to};
+use kl1_read::{ReadFault, read_goal};
+use kl1_user_events::{Event, Query, ShoenNo};
+use std::alloc::{AllocError, Global};
+
+/// The most steps that a line has told.
+pub const MOST_TRACED: u64 = 10_000;
+
+/// What a line without its end asks for. `most` steps are asked for if it doesn't say how many.
+pub fn parse_line(alloc: Global, text: &[u8], most: u64) -> Result<Line, AllocError>
+    ensures { IfOk result (λ line. line_view line ≡ line_of most text.now) }
+{
+    let (word, rest) = split_word(text);
+    if is_blank_line(text) {
+        Ok(Line::Blank)
+    } else if begins_with(b'%', word) {
+        Ok(Line::Blank)
+    } else if begins_with(b':', word) {
+        parse_order(alloc, word, rest, most)
+    } else {
+        parse_goal(alloc, text)
+    }
+}
+
+/// Whether bytes begin with this one.
+fn begins_with(byte: u8, bytes: &[u8]) -> bool
+    ensures { result ≡ begins_with byte bytes.now }
+{
+    match bytes {
+        [] => false,
+        [first, ..] => *first == byte,
+    }
+}
+
+/// The goal of a line.
+fn parse_goal(alloc: Global, text: &[u8]) -> Result<Line, AllocError>
+    ensures { IfOk result (λ line. line_view line ≡ goal_line (read_goal text.now)) }
+{
+    match read_goal(alloc, text) {
+        Ok(goal) => Ok(Line::Goal(goal)),
+        Err(ReadFault::Bad { line: _line }) => Ok(Line::NoGoal),
+        Err(ReadFault::Memory) => Err(AllocError),
+    }
+}
+
+#[tactic(auto, unfolding(crate::specs::Lines::order_by))]
+/// What a word with a colon before it and what is after it ask for.
+fn parse_order(alloc: Global, word: &[u8], rest: &[u8], most: u64) -> Result<Line, AllocError>
+    ensures { IfOk result (λ line. line_view line ≡ order_by most word.now rest.now) }
+{
+    if is_same(word, b":step") {
+        Ok(parse_step(rest, most))
+    } else if is_same(word, b":trace") {
+        Ok(parse_trace(rest))
+    } else if is_same(word, b":goals") {
+        Ok(alone(Line::Show(Table::Goals), rest))
+    } else if is_same(word, b":waits") {
+        Ok(alone(Line::Show(Table::Waits), rest))
+    } else if is_same(word, b":shoens") {
+        Ok(alone(Line::Show(Table::Shoens), rest))
+    } else if is_same(word, b":stats") {
+        Ok(alone(Line::Show(Table::Used), rest))
+    } else if is_same(word, b":load") {
+        parse_load(alloc, rest)
+    } else if is_same(word, b":reload") {
+        Ok(alone(Line::Reload, rest))
+    } else if is_same(word, b":help") {
+        let (topic, _behind) = split_word(rest);
+        Ok(Line::Help(Vec::from_slice(alloc, topic)?))
+    } else if is_same(word, b":quit") {
+        Ok(alone(Line::Quit, rest))
+    } else if is_same(word, b":reports") {
+        parse_reports(alloc, word, rest)
+    } else {
+        parse_command(alloc, word, rest)
+    }
+}
+
+/// A line that has nothing after its word.
+fn alone(line: Line, rest: &[u8]) -> Line
+    ensures { line_view result ≡ alone (line_view line) rest.now }
+{
+    if is_blank_line(rest) {
+        line
+    } else {
+        Line::Unknown
+    }
+}
+
+/// What stands after `:step`: how many steps, or nothing.
+fn parse_step(rest: &[u8], most: u64) -> Line
+    ensures { line_view result ≡ by_number_or lines.step most (only_number rest.now) rest.now }
+{
+    if is_blank_line(rest) {
+        return Line::Step(most);
+    }
+    match only_number(rest) {
+        Some(steps) => Line::Step(steps),
+        None => Line::Unknown,
+    }
+}
+
+/// What stands after `:trace`: how many steps, or nothing.
+fn parse_trace(rest: &[u8]) -> Line
+    ensures { line_view result ≡ by_number_or lines.trace 1 (up_to MOST_TRACED (only_number rest.now)) rest.now }
+{
+    if is_blank_line(rest) {
+        return Line::Trace(1);
+    }
+    match up_to(MOST_TRACED, only_number(rest)) {
+        Some(steps) => Line::Trace(steps),
+        None => Line::Unknown,
+    }
+}
+
+/// What stands after `:load`: a file's name.
+fn parse_load(alloc: Global, rest: &[u8]) -> Result<Line, AllocError>
+    ensures { IfOk result (λ line. line_view line ≡ by_name lines.loads rest.now) }
+{
+    let (name, behind) = split_word(rest);
+    if is_blank_line(rest) || !is_blank_line(behind) {
+        return Ok(Line::Unknown);
+    }
+    Ok(Line::Load(Vec::from_slice(alloc, name)?))
+}
+
+/// What stands after `:reports`: a shoen's number, or that of a report too.
+fn parse_reports(alloc: Global, word: &[u8], rest: &[u8]) -> Result<Line, AllocError>
+    ensures { IfOk result (λ line. line_view line ≡ reports_line (only_number rest.now) (model.parse (without_colon word.now rest.now))) }
+{
+    match only_number(rest) {
+        Some(shoen) => Ok(Line::Command(Command::Does(Event::Read(Query::Reports {
+            shoen: ShoenNo(shoen),
+            from: 1,
+        })))),
+        None => parse_command(alloc, word, rest),
+    }
+}
+
+/// The command of the account that a word without its colon and what is after it are.
+fn parse_command(alloc: Global, word: &[u8], rest: &[u8]) -> Result<Line, AllocError>
+    ensures { IfOk result (λ line. line_view line ≡ by_command (model.parse (without_colon word.now rest.now))) }
+{
+    let mut text = Vec::from_slice(alloc, without_first(word))?;
+    text.extend_from_slice(rest)?;
+    let parsed = parse(alloc, text.as_slice())?;
+    Ok(command_line(parsed))
+}
+
+/// The line that is this command, if there is one.
+fn command_line(parsed: Parsed) -> Line
+    ensures { line_view result ≡ by_command (parsed_view parsed) }
+{
+    match parsed {
+        Parsed::Command(command) => Line::Command(command),
+        Parsed::Refused => Line::Unknown,
+    }
+}
+
+/// Bytes without the first of them.
+fn without_first(bytes: &[u8]) -> &[u8]
+    ensures { result.now ≡ drop 1 bytes.now }
+{
+    match bytes {
+        [] => bytes,
+        [_first, rest @ ..] => rest,
+    }
+}
