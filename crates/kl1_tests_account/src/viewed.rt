@@ -5,6 +5,7 @@
 // | `shoens N M` | the first M shoens with numbers from N on, each as `2 in 1 exhausted 5 5 1`: its charge, its allowance and its goals |
 // | `goals N M` | the first M goals with numbers from N on, each as `4 in 1 at 10 reduces` with `can step` after it if it can |
 // | `text G`, `whole G` | the text of the term of goal G, cut or whole, or `none` |
+// | `short G N` | this text, cut after N bytes |
 // | `awaits G` | the variables that goal G waits for, as `3 5`, or `none` |
 // | `has G V M` | whether variable V is in the term of goal G, of which at most M parts are looked at |
 // | `usage` | what there is of what is limited, beside the limits |
@@ -156,6 +157,10 @@ fn put_view(
         b"shoens" => put_shoens(out, user, words),
         b"goals" => put_goals(out, user, words),
         b"text" => put_text(out, user, words, Extent::Cut),
+        b"short" => {
+            let (goal, most) = cut(words, b' ');
+            put_text(out, user, goal, Extent::AtMost(number_of(most) as usize))
+        }
         b"whole" => put_text(out, user, words, Extent::Whole),
         b"awaits" => put_awaited(out, user, words),
         b"has" => put_presence(out, user, words),
@@ -184,6 +189,6 @@ pub fn is_shown(
 pub fn is_view(word: &[u8]) -> bool {
     matches!(
         word,
-        b"shoens" | b"goals" | b"text" | b"whole" | b"awaits" | b"has" | b"usage"
+        b"shoens" | b"goals" | b"text" | b"short" | b"whole" | b"awaits" | b"has" | b"usage"
     )
 }

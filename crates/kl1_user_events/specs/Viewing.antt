@@ -6,7 +6,7 @@ use Rattle.std.specs.List.Sorted.{IsStrictlyIncreasing}
 use Rattle.kl1_model.specs.declared.limits.TheConstants.{MOST_NAMES}
 use Rattle.kl1_model.specs.declared.limits.Limits.{Limits}
 use Rattle.kl1_model.specs.Term.{Term, occurs}
-use Rattle.kl1_model.specs.Print.{print, cut_print}
+use Rattle.kl1_model.specs.Print.{print, cut_text, cut_print}
 use Rattle.kl1_model.specs.Control.{control_of}
 use Rattle.kl1_model.specs.State.{Task, monitor, reduces, substitutes, Goal, Shoen, State, goal_at, shoen_at, is_monitor, limits_of}
 use Rattle.kl1_model.specs.Tree.{charged_of, goals_alive}
@@ -21,7 +21,7 @@ use Rattle.kl1_user_events.specs.declared.goal_view.TaskKind.{TaskKind}
 use Rattle.kl1_user_events.specs.declared.goal_view.TaskKind.TheVariants.{Monitor, Reduces, Substitutes}
 use Rattle.kl1_user_events.specs.declared.goal_view.GoalView.{GoalView}
 use Rattle.kl1_user_events.specs.declared.goal_view.Extent.{Extent}
-use Rattle.kl1_user_events.specs.declared.goal_view.Extent.TheVariants.{Cut, Whole}
+use Rattle.kl1_user_events.specs.declared.goal_view.Extent.TheVariants.{Cut, AtMost, Whole}
 use Rattle.kl1_user_events.specs.declared.goal_view.Presence.{Presence}
 use Rattle.kl1_user_events.specs.declared.goal_view.Presence.TheVariants.{Present, Absent, Unknown}
 use Rattle.kl1_user_events.specs.declared.usage.Used.{Used}
@@ -88,6 +88,7 @@ goal_term s n = option_and_then (λ g. term_in g.task) (goal_at n s.goals)
 -- as much of a term's text as is shown
 abbrev pub text_of : Extent → Term → List ℕ
 text_of Cut t = cut_print t
+text_of (AtMost most) t = cut_text most (print t)
 text_of Whole t = print t
 
 -- what is shown of the term of goal `n`, if there is such a goal and it is no monitor

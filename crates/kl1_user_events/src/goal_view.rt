@@ -21,10 +21,12 @@ pub struct GoalView {
     pub can_step: bool,
 }
 
-/// How much of a goal's text is shown: as many bytes as a reply has of a value, with three dots if it is longer, or all of it.
+/// How much of a goal's text is shown: as many bytes as a reply has of a value, so many bytes, or all of it; three dots stand behind a
+/// text that is cut.
 #[derive(Clone, Copy)]
 pub enum Extent {
     Cut,
+    AtMost(usize),
     Whole,
 }
 

@@ -25,6 +25,7 @@ fn most_of(extent: Extent) -> Option<usize>
 {
     match extent {
         Extent::Cut => Some(MOST_PRINTED_BYTES),
+        Extent::AtMost(most) => Some(most),
         Extent::Whole => None,
     }
 }
