@@ -2,11 +2,11 @@
 
 _kl1_run() {
     local word=${COMP_WORDS[COMP_CWORD]} before=${COMP_WORDS[COMP_CWORD - 1]}
-    local options="--steps --allowance --rules --reports --whole --bindings --infix --waits --stats --journal --check --warn --script --prompt --help --version"
+    local options="--steps --allowance --rules --reports --whole --bindings --infix --waits --stats --trace --profile --timeline --lanes --journal --check --warn --script --prompt --help --version"
     COMPREPLY=()
     case $before in
-    --steps | --allowance)
-        # A number.
+    --steps | --allowance | --lanes)
+        # A number, or a pattern.
         return
         ;;
     --rules)
@@ -21,7 +21,7 @@ _kl1_run() {
         mapfile -t COMPREPLY < <(compgen -W "all none" -- "$word")
         return
         ;;
-    --journal)
+    --journal | --timeline)
         # A file of any name.
         compopt -o filenames 2>/dev/null
         mapfile -t COMPREPLY < <(compgen -f -- "$word")

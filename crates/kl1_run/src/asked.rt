@@ -10,7 +10,7 @@ pub const VERSION: &str = "0.1.0";
 
 /// How the program is called.
 pub const USAGE: &str =
-    "kl1_run [--steps N] [--allowance N] [--rules N] [--reports] [--whole] [--bindings] [--infix]\n               [--waits WHICH] [--stats] [--journal FILE] FILE... GOAL\n       kl1_run [--prompt] [OPTION]... FILE...\n       kl1_run --check [--warn error] FILE...\n       kl1_run --script [--steps N] [--allowance N] [--reports] FILE... GOAL\n       kl1_run --help | --version";
+    "kl1_run [--steps N] [--allowance N] [--rules N] [--reports] [--whole] [--bindings] [--infix]\n               [--waits WHICH] [--stats] [--trace[=PATTERN]] [--profile[=json]]\n               [--timeline FILE.svg [--lanes PATTERN]] [--journal FILE] FILE... GOAL\n       kl1_run [--prompt] [OPTION]... FILE...\n       kl1_run --check [--warn error] FILE...\n       kl1_run --script [--steps N] [--allowance N] [--reports] FILE... GOAL\n       kl1_run --help | --version";
 
 /// The most steps that are done for a line of a prompt, unless another number is asked for.
 pub const MOST_AT_A_TIME: u64 = 1_000_000;
@@ -72,6 +72,17 @@ impl Waits {
     }
 }
 
+/// How it is told what each predicate did.
+#[derive(Clone, Copy)]
+pub enum Profiles {
+    /// Not at all.
+    None,
+    /// As a table.
+    Table,
+    /// As JSON.
+    Json,
+}
+
 /// What the words ask for.
 #[derive(Drop)]
 pub struct Asked<'a> {
@@ -95,10 +106,31 @@ pub struct Asked<'a> {
     pub waits: Waits,
     /// Whether it is told what the run used.
     pub has_stats: bool,
+    /// The patterns of the steps that are told; `None` if none is.
+    pub trace: Option<&'a str>,
+    /// How it is told what each predicate did.
+    pub profile: Profiles,
+    /// The name of the file to which a picture of the run is written; `None` if it is written nowhere.
+    pub timeline: Option<&'a str>,
+    /// The patterns of the lanes that are drawn.
+    pub lanes: Option<&'a str>,
     /// The name of the file to which the journal of a run is written; `None` if it is written nowhere.
     pub journal: Option<&'a str>,
     /// Whether warnings of a check are faults.
     pub warnings_are_faults: bool,
+}
+
+impl Asked<'_> {
+    /// Whether something is told of the steps of a run.
+    pub fn tells_steps(&self) -> bool {
+        if self.trace.is_some() || self.timeline.is_some() {
+            return true;
+        }
+        match self.profile {
+            Profiles::None => false,
+            Profiles::Table | Profiles::Json => true,
+        }
+    }
 }
 
 /// The words of the program, of which the first is its name.

@@ -1,4 +1,4 @@
-// The file to which the journal is written.
+// The files to which a journal and a picture are written.
 
 use crate::fault::Fault;
 use crate::files::{FileId, put_file_fault};
@@ -9,7 +9,10 @@ use std::io;
 use std::io::Read;
 
 /// How each journal begins.
-const BEGINNING: &[u8] = b"journal ";
+const JOURNAL: &[u8] = b"journal ";
+
+/// How each picture begins.
+const PICTURE: &[u8] = b"<svg ";
 
 /// Why a file isn't written over.
 #[derive(Clone, Copy)]
@@ -17,7 +20,9 @@ enum Kept {
     /// It is one of the modules.
     Module,
     /// It has something in it that is no journal.
-    Other,
+    NoJournal,
+    /// It has something in it that is no picture.
+    NoPicture,
 }
 
 impl Kept {
@@ -25,7 +30,8 @@ impl Kept {
     fn reason(self) -> &'static str {
         match self {
             Kept::Module => "it is a module that is to be run, and stays as it is",
-            Kept::Other => "it is neither empty nor a journal, and stays as it is",
+            Kept::NoJournal => "it is neither empty nor a journal, and stays as it is",
+            Kept::NoPicture => "it is neither empty nor a picture, and stays as it is",
         }
     }
 }
@@ -36,11 +42,30 @@ pub fn journal_file(
     name: Option<&str>,
     modules: &[FileId],
 ) -> Result<Option<FailureCounter<File>>, Fault> {
-    let Some(name) = name else {
-        return Ok(None);
-    };
-    match open(rt, name, modules) {
-        Ok(Ok(file)) => Ok(Some(FailureCounter::new(file))),
+    match name {
+        None => Ok(None),
+        Some(name) => {
+            let file = file_for(rt, name, modules, JOURNAL, Kept::NoJournal)?;
+            Ok(Some(FailureCounter::new(file)))
+        }
+    }
+}
+
+/// The file for a picture, made or emptied. A module, and whatever isn't empty and no picture, is refused.
+pub fn picture_file(rt: &HostRuntime, name: &str, modules: &[FileId]) -> Result<File, Fault> {
+    file_for(rt, name, modules, PICTURE, Kept::NoPicture)
+}
+
+/// A file, made or emptied. A module is refused, and for the reason that is given whatever isn't empty and doesn't begin so.
+fn file_for(
+    rt: &HostRuntime,
+    name: &str,
+    modules: &[FileId],
+    beginning: &[u8],
+    other: Kept,
+) -> Result<File, Fault> {
+    match open(rt, name, modules, beginning, other) {
+        Ok(Ok(file)) => Ok(file),
         Ok(Err(kept)) => Err(kept_fault(rt.alloc(), name, kept)?),
         Err(error) => {
             let mut line = Vec::new(rt.alloc());
@@ -56,8 +81,14 @@ fn kept_fault(alloc: Global, name: &str, kept: Kept) -> Result<Fault, Fault> {
     Ok(Fault::Lines(line.into_bytes()))
 }
 
-/// Opens the file, and empties it only once it is known that nothing but a journal is lost.
-fn open(rt: &HostRuntime, name: &str, modules: &[FileId]) -> io::Result<Result<File, Kept>> {
+/// Opens the file, and empties it only once it is known that nothing is lost but what begins so.
+fn open(
+    rt: &HostRuntime,
+    name: &str,
+    modules: &[FileId],
+    beginning: &[u8],
+    other: Kept,
+) -> io::Result<Result<File, Kept>> {
     let file = OpenOptions::new().write(true).create(true).open(rt, name)?;
     let attributes = file.metadata()?;
     let id = FileId::of(&attributes);
@@ -68,19 +99,19 @@ fn open(rt: &HostRuntime, name: &str, modules: &[FileId]) -> io::Result<Result<F
     }
     // Terminals, pipes and other devices have nothing that could be lost.
     if attributes.is_file() {
-        if attributes.len() != 0 && !begins_as_journal(rt, name)? {
-            return Ok(Err(Kept::Other));
+        if attributes.len() != 0 && !begins_with(rt, name, beginning)? {
+            return Ok(Err(other));
         }
         file.set_len(0)?;
     }
     Ok(Ok(file))
 }
 
-/// Whether a file begins as journals do.
-fn begins_as_journal(rt: &HostRuntime, name: &str) -> io::Result<bool> {
+/// Whether a file begins so.
+fn begins_with(rt: &HostRuntime, name: &str, beginning: &[u8]) -> io::Result<bool> {
     let mut front = Vec::new(rt.alloc());
     File::open(rt, name)?
-        .take(BEGINNING.len() as u64)
+        .take(beginning.len() as u64)
         .read_to_end(&mut front)?;
-    Ok(front.as_slice() == BEGINNING)
+    Ok(front.as_slice() == beginning)
 }

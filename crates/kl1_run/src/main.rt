@@ -18,6 +18,7 @@ mod shown;
 mod stats;
 mod tasks;
 mod told;
+mod watched;
 mod words;
 
 use crate::asked::words_in;

@@ -16,6 +16,7 @@ use crate::scripts::script_alone;
 use crate::shown::{Shown, in_form};
 use crate::stats::tell_stats;
 use crate::told::{tell_ending, used_of};
+use crate::watched::tell_steps;
 use kl1_run_work::{Ending, FailureCounter, Stop, Term, Work, put_fault, words_of};
 use kl1_shown::variable_names;
 use kl1_watch::Names;
@@ -86,6 +87,8 @@ fn run_goal(rt: &HostRuntime, asked: &Asked<'_>, names: &[&str], word: &str) -> 
         rules: asked.rules,
     };
     let mut journal = journal_file(rt, asked.journal, ids.as_slice())?;
+    let names_of_goal = names_in(alloc, word, &started)?;
+    tell_steps(rt, asked, word, ids.as_slice(), names_of_goal, &again)?;
     let mut progress = Progress::new(rt);
     let copied = Copied::new(alloc, Pipe::new(rt.stdout()), asked.form.is_other());
     let mut out = FailureCounter::new(copied);

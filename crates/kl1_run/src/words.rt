@@ -1,6 +1,8 @@
 // The words that the program knows, and what they ask for.
 
-use crate::asked::{Asked, Form, MODULE, MOST_AT_A_TIME, Task, USAGE, VERSION, Waits};
+use crate::asked::{
+    Asked, Form, MODULE, MOST_AT_A_TIME, Profiles, Task, USAGE, VERSION, Waits,
+};
 use crate::fault::Fault;
 use clap::{Arg, ArgAction, Command, Error, value_parser};
 use kl1_model::limits::MOST_PRINTED_BYTES;
@@ -87,6 +89,64 @@ fn with_looks<'a>(alloc: Global, command: Command<'a>) -> Result<Command<'a>, Al
     command.arg(waits)?.arg(stats)
 }
 
+/// An option whose value stands after a `=`, with what it is if it is left out.
+fn with_choice<'a>(
+    alloc: Global,
+    name: &'a str,
+    value: &'a str,
+    missing: &'a str,
+    help: &'a str,
+) -> Result<Arg<'a>, AllocError> {
+    of_run(
+        Arg::new(alloc, name)
+            .long(name)
+            .action(ArgAction::Set)
+            .num_args(0..=1)
+            .require_equals(true)
+            .default_missing_value(missing)
+            .value_name(value)
+            .help(help),
+    )
+}
+
+/// The forms of a profile.
+const PROFILES: &[&str] = &["json", "table"];
+
+/// A command that knows the options about what is told of steps too.
+fn with_steps<'a>(alloc: Global, command: Command<'a>) -> Result<Command<'a>, AllocError> {
+    let trace = with_choice(
+        alloc,
+        "trace",
+        "PATTERN",
+        "",
+        "Tell each step on standard error, or those of PATTERN",
+    )?;
+    let profile = with_choice(
+        alloc,
+        "profile",
+        "FORM",
+        "table",
+        "Tell what each predicate did on standard error, as a table or as JSON",
+    )?
+    .value_parser(PROFILES);
+    let timeline = of_run(
+        Arg::new(alloc, "timeline")
+            .long("timeline")
+            .action(ArgAction::Set)
+            .value_name("FILE.svg")
+            .help("Write a picture of the run to FILE.svg, which is new, empty or such a picture"),
+    )?;
+    let lanes = of_run(
+        Arg::new(alloc, "lanes")
+            .long("lanes")
+            .action(ArgAction::Set)
+            .value_name("PATTERN")
+            .requires_arg("timeline")?
+            .help("Draw only the processes and steps of PATTERN"),
+    )?;
+    command.arg(trace)?.arg(profile)?.arg(timeline)?.arg(lanes)
+}
+
 /// A command that knows the tasks too, and the file for the journal.
 fn with_tasks<'a>(alloc: Global, command: Command<'a>) -> Result<Command<'a>, AllocError> {
     let journal = of_run(
@@ -136,7 +196,8 @@ fn command<'a>(alloc: Global) -> Result<Command<'a>, AllocError> {
     let numbered = with_numbers(alloc, plain)?;
     let formed = with_forms(alloc, numbered)?;
     let looked = with_looks(alloc, formed)?;
-    with_tasks(alloc, looked)?.arg(words)
+    let stepped = with_steps(alloc, looked)?;
+    with_tasks(alloc, stepped)?.arg(words)
 }
 
 /// The most steps of a task. A script's `run` takes no more than its limit, and by the third rules a journal has no more entries; by
@@ -207,6 +268,14 @@ pub fn asked_in<'a>(alloc: Global, words: &'a [String]) -> Result<Asked<'a>, Err
             None => Waits::First,
         },
         has_stats: matches.get_flag("stats"),
+        trace: matches.get_str("trace"),
+        profile: match matches.get_str("profile") {
+            Some("json") => Profiles::Json,
+            Some(_) => Profiles::Table,
+            None => Profiles::None,
+        },
+        timeline: matches.get_str("timeline"),
+        lanes: matches.get_str("lanes"),
         journal: matches.get_str("journal"),
         warnings_are_faults: matches.get_str("warn").is_some(),
     })

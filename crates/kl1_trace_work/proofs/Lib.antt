@@ -1,0 +1,5 @@
+mod Chains
+mod Heads
+mod Pages
+mod Rows
+mod Sums

@@ -1,0 +1,4 @@
+pub mod Counting
+pub mod Seen
+pub mod Telling
+pub mod Tried

@@ -1,0 +1,67 @@
+// What is seen of a step.
+
+ghost use Rattle.std.specs.Prelude.{◌≡◌, ◌∷◌, ◌++◌, List, [], OnOk};
+
+use crate::predicates::Predicates;
+use kl1_command::{UnbookedHost, Views};
+use kl1_user_events::{ClauseNo, GoalNo, GoalView, ShoenView};
+use std::alloc::AllocError;
+
+/// A goal that is new, and the place of its predicate.
+#[derive(Clone, Copy)]
+pub struct NewGoal {
+    pub view: GoalView,
+    pub predicate: usize,
+}
+
+/// A step that comes next.
+#[derive(Clone, Copy)]
+pub struct Next {
+    /// Its number, from 1.
+    pub number: u64,
+    /// The goal that is to be reduced, as it is before the step, the place of its predicate, and its clause.
+    pub goal: GoalView,
+    pub predicate: usize,
+    pub clause: ClauseNo,
+}
+
+/// What is seen of a step.
+#[derive(Drop)]
+pub struct Seen {
+    pub step: Next,
+    /// The text of the goal before the step, cut, if that was asked for.
+    pub text: Option<Vec<u8>>,
+    /// The goals that are new, in order of their numbers, and how many of them wait for an answer to an exception.
+    pub new: Vec<NewGoal>,
+    pub raised: u64,
+    /// The goals that couldn't step before and can now, if that was asked for.
+    pub woken: Vec<GoalNo>,
+    /// The shoens that are new, and those in another state than before.
+    pub opened: Vec<ShoenView>,
+    pub changed: Vec<ShoenView>,
+    /// How many goals there are after it, monitors not among them.
+    pub alive: u64,
+}
+
+/// What sees each step. It may look at the account, and changes nothing.
+pub trait Observer<H: UnbookedHost + Views> {
+    ghost use Rattle.kl1_trace_work.specs.declared.seen.Seen.{Seen};
+
+    // Whether it has seen just these steps, as far as that is known.
+    ghost has_seen: { Self → List Seen → Type 0 };
+
+    /// Whether it wants to know the text of the goal of a step.
+    fn wants_text(&self, predicates: &Predicates, step: &Next) -> bool;
+
+    /// Takes what is seen of a step. Answers whether it wants to see more.
+    fn see(
+        &mut self,
+        host: &mut H,
+        predicates: &Predicates,
+        seen: &Seen,
+    ) -> Result<bool, AllocError>
+        ensures seen { OnOk result ((ss : List Seen) → has_seen self.old ss → has_seen self.new (ss ++ seen.now ∷ [])) }
+        ensures same { (f : H.Reading) → H.fits host.new f → H.kept f host.new ≡ H.kept f host.old }
+        ensures before { (f : H.Reading) → H.fits host.new f → H.fits host.old f }
+        ensures beside { H.beside host.new ≡ H.beside host.old };
+}

@@ -1,0 +1,356 @@
+// The lines of a trace.
+
+ghost use Rattle.std.specs.Prelude.{◌≡◌, ◌++◌, IfOk, OnOk};
+ghost use Rattle.kl1_trace_work.specs.Telling.{head_text, AreLines};
+
+use crate::columns::{put_blanks, put_front, put_right};
+use crate::computed::{value_in, value_of};
+use crate::equated::{equated, split_term};
+use crate::pattern::Pattern;
+use crate::predicates::Predicates;
+use crate::prints::{computing_in, sides_of, variable_in};
+use crate::seen::{NewGoal, Next, Seen};
+use crate::texts::{Texts, word_of};
+use kl1_command::Views;
+use kl1_lines::put_decimal;
+use kl1_shown::parse_print;
+use kl1_term::Node;
+use kl1_text::put_int;
+use kl1_user_events::{Extent, GoalNo, ShoenNo, TaskKind};
+use std::alloc::{AllocError, Global};
+use std::io;
+use std::io::Write;
+
+/// The most bytes of a goal.
+const MOST_GOAL: usize = 100;
+
+/// The column of a clause's place.
+const PLACE_COLUMN: usize = 15;
+
+/// The column of a goal.
+const GOAL_COLUMN: usize = 38;
+
+/// Lines are held back until they have this many bytes.
+const MOST_HELD: usize = 65_536;
+
+/// What writes a trace.
+#[derive(Drop)]
+pub struct Trace<'a, W> {
+    pub texts: Texts<'a>,
+    pub pattern: Pattern,
+    out: W,
+    /// What is to be written.
+    held: Vec<u8>,
+    /// Why a write failed, after which nothing is written.
+    pub failure: Option<io::Error>,
+}
+
+/// Puts how the lines of a step begin after the bytes: its number, its goal and the goal's shoen.
+#[tactic(auto, using(crate::proofs::Heads::begun))]
+fn put_begin(alloc: Global, step: &Next, out: &mut Vec<u8>) -> Result<(), AllocError>
+    ensures { OnOk result (out.new.items ≡ out.old.items ++ head_text step.now) }
+{
+    put_right(alloc, step.number, 5, out)?;
+    put_right(alloc, step.goal.number.0, 6, out)?;
+    out.push(b'/')?;
+    put_decimal(out, step.goal.shoen.0)?;
+    out.push(b' ')?;
+    Ok(())
+}
+
+/// Puts the blanks before a sign, and it, after the bytes.
+fn put_sign(sign: &[u8], out: &mut Vec<u8>) -> Result<(), AllocError> {
+    put_blanks(out.len().saturating_add(GOAL_COLUMN), out)?;
+    out.extend_from_slice(sign)
+}
+
+/// Puts the line of a report after the bytes.
+fn put_report(shoen: ShoenNo, text: &[u8], out: &mut Vec<u8>) -> Result<(), AllocError> {
+    put_sign(b"! shoen ", out)?;
+    put_decimal(out, shoen.0)?;
+    out.extend_from_slice(b": ")?;
+    put_front(text, MOST_GOAL.saturating_add(50), out)?;
+    out.push(b'\n')?;
+    Ok(())
+}
+
+/// Puts the lines of goals that wake after the bytes.
+fn put_woken(woken: &[GoalNo], out: &mut Vec<u8>) -> Result<(), AllocError> {
+    for goal in woken {
+        put_sign(b"~ ", out)?;
+        put_decimal(out, goal.0)?;
+        out.extend_from_slice(b" wakes\n")?;
+    }
+    Ok(())
+}
+
+impl<'a, W: Write + Drop> Trace<'a, W> {
+    /// What writes the steps of a pattern.
+    pub fn new(texts: Texts<'a>, pattern: Pattern, out: W) -> Self {
+        let held = Vec::new(texts.alloc);
+        Trace {
+            texts,
+            pattern,
+            out,
+            held,
+            failure: None,
+        }
+    }
+
+    /// Writes what is held back.
+    pub fn flush(&mut self) {
+        if self.failure.is_none() {
+            if let Err(error) = self.out.write_all(self.held.as_slice()) {
+                self.failure = Some(error);
+            }
+        }
+        self.held.clear();
+    }
+
+    /// Tells lines.
+    pub fn tell(&mut self, lines: &[u8]) -> Result<(), AllocError> {
+        self.held.extend_from_slice(lines)?;
+        if MOST_HELD <= self.held.len() {
+            self.flush();
+        }
+        Ok(())
+    }
+
+    /// Puts the rest of the first line of a step after the bytes, after what it begins with, which is `begin` bytes long.
+    fn put_head(
+        &self,
+        predicates: &Predicates,
+        seen: &Seen,
+        begin: usize,
+        out: &mut Vec<u8>,
+    ) -> Result<(), AllocError> {
+        put_blanks(PLACE_COLUMN.saturating_sub(begin), out)?;
+        self.texts.put_place(predicates, seen, out)?;
+        if let Some(text) = &seen.text {
+            out.push(b' ')?;
+            put_blanks(GOAL_COLUMN.saturating_sub(begin), out)?;
+            self.texts.put_term(text.as_slice(), MOST_GOAL, out)?;
+        }
+        out.push(b'\n')?;
+        Ok(())
+    }
+
+    /// Puts what the goal of a step binds after the bytes, if it is an equation that has a solution, or computes a number.
+    fn put_bindings(&self, seen: &Seen, out: &mut Vec<u8>) -> Result<(), AllocError> {
+        let Some(text) = &seen.text else {
+            return Ok(());
+        };
+        let print = text.as_slice();
+        if 0 < seen.raised || !print.starts_with(b"'") {
+            return Ok(());
+        }
+        if let Some((left, right)) = sides_of(print) {
+            match (variable_in(left), variable_in(right)) {
+                // Of two variables the later one is bound to the other.
+                (Some(one), Some(other)) if one < other => {
+                    return self.put_binding(other, left, out);
+                }
+                (Some(one), Some(other)) if one == other => return Ok(()),
+                (Some(one), _) => return self.put_binding(one, right, out),
+                (None, Some(other)) => return self.put_binding(other, left, out),
+                (None, None) => {}
+            }
+        }
+        if let Some(computing) = computing_in(print) {
+            if let (Some(variable), Some(value)) = (
+                variable_in(computing.target),
+                value_in(&computing),
+            ) {
+                let mut text = Vec::new(self.texts.alloc);
+                put_int(&mut text, value)?;
+                return self.put_binding(variable, text.as_slice(), out);
+            }
+        }
+        self.put_equated(print, out)
+    }
+
+    /// Puts the line of a variable that is bound to a printed term without operators after the bytes.
+    fn put_binding(
+        &self,
+        variable: u64,
+        value: &[u8],
+        out: &mut Vec<u8>,
+    ) -> Result<(), AllocError> {
+        put_sign(b"= ", out)?;
+        self.texts.names.put_variable(variable, out)?;
+        out.extend_from_slice(b" <- ")?;
+        self.texts.put_plain(value, MOST_GOAL, out)?;
+        out.push(b'\n')?;
+        Ok(())
+    }
+
+    /// Puts what a printed goal binds after the bytes, as it is seen in the terms of its two sides.
+    fn put_equated(&self, print: &[u8], out: &mut Vec<u8>) -> Result<(), AllocError> {
+        let alloc = self.texts.alloc;
+        let parsed = parse_print(alloc, print)?;
+        let [Node::Structure(name, 2), sides @ ..] = parsed.nodes.as_slice() else {
+            return Ok(());
+        };
+        let (left, rest) = split_term(sides);
+        let (right, _none) = split_term(rest);
+        let mut value = Vec::new(alloc);
+        let name = name.unpacked();
+        let is_equation = name.as_slice() == b"=".as_slice();
+        if name.as_slice() == b":=".as_slice() {
+            if let Some(number) = value_of(alloc, right)? {
+                value.push(Node::Integer(number))?;
+            }
+        }
+        let right = if is_equation { right } else { value.as_slice() };
+        let all = equated(alloc, left, right)?;
+        for one in all.as_slice() {
+            put_sign(b"= ", out)?;
+            self.texts.names.put_variable(one.variable, out)?;
+            out.extend_from_slice(b" <- ")?;
+            self.texts.put_nodes(one.value, MOST_GOAL, out)?;
+            out.push(b'\n')?;
+        }
+        Ok(())
+    }
+
+    /// Puts what shoens reported in a step after the bytes, as far as it is seen.
+    fn put_reports(
+        &self,
+        predicates: &Predicates,
+        seen: &Seen,
+        out: &mut Vec<u8>,
+    ) -> Result<(), AllocError> {
+        for shoen in seen.opened.as_slice() {
+            put_report(shoen.number, b"started", out)?;
+        }
+        if 0 < seen.raised {
+            let mut text = Vec::new(self.texts.alloc);
+            self.texts
+                .put_exception(predicates, seen, MOST_GOAL, &mut text)?;
+            put_report(seen.step.goal.shoen, text.as_slice(), out)?;
+        }
+        for shoen in seen.changed.as_slice() {
+            put_report(shoen.number, word_of(shoen.condition), out)?;
+        }
+        Ok(())
+    }
+
+    /// Puts the line of a new goal after the bytes. That of a substitute is told as an exception, and monitors aren't told.
+    fn put_new<H: Views>(
+        &self,
+        host: &mut H,
+        goal: &NewGoal,
+        out: &mut Vec<u8>,
+    ) -> Result<(), AllocError>
+        ensures same { (f : H.Reading) → H.fits host.new f → H.kept f host.new ≡ H.kept f host.old }
+        ensures before { (f : H.Reading) → H.fits host.new f → H.fits host.old f }
+        ensures beside { H.beside host.new ≡ H.beside host.old }
+    {
+        match goal.view.task {
+            TaskKind::Reduces => {}
+            _ => return Ok(()),
+        }
+        let Some(text) = host.goal_text(goal.view.number, Extent::Cut)? else {
+            return Ok(());
+        };
+        put_sign(b"+ ", out)?;
+        put_decimal(out, goal.view.number.0)?;
+        out.push(b' ')?;
+        self.texts.put_term(text.as_slice(), MOST_GOAL, out)?;
+        if !goal.view.can_step {
+            self.put_awaited(host, goal, out)?;
+        }
+        out.push(b'\n')?;
+        Ok(())
+    }
+
+    /// Puts what a new goal waits for after the bytes.
+    fn put_awaited<H: Views>(
+        &self,
+        host: &H,
+        goal: &NewGoal,
+        out: &mut Vec<u8>,
+    ) -> Result<(), AllocError> {
+        let mut words: &[u8] = b"  waits for ";
+        if let Some(variables) = host.awaited(goal.view.number)? {
+            for variable in variables.as_slice() {
+                out.extend_from_slice(words)?;
+                self.texts.names.put_variable(u64::from(*variable), out)?;
+                words = b", ";
+            }
+        }
+        Ok(())
+    }
+
+    /// Puts the lines of new goals after the bytes.
+    pub fn put_all_new<H: Views>(
+        &self,
+        host: &mut H,
+        new: &[NewGoal],
+        out: &mut Vec<u8>,
+    ) -> Result<(), AllocError>
+        ensures same { (f : H.Reading) → H.fits host.new f → H.kept f host.new ≡ H.kept f host.old }
+        ensures before { (f : H.Reading) → H.fits host.new f → H.fits host.old f }
+        ensures beside { H.beside host.new ≡ H.beside host.old }
+    {
+        let mut rest = new;
+        while let [first, others @ ..] = rest {
+            self.put_new(host, first, out)?;
+            rest = others;
+        }
+        Ok(())
+    }
+
+    /// The lines of a step.
+    #[tactic(auto, using(crate::proofs::Heads::lines_are))]
+    fn lines_of<H: Views>(
+        &self,
+        host: &mut H,
+        predicates: &Predicates,
+        seen: &Seen,
+    ) -> Result<Vec<u8>, AllocError>
+        ensures lines { IfOk result (λ lines. AreLines seen.now.step lines.items) }
+        ensures same { (f : H.Reading) → H.fits host.new f → H.kept f host.new ≡ H.kept f host.old }
+        ensures before { (f : H.Reading) → H.fits host.new f → H.fits host.old f }
+        ensures beside { H.beside host.new ≡ H.beside host.old }
+    {
+        let alloc = self.texts.alloc;
+        let mut out = Vec::new(alloc);
+        put_begin(alloc, &seen.step, &mut out)?;
+        let mut rest = Vec::new(alloc);
+        self.put_head(predicates, seen, out.len(), &mut rest)?;
+        self.put_all_new(host, seen.new.as_slice(), &mut rest)?;
+        self.put_bindings(seen, &mut rest)?;
+        put_woken(seen.woken.as_slice(), &mut rest)?;
+        self.put_reports(predicates, seen, &mut rest)?;
+        out.extend_from_slice(rest.as_slice())?;
+        Ok(out)
+    }
+}
+
+impl<W: Write + Drop> Trace<'_, W> {
+    /// Whether a step may be told.
+    pub fn may_tell(&self, predicates: &Predicates, step: &Next) -> bool {
+        let called = predicates.called(step.predicate);
+        self.pattern.may_have(step, called)
+    }
+
+    /// Tells a step, if the pattern has it. Answers whether later steps may be told.
+    pub fn take<H: Views>(
+        &mut self,
+        host: &mut H,
+        predicates: &Predicates,
+        seen: &Seen,
+    ) -> Result<bool, AllocError>
+        ensures same { (f : H.Reading) → H.fits host.new f → H.kept f host.new ≡ H.kept f host.old }
+        ensures before { (f : H.Reading) → H.fits host.new f → H.fits host.old f }
+        ensures beside { H.beside host.new ≡ H.beside host.old }
+    {
+        let called = predicates.called(seen.step.predicate);
+        if self.pattern.has(seen, called) {
+            let lines = self.lines_of(host, predicates, seen)?;
+            self.tell(lines.as_slice())?;
+        }
+        Ok(self.failure.is_none() && !self.pattern.is_over(seen.step.number))
+    }
+}
