@@ -1,4 +1,4 @@
-use Rattle.std.proofs.Common.{◌≡◌, false, length, map, take}
+use Rattle.std.proofs.Common.{◌≡◌, false, map, take}
 use Rattle.kl1_session.specs.Asking.{input_view}
 use Rattle.kl1_session.specs.ActionViews.{IsVisitor}
 use Rattle.kl1_session.specs.Connections.{standing, TalksOn}
