@@ -5,7 +5,7 @@ use crate::fault::Fault;
 use crate::files::{Modules, read_each};
 use crate::journal_file::journal_file;
 use crate::origins::{OwnWorld, fresh_world};
-use crate::reasons::goal_lines;
+use crate::reasons::line_reasons;
 use crate::shown::{Shown, put_at_prompt};
 use kl1_prompt::{
     Line, News, Plan, Stand, Table, do_line, load_all, parse_line, put_answer, put_help, put_news,
@@ -169,7 +169,7 @@ impl Session<'_, '_> {
             Line::Blank => {}
             Line::Quit => return Ok(false),
             Line::NoGoal => {
-                let lines = goal_lines(self.alloc, text, self.files.as_slice())?;
+                let lines = line_reasons(self.alloc, text, self.files.as_slice())?;
                 self.told.faults.extend_from_slice(lines.as_slice())?;
             }
             Line::Unknown => put_unknown(self.alloc, text, &mut self.told.faults)?,
