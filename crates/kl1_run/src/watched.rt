@@ -152,12 +152,9 @@ pub fn tell_steps(
     let observers = observers_for(rt, asked, names, clauses.as_slice(), files.as_slice())?;
     let is_waking = observers.is_waking();
     let mut viewer = Viewer::new(alloc, &mut world, observers, is_waking)?;
-    // A picture is lent beside what the viewer knows, so it is taken out for that.
-    let mut begun = viewer.observer.timeline.take();
-    if let Some(timeline) = &mut begun {
+    if let Some(timeline) = &mut viewer.observer.timeline {
         timeline.begin(&mut world, &viewer.predicates, viewer.begun.as_slice(), 0)?;
     }
-    viewer.observer.timeline = begun;
     let _last = watch_first(&mut world, asked.steps, &mut viewer)?;
     if let Some(trace) = &mut viewer.observer.trace {
         trace.flush();
