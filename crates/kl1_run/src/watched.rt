@@ -7,12 +7,12 @@ use crate::journal_file::picture_file;
 use crate::origins::{Again, OwnWorld};
 use kl1_command::Views;
 use kl1_steps::ClausePlace;
-use kl1_timeline::{Observers, Timeline, put_picture};
+use kl1_timeline::{Observers, Timeline, draw_new, put_picture};
 use kl1_trace_work::{
     Pattern, Profile, Texts, Trace, Viewer, profile_json, put_table, watch_first,
 };
 use kl1_watch::Names;
-use std::alloc::Global;
+use std::alloc::{AllocError, Global};
 use std::io::{Stderr, Write};
 
 /// What tells the steps of a run.
@@ -130,6 +130,30 @@ fn write_picture(
     }
 }
 
+/// Begins the picture with the goals that are there, if there is one.
+fn begin_picture(world: &mut OwnWorld, viewer: &mut Viewer<Told<'_>>) -> Result<(), AllocError> {
+    let begun = viewer.begun.as_slice();
+    draw_new(
+        &mut viewer.observer.timeline,
+        world,
+        &viewer.predicates,
+        begun,
+        0,
+    )
+}
+
+/// Ends the trace, if there is one.
+fn end_trace(trace: &mut Option<Trace<'_, Stderr>>) -> Result<(), Fault> {
+    let Some(trace) = trace else {
+        return Ok(());
+    };
+    trace.flush();
+    match &trace.failure {
+        Some(error) => Err(Fault::of_write(error)),
+        None => Ok(()),
+    }
+}
+
 /// Does the work in an account of its own, and tells its steps as far as that is asked for.
 pub fn tell_steps(
     rt: &HostRuntime,
@@ -152,16 +176,9 @@ pub fn tell_steps(
     let observers = observers_for(rt, asked, names, clauses.as_slice(), files.as_slice())?;
     let is_waking = observers.is_waking();
     let mut viewer = Viewer::new(alloc, &mut world, observers, is_waking)?;
-    if let Some(timeline) = &mut viewer.observer.timeline {
-        timeline.begin(&mut world, &viewer.predicates, viewer.begun.as_slice(), 0)?;
-    }
+    begin_picture(&mut world, &mut viewer)?;
     let _last = watch_first(&mut world, asked.steps, &mut viewer)?;
-    if let Some(trace) = &mut viewer.observer.trace {
-        trace.flush();
-        if let Some(error) = &trace.failure {
-            return Err(Fault::of_write(error));
-        }
-    }
+    end_trace(&mut viewer.observer.trace)?;
     write_profile(rt, asked, &viewer, &world)?;
     match (asked.timeline, &viewer.observer.timeline) {
         (Some(name), Some(timeline)) => write_picture(rt, name, modules, word, timeline),

@@ -9,6 +9,6 @@ mod picture;
 mod svg;
 mod timeline;
 
-pub use observers::Observers;
+pub use observers::{Observers, draw_new};
 pub use picture::put_picture;
 pub use timeline::Timeline;

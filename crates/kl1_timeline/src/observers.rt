@@ -6,7 +6,7 @@ ghost use Rattle.kl1_trace_work.specs.Counting.{HasCounted};
 
 use crate::timeline::Timeline;
 use kl1_command::{UnbookedHost, Views};
-use kl1_trace_work::{Next, Observer, Predicates, Profile, Seen, Trace};
+use kl1_trace_work::{NewGoal, Next, Observer, Predicates, Profile, Seen, Trace};
 use std::alloc::AllocError;
 use std::io::Write;
 
@@ -81,6 +81,24 @@ fn count_step(profile: &mut Option<Profile>, seen: &Seen) -> Result<bool, AllocE
             Ok(true)
         }
         None => Ok(false),
+    }
+}
+
+/// Has goals drawn that are there at the beginning, or that came up otherwise than in a step, if there is a picture: after this step.
+pub fn draw_new<H: Views>(
+    timeline: &mut Option<Timeline>,
+    host: &mut H,
+    predicates: &Predicates,
+    goals: &[NewGoal],
+    step: u64,
+) -> Result<(), AllocError>
+    ensures same { (f : H.Reading) → H.fits host.new f → H.kept f host.new ≡ H.kept f host.old }
+    ensures before { (f : H.Reading) → H.fits host.new f → H.fits host.old f }
+    ensures beside { H.beside host.new ≡ H.beside host.old }
+{
+    match timeline {
+        Some(timeline) => timeline.begin(host, predicates, goals, step),
+        None => Ok(()),
     }
 }
 

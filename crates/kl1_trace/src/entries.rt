@@ -5,7 +5,7 @@ use kl1_command::{UnbookedHost, Views};
 use kl1_journal_entries::{Deed, entry_of, next_line};
 use kl1_lines::put_decimal;
 use kl1_model::{Message, Rules};
-use kl1_timeline::Observers;
+use kl1_timeline::{Observers, draw_new};
 use kl1_trace_work::{NewGoal, Viewer, Watched, watch_first, watch_step};
 use kl1_user_events::{Event, Reply};
 use std::alloc::{AllocError, Global};
@@ -96,10 +96,14 @@ impl<W: Write + Drop> Player<'_, W> {
             trace.put_all_new(host, new, &mut lines)?;
             trace.tell(lines.as_slice())?;
         }
-        if let Some(timeline) = &mut self.viewer.observer.timeline {
-            timeline.begin(host, &self.viewer.predicates, new, self.viewer.number)?;
-        }
-        Ok(())
+        let step = self.viewer.number;
+        draw_new(
+            &mut self.viewer.observer.timeline,
+            host,
+            &self.viewer.predicates,
+            new,
+            step,
+        )
     }
 
     /// Has an event done and told.
