@@ -80,6 +80,22 @@ fn put_event(event: &Event, reply: &Reply, out: &mut Vec<u8>) -> Result<(), Allo
     }
 }
 
+/// Draws goals that came up otherwise than in a step, if there is a picture.
+fn draw<H: Views, W>(
+    host: &mut H,
+    viewer: &mut Viewer<Observers<'_, W>>,
+    new: &[NewGoal],
+) -> Result<(), AllocError> {
+    let step = viewer.number;
+    draw_new(
+        &mut viewer.observer.timeline,
+        host,
+        &viewer.predicates,
+        new,
+        step,
+    )
+}
+
 impl<W: Write + Drop> Player<'_, W> {
     /// Tells an event that isn't a step, and the goals that are new by it.
     fn tell<H: Views>(
@@ -96,14 +112,7 @@ impl<W: Write + Drop> Player<'_, W> {
             trace.put_all_new(host, new, &mut lines)?;
             trace.tell(lines.as_slice())?;
         }
-        let step = self.viewer.number;
-        draw_new(
-            &mut self.viewer.observer.timeline,
-            host,
-            &self.viewer.predicates,
-            new,
-            step,
-        )
+        draw(host, &mut self.viewer, new)
     }
 
     /// Has an event done and told.
@@ -151,7 +160,11 @@ impl<W: Write + Drop> Player<'_, W> {
     ) -> Result<Played, Fault> {
         let mut rest = text;
         let mut line = first;
-        while let Some((entry, after)) = next_line(rest) {
+        // There are no more lines than bytes.
+        for _ in 0..text.len() {
+            let Some((entry, after)) = next_line(rest) else {
+                break;
+            };
             match self.play_line(host, entry)? {
                 Done::More => {}
                 Done::Enough => return Ok(Played::Whole),

@@ -26,7 +26,7 @@ pub struct NamesRead<'a> {
 pub fn read_names(alloc: Global, count: u64, text: &[u8]) -> Result<NamesRead<'_>, AllocError> {
     let mut names: Vec<AtomText> = Vec::new(alloc);
     let mut rest = text;
-    while (names.len() as u64) < count {
+    for _ in 0..count {
         let name = match next_line(rest) {
             Some((line, after)) => match name_of(line) {
                 Some(name) if may_follow(names.as_slice(), &name) => {
@@ -82,7 +82,11 @@ fn source_of(alloc: Global, first: &AtomText, others: &[AtomText]) -> Result<Vec
 /// used.
 pub fn bring_in<H: Host>(alloc: Global, host: &mut H, names: &[AtomText]) -> Result<(), Fault> {
     let mut rest = names;
-    while let [first, ..] = rest {
+    // Each turn takes one name at least.
+    for _ in 0..names.len() {
+        let [first, ..] = rest else {
+            break;
+        };
         let count = rest.len().min(MOST_TOGETHER);
         let others = rest.get(1..count).unwrap_or(&[]);
         let source = source_of(alloc, first, others)?;

@@ -55,7 +55,11 @@ pub fn places_in(alloc: Global, text: &[u8], sources: &[NamedText]) -> Result<Pl
         files: Vec::new(alloc),
     };
     let mut rest = text;
-    while let Some((line, after)) = next_line(rest) {
+    // There are no more lines than bytes.
+    for _ in 0..text.len() {
+        let Some((line, after)) = next_line(rest) else {
+            break;
+        };
         if line.starts_with(b"load ") {
             if let Some(Deed::Event(Event::Load { source })) = entry_of(alloc, line)? {
                 places.take(alloc, sources, source.as_slice())?;
