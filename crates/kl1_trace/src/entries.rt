@@ -93,7 +93,7 @@ impl<W: Write + Drop> Player<'_, W> {
             let mut lines = Vec::new(self.alloc);
             put_event(event, reply, &mut lines)?;
             lines.push(b'\n')?;
-            trace.put_all_new(host, new, &mut lines)?;
+            trace.put_all_new(host, &self.viewer.predicates, new, &mut lines)?;
             trace.tell(lines.as_slice())?;
         }
         if let Some(timeline) = &mut self.viewer.observer.timeline {
