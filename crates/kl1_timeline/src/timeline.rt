@@ -10,8 +10,7 @@ use kl1_lines::put_decimal;
 use kl1_model::Condition;
 use kl1_steps::Called;
 use kl1_trace_work::{
-    Calling, MOST_TEXT, NewGoal, Next, Pattern, Predicates, Seen, put_kind, put_name, put_readable,
-    word_of,
+    Calling, NewGoal, Next, Pattern, Predicates, Seen, put_kind, put_name, put_readable, word_of,
 };
 use kl1_user_events::{Extent, GoalNo, ShoenNo, TaskKind};
 use std::alloc::{AllocError, Global};
@@ -20,7 +19,7 @@ use std::alloc::{AllocError, Global};
 pub const MOST_STEPS: u64 = 2_000;
 
 /// The most bytes of the text of a step.
-const MOST_SHOWN: usize = 200;
+const MOST_TEXT: usize = 200;
 
 /// The lanes of a run, and what happens in them.
 #[derive(Drop)]
@@ -137,7 +136,7 @@ impl Timeline {
         if !self.pattern.names(predicates.called(goal.predicate)) {
             return Ok(());
         }
-        let label = match host.goal_text(number, Extent::AtMost(MOST_TEXT))? {
+        let label = match host.goal_text(number, Extent::Cut)? {
             Some(text) => label_of(self.alloc, text.as_slice())?,
             None => Vec::new(self.alloc),
         };
@@ -213,7 +212,7 @@ impl Timeline {
         };
         let mut text = Vec::new(self.alloc);
         match &seen.text {
-            Some(print) => put_readable(self.alloc, print.as_slice(), MOST_SHOWN, &mut text)?,
+            Some(print) => put_readable(self.alloc, print.as_slice(), MOST_TEXT, &mut text)?,
             None => put_name(predicates.calling(seen.step.predicate), &mut text)?,
         }
         self.dots.push(Dot {
