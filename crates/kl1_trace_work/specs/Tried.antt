@@ -1,5 +1,5 @@
 -- What came of a step that was tried.
-use Rattle.std.specs.Prelude.{ℕ, List}
+use Rattle.std.specs.Prelude.{◌≡◌, ◌+◌, ◌-◌, ◌^◌, ◌≤◌, ℕ, List}
 use Rattle.kl1_model.specs.Choice.{Chosen}
 use Rattle.kl1_model_server.specs.Journal.{Kept}
 use Rattle.kl1_trace_work.specs.declared.seen.Seen.{Seen}
@@ -18,3 +18,10 @@ abbrev pub number_if : Watched → ℕ → ℕ
 number_if More number = number_after number
 number_if Enough number = number_after number
 number_if Refused number = number
+
+-- what the last of steps came to tells how many were seen: all that were asked for if more are wanted, and one at least if no more are; numbers
+-- go up to 2 ^ 64 - 1
+abbrev pub HasDone : Watched → ℕ → ℕ → ℕ → Type 0
+HasDone More most number number' = number + most ≤ 2 ^ 64 - 1 → number' ≡ number + most
+HasDone Enough most number number' = number_after number ≤ number'
+HasDone Refused most number number' = number ≤ 2 ^ 64 - 1 → number ≤ number'

@@ -4,7 +4,7 @@ ghost use Rattle.std.specs.Prelude.{◌≡◌, Some, IfOk, IfSome, OnOk, option_
 ghost use Rattle.kl1_model.specs.State.{goal_at};
 ghost use Rattle.kl1_user_events.specs.Viewing.{goal_view};
 ghost use Rattle.kl1_trace_work.specs.Seen.{number_after, last_among, views_of, IsNext, IsSeen, AreTold};
-ghost use Rattle.kl1_trace_work.specs.Tried.{IsTried, number_if};
+ghost use Rattle.kl1_trace_work.specs.Tried.{IsTried, number_if, HasDone};
 
 use crate::changes::{Shoens, changed_among, last_of, raised_among};
 use crate::predicates::{Predicates, is_monitor};
@@ -352,6 +352,7 @@ pub fn watch_first<H: UnbookedHost + Views, O: Observer<H> + Drop>(
     viewer: &mut Viewer<O>,
 ) -> Result<Watched, AllocError>
     ensures told { OnOk result ((f : H.Reading) → H.fits host.new f → AreTold O.has_seen viewer.old.number viewer.old.last_goal (H.kept f host.old) viewer.old.observer viewer.new.number viewer.new.last_goal (H.kept f host.new) viewer.new.observer) }
+    ensures done { IfOk result (λ watched. HasDone watched most viewer.old.number viewer.new.number) }
     ensures before { (f : H.Reading) → H.fits host.new f → H.fits host.old f }
     ensures beside { H.beside host.new ≡ H.beside host.old }
 {
@@ -361,7 +362,8 @@ pub fn watch_first<H: UnbookedHost + Views, O: Observer<H> + Drop>(
         let watched = watch_once(host, viewer)?;
         match watched {
             Watched::More => {}
-            _ => return Ok(watched),
+            Watched::Enough => return Ok(Watched::Enough),
+            Watched::Refused => return Ok(Watched::Refused),
         }
     }
     Ok(Watched::More)
