@@ -1,4 +1,4 @@
 pub mod Resting
 pub mod Opens
-pub mod Linking
+pub mod LinkedFiles
 pub mod Noting

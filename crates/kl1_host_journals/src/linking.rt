@@ -1,7 +1,6 @@
 // A journal's file with what waits for it.
 
-ghost use Rattle.std.specs.Prelude.{◌≡◌, IfOk, IsTrue};
-ghost use Rattle.kl1_log.specs.Files.{is_at_rest};
+ghost use Rattle.std.specs.Prelude.{◌≡◌, IfOk};
 ghost use Rattle.kl1_log.specs.Batches.{text_of};
 ghost use Rattle.kl1_log.specs.LogFiles.{disk_of, account_of as account_of_file, changes_of as changes_of_file};
 ghost use Rattle.kl1_log.specs.Receipts.{account_of, changes_of};
@@ -10,6 +9,7 @@ ghost use Rattle.kl1_host_journals.specs.Notes.{waiting_of, generation_of};
 ghost use Rattle.kl1_host_journals.specs.Links.{IsUpToIf};
 
 use crate::notes::Notes;
+use crate::resting_file::RestingFile;
 use kl1_journal_entries::Journal;
 use kl1_log::{Disk, LogError, LogFile, Receipt, Waiting, begun};
 use std::alloc::{AllocError, Global};
@@ -60,22 +60,20 @@ fn waiting_for(
 
 /// The file of this account with what waits for it, which is nothing: it is one of `journal`, in this generation. If its bytes aren't the
 /// text of the journal, it is begun anew.
-#[tactic(auto, using(crate::proofs::Linking::read_up_to, crate::proofs::Linking::taken_up_to, crate::proofs::Resting::same_rests))]
+#[tactic(auto, using(crate::proofs::LinkedFiles::read_up_to, crate::proofs::LinkedFiles::taken_up_to, crate::proofs::Resting::same_rests))]
 pub fn link<D: Disk + Drop>(
     alloc: Global,
-    disk: D,
+    resting: RestingFile<D>,
     account: u32,
     journal: &Journal,
     generation: u64,
 ) -> Result<Linked<D>, LinkFault>
-    requires usable { IsTrue (D.is_usable disk) }
-    requires at_rest { IsTrue (is_at_rest (D.known disk)) }
     ensures link { IfOk result (λ l. IsUpToIf (waiting_of l.notes) (text_of (D.known (disk_of l.file))) journal.now.journal) }
     ensures generation { IfOk result (λ l. generation_of l.notes ≡ generation) }
     ensures account { IfOk result (λ l. (account_of_file l.file ≡ account) × (account_of l.receipt ≡ account)) }
     ensures changes { IfOk result (λ l. (changes_of l.receipt ≡ noted_of (waiting_of l.notes)) × (changes_of_file l.file ≡ noted_of (waiting_of l.notes)) × (taken_of (waiting_of l.notes) ≡ noted_of (waiting_of l.notes))) }
 {
-    let mut disk = disk;
+    let mut disk = resting.into_disk();
     let bytes = match disk.read(alloc) {
         Ok(bytes) => bytes,
         Err(error) => return Err(LinkFault::Unread(error)),

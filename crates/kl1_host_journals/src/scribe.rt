@@ -50,6 +50,11 @@ impl<'k, D: Disk + Drop> Scribe<'k, D> {
         Scribe { keepers, files }
     }
 
+    /// The files.
+    pub fn files(&self) -> &[LogFile<D>] {
+        self.files.as_slice()
+    }
+
     /// Writes what waits for all files.
     pub fn write_all<W: Wait, F: FaultTeller>(&mut self, rt: &W, faults: &F) {
         let keepers = self.keepers;

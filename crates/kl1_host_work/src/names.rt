@@ -1,0 +1,50 @@
+// The names that an account had used when its journal began.
+
+ghost use Rattle.std.specs.Prelude.{IfOk, IfSome};
+ghost use Rattle.kl1_model_server.specs.laws.TextLaws.{AreNames};
+
+use kl1_journal_entries::{Journal, heading_of, may_follow, name_of};
+use kl1_model::limits::MOST_NAMES;
+use kl1_text::AtomText;
+use std::alloc::{AllocError, Global};
+
+/// How many names a journal begins with.
+pub(crate) fn count_names(alloc: Global, journal: &Journal) -> Result<u64, AllocError> {
+    let page = journal.page(alloc, 1, 1)?;
+    let [line, ..] = page.texts() else {
+        return Ok(0);
+    };
+    match heading_of(line) {
+        Some(heading) => Ok(heading.names),
+        None => Ok(0),
+    }
+}
+
+/// The names of these lines; `None` if they aren't lines of names that an account may have used.
+fn names_in(alloc: Global, lines: &[Vec<u8>]) -> Result<Option<Vec<AtomText>>, AllocError>
+    ensures { IfOk result (λ names. IfSome names (λ v. AreNames v.items)) }
+{
+    let mut names: Vec<AtomText> = Vec::new(alloc);
+    for line in lines {
+        let Some(name) = name_of(line) else {
+            return Ok(None);
+        };
+        if names.len() >= MOST_NAMES || !may_follow(names.as_slice(), &name) {
+            return Ok(None);
+        }
+        names.push(name)?;
+    }
+    Ok(Some(names))
+}
+
+/// The names with which a journal begins; `None` if they can't be told.
+pub(crate) fn names_of(
+    alloc: Global,
+    journal: &Journal,
+) -> Result<Option<Vec<AtomText>>, AllocError>
+    ensures { IfOk result (λ names. IfSome names (λ v. AreNames v.items)) }
+{
+    let count = count_names(alloc, journal)?;
+    let page = journal.page(alloc, 2, count)?;
+    names_in(alloc, page.texts())
+}
