@@ -20,3 +20,7 @@ abbrev pub IsNotedFor : Notes → Notes → Journal → ℕ → Outgoing → Typ
 IsNotedFor old new j generation (Free permit) = ⊥
 IsNotedFor old new j generation (Waits number unsent) = TakesIn old new j generation × (waits_for unsent ≡ (account_of new.waiting, noted_of new.waiting))
 IsNotedFor old new j generation Lost = TakesIn old new j generation ⊎ KeepsAll old new
+
+-- so, of some notes
+abbrev pub IsNotedBySome : Journal → ℕ → Outgoing → Type 0
+IsNotedBySome j generation o = (old : Notes) × (new : Notes) × IsNotedFor old new j generation o

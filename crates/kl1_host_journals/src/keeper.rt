@@ -1,5 +1,7 @@
 // What of an account waits for its file, under a lock, and how far it is on disk.
 
+ghost use Rattle.kl1_host_journals.specs.Outgoings.{IsNotedBySome};
+
 use crate::notes::Notes;
 use crate::on_disk::OnDisk;
 use crate::outgoing::Outgoing;
@@ -54,7 +56,9 @@ impl Keeper {
         generation: u64,
         number: usize,
         outgoing: Outgoing,
-    ) -> Outgoing {
+    ) -> Outgoing
+        ensures { IsNotedBySome journal.now.journal generation result }
+    {
         let mut guard = self.notes.lock(rt);
         let notes = &mut *guard;
         notes.note_for(journal, generation, number, outgoing)

@@ -91,9 +91,7 @@ where
                     continue;
                 };
                 desk.front.tell(HostEvent::Opened(address));
-                match scope
-                    .spawn(move || serve_visitor(rt, desk, stream, address, number, share))
-                {
+                match scope.spawn(move || serve_visitor(rt, desk, stream, address, number, share)) {
                     // A thread whose handle is dropped leaves nothing when it ends, and the scope waits for it all the same.
                     Ok(handle) => drop(handle),
                     Err(failed) => {

@@ -81,8 +81,8 @@ impl<'p, 't, W: Wait, R: Wait, K: PoolIds> HostHandler<'p, 't, W, R, K> {
         if self.host.syncing.replies_wait {
             self.leave_others(account);
             let outgoing = self.outgoing.replace(Outgoing::Lost);
-            self.outgoing
-                .set(note_for(self.rt, self.pool, keeper, account, outgoing));
+            let noted = note_for(self.rt, self.pool, keeper, account, outgoing);
+            self.outgoing.set(noted.unwrap_or(Outgoing::Lost));
         } else if keeper.is_called() {
             let _ = note_for(self.rt, self.pool, keeper, account, Outgoing::Lost);
             self.host.bell.ring(self.rt);

@@ -1,6 +1,8 @@
 // The file of an account, linked with the account's journal.
 
-ghost use Rattle.std.specs.Prelude.{◌<◌};
+ghost use Rattle.std.specs.Prelude.{◌<◌, IfOk, slice_get};
+ghost use Rattle.kl1_pool.specs.Showing.{IsSeenOfSome};
+ghost use Rattle.kl1_host_work.specs.Linkages.{IsRead, IsLinked};
 
 use kl1_host_journals::{LinkFault, Linked, RestingFile, link};
 use kl1_journal_entries::Journal;
@@ -36,7 +38,9 @@ fn linked<D: Disk + Drop>(
     linkage: Linkage<D>,
     journal: &Journal,
     ended: u64,
-) -> Linkage<D> {
+) -> Linkage<D>
+    ensures { IsRead linkage result journal.now.journal ended }
+{
     match linkage {
         Linkage::Unlinked(file) => match link(alloc, file, number, journal, ended) {
             Ok(linked) => Linkage::Linked(linked),
@@ -47,7 +51,9 @@ fn linked<D: Disk + Drop>(
 }
 
 impl<D: Disk + Drop> JournalReader for Linking<D> {
-    ghost reads = { λ before after journal ended. Unit {0} };
+    ghost use Rattle.kl1_host_work.specs.Linkages.{IsRead};
+
+    ghost reads = { λ before after journal ended. IsRead before.linkage after.linkage journal ended };
 
     fn read(&mut self, journal: &Journal, ended: u64) {
         let linkage = mem::replace(&mut self.linkage, Linkage::Failed(LinkFault::Memory));
@@ -64,6 +70,7 @@ pub(crate) fn link_account<'t, D: Disk + Drop, W: Wait, R: Wait, K: PoolIds>(
     file: RestingFile<D>,
 ) -> Result<Linked<D>, LinkFault>
     requires { account < K.accounts }
+    ensures { IfOk result (λ l. IsSeenOfSome K.rules (slice_get K.names account) (IsLinked l)) }
 {
     let Ok(number) = u32::try_from(account) else {
         return Err(LinkFault::Memory);
@@ -73,7 +80,9 @@ pub(crate) fn link_account<'t, D: Disk + Drop, W: Wait, R: Wait, K: PoolIds>(
         number,
         linkage: Linkage::Unlinked(file),
     };
-    pool.look(rt, account, &mut linking);
+    if !pool.look(rt, account, &mut linking) {
+        return Err(LinkFault::Memory);
+    }
     match linking.linkage {
         Linkage::Linked(linked) => Ok(linked),
         Linkage::Failed(fault) => Err(fault),

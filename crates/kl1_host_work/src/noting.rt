@@ -1,6 +1,8 @@
 // What has come to an account's journal, noted under the account's lock.
 
-ghost use Rattle.std.specs.Prelude.{◌<◌};
+ghost use Rattle.std.specs.Prelude.{◌<◌, IfSome, slice_get};
+ghost use Rattle.kl1_pool.specs.Showing.{IsSeenOfSome};
+ghost use Rattle.kl1_host_journals.specs.Outgoings.{IsNotedBySome};
 
 use kl1_host_journals::{Keeper, Outgoing};
 use kl1_journal_entries::Journal;
@@ -18,7 +20,9 @@ struct Noting<'k, W: Wait> {
 }
 
 impl<'k, W: Wait> JournalReader for Noting<'k, W> {
-    ghost reads = { λ before after journal ended. Unit {0} };
+    ghost use Rattle.kl1_host_journals.specs.Outgoings.{IsNotedBySome};
+
+    ghost reads = { λ before after journal ended. IsNotedBySome journal ended after.outgoing };
 
     fn read(&mut self, journal: &Journal, ended: u64) {
         let outgoing = mem::replace(&mut self.outgoing, Outgoing::Lost);
@@ -28,15 +32,17 @@ impl<'k, W: Wait> JournalReader for Noting<'k, W> {
     }
 }
 
-/// Notes what has come to the journal of an account, and lets the leave to write of a connection wait until it is on disk.
+/// Notes what has come to the journal of an account, and lets the leave to write of a connection wait until it is on disk. `None` if another
+/// account was found, which never is so.
 pub(crate) fn note_for<'t, W: Wait, R: Wait, K: PoolIds>(
     rt: &W,
     pool: &Pool<'t, R, K>,
     keeper: &Keeper,
     account: usize,
     outgoing: Outgoing,
-) -> Outgoing
+) -> Option<Outgoing>
     requires { account < K.accounts }
+    ensures { IfSome result (λ o. IsSeenOfSome K.rules (slice_get K.names account) (λ j ended. IsNotedBySome j ended o)) }
 {
     let mut noting = Noting {
         rt,
@@ -44,9 +50,9 @@ pub(crate) fn note_for<'t, W: Wait, R: Wait, K: PoolIds>(
         number: account,
         outgoing,
     };
-    pool.look(rt, account, &mut noting);
+    let is_seen = pool.look(rt, account, &mut noting);
     let Noting { outgoing, .. } = noting;
-    outgoing
+    if is_seen { Some(outgoing) } else { None }
 }
 
 /// Notes what has come to the journal of an account.
