@@ -18,7 +18,7 @@ generation_of n = n.generation
 -- it one of this journal, if a journal of the same generation has only grown.
 pub record TakesIn (old new : Notes) (j : Journal) (generation : ℕ) : Type 0 where
   pub file : (text : List ℕ) (before : Journal) → IsUpTo old.waiting text before → (generation ≡ old.generation → IsLater before j) → IsUpTo new.waiting text j
-  pub generation : new.generation ≡ generation
+  pub now : new.generation ≡ generation
   pub counts : CountsOn old.waiting new.waiting
 
 -- the same waits for the same generation

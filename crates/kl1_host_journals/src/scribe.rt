@@ -55,6 +55,11 @@ impl<'k, D: Disk + Drop> Scribe<'k, D> {
         self.files.as_slice()
     }
 
+    /// The files, given back.
+    pub fn into_files(self) -> Vec<LogFile<D>> {
+        self.files
+    }
+
     /// Writes what waits for all files.
     pub fn write_all<W: Wait, F: FaultTeller>(&mut self, rt: &W, faults: &F) {
         let keepers = self.keepers;

@@ -1,8 +1,9 @@
 // A writer that writes only what is on disk.
 
 ghost use Rattle.std.specs.Prelude.{◌≡◌};
-ghost use Rattle.std.specs.Io.{WritesAtMost, WriteAppends};
-ghost use Rattle.kl1_host_journals.specs.SyncedWriters.{contents_of};
+ghost use Rattle.std.specs.Io.{WritesAtMost};
+ghost use Rattle.std.specs.Io.KnownBytes.{WriteAppends};
+ghost use Rattle.kl1_host_journals.specs.SyncedWriters.{writer_of};
 
 use crate::bell::Bell;
 use crate::keeper::Keeper;
@@ -47,7 +48,7 @@ impl<'c, T: Write, R: Wait> SyncedWriter<'c, T, R> {
         keepers: &'c [Keeper],
         outgoing: &'c Cell<Outgoing>,
     ) -> Self
-        ensures { contents_of result ≡ T.contents writer }
+        ensures { writer_of result ≡ writer }
     {
         SyncedWriter {
             gate: Gate { writer },

@@ -58,13 +58,13 @@ fn serve_visitor<'t, F: Front, W: Wait, R: Wait, K: PoolIds>(
 
 /// Accepts connections until the host closes, and serves each in a thread of its own, or in this one if no thread can be made. When all
 /// have ended, it returns.
-pub(crate) fn serve_each<'t, F: Front + Sync, R, K: PoolIds + Send + Sync>(
-    rt: &R,
+pub(crate) fn serve_each<'t, F: Front + Sync, N, R: Wait + Sync, K: PoolIds + Send + Sync>(
+    rt: &N,
     listener: &TcpListener,
     desk: &Desk<'_, 't, F, R, K>,
 )
 where
-    R: Net<Listener = TcpListener, Stream = TcpStream> + Threads + Wait + Clock + Sync,
+    N: Net<Listener = TcpListener, Stream = TcpStream> + Threads + Wait + Clock + Sync,
     requires { F.accounts desk.now.front.now ≤ K.accounts }
 {
     thread::scope(

@@ -8,7 +8,7 @@ use crate::host::Host;
 use crate::noting::note;
 use crate::start_fault::StartFault;
 use kl1_host_journals::{Bell, FaultTeller, Scribe};
-use kl1_log::{Disk, LogError};
+use kl1_log::{Disk, LogError, LogFile};
 use kl1_pool::{Gate, Pool, PoolIds, Share, worker};
 use std::net::{Net, SocketAddr, TcpListener, TcpStream};
 use std::sync::Wait;
@@ -27,6 +27,7 @@ impl Gate for OpenGate {
 }
 
 /// Tells a front of faults.
+#[derive(Drop)]
 struct Telling<'f, F: Front> {
     front: &'f F,
 }
@@ -90,7 +91,7 @@ where
 }
 
 /// Accepts connections until the host closes, and then calls the scribe for the last time.
-fn accept_on<'t, F: Front + Sync, N, R: Wait, K: PoolIds + Send + Sync>(
+fn accept_on<'t, F: Front + Sync, N, R: Wait + Sync, K: PoolIds + Send + Sync>(
     rt: &N,
     listener: &TcpListener,
     desk: &Desk<'_, 't, F, R, K>,
@@ -104,7 +105,7 @@ where
 }
 
 /// Runs a host until its program has attended to it: workers, connections, and those who note; in this thread the scribe writes. When all
-/// have ended, what is left is noted and written.
+/// have ended, what is left is noted and written. Answers the files.
 pub(crate) fn run_threads<'t, F: Front + Sync, D: Disk + Drop, R, K: PoolIds + Send + Sync>(
     rt: &R,
     listener: &TcpListener,
@@ -112,7 +113,7 @@ pub(crate) fn run_threads<'t, F: Front + Sync, D: Disk + Drop, R, K: PoolIds + S
     desk: &Desk<'_, 't, F, R, K>,
     workers: Vec<Share<K>>,
     scribe: Scribe<'_, D>,
-) -> Result<(), StartFault>
+) -> Result<Vec<LogFile<D>>, StartFault>
 where
     R: Net<Listener = TcpListener, Stream = TcpStream> + Threads + Wait + Clock + Sync,
     requires { F.accounts desk.now.front.now ≤ K.accounts }
@@ -122,7 +123,7 @@ where
     thread::scope(
         thread::scope_env(),
         rt,
-        move |scope| -> Result<(), StartFault>
+        move |scope| -> Result<Vec<LogFile<D>>, StartFault>
             requires { F.accounts desk.now.front.now ≤ K.accounts }
         {
             let mut scribe = scribe;
@@ -151,7 +152,7 @@ where
             note_all(rt, desk.pool, desk.host);
             scribe.write_all(rt, &Telling { front: desk.front });
             if all_are_there {
-                Ok(())
+                Ok(scribe.into_files())
             } else {
                 Err(StartFault::Threads)
             }

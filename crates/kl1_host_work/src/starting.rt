@@ -14,7 +14,7 @@ use crate::start_fault::StartFault;
 use kl1_atoms::AtomTable;
 use kl1_codes::CodeTable;
 use kl1_host_journals::{Bell, Scribe};
-use kl1_log::Disk;
+use kl1_log::{Disk, LogFile};
 use kl1_model::limits::MOST_ACCOUNTS;
 use kl1_pool::{AccountName, Pool, PoolIds, PoolParts, Rules, Share};
 use kl1_text::AtomText;
@@ -94,7 +94,7 @@ fn run_pool<'t, F: Front + Sync, D: Disk + Drop, R, K: PoolIds + Send + Sync>(
     shares: Vec<Share<K>>,
     files: Vec<AccountFile<D>>,
     setup: Setup,
-) -> Result<(), StartFault>
+) -> Result<Vec<LogFile<D>>, StartFault>
 where
     R: Net<Listener = TcpListener, Stream = TcpStream> + Threads + Wait + Clock + Sync,
     requires accounts { F.accounts front.now ≤ K.accounts }
@@ -142,7 +142,7 @@ fn run_parts<'t, F: Front + Sync, D: Disk + Drop, R, K: PoolIds + Send + Sync>(
     parts: PoolParts<'t>,
     files: Vec<AccountFile<D>>,
     setup: Setup,
-) -> Result<(), StartFault>
+) -> Result<Vec<LogFile<D>>, StartFault>
 where
     R: Net<Listener = TcpListener, Stream = TcpStream> + Threads + Wait + Clock + Sync,
     requires tables { (parts.table ≡ K.table) × (parts.seats ≡ K.seats) × (parts.codes ≡ K.codes) }
@@ -167,7 +167,7 @@ fn run_brand<'t, F: Front + Sync, D: Disk + Drop, R>(
     parts: PoolParts<'t>,
     files: Vec<AccountFile<D>>,
     setup: Setup,
-) -> Result<(), StartFault>
+) -> Result<Vec<LogFile<D>>, StartFault>
 where
     R: Net<Listener = TcpListener, Stream = TcpStream> + Threads + Wait + Clock + Sync,
     requires accounts { F.accounts front.now ≤ parts.accounts }
@@ -177,7 +177,7 @@ where
 }
 
 /// Restores accounts from their files, and serves them to whoever `front` lets in, until that has attended to the host: then connections
-/// are ended, and what is left is written.
+/// are ended, and what is left is written. Answers the files.
 pub fn run_host<F: Front + Sync, D: Disk + Drop, R>(
     rt: &R,
     alloc: Global,
@@ -185,7 +185,7 @@ pub fn run_host<F: Front + Sync, D: Disk + Drop, R>(
     front: &F,
     accounts: Vec<AccountFile<D>>,
     setup: Setup,
-) -> Result<(), StartFault>
+) -> Result<Vec<LogFile<D>>, StartFault>
 where
     R: Net<Listener = TcpListener, Stream = TcpStream> + Threads + Wait + Clock + Sync,
     requires { F.accounts front.now ≤ vec_len accounts }
