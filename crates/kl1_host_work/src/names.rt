@@ -1,6 +1,6 @@
 // The names that an account had used when its journal began.
 
-ghost use Rattle.std.specs.Prelude.{IfOk, IfSome};
+ghost use Rattle.std.specs.Prelude.{IfOk, IfSome, OnOk};
 ghost use Rattle.kl1_model_server.specs.laws.TextLaws.{AreNames};
 
 use kl1_journal_entries::{Journal, heading_of, may_follow, name_of};
@@ -20,19 +20,38 @@ pub(crate) fn count_names(alloc: Global, journal: &Journal) -> Result<u64, Alloc
     }
 }
 
+/// Adds the name of a line to others, if an account may have used it after these; and whether it did.
+#[tactic(auto, using(crate::proofs::UsedNames::one_more))]
+fn push_name(names: &mut Vec<AtomText>, line: &[u8]) -> Result<bool, AllocError>
+    requires { AreNames names.old.items }
+    ensures { OnOk result (AreNames names.new.items) }
+{
+    let Some(name) = name_of(line) else {
+        return Ok(false);
+    };
+    if names.len() >= MOST_NAMES || !may_follow(names.as_slice(), &name) {
+        return Ok(false);
+    }
+    names.push(name)?;
+    Ok(true)
+}
+
+/// No names.
+fn no_names(alloc: Global) -> Vec<AtomText>
+    ensures { AreNames result.items }
+{
+    Vec::new(alloc)
+}
+
 /// The names of these lines; `None` if they aren't lines of names that an account may have used.
 fn names_in(alloc: Global, lines: &[Vec<u8>]) -> Result<Option<Vec<AtomText>>, AllocError>
     ensures { IfOk result (λ names. IfSome names (λ v. AreNames v.items)) }
 {
-    let mut names: Vec<AtomText> = Vec::new(alloc);
+    let mut names = no_names(alloc);
     for line in lines {
-        let Some(name) = name_of(line) else {
-            return Ok(None);
-        };
-        if names.len() >= MOST_NAMES || !may_follow(names.as_slice(), &name) {
+        if !push_name(&mut names, line)? {
             return Ok(None);
         }
-        names.push(name)?;
     }
     Ok(Some(names))
 }
