@@ -2,9 +2,10 @@
 
 ghost use Rattle.std.specs.Prelude.{◌≡◌, ℕ};
 
-use crate::host::Host;
 use kl1_log::LogError;
 use kl1_session::{Disconnect, Door};
+use kl1_user_events::Usage;
+use std::alloc::AllocError;
 use std::net::SocketAddr;
 
 /// What a host tells.
@@ -24,6 +25,18 @@ pub enum HostEvent {
     Stopped { account: usize, error: LogError },
 }
 
+/// What can be seen of a host that runs.
+pub trait HostView {
+    /// Whether an account's file gets nothing more, and the account no commands.
+    fn is_stopped(&self, account: usize) -> bool;
+
+    /// How many connections are open.
+    fn connections(&self) -> usize;
+
+    /// What of an account is in use; `None` if there is no such account. It waits for an account that is in the midst of a reduction.
+    fn usage(&self, account: usize) -> Result<Option<Usage>, AllocError>;
+}
+
 /// The program around a host: who is let in, what is told to its log, and when it stops.
 pub trait Front {
     type Entrance: Door + Drop;
@@ -39,5 +52,5 @@ pub trait Front {
     fn tell(&self, event: HostEvent);
 
     /// Attends to a host, in a thread of its own. The host stops when it returns.
-    fn attend(&self, host: &Host<'_>);
+    fn attend<V: HostView>(&self, host: &V);
 }

@@ -85,7 +85,6 @@ impl<'p, 't, W: Wait, R: Wait, K: PoolIds> HostHandler<'p, 't, W, R, K> {
             self.outgoing.set(noted.unwrap_or(Outgoing::Lost));
         } else if keeper.is_called() {
             let _ = note_for(self.rt, self.pool, keeper, account, Outgoing::Lost);
-            self.host.bell.ring(self.rt);
         }
     }
 

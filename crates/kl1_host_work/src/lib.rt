@@ -19,7 +19,7 @@ mod starting;
 
 pub use budget::Budget;
 pub use connection::serve;
-pub use front::{Front, HostEvent};
+pub use front::{Front, HostEvent, HostView};
 pub use handler::HostHandler;
 pub use host::{Host, Syncing};
 pub use kl1_host_journals::{Keeper, OpenFault, Outgoing};

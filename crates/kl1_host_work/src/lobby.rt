@@ -119,6 +119,11 @@ impl<K: PoolIds> Lobby<K> {
         }
     }
 
+    /// How many connections are open.
+    pub(crate) fn count<W: Wait>(&self, rt: &W) -> usize {
+        self.visitors.lock(rt).open.len()
+    }
+
     /// Lets nobody in from now on, and ends the connections that are open.
     pub(crate) fn close<W: Wait>(&self, rt: &W) {
         let mut guard = self.visitors.lock(rt);

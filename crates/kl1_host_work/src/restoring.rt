@@ -1,6 +1,7 @@
 // Accounts restored from their files.
 
-ghost use Rattle.std.specs.Prelude.{◌<◌, ◌≤◌, length, vec_len};
+ghost use Rattle.std.specs.Prelude.{◌<◌, ◌≤◌, vec_len, slice_get, IfOk};
+ghost use Rattle.kl1_host_work.specs.Restarts.{IsAllRestored};
 
 use crate::budget::Budget;
 use crate::front::{Front, HostEvent};
@@ -10,7 +11,7 @@ use crate::start_fault::StartFault;
 use kl1_host_journals::{Keeper, Linked, RestingFile};
 use kl1_journal_entries::Journal;
 use kl1_log::{Disk, LogFile};
-use kl1_pool::{AccountName, Pool, PoolIds, RestoreEnd, Restored, Share};
+use kl1_pool::{AccountName, Pool, PoolIds, RestoreEnd, Share};
 use std::alloc::{AllocError, Global};
 use std::sync::Wait;
 
@@ -30,7 +31,8 @@ pub(crate) struct Shelf<D: Disk> {
     pub(crate) budgets: Vec<Budget>,
 }
 
-/// Does the entries of a journal to an account in which nothing has happened.
+/// Does the entries of a journal to an account in which nothing has happened; answers how many they are.
+#[tactic(auto, using(crate::proofs::Restarts::all_restored))]
 fn restore_account<'t, W: Wait, R: Wait, K: PoolIds>(
     rt: &W,
     alloc: Global,
@@ -40,16 +42,17 @@ fn restore_account<'t, W: Wait, R: Wait, K: PoolIds>(
     share: &mut Share<K>,
 ) -> Result<u64, StartFault>
     requires { account < K.accounts }
+    ensures { IfOk result (λ n. IsAllRestored K.rules (slice_get K.names account) journal.now.journal.entries n) }
 {
-    let Restored { entries, end, .. } = pool.restore(rt, alloc, account, journal, share);
-    match end {
-        RestoreEnd::All => Ok(entries),
+    let restored = pool.restore(rt, alloc, account, journal, share);
+    match restored.end {
+        RestoreEnd::All => Ok(restored.entries),
         RestoreEnd::Memory => Err(StartFault::Memory),
         RestoreEnd::Refused | RestoreEnd::Full => Err(StartFault::Unaccepted {
             account,
             // After the heading and the names.
             line: count_names(alloc, journal)?
-                .saturating_add(entries)
+                .saturating_add(restored.entries)
                 .saturating_add(2),
         }),
     }

@@ -3,13 +3,15 @@
 ghost use Rattle.std.specs.Prelude.{◌≤◌};
 
 use crate::connections::{Desk, serve_each};
-use crate::front::{Front, HostEvent};
+use crate::front::{Front, HostEvent, HostView};
 use crate::host::Host;
 use crate::noting::note;
 use crate::start_fault::StartFault;
 use kl1_host_journals::{Bell, FaultTeller, Scribe};
 use kl1_log::{Disk, LogError, LogFile};
 use kl1_pool::{Gate, Pool, PoolIds, Share, worker};
+use kl1_user_events::Usage;
+use std::alloc::AllocError;
 use std::net::{Net, SocketAddr, TcpListener, TcpStream};
 use std::sync::Wait;
 use std::thread;
@@ -72,7 +74,36 @@ fn note_on<'t, W: Wait + Clock, R: Wait, K: PoolIds>(
             return;
         }
         note_all(rt, pool, host);
-        host.bell.ring(rt);
+    }
+}
+
+/// A host as its program sees it.
+#[derive(Drop)]
+struct View<'v, 'd, 't, F: Front, N: Wait, R: Wait, K: PoolIds> {
+    rt: &'v N,
+    desk: &'v Desk<'d, 't, F, R, K>,
+}
+
+impl<F: Front, N: Wait, R: Wait, K: PoolIds> HostView for View<'_, '_, '_, F, N, R, K> {
+    fn is_stopped(&self, account: usize) -> bool {
+        match self.desk.host.keepers.get(account) {
+            Some(keeper) => keeper.on_disk().is_stopped(),
+            None => true,
+        }
+    }
+
+    fn connections(&self) -> usize {
+        self.desk.lobby.count(self.rt)
+    }
+
+    fn usage(&self, account: usize) -> Result<Option<Usage>, AllocError> {
+        if account >= self.desk.pool.accounts() {
+            return Ok(None);
+        }
+        match self.desk.pool.usage(self.rt, account) {
+            Ok(usage) => Ok(Some(usage)),
+            Err(error) => Err(error),
+        }
     }
 }
 
@@ -85,7 +116,7 @@ fn attend_on<'t, F: Front, N, R: Wait, K: PoolIds>(
 where
     N: Net<Listener = TcpListener, Stream = TcpStream> + Wait,
 {
-    desk.front.attend(&desk.host);
+    desk.front.attend(&View { rt, desk });
     desk.lobby.close(rt);
     let _ = TcpStream::connect_timeout(rt, &address, Duration::from_secs(1));
 }

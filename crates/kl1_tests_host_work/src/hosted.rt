@@ -2,7 +2,7 @@
 
 ghost use Rattle.std.specs.Prelude.{◌≡◌, length};
 
-use crate::guest::{Guest, keys};
+use crate::guest::{Guest, Visit, keys};
 use kl1_host_journals::{OpenFault, open_file};
 use kl1_host_work::{AccountFile, Limits, Setup, StartFault, Syncing, run_host};
 use kl1_log::{LogFile, Memory};
@@ -15,7 +15,7 @@ use std::thread::Threads;
 use std::time::{Clock, Duration};
 
 /// How the host is set up: one that does nothing that isn't asked for.
-fn setup() -> Setup {
+pub(crate) fn setup() -> Setup {
     Setup {
         workers: 0,
         connections: 4,
@@ -87,6 +87,22 @@ pub(crate) fn hosted<R>(
 where
     R: Net<Listener = TcpListener, Stream = TcpStream> + Threads + Wait + Clock + Sync,
 {
+    visited(rt, alloc, texts, left, lines, Visit::Whole, setup())
+}
+
+/// Like `hosted`, of a host that is set up and visited so.
+pub(crate) fn visited<R>(
+    rt: &R,
+    alloc: Global,
+    texts: &[&[u8]],
+    left: usize,
+    lines: &[u8],
+    visit: Visit,
+    setup: Setup,
+) -> Result<Outcome, StartFault>
+where
+    R: Net<Listener = TcpListener, Stream = TcpStream> + Threads + Wait + Clock + Sync,
+{
     let keys = keys(alloc)?;
     let accounts = accounts_of(alloc, keys.as_slice(), texts, left)?;
     let listener = match TcpListener::bind(rt, "127.0.0.1:0") {
@@ -106,9 +122,11 @@ where
         keys: keys.as_slice(),
         address,
         lines,
+        visit,
+        open: Mutex::new(None),
         replies: Mutex::new(Vec::new(alloc)),
     };
-    let files = run_host(rt, alloc, &listener, &guest, accounts, setup())?;
+    let files = run_host(rt, alloc, &listener, &guest, accounts, setup)?;
     let Guest { replies, .. } = guest;
     Ok(Outcome {
         replies: replies.into_inner(),

