@@ -1,6 +1,6 @@
 // A journal's file with what waits for it.
 
-ghost use Rattle.std.specs.Prelude.{◌≡◌, IfOk};
+ghost use Rattle.std.specs.Prelude.{◌≡◌, IfOk, bytes_eq};
 ghost use Rattle.kl1_log.specs.Batches.{text_of};
 ghost use Rattle.kl1_log.specs.LogFiles.{disk_of, account_of as account_of_file, changes_of as changes_of_file};
 ghost use Rattle.kl1_log.specs.Receipts.{account_of, changes_of};
@@ -40,7 +40,15 @@ impl From<AllocError> for LinkFault {
     }
 }
 
+/// Whether bytes are the same as others.
+fn are_same(bytes: &[u8], others: &[u8]) -> bool
+    ensures { result ≡ bytes_eq bytes.now others.now }
+{
+    bytes == others
+}
+
 /// What waits for a file of this account that has these bytes: nothing, if they are the text of the journal; or else that it is begun anew.
+#[tactic(auto, using(crate::proofs::LinkedFiles::file_up_to))]
 fn waiting_for(
     alloc: Global,
     account: u32,
@@ -52,9 +60,10 @@ fn waiting_for(
 {
     let text = begun(alloc, journal)?.bytes;
     let mut waiting = Waiting::new(alloc, account, journal)?;
-    if bytes != text.as_slice() {
-        waiting.note_reset(journal)?;
+    if are_same(bytes, text.as_slice()) {
+        return Ok(waiting);
     }
+    waiting.note_reset(journal)?;
     Ok(waiting)
 }
 

@@ -1,2 +1,0 @@
-pub mod UsedNames
-pub mod Restarts

@@ -1,2 +1,0 @@
-pub mod Linkages
-pub mod Restarts
