@@ -5,8 +5,8 @@ use crate::fault::Fault;
 use crate::files::{Modules, read_each};
 use crate::journal_file::journal_file;
 use crate::origins::{OwnWorld, fresh_world};
-use crate::reasons::goal_lines;
-use crate::shown::Shown;
+use crate::reasons::line_reasons;
+use crate::shown::{Shown, put_at_prompt};
 use kl1_prompt::{
     Line, News, Plan, Stand, Table, do_line, load_all, parse_line, put_answer, put_help, put_news,
     put_table, put_unknown, put_waits, reload, trace_steps,
@@ -54,6 +54,7 @@ struct Session<'a, 'r> {
 /// Loads the modules in files of these names, and does what lines of standard input ask for. Answers the program's status.
 pub fn run_prompt(rt: &HostRuntime, asked: &Asked<'_>, names: &[&str]) -> Result<u8, Fault> {
     let alloc = rt.alloc();
+    refuse_of_run(alloc, asked)?;
     let Modules { files, ids } = read_each(rt, names)?;
     let mut journal = journal_file(rt, asked.journal, ids.as_slice())?;
     let mut world = fresh_world(alloc, asked.rules)?;
@@ -92,6 +93,23 @@ pub fn run_prompt(rt: &HostRuntime, asked: &Asked<'_>, names: &[&str]) -> Result
     } else {
         0
     })
+}
+
+/// Refuses what is told of the run of one goal: a prompt has no such goal.
+fn refuse_of_run(alloc: Global, asked: &Asked<'_>) -> Result<(), Fault> {
+    let (option, hint) = if asked.trace.is_some() {
+        ("--trace", "at a prompt :trace tells steps")
+    } else if asked.timeline.is_some() {
+        ("--timeline", "write the goal after the files")
+    } else if asked.tells_steps() {
+        ("--profile", "write the goal after the files")
+    } else {
+        return Ok(());
+    };
+    let line = format!(in alloc;
+        "kl1_run: {option} tells of the run of one goal, and a prompt has none\n    hint: {hint}\n"
+    )?;
+    Err(Fault::Lines(line.into_bytes()))
 }
 
 /// A line without its end.
@@ -151,7 +169,7 @@ impl Session<'_, '_> {
             Line::Blank => {}
             Line::Quit => return Ok(false),
             Line::NoGoal => {
-                let lines = goal_lines(self.alloc, text, self.files.as_slice())?;
+                let lines = line_reasons(self.alloc, text, self.files.as_slice())?;
                 self.told.faults.extend_from_slice(lines.as_slice())?;
             }
             Line::Unknown => put_unknown(self.alloc, text, &mut self.told.faults)?,
@@ -244,7 +262,9 @@ impl Session<'_, '_> {
         if let Stand::Still = stand {
             let names = shown.names_now(self.alloc)?;
             let most = self.asked.waits.most();
-            put_waits(self.alloc, world, most, &names, &mut self.told.answers)?;
+            let mut lines = Vec::new(self.alloc);
+            put_waits(self.alloc, world, most, &names, &mut lines)?;
+            put_at_prompt(lines.as_slice(), &mut self.told.answers)?;
         }
         if self.asked.has_stats {
             self.show(world, Table::Used)?;

@@ -1,6 +1,8 @@
 // What is told of files and goals: why they are refused, and what was hardly meant.
 
 use crate::fault::Fault;
+use kl1_lines::{is_same, split_word};
+use kl1_prompt::put_help;
 use kl1_reasons::{
     NamedText, Predicates, predicates_of, put_reason, put_reasons, put_warnings, reason_of_goal,
 };
@@ -60,6 +62,37 @@ pub fn goal_lines(alloc: Global, text: &[u8], files: &[SourceFile]) -> Result<Ve
     let mut lines = Vec::new(alloc);
     if let Some(reason) = reason_of_goal(alloc, text, modules.as_slice())? {
         put_reason(&mut lines, GOAL, b"error", &reason)?;
+    }
+    Ok(lines)
+}
+
+/// Words that other programs have for commands of a prompt.
+const OTHER_WORDS: [(&[u8], &[u8]); 3] = [(b"?", b"help"), (b"exit", b"quit"), (b"halt", b"quit")];
+
+/// The word of the command that is meant by a word.
+fn command_word(word: &[u8]) -> &[u8] {
+    for (other, command) in &OTHER_WORDS {
+        if is_same(word, other) {
+            return command;
+        }
+    }
+    word
+}
+
+/// The lines that tell why a line of a prompt is no goal, and of which command it has the word without the colon, if of any.
+pub fn line_reasons(
+    alloc: Global,
+    text: &[u8],
+    files: &[SourceFile],
+) -> Result<Vec<u8>, AllocError> {
+    let mut lines = goal_lines(alloc, text, files)?;
+    let (word, _rest) = split_word(text);
+    let mut command = Vec::new(alloc);
+    let mut unknown = Vec::new(alloc);
+    put_help(alloc, command_word(word), &mut command, &mut unknown)?;
+    if !command.is_empty() {
+        lines.extend_from_slice(b"    hint: ")?;
+        lines.extend_from_slice(command.as_slice())?;
     }
     Ok(lines)
 }

@@ -178,6 +178,31 @@ fn put_name(
     Ok(())
 }
 
+/// How the line begins that tells how many goals more wait, and how it ends after a run and at a prompt.
+const MORE: &[u8] = b"  .. and ";
+
+const MORE_OF_RUN: &[u8] = b" (--waits=all)";
+
+const MORE_AT_PROMPT: &[u8] = b" (:waits)";
+
+/// Puts lines that tell what stands still after the bytes, with the command of a prompt in place of the option of a run.
+pub fn put_at_prompt(lines: &[u8], out: &mut Vec<u8>) -> Result<(), AllocError> {
+    for line in lines.split(|byte| *byte == b'\n') {
+        match line.strip_suffix(MORE_OF_RUN) {
+            Some(front) if line.starts_with(MORE) => {
+                out.extend_from_slice(front)?;
+                out.extend_from_slice(MORE_AT_PROMPT)?;
+            }
+            _ => out.extend_from_slice(line)?,
+        }
+        // After the last line nothing stands.
+        if !line.is_empty() {
+            out.push(b'\n')?;
+        }
+    }
+    Ok(())
+}
+
 /// Whether a variable's name is one by which it is told: those that begin with `_` aren't.
 fn is_named(name: &[u8]) -> bool {
     !name.starts_with(b"_")

@@ -1,8 +1,6 @@
 // The words that the program knows, and what they ask for.
 
-use crate::asked::{
-    Asked, Form, MODULE, MOST_AT_A_TIME, Profiles, Task, USAGE, VERSION, Waits,
-};
+use crate::asked::{Asked, Form, MODULE, MOST_AT_A_TIME, Profiles, Task, USAGE, VERSION, Waits};
 use crate::fault::Fault;
 use clap::{Arg, ArgAction, Command, Error, value_parser};
 use kl1_model::limits::MOST_PRINTED_BYTES;

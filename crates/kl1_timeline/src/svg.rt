@@ -39,9 +39,9 @@ text { font-family: DejaVu Sans, Verdana, sans-serif; font-size: 11px; fill: #22
 .wake { stroke: #00734d; stroke-width: 1.1 }
 .reduction { fill: #12365c }
 .built-in { fill: #5b88b5 }
-.exception { fill: #d55e00; stroke: #5c1a00; stroke-width: 1 }
+.exception { fill: #ff9f5a; stroke: #5c1a00; stroke-width: 1.4 }
 .report { stroke: #888; stroke-width: 0.7; stroke-dasharray: 1,3 }
-.raised { stroke: #d55e00; stroke-width: 0.9; stroke-dasharray: 1,3 }
+.raised { stroke: #a33f00; stroke-width: 0.9; stroke-dasharray: 6,2,1,2 }
 .report-text { font-size: 9px; fill: #444 }
 .raised-text { font-size: 9px; fill: #a33f00; font-weight: bold }
 </style>
