@@ -1,11 +1,10 @@
 -- The digits in front of a text, and amounts that are too much.
-use Rattle.std.proofs.Common.{◌≡◌, ℕ, ◌-◌, ◌*◌, ◌<◌, ◌≤◌, nat_le, true, false, List, [], ◌∷◌, ◌++◌, length, take, Option, None, Some, refl, ap, sym, ◌∙◌, arith, length-append, if◌then◌else◌}
-use Rattle.std.specs.Prelude.{option_and_then}
+use Rattle.std.proofs.Common.{◌≡◌, ℕ, ◌-◌, ◌*◌, ◌<◌, ◌≤◌, true, false, List, [], ◌∷◌, ◌++◌, length, take, None, refl, ap, sym, ◌∙◌, arith, length-append}
 use Rattle.std.proofs.lemmas.Bool.{lt-leb}
 use Rattle.std.proofs.Math.Seq.{take-append_seam}
 use Rattle.std.proofs.Math.Nat.{le-mul_of_pos_right}
-use Rattle.kl1_model.specs.Token.{is_digit, digits_of, behind_digits, number_of}
-use Rattle.kl1_host_front.specs.Quantities.{up_to, amount}
+use Rattle.kl1_model.specs.Token.{is_digit, digits_of, behind_digits}
+use Rattle.kl1_host_front.specs.Quantities.{up_to}
 
 -- the digits, and what is after them, are the text
 digits_split : (text : List ℕ) → digits_of text ++ behind_digits text ≡ text

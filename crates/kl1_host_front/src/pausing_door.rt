@@ -1,6 +1,6 @@
 // Who is let in, after a pause if there were wrong keys.
 
-ghost use Rattle.std.specs.Prelude.{◌≡◌, length};
+ghost use Rattle.std.specs.Prelude.{length};
 ghost use Rattle.kl1_session.specs.Views.{entries_view};
 ghost use Rattle.kl1_host_front.specs.Sums.{opened_by_sum};
 

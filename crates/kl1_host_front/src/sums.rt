@@ -5,7 +5,6 @@ ghost use Rattle.std.specs.List.{list_all};
 ghost use Rattle.kl1_model.specs.declared.limits.TheConstants.{MOST_ACCOUNTS};
 ghost use Rattle.kl1_session.specs.Views.{entries_view};
 ghost use Rattle.kl1_host_front.specs.Sums.{is_sum_byte, is_sum, has_sum, sums_of, account_line};
-ghost use Rattle.kl1_host_front.specs.declared.sums.TheConstants.{SUM_BYTES};
 
 use crate::hashed_keys::sum_of;
 use kl1_lines::split_feed;

@@ -1,8 +1,7 @@
 // When what is written to a journal's file is on the disk.
 
-ghost use Rattle.std.specs.Prelude.{◌≡◌, ◌≤◌, IfSome};
+ghost use Rattle.std.specs.Prelude.{◌≡◌};
 ghost use Rattle.kl1_host_front.specs.Syncs.{sync_in};
-ghost use Rattle.kl1_host_front.specs.declared.sync.TheConstants.{MOST_SYNC_MILLISECONDS};
 
 use crate::quantities::duration_in;
 use kl1_lines::is_same;

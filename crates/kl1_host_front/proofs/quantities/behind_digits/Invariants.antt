@@ -1,4 +1,4 @@
-use Rattle.std.proofs.Common.{◌≡◌, ◌×◌, ◌≤◌, length}
+use Rattle.std.proofs.Common.{◌≡◌, ◌≤◌, length}
 use Rattle.kl1_model.specs.Token.{behind_digits}
 use Rattle.kl1_host_front.proofs.quantities.behind_digits.Given as goal
 
