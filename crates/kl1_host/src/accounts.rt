@@ -5,6 +5,7 @@ use crate::folder::{ACCOUNTS, path_in};
 use kl1_host_front::{bad_line, read_sums};
 use kl1_session::Key;
 use std::fs;
+use std::rt::Files;
 
 /// The accounts of a folder.
 #[derive(Drop)]
@@ -16,7 +17,7 @@ pub struct Accounts {
 }
 
 /// The accounts of a folder, in the order of the lines of their file.
-pub fn accounts_in(rt: &HostRuntime, folder: &str) -> Result<Accounts, Fault> {
+pub fn accounts_in<R: Files + AllocGlobal>(rt: &R, folder: &str) -> Result<Accounts, Fault> {
     let alloc = rt.alloc();
     let path = path_in(alloc, folder, ACCOUNTS)?;
     let text = match fs::read(rt, path.as_str()) {

@@ -82,6 +82,7 @@ fn write_accounts(rt: &HostRuntime, folder: &str, text: &[u8]) -> Result<(), Fau
 pub fn add_account(rt: &HostRuntime, folder: &str, name: &str) -> Result<u8, Fault> {
     let _lock = lock_folder(
         rt,
+        rt.alloc(),
         folder,
         "stop it first (kl1_host stop DIR), and run it again after that",
     )?;

@@ -2,11 +2,17 @@
 
 use crate::fault::Fault;
 use crate::folder::{LOCK, path_in};
+use std::alloc::Global;
 use std::fs::{File, OpenOptions, TryLockError};
+use std::rt::Files;
 
 /// Takes the lock of a folder: who has it holds it until the file is closed. If another has it, these words tell what to do.
-pub fn lock_folder(rt: &HostRuntime, folder: &str, advice: &str) -> Result<File, Fault> {
-    let alloc = rt.alloc();
+pub fn lock_folder<R: Files<File = File>>(
+    rt: &R,
+    alloc: Global,
+    folder: &str,
+    advice: &str,
+) -> Result<File, Fault> {
     let path = path_in(alloc, folder, LOCK)?;
     let file = match OpenOptions::new()
         .read(true)

@@ -5,13 +5,19 @@ mod accounts;
 mod add;
 mod ask;
 mod check;
+mod control;
 mod fault;
 mod folder;
 mod init;
 mod last_line;
 mod lock;
+mod log;
+mod logins;
 mod new_file;
+mod program;
+mod run;
 mod settings;
+mod start_words;
 mod words;
 
 use crate::add::add_account;
@@ -19,12 +25,22 @@ use crate::ask::ask_host;
 use crate::check::check_folder;
 use crate::fault::Fault;
 use crate::init::init_folder;
+use crate::run::run_folder;
 use crate::words::{Task, task_in, tell};
 use std::env;
 use std::process::ExitCode;
 
 fn main(rt: HostRuntime) -> ExitCode {
-    match status_of(&rt) {
+    let done = match words_in(&rt) {
+        Ok(words) => match task_in(rt.alloc(), words.as_slice()) {
+            // A host waits for its threads, which only `main` may.
+            Ok(Task::Run { folder, repairs }) => run_folder(&rt, folder, repairs),
+            Ok(task) => do_task(&rt, task),
+            Err(error) => tell(&rt, &error),
+        },
+        Err(fault) => Err(fault),
+    };
+    match done {
         Ok(status) => ExitCode::from(status),
         Err(fault) => fault.tell(&rt),
     }
@@ -35,15 +51,14 @@ fn words_in(rt: &HostRuntime) -> Result<Vec<String>, Fault> {
     Ok(env::args(rt)?.collect(rt.alloc())?)
 }
 
-/// Does what the words ask for, and answers the program's status.
-fn status_of(rt: &HostRuntime) -> Result<u8, Fault> {
-    let words = words_in(rt)?;
-    match task_in(rt.alloc(), words.as_slice()) {
-        Ok(Task::Init(folder)) => init_folder(rt, folder),
-        Ok(Task::Add { folder, name }) => add_account(rt, folder, name),
-        Ok(Task::Check(folder)) => check_folder(rt, folder),
-        Ok(Task::Status(folder)) => ask_host(rt, folder, "status\n"),
-        Ok(Task::Stop(folder)) => ask_host(rt, folder, "stop\n"),
-        Err(error) => tell(rt, &error),
+/// Does a task that waits for no thread, and answers the program's status.
+fn do_task(rt: &HostRuntime, task: Task<'_>) -> Result<u8, Fault> {
+    match task {
+        Task::Init(folder) => init_folder(rt, folder),
+        Task::Add { folder, name } => add_account(rt, folder, name),
+        Task::Check(folder) => check_folder(rt, folder),
+        Task::Status(folder) => ask_host(rt, folder, "status\n"),
+        Task::Stop(folder) => ask_host(rt, folder, "stop\n"),
+        Task::Run { .. } => Ok(0),
     }
 }

@@ -5,6 +5,7 @@ use crate::folder::{SETTINGS, path_in};
 use kl1_host_front::{BadSettings, Settings, settings_in};
 use std::alloc::Global;
 use std::fs;
+use std::rt::Files;
 
 /// The words for settings that aren't taken.
 fn bad_settings(alloc: Global, path: &str, bad: &BadSettings) -> Result<Fault, Fault> {
@@ -30,7 +31,7 @@ fn bad_settings(alloc: Global, path: &str, bad: &BadSettings) -> Result<Fault, F
 }
 
 /// What the host of a folder is set to.
-pub fn settings_of(rt: &HostRuntime, folder: &str) -> Result<Settings, Fault> {
+pub fn settings_of<R: Files + AllocGlobal>(rt: &R, folder: &str) -> Result<Settings, Fault> {
     let alloc = rt.alloc();
     let path = path_in(alloc, folder, SETTINGS)?;
     let text = match fs::read_to_string(rt, path.as_str()) {

@@ -10,7 +10,7 @@ const VERSION: &str = "0.1.0";
 
 /// How the program is called.
 const USAGE: &str =
-    "kl1_host init DIR\n       kl1_host add DIR NAME\n       kl1_host check DIR\n       kl1_host status DIR\n       kl1_host stop DIR\n       kl1_host --help | --version";
+    "kl1_host init DIR\n       kl1_host add DIR NAME\n       kl1_host run DIR [--repair]\n       kl1_host check DIR\n       kl1_host status DIR\n       kl1_host stop DIR\n       kl1_host --help | --version";
 
 /// What is to be done.
 #[derive(Clone, Copy)]
@@ -19,6 +19,8 @@ pub enum Task<'a> {
     Init(&'a str),
     /// An account is added to a folder.
     Add { folder: &'a str, name: &'a str },
+    /// The host of a folder runs.
+    Run { folder: &'a str, repairs: bool },
     /// The settings, the accounts and the journals of a folder are looked at.
     Check(&'a str),
     /// The host of a folder is asked how it goes.
@@ -54,6 +56,16 @@ fn command<'a>(alloc: Global) -> Result<Command<'a>, AllocError> {
         "NAME",
         "The account's name",
     ))?;
+    let repair = Arg::new(alloc, "repair")
+        .long("repair")
+        .action(ArgAction::SetTrue)
+        .help("Keep of a journal with a fault what is before it");
+    let run = task(
+        alloc,
+        "run",
+        "Serves the accounts, until it is asked to stop",
+    )?
+    .arg(repair)?;
     let check = task(
         alloc,
         "check",
@@ -68,6 +80,7 @@ fn command<'a>(alloc: Global) -> Result<Command<'a>, AllocError> {
         .subcommand_required(true)
         .subcommand(init)?
         .subcommand(add)?
+        .subcommand(run)?
         .subcommand(check)?
         .subcommand(status)?
         .subcommand(stop)
@@ -86,6 +99,10 @@ pub fn task_in<'a>(alloc: Global, words: &'a [String]) -> Result<Task<'a>, Error
         Some(("add", words)) => Ok(Task::Add {
             folder: folder_in(words),
             name: words.get_str("NAME").unwrap_or(""),
+        }),
+        Some(("run", words)) => Ok(Task::Run {
+            folder: folder_in(words),
+            repairs: words.get_flag("repair"),
         }),
         Some(("check", words)) => Ok(Task::Check(folder_in(words))),
         Some(("status", words)) => Ok(Task::Status(folder_in(words))),
