@@ -1,15 +1,14 @@
 -- The sessions of browsers that are open.
-use Rattle.std.specs.Prelude.{◌≡◌, ◌<◌, ℕ, nat_lt, Bool, true, false, List, [], ◌∷◌, ◌++◌, length, remove, slice_get, bytes_eq, All, Option, Some, None}
+use Rattle.std.specs.Prelude.{◌≡◌, ◌<◌, ℕ, suc, nat_lt, Bool, true, false, if◌then◌else◌, List, [], ◌∷◌, ◌++◌, length, remove, bytes_eq, Option, Some, None}
 use Rattle.kl1_host_door.specs.declared.limits.TheConstants.{MOST_SESSIONS}
 use Rattle.kl1_host_door.specs.declared.session.WebSession.{WebSession}
+use Rattle.kl1_host_door.specs.declared.book.SessionTest.{SessionTest}
+use Rattle.kl1_host_door.specs.declared.book.SessionTest.TheVariants as test
 
--- whether the last request of a session was before a second
-abbrev pub is_idle : ℕ → WebSession → Bool
-is_idle before session = nat_lt session.last before
-
--- whether a session has this name
-abbrev pub is_called : List ℕ → WebSession → Bool
-is_called id session = bytes_eq session.id id
+-- whether a session passes a test: it has this name, or its last request was before this second
+abbrev pub passes : SessionTest → WebSession → Bool
+passes (test.IsCalled id) session = bytes_eq session.id id
+passes (test.IsIdle before) session = nat_lt session.last before
 
 -- the secrets of a session with its account
 abbrev pub secrets_of : WebSession → List ℕ × List ℕ × ℕ
@@ -20,12 +19,15 @@ abbrev pub IsAdded : Bool → WebSession → List WebSession → List WebSession
 IsAdded true session old new = (length old < MOST_SESSIONS) × (new ≡ old ++ session ∷ [])
 IsAdded false session old new = new ≡ old
 
--- at this place stands a session that passes a test; `None` if there is none
-abbrev pub IsPlace : (WebSession → Bool) → List WebSession → Option ℕ → Type 0
-IsPlace test sessions None = All (λ s. test s ≡ false) sessions
-IsPlace test sessions (Some n) = (s : WebSession) × (slice_get sessions n ≡ Some s) × (test s ≡ true)
+-- the place of the first session that passes a test, counted from a number on
+abbrev pub place_from : (WebSession → Bool) → ℕ → List WebSession → Option ℕ
+place_from test n [] = None
+place_from test n (s ∷ ss) = if test s then Some n else place_from test (suc n) ss
 
--- one session that passes a test was taken out; nothing if there is none
-abbrev pub TakesOut : (WebSession → Bool) → Option WebSession → List WebSession → List WebSession → Type 0
-TakesOut test None old new = All (λ s. test s ≡ false) old × (new ≡ old)
-TakesOut test (Some session) old new = (n : ℕ) × (slice_get old n ≡ Some session) × (test session ≡ true) × (new ≡ remove old n)
+-- the place of the first session that passes a test, from 0
+abbrev pub place_of : (WebSession → Bool) → List WebSession → Option ℕ
+place_of test sessions = place_from test 0 sessions
+
+-- the sessions without the first that passes a test
+abbrev pub without_first : (WebSession → Bool) → List WebSession → List WebSession
+without_first test sessions = elim (place_of test sessions) [ None ↦ sessions | Some n ↦ remove sessions n ]

@@ -1,9 +1,9 @@
 // The sessions of browsers that are open.
 
-ghost use Rattle.std.specs.Prelude.{◌≡◌, [], map, IfOk};
-ghost use Rattle.kl1_host_door.specs.Books.{is_idle, is_called, secrets_of, IsAdded, IsPlace, TakesOut};
+ghost use Rattle.std.specs.Prelude.{◌≡◌, ◌<◌, [], length, map, find, IfOk, IfSome};
+ghost use Rattle.kl1_host_door.specs.Books.{passes, place_of, secrets_of, IsAdded, without_first};
 
-use crate::limits::MOST_SESSIONS;
+use crate::limits::{MOST_SESSIONS, SECRET_BYTES};
 use crate::session::WebSession;
 use kl1_session::is_same_key;
 use std::alloc::{AllocError, Global};
@@ -51,52 +51,74 @@ impl SessionBook {
         self.open.push(session).is_ok()
     }
 
-    /// Takes out a session whose last request was before a second; `None` if there is none.
-    pub fn take_idle(&mut self, before: u64) -> Option<WebSession>
-        ensures { TakesOut (is_idle before) result self.old self.new }
+    /// Takes out the first session that passes a test; `None` if there is none.
+    #[tactic(auto, using(crate::proofs::BookPlaces::none_at))]
+    pub fn take(&mut self, test: SessionTest) -> Option<WebSession>
+        ensures value { result ≡ find (passes test) self.old }
+        ensures taken { self.new ≡ without_first (passes test) self.old }
     {
-        let place = idle_place(self.open.as_slice(), before)?;
-        Some(self.open.remove(place))
-    }
-
-    /// Takes out the session with this name; `None` if there is none.
-    pub fn take(&mut self, id: &[u8]) -> Option<WebSession>
-        ensures { TakesOut (is_called id.now) result self.old self.new }
-    {
-        let place = place_of(self.open.as_slice(), id)?;
-        Some(self.open.remove(place))
+        let place = place_of(self.open.as_slice(), test)?;
+        let session = found(self.open.as_slice(), test);
+        let _ = self.open.remove(place);
+        session
     }
 
     /// Notes the second of a request of the session with this name.
-    pub fn touch(&mut self, id: &[u8], now: u64)
+    pub fn touch(&mut self, id: [u8; SECRET_BYTES], now: u64)
         ensures { map secrets_of self.new ≡ map secrets_of self.old }
     {
-        if let Some(place) = place_of(self.open.as_slice(), id) {
+        if let Some(place) = place_of(self.open.as_slice(), SessionTest::IsCalled(id)) {
             self.open[place].last = now;
         }
     }
 }
 
-/// The place of the first session with this name.
-fn place_of(sessions: &[WebSession], id: &[u8]) -> Option<usize>
-    ensures { IsPlace (is_called id.now) sessions.now result }
+/// What is asked of a session.
+#[derive(Clone, Copy)]
+pub enum SessionTest {
+    /// Whether it has this name.
+    IsCalled([u8; SECRET_BYTES]),
+    /// Whether its last request was before this second.
+    IsIdle(u64),
+}
+
+/// Whether a session passes a test.
+fn passes(test: SessionTest, session: &WebSession) -> bool
+    ensures { result ≡ passes test session.now }
 {
-    for place in 0..sessions.len() {
-        if is_same_key(&sessions[place].id, id) {
+    match test {
+        SessionTest::IsCalled(id) => is_same_key(&session.id, &id),
+        SessionTest::IsIdle(before) => session.last < before,
+    }
+}
+
+/// The place of the first session that passes a test.
+fn place_of(sessions: &[WebSession], test: SessionTest) -> Option<usize>
+    ensures value { result ≡ place_of (passes test) sessions.now }
+    ensures within { IfSome result (λ n. n < length sessions.now) }
+{
+    let mut place = 0;
+    let mut rest = sessions;
+    while let [first, others @ ..] = rest {
+        if passes(test, first) {
             return Some(place);
         }
+        place += 1;
+        rest = others;
     }
     None
 }
 
-/// The place of the first session whose last request was before a second.
-fn idle_place(sessions: &[WebSession], before: u64) -> Option<usize>
-    ensures { IsPlace (is_idle before) sessions.now result }
+/// The first session that passes a test.
+fn found(sessions: &[WebSession], test: SessionTest) -> Option<WebSession>
+    ensures { result ≡ find (passes test) sessions.now }
 {
-    for place in 0..sessions.len() {
-        if sessions[place].last < before {
-            return Some(place);
+    let mut rest = sessions;
+    while let [first, others @ ..] = rest {
+        if passes(test, first) {
+            return Some(*first);
         }
+        rest = others;
     }
     None
 }

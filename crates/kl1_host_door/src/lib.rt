@@ -16,7 +16,7 @@ mod status;
 pub use answer::{Answer, Content, Cookie, put_answer};
 pub use ask::{Ask, Method};
 pub use body::body_bytes;
-pub use book::SessionBook;
+pub use book::{SessionBook, SessionTest};
 pub use door::{Allowed, Site, authorize};
 pub use field::{Field, value_of};
 pub use head::{Head, Reading, read_head};

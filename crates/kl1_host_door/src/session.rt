@@ -1,6 +1,6 @@
 // Sessions of browsers.
 
-ghost use Rattle.std.specs.Prelude.{◌≡◌, ◌∷◌, option_map, find, nat_eq};
+ghost use Rattle.std.specs.Prelude.{◌≡◌, true, option_map, find};
 ghost use Rattle.std.specs.List.{starts_with};
 ghost use Rattle.kl1_host_door.specs.Sessions.{cookie_from, is_end, is_of, session_of, has_token};
 

@@ -1,3 +1,4 @@
 pub mod Asking
 pub mod Wishes
 pub mod Telling
+pub mod Records

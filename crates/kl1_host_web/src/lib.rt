@@ -2,6 +2,7 @@
 #![tactic(auto)]
 
 mod accounts;
+mod asked_record;
 mod grant;
 mod incoming;
 mod json;
@@ -15,6 +16,7 @@ mod waiting;
 mod wish;
 
 pub use accounts::{Accounts, Measures, Stop, Sums, Viewer};
+pub use asked_record::AskedRecord;
 pub use grant::grant;
 pub use kl1_host_door::{SessionBook, Site};
 pub use outcome::Outcome;

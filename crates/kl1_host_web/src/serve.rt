@@ -12,7 +12,8 @@ use crate::site::{Machine, Page};
 use crate::wish::wish_of;
 use kl1_command::Command;
 use kl1_host_door::{
-    Allowed, Answer, Cookie, Head, Refusal, WebSession, authorize, body_bytes, put_answer, value_of,
+    Allowed, Answer, Cookie, Head, Refusal, SessionTest, WebSession, authorize, body_bytes,
+    put_answer, value_of,
 };
 use kl1_lines::{Sink, Source, finish};
 use kl1_user_events::Event;
@@ -32,7 +33,7 @@ fn log_out<A: Accounts>(accounts: &mut A, session: &WebSession)
 fn take_idle<R: Wait>(rt: &R, page: Page<'_>, before: u64) -> Option<WebSession> {
     let mut guard = page.sessions.lock(rt);
     let book = &mut *guard;
-    book.take_idle(before)
+    book.take(SessionTest::IsIdle(before))
 }
 
 /// Ends the sessions of browsers that made no request for too long.
@@ -61,7 +62,7 @@ fn allowed_by<R: Wait, M: Machine>(
     let book = &mut *guard;
     let allowed = authorize(head, book.sessions(), page.sites, is_local)?;
     if let Allowed::Owner { session, .. } = &allowed {
-        book.touch(&session.id, machine.seconds());
+        book.touch(session.id, machine.seconds());
     }
     Ok(allowed)
 }
@@ -100,7 +101,7 @@ fn end<R: Wait>(rt: &R, page: Page<'_>, allowed: &Allowed) {
     if let Allowed::Owner { session, .. } = allowed {
         let mut guard = page.sessions.lock(rt);
         let book = &mut *guard;
-        let _ = book.take(&session.id);
+        let _ = book.take(SessionTest::IsCalled(session.id));
     }
 }
 
