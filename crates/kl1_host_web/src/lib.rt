@@ -20,6 +20,6 @@ pub use asked_record::AskedRecord;
 pub use grant::grant;
 pub use kl1_host_door::{SessionBook, Site};
 pub use outcome::Outcome;
-pub use serve::serve;
+pub use serve::Service;
 pub use site::{Machine, Page};
 pub use wish::{Wish, wish_of};

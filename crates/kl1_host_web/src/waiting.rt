@@ -25,6 +25,16 @@ const MOST_PARTS: u64 = 500;
 /// For how many pairs of a variable and a goal it is looked up at most whether it is in it: that bounds the time of an answer.
 const MOST_PAIRS: u64 = 20_000;
 
+/// The goals among which is looked.
+#[derive(Drop)]
+struct Search {
+    goals: Vec<GoalView>,
+    /// Whether these are all.
+    is_all: bool,
+    /// For how many pairs of a variable and a goal may still be looked.
+    pairs: u64,
+}
+
 /// Which goals have a variable.
 #[derive(Drop)]
 struct Holders {
@@ -33,84 +43,81 @@ struct Holders {
     complete: bool,
 }
 
-/// The goals but this one that have a variable, as far as `pairs` allows.
-fn holders_of<V: Viewer>(
-    alloc: Global,
-    viewer: &mut V,
-    goals: &[GoalView],
-    goal: GoalNo,
-    variable: u32,
-    pairs: &mut u64,
-) -> Result<Holders, AllocError> {
-    let mut holders = Holders {
-        goals: Vec::new(alloc),
-        complete: true,
-    };
-    for view in goals {
-        if view.number.0 == goal.0 {
-            continue;
-        }
-        if *pairs == 0 || holders.goals.len() == MOST_HOLDERS {
-            holders.complete = false;
-            break;
-        }
-        *pairs -= 1;
-        match viewer.presence(view.number, u64::from(variable), MOST_PARTS)? {
-            Presence::Present => {
-                let number = json!(in alloc; (view.number.0))?;
-                push(&mut holders.goals, number)?;
+impl Search {
+    /// The goals but this one that have a variable.
+    fn holders<V: Viewer>(
+        &mut self,
+        alloc: Global,
+        viewer: &mut V,
+        goal: GoalNo,
+        variable: u32,
+    ) -> Result<Holders, AllocError> {
+        let mut holders = Holders {
+            goals: Vec::new(alloc),
+            complete: self.is_all,
+        };
+        for view in self.goals.iter() {
+            if view.number.0 == goal.0 {
+                continue;
             }
-            Presence::Absent => {}
-            Presence::Unknown => holders.complete = false,
+            if self.pairs == 0 || holders.goals.len() >= MOST_HOLDERS {
+                holders.complete = false;
+                break;
+            }
+            self.pairs -= 1;
+            match viewer.presence(view.number, u64::from(variable), MOST_PARTS)? {
+                Presence::Present => {
+                    let number = json!(in alloc; (view.number.0))?;
+                    push(&mut holders.goals, number)?;
+                }
+                Presence::Absent => {}
+                Presence::Unknown => holders.complete = false,
+            }
         }
+        Ok(holders)
     }
-    Ok(holders)
-}
 
-/// A variable that is waited for, with the other goals that have it.
-fn awaited_value<V: Viewer>(
-    alloc: Global,
-    viewer: &mut V,
-    goals: &[GoalView],
-    is_all: bool,
-    goal: GoalNo,
-    variable: u32,
-    pairs: &mut u64,
-) -> Result<Value, AllocError> {
-    let holders = holders_of(alloc, viewer, goals, goal, variable, pairs)?;
-    let complete = holders.complete && is_all;
-    let holders = Value::Array(holders.goals);
-    json!(in alloc; {"variable": variable, "holders": holders, "complete": complete})
-}
-
-/// A goal that waits for these variables.
-fn goal_value<V: Viewer>(
-    alloc: Global,
-    viewer: &mut V,
-    goals: &[GoalView],
-    is_all: bool,
-    view: &GoalView,
-    variables: &[u32],
-    pairs: &mut u64,
-) -> Result<Value, AllocError> {
-    let mut awaits = Vec::new(alloc);
-    for variable in variables.iter().take(MOST_VARIABLES) {
-        let value = awaited_value(alloc, viewer, goals, is_all, view.number, *variable, pairs)?;
-        push(&mut awaits, value)?;
+    /// A variable that a goal waits for, with the other goals that have it.
+    fn awaited<V: Viewer>(
+        &mut self,
+        alloc: Global,
+        viewer: &mut V,
+        goal: GoalNo,
+        variable: u32,
+    ) -> Result<Value, AllocError> {
+        let holders = self.holders(alloc, viewer, goal, variable)?;
+        let complete = holders.complete;
+        let holders = Value::Array(holders.goals);
+        json!(in alloc; {"variable": variable, "holders": holders, "complete": complete})
     }
-    let text = viewer.goal_text(view.number, Extent::AtMost(MOST_TEXT))?;
-    let text = match &text {
-        Some(text) => text_value(alloc, text.as_slice())?,
-        None => text_value(alloc, b"")?,
-    };
-    let awaits = Value::Array(awaits);
-    json!(in alloc; {
-        "number": (view.number.0),
-        "shoen": (view.shoen.0),
-        "priority": (view.priority),
-        "text": text,
-        "awaits": awaits
-    })
+
+    /// A goal that waits for these variables.
+    fn goal<V: Viewer>(
+        &mut self,
+        alloc: Global,
+        viewer: &mut V,
+        view: GoalView,
+        variables: &[u32],
+    ) -> Result<Value, AllocError> {
+        let mut awaits = Vec::new(alloc);
+        for variable in variables.iter().take(MOST_VARIABLES) {
+            let value = self.awaited(alloc, viewer, view.number, *variable)?;
+            push(&mut awaits, value)?;
+        }
+        let text = viewer.goal_text(view.number, Extent::AtMost(MOST_TEXT))?;
+        let text = match &text {
+            Some(text) => text_value(alloc, text.as_slice())?,
+            None => text_value(alloc, b"")?,
+        };
+        let awaits = Value::Array(awaits);
+        json!(in alloc; {
+            "number": (view.number.0),
+            "shoen": (view.shoen.0),
+            "priority": (view.priority),
+            "text": text,
+            "awaits": awaits
+        })
+    }
 }
 
 /// Whether a goal may wait for variables.
@@ -118,39 +125,49 @@ fn may_wait(view: &GoalView) -> bool {
     !view.can_step && matches!(view.task, TaskKind::Reduces)
 }
 
+/// The variables that a goal waits for; none if it doesn't wait.
+fn variables_of<V: Viewer>(
+    alloc: Global,
+    viewer: &mut V,
+    view: &GoalView,
+) -> Result<Vec<u32>, AllocError> {
+    if !may_wait(view) {
+        return Ok(Vec::new(alloc));
+    }
+    match viewer.awaited(view.number)? {
+        Some(variables) => Ok(variables),
+        None => Ok(Vec::new(alloc)),
+    }
+}
+
+/// The number of the first goal that isn't looked at, if there is one.
+fn number_value(alloc: Global, view: Option<&GoalView>) -> Result<Value, AllocError> {
+    match view {
+        Some(view) => json!(in alloc; (view.number.0)),
+        None => Ok(Value::Null),
+    }
+}
+
 /// The first goals that wait, and the number of the first after them.
 pub(crate) fn waiting_value<V: Viewer>(alloc: Global, viewer: &mut V) -> Result<Value, AllocError> {
     let goals = viewer.goals_from(GoalNo(1), MOST_LOOKED + 1)?;
-    let is_all = goals.len() <= MOST_LOOKED;
-    let mut pairs = MOST_PAIRS;
-    let mut values = Vec::new(alloc);
-    let mut next = match goals.as_slice().get(MOST_LOOKED) {
-        Some(view) => json!(in alloc; (view.number.0))?,
-        None => Value::Null,
+    let mut next = number_value(alloc, goals.as_slice().get(MOST_LOOKED))?;
+    let mut search = Search {
+        is_all: goals.len() <= MOST_LOOKED,
+        goals: Vec::from_slice(alloc, goals.as_slice())?,
+        pairs: MOST_PAIRS,
     };
+    let mut values = Vec::new(alloc);
     for view in goals.iter().take(MOST_LOOKED) {
-        if !may_wait(view) {
-            continue;
-        }
-        let Some(variables) = viewer.awaited(view.number)? else {
-            continue;
-        };
+        let variables = variables_of(alloc, viewer, view)?;
         if variables.is_empty() {
             continue;
         }
-        if values.len() == MOST_WAITING {
-            next = json!(in alloc; (view.number.0))?;
+        if values.len() >= MOST_WAITING {
+            next = number_value(alloc, Some(view))?;
             break;
         }
-        let value = goal_value(
-            alloc,
-            viewer,
-            goals.as_slice(),
-            is_all,
-            view,
-            variables.as_slice(),
-            &mut pairs,
-        )?;
+        let value = search.goal(alloc, viewer, *view, variables.as_slice())?;
         push(&mut values, value)?;
     }
     let values = Value::Array(values);

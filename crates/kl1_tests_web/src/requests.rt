@@ -2,7 +2,7 @@
 
 use crate::known::{Known, KnownMachine};
 use crate::wanted::after_answer;
-use kl1_host_web::{Page, SessionBook, Site, serve};
+use kl1_host_web::{Page, Service, SessionBook, Site};
 use kl1_lines::FailureCounter;
 use kl1_tests_rows::{Text, Tried, cut, number_of};
 use std::alloc::{AllocError, Global};
@@ -53,16 +53,14 @@ impl<'r, R: Wait> Requests<'r, R> {
             idle: IDLE,
         };
         self.known.asked.clear();
-        serve(
-            self.rt,
-            self.alloc,
-            &self.machine,
+        let service = Service {
+            rt: self.rt,
+            alloc: self.alloc,
+            machine: &self.machine,
             page,
-            &mut source,
-            &mut sink,
-            &mut self.known,
             is_local,
-        );
+        };
+        service.serve(&mut source, &mut sink, &mut self.known);
         sink.inner
     }
 }
