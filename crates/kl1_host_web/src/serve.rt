@@ -21,7 +21,7 @@ use std::alloc::{AllocError, Global};
 use std::sync::Wait;
 
 /// What a connection is served by, and whether it comes from the machine of the host.
-#[derive(Clone, Copy)]
+#[derive(Drop)]
 pub struct Service<'p, R: Wait, M: Machine> {
     pub rt: &'p R,
     pub alloc: Global,
