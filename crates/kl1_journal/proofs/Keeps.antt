@@ -1,12 +1,12 @@
 -- An account with its journal after an event.
-use Rattle.std.proofs.Common.{◌≡◌, ℕ, if◌then◌else◌, List, [], refl, sym, ap, ◌∙◌, subst}
+use Rattle.std.proofs.Common.{◌≡◌, ℕ, if◌then◌else◌, List, [], refl, sym, ap, ◌∙◌, subst, arith}
 use Rattle.std.specs.Prelude.{Option, Some, None, is_some}
 use Rattle.kl1_model.specs.declared.rules.Rules.{Rules}
 use Rattle.kl1_model.specs.State.{State}
 use Rattle.kl1_model.specs.Event as model
 use Rattle.kl1_model.specs.Event.{Transition, is_refused}
 use Rattle.kl1_model.specs.Step.{step}
-use Rattle.kl1_model_server.specs.Journal.{Journal, stepped, noted, Done, fresh_kept, done}
+use Rattle.kl1_model_server.specs.Journal.{Journal, Kept, stepped, noted, Done, fresh_kept, done}
 use Rattle.kl1_model_server.specs.laws.ReplayLaws.{IsReplayable}
 use Rattle.kl1_model_server.specs.laws.TextLaws as texts
 use Rattle.kl1_model_server.proofs.ReplayReplies.{fresh_is_replayable, replayable_stays}
@@ -24,7 +24,7 @@ use Rattle.kl1_user_events.specs.declared.refusal.Refusal.{Refusal}
 use Rattle.kl1_user_events.specs.Views.{reduced_or}
 use Rattle.kl1_journal.specs.declared.change.Change.{Change}
 use Rattle.kl1_journal.specs.Changes.{IsChange, SessionsFit, changed}
-use Rattle.kl1_journal.specs.Keeping.{kept_of, IsReplayed}
+use Rattle.kl1_journal.specs.Keeping.{kept_of, kept_since_reset, IsReplayed}
 use Rattle.kl1_user.specs.Readings.{reading_of, reading_fits}
 use Rattle.kl1_journal.proofs.Changing.{reduction_is, noted_is, sessions_fit}
 
@@ -92,6 +92,16 @@ pub kept_fresh : (a : Account) (j : Journal) (rules : Rules) (name : List ℕ) �
 kept_fresh a j rules name none is = record {
   replay = λ f fits. subst IsReplayable (sym (is f)) (fresh_is_replayable rules name);
   names = subst (λ (ks : List Known). texts.AreNames (texts_of ks)) (sym none) no_names;
+}
+
+since_reset_is_replayable : (rules : Rules) (name : List ℕ) (names : List (List ℕ)) → IsReplayable (kept_since_reset rules name names)
+since_reset_is_replayable rules name names = record { is = record { is = refl; rules = refl; sessions = refl; run = λ m f. absurd (omega (arith, f)) }; accepted = refl }
+
+-- an account in which nothing has happened since a reset is the replay of its journal
+pub kept_named : (a : Account) (j : Journal) (rules : Rules) (name : List ℕ) (names : List (List ℕ)) → texts.AreNames names → AreNames a.names → ((f : Reading) → kept_of f (a, j) ≡ kept_since_reset rules name names) → IsReplayed (a, j)
+kept_named a j rules name names may known is = record {
+  replay = λ f fits. subst IsReplayable (sym (is f)) (since_reset_is_replayable rules name names);
+  names = subst texts.AreNames (sym (ap (λ (k : Kept). k.state.names) (is (reading_of a.names)))) may;
 }
 
 -- no names are one to one

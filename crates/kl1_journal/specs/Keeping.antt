@@ -1,6 +1,8 @@
 -- An account with its journal, of which it is the replay.
-use Rattle.std.specs.Prelude.{[]}
+use Rattle.std.specs.Prelude.{ℕ, List, []}
+use Rattle.kl1_model.specs.declared.rules.Rules.{Rules}
 use Rattle.kl1_model.specs.declared.rules.Rules.TheVariants.{One}
+use Rattle.kl1_model.specs.State.{fresh_with}
 use Rattle.kl1_model_server.specs.Journal.{Journal, new_journal, Kept}
 use Rattle.kl1_model_server.specs.laws.ReplayLaws.{IsReplayable}
 use Rattle.kl1_model_server.specs.laws.TextLaws.{AreNames, IsWritten}
@@ -19,6 +21,11 @@ nobody = (record { own_name = []; rules = One; held = nothing_held; goals = []; 
 -- the account with its journal that these are, for a reading of its names
 abbrev pub kept_of : Reading → Held → Kept
 kept_of f k = record { state = state_of f k.0; journal = k.1 }
+
+-- an account of this name, which keeps to these rules, in which nothing has happened since the reset at which it had used these names, with
+-- its journal; no session is open
+abbrev pub kept_since_reset : Rules → List ℕ → List (List ℕ) → Kept
+kept_since_reset rules name names = record { state = fresh_with rules name names 0; journal = new_journal rules names 0 }
 
 -- for each reading of its names an account is the replay of its journal, whose entries are all accepted if it is replayed, and its names
 -- may have been used

@@ -14,12 +14,13 @@ ghost use Rattle.kl1_user.specs.Accounts.{Reading, Fits};
 ghost use Rattle.kl1_user.specs.Accounts.{texts_of};
 ghost use Rattle.kl1_user_events.specs.Views.{event_of, is_logout, reply_of, reduced_or, chosen_of};
 ghost use Rattle.kl1_user_events.specs.Whole.{whole_value};
-ghost use Rattle.kl1_journal.specs.Keeping.{kept_of, IsKept};
+ghost use Rattle.kl1_journal.specs.Keeping.{kept_of, kept_since_reset, IsKept};
 
 use crate::change::{note, note_step, prepare};
 use kl1_atoms::AtomSource;
 use kl1_codes::CodeSource;
 use kl1_journal_entries::Journal;
+use kl1_text::AtomText;
 use kl1_user::{AccountName, Rules, UserState};
 use kl1_user_events::{ClauseNo, Event, GoalNo, Listed, Refusal, Reply, ShoenNo};
 use std::alloc::{AllocError, Global};
@@ -74,6 +75,37 @@ impl<A: AtomSource, C: CodeSource> JournaledAccount<A, C> {
             user,
             seat,
             journal: Journal::new(alloc, rules),
+            source: PhantomData,
+            alloc,
+        })
+    }
+
+    /// An account of this name, which keeps to these rules, in which nothing has happened since the reset at which it had used `texts`.
+    /// The seat, which knew the built-in names alone, knows these after it.
+    pub fn with_names(
+        alloc: Global,
+        name: AccountName,
+        rules: Rules,
+        names: &mut A,
+        mut seat: A::Seat,
+        texts: &[AtomText],
+    ) -> Result<Self, AllocError>
+        requires of { A.is_of names.old seat }
+        requires nothing { A.knows seat ≡ [] }
+        requires names { MayBeNames texts.now }
+        ensures fresh { IfOk result (λ k. (f : Reading) → kept_of f k.1 ≡ kept_since_reset rules name texts.now) }
+        ensures knows { IfOk result (λ k. A.knows k.0 ≡ k.1.0.names) }
+        ensures modules { IfOk result (λ k. k.1.0.modules ≡ []) }
+        ensures of { IfOk result (λ k. A.is_of names.new k.0) }
+        ensures place { IfOk result (λ k. A.place k.0 ≡ A.place seat) }
+        ensures others { (other : A.Seat) → A.is_of names.old other → (A.place other ≡ A.place seat → ⊥) → A.is_of names.new other }
+    {
+        let journal = Journal::with_names(alloc, rules, texts, 0)?;
+        let user = UserState::with_names(alloc, name, rules, 0, names, &mut seat, texts)?;
+        Ok(JournaledAccount {
+            user,
+            seat,
+            journal,
             source: PhantomData,
             alloc,
         })
@@ -166,6 +198,13 @@ impl<A: AtomSource, C: CodeSource> JournaledAccount<A, C> {
         ensures { IfOk result (λ lines. lines ≡ page_of self.now.1.1 from count) }
     {
         self.journal.page(self.alloc, from, count)
+    }
+
+    /// The journal, lent.
+    pub fn lent_journal(&self) -> &Journal
+        ensures { result.now.journal ≡ self.now.1.1 }
+    {
+        &self.journal
     }
 
     /// The first goal that can step, with the clause by which it steps.

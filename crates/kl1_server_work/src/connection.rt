@@ -1,6 +1,7 @@
 // One connection.
 
 ghost use Rattle.std.specs.Prelude.{◌≤◌, List, [], length};
+ghost use Rattle.kl1_session.specs.Files.{found};
 ghost use Rattle.kl1_session.specs.Views.{entries_view};
 ghost use Rattle.kl1_session.specs.Conversations.{Done};
 ghost use Rattle.kl1_session.specs.Connections.{Serves};
@@ -9,7 +10,7 @@ ghost use Rattle.kl1_server_work.specs.declared.connection.TheConstants.{PIECE};
 use crate::pool_handler::PoolHandler;
 use kl1_lines::{FailureCounter, Sink, Source};
 use kl1_pool::{Pool, PoolIds, Share};
-use kl1_session::{Disconnect, History, Key};
+use kl1_session::{Disconnect, History, Key, Keys};
 use std::alloc::Global;
 use std::net::TcpStream;
 use std::sync::Wait;
@@ -32,7 +33,7 @@ pub fn serve<'t, S: Source, T: Sink, R: Wait, K: PoolIds>(
     share: &mut Share<K>,
 ) -> Disconnect
     requires { length keys.now ≤ K.accounts }
-    ensures { (done : List Done) × Serves (entries_view keys.now) PIECE result (S.remaining source.old) (S.remaining source.new) (T.contents sink.old) (T.contents sink.new) [] done }
+    ensures { (done : List Done) × Serves (found (entries_view keys.now)) PIECE result (S.remaining source.old) (S.remaining source.new) (T.contents sink.old) (T.contents sink.new) [] done }
 {
     let mut handler = PoolHandler {
         rt,
@@ -41,7 +42,14 @@ pub fn serve<'t, S: Source, T: Sink, R: Wait, K: PoolIds>(
         history: History::new(),
     };
     let mut buffer = [0u8; PIECE];
-    kl1_session::serve(alloc, source, sink, &mut handler, keys, &mut buffer)
+    kl1_session::serve(
+        alloc,
+        source,
+        sink,
+        &mut handler,
+        &mut Keys { keys },
+        &mut buffer,
+    )
 }
 
 /// Serves one connection over a socket, and gives the share back.

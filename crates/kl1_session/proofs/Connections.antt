@@ -9,7 +9,7 @@ use Rattle.kl1_lines.proofs.DeviceLaws.{appends_none, appends_both, front_behind
 use Rattle.kl1_model_server.specs.Inputs.{Input, inputs, rest}
 use Rattle.kl1_model_server.proofs.Cuts.{cut_waits}
 use Rattle.kl1_model_server.proofs.InputLaws.{inputs_cut_anywhere}
-use Rattle.kl1_session.specs.Files.{Entry}
+use Rattle.kl1_session.specs.Doors.{Opens}
 use Rattle.kl1_session.specs.Conversations.{Done, Turn, silence, both, Converses}
 use Rattle.kl1_session.specs.Connections.{Standing, TalksOn, TalksToBye, TalksToFault, GoesOn, Connects, GoesOrEnds, Ends}
 use Rattle.kl1_session.specs.declared.connection.Disconnect.{Disconnect}
@@ -70,13 +70,13 @@ rest_more kept first second = ap (λ x. rest x) (sym (append_assoc kept first se
 -- ---- the pieces of a connection
 
 -- no piece was read
-pub starts : (accounts : List Entry) (read : Option (List ℕ)) (s : Standing) → s.waiting ≡ [] → GoesOn accounts [] [] read read s s
-starts accounts read s e = record {
+pub starts : (opens : Opens) (read : Option (List ℕ)) (s : Standing) → s.waiting ≡ [] → GoesOn opens [] [] read read s s
+starts opens read s e = record {
   bytes = [];
   turn = silence s.visitor;
   reads = consumes_none read;
   rest = sym nothing_rests;
-  converses = let P : List Input → Type 0 = λ x. Converses accounts s.visitor x (silence s.visitor) in subst P (sym nothing_asked) refl;
+  converses = let P : List Input → Type 0 = λ x. Converses opens s.visitor x (silence s.visitor) in subst P (sym nothing_asked) refl;
   going = refl;
   done = sym (append-nil s.done);
   visitor = refl;
@@ -84,53 +84,53 @@ starts accounts read s e = record {
   empty = e;
 }
 
-more_converse : (accounts : List Entry) (is js : List Input) (v w : Option ℕ) (t u : Turn) → Converses accounts v is t → t.is_last ≡ false → w ≡ t.visitor → Converses accounts w js u → Converses accounts v (is ++ js) (both t u)
-more_converse accounts is js v w t u c l e d =
-    let P : Option ℕ → Type 0 = λ x. Converses accounts x js u in
-    converses_more accounts v is js t u c l (subst P e d)
+more_converse : (opens : Opens) (is js : List Input) (v w : Option ℕ) (t u : Turn) → Converses opens v is t → t.is_last ≡ false → w ≡ t.visitor → Converses opens w js u → Converses opens v (is ++ js) (both t u)
+more_converse opens is js v w t u c l e d =
+    let P : Option ℕ → Type 0 = λ x. Converses opens x js u in
+    converses_more opens v is js t u c l (subst P e d)
 
 more_done : (before middle after first rest : List Done) → middle ≡ before ++ first → after ≡ middle ++ rest → after ≡ before ++ (first ++ rest)
 more_done before middle after first rest e f = f ∙ ap (λ x. x ++ rest) e ∙ append_assoc before first rest
 
-more_ends : (room : ℕ) (end : Disconnect) (accounts : List Entry) (kept after : List ℕ) (r0 r1 r2 : Option (List ℕ)) (s t u : Standing) (bytes : List ℕ) (others : List Input) (turn : Turn) → (h : GoesOn accounts kept after r0 r1 s t) → Ends room end r1 r2 t u bytes others turn → Ends room end r0 r2 s u (h.bytes ++ bytes) others (both h.turn turn)
-more_ends room disconnect.Bye accounts kept after r0 r1 r2 s t u bytes others turn h k =
+more_ends : (room : ℕ) (end : Disconnect) (opens : Opens) (kept after : List ℕ) (r0 r1 r2 : Option (List ℕ)) (s t u : Standing) (bytes : List ℕ) (others : List Input) (turn : Turn) → (h : GoesOn opens kept after r0 r1 s t) → Ends room end r1 r2 t u bytes others turn → Ends room end r0 r2 s u (h.bytes ++ bytes) others (both h.turn turn)
+more_ends room disconnect.Bye opens kept after r0 r1 r2 s t u bytes others turn h k =
     (consumes_both r0 r1 r2 h.bytes bytes h.reads k.0, ap (λ b. b || turn.is_last) h.going ∙ k.1, appends_both s.sink t.sink u.sink h.turn.told turn.told h.written k.2)
-more_ends room disconnect.Ended accounts kept after r0 r1 r2 s t u bytes others turn h k =
+more_ends room disconnect.Ended opens kept after r0 r1 r2 s t u bytes others turn h k =
     (consumes_both r0 r1 r2 h.bytes bytes h.reads k.0, k.1, k.2, ap (λ b. b || turn.is_last) h.going ∙ k.3, appends_both s.sink t.sink u.sink h.turn.told turn.told h.written k.4)
-more_ends room disconnect.Fault accounts kept after r0 r1 r2 s t u bytes others turn h k =
+more_ends room disconnect.Fault opens kept after r0 r1 r2 s t u bytes others turn h k =
     (consumes_on r0 r1 r2 h.bytes bytes h.reads k.0, front_behind s.sink t.sink u.sink h.turn.told turn.told [] (h.turn.told ++ turn.told) h.written k.1 (append-nil (h.turn.told ++ turn.told)))
 
 -- a piece after others
-pub more_pieces : (accounts : List Entry) (room : ℕ) (end : Option Disconnect) (kept k1 k2 : List ℕ) (r0 r1 r2 : Option (List ℕ)) (s t u : Standing) → GoesOn accounts kept k1 r0 r1 s t → GoesOrEnds accounts room end k1 k2 r1 r2 t u → GoesOrEnds accounts room end kept k2 r0 r2 s u
-more_pieces accounts room None kept k1 k2 r0 r1 r2 s t u h k = record {
+pub more_pieces : (opens : Opens) (room : ℕ) (end : Option Disconnect) (kept k1 k2 : List ℕ) (r0 r1 r2 : Option (List ℕ)) (s t u : Standing) → GoesOn opens kept k1 r0 r1 s t → GoesOrEnds opens room end k1 k2 r1 r2 t u → GoesOrEnds opens room end kept k2 r0 r2 s u
+more_pieces opens room None kept k1 k2 r0 r1 r2 s t u h k = record {
   bytes = h.bytes ++ k.bytes;
   turn = both h.turn k.turn;
   reads = consumes_both r0 r1 r2 h.bytes k.bytes h.reads k.reads;
   rest = k.rest ∙ ap (λ x. rest (x ++ k.bytes)) h.rest ∙ sym (rest_more kept h.bytes k.bytes);
   converses =
-      let P : List Input → Type 0 = λ x. Converses accounts s.visitor x (both h.turn k.turn) in
-      subst P (ap (λ x. inputs (kept ++ h.bytes) ++ inputs (x ++ k.bytes)) h.rest ∙ sym (inputs_more kept h.bytes k.bytes)) (more_converse accounts (inputs (kept ++ h.bytes)) (inputs (k1 ++ k.bytes)) s.visitor t.visitor h.turn k.turn h.converses h.going h.visitor k.converses);
+      let P : List Input → Type 0 = λ x. Converses opens s.visitor x (both h.turn k.turn) in
+      subst P (ap (λ x. inputs (kept ++ h.bytes) ++ inputs (x ++ k.bytes)) h.rest ∙ sym (inputs_more kept h.bytes k.bytes)) (more_converse opens (inputs (kept ++ h.bytes)) (inputs (k1 ++ k.bytes)) s.visitor t.visitor h.turn k.turn h.converses h.going h.visitor k.converses);
   going = ap (λ b. b || k.turn.is_last) h.going ∙ k.going;
   done = more_done s.done t.done u.done h.turn.done k.turn.done h.done k.done;
   visitor = k.visitor;
   written = appends_both s.sink t.sink u.sink h.turn.told k.turn.told h.written k.written;
   empty = k.empty;
 }
-more_pieces accounts room (Some end) kept k1 k2 r0 r1 r2 s t u h k = record {
+more_pieces opens room (Some end) kept k1 k2 r0 r1 r2 s t u h k = record {
   bytes = h.bytes ++ k.bytes;
   answered = inputs (kept ++ h.bytes) ++ k.answered;
   others = k.others;
   turn = both h.turn k.turn;
   inputs = inputs_more kept h.bytes k.bytes ∙ ap (λ x. inputs (kept ++ h.bytes) ++ inputs (x ++ k.bytes)) (sym h.rest) ∙ ap (λ x. inputs (kept ++ h.bytes) ++ x) k.inputs ∙ sym (append_assoc (inputs (kept ++ h.bytes)) k.answered k.others);
-  converses = more_converse accounts (inputs (kept ++ h.bytes)) k.answered s.visitor t.visitor h.turn k.turn h.converses h.going h.visitor k.converses;
+  converses = more_converse opens (inputs (kept ++ h.bytes)) k.answered s.visitor t.visitor h.turn k.turn h.converses h.going h.visitor k.converses;
   done = more_done s.done t.done u.done h.turn.done k.turn.done h.done k.done;
   visitor = k.visitor;
-  ends = more_ends room end accounts kept k1 r0 r1 r2 s t u k.bytes k.others k.turn h k.ends;
+  ends = more_ends room end opens kept k1 r0 r1 r2 s t u k.bytes k.others k.turn h k.ends;
 }
 
 -- a connection that may go on is given up
-pub gives_up : (accounts : List Entry) (room : ℕ) (kept after : List ℕ) (read left : Option (List ℕ)) (s t : Standing) → GoesOn accounts kept after read left s t → Connects accounts room disconnect.Fault kept read left s t
-gives_up accounts room kept after read left s t h = record {
+pub gives_up : (opens : Opens) (room : ℕ) (kept after : List ℕ) (read left : Option (List ℕ)) (s t : Standing) → GoesOn opens kept after read left s t → Connects opens room disconnect.Fault kept read left s t
+gives_up opens room kept after read left s t h = record {
   bytes = h.bytes;
   answered = inputs (kept ++ h.bytes);
   others = [];
@@ -145,8 +145,8 @@ gives_up accounts room kept after read left s t h = record {
 -- ---- one piece
 
 -- what was read is answered by nothing
-unanswered : (accounts : List Entry) (room : ℕ) (end : Disconnect) (kept : List ℕ) (read left : Option (List ℕ)) (s : Standing) (bytes : List ℕ) → Ends room end read left s s bytes (inputs (kept ++ bytes)) (silence s.visitor) → Connects accounts room end kept read left s s
-unanswered accounts room end kept read left s bytes h = record {
+unanswered : (opens : Opens) (room : ℕ) (end : Disconnect) (kept : List ℕ) (read left : Option (List ℕ)) (s : Standing) (bytes : List ℕ) → Ends room end read left s s bytes (inputs (kept ++ bytes)) (silence s.visitor) → Connects opens room end kept read left s s
+unanswered opens room end kept read left s bytes h = record {
   bytes = bytes;
   answered = [];
   others = inputs (kept ++ bytes);
@@ -158,18 +158,18 @@ unanswered accounts room end kept read left s bytes h = record {
   ends = h;
 }
 
-pub read_fails : (accounts : List Entry) (room : ℕ) (kept : List ℕ) (read left : Option (List ℕ)) (s : Standing) → KeepsIfKnown read left → Connects accounts room disconnect.Fault kept read left s s
-read_fails accounts room kept read left s h =
-    unanswered accounts room disconnect.Fault kept read left s [] (kept_if_known read left h, front_all s.sink s.sink [] (appends_none s.sink))
+pub read_fails : (opens : Opens) (room : ℕ) (kept : List ℕ) (read left : Option (List ℕ)) (s : Standing) → KeepsIfKnown read left → Connects opens room disconnect.Fault kept read left s s
+read_fails opens room kept read left s h =
+    unanswered opens room disconnect.Fault kept read left s [] (kept_if_known read left h, front_all s.sink s.sink [] (appends_none s.sink))
 
-pub piece_is_dropped : (accounts : List Entry) (room : ℕ) (kept bytes : List ℕ) (read left : Option (List ℕ)) (s : Standing) → Consumes read left bytes → Connects accounts room disconnect.Fault kept read left s s
-piece_is_dropped accounts room kept bytes read left s h =
-    unanswered accounts room disconnect.Fault kept read left s bytes (if_known read left bytes h, front_all s.sink s.sink [] (appends_none s.sink))
+pub piece_is_dropped : (opens : Opens) (room : ℕ) (kept bytes : List ℕ) (read left : Option (List ℕ)) (s : Standing) → Consumes read left bytes → Connects opens room disconnect.Fault kept read left s s
+piece_is_dropped opens room kept bytes read left s h =
+    unanswered opens room disconnect.Fault kept read left s bytes (if_known read left bytes h, front_all s.sink s.sink [] (appends_none s.sink))
 
-pub input_ends : (accounts : List Entry) (room : ℕ) (kept bytes : List ℕ) (read left : Option (List ℕ)) (s : Standing) → Consumes read left bytes → bytes ≡ [] → (0 < room → IsAtEnd left) → inputs kept ≡ [] → Connects accounts room disconnect.Ended kept read left s s
-input_ends accounts room kept bytes read left s h e end quiet =
+pub input_ends : (opens : Opens) (room : ℕ) (kept bytes : List ℕ) (read left : Option (List ℕ)) (s : Standing) → Consumes read left bytes → bytes ≡ [] → (0 < room → IsAtEnd left) → inputs kept ≡ [] → Connects opens room disconnect.Ended kept read left s s
+input_ends opens room kept bytes read left s h e end quiet =
     let none : inputs (kept ++ bytes) ≡ [] = ap (λ x. inputs (kept ++ x)) e ∙ ap (λ x. inputs x) (append-nil kept) ∙ quiet in
-    unanswered accounts room disconnect.Ended kept read left s bytes (h, end, none, refl, appends_none s.sink)
+    unanswered opens room disconnect.Ended kept read left s bytes (h, end, none, refl, appends_none s.sink)
 
 -- all replies are written if none waited before or waits then
 all_told : (a b : Option (List ℕ)) (before told after : List ℕ) → PassesOn a b (before ++ told) after → before ≡ [] → after ≡ [] → Appends a b told
@@ -177,13 +177,13 @@ all_told a b before told after p e f =
     let P : List ℕ → Type 0 = λ x. Appends a b x in
     subst P (sym (append-nil p.passed) ∙ ap (λ x. p.passed ++ x) (sym f) ∙ p.same ∙ ap (λ x. x ++ told) e) p.appends
 
-pub piece_on : (accounts : List Entry) (kept after bytes : List ℕ) (read left : Option (List ℕ)) (is : List Input) (s u : Standing) → Consumes read left bytes → after ≡ rest (kept ++ bytes) → is ≡ inputs (kept ++ bytes) → s.waiting ≡ [] → TalksOn accounts is false s u → u.waiting ≡ [] → GoesOn accounts kept after read left s u
-piece_on accounts kept after bytes read left is s u r e i w h f = record {
+pub piece_on : (opens : Opens) (kept after bytes : List ℕ) (read left : Option (List ℕ)) (is : List Input) (s u : Standing) → Consumes read left bytes → after ≡ rest (kept ++ bytes) → is ≡ inputs (kept ++ bytes) → s.waiting ≡ [] → TalksOn opens is false s u → u.waiting ≡ [] → GoesOn opens kept after read left s u
+piece_on opens kept after bytes read left is s u r e i w h f = record {
   bytes = bytes;
   turn = h.turn;
   reads = r;
   rest = e;
-  converses = let P : List Input → Type 0 = λ x. Converses accounts s.visitor x h.turn in subst P i h.converses;
+  converses = let P : List Input → Type 0 = λ x. Converses opens s.visitor x h.turn in subst P i h.converses;
   going = h.last;
   done = h.done;
   visitor = h.visitor;
@@ -191,8 +191,8 @@ piece_on accounts kept after bytes read left is s u r e i w h f = record {
   empty = f;
 }
 
-pub piece_bye : (accounts : List Entry) (room : ℕ) (kept bytes : List ℕ) (read left : Option (List ℕ)) (is : List Input) (s u : Standing) → Consumes read left bytes → is ≡ inputs (kept ++ bytes) → s.waiting ≡ [] → TalksToBye accounts is s u → u.waiting ≡ [] → Connects accounts room disconnect.Bye kept read left s u
-piece_bye accounts room kept bytes read left is s u r i w h f = record {
+pub piece_bye : (opens : Opens) (room : ℕ) (kept bytes : List ℕ) (read left : Option (List ℕ)) (is : List Input) (s u : Standing) → Consumes read left bytes → is ≡ inputs (kept ++ bytes) → s.waiting ≡ [] → TalksToBye opens is s u → u.waiting ≡ [] → Connects opens room disconnect.Bye kept read left s u
+piece_bye opens room kept bytes read left is s u r i w h f = record {
   bytes = bytes;
   answered = h.answered;
   others = h.others;
@@ -204,8 +204,8 @@ piece_bye accounts room kept bytes read left is s u r i w h f = record {
   ends = (r, h.talk.last, all_told s.sink u.sink s.waiting h.talk.turn.told u.waiting h.talk.written w f);
 }
 
-pub piece_fault : (accounts : List Entry) (room : ℕ) (kept bytes : List ℕ) (read left : Option (List ℕ)) (is : List Input) (s u : Standing) → Consumes read left bytes → is ≡ inputs (kept ++ bytes) → s.waiting ≡ [] → TalksToFault accounts is s u → Connects accounts room disconnect.Fault kept read left s u
-piece_fault accounts room kept bytes read left is s u r i w h = record {
+pub piece_fault : (opens : Opens) (room : ℕ) (kept bytes : List ℕ) (read left : Option (List ℕ)) (is : List Input) (s u : Standing) → Consumes read left bytes → is ≡ inputs (kept ++ bytes) → s.waiting ≡ [] → TalksToFault opens is s u → Connects opens room disconnect.Fault kept read left s u
+piece_fault opens room kept bytes read left is s u r i w h = record {
   bytes = bytes;
   answered = h.answered;
   others = h.others;

@@ -9,14 +9,13 @@ use Rattle.std.proofs.lemmas.Bool.{true≢false}
 use Rattle.kl1_lines.specs.Devices.{AppendsFront, PassesOn, GrowsIfKnown}
 use Rattle.kl1_lines.proofs.DeviceLaws.{appends_none, appends_both, front_behind}
 use Rattle.kl1_model_server.specs.Inputs.{Input}
-use Rattle.kl1_session.specs.Files.{Entry}
 use Rattle.kl1_model.specs.Event as event
 use Rattle.kl1_model_server.specs.Command.{does}
 use Rattle.kl1_command.specs.declared.performed.Performed.{Performed}
 use Rattle.kl1_session.specs.Replies.{told}
 use Rattle.kl1_session.specs.Asking.{input_view}
 use Rattle.kl1_session.specs.declared.input.Input as code
-use Rattle.kl1_session.specs.Doors.{Action, action_of, log_in, log_out}
+use Rattle.kl1_session.specs.Doors.{Opens, Action, action_of, log_in, log_out}
 use Rattle.kl1_session.specs.Conversations.{Done, Turn, silence, both, refusing, performing, is_welcome, is_bye, Answers, Converses}
 use Rattle.kl1_session.specs.Connections.{Standing, TalksOn, TalksToBye, TalksToFault, Talks, Puts, Takes}
 use Rattle.kl1_session.specs.declared.connection.Answered.{Answered}
@@ -45,20 +44,20 @@ both_silence : (t : Turn) → both t (silence t.visitor) ≡ t
 both_silence t = rw (append-nil t.done, append-nil t.told, or_false t.is_last) refl
 
 -- the turn of inputs, and then that of others
-pub converses_more : (accounts : List Entry) (v : Option ℕ) (is js : List Input) (t u : Turn) → Converses accounts v is t → t.is_last ≡ false → Converses accounts t.visitor js u → Converses accounts v (is ++ js) (both t u)
-converses_more accounts v [] js t u c l d =
-    let P : Turn → Type 0 = λ x. Converses accounts x.visitor js u → Converses accounts v js (both x u) in
+pub converses_more : (opens : Opens) (v : Option ℕ) (is js : List Input) (t u : Turn) → Converses opens v is t → t.is_last ≡ false → Converses opens t.visitor js u → Converses opens v (is ++ js) (both t u)
+converses_more opens v [] js t u c l d =
+    let P : Turn → Type 0 = λ x. Converses opens x.visitor js u → Converses opens v js (both x u) in
     subst P (sym c) (λ e. e) d
-converses_more accounts v (i ∷ is) js t u c l d =
+converses_more opens v (i ∷ is) js t u c l d =
     let first : Turn = c.0 in
     let rest : Turn = c.1 in
     let none = or_none first.is_last rest.is_last (sym (ap (λ x. x.is_last) c.5) ∙ l) in
-    let D : Turn → Type 0 = λ x. Converses accounts x.visitor js u in
-    (first, both rest u, c.2, (λ h. absurd (true≢false (sym h ∙ none.0))), converses_more accounts first.visitor is js rest u c.4 none.1 (subst D c.5 d), ap (λ x. both x u) c.5 ∙ both_assoc first rest u)
+    let D : Turn → Type 0 = λ x. Converses opens x.visitor js u in
+    (first, both rest u, c.2, (λ h. absurd (true≢false (sym h ∙ none.0))), converses_more opens first.visitor is js rest u c.4 none.1 (subst D c.5 d), ap (λ x. both x u) c.5 ∙ both_assoc first rest u)
 
 -- the turn of one input
-pub converses_one : (accounts : List Entry) (v : Option ℕ) (i : Input) (t : Turn) → Answers v (action_of accounts v i) t → Converses accounts v (i ∷ []) t
-converses_one accounts v i t a = (t, silence t.visitor, a, (λ h. refl), refl, sym (both_silence t))
+pub converses_one : (opens : Opens) (v : Option ℕ) (i : Input) (t : Turn) → Answers v (action_of opens v i) t → Converses opens v (i ∷ []) t
+converses_one opens v i t a = (t, silence t.visitor, a, (λ h. refl), refl, sym (both_silence t))
 
 -- ---- what is written
 
@@ -107,8 +106,8 @@ on_err (Err x) e h = h
 
 -- ---- inputs, one after another
 
-pub talks_none : (accounts : List Entry) (s : Standing) → TalksOn accounts [] false s s
-talks_none accounts s = record {
+pub talks_none : (opens : Opens) (s : Standing) → TalksOn opens [] false s s
+talks_none opens s = record {
   turn = silence s.visitor;
   converses = refl;
   last = refl;
@@ -117,18 +116,18 @@ talks_none accounts s = record {
   written = let P : List ℕ → Type 0 = λ x. PassesOn s.sink s.sink x s.waiting in subst P (sym (append-nil s.waiting)) (passes_none s.sink s.waiting);
 }
 
-more_converse : (accounts : List Entry) (is js : List Input) (s t : Standing) (u : Turn) (h : TalksOn accounts is false s t) → Converses accounts t.visitor js u → Converses accounts s.visitor (is ++ js) (both h.turn u)
-more_converse accounts is js s t u h c =
-    let P : Option ℕ → Type 0 = λ v. Converses accounts v js u in
-    converses_more accounts s.visitor is js h.turn u h.converses h.last (subst P h.visitor c)
+more_converse : (opens : Opens) (is js : List Input) (s t : Standing) (u : Turn) (h : TalksOn opens is false s t) → Converses opens t.visitor js u → Converses opens s.visitor (is ++ js) (both h.turn u)
+more_converse opens is js s t u h c =
+    let P : Option ℕ → Type 0 = λ v. Converses opens v js u in
+    converses_more opens s.visitor is js h.turn u h.converses h.last (subst P h.visitor c)
 
 more_done : (before middle after first rest : List Done) → middle ≡ before ++ first → after ≡ middle ++ rest → after ≡ before ++ (first ++ rest)
 more_done before middle after first rest e f = f ∙ ap (λ x. x ++ rest) e ∙ append_assoc before first rest
 
-on_more : (accounts : List Entry) (is js : List Input) (last : Bool) (s t u : Standing) → TalksOn accounts is false s t → TalksOn accounts js last t u → TalksOn accounts (is ++ js) last s u
-on_more accounts is js last s t u h k = record {
+on_more : (opens : Opens) (is js : List Input) (last : Bool) (s t u : Standing) → TalksOn opens is false s t → TalksOn opens js last t u → TalksOn opens (is ++ js) last s u
+on_more opens is js last s t u h k = record {
   turn = both h.turn k.turn;
-  converses = more_converse accounts is js s t k.turn h k.converses;
+  converses = more_converse opens is js s t k.turn h k.converses;
   last = ap (λ b. b || k.turn.is_last) h.last ∙ k.last;
   done = more_done s.done t.done u.done h.turn.done k.turn.done h.done k.done;
   visitor = k.visitor;
@@ -141,20 +140,20 @@ all_more : (is js answered others : List Input) → js ≡ answered ++ others �
 all_more is js answered others e = ap (λ x. is ++ x) e ∙ sym (append_assoc is answered others)
 
 -- inputs are answered, and then others
-pub talks_more : (accounts : List Entry) (is js : List Input) (end : Answered) (s t u : Standing) → TalksOn accounts is false s t → Talks accounts js end t u → Talks accounts (is ++ js) end s u
-talks_more accounts is js answered.All s t u h k = on_more accounts is js false s t u h k
-talks_more accounts is js answered.Bye s t u h k = record {
+pub talks_more : (opens : Opens) (is js : List Input) (end : Answered) (s t u : Standing) → TalksOn opens is false s t → Talks opens js end t u → Talks opens (is ++ js) end s u
+talks_more opens is js answered.All s t u h k = on_more opens is js false s t u h k
+talks_more opens is js answered.Bye s t u h k = record {
   answered = is ++ k.answered;
   others = k.others;
   all = all_more is js k.answered k.others k.all;
-  talk = on_more accounts is k.answered true s t u h k.talk;
+  talk = on_more opens is k.answered true s t u h k.talk;
 }
-talks_more accounts is js answered.Fault s t u h k = record {
+talks_more opens is js answered.Fault s t u h k = record {
   answered = is ++ k.answered;
   others = k.others;
   turn = both h.turn k.turn;
   all = all_more is js k.answered k.others k.all;
-  converses = more_converse accounts is k.answered s t k.turn h k.converses;
+  converses = more_converse opens is k.answered s t k.turn h k.converses;
   done = more_done s.done t.done u.done h.turn.done k.turn.done h.done k.done;
   visitor = k.visitor;
   written =
@@ -164,8 +163,8 @@ talks_more accounts is js answered.Fault s t u h k = record {
 
 -- ---- one input, before which the replies that wait may be written
 
-pub fault_before : (accounts : List Entry) (i : Input) (s t : Standing) → AppendsFront s.sink t.sink s.waiting → t.done ≡ s.done → t.visitor ≡ s.visitor → TalksToFault accounts (i ∷ []) s t
-fault_before accounts i s t h d v = record {
+pub fault_before : (opens : Opens) (i : Input) (s t : Standing) → AppendsFront s.sink t.sink s.waiting → t.done ≡ s.done → t.visitor ≡ s.visitor → TalksToFault opens (i ∷ []) s t
+fault_before opens i s t h d v = record {
   answered = [];
   others = i ∷ [];
   turn = silence s.visitor;
@@ -176,32 +175,32 @@ fault_before accounts i s t h d v = record {
   written = let P : List ℕ → Type 0 = λ x. AppendsFront s.sink t.sink x in subst P (sym (append-nil s.waiting)) h;
 }
 
-one_converse : {E : Type 0} (accounts : List Entry) (i : Input) (s : Standing) (m n : ConnectionState) (after : List Done) (r : Result Bool E) → s.visitor ≡ m.account → (k : Takes (action_of accounts m.account i) r s.done after m n) → Converses accounts s.visitor (i ∷ []) k.turn
-one_converse accounts i s m n after r v k =
-    let P : Option ℕ → Type 0 = λ x. Converses accounts x (i ∷ []) k.turn in
-    subst P (sym v) (converses_one accounts m.account i k.turn k.answers)
+one_converse : {E : Type 0} (opens : Opens) (i : Input) (s : Standing) (m n : ConnectionState) (after : List Done) (r : Result Bool E) → s.visitor ≡ m.account → (k : Takes (action_of opens m.account i) r s.done after m n) → Converses opens s.visitor (i ∷ []) k.turn
+one_converse opens i s m n after r v k =
+    let P : Option ℕ → Type 0 = λ x. Converses opens x (i ∷ []) k.turn in
+    subst P (sym v) (converses_one opens m.account i k.turn k.answers)
 
-pub next_on : {E : Type 0} (accounts : List Entry) (i : Input) (s u : Standing) (m n : ConnectionState) (sink : Option (List ℕ)) (last : Bool) (r : Result Bool E) → r ≡ Ok last → s.visitor ≡ m.account → PassesOn s.sink sink s.waiting m.replies.items → Takes (action_of accounts m.account i) r s.done u.done m n → PassesOn sink u.sink n.replies.items u.waiting → u.visitor ≡ n.account → TalksOn accounts (i ∷ []) last s u
-next_on {E = E} accounts i s u m n sink last r e v p k q w =
+pub next_on : {E : Type 0} (opens : Opens) (i : Input) (s u : Standing) (m n : ConnectionState) (sink : Option (List ℕ)) (last : Bool) (r : Result Bool E) → r ≡ Ok last → s.visitor ≡ m.account → PassesOn s.sink sink s.waiting m.replies.items → Takes (action_of opens m.account i) r s.done u.done m n → PassesOn sink u.sink n.replies.items u.waiting → u.visitor ≡ n.account → TalksOn opens (i ∷ []) last s u
+next_on {E = E} opens i s u m n sink last r e v p k q w =
     let P : Result Bool E → Type 0 = λ x. Puts x m.replies.items n.replies.items k.turn in
     let puts : Puts {E = E} (Ok last) m.replies.items n.replies.items k.turn = subst P e k.puts in
     record {
       turn = k.turn;
-      converses = one_converse accounts i s m n u.done r v k;
+      converses = one_converse opens i s m n u.done r v k;
       last = puts.1;
       done = k.done;
       visitor = w ∙ k.visitor;
       written = passes_more s.sink sink u.sink s.waiting k.turn.told m.replies.items n.replies.items u.waiting p puts.0 q;
     }
 
-pub next_bye : {E : Type 0} (accounts : List Entry) (i : Input) (s u : Standing) (m n : ConnectionState) (r : Result Bool E) → r ≡ Ok true → s.visitor ≡ m.account → PassesOn s.sink u.sink s.waiting m.replies.items → Takes (action_of accounts m.account i) r s.done u.done m n → u.waiting ≡ n.replies.items → u.visitor ≡ n.account → TalksToBye accounts (i ∷ []) s u
-next_bye accounts i s u m n r f v p k e w =
+pub next_bye : {E : Type 0} (opens : Opens) (i : Input) (s u : Standing) (m n : ConnectionState) (r : Result Bool E) → r ≡ Ok true → s.visitor ≡ m.account → PassesOn s.sink u.sink s.waiting m.replies.items → Takes (action_of opens m.account i) r s.done u.done m n → u.waiting ≡ n.replies.items → u.visitor ≡ n.account → TalksToBye opens (i ∷ []) s u
+next_bye opens i s u m n r f v p k e w =
     let P : List ℕ → Type 0 = λ x. PassesOn u.sink u.sink n.replies.items x in
     record {
       answered = i ∷ [];
       others = [];
       all = refl;
-      talk = next_on accounts i s u m n u.sink true r f v p k (subst P (sym e) (passes_none u.sink n.replies.items)) w;
+      talk = next_on opens i s u m n u.sink true r f v p k (subst P (sym e) (passes_none u.sink n.replies.items)) w;
     }
 
 -- a text was put, or memory was refused for it
@@ -214,13 +213,13 @@ put_front : {E : Type 0} (r : Result Bool E) (a b c : Option (List ℕ)) (xs old
 put_front (Ok last) a b c xs old new t p k h = passes_front a b c xs t.told old new [] p (append-nil new ∙ k.0) h
 put_front (Err e) a b c xs old new t p k h = passes_front a b c xs t.told old new t.told p (ap (λ x. x ++ t.told) k) h
 
-pub next_fault : {E : Type 0} (accounts : List Entry) (i : Input) (s u : Standing) (m n : ConnectionState) (sink : Option (List ℕ)) (r : Result Bool E) → s.visitor ≡ m.account → PassesOn s.sink sink s.waiting m.replies.items → Takes (action_of accounts m.account i) r s.done u.done m n → AppendsFront sink u.sink n.replies.items → u.visitor ≡ n.account → TalksToFault accounts (i ∷ []) s u
-next_fault accounts i s u m n sink r v p k h w = record {
+pub next_fault : {E : Type 0} (opens : Opens) (i : Input) (s u : Standing) (m n : ConnectionState) (sink : Option (List ℕ)) (r : Result Bool E) → s.visitor ≡ m.account → PassesOn s.sink sink s.waiting m.replies.items → Takes (action_of opens m.account i) r s.done u.done m n → AppendsFront sink u.sink n.replies.items → u.visitor ≡ n.account → TalksToFault opens (i ∷ []) s u
+next_fault opens i s u m n sink r v p k h w = record {
   answered = i ∷ [];
   others = [];
   turn = k.turn;
   all = refl;
-  converses = one_converse accounts i s m n u.done r v k;
+  converses = one_converse opens i s m n u.done r v k;
   done = k.done;
   visitor = w ∙ k.visitor;
   written = put_front r s.sink sink u.sink s.waiting m.replies.items n.replies.items k.turn p k.puts h;
@@ -273,11 +272,11 @@ pub inputs_split : (xs : List code.Input) (i : ℕ) (x : code.Input) → i < len
 inputs_split xs i x l e =
     ap (λ ys. map input_view ys) (sym (take-append-drop (i + 1) xs)) ∙ map-append input_view (take (i + 1) xs) (drop (i + 1) xs) ∙ ap (λ ys. ys ++ map input_view (drop (i + 1) xs)) (inputs_next xs i x l e)
 
-pub bye_early : (accounts : List Entry) (xs ys zs : List Input) (s u : Standing) → xs ≡ ys ++ zs → TalksToBye accounts ys s u → TalksToBye accounts xs s u
-bye_early accounts xs ys zs s u e k = record { answered = k.answered; others = k.others ++ zs; all = e ∙ ap (λ x. x ++ zs) k.all ∙ append_assoc k.answered k.others zs; talk = k.talk }
+pub bye_early : (opens : Opens) (xs ys zs : List Input) (s u : Standing) → xs ≡ ys ++ zs → TalksToBye opens ys s u → TalksToBye opens xs s u
+bye_early opens xs ys zs s u e k = record { answered = k.answered; others = k.others ++ zs; all = e ∙ ap (λ x. x ++ zs) k.all ∙ append_assoc k.answered k.others zs; talk = k.talk }
 
-pub fault_early : (accounts : List Entry) (xs ys zs : List Input) (s u : Standing) → xs ≡ ys ++ zs → TalksToFault accounts ys s u → TalksToFault accounts xs s u
-fault_early accounts xs ys zs s u e k = record {
+pub fault_early : (opens : Opens) (xs ys zs : List Input) (s u : Standing) → xs ≡ ys ++ zs → TalksToFault opens ys s u → TalksToFault opens xs s u
+fault_early opens xs ys zs s u e k = record {
   answered = k.answered;
   others = k.others ++ zs;
   turn = k.turn;
@@ -290,8 +289,8 @@ fault_early accounts xs ys zs s u e k = record {
 
 -- ---- the replies that are left are written
 
-pub on_sent : (accounts : List Entry) (is : List Input) (last : Bool) (s t u : Standing) → TalksOn accounts is last s t → Appends t.sink u.sink t.waiting → u.waiting ≡ [] → u.done ≡ t.done → u.visitor ≡ t.visitor → TalksOn accounts is last s u
-on_sent accounts is last s t u h k e d v = record {
+pub on_sent : (opens : Opens) (is : List Input) (last : Bool) (s t u : Standing) → TalksOn opens is last s t → Appends t.sink u.sink t.waiting → u.waiting ≡ [] → u.done ≡ t.done → u.visitor ≡ t.visitor → TalksOn opens is last s u
+on_sent opens is last s t u h k e d v = record {
   turn = h.turn;
   converses = h.converses;
   last = h.last;
@@ -304,11 +303,11 @@ on_sent accounts is last s t u h k e d v = record {
   };
 }
 
-pub bye_sent : (accounts : List Entry) (is : List Input) (s t u : Standing) → TalksToBye accounts is s t → Appends t.sink u.sink t.waiting → u.waiting ≡ [] → u.done ≡ t.done → u.visitor ≡ t.visitor → TalksToBye accounts is s u
-bye_sent accounts is s t u h k e d v = record { answered = h.answered; others = h.others; all = h.all; talk = on_sent accounts h.answered true s t u h.talk k e d v }
+pub bye_sent : (opens : Opens) (is : List Input) (s t u : Standing) → TalksToBye opens is s t → Appends t.sink u.sink t.waiting → u.waiting ≡ [] → u.done ≡ t.done → u.visitor ≡ t.visitor → TalksToBye opens is s u
+bye_sent opens is s t u h k e d v = record { answered = h.answered; others = h.others; all = h.all; talk = on_sent opens h.answered true s t u h.talk k e d v }
 
-pub fault_sending : (accounts : List Entry) (is answered others : List Input) (last : Bool) (s t u : Standing) → is ≡ answered ++ others → TalksOn accounts answered last s t → AppendsFront t.sink u.sink t.waiting → u.done ≡ t.done → u.visitor ≡ t.visitor → TalksToFault accounts is s u
-fault_sending accounts is answered others last s t u all h k d v = record {
+pub fault_sending : (opens : Opens) (is answered others : List Input) (last : Bool) (s t u : Standing) → is ≡ answered ++ others → TalksOn opens answered last s t → AppendsFront t.sink u.sink t.waiting → u.done ≡ t.done → u.visitor ≡ t.visitor → TalksToFault opens is s u
+fault_sending opens is answered others last s t u all h k d v = record {
   answered = answered;
   others = others;
   turn = h.turn;

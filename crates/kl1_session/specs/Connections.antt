@@ -5,8 +5,7 @@ use Rattle.std.specs.declared.result.Result.{Result}
 use Rattle.std.specs.Io.KnownBytes.{Consumes, Appends, IsAtEnd}
 use Rattle.kl1_lines.specs.Devices.{AppendsFront, ConsumesIfKnown, PassesOn}
 use Rattle.kl1_model_server.specs.Inputs.{Input, inputs, rest}
-use Rattle.kl1_session.specs.Files.{Entry}
-use Rattle.kl1_session.specs.Doors.{Action}
+use Rattle.kl1_session.specs.Doors.{Opens, Action}
 use Rattle.kl1_session.specs.Conversations.{Done, Turn, Answers, Converses, Closes}
 use Rattle.kl1_session.specs.declared.connection.Disconnect.{Disconnect}
 use Rattle.kl1_session.specs.declared.connection.Disconnect.TheVariants as disconnect
@@ -39,33 +38,33 @@ Ends room disconnect.Ended read left a b bytes others turn = Consumes read left 
 Ends room disconnect.Fault read left a b bytes others turn = ConsumesIfKnown read left bytes × AppendsFront a.sink b.sink turn.told
 
 -- a connection ended so: of the inputs of the bytes that were kept and then read, the first came to this turn, by buffers of `room` bytes
-pub record Connects (accounts : List Entry) (room : ℕ) (end : Disconnect) (kept : List ℕ) (read left : Option (List ℕ)) (a b : Standing) : Type 0 where
+pub record Connects (opens : Opens) (room : ℕ) (end : Disconnect) (kept : List ℕ) (read left : Option (List ℕ)) (a b : Standing) : Type 0 where
   pub bytes : List ℕ
   pub answered : List Input
   pub others : List Input
   pub turn : Turn
   pub inputs : inputs (kept ++ bytes) ≡ answered ++ others
-  pub converses : Converses accounts a.visitor answered turn
+  pub converses : Converses opens a.visitor answered turn
   pub done : b.done ≡ a.done ++ turn.done
   pub visitor : b.visitor ≡ turn.visitor
   pub ends : Ends room end read left a b bytes others turn
 
 -- a connection of one who isn't logged in ended so, and a session that was open at its end was closed
-pub record Serves (accounts : List Entry) (room : ℕ) (end : Disconnect) (read left old new : Option (List ℕ)) (before after : List Done) : Type 0 where
+pub record Serves (opens : Opens) (room : ℕ) (end : Disconnect) (read left old new : Option (List ℕ)) (before after : List Done) : Type 0 where
   pub last : Standing
   pub sink : last.sink ≡ new
-  pub talk : Connects accounts room end [] read left (fresh old before) last
+  pub talk : Connects opens room end [] read left (fresh old before) last
   pub closes : Closes last.visitor last.done after
 
 -- ---- the steps of a connection
 
 -- a connection goes on: all inputs of the bytes that were kept and then read are answered, all replies are written, and the rest is kept
-pub record GoesOn (accounts : List Entry) (kept after : List ℕ) (read left : Option (List ℕ)) (a b : Standing) : Type 0 where
+pub record GoesOn (opens : Opens) (kept after : List ℕ) (read left : Option (List ℕ)) (a b : Standing) : Type 0 where
   pub bytes : List ℕ
   pub turn : Turn
   pub reads : Consumes read left bytes
   pub rest : after ≡ rest (kept ++ bytes)
-  pub converses : Converses accounts a.visitor (inputs (kept ++ bytes)) turn
+  pub converses : Converses opens a.visitor (inputs (kept ++ bytes)) turn
   pub going : turn.is_last ≡ false
   pub done : b.done ≡ a.done ++ turn.done
   pub visitor : b.visitor ≡ turn.visitor
@@ -73,50 +72,50 @@ pub record GoesOn (accounts : List Entry) (kept after : List ℕ) (read left : O
   pub empty : b.waiting ≡ []
 
 -- a connection goes on, or ended
-abbrev pub GoesOrEnds : List Entry → ℕ → Option Disconnect → List ℕ → List ℕ → Option (List ℕ) → Option (List ℕ) → Standing → Standing → Type 0
-GoesOrEnds accounts room None kept after read left a b = GoesOn accounts kept after read left a b
-GoesOrEnds accounts room (Some end) kept after read left a b = Connects accounts room end kept read left a b
+abbrev pub GoesOrEnds : Opens → ℕ → Option Disconnect → List ℕ → List ℕ → Option (List ℕ) → Option (List ℕ) → Standing → Standing → Type 0
+GoesOrEnds opens room None kept after read left a b = GoesOn opens kept after read left a b
+GoesOrEnds opens room (Some end) kept after read left a b = Connects opens room end kept read left a b
 
 -- ---- the inputs of a piece
 
 -- inputs are answered, and their replies are written up to those that wait
-pub record TalksOn (accounts : List Entry) (inputs : List Input) (is_last : Bool) (a b : Standing) : Type 0 where
+pub record TalksOn (opens : Opens) (inputs : List Input) (is_last : Bool) (a b : Standing) : Type 0 where
   pub turn : Turn
-  pub converses : Converses accounts a.visitor inputs turn
+  pub converses : Converses opens a.visitor inputs turn
   pub last : turn.is_last ≡ is_last
   pub done : b.done ≡ a.done ++ turn.done
   pub visitor : b.visitor ≡ turn.visitor
   pub written : PassesOn a.sink b.sink (a.waiting ++ turn.told) b.waiting
 
 -- inputs are answered, the last by a logout, and the others are left
-pub record TalksToBye (accounts : List Entry) (inputs : List Input) (a b : Standing) : Type 0 where
+pub record TalksToBye (opens : Opens) (inputs : List Input) (a b : Standing) : Type 0 where
   pub answered : List Input
   pub others : List Input
   pub all : inputs ≡ answered ++ others
-  pub talk : TalksOn accounts answered true a b
+  pub talk : TalksOn opens answered true a b
 
 -- inputs are answered up to a fault, and a front of the replies is written
-pub record TalksToFault (accounts : List Entry) (inputs : List Input) (a b : Standing) : Type 0 where
+pub record TalksToFault (opens : Opens) (inputs : List Input) (a b : Standing) : Type 0 where
   pub answered : List Input
   pub others : List Input
   pub turn : Turn
   pub all : inputs ≡ answered ++ others
-  pub converses : Converses accounts a.visitor answered turn
+  pub converses : Converses opens a.visitor answered turn
   pub done : b.done ≡ a.done ++ turn.done
   pub visitor : b.visitor ≡ turn.visitor
   pub written : AppendsFront a.sink b.sink (a.waiting ++ turn.told)
 
 -- inputs are answered so far
-abbrev pub Talks : List Entry → List Input → Answered → Standing → Standing → Type 0
-Talks accounts inputs answered.All a b = TalksOn accounts inputs false a b
-Talks accounts inputs answered.Bye a b = TalksToBye accounts inputs a b
-Talks accounts inputs answered.Fault a b = TalksToFault accounts inputs a b
+abbrev pub Talks : Opens → List Input → Answered → Standing → Standing → Type 0
+Talks opens inputs answered.All a b = TalksOn opens inputs false a b
+Talks opens inputs answered.Bye a b = TalksToBye opens inputs a b
+Talks opens inputs answered.Fault a b = TalksToFault opens inputs a b
 
 -- inputs are answered so far, and no reply waits
-abbrev pub Tells : List Entry → List Input → Answered → Standing → Standing → Type 0
-Tells accounts inputs answered.All a b = TalksOn accounts inputs false a b × (b.waiting ≡ [])
-Tells accounts inputs answered.Bye a b = TalksToBye accounts inputs a b × (b.waiting ≡ [])
-Tells accounts inputs answered.Fault a b = TalksToFault accounts inputs a b
+abbrev pub Tells : Opens → List Input → Answered → Standing → Standing → Type 0
+Tells opens inputs answered.All a b = TalksOn opens inputs false a b × (b.waiting ≡ [])
+Tells opens inputs answered.Bye a b = TalksToBye opens inputs a b × (b.waiting ≡ [])
+Tells opens inputs answered.Fault a b = TalksToFault opens inputs a b
 
 -- ---- one input
 

@@ -6,8 +6,7 @@ use Rattle.kl1_model_server.specs.Inputs.{Input}
 use Rattle.kl1_user_events.specs.declared.reply.Reply.TheVariants as reply
 use Rattle.kl1_command.specs.declared.performed.Performed.{Performed}
 use Rattle.kl1_command.specs.declared.performed.Performed.TheVariants as performed
-use Rattle.kl1_session.specs.Files.{Entry}
-use Rattle.kl1_session.specs.Doors.{Action, refuse, refuse_login, log_in, log_out, perform, action_of}
+use Rattle.kl1_session.specs.Doors.{Opens, Action, refuse, refuse_login, log_in, log_out, perform, action_of}
 use Rattle.kl1_session.specs.Replies.{told}
 
 -- a command that was done to an account, by its number from 0, and what was answered
@@ -60,10 +59,10 @@ both t u = record { done = t.done ++ u.done; told = t.told ++ u.told; visitor = 
 
 -- what inputs of who is logged in so come to, one after another: of each what `action_of` says, by the login that the answers before it
 -- leave; and none after a logout
-abbrev pub Converses : List Entry → Option ℕ → List Input → Turn → Type 0
-Converses accounts visitor [] turn = turn ≡ silence visitor
-Converses accounts visitor (i ∷ is) turn =
-    (first : Turn) × (rest : Turn) × Answers visitor (action_of accounts visitor i) first × (first.is_last ≡ true → is ≡ []) × Converses accounts first.visitor is rest × (turn ≡ both first rest)
+abbrev pub Converses : Opens → Option ℕ → List Input → Turn → Type 0
+Converses opens visitor [] turn = turn ≡ silence visitor
+Converses opens visitor (i ∷ is) turn =
+    (first : Turn) × (rest : Turn) × Answers visitor (action_of opens visitor i) first × (first.is_last ≡ true → is ≡ []) × Converses opens first.visitor is rest × (turn ≡ both first rest)
 
 -- the list of what was done goes on with a logout if a session is open, and else stays as it is
 abbrev pub Closes : Option ℕ → List Done → List Done → Type 0

@@ -1,15 +1,13 @@
 // What becomes of an input.
 
-ghost use Rattle.std.specs.Prelude.{◌≡◌, ◌<◌, ℕ, length};
+ghost use Rattle.std.specs.Prelude.{◌≡◌, ◌<◌, ℕ};
 ghost use Rattle.kl1_session.specs.Asking.{input_view};
 ghost use Rattle.kl1_command.specs.Commands.{command_view};
-ghost use Rattle.kl1_session.specs.Views.{entries_view};
 ghost use Rattle.kl1_session.specs.Doors.{action_of, doing};
 ghost use Rattle.kl1_session.specs.ActionViews.{action_view, IsOfOne, IsVisitor};
 
-use crate::found::find;
+use crate::door::Door;
 use crate::input::Input;
-use crate::key::Key;
 use kl1_command::Command;
 use kl1_user_events::{Event, Refusal};
 
@@ -29,14 +27,16 @@ pub enum Action<'a> {
 }
 
 /// What becomes of an input of one who isn't logged in, or who is, to the account of the number `visitor`, from 0.
-pub fn action_of<'a>(keys: &[Key], visitor: Option<usize>, input: &'a Input) -> Action<'a>
-    ensures value { action_view result ≡ action_of (entries_view keys.now) visitor (input_view input.now) }
-    ensures within { IsVisitor (length keys.now) visitor → IsOfOne (length keys.now) result }
+pub fn action_of<'a, K: Door>(door: &mut K, visitor: Option<usize>, input: &'a Input) -> Action<'a>
+    ensures keys { K.accounts door.new ≡ K.accounts door.old }
+    ensures opens { K.opens door.new ≡ K.opens door.old }
+    ensures value { action_view result ≡ action_of (K.opens door.old) visitor (input_view input.now) }
+    ensures within { IsVisitor (K.accounts door.old) visitor → IsOfOne (K.accounts door.old) result }
 {
     match (visitor, input) {
         (_, Input::Refused(refusal)) => Action::Refuse(*refusal),
         (None, Input::Login { name, key }) => {
-            match find(keys, name.as_slice(), key.as_slice()) {
+            match door.open(name.as_slice(), key.as_slice()) {
                 None => Action::RefuseLogin,
                 Some(number) => Action::LogIn(number),
             }

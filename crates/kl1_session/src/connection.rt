@@ -6,7 +6,6 @@ ghost use Rattle.kl1_lines.specs.Devices.{AppendsFront, PassesOn};
 ghost use Rattle.kl1_model_server.specs.Inputs.{inputs};
 ghost use Rattle.kl1_command.specs.Commands.{command_view};
 ghost use Rattle.kl1_session.specs.Asking.{input_view};
-ghost use Rattle.kl1_session.specs.Views.{entries_view};
 ghost use Rattle.kl1_session.specs.Doors.{action_of, log_in, log_out, perform};
 ghost use Rattle.kl1_session.specs.ActionViews.{IsVisitor};
 ghost use Rattle.kl1_session.specs.Connections.{Serves, Connects, GoesOrEnds, Talks, Tells, Takes, fresh, standing};
@@ -15,8 +14,8 @@ use crate::action::{Action, action_of};
 use crate::command_handler::{
     CommandHandler, is_bye, is_welcome, put_login_refused, put_performed,
 };
+use crate::door::Door;
 use crate::input::Input;
-use crate::key::Key;
 use crate::session::Session;
 use kl1_command::{Command, put_reply};
 use kl1_lines::{DeviceFailed, Sink, Source, finish, pass_on};
@@ -54,24 +53,27 @@ struct ConnectionState {
     replies: Vec<u8>,
 }
 
-/// Serves one connection, which comes in pieces of at most the length of `buffer`. A session that is still open at its end is closed.
-pub fn serve<S: Source, T: Sink, D: CommandHandler>(
+/// Serves one connection of whom `door` lets in, which comes in pieces of at most the length of `buffer`. A session that is still open
+/// at its end is closed.
+pub fn serve<S: Source, T: Sink, D: CommandHandler, K: Door>(
     alloc: Global,
     source: &mut S,
     sink: &mut T,
     handler: &mut D,
-    keys: &[Key],
+    door: &mut K,
     buffer: &mut [u8],
 ) -> Disconnect
-    requires { length keys.now ≤ D.accounts handler.old }
+    requires { K.accounts door.old ≤ D.accounts handler.old }
     ensures accounts { D.accounts handler.new ≡ D.accounts handler.old }
-    ensures serves { Serves (entries_view keys.now) (length buffer.old) result (S.remaining source.old) (S.remaining source.new) (T.contents sink.old) (T.contents sink.new) (D.done handler.old) (D.done handler.new) }
+    ensures keys { K.accounts door.new ≡ K.accounts door.old }
+    ensures opens { K.opens door.new ≡ K.opens door.old }
+    ensures serves { Serves (K.opens door.old) (length buffer.old) result (S.remaining source.old) (S.remaining source.new) (T.contents sink.old) (T.contents sink.new) (D.done handler.old) (D.done handler.new) }
 {
     let mut state = ConnectionState {
         account: None,
         replies: Vec::new(alloc),
     };
-    let served = converse(alloc, source, sink, handler, keys, buffer, &mut state);
+    let served = converse(alloc, source, sink, handler, door, buffer, &mut state);
     if let Some(account) = state.account {
         let _ = handler.act(account, &Command::Does(Event::Logout));
     }
@@ -79,24 +81,26 @@ pub fn serve<S: Source, T: Sink, D: CommandHandler>(
 }
 
 /// Like `serve`, but a session that is still open at the end stays so.
-fn converse<S: Source, T: Sink, D: CommandHandler>(
+fn converse<S: Source, T: Sink, D: CommandHandler, K: Door>(
     alloc: Global,
     source: &mut S,
     sink: &mut T,
     handler: &mut D,
-    keys: &[Key],
+    door: &mut K,
     buffer: &mut [u8],
     state: &mut ConnectionState,
 ) -> Disconnect
-    requires handler { length keys.now ≤ D.accounts handler.old }
+    requires handler { K.accounts door.old ≤ D.accounts handler.old }
     requires fresh { (state.old.account ≡ None) × (state.old.replies.items ≡ []) }
     ensures handler { D.accounts handler.new ≡ D.accounts handler.old }
-    ensures visitor { IsVisitor (length keys.now) state.new.account }
-    ensures talk { Connects (entries_view keys.now) (length buffer.old) result [] (S.remaining source.old) (S.remaining source.new) (standing (T.contents sink.old) (D.done handler.old) state.old) (standing (T.contents sink.new) (D.done handler.new) state.new) }
+    ensures keys { K.accounts door.new ≡ K.accounts door.old }
+    ensures opens { K.opens door.new ≡ K.opens door.old }
+    ensures visitor { IsVisitor (K.accounts door.new) state.new.account }
+    ensures talk { Connects (K.opens door.old) (length buffer.old) result [] (S.remaining source.old) (S.remaining source.new) (standing (T.contents sink.old) (D.done handler.old) state.old) (standing (T.contents sink.new) (D.done handler.new) state.new) }
 {
     let mut session = Session::new(alloc);
     for _ in 0..u64::MAX {
-        let ended = serve_piece(source, sink, handler, keys, buffer, &mut session, state);
+        let ended = serve_piece(source, sink, handler, door, buffer, &mut session, state);
         if let Some(served) = ended {
             return served;
         }
@@ -105,23 +109,25 @@ fn converse<S: Source, T: Sink, D: CommandHandler>(
 }
 
 /// Reads a piece, answers its inputs and writes the replies; answers how the connection ended, if it did.
-fn serve_piece<S: Source, T: Sink, D: CommandHandler>(
+fn serve_piece<S: Source, T: Sink, D: CommandHandler, K: Door>(
     source: &mut S,
     sink: &mut T,
     handler: &mut D,
-    keys: &[Key],
+    door: &mut K,
     buffer: &mut [u8],
     session: &mut Session,
     state: &mut ConnectionState,
 ) -> Option<Disconnect>
-    requires handler { length keys.now ≤ D.accounts handler.old }
-    requires visitor { IsVisitor (length keys.now) state.old.account }
+    requires handler { K.accounts door.old ≤ D.accounts handler.old }
+    requires visitor { IsVisitor (K.accounts door.old) state.old.account }
     requires empty { state.old.replies.items ≡ [] }
     requires quiet { inputs session.old ≡ [] }
     ensures handler { D.accounts handler.new ≡ D.accounts handler.old }
-    ensures visitor { IsVisitor (length keys.now) state.new.account }
+    ensures keys { K.accounts door.new ≡ K.accounts door.old }
+    ensures opens { K.opens door.new ≡ K.opens door.old }
+    ensures visitor { IsVisitor (K.accounts door.new) state.new.account }
     ensures room { length buffer.new ≡ length buffer.old }
-    ensures talk { GoesOrEnds (entries_view keys.now) (length buffer.old) result session.old session.new (S.remaining source.old) (S.remaining source.new) (standing (T.contents sink.old) (D.done handler.old) state.old) (standing (T.contents sink.new) (D.done handler.new) state.new) }
+    ensures talk { GoesOrEnds (K.opens door.old) (length buffer.old) result session.old session.new (S.remaining source.old) (S.remaining source.new) (standing (T.contents sink.old) (D.done handler.old) state.old) (standing (T.contents sink.new) (D.done handler.new) state.new) }
 {
     let Ok(count) = source.read(buffer) else {
         return Some(Disconnect::Fault);
@@ -132,7 +138,7 @@ fn serve_piece<S: Source, T: Sink, D: CommandHandler>(
     let Ok(inputs) = session.feed(&buffer[..count]) else {
         return Some(Disconnect::Fault);
     };
-    match answer_piece(sink, handler, keys, inputs.as_slice(), state) {
+    match answer_piece(sink, handler, door, inputs.as_slice(), state) {
         Answered::All => None,
         Answered::Bye => Some(Disconnect::Bye),
         Answered::Fault => Some(Disconnect::Fault),
@@ -140,20 +146,22 @@ fn serve_piece<S: Source, T: Sink, D: CommandHandler>(
 }
 
 /// Answers the inputs of a piece, and writes all replies.
-fn answer_piece<T: Sink, D: CommandHandler>(
+fn answer_piece<T: Sink, D: CommandHandler, K: Door>(
     sink: &mut T,
     handler: &mut D,
-    keys: &[Key],
+    door: &mut K,
     inputs: &[Input],
     state: &mut ConnectionState,
 ) -> Answered
-    requires handler { length keys.now ≤ D.accounts handler.old }
-    requires visitor { IsVisitor (length keys.now) state.old.account }
+    requires handler { K.accounts door.old ≤ D.accounts handler.old }
+    requires visitor { IsVisitor (K.accounts door.old) state.old.account }
     ensures handler { D.accounts handler.new ≡ D.accounts handler.old }
-    ensures visitor { IsVisitor (length keys.now) state.new.account }
-    ensures talk { Tells (entries_view keys.now) (map input_view inputs.now) result (standing (T.contents sink.old) (D.done handler.old) state.old) (standing (T.contents sink.new) (D.done handler.new) state.new) }
+    ensures keys { K.accounts door.new ≡ K.accounts door.old }
+    ensures opens { K.opens door.new ≡ K.opens door.old }
+    ensures visitor { IsVisitor (K.accounts door.new) state.new.account }
+    ensures talk { Tells (K.opens door.old) (map input_view inputs.now) result (standing (T.contents sink.old) (D.done handler.old) state.old) (standing (T.contents sink.new) (D.done handler.new) state.new) }
 {
-    match answer_all(sink, handler, keys, inputs, state) {
+    match answer_all(sink, handler, door, inputs, state) {
         Answered::All => match send(sink, &mut state.replies) {
             Ok(()) => Answered::All,
             Err(_) => Answered::Fault,
@@ -167,21 +175,23 @@ fn answer_piece<T: Sink, D: CommandHandler>(
 }
 
 /// Answers inputs one after another, up to a logout or a fault.
-fn answer_all<T: Sink, D: CommandHandler>(
+fn answer_all<T: Sink, D: CommandHandler, K: Door>(
     sink: &mut T,
     handler: &mut D,
-    keys: &[Key],
+    door: &mut K,
     inputs: &[Input],
     state: &mut ConnectionState,
 ) -> Answered
-    requires handler { length keys.now ≤ D.accounts handler.old }
-    requires visitor { IsVisitor (length keys.now) state.old.account }
+    requires handler { K.accounts door.old ≤ D.accounts handler.old }
+    requires visitor { IsVisitor (K.accounts door.old) state.old.account }
     ensures handler { D.accounts handler.new ≡ D.accounts handler.old }
-    ensures visitor { IsVisitor (length keys.now) state.new.account }
-    ensures talk { Talks (entries_view keys.now) (map input_view inputs.now) result (standing (T.contents sink.old) (D.done handler.old) state.old) (standing (T.contents sink.new) (D.done handler.new) state.new) }
+    ensures keys { K.accounts door.new ≡ K.accounts door.old }
+    ensures opens { K.opens door.new ≡ K.opens door.old }
+    ensures visitor { IsVisitor (K.accounts door.new) state.new.account }
+    ensures talk { Talks (K.opens door.old) (map input_view inputs.now) result (standing (T.contents sink.old) (D.done handler.old) state.old) (standing (T.contents sink.new) (D.done handler.new) state.new) }
 {
     for input in inputs {
-        match answer_next(sink, handler, keys, input, state) {
+        match answer_next(sink, handler, door, input, state) {
             Answered::All => {}
             Answered::Bye => return Answered::Bye,
             Answered::Fault => return Answered::Fault,
@@ -192,23 +202,25 @@ fn answer_all<T: Sink, D: CommandHandler>(
 
 /// Answers one input, and writes the replies if they are many, or if the input may take long. What was done before is told, also if
 /// memory is refused.
-fn answer_next<T: Sink, D: CommandHandler>(
+fn answer_next<T: Sink, D: CommandHandler, K: Door>(
     sink: &mut T,
     handler: &mut D,
-    keys: &[Key],
+    door: &mut K,
     input: &Input,
     state: &mut ConnectionState,
 ) -> Answered
-    requires handler { length keys.now ≤ D.accounts handler.old }
-    requires visitor { IsVisitor (length keys.now) state.old.account }
+    requires handler { K.accounts door.old ≤ D.accounts handler.old }
+    requires visitor { IsVisitor (K.accounts door.old) state.old.account }
     ensures handler { D.accounts handler.new ≡ D.accounts handler.old }
-    ensures visitor { IsVisitor (length keys.now) state.new.account }
-    ensures talk { Talks (entries_view keys.now) (input_view input.now ∷ []) result (standing (T.contents sink.old) (D.done handler.old) state.old) (standing (T.contents sink.new) (D.done handler.new) state.new) }
+    ensures keys { K.accounts door.new ≡ K.accounts door.old }
+    ensures opens { K.opens door.new ≡ K.opens door.old }
+    ensures visitor { IsVisitor (K.accounts door.new) state.new.account }
+    ensures talk { Talks (K.opens door.old) (input_view input.now ∷ []) result (standing (T.contents sink.old) (D.done handler.old) state.old) (standing (T.contents sink.new) (D.done handler.new) state.new) }
 {
     if send_before(sink, input, &mut state.replies).is_err() {
         return Answered::Fault;
     }
-    match answer(handler, keys, input, state) {
+    match answer(handler, door, input, state) {
         Ok(true) => Answered::Bye,
         Ok(false) => match pass_on(sink, &mut state.replies) {
             Ok(()) => Answered::All,
@@ -257,19 +269,21 @@ fn send<T: Sink>(sink: &mut T, replies: &mut Vec<u8>) -> Result<(), DeviceFailed
 }
 
 /// Answers one input, and tells whether it was a logout that was done. After an `Err` the reply isn't put.
-fn answer<D: CommandHandler>(
+fn answer<D: CommandHandler, K: Door>(
     handler: &mut D,
-    keys: &[Key],
+    door: &mut K,
     input: &Input,
     state: &mut ConnectionState,
 ) -> Result<bool, AllocError>
-    requires handler { length keys.now ≤ D.accounts handler.old }
-    requires visitor { IsVisitor (length keys.now) state.old.account }
+    requires handler { K.accounts door.old ≤ D.accounts handler.old }
+    requires visitor { IsVisitor (K.accounts door.old) state.old.account }
     ensures handler { D.accounts handler.new ≡ D.accounts handler.old }
-    ensures visitor { IsVisitor (length keys.now) state.new.account }
-    ensures takes { Takes (action_of (entries_view keys.now) state.old.account (input_view input.now)) result (D.done handler.old) (D.done handler.new) state.old state.new }
+    ensures keys { K.accounts door.new ≡ K.accounts door.old }
+    ensures opens { K.opens door.new ≡ K.opens door.old }
+    ensures visitor { IsVisitor (K.accounts door.new) state.new.account }
+    ensures takes { Takes (action_of (K.opens door.old) state.old.account (input_view input.now)) result (D.done handler.old) (D.done handler.new) state.old state.new }
 {
-    match action_of(keys, state.account, input) {
+    match action_of(door, state.account, input) {
         Action::Refuse(refusal) => told_as(
             put_reply(&mut state.replies, &Reply::Refused(refusal)),
             false,

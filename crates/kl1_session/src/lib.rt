@@ -6,6 +6,7 @@ ghost use Rattle.kl1_model_server.specs.laws.InputLaws.{CutsAnywhere, CutsInPiec
 mod action;
 mod command_handler;
 mod connection;
+mod door;
 mod ended;
 mod file;
 mod found;
@@ -20,6 +21,7 @@ mod texts;
 pub use action::{Action, action_of};
 pub use command_handler::CommandHandler;
 pub use connection::{Disconnect, serve};
+pub use door::{Door, Keys};
 pub use file::read_keys;
 pub use found::{find, is_same_key};
 pub use history::History;

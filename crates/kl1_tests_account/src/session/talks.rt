@@ -3,7 +3,7 @@
 use crate::session::book::Book;
 use crate::session::streams::Failing;
 use kl1_lines::{FailureCounter, is_same};
-use kl1_session::{Disconnect, History, Key, serve};
+use kl1_session::{Disconnect, History, Key, Keys, serve};
 use kl1_tests_rows::cut;
 use std::alloc::{AllocError, Global};
 
@@ -53,7 +53,7 @@ fn talk_of(
         &mut source,
         &mut sink,
         &mut book,
-        &keys,
+        &mut Keys { keys: &keys },
         &mut buffer[..size.min(64)],
     );
     Ok(Talk {

@@ -2,7 +2,7 @@ use Rattle.std.proofs.Common.{◌++◌, [], List, ℕ, length, Some, None, ap, s
 use Rattle.std.specs.declared.option.Option.{Option}
 use Rattle.kl1_model_server.specs.Inputs.{inputs}
 use Rattle.kl1_session.specs.ActionViews.{IsVisitor}
-use Rattle.kl1_session.specs.Views.{entries_view}
+use Rattle.kl1_session.specs.Doors.{Opens}
 use Rattle.kl1_session.specs.Connections.{Standing, GoesOn, Connects, standing}
 use Rattle.kl1_session.proofs.Connections.{starts, more_pieces, gives_up, nothing_asked, rest_is_quiet}
 use Rattle.kl1_session.proofs.connection.converse.Goals as goal
@@ -11,14 +11,16 @@ pub loop-init : goal.loop-init
 loop-init g c =
     let s : Standing = standing (g.T.Sink.contents c.args.sink.now) (g.D.CommandHandler.done c.args.handler.now) c.args.state.now in
     let read = g.S.Source.remaining c.args.source.now in
-    let P : List ℕ → Type 0 = λ k. GoesOn (entries_view c.args.keys.now) [] k read read s s in
-    let Q : Option ℕ → Type 0 = λ v. IsVisitor (length c.args.keys.now) v in
+    let P : List ℕ → Type 0 = λ k. GoesOn (g.K.Door.opens c.args.door.now) [] k read read s s in
+    let Q : Option ℕ → Type 0 = λ v. IsVisitor (g.K.Door.accounts c.args.door.now) v in
     record {
       handler = refl;
+      keys = refl;
+      opens = refl;
       visitor = subst Q (sym c.requires.fresh.0) tt;
       room = refl;
       quiet = ap (λ x. inputs x) c.new-session.ensures ∙ nothing_asked;
-      talk = subst P (sym c.new-session.ensures) (starts (entries_view c.args.keys.now) read s c.requires.fresh.1);
+      talk = subst P (sym c.new-session.ensures) (starts (g.K.Door.opens c.args.door.now) read s c.requires.fresh.1);
     }
 
 pub returns-in-Some-clause-talk : goal.returns-in-Some-clause-talk
@@ -29,8 +31,9 @@ returns-in-Some-clause-talk g c =
     let s : Standing = standing (contents c.args.sink.now) (done c.args.handler.now) c.args.state.now in
     let t : Standing = standing (contents c.loop.sink) (done c.loop.handler) c.loop.state in
     let u : Standing = standing (contents c.serve_piece-ended.new.sink) (done c.serve_piece-ended.new.handler) c.serve_piece-ended.new.state in
-    let P : ℕ → Type 0 = λ n. Connects (entries_view c.args.keys.now) n c.in-Some.served c.loop.session (remaining c.loop.source) (remaining c.serve_piece-ended.new.source) t u in
-    more_pieces (entries_view c.args.keys.now) (length c.args.buffer.now) (Some c.in-Some.served) [] c.loop.session c.serve_piece-ended.new.session (remaining c.args.source.now) (remaining c.loop.source) (remaining c.serve_piece-ended.new.source) s t u c.loop.invariant.talk (subst P c.loop.invariant.room c.in-Some.ensures.talk)
+    let O : Opens → Type 0 = λ o. Connects o (length c.loop.buffer) c.in-Some.served c.loop.session (remaining c.loop.source) (remaining c.serve_piece-ended.new.source) t u in
+    let P : ℕ → Type 0 = λ n. Connects (g.K.Door.opens c.args.door.now) n c.in-Some.served c.loop.session (remaining c.loop.source) (remaining c.serve_piece-ended.new.source) t u in
+    more_pieces (g.K.Door.opens c.args.door.now) (length c.args.buffer.now) (Some c.in-Some.served) [] c.loop.session c.serve_piece-ended.new.session (remaining c.args.source.now) (remaining c.loop.source) (remaining c.serve_piece-ended.new.source) s t u c.loop.invariant.talk (subst P c.loop.invariant.room (subst O c.loop.invariant.opens c.in-Some.ensures.talk))
 
 pub loop-preserved : goal.loop-preserved
 loop-preserved g c =
@@ -40,9 +43,12 @@ loop-preserved g c =
     let s : Standing = standing (contents c.args.sink.now) (done c.args.handler.now) c.args.state.now in
     let t : Standing = standing (contents c.loop.sink) (done c.loop.handler) c.loop.state in
     let u : Standing = standing (contents c.serve_piece-ended.new.sink) (done c.serve_piece-ended.new.handler) c.serve_piece-ended.new.state in
-    let k : GoesOn (entries_view c.args.keys.now) [] c.serve_piece-ended.new.session (remaining c.args.source.now) (remaining c.serve_piece-ended.new.source) s u = more_pieces (entries_view c.args.keys.now) (length c.args.buffer.now) None [] c.loop.session c.serve_piece-ended.new.session (remaining c.args.source.now) (remaining c.loop.source) (remaining c.serve_piece-ended.new.source) s t u c.loop.invariant.talk c.in_default.ensures.talk in
+    let O : Opens → Type 0 = λ o. GoesOn o c.loop.session c.serve_piece-ended.new.session (remaining c.loop.source) (remaining c.serve_piece-ended.new.source) t u in
+    let k : GoesOn (g.K.Door.opens c.args.door.now) [] c.serve_piece-ended.new.session (remaining c.args.source.now) (remaining c.serve_piece-ended.new.source) s u = more_pieces (g.K.Door.opens c.args.door.now) (length c.args.buffer.now) None [] c.loop.session c.serve_piece-ended.new.session (remaining c.args.source.now) (remaining c.loop.source) (remaining c.serve_piece-ended.new.source) s t u c.loop.invariant.talk (subst O c.loop.invariant.opens c.in_default.ensures.talk) in
     record {
       handler = c.in_default.ensures.handler ∙ c.loop.invariant.handler;
+      keys = c.in_default.ensures.keys ∙ c.loop.invariant.keys;
+      opens = c.in_default.ensures.opens ∙ c.loop.invariant.opens;
       visitor = c.in_default.ensures.visitor;
       room = c.in_default.ensures.room ∙ c.loop.invariant.room;
       quiet = ap (λ x. inputs x) k.rest ∙ rest_is_quiet ([] ++ k.bytes);
@@ -53,4 +59,4 @@ pub returns-clause-talk : goal.returns-clause-talk
 returns-clause-talk g c =
     let s : Standing = standing (g.T.Sink.contents c.args.sink.now) (g.D.CommandHandler.done c.args.handler.now) c.args.state.now in
     let t : Standing = standing (g.T.Sink.contents c.loop.sink) (g.D.CommandHandler.done c.loop.handler) c.loop.state in
-    gives_up (entries_view c.args.keys.now) (length c.args.buffer.now) [] c.loop.session (g.S.Source.remaining c.args.source.now) (g.S.Source.remaining c.loop.source) s t c.loop.invariant.talk
+    gives_up (g.K.Door.opens c.args.door.now) (length c.args.buffer.now) [] c.loop.session (g.S.Source.remaining c.args.source.now) (g.S.Source.remaining c.loop.source) s t c.loop.invariant.talk
