@@ -1,5 +1,5 @@
 -- What a request asks for.
-use Rattle.std.specs.Prelude.{ℕ, ◌==◌, nat_eq, Bool, true, false, not, if◌then◌else◌, List, [], ◌∷◌, length, drop, find, bytes_eq, codes, Option, Some, None, unwrap_or, Result, Ok, Err}
+use Rattle.std.specs.Prelude.{ℕ, ◌==◌, nat_eq, Bool, true, false, not, if◌then◌else◌, List, [], ◌∷◌, length, drop, bytes_eq, codes, Option, Some, None, Result, Ok, Err}
 use Rattle.std.specs.List.{starts_with, list_any}
 use Rattle.kl1_model.specs.Line.{number_in}
 use Rattle.kl1_host_door.specs.declared.refusal.Refusal.{Refusal}
@@ -50,9 +50,14 @@ path_of Health = codes "/healthz"
 abbrev pub named : List Ask
 named = Login ∷ Session ∷ Logout ∷ Command ∷ Load ∷ Account ∷ Shoens 1 ∷ Waiting ∷ Metrics ∷ Health ∷ []
 
+-- what of these stands at a path; a file if none does
+abbrev pub ask_among : List ℕ → List Ask → Ask
+ask_among path [] = File
+ask_among path (a ∷ others) = if bytes_eq path (path_of a) then a else ask_among path others
+
 -- what stands at a path
 abbrev pub ask_at : List ℕ → Ask
-ask_at path = unwrap_or (find (λ ask. bytes_eq path (path_of ask)) named) File
+ask_at path = ask_among path named
 
 -- what is asked for, if it is by its method
 abbrev pub ask_by : Method → Ask → Result Ask Refusal

@@ -28,6 +28,11 @@ place_from test n (s ∷ ss) = if test s then Some n else place_from test (suc n
 abbrev pub place_of : (WebSession → Bool) → List WebSession → Option ℕ
 place_of test sessions = place_from test 0 sessions
 
+-- the first session that passes a test
+abbrev pub first_of : (WebSession → Bool) → List WebSession → Option WebSession
+first_of test [] = None
+first_of test (s ∷ ss) = if test s then Some s else first_of test ss
+
 -- the sessions without the first that passes a test
 abbrev pub without_first : (WebSession → Bool) → List WebSession → List WebSession
 without_first test sessions = elim (place_of test sessions) [ None ↦ sessions | Some n ↦ remove sessions n ]

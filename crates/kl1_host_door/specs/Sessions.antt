@@ -1,5 +1,5 @@
 -- Which session a request is of.
-use Rattle.std.specs.Prelude.{ℕ, ◌==◌, nat_eq, nat_le, Bool, true, false, ◌&&◌, ◌||◌, if◌then◌else◌, List, [], ◌∷◌, length, take, drop, find, bytes_eq, codes, Option, Some, None, option_and_then}
+use Rattle.std.specs.Prelude.{ℕ, ◌==◌, nat_eq, nat_le, Bool, true, false, ◌&&◌, ◌||◌, if◌then◌else◌, List, [], ◌∷◌, length, take, drop, bytes_eq, codes, Option, Some, None}
 use Rattle.std.specs.List.{starts_with}
 use Rattle.kl1_host_door.specs.declared.limits.TheConstants.{SECRET_BYTES}
 use Rattle.kl1_host_door.specs.declared.field.Field.{Field}
@@ -27,10 +27,18 @@ is_end (b ∷ bs) = b == 59
 abbrev pub is_of : List ℕ → WebSession → Bool
 is_of text session = nat_le SECRET_BYTES (length text) && bytes_eq (take SECRET_BYTES text) session.id && is_end (drop SECRET_BYTES text)
 
+-- the first session of which this is the name
+abbrev pub session_at : List ℕ → List WebSession → Option WebSession
+session_at text [] = None
+session_at text (s ∷ ss) = if is_of text s then Some s else session_at text ss
+
 -- the session whose name the cookie tells
 abbrev pub session_of : List Field → List WebSession → Option WebSession
 session_of fields sessions =
-    option_and_then (λ text. find (is_of text) sessions) (option_and_then (cookie_from true) (value_of (codes "cookie") fields))
+    elim (value_of (codes "cookie") fields) [
+      | None ↦ None
+      | Some header ↦ elim (cookie_from true header) [ None ↦ None | Some text ↦ session_at text sessions ]
+    ]
 
 -- whether a request has the token of this session
 abbrev pub has_token : List Field → WebSession → Bool

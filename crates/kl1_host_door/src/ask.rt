@@ -1,7 +1,6 @@
 // What a request asks for.
 
-ghost use Rattle.std.specs.Prelude.{◌≡◌, ◌==◌, bytes_eq, nat_eq, find, unwrap_or};
-ghost use Rattle.std.specs.List.{list_any};
+ghost use Rattle.std.specs.Prelude.{◌≡◌};
 ghost use Rattle.kl1_host_door.specs.Asks.{method_in, is_change, fits, path_of, ask_at, ask_by, page_by, ask_of};
 
 use crate::refusal::Refusal;

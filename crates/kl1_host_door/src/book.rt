@@ -1,7 +1,7 @@
 // The sessions of browsers that are open.
 
-ghost use Rattle.std.specs.Prelude.{◌≡◌, ◌<◌, [], length, map, find, IfOk, IfSome};
-ghost use Rattle.kl1_host_door.specs.Books.{passes, place_of, secrets_of, IsAdded, without_first};
+ghost use Rattle.std.specs.Prelude.{◌≡◌, ◌<◌, [], length, map, IfOk, IfSome};
+ghost use Rattle.kl1_host_door.specs.Books.{passes, place_of, secrets_of, IsAdded, first_of, without_first};
 
 use crate::limits::{MOST_SESSIONS, SECRET_BYTES};
 use crate::session::WebSession;
@@ -54,7 +54,7 @@ impl SessionBook {
     /// Takes out the first session that passes a test; `None` if there is none.
     #[tactic(auto, using(crate::proofs::BookPlaces::none_at))]
     pub fn take(&mut self, test: SessionTest) -> Option<WebSession>
-        ensures value { result ≡ find (passes test) self.old }
+        ensures value { result ≡ first_of (passes test) self.old }
         ensures taken { self.new ≡ without_first (passes test) self.old }
     {
         let place = place_of(self.open.as_slice(), test)?;
@@ -111,7 +111,7 @@ fn place_of(sessions: &[WebSession], test: SessionTest) -> Option<usize>
 
 /// The first session that passes a test.
 fn found(sessions: &[WebSession], test: SessionTest) -> Option<WebSession>
-    ensures { result ≡ find (passes test) sessions.now }
+    ensures { result ≡ first_of (passes test) sessions.now }
 {
     let mut rest = sessions;
     while let [first, others @ ..] = rest {

@@ -1,8 +1,7 @@
 // Sessions of browsers.
 
-ghost use Rattle.std.specs.Prelude.{◌≡◌, true, option_map, find};
-ghost use Rattle.std.specs.List.{starts_with};
-ghost use Rattle.kl1_host_door.specs.Sessions.{cookie_from, is_end, is_of, session_of, has_token};
+ghost use Rattle.std.specs.Prelude.{◌≡◌, true, option_map};
+ghost use Rattle.kl1_host_door.specs.Sessions.{cookie_from, is_end, is_of, session_at, session_of, has_token};
 
 use crate::field::{Field, value_of};
 use crate::limits::SECRET_BYTES;
@@ -60,13 +59,18 @@ fn is_of(text: &[u8], session: &WebSession) -> bool
 pub(crate) fn session_of(fields: &[Field], sessions: &[WebSession]) -> Option<WebSession>
     ensures { result ≡ session_of fields.now sessions.now }
 {
-    let text = cookie_in(value_of(fields, b"cookie")?)?;
-    session_at(text, sessions)
+    match value_of(fields, b"cookie") {
+        None => None,
+        Some(header) => match cookie_in(header) {
+            None => None,
+            Some(text) => session_at(text, sessions),
+        },
+    }
 }
 
 /// The session whose name this is.
 fn session_at(text: &[u8], sessions: &[WebSession]) -> Option<WebSession>
-    ensures { result ≡ find (is_of text.now) sessions.now }
+    ensures { result ≡ session_at text.now sessions.now }
 {
     let mut rest = sessions;
     while let [first, others @ ..] = rest {
