@@ -64,6 +64,7 @@ impl SessionBook {
     }
 
     /// Notes the second of a request of the session with this name.
+    #[tactic(auto, using(crate::proofs::BookPlaces::secrets_stay))]
     pub fn touch(&mut self, id: [u8; SECRET_BYTES], now: u64)
         ensures { map secrets_of self.new ≡ map secrets_of self.old }
     {

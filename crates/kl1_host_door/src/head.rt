@@ -1,6 +1,6 @@
 // The head of a request.
 
-ghost use Rattle.std.specs.Prelude.{◌≡◌, length, map, All, IfOk};
+ghost use Rattle.std.specs.Prelude.{◌≡◌, ◌≤◌, length, map, All, IfOk};
 ghost use Rattle.httparse.specs.Spans.{IsRequestWithin, IsHeaderWithin, header_bytes};
 ghost use Rattle.kl1_host_door.specs.Heads.{pair_of, IsCopied, IsReading};
 
@@ -62,13 +62,19 @@ fn head_in(
         method: Vec::from_slice(alloc, request.method.of(bytes))?,
         target: Vec::from_slice(alloc, request.path.of(bytes))?,
         minor: request.version,
-        fields: fields_in(alloc, bytes, &spans[..request.headers])?,
+        fields: fields_in(alloc, bytes, request.len, &spans[..request.headers])?,
     })
 }
 
-/// The fields whose names and values stand where spans of these bytes say.
-fn fields_in(alloc: Global, bytes: &[u8], spans: &[HeaderSpan]) -> Result<Vec<Field>, AllocError>
-    requires { All (IsHeaderWithin (length bytes.now)) spans.now }
+/// The fields whose names and values stand where spans of the first `len` of these bytes say.
+fn fields_in(
+    alloc: Global,
+    bytes: &[u8],
+    len: usize,
+    spans: &[HeaderSpan],
+) -> Result<Vec<Field>, AllocError>
+    requires len { len ≤ length bytes.now }
+    requires within { All (IsHeaderWithin len) spans.now }
     ensures { IfOk result (λ fields. map pair_of fields.items ≡ map (header_bytes bytes.now) spans.now) }
 {
     let mut fields = Vec::new(alloc);

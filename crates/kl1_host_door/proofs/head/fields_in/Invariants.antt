@@ -7,7 +7,7 @@ use Rattle.kl1_host_door.proofs.head.fields_in.Given as goal
 abbrev pub invariant-loop-rest : goal.invariant-loop-rest
 invariant-loop-rest l = record {
   fields : map pair_of l.fields.items ++ map (header_bytes l.bytes) l.rest ≡ map (header_bytes l.bytes) l.spans;
-  within : All (IsHeaderWithin (length l.bytes)) l.rest;
+  within : All (IsHeaderWithin l.len) l.rest;
 }
 
 abbrev pub decreases-loop-rest : goal.decreases-loop-rest
