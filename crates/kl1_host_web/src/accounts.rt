@@ -53,7 +53,7 @@ pub trait Viewer {
     fn presence(&mut self, goal: GoalNo, variable: u64, most: u64) -> Result<Presence, AllocError>;
 
     /// What there is of what is limited.
-    fn usage(&mut self) -> Usage;
+    fn usage(&mut self) -> Result<Usage, AllocError>;
 
     /// Why the account does no more; `None` if it does.
     fn stopped(&mut self) -> Option<Stop>;

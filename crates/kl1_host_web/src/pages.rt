@@ -88,7 +88,7 @@ pub(crate) fn account_page<V: Viewer>(
 ) -> Result<Answer, AllocError> {
     let name = text_value(alloc, name)?;
     let quiet = matches!(quiet, Performed::Whole(Reply::Quiet(true)));
-    let usage = viewer.usage();
+    let usage = viewer.usage()?;
     let usage = usage_value(alloc, &usage)?;
     let stopped = stopped_value(alloc, viewer.stopped())?;
     let modules = modules_value(alloc, modules)?;

@@ -241,9 +241,9 @@ impl Viewer for KnownViewer {
         }
     }
 
-    fn usage(&mut self) -> Usage {
+    fn usage(&mut self) -> Result<Usage, AllocError> {
         let used = Used { count: 1, most: 9 };
-        Usage {
+        Ok(Usage {
             goals: used,
             names: used,
             shoens: used,
@@ -251,7 +251,7 @@ impl Viewer for KnownViewer {
             structures: used,
             reports: used,
             entries: used,
-        }
+        })
     }
 
     fn stopped(&mut self) -> Option<Stop> {
