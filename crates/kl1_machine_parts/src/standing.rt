@@ -18,7 +18,7 @@ ghost use Rattle.kl1_codes.specs.Shelves.{Program};
 ghost use Rattle.kl1_user_effects.specs.Fitting.{Reading};
 ghost use Rattle.kl1_user_effects.specs.Kept.{IsTaskIn, AreGoalsIn, AreShoensIn};
 ghost use Rattle.kl1_user_effects.specs.Works.{Knows};
-ghost use Rattle.kl1_user_account.specs.Looking.{Serves, calls_same, StandsBy, HearsAt, StandsAt, FindsOut, Wakes, WakesTold, LooksAtMost, LooksOnce, LooksAtOne, LooksAtAdded};
+ghost use Rattle.kl1_machine_parts.specs.Looking.{Serves, calls_same, StandsBy, HearsAt, StandsAt, FindsOut, Wakes, WakesTold, LooksAtMost, LooksOnce, LooksAtOne, LooksAtAdded};
 
 use kl1_clause::Predicate;
 use kl1_codes::{CodeSource, CodedModules};

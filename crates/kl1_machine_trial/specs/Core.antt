@@ -1,21 +1,16 @@
 -- What a machine is: an account's parts as they are now, and as they were when the event began.
-use Rattle.std.specs.Prelude.{◌≡◌, ℕ, ◌≤◌, List, length, take, Bool, Option, None}
+use Rattle.std.specs.Prelude.{ℕ, List, Bool, Option}
 use Rattle.kl1_model.specs.declared.rules.Rules.{Rules}
 use Rattle.kl1_text.specs.declared.cell_name.CellName.{CellName}
 use Rattle.kl1_atoms.specs.declared.known.Known.{Known}
-use Rattle.kl1_store.specs.declared.mark.Mark.{Mark}
-use Rattle.kl1_store.specs.declared.point.Point.{Point}
 use Rattle.kl1_store.specs.Held.{Held}
-use Rattle.kl1_store.specs.Hooks.{Hook, Kept}
-use Rattle.kl1_store.specs.Sound.{IsFormed}
+use Rattle.kl1_store.specs.Hooks.{Hook}
 use Rattle.kl1_goals.specs.declared.goal.Goal.{Goal}
 use Rattle.kl1_shoen_paths.specs.declared.shoen.Shoen.{Shoen}
-use Rattle.kl1_shoen.specs.Shoens.{Tree}
 use Rattle.kl1_user_effects.specs.Account.{texts_of}
 use Rattle.kl1_user_effects.specs.Kept.{AreUpTo}
 use Rattle.kl1_user_effects.specs.Drafts.{names_with}
 use Rattle.kl1_user_effects.specs.Works.{Made, IsMadeIn}
-use Rattle.kl1_machine_parts.specs.Rows.{Rowed}
 use Rattle.kl1_machine_trial.specs.declared.counts.Counts.{Counts}
 
 -- an account's parts at one time: what its cells are and what hangs on its variables; its goals and its shoens; the charged work; its
@@ -58,34 +53,3 @@ made n = record {
 pub record IsMachine (n : Now) : Type 0 where
   pub inside : IsMadeIn n.held (made n)
   pub last : AreUpTo n.counts.last_goal n.goals
-
--- ---- by what the code has
-
--- what a store held at a mark
-abbrev pub held_at : Mark → Held CellName → Held CellName
-held_at m h = record { variables = m.variables; structures = take m.structures h.structures; bindings = take m.bindings h.bindings }
-
--- what is now
-abbrev pub now_of : Rules → Kept CellName → Rowed → Tree CellName → List Known → Option (List ℕ) → Counts → Now
-now_of rules k r t names name c = record { rules = rules; held = k.held; hooks = k.hooks; goals = r.goals; shoens = t.shoens; work = t.work; names = names; name = name; counts = c }
-
--- what was when the event began
-abbrev pub begun_of : Rules → Kept CellName → Point → Rowed → Tree CellName → List Known → Counts → Now
-begun_of rules k p r t names c =
-    record { rules = rules; held = held_at p.sizes k.held; hooks = take p.hooks k.hooks; goals = r.begun; shoens = t.kept; work = t.kept_work; names = names; name = None; counts = c }
-
--- a store had come to a point before
-pub record IsMarked (p : Point) (k : Kept CellName) : Type 0 where
-  pub variables : p.sizes.variables ≤ k.held.variables
-  pub structures : p.sizes.structures ≤ length k.held.structures
-  pub bindings : p.sizes.bindings ≤ length k.held.bindings
-  pub hooks : p.hooks ≤ length k.hooks
-
--- what holds of the parts that the code has
-pub record IsWorking (now begun : Now) (k : Kept CellName) (p : Point) (r : Rowed) (t : Tree CellName) : Type 0 where
-  pub now_is : IsMachine now
-  pub begun_is : IsMachine begun
-  pub formed : IsFormed begun.held
-  pub marked : IsMarked p k
-  pub shoens : r.shoens ≡ length t.shoens
-  pub begun_shoens : r.begun_shoens ≡ length t.kept

@@ -3,7 +3,7 @@ use Rattle.std.specs.Prelude.{◌≡◌, ℕ, suc, ◌<◌, ◌≤◌, Bool, fal
 use Rattle.std.specs.List.{AllByRecursion}
 use Rattle.kl1_model.specs.State.{State}
 use Rattle.kl1_model.specs.Match.{Candidate}
-use Rattle.kl1_model.specs.Report.{is_reported}
+use Rattle.kl1_model.specs.Report.{report, is_reported}
 use Rattle.kl1_model.specs.Reduction.{commits, moved}
 use Rattle.kl1_text.specs.Reading.{Reads}
 use Rattle.kl1_text.specs.declared.cell_name.CellName.{CellName}
@@ -23,6 +23,7 @@ use Rattle.kl1_user_effects.specs.Account.{meaning, goal_with, aim}
 use Rattle.kl1_user_effects.specs.Works.{Knows, worked}
 use Rattle.kl1_user_effects.specs.Works as works
 use Rattle.kl1_user_effects.specs.Frames.{KeepsLives}
+use Rattle.kl1_user_effects.specs.Late.{KeepsFree}
 use Rattle.kl1_user_effects.specs.Leaving.{AreMet}
 use Rattle.kl1_user_effects.specs.Reports.{unheard}
 use Rattle.kl1_machine_trial.specs.declared.counts.Counts.{Counts}
@@ -70,21 +71,29 @@ pub record Reports (t u : Now) : Type 0 where
   pub count : length u.shoens ≡ length t.shoens
   pub rest : u ≡ record t { held = u.held; shoens = u.shoens; counts = record t.counts { reports = u.counts.reports } }
 
--- no more variables and structures are counted
-abbrev pub CountsGoals : Now → Now → Type 0
-CountsGoals t u = u.counts ≡ record t.counts { last_goal = u.counts.last_goal; reports = u.counts.reports }
+-- what a report of shoen `n` with this message leaves, and whether it is made; one that isn't leaves all but the store and the shoen's
+-- stream
+pub record Tells (n : ℕ) (message : Cell CellName) (t u : Now) (told : Bool) : Type 0 where
+  pub turns : Turns (λ f. report n (meaning f t.held message)) t u
+  pub told_is : (f : Reading) → Reads built f → (s : State) → is_reported n (meaning f t.held message) (worked f s t.held (made t)) ≡ told
+  pub dropped : told ≡ false → u ≡ record t { held = u.held; shoens = unheard n (find (has_number n) t.shoens) t.shoens }
+  pub keeps : KeepsFree n t.shoens t.held u.held
+  pub reports : Reports t u
 
--- whether a report of shoen `n` is made is told
-pub record IsTold (n : ℕ) (message : Cell CellName) (t : Now) (told : Bool) : Type 0 where
-  pub is : (f : Reading) → Reads built f → (s : State) → is_reported n (meaning f t.held message) (worked f s t.held (made t)) ≡ told
+-- a change of states that is a report
+pub record ReportsAs (change : Reading → State → State) (t u : Now) : Type 0 where
+  pub turns : Turns change t u
+  pub reports : Reports t u
 
--- a report of shoen `n` that isn't made leaves all but the store and the shoen's stream
-abbrev pub IsDropped : ℕ → Now → Now → Type 0
-IsDropped n t u = u ≡ record t { held = u.held; shoens = unheard n (find (has_number n) t.shoens) t.shoens }
+-- a change of states by which goals may come, but no more variables and structures are counted
+pub record ActsAs (change : Reading → State → State) (t u : Now) : Type 0 where
+  pub turns : Turns change t u
+  pub acts : Acts t u
+  pub counts : u.counts ≡ record t.counts { last_goal = u.counts.last_goal; reports = u.counts.reports }
 
 -- a goal that is this cell and has been removed has committed to the candidate whose clause stands at a place of a predicate, or has
 -- raised an exception if that would pass a limit
-abbrev pub Commits : Predicate CellName → ℕ → List (Place CellName) → Goal CellName → Qualified CellName → Now → Now → Type 0
-Commits p place places goal x t u =
-    (ms : List Numbered) (k : Reading → Candidate) → ((f : Reading) → Knows ms f → IsCandidate f t.held p place places (k f)) →
-    works.Turns ms (λ f. moved (goal_with (meaning f t.held) goal) (aim f t.held x) (commits (k f))) t.held u.held (made t) (made u)
+pub record Commits (p : Predicate CellName) (place : ℕ) (places : List (Place CellName)) (goal : Goal CellName) (x : Qualified CellName) (t u : Now) : Type 0 where
+  pub turns : (ms : List Numbered) (k : Reading → Candidate) → ((f : Reading) → Knows ms f → IsCandidate f t.held p place places (k f)) →
+      works.Turns ms (λ f. moved (goal_with (meaning f t.held) goal) (aim f t.held x) (commits (k f))) t.held u.held (made t) (made u)
+  pub acts : Acts t u

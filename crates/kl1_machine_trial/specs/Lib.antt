@@ -1,3 +1,4 @@
 pub mod Core
+pub mod Parts
 pub mod Effects
 pub mod Rescheduling

@@ -12,9 +12,9 @@ use Rattle.kl1_user_effects.specs.Fitting.{Reading}
 use Rattle.kl1_user_effects.specs.Works.{Knows}
 use Rattle.kl1_user_effects.specs.Settled.{AreSettled, IsEnabled, AreEnabled}
 use Rattle.kl1_user_effects.specs.Installing.{shifted_by}
-use Rattle.kl1_user_account.specs.Waking.{KeepControls, IsSettledOr}
-use Rattle.kl1_user_account.specs.Looking.{unlooked}
-use Rattle.kl1_user_account.specs.Finishing.{SameFlags}
+use Rattle.kl1_machine_parts.specs.Waking.{KeepControls, IsSettledOr}
+use Rattle.kl1_machine_parts.specs.Looking.{unlooked}
+use Rattle.kl1_machine_parts.specs.Flags.{SameFlags}
 use Rattle.kl1_machine_trial.specs.Core.{Now, Core}
 
 -- since an event began goals have gone, and others have come with numbers after the last
@@ -60,9 +60,13 @@ Waits last told f program t g = g.number ≤ last → IsSettledOr told f t.hooks
 abbrev pub AllWait : ℕ → List ℕ → Reading → Program → Now → Type 0
 AllWait last told f program t = AllByRecursion (Waits last told f program t) t.goals
 
--- a goal may step as it might when the event began, or as it may now, if it has come since, with a number of at most `n`
+-- a goal that was there when the event began may step as it might then
+abbrev pub WasLet : Now → Goal CellName → Type 0
+WasLet b g = g.number ≤ b.counts.last_goal → (0 < g.shoen) × ((g.shoen ≤ length b.shoens) × IsEnabled b.shoens b.work g)
+
+-- and one that has come since, with a number of at most `n`, as the shoens have it now
 abbrev pub IsLet : Now → ℕ → Now → Goal CellName → Type 0
-IsLet b n t g = (g.number ≤ b.counts.last_goal → IsEnabled b.shoens b.work g) × (b.counts.last_goal < g.number → g.number ≤ n → IsEnabled t.shoens t.work g)
+IsLet b n t g = WasLet b g × (b.counts.last_goal < g.number → g.number ≤ n → IsEnabled t.shoens t.work g)
 
 -- each of the goals may
 abbrev pub AreLet : Now → ℕ → Now → Type 0
@@ -89,6 +93,12 @@ pub record LooksTo (program : Program) (n m : ℕ) (t u : Now) : Type 0 where
   pub looks : Looks t u
   pub wakes : (f : Reading) → Knows program.loaded f → AllWait n [] f program t → AllWait m [] f program u
   pub flags : (b : Now) → b.counts.last_goal ≤ n → AreLet b n t → AreLet b m u
+
+-- all goals that came after number `n` were looked at
+pub record LooksAll (program : Program) (n : ℕ) (t u : Now) : Type 0 where
+  pub looks : Looks t u
+  pub settled : (f : Reading) → Knows program.loaded f → AllWait n [] f program t → AreSettled f u.hooks u.held program u.shoens u.goals
+  pub flags : (b : Now) → b.counts.last_goal ≤ n → AreLet b n t → AllByRecursion (λ g. WasLet b g × (b.counts.last_goal < g.number → IsEnabled u.shoens u.work g)) u.goals
 
 -- goals were let to step or held back as these shifts tell, if there may be any
 pub record Shifts (c : Core) (u : Now) : Type 0 where

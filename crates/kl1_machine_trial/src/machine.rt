@@ -35,18 +35,15 @@ pub struct Machine {
 }
 
 impl Model for Machine {
-    ghost use Rattle.kl1_machine_trial.specs.Core.{Core, now_of, begun_of, IsWorking};
+    ghost use Rattle.kl1_machine_trial.specs.Core.{Core};
 
     ghost Value = { Core };
 
-    ghost view = { λ m. record {
-      now = now_of m.rules m.store m.goals m.shoens m.names.names m.name m.counts;
-      begun = begun_of m.rules m.store m.mark m.goals m.shoens m.names.names m.begun;
-      told = m.told.items;
-      shifts = m.shifts;
-    } };
+    ghost use Rattle.kl1_machine_trial.specs.Parts.{core_of, IsWorking};
 
-    ghost invariant = { λ m. IsWorking (now_of m.rules m.store m.goals m.shoens m.names.names m.name m.counts) (begun_of m.rules m.store m.mark m.goals m.shoens m.names.names m.begun) m.store m.mark m.goals m.shoens };
+    ghost view = { core_of };
+
+    ghost invariant = { IsWorking };
 }
 
 impl Machine {

@@ -12,7 +12,7 @@ ghost use Rattle.kl1_goals_moves.specs.Moves.{taken_places};
 ghost use Rattle.kl1_goals.specs.Lists.{is_monitor};
 ghost use Rattle.kl1_user_effects.specs.Kept.{IsOwned};
 ghost use Rattle.kl1_user_effects.specs.Moving.{priorities_by};
-ghost use Rattle.kl1_machine_trial.specs.Effects.{Commits, Acts, with_goals};
+ghost use Rattle.kl1_machine_trial.specs.Effects.{Commits, with_goals};
 
 use crate::machine::Machine;
 use kl1_clause::Predicate;
@@ -95,7 +95,6 @@ impl Machine {
         requires owned { IsOwned (length self.old.now.shoens) goal }
         requires level { goal.priority ≤ MONITOR_PRIORITY }
         ensures ok { OnOk result (Commits predicate.entry place (taken_places trial.old) goal cell self.old.now self.new.now) }
-        ensures acts { OnOk result (Acts self.old.now self.new.now) }
         ensures rest { self.new ≡ record self.old { now = self.new.now } }
     {
         let needs = needs_of(predicate, place);

@@ -11,8 +11,7 @@ ghost use Rattle.kl1_store.specs.Held.{IsIn};
 ghost use Rattle.kl1_goals.specs.Lists.{is_monitor_task, is_monitor_of};
 ghost use Rattle.kl1_user_effects.specs.Account.{meaning, goal_with, aim};
 ghost use Rattle.kl1_user_effects.specs.Kept.{IsTaskIn, IsOwned};
-ghost use Rattle.kl1_user_effects.specs.Late.{KeepsFree};
-ghost use Rattle.kl1_machine_trial.specs.Effects.{Turns, IsTold, IsDropped, Reports, Acts, CountsGoals, goal_at, with_goal};
+ghost use Rattle.kl1_machine_trial.specs.Effects.{Tells, ReportsAs, ActsAs, goal_at, with_goal};
 
 use crate::machine::Machine;
 use kl1_goals::{Goal, Task};
@@ -28,11 +27,7 @@ impl Machine {
     /// A report of shoen `number`; it tells whether that is made, and not dropped. If memory is refused, the machine can go back.
     fn tell(&mut self, number: u64, message: Cell<CellName>) -> Result<bool, AllocError>
         requires message { IsIn self.old.now.held message }
-        ensures ok { OnOk result (Turns (λ f. report number (meaning f self.old.now.held message)) self.old.now self.new.now) }
-        ensures told { IfOk result (IsTold number message self.old.now) }
-        ensures dropped { IfOk result (λ made. made ≡ false → IsDropped number self.old.now self.new.now) }
-        ensures keeps { OnOk result (KeepsFree number self.old.now.shoens self.old.now.held self.new.now.held) }
-        ensures reports { OnOk result (Reports self.old.now self.new.now) }
+        ensures ok { IfOk result (Tells number message self.old.now self.new.now) }
         ensures rest { self.new ≡ record self.old { now = self.new.now } }
     {
         let Some(shoen) = self.shoens.lend(number).copied() else {
@@ -99,9 +94,7 @@ impl Machine {
         requires owned { IsOwned (length self.old.now.shoens) goal }
         requires rules { has_substitutes self.old.now.rules ≡ true }
         requires level { goal.priority ≤ MONITOR_PRIORITY }
-        ensures ok { OnOk result (Turns (λ f. raised (goal_with (meaning f self.old.now.held) goal) (text_of kind) (meaning f self.old.now.held term)) self.old.now self.new.now) }
-        ensures acts { OnOk result (Acts self.old.now self.new.now) }
-        ensures counts { OnOk result (CountsGoals self.old.now self.new.now) }
+        ensures ok { OnOk result (ActsAs (λ f. raised (goal_with (meaning f self.old.now.held) goal) (text_of kind) (meaning f self.old.now.held term)) self.old.now self.new.now) }
         ensures rest { self.new ≡ record self.old { now = self.new.now } }
     {
         let mark = self.store.mark();
@@ -125,9 +118,7 @@ impl Machine {
         requires cell { IsIn self.old.now.held cell.cell }
         requires owned { IsOwned (length self.old.now.shoens) goal }
         requires level { goal.priority ≤ MONITOR_PRIORITY }
-        ensures ok { OnOk result (Turns (λ f. raised (goal_with (meaning f self.old.now.held) goal) (text_of kind) (aim f self.old.now.held cell)) self.old.now self.new.now) }
-        ensures acts { OnOk result (Acts self.old.now self.new.now) }
-        ensures counts { OnOk result (CountsGoals self.old.now self.new.now) }
+        ensures ok { OnOk result (ActsAs (λ f. raised (goal_with (meaning f self.old.now.held) goal) (text_of kind) (aim f self.old.now.held cell)) self.old.now self.new.now) }
         ensures rest { self.new ≡ record self.old { now = self.new.now } }
     {
         let term = whole(&mut self.store, cell)?;
@@ -145,8 +136,7 @@ impl Machine {
         goal: Cell<CellName>,
     ) -> Result<(), AllocError>
         requires goal { IsIn self.old.now.held goal }
-        ensures ok { OnOk result (Turns (λ f. report number (exception (text_of kind) (meaning f self.old.now.held goal))) self.old.now self.new.now) }
-        ensures reports { OnOk result (Reports self.old.now self.new.now) }
+        ensures ok { OnOk result (ReportsAs (λ f. report number (exception (text_of kind) (meaning f self.old.now.held goal))) self.old.now self.new.now) }
         ensures rest { self.new ≡ record self.old { now = self.new.now } }
     {
         let message = exception_of(&mut self.store, kind, goal)?;

@@ -7,9 +7,9 @@ ghost use Rattle.kl1_goals.specs.Tables.{Ascend};
 ghost use Rattle.kl1_shoen.specs.Shoens.{is_enabled_at};
 ghost use Rattle.kl1_user_effects.specs.Kept.{IsTaskIn};
 ghost use Rattle.kl1_user_effects.specs.Installing.{shifted_by};
-ghost use Rattle.kl1_user_account.specs.Waking.{is_among};
-ghost use Rattle.kl1_user_account.specs.Looking.{Serves};
-ghost use Rattle.kl1_machine_trial.specs.Rescheduling.{HasCome, Wakes, all_told, WakesTold, LooksTo, Shifts, Reschedules};
+ghost use Rattle.kl1_machine_parts.specs.Waking.{is_among};
+ghost use Rattle.kl1_machine_parts.specs.Looking.{Serves};
+ghost use Rattle.kl1_machine_trial.specs.Rescheduling.{HasCome, Wakes, all_told, WakesTold, LooksTo, LooksAll, Shifts, Reschedules};
 
 use crate::machine::Machine;
 use kl1_clause::Predicate;
@@ -97,6 +97,7 @@ impl Machine {
     fn after(&self, number: u64) -> Option<Goal<CellName>>
         ensures goal { result ≡ find (is_after number) self.now.now.goals }
         ensures above { IfSome result (λ g. number < g.number) }
+        ensures inside { IfSome result (λ g. IsTaskIn self.now.now.held g.task) }
     {
         self.goals.after(number)
     }
@@ -145,7 +146,7 @@ impl Machine {
         requires some { AreSome predicate.now.names.now predicate.now.clauses.now }
         requires serves { Serves modules.now.loaded known.now predicate.now }
         requires lets { is_enabled_at self.old.now.shoens self.old.now.work letting ≡ true }
-        ensures looks { OnOk result (LooksTo modules.now self.old.begun.counts.last_goal (self.new.now.counts.last_goal) self.old.now self.new.now) }
+        ensures looks { OnOk result (LooksAll modules.now self.old.begun.counts.last_goal self.old.now self.new.now) }
         ensures rest { self.new ≡ record self.old { now = self.new.now } }
     {
         let mut number = self.begun.last_goal;
