@@ -88,8 +88,9 @@ impl GoalRow {
     /// Puts a goal after all others.
     pub fn put(&mut self, goal: Goal<CellName>) -> Result<(), AllocError>
         requires next { IsNext goal self.old.goals self.old.shoens }
-        ensures ok { OnOk result (self.new ≡ record self.old { goals = self.old.goals ++ goal ∷ [] }) }
-        ensures err { OnErr result (self.new ≡ self.old) }
+        ensures ok { OnOk result (self.new.goals ≡ self.old.goals ++ goal ∷ []) }
+        ensures err { OnErr result (self.new.goals ≡ self.old.goals) }
+        ensures rest { self.new ≡ record self.old { goals = self.new.goals } }
     {
         self.goals.push(goal)?;
         Ok(())
@@ -97,8 +98,9 @@ impl GoalRow {
 
     /// From now on goal `number` has this clause by which it could step, or none.
     pub fn set_standing(&mut self, number: u64, standing: Option<u64>) -> Result<(), AllocError>
-        ensures ok { OnOk result (self.new ≡ record self.old { goals = map (stood_by number standing) self.old.goals }) }
-        ensures err { OnErr result (self.new ≡ self.old) }
+        ensures ok { OnOk result (self.new.goals ≡ map (stood_by number standing) self.old.goals) }
+        ensures err { OnErr result (self.new.goals ≡ self.old.goals) }
+        ensures rest { self.new ≡ record self.old { goals = self.new.goals } }
     {
         let _ = (number, standing);
         Ok(())
@@ -111,8 +113,9 @@ impl GoalRow {
         standing: Option<u64>,
         is_enabled: bool,
     ) -> Result<(), AllocError>
-        ensures ok { OnOk result (self.new ≡ record self.old { goals = map (looked_by number standing is_enabled) self.old.goals }) }
-        ensures err { OnErr result (self.new ≡ self.old) }
+        ensures ok { OnOk result (self.new.goals ≡ map (looked_by number standing is_enabled) self.old.goals) }
+        ensures err { OnErr result (self.new.goals ≡ self.old.goals) }
+        ensures rest { self.new ≡ record self.old { goals = self.new.goals } }
     {
         let _ = (number, standing, is_enabled);
         Ok(())
@@ -120,8 +123,9 @@ impl GoalRow {
 
     /// From now on the goals of a shoen other than its monitor may step, or may not.
     pub fn enable(&mut self, shoen: u64, is_enabled: bool) -> Result<(), AllocError>
-        ensures ok { OnOk result (self.new ≡ record self.old { goals = map (enabled_in shoen is_enabled) self.old.goals }) }
-        ensures err { OnErr result (self.new ≡ self.old) }
+        ensures ok { OnOk result (self.new.goals ≡ map (enabled_in shoen is_enabled) self.old.goals) }
+        ensures err { OnErr result (self.new.goals ≡ self.old.goals) }
+        ensures rest { self.new ≡ record self.old { goals = self.new.goals } }
     {
         let _ = (shoen, is_enabled);
         Ok(())

@@ -6,5 +6,5 @@ mod standing;
 mod streams;
 
 pub use goal_row::GoalRow;
-pub use standing::task_standing;
+pub use standing::{may_step, task_standing};
 pub use streams::{keep_at_times, priority_in, whole};

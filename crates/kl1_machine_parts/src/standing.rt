@@ -238,3 +238,14 @@ pub fn task_standing<C: CodeSource>(
         Task::Substitutes(term) => substitute_hung(store, trial, goal.number, term),
     }
 }
+
+/// Whether the shoen of a goal lets it step; a monitor is always let. Shoen `letting` is known to let its goals step.
+pub fn may_step(shoens: &ShoenTree<CellName>, letting: u64, goal: &Goal<CellName>) -> bool
+    requires { is_enabled_at shoens.now.shoens shoens.now.work letting ≡ true }
+    ensures { result ≡ (is_monitor goal.now || is_enabled_at shoens.now.shoens shoens.now.work goal.now.shoen) }
+{
+    if goal.shoen == letting {
+        return true;
+    }
+    goal.is_monitor() || shoens.is_enabled(goal.shoen)
+}

@@ -1,11 +1,12 @@
 -- Goals that come after the others, and bodies.
 use Rattle.std.proofs.Common.{◌≡◌, ℕ, suc, ◌+◌, ◌-◌, ◌<◌, ◌≤◌, ◌&&◌, not, true, false, List, [], ◌∷◌, ◌++◌, length, map, refl, sym, ap, ◌∙◌, arith, subst, append-nil, append_assoc, length-map}
-use Rattle.std.specs.Prelude.{find, nat_le, count_by, Option, Some}
+use Rattle.std.specs.Prelude.{find, nat_le, count_by, Option, Some, option_map, unwrap_or}
 use Rattle.std.specs.List.{AllByRecursion, list_any}
 use Rattle.kl1_model.specs.Module.{goals_of}
 use Rattle.kl1_model.specs.Match.{Candidate}
-use Rattle.kl1_model.specs.Instance.{body_priorities, fresh_variables}
-use Rattle.kl1_model.specs.Nodes.{goals_nodes}
+use Rattle.kl1_model.specs.Term.{Term, substituted}
+use Rattle.kl1_model.specs.code.Steps.{clipped}
+use Rattle.kl1_model.specs.Instance.{body_priorities, body_variable}
 use Rattle.kl1_model.specs.State.{State, limits_of}
 use Rattle.kl1_model.specs.Reduction.{commits, or_exhaustion, committed, raised, moved}
 use Rattle.kl1_model.specs.Report.{exhaustion}
@@ -37,7 +38,6 @@ use Rattle.kl1_user_effects.specs.Moving.{priorities_by}
 use Rattle.kl1_user_effects.specs.Leaving.{AreMet}
 use Rattle.kl1_user_effects.specs.Works.{Made, worked, Knows}
 use Rattle.kl1_user_effects.specs.Works as works
-use Rattle.kl1_store_hooks.proofs.Hooked.{HasGrown-same}
 use Rattle.kl1_user_effects.proofs.Frames.{keeps_same}
 use Rattle.kl1_user_effects.proofs.Goals.{goals_in_append, owned_append, up_to_append, up_to_more, count_read}
 use Rattle.kl1_user_effects.proofs.Works.{turns_as}
@@ -47,7 +47,6 @@ use Rattle.kl1_machine_trial.specs.declared.machine.Machine.TheInside.{Inside}
 use Rattle.kl1_machine_trial.specs.Core.{Now, made, IsMachine}
 use Rattle.kl1_machine_trial.specs.Parts.{now_of, IsWorking}
 use Rattle.kl1_machine_trial.specs.Effects.{goal_at, with_goal, with_goals, Acts, Comes, ActsAs, Commits}
-use Rattle.kl1_machine_trial.proofs.Working.{KeepsBegun, still_working}
 
 -- ---- one goal more
 
@@ -59,26 +58,21 @@ before_up last n (g ∷ gs) lt a = let le = a.0 in (omega (arith, le, lt), befor
 pub all_before : (m : Inside) (n : ℕ) → n ≡ m.counts.last_goal + 1 → IsWorking m → AreBefore n m.goals.goals
 all_before m n e w = before_up m.counts.last_goal n m.goals.goals (omega (arith, e)) w.now_is.last
 
-abbrev pub with_put : Inside → Goal CellName → Inside
-with_put m g = record m { goals = record m.goals { goals = m.goals.goals ++ g ∷ [] }; counts = record m.counts { last_goal = g.number } }
+abbrev pub with_put : Now → Goal CellName → Now
+with_put t g = record t { goals = t.goals ++ g ∷ []; counts = record t.counts { last_goal = g.number } }
 
-pub put_keeps : (m : Inside) (g : Goal CellName) → KeepsBegun m m.store (record m.goals { goals = m.goals.goals ++ g ∷ [] }) m.shoens
-put_keeps m g = record { grown = HasGrown-same m.store; goals = refl; goal_shoens = refl; shoens = refl; work = refl }
-
-pub put_working : (m : Inside) (g : Goal CellName) → g.number ≡ m.counts.last_goal + 1 → IsTaskIn m.store.held g.task → IsOwned (length m.shoens.shoens) g → IsWorking m → IsWorking (with_put m g)
-put_working m g number task own w =
-    let i = w.now_is.inside in
-    still_working m m.store (record m.goals { goals = m.goals.goals ++ g ∷ [] }) m.shoens (record m.counts { last_goal = g.number }) (put_keeps m g) w.shoens
-    (record {
+pub put_machine : (t : Now) (g : Goal CellName) → g.number ≡ t.counts.last_goal + 1 → IsTaskIn t.held g.task → IsOwned (length t.shoens) g → IsMachine t → IsMachine (with_put t g)
+put_machine t g number task own w =
+    let i = w.inside in
+    record {
       inside = record {
         some = i.some;
-        goals = goals_in_append m.store.held m.goals.goals (g ∷ []) i.goals (task, tt);
+        goals = goals_in_append t.held t.goals (g ∷ []) i.goals (task, tt);
         shoens = i.shoens;
-        owned = owned_append (length m.shoens.shoens) m.goals.goals (g ∷ []) i.owned (own, tt);
+        owned = owned_append (length t.shoens) t.goals (g ∷ []) i.owned (own, tt);
       };
-      last = up_to_append g.number m.goals.goals (g ∷ []) (up_to_more m.counts.last_goal g.number m.goals.goals (omega (arith, number)) w.now_is.last) (omega arith, tt);
-    })
-    w
+      last = up_to_append g.number t.goals (g ∷ []) (up_to_more t.counts.last_goal g.number t.goals (omega (arith, number)) w.last) (omega arith, tt);
+    }
 
 -- ---- goals of a body
 
@@ -154,44 +148,59 @@ commits_body p place places goal x t k sh ps cells n i g hooks after needs room 
     let come = goals_for t.counts.last_goal sh.number qs cells in
     let u = with_committed k sh.number qs cells n t in
     let t1 : Now = record t { held = k.held; hooks = k.hooks } in
-    let is : u ≡ record t1 { goals = t.goals ++ come; counts = record t.counts { last_goal = t.counts.last_goal + length come; variables = t.counts.variables + n.variables; nodes = t.counts.nodes + n.nodes } } =
-    ap (λ (y : Now). let z : Now = record y { counts = record y.counts { variables = y.counts.variables + n.variables; nodes = y.counts.nodes + n.nodes } } in z) (goals_are sh.number qs cells t1) in
-    record {
+    let counts : Counts = record { last_goal = t.counts.last_goal + length come; variables = t.counts.variables + n.variables; nodes = t.counts.nodes + n.nodes; reports = t.counts.reports } in
+    let v : Now = record t1 { goals = t.goals ++ come; counts = counts } in
+    let is : u ≡ v = ap (λ (y : Now). let z : Now = record y { counts = record y.counts { variables = y.counts.variables + n.variables; nodes = y.counts.nodes + n.nodes } } in z) (goals_are sh.number qs cells t1) in
+    let C : Now → Type 0 = λ y. Commits p place places goal x t y in
+    let M : Now → Type 0 = λ y. IsMachine y in
+    let machine : IsMachine v = subst M is after in
+    subst C (sym is)
+    (record {
       turns = λ ms c candidate.
           let B = commit_turns ms t.held k.held (made t) goal (Some sh) ps n.variables n.nodes cells c i.inside g found own inside (λ f knows. priorities f t.held places (c f) (candidate f knows)) (λ f knows. (needs f t.held places (c f) (candidate f knows)).variables)
               (λ f knows. (needs f t.held places (c f) (candidate f knows)).nodes) (λ f knows. body f knows.reads (c f) (candidate f knows)) in
           record {
-            inside = after.inside;
+            inside = machine.inside;
             states = λ f knows s.
                 let a = needs f t.held places (c f) (candidate f knows) in
                 let S = worked f s t.held (made t) in
                 let b = body f knows.reads (c f) (candidate f knows) in
                 let many : length qs ≡ length cells =
-                length-map ps _ ∙ ap (λ (os : List (Option ℕ)). length os) (priorities f t.held places (c f) (candidate f knows)) ∙ length-map (c f).clause.body (λ y. y.priority)
-                ∙ sym (length-map (c f).clause.body (λ y. y.goal)) ∙ sym (length-map (goals_of (c f).clause.body) _) ∙ ap (λ ts. length ts) (sym b.terms) ∙ count_read f k.held cells in
-                let last : t.counts.last_goal + length come ≡ t.counts.last_goal + length cells = ap (λ y. t.counts.last_goal + y) (as_many t.counts.last_goal sh.number qs cells many) in
-                let same : with_body (made t) goal.shoen qs cells n.variables n.nodes ≡ made u =
+                length-map ps (λ (o : Option ℕ). unwrap_or (option_map (clipped sh.low sh.high) o) goal.priority)
+                ∙ ap (λ (os : List (Option ℕ)). length os) (priorities f t.held places (c f) (candidate f knows))
+                ∙ length-map (c f).clause.body (λ y. y.priority)
+                ∙ sym (length-map (c f).clause.body (λ y. y.goal))
+                ∙ sym (length-map (goals_of (c f).clause.body) (substituted (body_variable (c f).clause (c f).places (t.held.variables - 1))))
+                ∙ ap (λ (ts : List Term). length ts) (sym b.terms)
+                ∙ count_read f k.held cells in
+                let last : t.counts.last_goal + length cells ≡ t.counts.last_goal + length come = ap (λ y. t.counts.last_goal + y) (sym (as_many t.counts.last_goal sh.number qs cells many)) in
+                let same : with_body (made t) goal.shoen qs cells n.variables n.nodes ≡ made v =
                 ap (λ y. with_body (made t) y qs cells n.variables n.nodes) (sym number)
-                ∙ ap (λ y. let z : Made = record (with_body (made t) sh.number qs cells n.variables n.nodes) { last_goal = y } in z) (sym last)
-                ∙ ap made (sym is) in
+                ∙ ap (λ y. let z : Made = record (with_body (made t) sh.number qs cells n.variables n.nodes) { last_goal = y } in z) last in
                 ap (λ y. or_exhaustion y (goal_with (meaning f t.held) goal) (aim f t.held x) (committed (goal_with (meaning f t.held) goal) (c f) S) S)
                 (room_read f s t.held (made t) (c f).clause (count_by (λ g. not (is_monitor g)) t.goals) n.goals n.variables n.nodes refl a.goals a.variables a.nodes ∙ room)
                 ∙ B.states f knows s
                 ∙ ap (λ (y : Made). worked f s k.held y) same;
           };
-      acts = let A : Now → Type 0 = λ y. Acts t y in
-          subst A (sym is)
-          (record {
-            grown = g;
-            comes = record {
-              added = come;
-              goals = refl;
-              above = goals_for_above t.counts.last_goal t.counts.last_goal sh.number qs cells (omega arith);
-              last = omega arith;
-              met = no_monitors come t.counts.last_goal sh.number qs cells;
-            };
-            lives = keeps_same bare t.shoens;
-            count = refl;
-            rest = ap (λ (hs : List Hook). let z : Now = record t { held = k.held; hooks = hs; goals = t.goals ++ come; counts = record t.counts { last_goal = t.counts.last_goal + length come; variables = t.counts.variables + n.variables; nodes = t.counts.nodes + n.nodes } } in z) hooks;
-          });
-    }
+      acts = record {
+        grown = g;
+        comes = record {
+          added = come;
+          goals = refl;
+          above = goals_for_above t.counts.last_goal t.counts.last_goal sh.number qs cells (omega arith);
+          last = omega arith;
+          met = no_monitors come t.counts.last_goal sh.number qs cells;
+        };
+        lives = keeps_same bare t.shoens;
+        count = refl;
+        rest = ap (λ (hs : List Hook). let z : Now = record v { hooks = hs } in z) hooks;
+      };
+    })
+
+-- ---- what is counted besides
+
+abbrev pub with_needs : Needs → Now → Now
+with_needs n t = record t { counts = record t.counts { variables = t.counts.variables + n.variables; nodes = t.counts.nodes + n.nodes } }
+
+pub counted_machine : (t : Now) (n : Needs) → IsMachine t → IsMachine (with_needs n t)
+counted_machine t n i = let w = i.inside in record { inside = record { some = w.some; goals = w.goals; shoens = w.shoens; owned = w.owned }; last = i.last }

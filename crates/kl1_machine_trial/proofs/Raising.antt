@@ -38,11 +38,11 @@ use Rattle.kl1_user_effects.proofs.States.{Agree, found_in, in_grown}
 use Rattle.kl1_user_effects.proofs.Works.{read_as, rereads, grown_made, last_made, turns_then, turns_as}
 use Rattle.kl1_user_effects.proofs.Reported.{with_unheard, unmade_turns}
 use Rattle.kl1_user_effects.proofs.Streams.{grown_turns, raised_turns}
-use Rattle.kl1_user_effects.proofs.Substituting.{IsAsked, asked_means, asked_grown, new_in, new_stays, reported_here, replaced_turns, plain_turns, unreported_turns, whole_turns}
+use Rattle.kl1_user_effects.proofs.Substituting.{IsAsked, has_grown, asked_means, asked_grown, new_in, new_stays, reported_here, replaced_turns, plain_turns, unreported_turns, whole_turns}
 use Rattle.kl1_machine_trial.specs.declared.counts.Counts.{Counts}
 use Rattle.kl1_machine_trial.specs.declared.machine.Machine.TheInside.{Inside}
-use Rattle.kl1_machine_trial.specs.Core.{Now, made, IsMachine}
-use Rattle.kl1_machine_trial.specs.Parts.{now_of, IsWorking}
+use Rattle.kl1_machine_trial.specs.Core.{Now, Core, made, IsMachine}
+use Rattle.kl1_machine_trial.specs.Parts.{now_of, core_of}
 use Rattle.kl1_machine_trial.specs.Effects.{goal_at, with_goal, Turns, Comes, Acts, Reports, Tells, ReportsAs, ActsAs}
 
 -- ---- what stays
@@ -249,3 +249,9 @@ raised_unasked t mid u goal kind term message told i two a hooks not_so tells =
 -- what is left has the store's cells
 pub raised_machine : (t u : Now) (change : Reading → State → State) → AreUpTo u.counts.last_goal u.goals → ActsAs change t u → IsMachine u
 raised_machine t u change up a = let r = a.turns [] in record { inside = r.inside; last = up }
+
+-- a store has only grown since before a report
+pub since_tell : (m n : Inside) (k : Kept CellName) (u : Core) (shoen : ℕ) (x : Cell CellName) (told : Bool) → core_of n ≡ u → Grown m.store.held k.held → k.hooks ≡ m.store.hooks → Tells shoen x (now_of (record m { store = k })) u.now told → HasGrown m.store n.store
+since_tell m n k u shoen x told e g hooks tells =
+    let G : Core → Type 0 = λ v. Grown m.store.held v.now.held in
+    has_grown m.store n.store (subst G (sym e) (Grown-trans m.store.held k.held u.now.held g tells.reports.grown)) (ap (λ (v : Core). v.now.hooks) e ∙ ap (λ (y : Now). y.hooks) tells.reports.rest ∙ hooks)

@@ -31,10 +31,9 @@ use Rattle.kl1_machine_parts.specs.Looking.{unlooked}
 use Rattle.kl1_machine_parts.specs.Waking as waking
 use Rattle.kl1_machine_parts.specs.Waking.{IsPending, IsSettledOr, KeepControls}
 use Rattle.kl1_machine_parts.proofs.Waking.{AreTold, told_are_pending}
-use Rattle.kl1_machine_parts.proofs.GoalOrder.{same_goal}
 use Rattle.kl1_machine_trial.specs.Core.{Now, Core, IsMachine}
 use Rattle.kl1_machine_trial.specs.Rescheduling.{HasCome, Looks, SettlesTo, EnablesTo, Waits, AllWait, IsLet, AreLet, all_told, WakesTold, WasLet, LooksAll, Shifts, Reschedules}
-use Rattle.kl1_machine_trial.proofs.Waking.{each_so, each_both, looks_then}
+use Rattle.kl1_machine_trial.proofs.Waking.{each_so, each_both, found_holds, looks_then}
 
 -- ---- shifts, one after another
 
@@ -102,15 +101,6 @@ right_since tree shifts g s o e = by_case (is_monitor g) (is_shifted g.shoen shi
     by_case false false p q u = let high = o.high in e ∙ ap (λ x. is_monitor g || x) (sym (s.whole g.shoen o.low (omega (arith, high)) (λ c. let f = among_contained g.shoen (shoens_of shifts) c in cc)))
 
 -- ---- what was when the event began
-
--- what holds of goals holds of one that is found
-found_holds : (P : Goal CellName → Type 0) (p : Goal CellName → Bool) (gs : List (Goal CellName)) (goal : Goal CellName) → AllByRecursion P gs → Some goal ≡ find p gs → P goal
-found_holds P p [] goal a e = absurd (cc)
-found_holds P p (g ∷ gs) goal a e = here (p g) (found_holds P p gs goal a.1) e
-  where
-    here : (b : Bool) → (Some goal ≡ find p gs → P goal) → Some goal ≡ (if b then Some g else find p gs) → P goal
-    here true later k = subst P (sym (same_goal goal g k)) a.0
-    here false later k = later k
 
 each_two : (P : Goal CellName → Type 0) (gs ks : List (Goal CellName)) → AllByRecursion P gs → AllByRecursion P ks → AllByRecursion P (gs ++ ks)
 each_two P [] ks a b = b
@@ -230,12 +220,12 @@ enabled_shifted c u s same a =
         (λ g l. either c.begun.counts.last_goal g.number (λ early. let w = l.0 early in w.1.1 ∙ ap (λ b. is_monitor g || b) (sym (same q g.shoen w.0 w.1.0))) (λ late. l.1 late))
         a
 
-pub rescheduled : (program : Program) (c : Core) (told : List ℕ) (t u v : Now) → IsMachine c.begun → IsFormed c.begun.held → Grown c.begun.held c.now.held → HasCome c.begun c.now → ((n : ℕ) → waking.is_among n told ≡ waking.is_among n (all_told c)) →
-    WakesTold program told c.now t → LooksAll program c.begun.counts.last_goal t u → Shifts (record { now = u; begun = c.begun; told = c.told; shifts = c.shifts }) v → Reschedules program c v
-rescheduled program c told t u v i formed grown come same_told w l s =
+pub rescheduled : (program : Program) (c : Core) (told left : List ℕ) (t u v : Now) → IsMachine c.begun → IsFormed c.begun.held → Grown c.begun.held c.now.held → HasCome c.begun c.now → ((n : ℕ) → waking.is_among n told ≡ waking.is_among n (all_told c)) →
+    WakesTold program told c.now t → LooksAll program c.begun.counts.last_goal t u → Shifts (record c { now = u; told = left }) v → Reschedules program c v
+rescheduled program c told left t u v i formed grown come same_told w l s =
     let b = c.begun in
     let last = b.counts.last_goal in
-    let d : Core = record { now = u; begun = b; told = c.told; shifts = c.shifts } in
+    let d : Core = record c { now = u; told = left } in
     let looks = looks_then c.now t u w.looks l.looks in
     record {
       looks = looks_then c.now u v looks (shifts_look d v s);

@@ -13,6 +13,7 @@ use Rattle.kl1_goals.specs.Tables.{Ascend, AreInOrder}
 use Rattle.kl1_codes.specs.Shelves.{Program}
 use Rattle.kl1_user_effects.specs.declared.draft.Change.{Change}
 use Rattle.kl1_user_effects.specs.Fitting.{Reading}
+use Rattle.kl1_user_effects.specs.Kept.{IsTaskIn, IsOwned}
 use Rattle.kl1_user_effects.specs.Settled.{IsSettled}
 use Rattle.kl1_user_effects.specs.Works.{Knows}
 use Rattle.kl1_machine_parts.specs.Waking.{IsPending, IsSettledOr, IsFor, AreFor, IsFoundOut}
@@ -20,7 +21,7 @@ use Rattle.kl1_machine_parts.specs.Looking.{unlooked, StandsAt}
 use Rattle.kl1_machine_parts.proofs.GoalOrder.{same_goal}
 use Rattle.kl1_machine_parts.proofs.SettledStays.{settled_more}
 use Rattle.kl1_machine_parts.proofs.Waking.{pending_rest, found_out}
-use Rattle.kl1_machine_trial.specs.Core.{Now}
+use Rattle.kl1_machine_trial.specs.Core.{Now, IsMachine}
 use Rattle.kl1_machine_trial.proofs.Working.{no_shorter}
 use Rattle.kl1_machine_trial.specs.Rescheduling.{Looks, Waits, AllWait, IsLet, AreLet, Wakes, WakesTold}
 
@@ -65,6 +66,39 @@ none_of n (g ∷ gs) e = here (g.number == n) refl (none_of n gs) e
     here : (b : Bool) → (g.number == n) ≡ b → (None ≡ find (has_number n) gs → AllByRecursion (λ k. k.number ≡ n → ⊥) gs) → None ≡ (if b then Some g else find (has_number n) gs) → AllByRecursion (λ k. k.number ≡ n → ⊥) (g ∷ gs)
     here true is later k = absurd (cc)
     here false is later k = (eqb-false g.number n is, later k)
+
+-- what holds of goals holds of one that is found
+pub found_holds : (P : Goal CellName → Type 0) (p : Goal CellName → Bool) (gs : List (Goal CellName)) (goal : Goal CellName) → AllByRecursion P gs → Some goal ≡ find p gs → P goal
+found_holds P p [] goal a e = absurd (cc)
+found_holds P p (g ∷ gs) goal a e = here (p g) (found_holds P p gs goal a.1) e
+  where
+    here : (b : Bool) → (Some goal ≡ find p gs → P goal) → Some goal ≡ (if b then Some g else find p gs) → P goal
+    here true later k = subst P (sym (same_goal goal g k)) a.0
+    here false later k = later k
+
+-- what holds of goals whatever their clauses are, and whether they may step, holds of them when they were looked at
+looked_hold : (P : Goal CellName → Type 0) → ((g : Goal CellName) (o : Option ℕ) (b : Bool) → P g → P (record g { standing = o; is_enabled = b })) → (after before : List (Goal CellName)) → map unlooked after ≡ map unlooked before → AllByRecursion P before → AllByRecursion P after
+looked_hold P all [] before e h = tt
+looked_hold P all (a ∷ after) [] e h = absurd (cc)
+looked_hold P all (a ∷ after) (b ∷ before) e h =
+    let first : unlooked a ≡ unlooked b = cc in
+    let rest : map unlooked after ≡ map unlooked before = cc in
+    (all (unlooked a) a.standing a.is_enabled (subst P (sym first) (all b None false h.0)), looked_hold P all after before rest h.1)
+
+-- a machine whose goals were looked at is one
+pub looks_machine : (t u : Now) → Looks t u → IsMachine t → IsMachine u
+looks_machine t u l i =
+    let M : Now → Type 0 = λ n. IsMachine n in
+    let n = i.inside in
+    subst M (sym l.rest) (record {
+      inside = record {
+        some = n.some;
+        goals = looked_hold (λ g. IsTaskIn t.held g.task) (λ g o b p. p) u.goals t.goals l.same n.goals;
+        shoens = n.shoens;
+        owned = looked_hold (IsOwned (length t.shoens)) (λ g o b p. record { low = p.low; high = p.high }) u.goals t.goals l.same n.owned;
+      };
+      last = looked_hold (λ g. g.number ≤ t.counts.last_goal) (λ g o b p. p) u.goals t.goals l.same i.last;
+    })
 
 -- ---- one look after another
 

@@ -2,7 +2,8 @@
 use Rattle.std.proofs.Common.{◌≡◌, ℕ, ◌≤◌, List, length, take, refl, sym, ap, ◌∙◌, arith, subst, length-take}
 use Rattle.std.proofs.lemmas.List.{take-take, length-take-le}
 use Rattle.kl1_text.specs.declared.cell_name.CellName.{CellName}
-use Rattle.kl1_store.specs.Held.{Held}
+use Rattle.kl1_store.specs.declared.cell.Cell.{Cell}
+use Rattle.kl1_store.specs.Held.{Held, IsIn}
 use Rattle.kl1_store.specs.Sound.{IsFormed, Grown}
 use Rattle.kl1_store.specs.Hooks.{Hook, Kept, HasGrown}
 use Rattle.kl1_shoen_paths.specs.declared.shoen.Shoen.{Shoen}
@@ -177,3 +178,33 @@ back_working m n k e w v held hooks now =
       shoens = v.shoens;
       begun_shoens = v.begun_shoens;
     }
+
+-- ---- goals, and the store, have changed
+
+pub goals_keep : (m : Inside) (k : Kept CellName) (r : Rowed) → HasGrown m.store k → r ≡ record m.goals { goals = r.goals } → KeepsBegun m k r m.shoens
+goals_keep m k r g e = record { grown = g; goals = ap (λ (x : Rowed). x.begun) e; goal_shoens = ap (λ (x : Rowed). x.begun_shoens) e; shoens = refl; work = refl }
+
+pub goals_core : (v : Core) (m : Inside) (k : Kept CellName) (r : Rowed) (c : Counts) → core_of m ≡ v → HasGrown m.store k → r ≡ record m.goals { goals = r.goals } → IsWorking m → core_of (with_parts m k r m.shoens c) ≡ record v { now = now_of (with_parts m k r m.shoens c) }
+goals_core v m k r c is g e w = core_stays m k r m.shoens c (goals_keep m k r g e) w ∙ ap (λ (x : Core). let z : Core = record x { now = now_of (with_parts m k r m.shoens c) } in z) is
+
+pub goals_working : (m : Inside) (k : Kept CellName) (r : Rowed) (c : Counts) → HasGrown m.store k → r ≡ record m.goals { goals = r.goals } → IsMachine (now_of (with_parts m k r m.shoens c)) → IsWorking m → IsWorking (with_parts m k r m.shoens c)
+goals_working m k r c g e now w = still_working m k r m.shoens c (goals_keep m k r g e) (ap (λ (x : Rowed). x.shoens) e ∙ w.shoens) now w
+
+-- a cell of a machine is of its store
+pub in_self : (m : Inside) (v : Core) (x : Cell CellName) → core_of m ≡ v → IsIn v.now.held x → IsIn m.store.held x
+in_self m v x e i = let P : Core → Type 0 = λ y. IsIn y.now.held x in subst P (sym e) i
+
+-- fields after a call on a machine whose store had grown have its beginning
+pub begun_since : (m n : Inside) (k : Kept CellName) (u : Core) → core_of n ≡ u → u ≡ record (core_of (record m { store = k })) { now = u.now } → HasGrown m.store k → IsWorking m → begun_of n ≡ begun_of m
+begun_since m n k u e rest g w = ap (λ (x : Core). x.begun) e ∙ ap (λ (x : Core). x.begun) rest ∙ begun_stays m k m.goals m.shoens m.counts (store_keeps m k g) w
+
+pub back_core : (v : Core) (m n : Inside) (k b : Kept CellName) (u : Core) → core_of m ≡ v → core_of n ≡ u → u ≡ record (core_of (record m { store = k })) { now = u.now } → HasGrown m.store k → IsWorking m → IsWorking n → b.held ≡ m.store.held → b.hooks ≡ m.store.hooks →
+    core_of (record n { store = b }) ≡ record v { now = now_of (record n { store = b }) }
+back_core v m n k b u is e rest g w x held hooks =
+    let same = begun_since m n k u e rest g w in
+    let told : n.told.items ≡ m.told.items = ap (λ (y : Core). y.told) e ∙ ap (λ (y : Core). y.told) rest in
+    let shifts : n.shifts ≡ m.shifts = ap (λ (y : Core). y.shifts) e ∙ ap (λ (y : Core). y.shifts) rest in
+    ap (λ (y : Now). let z : Core = record (core_of (record n { store = b })) { begun = y } in z) (back_begun m n b same w x held hooks ∙ same)
+    ∙ ap (λ (ns : List ℕ). let z : Core = record { now = now_of (record n { store = b }); begun = begun_of m; told = ns; shifts = n.shifts } in z) told
+    ∙ ap (λ c. let z : Core = record { now = now_of (record n { store = b }); begun = begun_of m; told = m.told.items; shifts = c } in z) shifts
+    ∙ ap (λ (y : Core). let z : Core = record y { now = now_of (record n { store = b }) } in z) is

@@ -2,8 +2,12 @@
 use Rattle.std.specs.Prelude.{◌≡◌, ◌≤◌, length, take, None}
 use Rattle.kl1_text.specs.declared.cell_name.CellName.{CellName}
 use Rattle.kl1_store.specs.declared.mark.Mark.{Mark}
+use Rattle.kl1_store.specs.declared.point.Point.{Point}
 use Rattle.kl1_store.specs.Held.{Held}
+use Rattle.kl1_store.specs.Hooks.{Kept}
 use Rattle.kl1_store.specs.Sound.{IsFormed}
+use Rattle.kl1_shoen.specs.Shoens.{Tree}
+use Rattle.kl1_machine_parts.specs.Rows.{Rowed}
 use Rattle.kl1_machine_trial.specs.declared.machine.Machine.TheInside.{Inside}
 use Rattle.kl1_machine_trial.specs.Core.{Now, Core, IsMachine}
 
@@ -34,14 +38,18 @@ begun_of m = record {
 abbrev pub core_of : Inside → Core
 core_of m = record { now = now_of m; begun = begun_of m; told = m.told.items; shifts = m.shifts }
 
--- what always holds of the fields: the store had come to the mark before
-pub record IsWorking (m : Inside) : Type 0 where
-  pub now_is : IsMachine (now_of m)
-  pub begun_is : IsMachine (begun_of m)
-  pub formed : IsFormed (begun_of m).held
-  pub variables : m.mark.sizes.variables ≤ m.store.held.variables
-  pub structures : m.mark.sizes.structures ≤ length m.store.held.structures
-  pub bindings : m.mark.sizes.bindings ≤ length m.store.held.bindings
-  pub hooks : m.mark.hooks ≤ length m.store.hooks
-  pub shoens : m.goals.shoens ≡ length m.shoens.shoens
-  pub begun_shoens : m.goals.begun_shoens ≡ length m.shoens.kept
+-- what always holds of a machine's parts: the store had come to the mark before
+pub record HoldTogether (now begun : Now) (p : Point) (k : Kept CellName) (r : Rowed) (t : Tree CellName) : Type 0 where
+  pub now_is : IsMachine now
+  pub begun_is : IsMachine begun
+  pub formed : IsFormed begun.held
+  pub variables : p.sizes.variables ≤ k.held.variables
+  pub structures : p.sizes.structures ≤ length k.held.structures
+  pub bindings : p.sizes.bindings ≤ length k.held.bindings
+  pub hooks : p.hooks ≤ length k.hooks
+  pub shoens : r.shoens ≡ length t.shoens
+  pub begun_shoens : r.begun_shoens ≡ length t.kept
+
+-- and of its fields
+abbrev pub IsWorking : Inside → Type 0
+IsWorking m = HoldTogether (now_of m) (begun_of m) m.mark m.store m.goals m.shoens

@@ -1,14 +1,16 @@
 // Goals that are looked at again.
 
 ghost use Rattle.std.specs.Prelude.{◌≡◌, ◌<◌, ℕ, true, false, map, find, Some, IfSome, IfOk, OnOk};
+ghost use Rattle.kl1_store.specs.Sound.{IsFormed, Grown};
 ghost use Rattle.kl1_clause.specs.Predicates.{AreSome};
 ghost use Rattle.kl1_goals.specs.Lists.{is_after, enabled_in};
-ghost use Rattle.kl1_goals.specs.Tables.{Ascend};
+ghost use Rattle.kl1_goals.specs.Tables.{Ascend, AreInOrder};
 ghost use Rattle.kl1_shoen.specs.Shoens.{is_enabled_at};
 ghost use Rattle.kl1_user_effects.specs.Kept.{IsTaskIn};
 ghost use Rattle.kl1_user_effects.specs.Installing.{shifted_by};
 ghost use Rattle.kl1_machine_parts.specs.Waking.{is_among};
 ghost use Rattle.kl1_machine_parts.specs.Looking.{Serves};
+ghost use Rattle.kl1_machine_trial.specs.Core.{IsMachine};
 ghost use Rattle.kl1_machine_trial.specs.Rescheduling.{HasCome, Wakes, all_told, WakesTold, LooksTo, LooksAll, Shifts, Reschedules};
 
 use crate::machine::Machine;
@@ -16,7 +18,7 @@ use kl1_clause::Predicate;
 use kl1_codes::{CodeSource, CodedModules};
 use kl1_goals::Goal;
 use kl1_goals_moves::{Kind, Trial};
-use kl1_machine_parts::task_standing;
+use kl1_machine_parts::{may_step, task_standing};
 use kl1_shoen::Shift;
 use kl1_text::CellName;
 use std::alloc::AllocError;
@@ -98,6 +100,7 @@ impl Machine {
         ensures goal { result ≡ find (is_after number) self.now.now.goals }
         ensures above { IfSome result (λ g. number < g.number) }
         ensures inside { IfSome result (λ g. IsTaskIn self.now.now.held g.task) }
+        ensures order { AreInOrder self.now.now.goals }
     {
         self.goals.after(number)
     }
@@ -117,7 +120,7 @@ impl Machine {
         requires serves { Serves modules.now.loaded known.now predicate.now }
         requires lets { is_enabled_at self.old.now.shoens self.old.now.work letting ≡ true }
         requires task { IsTaskIn self.old.now.held goal.now.task }
-        ensures looks { OnOk result ((n : ℕ) → Some goal.now ≡ find (is_after n) self.old.now.goals → LooksTo modules.now n goal.now.number self.old.now self.new.now) }
+        ensures looks { OnOk result ((n : ℕ) → n < goal.now.number → AreInOrder self.old.now.goals → Some goal.now ≡ find (is_after n) self.old.now.goals → LooksTo modules.now n goal.now.number self.old.now self.new.now) }
         ensures rest { self.new ≡ record self.old { now = self.new.now } }
     {
         let standing = task_standing(
@@ -129,9 +132,8 @@ impl Machine {
             trial,
             goal,
         )?;
-        let may_step =
-            goal.shoen == letting || goal.is_monitor() || self.shoens.is_enabled(goal.shoen);
-        self.goals.look(goal.number, standing, may_step)
+        let is_let = may_step(&self.shoens, letting, goal);
+        self.goals.look(goal.number, standing, is_let)
     }
 
     /// Looks at goals that came since the event began.
@@ -191,6 +193,20 @@ impl Machine {
         self.goals.enable(shoen, is_enabled)
     }
 
+    /// The number of a shoen that lets its goals step: of one that lets them if none may be let or held back other than before, and else 0.
+    fn still_lets(&self, running: u64) -> u64
+        requires { self.now.shifts ≡ false → is_enabled_at self.now.now.shoens self.now.now.work running ≡ true }
+        ensures lets { is_enabled_at self.now.now.shoens self.now.now.work result ≡ true }
+        ensures begun { IsMachine self.now.begun }
+        ensures formed { IsFormed self.now.begun.held }
+        ensures grown { Grown self.now.begun.held self.now.now.held }
+    {
+        if self.shifts {
+            return 0;
+        }
+        running
+    }
+
     /// Looks at the goals that are to be looked at since the event began, and lets goals step or holds them back, where that may be other
     /// than it was. The predicate of goals of one kind is known, and shoen `running` lets its goals step if none of that may be.
     pub fn reschedule<C: CodeSource>(
@@ -208,9 +224,7 @@ impl Machine {
         ensures ok { OnOk result (Reschedules modules.now self.old self.new.now) }
         ensures rest { self.new ≡ record self.old { now = self.new.now; told = self.new.told } }
     {
-        // Only for the proof: the shoens are numbered in order.
-        let _numbered = self.shoens.len();
-        let letting = if self.shifts { 0 } else { running };
+        let letting = self.still_lets(running);
         let told = self.take_told()?;
         self.wake_each(modules, known, predicate, trial, &told)?;
         self.look_at_each(modules, known, predicate, trial, letting)?;

@@ -9,7 +9,7 @@ loop-goal-preserved g c =
     let r = c.in_ok-look_at.ensures in
     let low = l.invariant.low in
     let above = c.in-Some.ensures.above in
-    let one = r.looks l.number c.in-Some.ensures.goal in
+    let one = r.looks l.number above c.in-Some.ensures.order c.in-Some.ensures.goal in
     record {
       low = omega (arith, low, above);
       looks = looks_more c.args.modules.now c.args.self.now.begun.counts.last_goal l.number c.in-Some.goal.number c.args.self.now.now l.self.now c.look_at.new.self.now low l.invariant.looks one;

@@ -1,13 +1,15 @@
-use Rattle.std.proofs.Common.{◌≡◌, ℕ, suc, ◌+◌, ◌++◌, ◌∷◌, [], length, sym, ap, ◌∙◌, arith, subst}
+use Rattle.std.proofs.Common.{◌≡◌, ℕ, suc, ◌+◌, ◌++◌, ◌∷◌, [], List, length, sym, ap, ◌∙◌, arith, subst}
 use Rattle.std.specs.List.{list_any}
 use Rattle.kl1_goals.specs.Lists.{is_monitor_of}
 use Rattle.kl1_user_effects.specs.Kept.{IsTaskIn, IsOwned}
-use Rattle.kl1_machine_parts.specs.Rows.{Rowed}
+use Rattle.kl1_text.specs.declared.cell_name.CellName.{CellName}
+use Rattle.kl1_store_hooks.proofs.Hooked.{HasGrown-same}
+use Rattle.kl1_goals.specs.declared.goal.Goal.{Goal}
 use Rattle.kl1_machine_trial.specs.Core.{Now, Core}
 use Rattle.kl1_machine_trial.specs.Parts.{core_of, now_of, IsWorking}
 use Rattle.kl1_machine_trial.specs.Effects.{goal_at, with_goal}
-use Rattle.kl1_machine_trial.proofs.Working.{core_stays}
-use Rattle.kl1_machine_trial.proofs.Bodies.{all_before, with_put, put_keeps, put_working}
+use Rattle.kl1_machine_trial.proofs.Working.{goals_core, goals_working}
+use Rattle.kl1_machine_trial.proofs.Bodies.{all_before, with_put, put_machine}
 use Rattle.kl1_machine_trial.proofs.machine.Machine.put.Goals as goal
 
 pub put-requires : goal.put-requires
@@ -30,7 +32,16 @@ pub returns-in_ok-put-clause-ok : goal.returns-in_ok-put-clause-ok
 returns-in_ok-put-clause-ok c =
     let m = c.self.inside in
     let n = c.in_ok-number.number in
-    let R : Rowed → Type 0 = λ r. now_of (record m { goals = r; counts = record m.counts { last_goal = n } }) ≡ with_goal c.args.shoen c.args.priority c.args.task c.args.self.now.now in
-    let N : ℕ → Type 0 = λ k. now_of (with_put m (goal_at k c.args.shoen c.args.priority c.args.task)) ≡ with_goal c.args.shoen c.args.priority c.args.task c.args.self.now.now in
+    let g = goal_at n c.args.shoen c.args.priority c.args.task in
+    let R : List (Goal CellName) → Type 0 = λ gs. record (now_of m) { goals = gs; counts = record m.counts { last_goal = n } } ≡ with_goal c.args.shoen c.args.priority c.args.task c.args.self.now.now in
+    let N : ℕ → Type 0 = λ k. with_put (now_of m) (goal_at k c.args.shoen c.args.priority c.args.task) ≡ with_goal c.args.shoen c.args.priority c.args.task c.args.self.now.now in
     let next : suc m.counts.last_goal ≡ n = let e = c.in_ok-number.ensures in omega (arith, e) in
     subst R (sym c.in_ok-put.ensures.ok) (subst N next (ap (λ (v : Core). with_goal c.args.shoen c.args.priority c.args.task v.now) c.self.view_is))
+
+pub returns-in_ok-put-clause-rest : goal.returns-in_ok-put-clause-rest
+returns-in_ok-put-clause-rest c =
+    let m = c.self.inside in
+    goals_core c.args.self.now m m.store c.put.new.self (record m.counts { last_goal = c.in_ok-number.number }) c.self.view_is (HasGrown-same m.store) c.put.ensures.rest c.self.invariant
+
+pub returns-in_err-put-clause-rest : goal.returns-in_err-put-clause-rest
+returns-in_err-put-clause-rest c = let m = c.self.inside in goals_core c.args.self.now m m.store c.put.new.self m.counts c.self.view_is (HasGrown-same m.store) c.put.ensures.rest c.self.invariant
