@@ -158,7 +158,7 @@ commits_body p place places goal x t k sh ps cells n i g hooks after needs room 
     (record {
       turns = λ ms c candidate.
           let B = commit_turns ms t.held k.held (made t) goal (Some sh) ps n.variables n.nodes cells c i.inside g found own inside (λ f knows. priorities f t.held places (c f) (candidate f knows)) (λ f knows. (needs f t.held places (c f) (candidate f knows)).variables)
-              (λ f knows. (needs f t.held places (c f) (candidate f knows)).nodes) (λ f knows. body f knows.reads (c f) (candidate f knows)) in
+          (λ f knows. (needs f t.held places (c f) (candidate f knows)).nodes) (λ f knows. body f knows.reads (c f) (candidate f knows)) in
           record {
             inside = machine.inside;
             states = λ f knows s.

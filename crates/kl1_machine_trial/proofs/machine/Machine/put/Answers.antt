@@ -5,7 +5,7 @@ use Rattle.kl1_user_effects.specs.Kept.{IsTaskIn, IsOwned}
 use Rattle.kl1_text.specs.declared.cell_name.CellName.{CellName}
 use Rattle.kl1_store_hooks.proofs.Hooked.{HasGrown-same}
 use Rattle.kl1_goals.specs.declared.goal.Goal.{Goal}
-use Rattle.kl1_machine_trial.specs.Core.{Now, Core}
+use Rattle.kl1_machine_trial.specs.Core.{Now, Core, IsMachine}
 use Rattle.kl1_machine_trial.specs.Parts.{core_of, now_of, IsWorking}
 use Rattle.kl1_machine_trial.specs.Effects.{goal_at, with_goal}
 use Rattle.kl1_machine_trial.proofs.Working.{goals_core, goals_working}
@@ -45,3 +45,21 @@ returns-in_ok-put-clause-rest c =
 
 pub returns-in_err-put-clause-rest : goal.returns-in_err-put-clause-rest
 returns-in_err-put-clause-rest c = let m = c.self.inside in goals_core c.args.self.now m m.store c.put.new.self m.counts c.self.view_is (HasGrown-same m.store) c.put.ensures.rest c.self.invariant
+
+pub invariant_of-self : goal.invariant_of-self
+invariant_of-self c =
+    let m = c.self.inside in
+    let M : List (Goal CellName) → Type 0 = λ gs. IsMachine (record (now_of m) { goals = gs }) in
+    goals_working m m.store c.put.new.self m.counts (HasGrown-same m.store) c.put.ensures.rest (subst M (sym c.in_err-put.ensures.err) c.self.invariant.now_is) c.self.invariant
+
+pub invariant_of-self-2 : goal.invariant_of-self-2
+invariant_of-self-2 c =
+    let m = c.self.inside in
+    let n = c.in_ok-number.number in
+    let g = goal_at n c.args.shoen c.args.priority c.args.task in
+    let O : Core → Type 0 = λ v. IsOwned (length v.now.shoens) (goal_at 0 c.args.shoen c.args.priority c.args.task) in
+    let T : Core → Type 0 = λ v. IsTaskIn v.now.held c.args.task in
+    let own = subst O (sym c.self.view_is) c.requires.shoen in
+    let M : List (Goal CellName) → Type 0 = λ gs. IsMachine (record (now_of m) { goals = gs; counts = record m.counts { last_goal = n } }) in
+    goals_working m m.store c.put.new.self (record m.counts { last_goal = n }) (HasGrown-same m.store) c.put.ensures.rest
+    (subst M (sym c.in_ok-put.ensures.ok) (put_machine (now_of m) g c.in_ok-number.ensures (subst T (sym c.self.view_is) c.requires.task) (record { low = own.low; high = own.high }) c.self.invariant.now_is)) c.self.invariant
