@@ -1,5 +1,5 @@
 -- Goals that come after the others, and bodies.
-use Rattle.std.proofs.Common.{◌≡◌, ℕ, suc, ◌+◌, ◌-◌, ◌<◌, ◌≤◌, ◌&&◌, not, true, false, List, [], ◌∷◌, ◌++◌, length, map, refl, sym, ap, ◌∙◌, arith, subst, append-nil, append_assoc, length-map}
+use Rattle.std.proofs.Common.{◌≡◌, ℕ, suc, ◌+◌, ◌-◌, ◌<◌, ◌≤◌, ◌&&◌, not, Bool, true, false, List, [], ◌∷◌, ◌++◌, length, map, refl, sym, ap, ◌∙◌, arith, subst, append-nil, append_assoc, length-map}
 use Rattle.std.specs.Prelude.{find, nat_le, count_by, Option, Some, option_map, unwrap_or}
 use Rattle.std.specs.List.{AllByRecursion, list_any}
 use Rattle.kl1_model.specs.Module.{goals_of}
@@ -204,3 +204,8 @@ with_needs n t = record t { counts = record t.counts { variables = t.counts.vari
 
 pub counted_machine : (t : Now) (n : Needs) → IsMachine t → IsMachine (with_needs n t)
 counted_machine t n i = let w = i.inside in record { inside = record { some = w.some; goals = w.goals; shoens = w.shoens; owned = w.owned }; last = i.last }
+
+-- whether there is room for what is counted
+abbrev pub room_in : Needs → Now → Bool
+room_in n t =
+    nat_le (count_by (λ g. not (is_monitor g)) t.goals + n.goals) (limits_of t.rules).goals && nat_le (t.counts.variables + n.variables) (limits_of t.rules).variables && nat_le (t.counts.nodes + n.nodes) (limits_of t.rules).nodes

@@ -255,3 +255,10 @@ pub since_tell : (m n : Inside) (k : Kept CellName) (u : Core) (shoen : ℕ) (x 
 since_tell m n k u shoen x told e g hooks tells =
     let G : Core → Type 0 = λ v. Grown m.store.held v.now.held in
     has_grown m.store n.store (subst G (sym e) (Grown-trans m.store.held k.held u.now.held g tells.reports.grown)) (ap (λ (v : Core). v.now.hooks) e ∙ ap (λ (y : Now). y.hooks) tells.reports.rest ∙ hooks)
+
+-- a store that has gone back is as it was
+pub raised_back : (t u : Now) (b : Kept CellName) (change : Reading → State → State) → b.held ≡ t.held → b.hooks ≡ t.hooks → ActsAs change t (record u { held = t.held; hooks = t.hooks }) → ActsAs change t (record u { held = b.held; hooks = b.hooks })
+raised_back t u b change held hooks a =
+    let H : Held CellName → Type 0 = λ h. ActsAs change t (record u { held = h; hooks = t.hooks }) in
+    let K : List Hook → Type 0 = λ hs. ActsAs change t (record u { held = b.held; hooks = hs }) in
+    subst K (sym hooks) (subst H (sym held) a)

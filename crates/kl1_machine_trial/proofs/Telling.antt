@@ -27,10 +27,10 @@ use Rattle.kl1_user_effects.proofs.Works.{torn, tailed, next_in, last_made, repo
 use Rattle.kl1_user_effects.proofs.LateFree.{same_free, sent_free}
 use Rattle.kl1_machine_trial.specs.declared.counts.Counts.{Counts}
 use Rattle.kl1_machine_trial.specs.declared.machine.Machine.TheInside.{Inside}
-use Rattle.kl1_machine_trial.specs.Core.{Now, made}
-use Rattle.kl1_machine_trial.specs.Parts.{now_of, IsWorking}
+use Rattle.kl1_machine_trial.specs.Core.{Now, Core, made}
+use Rattle.kl1_machine_trial.specs.Parts.{now_of, core_of, IsWorking}
 use Rattle.kl1_machine_trial.specs.Effects.{Tells}
-use Rattle.kl1_machine_trial.proofs.Working.{KeepsBegun, store_keeps, store_working, tree_working, tree_keeps}
+use Rattle.kl1_machine_trial.proofs.Working.{KeepsBegun, core_stays, store_keeps, store_working, tree_working, tree_keeps}
 
 -- ---- whether a report is made
 
@@ -154,3 +154,6 @@ tells_none m n x w e = record {
   keeps = same_free m.store.held m.store.held m.shoens.shoens n refl;
   reports = record { grown = Grown-same m.store.held; lives = keeps_same bare m.shoens.shoens; count = refl; rest = refl };
 }
+
+pub rest_told : (v : Core) (m : Inside) (k : Kept CellName) (n : ℕ) (told : Told) → core_of m ≡ v → HasGrown m.store k → IsWorking m → core_of (told_machine m k n told) ≡ record v { now = now_of (told_machine m k n told) }
+rest_told v m k n told e g w = core_stays m k m.goals (told_tree n told m.shoens) (told_counts told m.counts) (told_keeps m k n told g) w ∙ ap (λ (x : Core). let z : Core = record x { now = now_of (told_machine m k n told) } in z) e

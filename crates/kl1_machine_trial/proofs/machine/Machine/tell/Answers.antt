@@ -12,8 +12,8 @@ use Rattle.kl1_user_effects.proofs.Substituting.{has_grown}
 use Rattle.kl1_machine_trial.specs.Core.{Core}
 use Rattle.kl1_machine_trial.specs.Parts.{core_of, now_of}
 use Rattle.kl1_machine_trial.specs.Effects.{Tells}
-use Rattle.kl1_machine_trial.proofs.Working.{store_working, store_core, core_stays}
-use Rattle.kl1_machine_trial.proofs.Telling.{tells, tells_none, told_working, told_keeps, told_machine, told_tree}
+use Rattle.kl1_machine_trial.proofs.Working.{store_working, rest_grown}
+use Rattle.kl1_machine_trial.proofs.Telling.{tells, tells_none, told_working, told_keeps, told_machine, told_tree, rest_told}
 use Rattle.kl1_machine_trial.proofs.machine.Machine.tell.Goals as goal
 
 pub append_report-requires-clause-tail : goal.append_report-requires-clause-tail
@@ -78,3 +78,19 @@ returns-in_ok-set_tail-in-Sent-clause-ok c =
     (subst R one
     (subst P c.self.view_is
     (tells m l n c.args.message c.in-Some.shoen (Sent next) grown (c.keep_at_times.ensures.hooks ∙ a.hooks) c.self.invariant (sym c.lend.ensures.value ∙ (sym c.copied.ensures ∙ c.in-Some.is)) (subst D (sym c.keep_at_times.ensures.held) told))))
+
+-- ---- what stays
+
+pub returns-in-Dropped-clause-rest : goal.returns-in-Dropped-clause-rest
+returns-in-Dropped-clause-rest c = let m = c.self.inside in let a = c.in_ok-append_report.ensures in rest_grown c.args.self.now m c.append_report.new.store c.self.view_is (has_grown m.store c.append_report.new.store a.grown a.hooks) c.self.invariant
+
+pub returns-in_err-append_report-clause-rest : goal.returns-in_err-append_report-clause-rest
+returns-in_err-append_report-clause-rest c = let m = c.self.inside in let a = c.append_report.ensures in rest_grown c.args.self.now m c.append_report.new.store c.self.view_is (has_grown m.store c.append_report.new.store a.grown a.hooks) c.self.invariant
+
+pub returns-in_ok-break_stream-in-Broken-clause-rest : goal.returns-in_ok-break_stream-in-Broken-clause-rest
+returns-in_ok-break_stream-in-Broken-clause-rest c =
+    let m = c.self.inside in
+    let k = c.append_report.new.store in
+    let a = c.in_ok-append_report.ensures in
+    let T : Tree CellName → Type 0 = λ t. core_of (record m { store = k; shoens = t }) ≡ record c.args.self.now { now = now_of (record m { store = k; shoens = t }) } in
+    subst T (sym c.in_ok-break_stream-in-Broken.ensures.ok) (rest_told c.args.self.now m k c.args.number Broken c.self.view_is (has_grown m.store k a.grown a.hooks) c.self.invariant)
