@@ -1,17 +1,11 @@
 #!/usr/bin/env python3
 import os, re, time
 def want(cwd, cmd):
-    if "/tmp/tmp." in cmd: return 8
-    if cwd.startswith("/tmp/rt-copy") or cwd.startswith("/work/main") or cwd.startswith("/work/gate"): return -9
-    if "rt-edit" in cwd: return -4
-    if cwd.startswith("/work/wt/parta"): return -11
-    if cwd.startswith("/work/wt/ktest2") or cwd.startswith("/work/wt/log2"): return -8
-    if cwd.startswith("/work/wt/client3"): return 4
-    if cwd.startswith("/work/wt/views"): return -4
-    
-    if "/tmp/tmp." in cmd: return 8
-    if cwd.startswith("/work/wt"): return 4
-    return None
+    if "rt-edit" in cwd: return -7
+    if cwd.startswith(("/tmp/rt-copy", "/work/main", "/work/wt/gate", "/work/wt/final")): return -12
+    if cwd.startswith("/work/wt"): return 12
+    if "/tmp/tmp." in cmd or "/tmp/tmp." in cwd or "rt-try" in cwd: return 12
+    return 5
 last = {}
 while True:
     for p in os.listdir("/proc"):
