@@ -6,11 +6,11 @@ ghost use Rattle.kl1_model.specs.Event.{reduce as reduce_event};
 ghost use Rattle.kl1_model_server.specs.Journal.{Kept, done};
 ghost use Rattle.kl1_model_server.specs.JournalText.{page_of};
 ghost use Rattle.kl1_user_events.specs.Views.{event_of, reply_of, reduced_or, chosen_of};
-ghost use Rattle.kl1_user_events.specs.Whole.{whole_value};
+ghost use Rattle.kl1_user_events.specs.Viewing.{value_text};
 ghost use Rattle.kl1_command.specs.Told.{Told, told_by, told_steps};
 ghost use Rattle.kl1_command.specs.Room.{HasRoomFor, done_within, less};
 
-use kl1_user_events::{ClauseNo, Event, GoalNo, Listed, Refusal, Reply, ShoenNo};
+use kl1_user_events::{ClauseNo, Event, Extent, GoalNo, Listed, Refusal, Reply, ShoenNo};
 use std::alloc::AllocError;
 
 /// What has one account, with its journal, to which commands are done.
@@ -77,12 +77,12 @@ pub trait Host {
     ghost room_left: { (a b : Self) (told : Told) → counted a told b → room b ≡ less (room a) told.events };
 }
 
-/// A host without a book, which also shows values without the cut of a reply.
+/// A host without a book, which shows as much of values as is asked for.
 pub trait UnbookedHost: Host {
-    /// The goal of a shoen, as started, with what is bound now, without the cut of a reply; `None` if the console started no
-    /// shoen of this number. The account stays as it was.
-    fn whole_value(&mut self, shoen: ShoenNo) -> Result<Option<Vec<u8>>, AllocError>
-        ensures whole { IfOk result (λ shown. (f : Self.Reading) → Self.fits self.new f → option_map (λ text. text.items) shown ≡ whole_value (Self.kept f self.new).state shoen.0) }
+    /// The text of the goal of a shoen, as started, with what is bound now, cut or whole; `None` if the console started no shoen
+    /// of this number. The account stays as it was.
+    fn value_text(&mut self, shoen: ShoenNo, extent: Extent) -> Result<Option<Vec<u8>>, AllocError>
+        ensures text { IfOk result (λ shown. (f : Self.Reading) → Self.fits self.new f → option_map (λ text. text.items) shown ≡ value_text extent (Self.kept f self.new).state shoen.0) }
         ensures same { (f : Self.Reading) → Self.fits self.new f → Self.kept f self.new ≡ Self.kept f self.old }
         ensures before { (f : Self.Reading) → Self.fits self.new f → Self.fits self.old f }
         ensures beside { Self.beside self.new ≡ Self.beside self.old };

@@ -13,7 +13,6 @@ ghost use Rattle.kl1_codes.specs.Numbered.{ArePlaced};
 ghost use Rattle.kl1_user.specs.Accounts.{Reading, Fits};
 ghost use Rattle.kl1_user.specs.Accounts.{texts_of};
 ghost use Rattle.kl1_user_events.specs.Views.{event_of, is_logout, reply_of, reduced_or, chosen_of};
-ghost use Rattle.kl1_user_events.specs.Whole.{whole_value};
 ghost use Rattle.kl1_journal.specs.Keeping.{kept_of, kept_since_reset, IsKept};
 
 use crate::change::{note, note_step, prepare};
@@ -174,23 +173,6 @@ impl<A: AtomSource, C: CodeSource> JournaledAccount<A, C> {
             .reduce(names, &mut self.seat, codes, goal, clause)?;
         note_step(&mut self.journal, goal, clause, self.user.run(), &refused);
         Ok(refused)
-    }
-
-    /// The goal of shoen `number`, as started, with what is bound now, without the cut of a reply; `None` if the console
-    /// started no shoen of this number. The account and its journal stay.
-    pub fn whole_value(
-        &mut self,
-        names: &mut A,
-        shoen: ShoenNo,
-    ) -> Result<Option<Vec<u8>>, AllocError>
-        requires of { A.is_of names.old self.old.0 }
-        ensures whole { IfOk result (λ shown. (f : Reading) → Fits self.new.1.0.names f → option_map (λ text. text.items) shown ≡ whole_value (kept_of f self.new.1).state shoen.0) }
-        ensures same { self.new.1 ≡ self.old.1 }
-        ensures of { A.is_of names.new self.new.0 }
-        ensures place { A.place self.new.0 ≡ A.place self.old.0 }
-        ensures others { (other : A.Seat) → A.is_of names.old other → (A.place other ≡ A.place self.old.0 → ⊥) → A.is_of names.new other }
-    {
-        self.user.whole_value(names, &mut self.seat, shoen.0)
     }
 
     /// The lines of the journal from one on, the first being 1, at most `count` of them.

@@ -6,12 +6,12 @@ use crate::files::{Modules, read_each};
 use crate::journal_file::journal_file;
 use crate::origins::{OwnWorld, fresh_world};
 use crate::reasons::line_reasons;
-use crate::shown::{Shown, put_at_prompt};
+use crate::shown::{MOST_FORMED, Shown, put_at_prompt};
 use kl1_prompt::{
     Line, News, Plan, Stand, Table, do_line, load_all, parse_line, put_answer, put_help, put_news,
     put_table, put_unknown, put_waits, reload, trace_steps,
 };
-use kl1_run_work::{Host, SourceFile, Stop, Term, UnbookedHost, put_fault, put_journal};
+use kl1_run_work::{Extent, Host, SourceFile, Stop, Term, UnbookedHost, put_fault, put_journal};
 use kl1_user_events::Reply;
 use kl1_watch::Names;
 use std::alloc::Global;
@@ -277,7 +277,7 @@ impl Session<'_, '_> {
         let Some(last) = &self.last else {
             return Ok(None);
         };
-        let Some(now) = world.whole_value(last.news.shoen)? else {
+        let Some(now) = world.value_text(last.news.shoen, Extent::AtMost(MOST_FORMED))? else {
             return Ok(None);
         };
         let goal = last.goal.clone()?;

@@ -13,7 +13,7 @@ use crate::alone::{LoneWork, run_alone};
 use crate::origins::NoOrigins;
 use crate::progress::NoWatch;
 use kl1_model::limits::MOST_COMMAND_BYTES;
-use kl1_run_work::{FailureCounter, Refusal, Stop, Wanted, Work, put_script, start_length};
+use kl1_run_work::{Extent, FailureCounter, Refusal, Stop, Wanted, Work, put_script, start_length};
 use kl1_watch::Names;
 use kl1_world::Rules;
 use std::alloc::Global;
@@ -29,7 +29,7 @@ fn try_alone(alloc: Global, work: Work) -> Result<(), Stop>
         rules: Rules::Three,
         wanted: Wanted {
             reports: false,
-            whole: false,
+            value: Extent::Cut,
         },
         looks: Looks {
             most: 0,

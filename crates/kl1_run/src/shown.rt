@@ -8,7 +8,10 @@ use kl1_watch::Names;
 use std::alloc::{AllocError, Global};
 
 /// The most bytes of a goal that is written in another form: to be read, it takes some 70 times as many.
-const MOST_FORMED: usize = 1_048_576;
+pub const MOST_FORMED: usize = 1_048_576;
+
+/// The most bytes of a goal that is told whole.
+pub const MOST_WHOLE: usize = 16_777_216;
 
 /// The most bytes of the front of a goal from which it is told that variables have no value.
 const MOST_SEEN: usize = 4_000;
@@ -34,6 +37,8 @@ pub struct Shown {
     now: Parsed,
     /// Whether it is too long to be written in the form that is asked for.
     is_long: bool,
+    /// Whether it has more bytes than are told of a goal that is told whole.
+    is_cut: bool,
 }
 
 /// The first line of a text without its end, and what is after it.
@@ -73,12 +78,18 @@ impl Shown {
             names,
             now: parse_print(alloc, seen)?,
             is_long,
+            is_cut: MOST_WHOLE < line.len(),
         })
     }
 
     /// Whether the goal is left as it was written, though another form is asked for.
     pub fn is_left(&self, form: Form) -> bool {
         form.is_other() && self.is_long
+    }
+
+    /// Whether not all of the goal was written, though it was to be told whole.
+    pub fn is_cut(&self) -> bool {
+        self.is_cut
     }
 
     /// Puts a line for each variable that has a name and no value after the bytes.
@@ -224,12 +235,17 @@ fn put_value(
     } else {
         print
     };
+    put_cut(text.as_slice(), most, out)
+}
+
+/// Puts a text after the bytes, cut after `most` bytes if there is such a number.
+fn put_cut(text: &[u8], most: Option<usize>, out: &mut Vec<u8>) -> Result<(), AllocError> {
     match most {
         Some(most) if most < text.len() => {
-            out.extend_from_slice(&text.as_slice()[..most])?;
+            out.extend_from_slice(&text[..most])?;
             out.extend_from_slice(b"...")
         }
-        _ => out.extend_from_slice(text.as_slice()),
+        _ => out.extend_from_slice(text),
     }
 }
 
@@ -253,12 +269,12 @@ pub fn in_form(
     shown: &Shown,
     written: &[u8],
 ) -> Result<Vec<u8>, AllocError> {
-    if shown.is_left(form) {
-        return Vec::from_slice(alloc, written);
-    }
     let (line, more) = first_line(written);
     let mut out = Vec::new(alloc);
-    if form.has_bindings {
+    if shown.is_left(form) {
+        put_cut(line, most, &mut out)?;
+        out.push(b'\n')?;
+    } else if form.has_bindings {
         shown.put_bindings(alloc, form, most, &mut out)?;
     } else {
         let text = readable_goal(alloc, line)?;

@@ -13,7 +13,7 @@ use crate::progress::Progress;
 use crate::prompt::run_prompt;
 use crate::reasons::{goal_in, warn};
 use crate::scripts::script_alone;
-use crate::shown::{Shown, in_form};
+use crate::shown::{MOST_WHOLE, Shown, in_form};
 use crate::stats::tell_stats;
 use crate::told::{tell_ending, used_of};
 use crate::watched::tell_steps;
@@ -178,6 +178,9 @@ fn show_goal(
     }
     if shown.is_left(asked.form) {
         eprintln!(rt; "kl1_run: the goal is too long for --bindings and --infix")?;
+    }
+    if shown.is_cut() {
+        eprintln!(rt; "kl1_run: the goal is longer: {MOST_WHOLE} bytes of it are written")?;
     }
     if let Ending::Terminated = ending {
         let mut warnings = Vec::new(alloc);

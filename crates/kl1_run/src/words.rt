@@ -2,9 +2,10 @@
 
 use crate::asked::{Asked, Form, MODULE, MOST_AT_A_TIME, Profiles, Task, USAGE, VERSION, Waits};
 use crate::fault::Fault;
+use crate::shown::{MOST_FORMED, MOST_WHOLE};
 use clap::{Arg, ArgAction, Command, Error, value_parser};
 use kl1_model::limits::MOST_PRINTED_BYTES;
-use kl1_run_work::{MOST_ALLOWANCE, MOST_STEPS, Wanted};
+use kl1_run_work::{Extent, MOST_ALLOWANCE, MOST_STEPS, Wanted};
 use kl1_world::Rules;
 use std::alloc::{AllocError, Global};
 
@@ -59,7 +60,7 @@ fn with_forms<'a>(alloc: Global, command: Command<'a>) -> Result<Command<'a>, Al
     let whole = of_run(flag(
         alloc,
         "whole",
-        "Tell the goal whole, not cut after 4,000 bytes",
+        "Tell the goal whole, up to 16,777,216 bytes, not cut after 4,000",
     ))?;
     let bindings = of_run(flag(
         alloc,
@@ -249,10 +250,9 @@ pub fn asked_in<'a>(alloc: Global, words: &'a [String]) -> Result<Asked<'a>, Err
             .get_one::<u64>("allowance")
             .unwrap_or(MOST_ALLOWANCE),
         rules,
-        // Of a goal that is cut the last variables would have no value.
         wanted: Wanted {
             reports: matches.get_flag("reports"),
-            whole: is_whole || form.has_bindings,
+            value: extent_of(is_whole, form),
         },
         form,
         most: if is_whole {
@@ -277,6 +277,17 @@ pub fn asked_in<'a>(alloc: Global, words: &'a [String]) -> Result<Asked<'a>, Err
         journal: matches.get_str("journal"),
         warnings_are_faults: matches.get_str("warn").is_some(),
     })
+}
+
+/// How much of the goal is told. Of a goal that is cut the last variables would have no value.
+fn extent_of(is_whole: bool, form: Form) -> Extent {
+    if is_whole {
+        Extent::AtMost(MOST_WHOLE)
+    } else if form.has_bindings {
+        Extent::AtMost(MOST_FORMED)
+    } else {
+        Extent::Cut
+    }
 }
 
 /// How the library of words begins what it tells of a fault.

@@ -7,7 +7,8 @@ use Rattle.kl1_model.specs.code.Steps.{value_of, status_of, reports_of}
 use Rattle.kl1_model.specs.Choice.{Chosen, first}
 use Rattle.kl1_model_server.specs.Journal.{Journal, Kept, Done, done}
 use Rattle.kl1_run_work.specs.declared.ending.Ending.{Ending}
-use Rattle.kl1_run_work.specs.Answers.{value_text, value_line, ending_in, ending_of}
+use Rattle.kl1_user_events.specs.declared.goal_view.Extent.{Extent}
+use Rattle.kl1_run_work.specs.Answers.{told_value, value_line, ending_in, ending_of}
 
 value_stays : (s : State) (v : Bool) (o : Option Origin) → (if v then value_of s o else refuse s syntax).state ≡ s
 value_stays s true None = refl
@@ -50,10 +51,10 @@ stays k after q reply e = sym (ap (λ (x : Done). x.kept) e) ∙ asking_keeps k 
 pub answered : (k after : Kept) (q : Query) (reply : Reply) → done k (read q) ≡ record { kept = after; reply = reply } → (reply_to after.state q).reply ≡ reply
 answered k after q reply e = ap (λ (x : Kept). (reply_to x.state q).reply) (stays k after q reply e) ∙ ap (λ (x : Done). x.reply) e
 
--- the line of the goal, whole or as a reply shows it
-pub line_is : (is_whole : Bool) (s : State) (n : ℕ) (text line : List ℕ) → text ≡ value_text is_whole s n → line ≡ text ++ 10 ∷ [] → line ≡ value_line is_whole s n
+-- the line of the goal, as much of it as is told
+pub line_is : (e : Extent) (s : State) (n : ℕ) (text line : List ℕ) → text ≡ told_value e s n → line ≡ text ++ 10 ∷ [] → line ≡ value_line e s n
 unfolding value_line
-line_is is_whole s n text line told is = is ∙ ap (λ t. t ++ 10 ∷ []) told
+line_is e s n text line told is = is ∙ ap (λ t. t ++ 10 ∷ []) told
 
 -- how the shoen stands whose state is told
 pub ending_is : (s : State) (n : ℕ) (raised still_now : Bool) (reply : Reply) (e : Ending) → (reply_to s (status n)).reply ≡ reply → still_now ≡ is_none (first s) → e ≡ ending_in still_now raised reply → e ≡ ending_of s n raised

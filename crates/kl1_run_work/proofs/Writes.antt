@@ -32,7 +32,7 @@ front_after a b c bs cs h k = front_behind a b c bs cs [] (bs ++ cs) h k (append
 
 text_is : (q : Wanted) (a : Answers) (s : State) (n : ℕ) → Tells q s n a → a.value.items ++ (if q.reports then a.reports.items else []) ≡ out_text q s n
 text_is q a s n t =
-    ap (λ x. x ++ (if q.reports then a.reports.items else [])) t.value ∙ ap (λ x. value_line q.whole s n ++ (if q.reports then x else [])) t.reports
+    ap (λ x. x ++ (if q.reports then a.reports.items else [])) t.value ∙ ap (λ x. value_line q.value s n ++ (if q.reports then x else [])) t.reports
 
 -- what is told of a shoen was written, or a write failed
 pub shows : (w : Worked) (q : Wanted) (out out' err err' : Stream) (a : Answers) (k : Kept) (n : ℕ) (r : Result Ending Stop) → w ≡ worked n k → Tells q k.state n a → IsToldTo a q out out' err err' r → IsRun w q out out' err err' r k

@@ -8,13 +8,14 @@ use Rattle.kl1_model.specs.declared.rules.Rules.TheVariants.{Four}
 use Rattle.kl1_model.specs.Rules.{limits_of}
 use Rattle.kl1_model.specs.Print.{cut_print}
 use Rattle.kl1_model.specs.State.{Origin, State}
-use Rattle.kl1_model.specs.Event.{value, status, is_number, Reply, loaded, opened, sent, reduced, ran, shown, status_is, listed, quiet_is, welcome, bye, was_reset, refused}
+use Rattle.kl1_model.specs.Event.{status, is_number, Reply, loaded, opened, sent, reduced, ran, shown, status_is, listed, quiet_is, welcome, bye, was_reset, refused}
 use Rattle.kl1_model.specs.Asking.{reply_to, origin_at, elements_of}
 use Rattle.kl1_model.specs.Choice.{first}
 use Rattle.kl1_model_server.specs.Journal.{Kept}
 use Rattle.kl1_model_server.specs.Command.{written_line, written_lines}
 use Rattle.kl1_user_events.specs.Views.{refusal_of}
-use Rattle.kl1_user_events.specs.Whole.{whole_value}
+use Rattle.kl1_user_events.specs.declared.goal_view.Extent.{Extent}
+use Rattle.kl1_user_events.specs.Viewing.{value_text}
 use Rattle.kl1_run_work.specs.declared.exceptions.TheConstants.{MOST_BY_LIMIT}
 use Rattle.kl1_run_work.specs.declared.answers.Answers.{Answers}
 use Rattle.kl1_run_work.specs.declared.ending.Ending.{Ending}
@@ -24,22 +25,6 @@ use Rattle.kl1_run_work.specs.declared.stop.Stop.TheVariants as stop
 use Rattle.kl1_run_work.specs.declared.wanted.Wanted.{Wanted}
 use Rattle.kl1_run_work.specs.Works.{Worked, worked, source_refused, goal_refused}
 use Rattle.kl1_run_work.specs.Streams.{Stream, WritesAll, OneBreaksOff}
-
--- the goal that a reply shows
-abbrev pub shown_in : Reply → List ℕ
-shown_in (shown text) = text
-shown_in (loaded name) = []
-shown_in (opened n) = []
-shown_in sent = []
-shown_in reduced = []
-shown_in (ran n) = []
-shown_in (status_is c charged allowance alive) = []
-shown_in (listed texts) = []
-shown_in (quiet_is b) = []
-shown_in (welcome name) = []
-shown_in bye = []
-shown_in was_reset = []
-shown_in (refused r) = []
 
 -- the texts that a reply lists
 abbrev pub listed_in : Reply → List (List ℕ)
@@ -57,21 +42,13 @@ listed_in bye = []
 listed_in was_reset = []
 listed_in (refused r) = []
 
--- a shoen's goal as it was started, with what is bound now, as a reply shows it
-abbrev pub shown_text : State → ℕ → List ℕ
-shown_text s n = shown_in (reply_to s (value n)).reply
-
--- that goal without the cut of a reply
-abbrev pub whole_text : State → ℕ → List ℕ
-whole_text s n = unwrap_or (whole_value s n) []
-
--- that goal whole, or as a reply shows it
-abbrev pub value_text : Bool → State → ℕ → List ℕ
-value_text is_whole s n = if is_whole then whole_text s n else shown_text s n
+-- a shoen's goal as it was started, with what is bound now, as much of it as is told
+abbrev pub told_value : Extent → State → ℕ → List ℕ
+told_value e s n = unwrap_or (value_text e s n) []
 
 -- its line
-unfoldable pub value_line : Bool → State → ℕ → List ℕ
-value_line is_whole s n = written_line (value_text is_whole s n)
+unfoldable pub value_line : Extent → State → ℕ → List ℕ
+value_line e s n = written_line (told_value e s n)
 
 -- the reports of a shoen that the console started, each printed and cut
 abbrev pub reports_by : Option Origin → List (List ℕ)
@@ -172,14 +149,14 @@ ending_of s n raised = ending_in (is_none (first s)) raised (reply_to s (status 
 
 -- what is told of a shoen, as it is wanted
 pub record Tells (wanted : Wanted) (s : State) (n : ℕ) (a : Answers) : Type 0 where
-  pub value : a.value.items ≡ value_line wanted.whole s n
+  pub value : a.value.items ≡ value_line wanted.value s n
   pub reports : a.reports.items ≡ report_lines s n
   pub exceptions : a.exceptions.items ≡ exception_lines s n
   pub ending : a.ending ≡ ending_of s n (is_raised s n)
 
--- what is written to the first stream: the goal, whole if that is wanted, and the reports if they are wanted
+-- what is written to the first stream: as much of the goal as is wanted, and the reports if they are wanted
 abbrev pub out_text : Wanted → State → ℕ → List ℕ
-out_text wanted s n = value_line wanted.whole s n ++ (if wanted.reports then report_lines s n else [])
+out_text wanted s n = value_line wanted.value s n ++ (if wanted.reports then report_lines s n else [])
 
 -- the shoen's run is over, and what is told of it was written to two streams, and nothing else
 pub record Shows (w : Worked) (wanted : Wanted) (out out' err err' : Stream) (e : Ending) (k : Kept) : Type 0 where

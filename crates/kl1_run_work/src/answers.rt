@@ -4,7 +4,7 @@ ghost use Rattle.std.specs.Prelude.{◌≡◌, ◌∷◌, ◌++◌, IfOk, OnOk};
 ghost use Rattle.kl1_model.specs.Asking.{reply_to};
 ghost use Rattle.kl1_model.specs.Event as model;
 ghost use Rattle.kl1_user_events.specs.Views.{reply_of};
-ghost use Rattle.kl1_run_work.specs.Answers.{shown_in, shown_text, value_text, value_line, ending_by, ending_in, ending_of, Tells};
+ghost use Rattle.kl1_run_work.specs.Answers.{told_value, value_line, ending_by, ending_in, ending_of, Tells};
 
 use crate::asked::ask;
 use crate::ending::Ending;
@@ -13,7 +13,7 @@ use crate::reports::{Reported, reported_by};
 use crate::wanted::Wanted;
 use kl1_command::UnbookedHost;
 use kl1_model::Condition;
-use kl1_user_events::{Query, Reply, ShoenNo};
+use kl1_user_events::{Extent, Query, Reply, ShoenNo};
 use std::alloc::{AllocError, Global};
 
 /// What is told of a shoen, as lines.
@@ -29,58 +29,19 @@ pub struct Answers {
     pub ending: Ending,
 }
 
-/// The goal that a reply shows.
-fn shown_in(alloc: Global, reply: Reply) -> Vec<u8>
-    ensures { result.items ≡ shown_in (reply_of reply) }
-{
-    match reply {
-        Reply::Shown(text) => text,
-        Reply::Loaded(_name) => Vec::new(alloc),
-        Reply::Opened(_shoen) => Vec::new(alloc),
-        Reply::Sent => Vec::new(alloc),
-        Reply::Reduced => Vec::new(alloc),
-        Reply::Ran(_steps) => Vec::new(alloc),
-        Reply::Status { .. } => Vec::new(alloc),
-        Reply::Listed(_texts) => Vec::new(alloc),
-        Reply::Quiet(_is_quiet) => Vec::new(alloc),
-        Reply::Welcome(_name) => Vec::new(alloc),
-        Reply::Bye => Vec::new(alloc),
-        Reply::Reset => Vec::new(alloc),
-        Reply::Refused(_refusal) => Vec::new(alloc),
-    }
-}
-
-/// A shoen's goal as started, with what is bound now, as a reply shows it.
-fn shown_text<H: UnbookedHost>(
-    alloc: Global,
-    host: &mut H,
-    shoen: ShoenNo,
-) -> Result<Vec<u8>, AllocError>
-    ensures text { IfOk result (λ text. (f : H.Reading) → H.fits host.new f → text.items ≡ shown_text (H.kept f host.new).state shoen.0) }
-    ensures same { (f : H.Reading) → H.fits host.new f → H.kept f host.new ≡ H.kept f host.old }
-    ensures before { (f : H.Reading) → H.fits host.new f → H.fits host.old f }
-    ensures beside { H.beside host.new ≡ H.beside host.old }
-{
-    let reply = ask(host, Query::Value(shoen))?;
-    Ok(shown_in(alloc, reply))
-}
-
-/// That goal whole, or as a reply shows it.
+/// A shoen's goal as started, with what is bound now, cut or whole.
 fn value_text<H: UnbookedHost>(
     alloc: Global,
     host: &mut H,
     shoen: ShoenNo,
-    is_whole: bool,
+    extent: Extent,
 ) -> Result<Vec<u8>, AllocError>
-    ensures text { IfOk result (λ text. (f : H.Reading) → H.fits host.new f → text.items ≡ value_text is_whole (H.kept f host.new).state shoen.0) }
+    ensures text { IfOk result (λ text. (f : H.Reading) → H.fits host.new f → text.items ≡ told_value extent (H.kept f host.new).state shoen.0) }
     ensures same { (f : H.Reading) → H.fits host.new f → H.kept f host.new ≡ H.kept f host.old }
     ensures before { (f : H.Reading) → H.fits host.new f → H.fits host.old f }
     ensures beside { H.beside host.new ≡ H.beside host.old }
 {
-    if !is_whole {
-        return shown_text(alloc, host, shoen);
-    }
-    match host.whole_value(shoen)? {
+    match host.value_text(shoen, extent)? {
         Some(text) => Ok(text),
         None => Ok(Vec::new(alloc)),
     }
@@ -91,14 +52,14 @@ fn value_line<H: UnbookedHost>(
     alloc: Global,
     host: &mut H,
     shoen: ShoenNo,
-    is_whole: bool,
+    extent: Extent,
 ) -> Result<Vec<u8>, AllocError>
-    ensures value { IfOk result (λ line. (f : H.Reading) → H.fits host.new f → line.items ≡ value_line is_whole (H.kept f host.new).state shoen.0) }
+    ensures value { IfOk result (λ line. (f : H.Reading) → H.fits host.new f → line.items ≡ value_line extent (H.kept f host.new).state shoen.0) }
     ensures same { (f : H.Reading) → H.fits host.new f → H.kept f host.new ≡ H.kept f host.old }
     ensures before { (f : H.Reading) → H.fits host.new f → H.fits host.old f }
     ensures beside { H.beside host.new ≡ H.beside host.old }
 {
-    let mut line = value_text(alloc, host, shoen, is_whole)?;
+    let mut line = value_text(alloc, host, shoen, extent)?;
     line.push(b'\n')?;
     Ok(line)
 }
@@ -181,7 +142,7 @@ pub fn answers_of<H: UnbookedHost>(
     ensures before { (f : H.Reading) → H.fits host.new f → H.fits host.old f }
     ensures beside { H.beside host.new ≡ H.beside host.old }
 {
-    let value = value_line(alloc, host, shoen, wanted.whole)?;
+    let value = value_line(alloc, host, shoen, wanted.value)?;
     let Reported {
         reports,
         exceptions,

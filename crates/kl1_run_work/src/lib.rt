@@ -30,7 +30,7 @@ pub use kl1_lines::{DeviceFailed, FailureCounter, Sink};
 pub use kl1_model::limits::{MOST_ALLOWANCE, MOST_SOURCE_BYTES, MOST_STEPS};
 pub use kl1_read::{ReadFault, read_goal};
 pub use kl1_term::Term;
-pub use kl1_user_events::{Refusal, ShoenNo};
+pub use kl1_user_events::{Extent, Refusal, ShoenNo};
 pub use script::{put_script, start_length};
 pub use shell::run;
 pub use source_file::SourceFile;

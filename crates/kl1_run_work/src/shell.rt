@@ -32,8 +32,8 @@ fn write_value<W: Sink>(answers: &Answers, wanted: Wanted, out: &mut W) -> Resul
     finish(out, answers.reports.as_slice())
 }
 
-/// Does the work, and writes what is told of the goal's shoen: its value, whole if that is wanted, and its reports if they
-/// are wanted, to the first stream, and its exceptions to the second.
+/// Does the work, and writes what is told of the goal's shoen: as much of its value as is wanted, and its reports if they are
+/// wanted, to the first stream, and its exceptions to the second.
 pub fn run<H: UnbookedHost, T: Watch, W: Sink, E: Sink>(
     alloc: Global,
     host: &mut H,

@@ -1,10 +1,12 @@
 // What is wanted to be told of a goal.
 
+use kl1_user_events::Extent;
+
 /// What is wanted to be told of a goal once its run is over.
 #[derive(Clone, Copy)]
 pub struct Wanted {
     /// Whether its reports are wanted too.
     pub reports: bool,
-    /// Whether its value is wanted whole, and not cut after 4,000 bytes.
-    pub whole: bool,
+    /// How much of its value is wanted.
+    pub value: Extent,
 }

@@ -5,6 +5,7 @@ use Rattle.kl1_model.specs.declared.rules.Rules.TheVariants.{Four}
 use Rattle.kl1_model.specs.Term.{Term}
 use Rattle.kl1_model.specs.Event.{Refusal}
 use Rattle.kl1_model_server.specs.Journal.{Kept, fresh_kept}
+use Rattle.kl1_user_events.specs.declared.goal_view.Extent.TheVariants.{Whole}
 use Rattle.kl1_run_work.specs.declared.answers.Answers.{Answers}
 use Rattle.kl1_run_work.specs.declared.stop.Stop.{Stop}
 use Rattle.kl1_run_work.specs.declared.stop.Stop.TheVariants as stop
@@ -16,7 +17,7 @@ pub record IsTold (w : Worked) (a : Answers) : Type 0 where
   pub shoen : ℕ
   pub after : Kept
   pub works : w ≡ worked shoen after
-  pub tells : Tells (record { reports = false; whole = true }) after.state shoen a
+  pub tells : Tells (record { reports = false; value = Whole }) after.state shoen a
 
 -- no shoen was started, as the definitions refuse the goal
 pub record IsRefused (w : Worked) : Type 0 where

@@ -9,8 +9,8 @@ ghost use Rattle.kl1_test.specs.Reports.{allowance_of};
 use kl1_atoms::{AtomTable, SharedAtoms};
 use kl1_codes::PlainCodes;
 use kl1_run_work::{
-    Answers, MOST_ALLOWANCE, SourceFile, Stop, UnbookedHost, Wanted, Watch, Work, answers_of,
-    do_work,
+    Answers, Extent, MOST_ALLOWANCE, SourceFile, Stop, UnbookedHost, Wanted, Watch, Work,
+    answers_of, do_work,
 };
 use kl1_test_lines::{Expectation, Test};
 use kl1_world::{AccountName, Rules, World};
@@ -83,7 +83,7 @@ fn answered<H: UnbookedHost>(alloc: Global, host: &mut H, work: Work) -> Result<
         Ok(shoen) => {
             let wanted = Wanted {
                 reports: false,
-                whole: true,
+                value: Extent::Whole,
             };
             match answers_of(alloc, host, shoen, wanted) {
                 Ok(answers) => Ok(answers),

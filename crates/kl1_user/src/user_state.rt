@@ -13,7 +13,6 @@ ghost use Rattle.kl1_user_effects.specs.Fitting.{Reading, Fits};
 ghost use Rattle.kl1_user_effects.specs.Account.{state_of, texts_of};
 ghost use Rattle.kl1_user_effects.specs.Naming.{IsNameList, Keeps};
 ghost use Rattle.kl1_user_events.specs.Views.{event_of, is_logout, query_of, reply_of, reduced_or, chosen_of};
-ghost use Rattle.kl1_user_events.specs.Whole.{whole_value};
 
 use kl1_atoms::AtomSource;
 use kl1_codes::CodeSource;
@@ -167,23 +166,6 @@ impl<A: AtomSource, C: CodeSource> UserState<A, C> {
             Query::Modules => self.account.modules(codes),
             Query::Quiet => Ok(Reply::Quiet(self.account.quiet())),
         }
-    }
-
-    /// The goal of shoen `number`, as started, with what is bound now, without the cut of a reply; `None` if the
-    /// console started no shoen of this number.
-    pub fn whole_value(
-        &self,
-        names: &mut A,
-        seat: &mut A::Seat,
-        number: u64,
-    ) -> Result<Option<Vec<u8>>, AllocError>
-        requires of { A.is_of names.old seat.old }
-        requires knows { A.knows seat.old ≡ self.now.names }
-        ensures whole { IfOk result (λ shown. (f : Reading) → Fits self.now.names f → option_map (λ text. text.items) shown ≡ whole_value (state_of f self.now) number) }
-        ensures keeps { Keeps A.is_of A.place A.knows A.published names.old names.new seat.old seat.new }
-        ensures knows { A.knows seat.new ≡ self.now.names }
-    {
-        self.account.whole_value(names, seat, number)
     }
 
     /// Reduces a goal by a clause, or says why it is refused: what `apply` does if the event is a reduction, and its reply.

@@ -7,7 +7,8 @@ use Rattle.kl1_model.specs.State.{shoen_at}
 use Rattle.kl1_model.specs.Event.{no_shoen, syntax, shown, refuse, read, value, Transition, is_number}
 use Rattle.kl1_model.specs.code.Steps.{value_of}
 use Rattle.kl1_model.specs.Step.{step, origin_at}
-use Rattle.kl1_user_events.specs.Whole.{whole_of, whole_value}
+use Rattle.kl1_user_events.specs.declared.goal_view.Extent.{Extent}
+use Rattle.kl1_user_events.specs.Viewing.{text_of, kept_text, value_text}
 use Rattle.kl1_text.specs.declared.cell_name.CellName.{CellName}
 use Rattle.kl1_store.specs.Held.{Held}
 use Rattle.kl1_shoen_paths.specs.declared.shoen.Origin.{Origin}
@@ -65,10 +66,10 @@ reads_none f a n b e = reads_as f a n None b e
 pub reads_some : (f : Reading) (a : Account) (n : ℕ) (o : Origin CellName) (text : List ℕ) → is_number n ≡ true → kept_at n a.shoens ≡ Some o → text ≡ cut_text 4000 (print (meaning f a.held o.goal)) → step (state_of f a) (read (value n)) ≡ record { state = state_of f a; reply = shown text }
 reads_some f a n o text b e is = reads_as f a n (Some o) b e ∙ ap (λ (t : List ℕ). let z : Transition = record { state = state_of f a; reply = shown t } in z) (sym is)
 
--- nothing is shown whole if nothing is kept
-pub whole_none : (f : Reading) (a : Account) (n : ℕ) → kept_at n a.shoens ≡ None → None ≡ whole_value (state_of f a) n
-whole_none f a n e = sym (ap whole_of (origin_is f a n None e))
+-- nothing is shown if nothing is kept
+pub none_shown : (x : Extent) (f : Reading) (a : Account) (n : ℕ) → kept_at n a.shoens ≡ None → None ≡ value_text x (state_of f a) n
+none_shown x f a n e = sym (ap (kept_text x) (origin_is f a n None e))
 
--- what is kept is shown whole
-pub whole_some : (f : Reading) (a : Account) (n : ℕ) (o : Origin CellName) (text : List ℕ) → kept_at n a.shoens ≡ Some o → text ≡ print (meaning f a.held o.goal) → Some text ≡ whole_value (state_of f a) n
-whole_some f a n o text e is = ap Some is ∙ sym (ap whole_of (origin_is f a n (Some o) e))
+-- what is kept is shown
+pub kept_shown : (x : Extent) (f : Reading) (a : Account) (n : ℕ) (o : Origin CellName) (text : List ℕ) → kept_at n a.shoens ≡ Some o → text ≡ text_of x (meaning f a.held o.goal) → Some text ≡ value_text x (state_of f a) n
+kept_shown x f a n o text e is = ap Some is ∙ sym (ap (kept_text x) (origin_is f a n (Some o) e))

@@ -14,7 +14,6 @@ ghost use Rattle.kl1_user_effects.specs.Naming.{Keeps};
 ghost use Rattle.kl1_user_account.specs.Starting.{HasNames};
 ghost use Rattle.kl1_user_events.specs.Views.{reply_of, reduced_or, chosen_of};
 ghost use Rattle.kl1_codes.specs.Numbered.{ArePlaced};
-ghost use Rattle.kl1_user_events.specs.Whole.{whole_value};
 
 use crate::account_name::AccountName;
 use crate::answerable::{Answering, code_of_answer};
@@ -588,29 +587,6 @@ impl<C: CodeSource> Account<C> {
                     Some(MOST_PRINTED_BYTES),
                 )?;
                 Ok(Reply::Shown(text))
-            }
-        }
-    }
-
-    /// The goal of shoen `number`, as started, with what is bound now, without the cut of a reply; `None` if the
-    /// console started no shoen of this number.
-    pub fn whole_value<A: AtomSource>(
-        &self,
-        names: &mut A,
-        seat: &mut A::Seat,
-        number: u64,
-    ) -> Result<Option<Vec<u8>>, AllocError>
-        requires of { A.is_of names.old seat.old }
-        requires knows { A.knows seat.old ≡ self.now.names }
-        ensures whole { IfOk result (λ shown. (f : Reading) → Fits self.now.names f → option_map (λ text. text.items) shown ≡ whole_value (state_of f self.now) number) }
-        ensures keeps { Keeps A.is_of A.place A.knows A.published names.old names.new seat.old seat.new }
-        ensures knows { A.knows seat.new ≡ self.now.names }
-    {
-        match self.shoens.origin_at(number) {
-            None => Ok(None),
-            Some(origin) => {
-                let text = print_cell(self.alloc, names, seat, &self.store, origin.goal, None)?;
-                Ok(Some(text))
             }
         }
     }

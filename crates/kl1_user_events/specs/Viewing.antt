@@ -8,9 +8,9 @@ use Rattle.kl1_model.specs.declared.limits.Limits.{Limits}
 use Rattle.kl1_model.specs.Term.{Term, occurs}
 use Rattle.kl1_model.specs.Print.{print, cut_text, cut_print}
 use Rattle.kl1_model.specs.Control.{control_of}
-use Rattle.kl1_model.specs.State.{Task, monitor, reduces, substitutes, Goal, Shoen, State, goal_at, shoen_at, is_monitor, limits_of}
+use Rattle.kl1_model.specs.State.{Task, monitor, reduces, substitutes, Goal, Origin, Shoen, State, goal_at, shoen_at, is_monitor, limits_of}
 use Rattle.kl1_model.specs.Tree.{charged_of, goals_alive}
-use Rattle.kl1_model.specs.Asking.{condition_of}
+use Rattle.kl1_model.specs.Asking.{condition_of, origin_at}
 use Rattle.kl1_model.specs.Choice.{can_step}
 use Rattle.kl1_model.specs.code.Awaited.{awaited_by_control}
 use Rattle.kl1_model.specs.code.TermCode.{NodeCode, nodes_of}
@@ -90,6 +90,14 @@ abbrev pub text_of : Extent → Term → List ℕ
 text_of Cut t = cut_print t
 text_of (AtMost most) t = cut_text most (print t)
 text_of Whole t = print t
+
+-- as much as is shown of what the console keeps
+abbrev pub kept_text : Extent → Option Origin → Option (List ℕ)
+kept_text e o = option_map (λ kept. text_of e kept.goal) o
+
+-- as much as is shown of the goal of shoen `n`, which the console started, with what is bound now
+abbrev pub value_text : Extent → State → ℕ → Option (List ℕ)
+value_text e s n = kept_text e (origin_at n s.shoens)
 
 -- what is shown of the term of goal `n`, if there is such a goal and it is no monitor
 abbrev pub goal_text : Extent → State → ℕ → Option (List ℕ)

@@ -10,7 +10,6 @@ ghost use Rattle.kl1_model_server.specs.JournalText.{page_of};
 ghost use Rattle.kl1_atoms.specs.Names.{AreNames};
 ghost use Rattle.kl1_journal.specs.Keeping.{Reading, Fits};
 ghost use Rattle.kl1_user_events.specs.Views.{event_of, is_logout, reply_of, reduced_or, chosen_of};
-ghost use Rattle.kl1_user_events.specs.Whole.{whole_value};
 ghost use Rattle.kl1_command.specs.Commands.{command_view};
 ghost use Rattle.kl1_command.specs.Performing.{IsUntouched, Performs};
 ghost use Rattle.kl1_journal.specs.Keeping.{IsKept, kept_of};
@@ -22,7 +21,7 @@ use kl1_atoms::AtomSource;
 use kl1_codes::CodeSource;
 use kl1_command::{Command, Host, Performed, UnbookedHost, perform};
 use kl1_journal::{AccountName, JournaledAccount, Rules};
-use kl1_user_events::{ClauseNo, Event, GoalNo, Listed, Refusal, Reply, ShoenNo};
+use kl1_user_events::{ClauseNo, Event, Extent, GoalNo, Listed, Refusal, Reply, ShoenNo};
 use std::alloc::{AllocError, Global};
 use std::marker::Model;
 
@@ -114,20 +113,6 @@ impl<A: AtomSource + Drop, C: CodeSource + Drop> World<A, C> {
     {
         let kept = &mut self.accounts[account];
         kept.reduce(&mut self.names, &self.code_source, goal, clause)
-    }
-
-    /// The goal of a shoen of an account, as started, with what is bound now, whole.
-    fn whole_value_at(
-        &mut self,
-        account: usize,
-        shoen: ShoenNo,
-    ) -> Result<Option<Vec<u8>>, AllocError>
-        requires { account < length self.old.0 }
-        ensures whole { IfOk result (λ shown. (f : Reading) → Fits (account_in self.new.0 account).0.names f → option_map (λ text. text.items) shown ≡ whole_value (kept_of f (account_in self.new.0 account)).state shoen.0) }
-        ensures same { self.new ≡ self.old }
-    {
-        let kept = &mut self.accounts[account];
-        kept.whole_value(&mut self.names, shoen)
     }
 
     /// The lines of an account's journal from one on, the first being 1, at most `count` of them.
@@ -273,8 +258,12 @@ impl<A: AtomSource + Drop, C: CodeSource + Drop> Host for World<A, C> {
 impl<A: AtomSource + Drop, C: CodeSource + Drop> UnbookedHost for World<A, C> {
     ghost use Rattle.std.specs.Prelude.{refl};
 
-    fn whole_value(&mut self, shoen: ShoenNo) -> Result<Option<Vec<u8>>, AllocError> {
-        self.whole_value_at(self.at, shoen)
+    fn value_text(
+        &mut self,
+        shoen: ShoenNo,
+        extent: Extent,
+    ) -> Result<Option<Vec<u8>>, AllocError> {
+        self.value_text_at(self.at, shoen, extent)
     }
 
     ghost unbooked = { λ w. refl };

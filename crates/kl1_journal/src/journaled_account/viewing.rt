@@ -3,7 +3,7 @@
 ghost use Rattle.std.specs.Prelude.{◌≡◌, IfOk, option_map};
 ghost use Rattle.kl1_codes.specs.Numbered.{ArePlaced};
 ghost use Rattle.kl1_user.specs.Accounts.{Reading, Fits};
-ghost use Rattle.kl1_user_events.specs.Viewing.{shoen_page, goal_page, goal_text, goal_term, AreAwaited, IsPresence, usage_of};
+ghost use Rattle.kl1_user_events.specs.Viewing.{shoen_page, goal_page, value_text, goal_text, goal_term, AreAwaited, IsPresence, usage_of};
 ghost use Rattle.kl1_journal.specs.Keeping.{kept_of};
 
 use crate::journaled_account::JournaledAccount;
@@ -25,6 +25,24 @@ impl<A: AtomSource, C: CodeSource> JournaledAccount<A, C> {
         ensures { IfOk result (λ views. (f : Reading) → Fits self.now.1.0.names f → views.items ≡ goal_page (kept_of f self.now.1).state from.0 count) }
     {
         self.user.goals_from(from, count)
+    }
+
+    /// The text of the goal of a shoen, as started, with what is bound now, cut or whole; `None` if the console started no shoen of this
+    /// number. The account and its journal stay.
+    pub fn value_text(
+        &mut self,
+        names: &mut A,
+        shoen: ShoenNo,
+        extent: Extent,
+    ) -> Result<Option<Vec<u8>>, AllocError>
+        requires of { A.is_of names.old self.old.0 }
+        ensures text { IfOk result (λ shown. (f : Reading) → Fits self.new.1.0.names f → option_map (λ text. text.items) shown ≡ value_text extent (kept_of f self.new.1).state shoen.0) }
+        ensures same { self.new.1 ≡ self.old.1 }
+        ensures of { A.is_of names.new self.new.0 }
+        ensures place { A.place self.new.0 ≡ A.place self.old.0 }
+        ensures others { (other : A.Seat) → A.is_of names.old other → (A.place other ≡ A.place self.old.0 → ⊥) → A.is_of names.new other }
+    {
+        self.user.value_text(names, &mut self.seat, shoen, extent)
     }
 
     /// The text of the term of a goal, cut or whole; `None` if there is no such goal, or it is a monitor. The account and its journal

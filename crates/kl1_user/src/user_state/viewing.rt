@@ -5,7 +5,7 @@ ghost use Rattle.kl1_codes.specs.Numbered.{ArePlaced};
 ghost use Rattle.kl1_user_effects.specs.Fitting.{Reading, Fits};
 ghost use Rattle.kl1_user_effects.specs.Account.{state_of};
 ghost use Rattle.kl1_user_effects.specs.Naming.{Keeps};
-ghost use Rattle.kl1_user_events.specs.Viewing.{shoen_page, goal_page, goal_text, goal_term, AreAwaited, IsPresence, usage_of};
+ghost use Rattle.kl1_user_events.specs.Viewing.{shoen_page, goal_page, value_text, goal_text, goal_term, AreAwaited, IsPresence, usage_of};
 
 use crate::user_state::UserState;
 use kl1_atoms::AtomSource;
@@ -26,6 +26,24 @@ impl<A: AtomSource, C: CodeSource> UserState<A, C> {
         ensures { IfOk result (λ views. (f : Reading) → Fits self.now.names f → views.items ≡ goal_page (state_of f self.now) from.0 count) }
     {
         self.account.goals_from(from.0, count)
+    }
+
+    /// The text of the goal of a shoen, as started, with what is bound now, cut or whole; `None` if the console started no shoen of this
+    /// number.
+    pub fn value_text(
+        &self,
+        names: &mut A,
+        seat: &mut A::Seat,
+        shoen: ShoenNo,
+        extent: Extent,
+    ) -> Result<Option<Vec<u8>>, AllocError>
+        requires of { A.is_of names.old seat.old }
+        requires knows { A.knows seat.old ≡ self.now.names }
+        ensures text { IfOk result (λ shown. (f : Reading) → Fits self.now.names f → option_map (λ text. text.items) shown ≡ value_text extent (state_of f self.now) shoen.0) }
+        ensures keeps { Keeps A.is_of A.place A.knows A.published names.old names.new seat.old seat.new }
+        ensures knows { A.knows seat.new ≡ self.now.names }
+    {
+        self.account.value_text(names, seat, shoen.0, extent)
     }
 
     /// The text of the term of a goal, cut or whole; `None` if there is no such goal, or it is a monitor.

@@ -5,14 +5,15 @@ ghost use Rattle.kl1_codes.specs.Numbered.{ArePlaced};
 ghost use Rattle.kl1_user_effects.specs.Account.{state_of};
 ghost use Rattle.kl1_user_effects.specs.Fitting.{Reading, Fits};
 ghost use Rattle.kl1_user_effects.specs.Naming.{Keeps};
-ghost use Rattle.kl1_user_events.specs.Viewing.{shoen_page, goal_page, goal_text, goal_term, AreAwaited, IsPresence, usage_of, used};
+ghost use Rattle.kl1_user_events.specs.Viewing.{shoen_page, goal_page, value_text, goal_text, goal_term, AreAwaited, IsPresence, usage_of, used};
 
 use crate::account::Account;
+use crate::printing::print_cell;
 use crate::viewing::awaiting::awaited_by;
 use crate::viewing::goals::goals_from;
 use crate::viewing::presence::presence_of;
 use crate::viewing::shoens::shoens_from;
-use crate::viewing::texts::print_task;
+use crate::viewing::texts::{most_of, print_task};
 use kl1_atoms::AtomSource;
 use kl1_codes::{CodeSource, CodedModules};
 use kl1_model::limits::MOST_NAMES;
@@ -41,6 +42,31 @@ impl<C: CodeSource> Account<C> {
         ensures { IfOk result (λ views. (f : Reading) → Fits self.now.names f → views.items ≡ goal_page (state_of f self.now) from count) }
     {
         goals_from(self.alloc, &self.goals, from, count)
+    }
+
+    /// The text of the goal of shoen `number`, as started, with what is bound now, cut or whole; `None` if the console started no shoen
+    /// of this number.
+    pub fn value_text<A: AtomSource>(
+        &self,
+        names: &mut A,
+        seat: &mut A::Seat,
+        number: u64,
+        extent: Extent,
+    ) -> Result<Option<Vec<u8>>, AllocError>
+        requires of { A.is_of names.old seat.old }
+        requires knows { A.knows seat.old ≡ self.now.names }
+        ensures text { IfOk result (λ shown. (f : Reading) → Fits self.now.names f → option_map (λ text. text.items) shown ≡ value_text extent (state_of f self.now) number) }
+        ensures keeps { Keeps A.is_of A.place A.knows A.published names.old names.new seat.old seat.new }
+        ensures knows { A.knows seat.new ≡ self.now.names }
+    {
+        match self.shoens.origin_at(number) {
+            None => Ok(None),
+            Some(origin) => {
+                let most = most_of(extent);
+                let text = print_cell(self.alloc, names, seat, &self.store, origin.goal, most)?;
+                Ok(Some(text))
+            }
+        }
     }
 
     /// The text of the term of goal `number`, cut or whole; `None` if no goal has the number, or it is a monitor's.

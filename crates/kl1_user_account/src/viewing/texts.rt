@@ -20,7 +20,7 @@ use kl1_user_events::Extent;
 use std::alloc::{AllocError, Global};
 
 /// After how many bytes a text is cut; `None` if it isn't.
-fn most_of(extent: Extent) -> Option<usize>
+pub(crate) fn most_of(extent: Extent) -> Option<usize>
     ensures { (t : Term) → limited result (print t) ≡ text_of extent t }
 {
     match extent {

@@ -2,7 +2,7 @@
 
 ghost use Rattle.std.specs.Prelude.{◌≡◌, ◌<◌, length, IfOk, option_map};
 ghost use Rattle.kl1_journal.specs.Keeping.{Reading, Fits, kept_of};
-ghost use Rattle.kl1_user_events.specs.Viewing.{goal_text, AreAwaited};
+ghost use Rattle.kl1_user_events.specs.Viewing.{value_text, goal_text, AreAwaited};
 ghost use Rattle.kl1_world.specs.Worlds.{account_in};
 
 use crate::world::World;
@@ -27,6 +27,21 @@ impl<A: AtomSource + Drop, C: CodeSource + Drop> World<A, C> {
     {
         let kept = &self.accounts[self.at];
         kept.awaited(&self.code_source, goal)
+    }
+
+    /// The text of the goal of a shoen of an account, as started, with what is bound now, cut or whole.
+    pub(crate) fn value_text_at(
+        &mut self,
+        account: usize,
+        shoen: ShoenNo,
+        extent: Extent,
+    ) -> Result<Option<Vec<u8>>, AllocError>
+        requires { account < length self.old.0 }
+        ensures text { IfOk result (λ shown. (f : Reading) → Fits (account_in self.new.0 account).0.names f → option_map (λ text. text.items) shown ≡ value_text extent (kept_of f (account_in self.new.0 account)).state shoen.0) }
+        ensures same { self.new ≡ self.old }
+    {
+        let kept = &mut self.accounts[account];
+        kept.value_text(&mut self.names, shoen, extent)
     }
 
     /// The text of the term of a goal of an account, cut or whole.

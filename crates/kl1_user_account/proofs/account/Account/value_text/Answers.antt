@@ -1,12 +1,12 @@
 use Rattle.std.proofs.Common.{◌≡◌, List, sym, ap, ◌∙◌, subst}
 use Rattle.std.specs.Prelude.{Some, None}
-use Rattle.kl1_user_events.specs.Whole.{whole_value}
+use Rattle.kl1_user_events.specs.Viewing.{value_text}
 use Rattle.kl1_atoms.specs.declared.known.Known.{Known}
 use Rattle.kl1_user_effects.specs.Fitting.{Fits}
 use Rattle.kl1_user_effects.specs.Account.{Account, state_of}
 use Rattle.kl1_user_account.specs.Accounts.{kept_in}
-use Rattle.kl1_user_account.proofs.Origins.{kept_at, origin_in, goal_named, whole_none, whole_some}
-use Rattle.kl1_user_account.proofs.account.Account.whole_value.Goals as goal
+use Rattle.kl1_user_account.proofs.Origins.{kept_at, origin_in, goal_named, none_shown, kept_shown}
+use Rattle.kl1_user_account.proofs.account.Account.value_text.Goals as goal
 
 pub print_cell-requires-clause-cell : goal.print_cell-requires-clause-cell
 print_cell-requires-clause-cell g c =
@@ -24,20 +24,20 @@ print_cell-requires-clause-named g c =
     let K : List Known → Type 0 = λ ks. Fits ks k in
     goal_named f k (kept_in u) c.args.number c.in-Some.origin e (c.self.invariant.0.named f k (subst F names a) (subst K names b))
 
-pub returns-in-None-clause-whole : goal.returns-in-None-clause-whole
-returns-in-None-clause-whole g c =
+pub returns-in-None-clause-text : goal.returns-in-None-clause-text
+returns-in-None-clause-text g c =
     let u = c.self.inside in
     let e : kept_at c.args.number u.shoens.shoens ≡ None = sym c.origin_at.ensures ∙ c.in-None.is in
     λ f fits.
-    let P : Account → Type 0 = λ a. None ≡ whole_value (state_of f a) c.args.number in
-    subst P c.self.view_is (whole_none f (kept_in u) c.args.number e)
+    let P : Account → Type 0 = λ a. None ≡ value_text c.args.extent (state_of f a) c.args.number in
+    subst P c.self.view_is (none_shown c.args.extent f (kept_in u) c.args.number e)
 
-pub returns-in_ok-text-in-Some-clause-whole : goal.returns-in_ok-text-in-Some-clause-whole
-returns-in_ok-text-in-Some-clause-whole g c =
+pub returns-in_ok-text-in-Some-clause-text : goal.returns-in_ok-text-in-Some-clause-text
+returns-in_ok-text-in-Some-clause-text g c =
     let u = c.self.inside in
     let e : kept_at c.args.number u.shoens.shoens ≡ Some c.in-Some.origin = sym c.origin_at.ensures ∙ c.in-Some.is in
     λ f fits.
-    let P : Account → Type 0 = λ a. Some c.in_ok-text-in-Some.text.items ≡ whole_value (state_of f a) c.args.number in
+    let P : Account → Type 0 = λ a. Some c.in_ok-text-in-Some.text.items ≡ value_text c.args.extent (state_of f a) c.args.number in
     let F : List Known → Type 0 = λ ks. Fits ks f in
     subst P c.self.view_is
-    (whole_some f (kept_in u) c.args.number c.in-Some.origin c.in_ok-text-in-Some.text.items e (c.in_ok-text-in-Some.ensures.text f (subst F (sym c.requires.knows) fits)))
+    (kept_shown c.args.extent f (kept_in u) c.args.number c.in-Some.origin c.in_ok-text-in-Some.text.items e (c.in_ok-text-in-Some.ensures.text f (subst F (sym c.requires.knows) fits) ∙ c.most_of.ensures (meaning f u.held c.in-Some.origin.goal)))
