@@ -78,6 +78,13 @@ impl Journal {
         })
     }
 
+    /// The names that were used at the last reset, in order of first use.
+    pub fn names(&self) -> &[AtomText]
+        ensures { result.now ≡ self.now.journal.names }
+    {
+        self.names.as_slice()
+    }
+
     /// Whether there is room for one entry more.
     #[inline]
     fn has_room(&self) -> bool
