@@ -4,14 +4,11 @@ use kl1_lines::put_decimal;
 use kl1_shown::parse_print;
 use kl1_term::Node;
 use kl1_text::{AtomText, put_atom, put_int};
-use kl1_trace_work::{put_front, split_term};
+use kl1_trace_work::{MOST_TEXT, put_front, split_term};
 use std::alloc::{AllocError, Global};
 
 /// The most bytes of a label.
 const MOST_LABEL: usize = 24;
-
-/// The most of a goal from which its label is taken.
-const MOST_READ: usize = 400;
 
 /// The most arguments of a label.
 const MOST_SHOWN: u64 = 2;
@@ -65,7 +62,7 @@ fn put_arguments(
 
 /// The label of a lane that begins with a printed goal: its predicate's name with its first plain arguments.
 pub fn label_of(alloc: Global, print: &[u8]) -> Result<Vec<u8>, AllocError> {
-    let parsed = parse_print(alloc, print.get(..MOST_READ).unwrap_or(print))?;
+    let parsed = parse_print(alloc, print.get(..MOST_TEXT).unwrap_or(print))?;
     let nodes = match parsed.nodes.as_slice() {
         [Node::Structure(sign, 2), Node::Atom(_module), rest @ ..]
             if sign.unpacked().as_slice() == b":".as_slice() => rest,

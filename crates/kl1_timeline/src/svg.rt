@@ -51,7 +51,7 @@ text { font-family: DejaVu Sans, Verdana, sans-serif; font-size: 11px; fill: #22
 
 /// What the forms mean.
 pub const LEGEND: &[u8] =
-    b"a lane for each process; dot: reduction, small dot: = or :=, square: exception, bar: waits, arrow: a binding wakes, dashes: new process, dots: reports";
+    b"a lane for each process; dot: reduction, small dot: = or :=, square, dash-dot: exception, bar: waits, arrow: a binding wakes, dashes: new process, dots: report";
 
 /// Puts a line of text at a height after the bytes.
 pub fn put_text(class: &[u8], y: u64, text: &[u8], out: &mut Vec<u8>) -> Result<(), AllocError> {

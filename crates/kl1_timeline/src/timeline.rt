@@ -10,7 +10,8 @@ use kl1_lines::put_decimal;
 use kl1_model::Condition;
 use kl1_steps::Called;
 use kl1_trace_work::{
-    Calling, NewGoal, Next, Pattern, Predicates, Seen, put_kind, put_name, put_readable, word_of,
+    Calling, MOST_TEXT, NewGoal, Next, Pattern, Predicates, Seen, put_kind, put_name, put_readable,
+    word_of,
 };
 use kl1_user_events::{Extent, GoalNo, ShoenNo, TaskKind};
 use std::alloc::{AllocError, Global};
@@ -19,7 +20,7 @@ use std::alloc::{AllocError, Global};
 pub const MOST_STEPS: u64 = 2_000;
 
 /// The most bytes of the text of a step.
-const MOST_TEXT: usize = 200;
+const MOST_SHOWN: usize = 200;
 
 /// The lanes of a run, and what happens in them.
 #[derive(Drop)]
@@ -136,7 +137,7 @@ impl Timeline {
         if !self.pattern.names(predicates.called(goal.predicate)) {
             return Ok(());
         }
-        let label = match host.goal_text(number, Extent::Cut)? {
+        let label = match host.goal_text(number, Extent::AtMost(MOST_TEXT))? {
             Some(text) => label_of(self.alloc, text.as_slice())?,
             None => Vec::new(self.alloc),
         };
@@ -212,7 +213,7 @@ impl Timeline {
         };
         let mut text = Vec::new(self.alloc);
         match &seen.text {
-            Some(print) => put_readable(self.alloc, print.as_slice(), MOST_TEXT, &mut text)?,
+            Some(print) => put_readable(self.alloc, print.as_slice(), MOST_SHOWN, &mut text)?,
             None => put_name(predicates.calling(seen.step.predicate), &mut text)?,
         }
         self.dots.push(Dot {
@@ -278,6 +279,10 @@ impl Timeline {
     {
         let step = seen.step.number;
         if !self.pattern.is_between(step) {
+            if self.first == 0 {
+                // Which goals of the lanes are still there at the first step that is drawn isn't known: they are found as they step.
+                self.drawn = Lanes::new(self.alloc);
+            }
             return Ok(!self.pattern.is_over(step));
         }
         if self.first == 0 {

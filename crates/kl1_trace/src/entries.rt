@@ -109,7 +109,7 @@ impl<W: Write + Drop> Player<'_, W> {
             let mut lines = Vec::new(self.alloc);
             put_event(event, reply, &mut lines)?;
             lines.push(b'\n')?;
-            trace.put_all_new(host, new, &mut lines)?;
+            trace.put_all_new(host, &self.viewer.predicates, new, &mut lines)?;
             trace.tell(lines.as_slice())?;
         }
         draw(host, &mut self.viewer, new)

@@ -49,9 +49,12 @@ fn number_in(print: &[u8]) -> Option<i64> {
     i64::try_from(only_number(print)?).ok()
 }
 
-/// What a goal that computes with one operator comes to, if that is a number.
+/// What a goal that computes comes to, if that is a number.
 pub fn value_in(computing: &Computing<'_>) -> Option<i64> {
-    let left = number_in(computing.left)?;
+    let mut left = number_in(computing.left)?;
+    if let Some((operand, operator)) = computing.first {
+        left = computed(operator, number_in(operand)?, left)?;
+    }
     let right = number_in(computing.right)?;
     computed(computing.operator, left, right)
 }

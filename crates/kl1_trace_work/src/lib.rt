@@ -27,4 +27,4 @@ pub use seen::{NewGoal, Next, Observer, Seen};
 pub use table::put_table;
 pub use texts::{Texts, put_kind, put_name, put_readable, word_of};
 pub use trace::Trace;
-pub use viewer::{Viewer, Watched, watch_first, watch_once, watch_step};
+pub use viewer::{MOST_TEXT, Viewer, Watched, watch_first, watch_once, watch_step};

@@ -38,6 +38,9 @@ struct Predicate {
     bodies: Vec<Body>,
 }
 
+/// The most bytes of a goal in which its end is looked for before all of it is read.
+const MOST_READ: usize = 400;
+
 /// The places of what is no predicate.
 const MONITOR: usize = 0;
 
@@ -113,6 +116,15 @@ impl Predicates {
         match &self.predicates.get(place)?.calling {
             Calling::Calls(called) => Some(called),
             _ => None,
+        }
+    }
+
+    /// How much is read of the text of a goal that calls what is at a place. What is shown stands in its first `most` bytes; of a goal that
+    /// isn't known to call a predicate of a module it may be a side of an equation, which ends with its text.
+    pub fn extent_of(&self, place: usize, most: usize) -> Extent {
+        match self.called(place) {
+            Some(called) if called.module.is_some() => Extent::AtMost(most),
+            _ => Extent::Cut,
         }
     }
 
@@ -331,7 +343,7 @@ fn called_of<H: Views>(
     ensures before { (f : H.Reading) → H.fits host.new f → H.fits host.old f }
     ensures beside { H.beside host.new ≡ H.beside host.old }
 {
-    let Some(text) = host.goal_text(goal, Extent::Cut)? else {
+    let Some(text) = host.goal_text(goal, Extent::AtMost(MOST_READ))? else {
         return Ok(None);
     };
     let parsed = parse_print(alloc, text.as_slice())?;

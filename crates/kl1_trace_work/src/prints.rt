@@ -100,14 +100,24 @@ pub fn variables_of(alloc: Global, print: &[u8]) -> Result<Vec<u64>, AllocError>
     Ok(variables)
 }
 
-/// A printed goal that computes: what is to be bound, and an operator with its operands, which are no expressions and no negative
-/// numbers.
+/// A printed goal that computes: what is to be bound, and an operator with its operands. These are no expressions and no negative
+/// numbers, but the first may be an operator with such operands that needs no parentheses there.
 #[derive(Clone, Copy)]
 pub struct Computing<'a> {
     pub target: &'a [u8],
+    /// The first operand and the first operator, if there are two operators.
+    pub first: Option<(&'a [u8], &'a [u8])>,
     pub left: &'a [u8],
     pub operator: &'a [u8],
     pub right: &'a [u8],
+}
+
+/// A printed operator with two operands.
+#[derive(Clone, Copy)]
+struct Operation<'a> {
+    left: &'a [u8],
+    operator: &'a [u8],
+    right: &'a [u8],
 }
 
 /// How the print of a goal that computes begins.
@@ -118,28 +128,59 @@ fn is_operand(print: &[u8]) -> bool {
     !print.starts_with(b"-") && !may_have_operators(print)
 }
 
-/// A printed goal as one that computes with one operator, if it does.
-pub fn computing_in(print: &[u8]) -> Option<Computing<'_>> {
-    let inner = print
-        .strip_prefix(COMPUTING)?
-        .strip_suffix(b")".as_slice())?;
-    let (target, expression) = split_comma(inner)?;
-    let [b'\'', _, b'\'', b'(', operands @ .., b')'] = expression else {
+/// A print as one of the four operators that are signs with its operands, if it is one.
+fn operation_in(print: &[u8]) -> Option<Operation<'_>> {
+    let [b'\'', _, b'\'', b'(', operands @ .., b')'] = print else {
         return None;
     };
-    let operator = expression.get(1..2)?;
+    let operator = print.get(1..2)?;
     match operator {
         b"+" | b"-" | b"*" | b"/" => {}
         _ => return None,
     }
     let (left, right) = split_comma(operands)?;
-    if is_operand(target) && is_operand(left) && is_operand(right) {
+    Some(Operation {
+        left,
+        operator,
+        right,
+    })
+}
+
+/// Whether an operator makes a product.
+fn is_product(operator: &[u8]) -> bool {
+    operator == b"*".as_slice() || operator == b"/".as_slice()
+}
+
+/// A printed goal as one that computes with one operator, or with two from the left, if it does.
+pub fn computing_in(print: &[u8]) -> Option<Computing<'_>> {
+    let inner = print
+        .strip_prefix(COMPUTING)?
+        .strip_suffix(b")".as_slice())?;
+    let (target, expression) = split_comma(inner)?;
+    let last = operation_in(expression)?;
+    if !is_operand(target) || !is_operand(last.right) {
+        return None;
+    }
+    if is_operand(last.left) {
         return Some(Computing {
             target,
-            left,
-            operator,
-            right,
+            first: None,
+            left: last.left,
+            operator: last.operator,
+            right: last.right,
         });
     }
-    None
+    let first = operation_in(last.left)?;
+    // A sum stands in parentheses in a product.
+    let is_grouped = is_product(last.operator) && !is_product(first.operator);
+    if is_grouped || !is_operand(first.left) || !is_operand(first.right) {
+        return None;
+    }
+    Some(Computing {
+        target,
+        first: Some((first.left, first.operator)),
+        left: first.right,
+        operator: last.operator,
+        right: last.right,
+    })
 }

@@ -29,7 +29,8 @@ pub struct Next {
 #[derive(Drop)]
 pub struct Seen {
     pub step: Next,
-    /// The text of the goal before the step, cut, if that was asked for.
+    /// The text of the goal before the step, if that was asked for: of a predicate of a module at most `MOST_TEXT` bytes, of others as many
+    /// as a reply has of a value.
     pub text: Option<Vec<u8>>,
     /// The goals that are new, in order of their numbers, and how many of them wait for an answer to an exception.
     pub new: Vec<NewGoal>,

@@ -14,7 +14,7 @@ use kl1_watch::Names;
 use std::alloc::{AllocError, Global};
 
 /// The most bytes of a print with operators that are read to show its front, which is shorter than they are.
-const MOST_READ: usize = 300;
+pub(crate) const MOST_READ: usize = 300;
 
 /// How many bytes more than are shown are looked at, as a variable's name may be shorter than its number.
 const BESIDE: usize = 60;
@@ -115,12 +115,26 @@ impl Texts<'_> {
         let begin = out.len();
         self.names.put_named(computing.target, out)?;
         out.extend_from_slice(b" := ")?;
-        self.names.put_named(computing.left, out)?;
-        out.push(b' ')?;
-        out.extend_from_slice(computing.operator)?;
-        out.push(b' ')?;
+        if let Some((operand, operator)) = computing.first {
+            self.put_operand(operand, operator, out)?;
+        }
+        self.put_operand(computing.left, computing.operator, out)?;
         self.names.put_named(computing.right, out)?;
         cut_after(begin, most, false, out)
+    }
+
+    /// Puts an operand and the operator that follows it after the bytes.
+    fn put_operand(
+        &self,
+        operand: &[u8],
+        operator: &[u8],
+        out: &mut Vec<u8>,
+    ) -> Result<(), AllocError> {
+        self.names.put_named(operand, out)?;
+        out.push(b' ')?;
+        out.extend_from_slice(operator)?;
+        out.push(b' ')?;
+        Ok(())
     }
 
     /// Puts a text without operators after the bytes, at most `most` of its own, with the names of variables.

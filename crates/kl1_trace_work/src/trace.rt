@@ -10,13 +10,13 @@ use crate::pattern::Pattern;
 use crate::predicates::Predicates;
 use crate::prints::{computing_in, sides_of, variable_in};
 use crate::seen::{NewGoal, Next, Seen};
-use crate::texts::{Texts, word_of};
+use crate::texts::{MOST_READ, Texts, word_of};
 use kl1_command::Views;
 use kl1_lines::put_decimal;
 use kl1_shown::parse_print;
 use kl1_term::Node;
 use kl1_text::put_int;
-use kl1_user_events::{Extent, GoalNo, ShoenNo, TaskKind};
+use kl1_user_events::{GoalNo, ShoenNo, TaskKind};
 use std::alloc::{AllocError, Global};
 use std::io;
 use std::io::Write;
@@ -239,6 +239,7 @@ impl<'a, W: Write + Drop> Trace<'a, W> {
     fn put_new<H: Views>(
         &self,
         host: &mut H,
+        predicates: &Predicates,
         goal: &NewGoal,
         out: &mut Vec<u8>,
     ) -> Result<(), AllocError>
@@ -250,7 +251,8 @@ impl<'a, W: Write + Drop> Trace<'a, W> {
             TaskKind::Reduces => {}
             _ => return Ok(()),
         }
-        let Some(text) = host.goal_text(goal.view.number, Extent::Cut)? else {
+        let extent = predicates.extent_of(goal.predicate, MOST_READ);
+        let Some(text) = host.goal_text(goal.view.number, extent)? else {
             return Ok(());
         };
         put_sign(b"+ ", out)?;
@@ -286,6 +288,7 @@ impl<'a, W: Write + Drop> Trace<'a, W> {
     pub fn put_all_new<H: Views>(
         &self,
         host: &mut H,
+        predicates: &Predicates,
         new: &[NewGoal],
         out: &mut Vec<u8>,
     ) -> Result<(), AllocError>
@@ -295,7 +298,7 @@ impl<'a, W: Write + Drop> Trace<'a, W> {
     {
         let mut rest = new;
         while let [first, others @ ..] = rest {
-            self.put_new(host, first, out)?;
+            self.put_new(host, predicates, first, out)?;
             rest = others;
         }
         Ok(())
@@ -319,7 +322,7 @@ impl<'a, W: Write + Drop> Trace<'a, W> {
         put_begin(alloc, &seen.step, &mut out)?;
         let mut rest = Vec::new(alloc);
         self.put_head(predicates, seen, out.len(), &mut rest)?;
-        self.put_all_new(host, seen.new.as_slice(), &mut rest)?;
+        self.put_all_new(host, predicates, seen.new.as_slice(), &mut rest)?;
         self.put_bindings(seen, &mut rest)?;
         put_woken(seen.woken.as_slice(), &mut rest)?;
         self.put_reports(predicates, seen, &mut rest)?;

@@ -3,8 +3,8 @@
 ghost use Rattle.std.specs.Prelude.{◌≡◌, Some, IfOk, IfSome, OnOk, option_map};
 ghost use Rattle.kl1_model.specs.State.{goal_at};
 ghost use Rattle.kl1_user_events.specs.Viewing.{goal_view};
-ghost use Rattle.kl1_trace_work.specs.Seen.{last_among, views_of, IsNext, IsSeen, AreTold};
-ghost use Rattle.kl1_trace_work.specs.Tried.{IsTried};
+ghost use Rattle.kl1_trace_work.specs.Seen.{number_after, last_among, views_of, IsNext, IsSeen, AreTold};
+ghost use Rattle.kl1_trace_work.specs.Tried.{IsTried, number_if, HasDone};
 
 use crate::changes::{Shoens, changed_among, last_of, raised_among};
 use crate::predicates::{Predicates, is_monitor};
@@ -14,6 +14,9 @@ use crate::waits::{ALL, Waits};
 use kl1_command::{UnbookedHost, Views};
 use kl1_user_events::{ClauseNo, Extent, GoalNo, GoalView, ShoenNo, ShoenView, Usage};
 use std::alloc::{AllocError, Global};
+
+/// The most bytes of the text of a goal that an observer looks at.
+pub const MOST_TEXT: usize = 400;
 
 /// What came of a step that was tried.
 #[derive(Clone, Copy)]
@@ -167,20 +170,20 @@ fn view_of<H: Views>(host: &H, goal: GoalNo) -> Result<Option<GoalView>, AllocEr
     }
 }
 
-/// The text of a goal, if that is wanted.
+/// As much of the text of a goal as is wanted, if it is.
 fn text_if<H: Views>(
     host: &mut H,
     goal: GoalNo,
-    is_wanted: bool,
+    wanted: Option<Extent>,
 ) -> Result<Option<Vec<u8>>, AllocError>
     ensures same { (f : H.Reading) → H.fits host.new f → H.kept f host.new ≡ H.kept f host.old }
     ensures before { (f : H.Reading) → H.fits host.new f → H.fits host.old f }
     ensures beside { H.beside host.new ≡ H.beside host.old }
 {
-    if !is_wanted {
-        return Ok(None);
+    match wanted {
+        Some(extent) => host.goal_text(goal, extent),
+        None => Ok(None),
     }
-    host.goal_text(goal, Extent::Cut)
 }
 
 impl<O> Viewer<O> {
@@ -200,6 +203,7 @@ fn look_before<H: UnbookedHost + Views, O: Observer<H> + Drop>(
     goal: GoalNo,
     clause: ClauseNo,
 ) -> Result<Option<Before>, AllocError>
+    ensures number { IfOk result (λ found. IfSome found (λ before. before.step.number ≡ number_after viewer.now.number)) }
     ensures next { IfOk result (λ found. IfSome found (λ before. (f : H.Reading) → H.fits host.new f → IsNext viewer.now.number (H.kept f host.new) (record { goal = goal.0; clause = clause.0 }) before.step)) }
     ensures same { (f : H.Reading) → H.fits host.new f → H.kept f host.new ≡ H.kept f host.old }
     ensures before { (f : H.Reading) → H.fits host.new f → H.fits host.old f }
@@ -217,7 +221,12 @@ fn look_before<H: UnbookedHost + Views, O: Observer<H> + Drop>(
     let is_built_in = viewer.is_built_in(step.predicate);
     let is_waking = is_built_in && viewer.waits.is_some();
     let is_wanted = is_waking || viewer.observer.wants_text(&viewer.predicates, &step);
-    let text = text_if(host, goal, is_wanted)?;
+    let wanted = if is_wanted {
+        Some(viewer.predicates.extent_of(step.predicate, MOST_TEXT))
+    } else {
+        None
+    };
+    let text = text_if(host, goal, wanted)?;
     Ok(Some(Before {
         step,
         text,
@@ -296,6 +305,7 @@ pub fn watch_step<H: UnbookedHost + Views, O: Observer<H> + Drop>(
     viewer: &mut Viewer<O>,
 ) -> Result<Watched, AllocError>
     ensures told { IfOk result (λ watched. (f : H.Reading) → H.fits host.new f → IsTried O.has_seen viewer.old.number viewer.old.last_goal (H.kept f host.old) (record { goal = goal.0; clause = clause.0 }) viewer.old.observer watched viewer.new.number viewer.new.last_goal (H.kept f host.new) viewer.new.observer) }
+    ensures number { IfOk result (λ watched. viewer.new.number ≡ number_if watched viewer.old.number) }
     ensures before { (f : H.Reading) → H.fits host.new f → H.fits host.old f }
     ensures beside { H.beside host.new ≡ H.beside host.old }
 {
@@ -324,6 +334,7 @@ pub fn watch_once<H: UnbookedHost + Views, O: Observer<H> + Drop>(
     viewer: &mut Viewer<O>,
 ) -> Result<Watched, AllocError>
     ensures told { OnOk result ((f : H.Reading) → H.fits host.new f → AreTold O.has_seen viewer.old.number viewer.old.last_goal (H.kept f host.old) viewer.old.observer viewer.new.number viewer.new.last_goal (H.kept f host.new) viewer.new.observer) }
+    ensures number { IfOk result (λ watched. viewer.new.number ≡ number_if watched viewer.old.number) }
     ensures before { (f : H.Reading) → H.fits host.new f → H.fits host.old f }
     ensures beside { H.beside host.new ≡ H.beside host.old }
 {
@@ -341,6 +352,7 @@ pub fn watch_first<H: UnbookedHost + Views, O: Observer<H> + Drop>(
     viewer: &mut Viewer<O>,
 ) -> Result<Watched, AllocError>
     ensures told { OnOk result ((f : H.Reading) → H.fits host.new f → AreTold O.has_seen viewer.old.number viewer.old.last_goal (H.kept f host.old) viewer.old.observer viewer.new.number viewer.new.last_goal (H.kept f host.new) viewer.new.observer) }
+    ensures done { IfOk result (λ watched. HasDone watched most viewer.old.number viewer.new.number) }
     ensures before { (f : H.Reading) → H.fits host.new f → H.fits host.old f }
     ensures beside { H.beside host.new ≡ H.beside host.old }
 {
@@ -350,7 +362,8 @@ pub fn watch_first<H: UnbookedHost + Views, O: Observer<H> + Drop>(
         let watched = watch_once(host, viewer)?;
         match watched {
             Watched::More => {}
-            _ => return Ok(watched),
+            Watched::Enough => return Ok(Watched::Enough),
+            Watched::Refused => return Ok(Watched::Refused),
         }
     }
     Ok(Watched::More)

@@ -1,7 +1,7 @@
-use Rattle.std.proofs.Common.{sym, subst}
+use Rattle.std.proofs.Common.{◌≡◌, sym, subst, ◌∙◌}
 use Rattle.kl1_command.specs.Room.{HasRoomFor}
 use Rattle.kl1_trace_work.specs.declared.viewer.Before.{Before}
-use Rattle.kl1_trace_work.specs.Seen.{IsNext}
+use Rattle.kl1_trace_work.specs.Seen.{number_after, IsNext}
 use Rattle.kl1_trace_work.proofs.Chains.{if_there, tried_refused, tried_done}
 use Rattle.kl1_trace_work.proofs.viewer.watch_step.Goals as goal
 
@@ -42,3 +42,11 @@ returns-in-Ok-Some-clause-told g c = λ f fits.
     (g.H.Host.kept f c.args.host.now) (g.H.Host.kept f c.look_before.new.host) (g.H.Host.kept f c.reduce.new.self)
     (record { goal = c.args.goal.0; clause = c.args.clause.0 }) c.in-Ok-Some.field-0 _ c.args.viewer.now.observer
     c.in-Ok-Some.field-0-is (c.look_before.ensures.same f (c.reduce.ensures.before f fits)) (c.in-Ok-Some.ensures.step f fits)
+
+pub returns-then-goes-clause-number : goal.returns-then-goes-clause-number
+returns-then-goes-clause-number g c =
+    c.in_ok-seen-in-Ok-None.ensures.number ∙ if_there (λ (b : Before). b.step.number ≡ number_after c.args.viewer.now.number) c.in_ok-before.field-0 c.in-Some.before c.in-Some.is c.in_ok-before.ensures.number
+
+pub returns-in-Ok-None-clause-number : goal.returns-in-Ok-None-clause-number
+returns-in-Ok-None-clause-number g c =
+    c.in_ok-seen-in-Ok-None.ensures.number ∙ if_there (λ (b : Before). b.step.number ≡ number_after c.args.viewer.now.number) c.in_ok-before.field-0 c.in-Some.before c.in-Some.is c.in_ok-before.ensures.number
