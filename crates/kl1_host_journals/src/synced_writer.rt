@@ -1,0 +1,68 @@
+// A writer that writes only what is on disk.
+
+ghost use Rattle.std.specs.Prelude.{◌≡◌};
+ghost use Rattle.kl1_host_journals.specs.SyncedWriters.{writer_of};
+
+use crate::bell::Bell;
+use crate::keeper::Keeper;
+use crate::outgoing::{Gate, Outgoing, SendPermit};
+use std::cell::Cell;
+use std::io::{Error, ErrorKind, Result, Write};
+use std::sync::Wait;
+
+/// A writer that writes only once all is on disk for which the leave to write waits. It rings for the scribe before it waits.
+#[derive(Drop)]
+pub struct SyncedWriter<'c, T: Write, R: Wait> {
+    gate: Gate<T>,
+    rt: &'c R,
+    bell: &'c Bell,
+    keepers: &'c [Keeper],
+    outgoing: &'c Cell<Outgoing>,
+}
+
+impl<'c, T: Write, R: Wait> SyncedWriter<'c, T, R> {
+    /// A writer over `writer`, of a connection whose leave to write is `outgoing`, to accounts of these keepers.
+    pub fn new(
+        writer: T,
+        rt: &'c R,
+        bell: &'c Bell,
+        keepers: &'c [Keeper],
+        outgoing: &'c Cell<Outgoing>,
+    ) -> Self
+        ensures { writer_of result ≡ writer }
+    {
+        SyncedWriter {
+            gate: Gate::new(writer),
+            rt,
+            bell,
+            keepers,
+            outgoing,
+        }
+    }
+
+    /// The leave to write, once it is here. An error if what would be told won't be on disk.
+    fn permit(&self) -> Result<SendPermit> {
+        let outgoing = self.outgoing.replace(Outgoing::Lost);
+        match outgoing.freed(self.rt, self.bell, self.keepers) {
+            Outgoing::Free(permit) => Ok(permit),
+            _ => Err(Error::from(ErrorKind::Other)),
+        }
+    }
+}
+
+impl<'c, T: Write, R: Wait> Write for SyncedWriter<'c, T, R> {
+    ghost use Rattle.kl1_host_journals.specs.SyncedWriters.{writer_of};
+
+    ghost contents = { λ w. T.contents (writer_of w) };
+
+    fn write(&mut self, buf: &[u8]) -> Result<usize> {
+        let permit = self.permit()?;
+        let written = self.gate.write(&permit, buf);
+        self.outgoing.set(Outgoing::Free(permit));
+        written
+    }
+
+    fn flush(&mut self) -> Result<()> {
+        self.gate.flush()
+    }
+}
