@@ -6,7 +6,7 @@ use kl1_journal_entries::{Deed, entry_of, next_line};
 use kl1_lines::put_decimal;
 use kl1_model::{Message, Rules};
 use kl1_timeline::{Observers, draw_new};
-use kl1_trace_work::{NewGoal, Viewer, Watched, watch_first, watch_step};
+use kl1_trace_work::{NewGoal, Predicates, Trace, Viewer, Watched, watch_first, watch_step};
 use kl1_user_events::{Event, Reply};
 use std::alloc::{AllocError, Global};
 use std::io::Write;
@@ -80,6 +80,37 @@ fn put_event(event: &Event, reply: &Reply, out: &mut Vec<u8>) -> Result<(), Allo
     }
 }
 
+/// Puts the lines of goals that came up otherwise than in a step after these, and tells them, if steps are told.
+fn trace_new<H: Views, W: Write + Drop>(
+    host: &mut H,
+    trace: &mut Option<Trace<'_, W>>,
+    predicates: &Predicates,
+    new: &[NewGoal],
+    mut lines: Vec<u8>,
+) -> Result<(), AllocError> {
+    if let Some(trace) = trace {
+        trace.put_all_new(host, predicates, new, &mut lines)?;
+        trace.tell(lines.as_slice())?;
+    }
+    Ok(())
+}
+
+/// Tells goals that came up otherwise than in a step after lines, if steps are told.
+fn trace<H: Views, W: Write + Drop>(
+    host: &mut H,
+    viewer: &mut Viewer<Observers<'_, W>>,
+    new: &[NewGoal],
+    lines: Vec<u8>,
+) -> Result<(), AllocError> {
+    trace_new(
+        host,
+        &mut viewer.observer.trace,
+        &viewer.predicates,
+        new,
+        lines,
+    )
+}
+
 /// Draws goals that came up otherwise than in a step, if there is a picture.
 fn draw<H: Views, W>(
     host: &mut H,
@@ -105,13 +136,10 @@ impl<W: Write + Drop> Player<'_, W> {
         reply: &Reply,
         new: &[NewGoal],
     ) -> Result<(), AllocError> {
-        if let Some(trace) = &mut self.viewer.observer.trace {
-            let mut lines = Vec::new(self.alloc);
-            put_event(event, reply, &mut lines)?;
-            lines.push(b'\n')?;
-            trace.put_all_new(host, &self.viewer.predicates, new, &mut lines)?;
-            trace.tell(lines.as_slice())?;
-        }
+        let mut lines = Vec::new(self.alloc);
+        put_event(event, reply, &mut lines)?;
+        lines.push(b'\n')?;
+        trace(host, &mut self.viewer, new, lines)?;
         draw(host, &mut self.viewer, new)
     }
 
