@@ -3,3 +3,6 @@ pub mod Tells
 pub mod PoolAccounts
 pub mod Naming
 pub mod Answering
+pub mod FirstSteps
+pub mod ToldEntries
+pub mod RestoredEntries

@@ -2,18 +2,23 @@
 #![tactic(auto)]
 
 mod account_host;
+mod account_restoring;
 mod answer;
 mod counting;
 mod gate;
 mod gathering;
 mod locked_slot;
 mod locked_slots;
+mod looking;
+mod memory;
 mod named_atoms;
 mod parts;
 mod pool;
 mod pool_account;
 mod pool_ids;
+mod restoring;
 mod shared_tables;
+mod showing;
 mod totals_before_reset;
 mod turn;
 mod working;
@@ -26,11 +31,14 @@ pub use kl1_command::{Command, FirstStep, Performed, Steps};
 pub use kl1_journal::{AccountName, Rules};
 pub use kl1_pool_tickets::{Share, TimeSlice, Totals};
 pub use locked_slot::LockedSlot;
+pub use looking::JournalReader;
+pub use memory::bytes_of;
 pub use named_atoms::NamedAtoms;
 pub use parts::PoolParts;
 pub use pool::Pool;
 pub use pool_account::PoolAccount;
 pub use pool_ids::PoolIds;
+pub use restoring::{RestoreEnd, Restored};
 pub use shared_tables::SharedTables;
 pub use totals_before_reset::TotalsBeforeReset;
 pub use turn::Turn;

@@ -1,0 +1,14 @@
+-- What is shown of an account of a pool.
+use Rattle.std.specs.Prelude.{ℕ, List, Option}
+use Rattle.kl1_model.specs.declared.rules.Rules.{Rules}
+use Rattle.kl1_model.specs.State.{State}
+use Rattle.kl1_model_server.specs.Journal.{Journal, Kept}
+use Rattle.kl1_pool.specs.Answers.{IsAccount}
+
+-- this holds of the state of some account of these rules and of this name, which is the replay of its journal
+abbrev pub IsOfSome : Rules → Option (List ℕ) → (State → Type 0) → Type 0
+IsOfSome rules name P = (k : Kept) × IsAccount rules name k × P k.state
+
+-- this holds of the journal of some such account, and of how many events were counted in its journals that resets ended
+abbrev pub IsSeenOfSome : Rules → Option (List ℕ) → (Journal → ℕ → Type 0) → Type 0
+IsSeenOfSome rules name P = (k : Kept) × (ended : ℕ) × IsAccount rules name k × P k.journal ended
