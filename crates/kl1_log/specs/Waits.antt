@@ -1,5 +1,5 @@
 -- What waits for an account's file, and what was taken of it.
-use Rattle.std.specs.Prelude.{◌≡◌, ◌⊎◌, ℕ, suc, List}
+use Rattle.std.specs.Prelude.{◌≡◌, ◌⊎◌, ℕ, suc, List, []}
 use Rattle.kl1_model_server.specs.Journal.{Journal}
 use Rattle.kl1_log.specs.Deeds.{IsFile}
 use Rattle.kl1_log.specs.Later.{IsMark}
@@ -23,6 +23,10 @@ taken_of w = w.taken
 pub record IsUpTo (w : Waiting) (text : List ℕ) (j : Journal) : Type 0 where
   pub file : IsFile (text_after text w.change) j
   pub mark : IsMark w.mark j
+
+-- a change by these bytes is counted, if there are any
+abbrev pub IsCounted : ℕ → List ℕ → ℕ → Type 0
+IsCounted noted bytes n = (n ≡ suc noted) ⊎ ((n ≡ noted) × (bytes ≡ []))
 
 -- one change more was noted, if there was any
 pub record CountsOn (old new : Waiting) : Type 0 where

@@ -1,6 +1,6 @@
 // What a client is told only once it is on disk.
 
-ghost use Rattle.std.specs.Prelude.{◌≡◌, ◌↔◌, IsTrue};
+ghost use Rattle.std.specs.Prelude.{◌≡◌, ◌≤◌, ◌↔◌, IsTrue, IfOk, IfErr};
 ghost use Rattle.kl1_log.specs.Receipts.{account_of, changes_of, waits_for, reply_of, Covers};
 ghost use Rattle.kl1_log.specs.Waits as waits;
 
@@ -42,6 +42,17 @@ impl<T> Unsent<T> {
             changes: waiting.noted(),
             reply,
         }
+    }
+
+    /// The same reply, which tells of what was noted since too. It is given back as it is if that isn't of its account, or is less.
+    pub fn renewed(self, waiting: &Waiting) -> Result<Self, Self>
+        ensures ok { IfOk result (λ u. (reply_of u ≡ reply_of self) × (waits_for u ≡ (waits.account_of waiting.now, waits.noted_of waiting.now)) × ((waits_for self).0 ≡ (waits_for u).0) × ((waits_for self).1 ≤ (waits_for u).1)) }
+        ensures err { IfErr result (λ u. u ≡ self) }
+    {
+        if self.account != waiting.account() || self.changes > waiting.noted() {
+            return Err(self);
+        }
+        Ok(Unsent::new(self.reply, waiting))
     }
 
     /// Whether what the reply tells is on disk by this receipt.

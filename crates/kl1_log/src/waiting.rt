@@ -5,7 +5,7 @@ ghost use Rattle.kl1_model_server.specs.Journal as model;
 ghost use Rattle.kl1_log.specs.Deeds.{IsFile};
 ghost use Rattle.kl1_log.specs.Later.{IsLater};
 ghost use Rattle.kl1_log.specs.Batches.{text_after};
-ghost use Rattle.kl1_log.specs.Waits.{account_of, taken_of, noted_of, IsUpTo, CountsOn, Keeps, IsTaken};
+ghost use Rattle.kl1_log.specs.Waits.{account_of, taken_of, noted_of, IsCounted, IsUpTo, CountsOn, Keeps, IsTaken};
 
 use crate::batch::Batch;
 use crate::change::Change;
@@ -27,6 +27,16 @@ pub struct Waiting {
     alloc: Global,
 }
 
+/// How many changes are noted after one by which the file gets these bytes: it is none if there are none.
+fn noted_after(noted: u64, bytes: &[u8]) -> Result<u64, AllocError>
+    ensures { IfOk result (λ n. IsCounted noted bytes.now n) }
+{
+    if bytes.is_empty() {
+        return Ok(noted);
+    }
+    noted.checked_add(1).ok_or(AllocError)
+}
+
 impl Waiting {
     /// Nothing waits: the file of this account is one of `journal`.
     pub fn new(alloc: Global, account: u32, journal: &Journal) -> Result<Self, AllocError>
@@ -45,14 +55,15 @@ impl Waiting {
         })
     }
 
-    /// Notes what has come to the journal by events that are no reset.
+    /// Notes what has come to the journal by events that are no reset. If nothing has, no change is counted.
+    #[tactic(auto, using(crate::proofs::Waits::counted_on))]
     pub fn note(&mut self, journal: &Journal) -> Result<(), AllocError>
         ensures ok { OnOk result ((text : List ℕ) (old : model.Journal) → IsUpTo self.old text old → IsLater old journal.now.journal → IsUpTo self.new text journal.now.journal) }
         ensures count { OnOk result (CountsOn self.old self.new) }
         ensures err { OnErr result (Keeps self.old self.new) }
     {
         let Growth { bytes, mark } = grown(self.alloc, journal, self.mark)?;
-        let noted = self.noted.checked_add(1).ok_or(AllocError)?;
+        let noted = noted_after(self.noted, bytes.as_slice())?;
         self.change.extend(&bytes)?;
         self.mark = mark;
         self.noted = noted;

@@ -1,0 +1,4 @@
+pub mod Resting
+pub mod Opens
+pub mod LinkedFiles
+pub mod Noting

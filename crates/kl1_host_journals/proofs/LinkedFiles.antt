@@ -1,0 +1,26 @@
+-- What waits for a file whose text is known.
+use Rattle.std.proofs.Common.{◌≡◌, ℕ, true, List, refl, sym, ap, ◌∙◌, subst}
+use Rattle.std.specs.Prelude.{Option, Some, None, option_map, bytes_eq}
+use Rattle.std.proofs.lemmas.Slice.Eq.{bytes_eq-Decides}
+use Rattle.kl1_model_server.specs.Journal.{Journal}
+use Rattle.kl1_log.specs.Files.{content, Known, IfKnown}
+use Rattle.kl1_log.specs.Batches.{text_of, text_after}
+use Rattle.kl1_log.specs.Deeds.{IsFile}
+use Rattle.kl1_log.specs.Waits.{IsUpTo}
+use Rattle.kl1_log.specs.declared.change.Change.{Change}
+use Rattle.kl1_log.specs.declared.waiting.Waiting.{Waiting}
+use Rattle.kl1_host_journals.specs.Links.{IsUpToIf}
+
+-- what waits for a file with the bytes that were read
+pub read_up_to : (k : Known) (w : Waiting) (bytes : List ℕ) (j : Journal) → IfKnown k (λ s. bytes ≡ content s.now) → IsUpTo w bytes j → IsUpToIf w (text_of k) j
+read_up_to None w bytes j is h = is
+read_up_to (Some c) w bytes j is h = subst (λ (t : List ℕ). IsUpTo w t j) is h
+
+-- what was taken is in the file
+pub taken_up_to : (v w : Waiting) (change : Change) (t u : Option (List ℕ)) (j : Journal) → ((text : List ℕ) (k : Journal) → IsUpTo v text k → IsUpTo w (text_after text change) k) → u ≡ option_map (λ text. text_after text change) t → IsUpToIf v t j → IsUpToIf w u j
+taken_up_to v w change None u j goes is h = subst (λ (x : Option (List ℕ)). IsUpToIf w x j) (sym is) h
+taken_up_to v w change (Some text) u j goes is h = subst (λ (x : Option (List ℕ)). IsUpToIf w x j) (sym is) (goes text j h)
+
+-- what waits for a file whose bytes are the text of the journal
+pub file_up_to : (w : Waiting) (bytes text : List ℕ) (j : Journal) → ((t : List ℕ) → IsFile t j → IsUpTo w t j) → IsFile text j → bytes_eq bytes text ≡ true → IsUpTo w bytes j
+file_up_to w bytes text j up is same = subst (λ (t : List ℕ). IsUpTo w t j) (sym ((bytes_eq-Decides bytes text).0 same)) (up text is)

@@ -1,0 +1,6 @@
+pub mod Notes
+pub mod Outgoings
+pub mod Openings
+pub mod Links
+pub mod OpenFaults
+pub mod SyncedWriters

@@ -1,0 +1,100 @@
+// A journal's file with what waits for it.
+
+ghost use Rattle.std.specs.Prelude.{◌≡◌, IfOk, bytes_eq};
+ghost use Rattle.kl1_log.specs.Batches.{text_of};
+ghost use Rattle.kl1_log.specs.LogFiles.{disk_of, account_of as account_of_file, changes_of as changes_of_file};
+ghost use Rattle.kl1_log.specs.Receipts.{account_of, changes_of};
+ghost use Rattle.kl1_log.specs.Waits.{account_of as account_of_waiting, taken_of, noted_of, IsUpTo};
+ghost use Rattle.kl1_host_journals.specs.Notes.{waiting_of, generation_of};
+ghost use Rattle.kl1_host_journals.specs.Links.{IsUpToIf};
+
+use crate::notes::Notes;
+use crate::resting_file::RestingFile;
+use kl1_journal_entries::Journal;
+use kl1_log::{Disk, LogError, LogFile, Receipt, Waiting, begun};
+use std::alloc::{AllocError, Global};
+use std::io;
+
+/// The file of an account's journal, what waits for it, and the first receipt.
+#[derive(Drop)]
+pub struct Linked<D: Disk> {
+    pub file: LogFile<D>,
+    pub notes: Notes,
+    pub receipt: Receipt,
+}
+
+/// Why a file isn't linked with a journal.
+#[derive(Drop)]
+pub enum LinkFault {
+    /// It can't be read.
+    Unread(io::Error),
+    /// It can't be written.
+    Unwritten(LogError),
+    /// Memory was refused.
+    Memory,
+}
+
+impl From<AllocError> for LinkFault {
+    fn from(_refused: AllocError) -> Self {
+        LinkFault::Memory
+    }
+}
+
+/// Whether bytes are the same as others.
+fn are_same(bytes: &[u8], others: &[u8]) -> bool
+    ensures { result ≡ bytes_eq bytes.now others.now }
+{
+    bytes == others
+}
+
+/// What waits for a file of this account that has these bytes: nothing, if they are the text of the journal; or else that it is begun anew.
+#[tactic(auto, using(crate::proofs::LinkedFiles::file_up_to))]
+fn waiting_for(
+    alloc: Global,
+    account: u32,
+    bytes: &[u8],
+    journal: &Journal,
+) -> Result<Waiting, AllocError>
+    ensures file { IfOk result (λ w. IsUpTo w bytes.now journal.now.journal) }
+    ensures account { IfOk result (λ w. (account_of_waiting w ≡ account) × (taken_of w ≡ 0)) }
+{
+    let text = begun(alloc, journal)?.bytes;
+    let mut waiting = Waiting::new(alloc, account, journal)?;
+    if are_same(bytes, text.as_slice()) {
+        return Ok(waiting);
+    }
+    waiting.note_reset(journal)?;
+    Ok(waiting)
+}
+
+/// The file of this account with what waits for it, which is nothing: it is one of `journal`, in this generation. If its bytes aren't the
+/// text of the journal, it is begun anew.
+#[tactic(auto, using(crate::proofs::LinkedFiles::read_up_to, crate::proofs::LinkedFiles::taken_up_to, crate::proofs::Resting::same_rests))]
+pub fn link<D: Disk + Drop>(
+    alloc: Global,
+    resting: RestingFile<D>,
+    account: u32,
+    journal: &Journal,
+    generation: u64,
+) -> Result<Linked<D>, LinkFault>
+    ensures link { IfOk result (λ l. IsUpToIf (waiting_of l.notes) (text_of (D.known (disk_of l.file))) journal.now.journal) }
+    ensures generation { IfOk result (λ l. generation_of l.notes ≡ generation) }
+    ensures account { IfOk result (λ l. (account_of_file l.file ≡ account) × (account_of l.receipt ≡ account)) }
+    ensures changes { IfOk result (λ l. (changes_of l.receipt ≡ noted_of (waiting_of l.notes)) × (changes_of_file l.file ≡ noted_of (waiting_of l.notes)) × (taken_of (waiting_of l.notes) ≡ noted_of (waiting_of l.notes))) }
+{
+    let mut disk = resting.into_disk();
+    let bytes = match disk.read(alloc) {
+        Ok(bytes) => bytes,
+        Err(error) => return Err(LinkFault::Unread(error)),
+    };
+    let mut waiting = waiting_for(alloc, account, bytes.as_slice(), journal)?;
+    let mut file = LogFile::new(disk, account);
+    match file.write(waiting.take()) {
+        Ok(receipt) => Ok(Linked {
+            file,
+            notes: Notes::new(waiting, generation),
+            receipt,
+        }),
+        Err(error) => Err(LinkFault::Unwritten(error)),
+    }
+}

@@ -1,0 +1,2 @@
+pub mod UsedNames
+pub mod Restarts

@@ -1,0 +1,105 @@
+// Connections without end, each in a thread of its own.
+
+ghost use Rattle.std.specs.Prelude.{◌≤◌};
+
+use crate::connection::serve_stream;
+use crate::front::{Front, HostEvent};
+use crate::host::Host;
+use crate::lobby::{Limits, Lobby};
+use kl1_pool::{Pool, PoolIds, Share};
+use std::alloc::Global;
+use std::net::{Net, SocketAddr, TcpListener, TcpStream};
+use std::sync::Wait;
+use std::thread;
+use std::thread::Threads;
+use std::time::{Clock, Duration};
+
+/// How long is waited after an accept that failed, in milliseconds: too many files may be open.
+const PAUSE_MILLISECONDS: u64 = 20;
+
+/// What a connection is served by.
+#[derive(Drop)]
+pub(crate) struct Desk<'d, 't, F: Front, R: Wait, K: PoolIds> {
+    pub(crate) front: &'d F,
+    pub(crate) pool: &'d Pool<'t, R, K>,
+    pub(crate) lobby: &'d Lobby<K>,
+    pub(crate) host: Host<'d>,
+    pub(crate) limits: Limits,
+    pub(crate) alloc: Global,
+}
+
+/// Serves a connection that was let in by this number, and gives the share back.
+fn serve_visitor<'t, F: Front, W: Wait, R: Wait, K: PoolIds>(
+    rt: &W,
+    desk: &Desk<'_, 't, F, R, K>,
+    stream: TcpStream,
+    address: SocketAddr,
+    number: u64,
+    share: Share<K>,
+)
+    requires { F.accounts desk.now.front.now ≤ K.accounts }
+{
+    let mut share = share;
+    let mut door = desk.front.door(address);
+    let served = serve_stream(
+        rt,
+        desk.alloc,
+        &stream,
+        desk.pool,
+        desk.host,
+        desk.limits.idle,
+        &mut door,
+        &mut share,
+    );
+    desk.lobby.leave(rt, number);
+    desk.lobby.give_back(rt, share);
+    desk.front.tell(HostEvent::Closed(address, served));
+}
+
+/// Accepts connections until the host closes, and serves each in a thread of its own, or in this one if no thread can be made. When all
+/// have ended, it returns.
+pub(crate) fn serve_each<'t, F: Front + Sync, N, R: Wait + Sync, K: PoolIds + Send + Sync>(
+    rt: &N,
+    listener: &TcpListener,
+    desk: &Desk<'_, 't, F, R, K>,
+)
+where
+    N: Net<Listener = TcpListener, Stream = TcpStream> + Threads + Wait + Clock + Sync,
+    requires { F.accounts desk.now.front.now ≤ K.accounts }
+{
+    thread::scope(
+        thread::scope_env(),
+        rt,
+        move |scope|
+            requires { F.accounts desk.now.front.now ≤ K.accounts }
+        {
+            for _ in rt.forever() {
+                let Some(share) = desk.lobby.share(rt) else {
+                    return;
+                };
+                let Ok((stream, address)) = listener.accept() else {
+                    desk.lobby.give_back(rt, share);
+                    thread::sleep(rt, Duration::from_millis(PAUSE_MILLISECONDS));
+                    continue;
+                };
+                let Some(number) = desk
+                    .lobby
+                    .admit(rt, &stream, address.ip(), desk.limits.each)
+                else {
+                    desk.lobby.give_back(rt, share);
+                    desk.front.tell(HostEvent::TurnedAway(address));
+                    continue;
+                };
+                desk.front.tell(HostEvent::Opened(address));
+                match scope.spawn(move || serve_visitor(rt, desk, stream, address, number, share)) {
+                    // A thread whose handle is dropped leaves nothing when it ends, and the scope waits for it all the same.
+                    Ok(handle) => drop(handle),
+                    Err(failed) => {
+                        let thread::SpawnError { value: here, .. } = failed;
+                        here();
+                    }
+                }
+            }
+        },
+    );
+}
