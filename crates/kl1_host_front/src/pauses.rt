@@ -1,0 +1,160 @@
+// Pauses after wrong keys.
+
+ghost use Rattle.std.specs.Prelude.{◌≡◌, ◌≤◌, ℕ, length, OnOk};
+ghost use Rattle.kl1_host_front.specs.Pauses.{wrongs_in, count_of, one_more, pause_after};
+ghost use Rattle.kl1_host_front.specs.declared.pauses.TheConstants.{MOST_REMEMBERED};
+
+use std::alloc::{AllocError, Global};
+
+/// How many names and addresses with wrong keys are remembered.
+pub const MOST_REMEMBERED: usize = 1_024;
+
+/// The wrong keys that count: more make no longer pause.
+pub const MOST_COUNTED: u8 = 8;
+
+/// After how many milliseconds without another wrong key those of a name or an address are forgotten: ten minutes.
+pub const FORGOTTEN_AFTER: u64 = 600_000;
+
+/// The longest pause, in milliseconds.
+pub(crate) const LONGEST_PAUSE: u64 = 10_000;
+
+/// Wrong keys of a name or an address.
+#[derive(Clone, Copy)]
+struct Wrong {
+    /// The number of the name or the address.
+    who: u128,
+    /// How many in a row, at most `MOST_COUNTED`.
+    count: u8,
+    /// When the last was tried, in milliseconds.
+    last: u64,
+}
+
+/// Wrong keys by the numbers of those for whom they were tried, the last first.
+#[derive(Drop)]
+pub struct Pauses {
+    wrongs: Vec<Wrong>,
+    ghost few: { length wrongs.items ≤ MOST_REMEMBERED },
+}
+
+/// The pause after this many wrong keys in a row, in milliseconds.
+fn pause_after(count: u8) -> u64
+    ensures { result ≡ pause_after count }
+{
+    if count == 0 {
+        0
+    } else if count == 1 {
+        100
+    } else if count == 2 {
+        200
+    } else if count == 3 {
+        400
+    } else if count == 4 {
+        800
+    } else if count == 5 {
+        1_600
+    } else if count == 6 {
+        3_200
+    } else if count == 7 {
+        6_400
+    } else {
+        LONGEST_PAUSE
+    }
+}
+
+/// One wrong key more.
+fn one_more(count: u8) -> u8
+    ensures { result ≡ one_more count }
+{
+    if count < MOST_COUNTED {
+        count + 1
+    } else {
+        MOST_COUNTED
+    }
+}
+
+impl Pauses {
+    /// No wrong key was tried.
+    pub fn new(alloc: Global) -> Self
+        ensures { (who : ℕ) → (now : ℕ) → count_of (wrongs_in result) who now ≡ 0 }
+    {
+        Pauses {
+            wrongs: Vec::new(alloc),
+        }
+    }
+
+    /// How many wrong keys were tried in a row for `who`, who may try one more at `now`.
+    fn count_of(&self, who: u128, now: u64) -> u8
+        ensures { result ≡ count_of (wrongs_in self.now) who now }
+    {
+        let mut rest = self.wrongs.as_slice();
+        while let [first, others @ ..] = rest {
+            if first.who == who {
+                return if now.saturating_sub(first.last) < FORGOTTEN_AFTER {
+                    first.count
+                } else {
+                    0
+                };
+            }
+            rest = others;
+        }
+        0
+    }
+
+    /// How long `who` has to wait at `now` until a key is looked at, in milliseconds.
+    pub fn pause_of(&self, who: u128, now: u64) -> u64
+        ensures { result ≡ pause_after (count_of (wrongs_in self.now) who now) }
+    {
+        pause_after(self.count_of(who, now))
+    }
+
+    /// The place of `who`, or how many there are.
+    fn place_of(&self, who: u128) -> usize
+        ensures absent { result ≡ length (wrongs_in self.now) → (now : ℕ) → count_of (wrongs_in self.now) who now ≡ 0 }
+        ensures within { result ≤ length (wrongs_in self.now) }
+    {
+        let mut place = 0;
+        let mut rest = self.wrongs.as_slice();
+        while let [first, others @ ..] = rest {
+            if first.who == who {
+                return place;
+            }
+            place += 1;
+            rest = others;
+        }
+        place
+    }
+
+    /// A wrong key was tried for `who` at `now`. If too many are remembered, the one whose last wrong key is the oldest is forgotten.
+    #[tactic(auto, using(crate::proofs::WrongKeys::newest_counts))]
+    pub fn note_wrong(&mut self, who: u128, now: u64) -> Result<(), AllocError>
+        ensures counted { OnOk result (count_of (wrongs_in self.new) who now ≡ one_more (count_of (wrongs_in self.old) who now)) }
+    {
+        let count = one_more(self.count_of(who, now));
+        let place = self.place_of(who);
+        if place < self.wrongs.len() {
+            self.wrongs.remove(place);
+        } else if self.wrongs.len() >= MOST_REMEMBERED {
+            self.wrongs.pop();
+        }
+        self.wrongs.insert(
+            0,
+            Wrong {
+                who,
+                count,
+                last: now,
+            },
+        )?;
+        Ok(())
+    }
+
+    /// The wrong keys of `who` are forgotten, since a good one came.
+    pub fn forget(&mut self, who: u128)
+        ensures { (now : ℕ) → count_of (wrongs_in self.new) who now ≡ 0 }
+    {
+        let mut place = self.place_of(who);
+        while place < self.wrongs.len() {
+            self.wrongs.remove(place);
+            place = self.place_of(who);
+        }
+    }
+}
