@@ -1,0 +1,86 @@
+-- Who is let in, and to what.
+use Rattle.std.specs.Prelude.{ℕ, Bool, true, false, not, ◌&&◌, if◌then◌else◌, List, bytes_eq, codes, Option, Some, None, Result, Ok, Err}
+use Rattle.std.specs.List.{list_any}
+use Rattle.kl1_host_door.specs.declared.refusal.Refusal.{Refusal}
+use Rattle.kl1_host_door.specs.declared.refusal.Refusal.TheVariants as refusal
+use Rattle.kl1_host_door.specs.declared.ask.Ask.{Ask}
+use Rattle.kl1_host_door.specs.declared.ask.Ask.TheVariants.{File, Login, Session, Logout, Command, Load, Account, Shoens, Waiting, Metrics, Health}
+use Rattle.kl1_host_door.specs.declared.field.Field.{Field}
+use Rattle.kl1_host_door.specs.declared.head.Head.{Head}
+use Rattle.kl1_host_door.specs.declared.session.WebSession.{WebSession}
+use Rattle.kl1_host_door.specs.declared.door.Site.{Site}
+use Rattle.kl1_host_door.specs.declared.door.Allowed.{Allowed}
+use Rattle.kl1_host_door.specs.declared.door.Allowed.TheVariants as allowed
+use Rattle.kl1_host_door.specs.declared.door.Right.{Right}
+use Rattle.kl1_host_door.specs.declared.door.Right.TheVariants as right
+use Rattle.kl1_host_door.specs.Fields.{value_of, are_single}
+use Rattle.kl1_host_door.specs.Asks.{method_in, ask_of}
+use Rattle.kl1_host_door.specs.Sessions.{session_of, has_token}
+
+-- whether the host is known by this name
+abbrev pub is_host : List Site → List ℕ → Bool
+is_host sites host = list_any (λ site. bytes_eq site.host.items host) sites
+
+-- whether a page of this name comes from there
+abbrev pub is_origin : List Site → List ℕ → List ℕ → Bool
+is_origin sites host origin = list_any (λ site. bytes_eq site.host.items host && bytes_eq site.origin.items origin) sites
+
+-- why a request isn't one to the host from its own page, or from none
+abbrev pub site_refusal : List Field → List Site → Option Refusal
+site_refusal fields sites = elim (value_of (codes "host") fields) [
+  | None ↦ Some refusal.NoHost
+  | Some host ↦ if is_host sites host
+      then elim (value_of (codes "origin") fields) [
+        | None ↦ None
+        | Some origin ↦ if is_origin sites host origin then None else Some refusal.OtherOrigin
+      ]
+      else Some refusal.OtherHost
+]
+
+-- who may have what is asked for: files and a login anyone, what the host has done the machine itself, an account's who has the cookie
+-- of one of its sessions, and if something changes that session's token, too
+abbrev pub right_of : Ask → Right
+right_of File = right.Anyone
+right_of Login = right.Anyone
+right_of Session = right.Reader
+right_of Logout = right.Changer
+right_of Command = right.Changer
+right_of Load = right.Changer
+right_of Account = right.Reader
+right_of (Shoens from) = right.Reader
+right_of Waiting = right.Reader
+right_of Metrics = right.Machine
+right_of Health = right.Machine
+
+-- who has the cookie of a session is let in to its account, with its token if that is wanted
+abbrev pub by_owner : Ask → List Field → List WebSession → Bool → Result Allowed Refusal
+by_owner ask fields sessions wants_token = elim (session_of fields sessions) [
+  | None ↦ Err refusal.Nobody
+  | Some session ↦ if wants_token && not (has_token fields session) then Err refusal.Token else Ok (allowed.Owner session ask)
+]
+
+-- by the right that is wanted
+abbrev pub by_right : Right → Ask → List Field → List WebSession → Bool → Result Allowed Refusal
+by_right right.Anyone ask fields sessions is_local = Ok (allowed.Anyone ask)
+by_right right.Machine ask fields sessions is_local = if is_local then Ok (allowed.Anyone ask) else Err refusal.NotLocal
+by_right right.Reader ask fields sessions is_local = by_owner ask fields sessions false
+by_right right.Changer ask fields sessions is_local = by_owner ask fields sessions true
+
+-- who may have what is asked for is let in
+abbrev pub admitted : Ask → List Field → List WebSession → Bool → Result Allowed Refusal
+admitted ask fields sessions is_local = by_right (right_of ask) ask fields sessions is_local
+
+-- what a head asks for
+abbrev pub ask_in : Head → Result Ask Refusal
+ask_in head = elim (method_in head.method.items) [ None ↦ Err refusal.Method | Some method ↦ ask_of method head.target.items ]
+
+-- what a request may have: nothing if a field stands twice by which it is let in, if it names another host, or if it comes from the
+-- page of another; and else what it asks for, if it may have that
+abbrev pub authorized : Head → List WebSession → List Site → Bool → Result Allowed Refusal
+authorized head sessions sites is_local =
+    if are_single head.fields.items
+    then elim (site_refusal head.fields.items sites) [
+      | None ↦ elim (ask_in head) [ Err why ↦ Err why | Ok ask ↦ admitted ask head.fields.items sessions is_local ]
+      | Some why ↦ Err why
+    ]
+    else Err refusal.Repeated

@@ -1,0 +1,10 @@
+pub mod Fields
+pub mod Heads
+pub mod Statuses
+pub mod Refusals
+pub mod Asks
+pub mod Bodies
+pub mod Sessions
+pub mod Doors
+pub mod Answers
+pub mod Books

@@ -1,0 +1,49 @@
+// How long the body of a request is.
+
+ghost use Rattle.std.specs.Prelude.{◌≡◌};
+ghost use Rattle.kl1_host_door.specs.Bodies.{by_length, body_bytes};
+
+use crate::field::{is_single, value_of};
+use crate::head::Head;
+use crate::limits::MOST_BODY_BYTES;
+use crate::refusal::Refusal;
+use kl1_lines::number_in;
+
+/// How many bytes of a body come after a head.
+pub fn body_bytes(head: &Head) -> Result<u64, Refusal>
+    ensures { result ≡ body_bytes head.now }
+{
+    let fields = head.fields.as_slice();
+    if !is_single(fields, b"content-length") {
+        return Err(Refusal::Repeated);
+    }
+    if value_of(fields, b"transfer-encoding").is_some() {
+        return Err(Refusal::Chunked);
+    }
+    match value_of(fields, b"content-length") {
+        Some(text) => by_length(text),
+        None => {
+            if head.method.as_slice() == b"GET".as_slice() {
+                Ok(0)
+            } else {
+                Err(Refusal::NoLength)
+            }
+        }
+    }
+}
+
+/// The length that a text tells, if a body may have it.
+fn by_length(text: &[u8]) -> Result<u64, Refusal>
+    ensures { result ≡ by_length text.now }
+{
+    match number_in(text) {
+        None => Err(Refusal::BadLength),
+        Some(length) => {
+            if length <= MOST_BODY_BYTES {
+                Ok(length)
+            } else {
+                Err(Refusal::LargeBody)
+            }
+        }
+    }
+}

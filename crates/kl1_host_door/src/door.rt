@@ -1,0 +1,181 @@
+// Who is let in, and to what.
+
+ghost use Rattle.std.specs.Prelude.{◌≡◌};
+ghost use Rattle.kl1_host_door.specs.Fields.{are_single};
+ghost use Rattle.kl1_host_door.specs.Doors.{is_host, is_origin, site_refusal, right_of, by_owner, admitted, ask_in, authorized};
+
+use crate::ask::{Ask, ask_of, method_in};
+use crate::field::{Field, is_single, value_of};
+use crate::head::Head;
+use crate::refusal::Refusal;
+use crate::session::{WebSession, has_token, session_of};
+
+/// A name by which a host is known, as a browser tells it, and where its page comes from: as `localhost:7480` and
+/// `http://localhost:7480`.
+#[derive(Drop)]
+pub struct Site {
+    pub host: Vec<u8>,
+    pub origin: Vec<u8>,
+}
+
+/// What a request may have.
+#[derive(Clone, Copy)]
+pub enum Allowed {
+    /// What is asked for is of no account.
+    Anyone(Ask),
+    /// It is done to the account of this session.
+    Owner { session: WebSession, ask: Ask },
+}
+
+/// Who may have what is asked for.
+#[derive(Clone, Copy)]
+enum Right {
+    Anyone,
+    /// A program on the machine of the host.
+    Machine,
+    /// Who has the cookie of a session.
+    Reader,
+    /// Who has the cookie of a session, and its token.
+    Changer,
+}
+
+/// Whether the host is known by this name.
+fn is_host(sites: &[Site], host: &[u8]) -> bool
+    ensures { result ≡ is_host sites.now host.now }
+{
+    sites.iter().any(|site| site.host.as_slice() == host)
+}
+
+/// Whether a page of this name comes from there.
+fn is_origin(sites: &[Site], host: &[u8], origin: &[u8]) -> bool
+    ensures { result ≡ is_origin sites.now host.now origin.now }
+{
+    sites.iter().any(|site| site.host.as_slice() == host && site.origin.as_slice() == origin)
+}
+
+/// Why a request isn't one to the host from its own page, or from none; `None` if it is.
+fn site_refusal(fields: &[Field], sites: &[Site]) -> Option<Refusal>
+    ensures { result ≡ site_refusal fields.now sites.now }
+{
+    let Some(host) = value_of(fields, b"host") else {
+        return Some(Refusal::NoHost);
+    };
+    if !is_host(sites, host) {
+        return Some(Refusal::OtherHost);
+    }
+    match value_of(fields, b"origin") {
+        None => None,
+        Some(origin) => {
+            if is_origin(sites, host, origin) {
+                None
+            } else {
+                Some(Refusal::OtherOrigin)
+            }
+        }
+    }
+}
+
+/// Who may have what is asked for.
+fn right_of(ask: Ask) -> Right
+    ensures { result ≡ right_of ask }
+{
+    match ask {
+        Ask::File => Right::Anyone,
+        Ask::Login => Right::Anyone,
+        Ask::Session => Right::Reader,
+        Ask::Logout => Right::Changer,
+        Ask::Command => Right::Changer,
+        Ask::Load => Right::Changer,
+        Ask::Account => Right::Reader,
+        Ask::Shoens(_) => Right::Reader,
+        Ask::Waiting => Right::Reader,
+        Ask::Metrics => Right::Machine,
+        Ask::Health => Right::Machine,
+    }
+}
+
+/// Lets in who has the cookie of a session, and its token if that is wanted.
+fn by_owner(
+    ask: Ask,
+    fields: &[Field],
+    sessions: &[WebSession],
+    wants_token: bool,
+) -> Result<Allowed, Refusal>
+    ensures { result ≡ by_owner ask fields.now sessions.now wants_token }
+{
+    let Some(session) = session_of(fields, sessions) else {
+        return Err(Refusal::Nobody);
+    };
+    if wants_token && !has_token(fields, &session) {
+        return Err(Refusal::Token);
+    }
+    Ok(Allowed::Owner { session, ask })
+}
+
+/// Lets in who may have what is asked for.
+fn admitted(
+    ask: Ask,
+    fields: &[Field],
+    sessions: &[WebSession],
+    is_local: bool,
+) -> Result<Allowed, Refusal>
+    ensures { result ≡ admitted ask fields.now sessions.now is_local }
+{
+    match right_of(ask) {
+        Right::Anyone => Ok(Allowed::Anyone(ask)),
+        Right::Machine => {
+            if is_local {
+                Ok(Allowed::Anyone(ask))
+            } else {
+                Err(Refusal::NotLocal)
+            }
+        }
+        Right::Reader => by_owner(ask, fields, sessions, false),
+        Right::Changer => by_owner(ask, fields, sessions, true),
+    }
+}
+
+/// What a head asks for.
+fn ask_in(head: &Head) -> Result<Ask, Refusal>
+    ensures { result ≡ ask_in head.now }
+{
+    match method_in(head.method.as_slice()) {
+        None => Err(Refusal::Method),
+        Some(method) => ask_of(method, head.target.as_slice()),
+    }
+}
+
+/// Whether none of the fields by which a request is let in, and by which its body is found, stands twice.
+fn are_single(fields: &[Field]) -> bool
+    ensures { result ≡ are_single fields.now }
+{
+    is_single(fields, b"host")
+        && is_single(fields, b"origin")
+        && is_single(fields, b"cookie")
+        && is_single(fields, b"x-kl1-token")
+        && is_single(fields, b"content-length")
+        && is_single(fields, b"transfer-encoding")
+}
+
+/// What a request may have, of a host that is known by these names and has these sessions open; `is_local` tells whether it comes from
+/// the machine of the host.
+pub fn authorize(
+    head: &Head,
+    sessions: &[WebSession],
+    sites: &[Site],
+    is_local: bool,
+) -> Result<Allowed, Refusal>
+    ensures { result ≡ authorized head.now sessions.now sites.now is_local }
+{
+    let fields = head.fields.as_slice();
+    if !are_single(fields) {
+        return Err(Refusal::Repeated);
+    }
+    if let Some(refusal) = site_refusal(fields, sites) {
+        return Err(refusal);
+    }
+    match ask_in(head) {
+        Err(refusal) => Err(refusal),
+        Ok(ask) => admitted(ask, fields, sessions, is_local),
+    }
+}

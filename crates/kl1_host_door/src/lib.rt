@@ -1,0 +1,25 @@
+//! What the requests of browsers say: their heads, who is let in to what, and the bytes of answers.
+#![tactic(auto)]
+
+mod answer;
+mod ask;
+mod body;
+mod book;
+mod door;
+mod field;
+mod head;
+pub mod limits;
+mod refusal;
+mod session;
+mod status;
+
+pub use answer::{Answer, Content, Cookie, put_answer};
+pub use ask::{Ask, Method};
+pub use body::body_bytes;
+pub use book::{SessionBook, SessionTest};
+pub use door::{Allowed, Site, authorize};
+pub use field::{Field, value_of};
+pub use head::{Head, Reading, read_head};
+pub use refusal::{Refusal, status_of, words_of};
+pub use session::WebSession;
+pub use status::Status;

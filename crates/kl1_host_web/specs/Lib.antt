@@ -1,0 +1,4 @@
+pub mod Asking
+pub mod Wishes
+pub mod Telling
+pub mod Records
