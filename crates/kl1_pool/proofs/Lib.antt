@@ -6,3 +6,5 @@ pub mod Answering
 pub mod FirstSteps
 pub mod ToldEntries
 pub mod RestoredEntries
+pub mod RestoredEvents
+pub mod Capped

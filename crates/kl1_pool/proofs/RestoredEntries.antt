@@ -33,8 +33,8 @@ after_more : (s : State) (xs : List Entry) (e : Entry) → after_entries s (xs +
 after_more s [] e = refl
 after_more s (x ∷ xs) e = after_more (entry_step s x).state xs e
 
--- the first `n` of these entries, all accepted, have led to this account, and these are left
-pub record AreDone (s : State) (es rest : List Entry) (n : ℕ) (now : State) : Type 0 where
+-- the first `n` of these entries, all accepted, have led to this account
+pub record AreDone (s : State) (es : List Entry) (n : ℕ) (now : State) : Type 0 where
   pub accepted : are_accepted s (take n es) ≡ true
   pub state : now ≡ after_entries s (take n es)
 
@@ -46,7 +46,7 @@ pub record AreLeft (es rest : List Entry) (n : ℕ) : Type 0 where
 pub none_left : (es : List Entry) → AreLeft es es 0
 none_left es = record { split = refl; count = refl }
 
-pub none_done : (s : State) (es : List Entry) → AreDone s es es 0 s
+pub none_done : (s : State) (es : List Entry) → AreDone s es 0 s
 none_done s es = record { accepted = refl; state = refl }
 
 next_taken : (es rest : List Entry) (e : Entry) (n : ℕ) → AreLeft es (e ∷ rest) n → take (n + 1) es ≡ take n es ++ e ∷ []
@@ -65,7 +65,7 @@ left_more es rest e n left =
       count = ap length taken ∙ length-append (take n es) (e ∷ []) ∙ ap (λ k. k + 1) left.count;
     }
 
-pub done_more : (s : State) (es rest : List Entry) (e : Entry) (n : ℕ) (now after : State) → AreLeft es (e ∷ rest) n → AreDone s es (e ∷ rest) n now → is_refused (entry_step now e).reply ≡ false → after ≡ (entry_step now e).state → AreDone s es rest (n + 1) after
+pub done_more : (s : State) (es rest : List Entry) (e : Entry) (n : ℕ) (now after : State) → AreLeft es (e ∷ rest) n → AreDone s es n now → is_refused (entry_step now e).reply ≡ false → after ≡ (entry_step now e).state → AreDone s es (n + 1) after
 done_more s es rest e n now after left done accepted is =
     let taken = sym (next_taken es rest e n left) in
     record {
@@ -74,7 +74,7 @@ done_more s es rest e n now after left done accepted is =
     }
 
 -- no more are done
-pub restored_at : (s : State) (es rest : List Entry) (r : Restored) (now after : State) → AreLeft es rest r.entries → AreDone s es rest r.entries now → first_steps r.steps now ≡ record { state = after; reply = ran r.steps } → IsEndAt r.end now rest r.steps → IsRestored s es r after
+pub restored_at : (s : State) (es rest : List Entry) (r : Restored) (now after : State) → AreLeft es rest r.entries → AreDone s es r.entries now → first_steps r.steps now ≡ record { state = after; reply = ran r.steps } → IsEndAt r.end now rest r.steps → IsRestored s es r after
 restored_at s es rest r now after left done steps ended =
     let sum : length es ≡ r.entries + length rest = ap length left.split ∙ length-append (take r.entries es) rest ∙ ap (λ k. k + length rest) left.count in
     let rest_is : rest ≡ drop r.entries es = sym (rest_of (take r.entries es) rest) ∙ ap (drop (length (take r.entries es))) (sym left.split) ∙ ap (λ k. drop k es) left.count in
@@ -92,7 +92,7 @@ ends_before ending.Refused s e rest k h = h
 ends_before ending.Memory s e rest k h = h
 ends_before ending.Full s e rest k h = h
 
-told_is : (a b c d : ℕ) → a ≡ b → c ≡ d → (let t : Told = record { events = a; steps = c; is_reset = false } in t) ≡ record { events = b; steps = d; is_reset = false }
+pub told_is : (a b c d : ℕ) → a ≡ b → c ≡ d → (let t : Told = record { events = a; steps = c; is_reset = false } in t) ≡ record { events = b; steps = d; is_reset = false }
 told_is a b c d e f = ap (λ (n : ℕ). let t : Told = record { events = n; steps = c; is_reset = false } in t) e ∙ ap (λ (n : ℕ). let t : Told = record { events = b; steps = n; is_reset = false } in t) f
 
 -- what is counted of one entry more

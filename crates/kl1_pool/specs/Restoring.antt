@@ -1,11 +1,13 @@
 -- What the entries of a journal do to an account, one after another, and how a restore ends.
-use Rattle.std.specs.Prelude.{◌≡◌, ℕ, ◌+◌, ◌≤◌, ◌⊎◌, true, false, List, [], ◌∷◌, length, take, drop, fold, Option, IsTrue}
+use Rattle.std.specs.Prelude.{◌≡◌, ℕ, ◌+◌, ◌≤◌, ◌⊎◌, true, false, if◌then◌else◌, List, [], ◌∷◌, length, take, drop, fold, Option, IsTrue}
 use Rattle.kl1_model.specs.declared.rules.Rules.{Rules}
 use Rattle.kl1_model.specs.State.{State}
-use Rattle.kl1_model.specs.Event.{ran, is_refused}
+use Rattle.kl1_model.specs.Event.{Reply, ran, is_refused}
 use Rattle.kl1_model_server.specs.Journal.{Entry, loads, starts, sends, steps, answers, runs, entry_step, first_steps, Kept}
 use Rattle.kl1_model_server.specs.laws.ReplayLaws.{are_accepted}
 use Rattle.kl1_command.specs.Told.{Told}
+use Rattle.kl1_command.specs.declared.first_step.FirstStep.{FirstStep}
+use Rattle.kl1_command.specs.declared.first_step.FirstStep.TheVariants as first_step
 use Rattle.kl1_pool.specs.Answers.{IsAccount}
 use Rattle.kl1_pool.specs.Counted.{events_in, reduces_in}
 use Rattle.kl1_pool.specs.declared.restoring.RestoreEnd.{RestoreEnd}
@@ -63,6 +65,17 @@ pub record IsRestored (s : State) (es : List Entry) (r : Restored) (after : Stat
 abbrev pub IsEntryDone : State → Entry → EntryResult → State → Type 0
 IsEntryDone s e result.Whole after = (is_refused (entry_step s e).reply ≡ false) × (after ≡ (entry_step s e).state)
 IsEntryDone s e (result.Stopped k end) after = (first_steps k s ≡ record { state = after; reply = ran k }) × IsEndAt end s (e ∷ []) k
+
+-- what became of an entry to which this is the reply
+abbrev pub result_by : Reply → EntryResult
+result_by reply = if is_refused reply then result.Stopped 0 ending.Refused else result.Whole
+
+-- what became of a run if n of its steps were done, and what was tried last ended so
+abbrev pub result_of_run : ℕ → FirstStep → EntryResult
+result_of_run n first_step.Done = result.Whole
+result_of_run n first_step.Quiet = result.Stopped n ending.Refused
+result_of_run n (first_step.Refused r) = result.Stopped n ending.Refused
+result_of_run n first_step.Memory = result.Stopped n ending.Memory
 
 -- what is counted of it
 abbrev pub told_entry : Entry → EntryResult → Told

@@ -41,6 +41,27 @@ impl<'t, R: Wait, K: PoolIds> PoolAccount<'t, R, K> {
         ensures out { self.new.is_out ≡ self.old.is_out }
         ensures before { (f : Reading) → Fits self.new.held.0.names f → Fits self.old.held.0.names f }
     {
+        let restored = self.restore_as_host(rt, alloc, common, tables, share, journal);
+        // Called for the fact that it proves: some reading fits the names.
+        self.shows_counts();
+        restored
+    }
+
+    /// `restore`, where what is counted is told of each reading that fits.
+    fn restore_as_host(
+        &mut self,
+        rt: &'t R,
+        alloc: Global,
+        common: &PoolShared<K>,
+        tables: &SharedTables<'t, K>,
+        share: &mut Share<K>,
+        journal: &Journal,
+    ) -> Restored
+        ensures restored { (f : Reading) → Fits self.new.held.0.names f → IsRestored (kept_of f self.old.held).state journal.now.journal.entries result (kept_of f self.new.held).state }
+        ensures counted { (f : Reading) → Fits self.new.held.0.names f → HasCounted self.old share.old (told_of (take result.entries journal.now.journal.entries) result.steps) self.new share.new }
+        ensures out { self.new.is_out ≡ self.old.is_out }
+        ensures before { (f : Reading) → Fits self.new.held.0.names f → Fits self.old.held.0.names f }
+    {
         let mut host = AccountHost {
             account: self,
             share,

@@ -1,6 +1,6 @@
 // Commands to an account of a pool, and the answers to them.
 
-ghost use Rattle.std.specs.Prelude.{◌≡◌, ◌≢◌, true, Some, slice_get};
+ghost use Rattle.std.specs.Prelude.{◌≡◌, ◌≢◌, Some, slice_get};
 ghost use Rattle.kl1_command.specs.Commands.{command_view};
 ghost use Rattle.kl1_command.specs.Performing.{IsUntouched};
 ghost use Rattle.kl1_command.specs.Told.{told_in, told_steps};
@@ -9,7 +9,7 @@ ghost use Rattle.kl1_journal.specs.Keeping.{Reading, Fits, kept_of};
 ghost use Rattle.kl1_pool.specs.Counted.{room_in};
 ghost use Rattle.kl1_pool.specs.PoolAccounts.{HasCounted};
 ghost use Rattle.kl1_pool.specs.Answers.{IsGiven};
-ghost use Rattle.kl1_pool.specs.Memory.{IsOver, takes_memory};
+ghost use Rattle.kl1_pool.specs.Memory.{IsBeyond};
 
 use crate::account_host::AccountHost;
 use crate::pool_account::PoolAccount;
@@ -75,8 +75,7 @@ impl<K: PoolIds> Answer<K> {
         account: usize,
         command: &Command,
     ) -> Answer<K>
-        requires over { IsOver most found.now }
-        requires takes { takes_memory (command_view command.now) ≡ true }
+        requires { IsBeyond most found.now (command_view command.now) }
         ensures account { result.account ≡ account }
         ensures command { result.command ≡ command_view command.now }
         ensures told { told_in result.performed ≡ told_steps 0 }

@@ -41,11 +41,9 @@ impl<'t, R: Wait, K: PoolIds> Pool<'t, R, K> {
         let guard = self.places[account].lock(rt);
         let found = &*guard.account;
         // As in `visit`.
-        if found.account() != account {
+        if !found.is_at(account) {
             return false;
         }
-        // Only for the proof: the account is the replay of its journal.
-        found.shows_counts();
         found.look(reader);
         true
     }

@@ -1,12 +1,12 @@
 // How many bytes an account takes, and which commands take more.
 
-ghost use Rattle.std.specs.Prelude.{◌≡◌, ◌-◌, ◌^◌, min};
+ghost use Rattle.std.specs.Prelude.{◌≡◌, ◌+◌, ◌*◌, ◌-◌, ◌^◌, min};
 ghost use Rattle.kl1_command.specs.Commands.{command_view};
-ghost use Rattle.kl1_user_events.specs.Views.{event_of};
-ghost use Rattle.kl1_pool.specs.Memory.{bytes_in, takes_memory, event_takes_memory};
+ghost use Rattle.kl1_pool.specs.Memory.{bytes_in, takes_memory};
 
 use kl1_command::Command;
-use kl1_user_events::{Event, Usage};
+use kl1_journal_entries::is_entry;
+use kl1_user_events::{Usage, Used};
 
 /// Bytes of a goal: its place in the table, in its shoen and among those that can step, and what it waits for.
 pub const GOAL_BYTES: u64 = 128;
@@ -29,41 +29,33 @@ pub const REPORT_BYTES: u64 = 64;
 /// Bytes of an entry of the journal. Sources and prints of goals, of which there are as many as were loaded and started, aren't in them.
 pub const ENTRY_BYTES: u64 = 16;
 
+/// `bytes`, and those of what is in use, each of `each` bytes; at most `u64::MAX`.
+fn add_used(bytes: u64, used: Used, each: u64) -> u64
+    ensures { result ≡ min (bytes + used.count * each) (2 ^ 64 - 1) }
+{
+    bytes.saturating_add(used.count.saturating_mul(each))
+}
+
 /// About how many bytes an account takes of which this is in use.
 pub fn bytes_of(usage: &Usage) -> u64
     ensures { result ≡ min (bytes_in usage.now) (2 ^ 64 - 1) }
 {
-    let bytes = u128::from(usage.goals.count) * u128::from(GOAL_BYTES)
-        + u128::from(usage.names.count) * u128::from(NAME_BYTES)
-        + u128::from(usage.shoens.count) * u128::from(SHOEN_BYTES)
-        + u128::from(usage.variables.count) * u128::from(VARIABLE_BYTES)
-        + u128::from(usage.structures.count) * u128::from(STRUCTURE_BYTES)
-        + u128::from(usage.reports.count) * u128::from(REPORT_BYTES)
-        + u128::from(usage.entries.count) * u128::from(ENTRY_BYTES);
-    if bytes < u128::from(u64::MAX) {
-        bytes as u64
-    } else {
-        u64::MAX
-    }
+    let goals = add_used(0, usage.goals, GOAL_BYTES);
+    let names = add_used(goals, usage.names, NAME_BYTES);
+    let shoens = add_used(names, usage.shoens, SHOEN_BYTES);
+    let variables = add_used(shoens, usage.variables, VARIABLE_BYTES);
+    let structures = add_used(variables, usage.structures, STRUCTURE_BYTES);
+    let reports = add_used(structures, usage.reports, REPORT_BYTES);
+    add_used(reports, usage.entries, ENTRY_BYTES)
 }
 
-/// Whether a command may make an account take more bytes: all but those that tell something, that open or close a session, or reset.
+/// Whether a command may make an account take more bytes: each that may add an entry to its journal.
 pub(crate) fn takes_memory(command: &Command) -> bool
     ensures { result ≡ takes_memory (command_view command.now) }
 {
     match command {
-        Command::Does(event) => event_takes_memory(event),
+        Command::Does(event) => is_entry(event),
         Command::Run(_) => true,
         Command::Shows { .. } => false,
     }
-}
-
-/// Whether an event may make an account take more bytes.
-fn event_takes_memory(event: &Event) -> bool
-    ensures { result ≡ event_takes_memory (event_of event.now) }
-{
-    !matches!(
-        event,
-        Event::Read(_) | Event::Login | Event::Logout | Event::Reset
-    )
 }

@@ -12,7 +12,6 @@ use crate::answer::Answer;
 use crate::gate::Gate;
 use crate::locked_slot::LockedSlot;
 use crate::locked_slots::{drop_all, places_of};
-use crate::memory::takes_memory;
 use crate::parts::PoolParts;
 use crate::pool_ids::PoolIds;
 use crate::shared_tables::SharedTables;
@@ -139,7 +138,7 @@ impl<'t, R: Wait, K: PoolIds> Pool<'t, R, K> {
         if found.account() != account {
             return (Answer::misplaced(found, account, command), false);
         }
-        if takes_memory(command) && found.is_over(self.most_bytes) {
+        if found.is_beyond(self.most_bytes, command) {
             let answer = Answer::over(found, self.most_bytes, account, command);
             return (answer, false);
         }

@@ -190,8 +190,8 @@ impl<'t, R: Wait, K: PoolIds> PoolAccount<'t, R, K> {
         ensures { (f : Reading) → Fits self.now.held.0.names f → result ≡ has_runs (kept_of f self.now.held).state.rules }
     {
         // This is called for the fact that it proves: the journal has the account's rules.
-        self.kept.shows_replay();
-        self.kept.lent_journal().rules().has_runs()
+        self.shows_counts();
+        self.lent_journal().rules().has_runs()
     }
 
     /// What was counted before the last reset.

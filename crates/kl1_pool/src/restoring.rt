@@ -1,17 +1,18 @@
 // Doing the entries of a journal to an account.
 
-ghost use Rattle.std.specs.Prelude.{◌≡◌, take, Some, IfOk, false};
+ghost use Rattle.std.specs.Prelude.{◌≡◌, take, Some, IfOk, IsTrue, false};
 ghost use Rattle.kl1_model.specs.State.{has_runs};
 ghost use Rattle.kl1_model_server.specs.Journal.{Entry as Entered, runs};
-ghost use Rattle.kl1_user_events.specs.Views.{event_of};
+ghost use Rattle.kl1_user_events.specs.Views.{event_of, reply_of};
 ghost use Rattle.kl1_journal_entries.specs.Found.{deed_in};
 ghost use Rattle.kl1_journal_entries.specs.Lined.{entry_of};
 ghost use Rattle.kl1_journal_entries.specs.Shown.{entry_shown};
 ghost use Rattle.kl1_journal_entries.specs.Slots.{goal_in};
 ghost use Rattle.kl1_command.specs.Told.{Told};
-ghost use Rattle.kl1_pool.specs.Restoring.{IsEntryDone, IsRestored, told_entry, told_of, told_sum};
+ghost use Rattle.kl1_command.specs.Room.{HasRoomFor};
+ghost use Rattle.kl1_pool.specs.Restoring.{IsEntryDone, IsRestored, result_by, result_of_run, told_entry, told_of, told_sum};
 
-use kl1_command::{FirstStep, Host, run_steps};
+use kl1_command::{FirstStep, Host, Steps, run_steps};
 use kl1_journal_entries::{Deed, Entry, Journal};
 use kl1_read::read_goal;
 use kl1_term::Term;
@@ -74,78 +75,77 @@ fn goal_of(alloc: Global, print: &[u8]) -> Result<Term, AllocError>
 fn deed_for(alloc: Global, entry: Entry<'_>) -> Result<Deed, AllocError>
     ensures { IfOk result (λ deed. deed_in deed ≡ Some (entry_shown entry.entry)) }
 {
-    let event = match entry {
-        Entry::Load(source) => Event::Load {
-            source: Vec::from_slice(alloc, source)?,
-        },
+    match entry {
+        Entry::Load(source) => {
+            let source = Vec::from_slice(alloc, source)?;
+            Ok(Deed::Event(Event::Load { source }))
+        }
         Entry::Start {
             allowance,
             low,
             high,
             goal,
-        } => Event::Start {
-            allowance,
-            low,
-            high,
-            goal: goal_of(alloc, goal)?,
-        },
-        Entry::Control { shoen, message } => Event::Control { shoen, message },
-        Entry::Reduce { goal, clause } => Event::Reduce { goal, clause },
-        Entry::Run(steps) => return Ok(Deed::Run(steps)),
+        } => {
+            let goal = goal_of(alloc, goal)?;
+            Ok(Deed::Event(Event::Start {
+                allowance,
+                low,
+                high,
+                goal,
+            }))
+        }
+        Entry::Control { shoen, message } => Ok(Deed::Event(Event::Control { shoen, message })),
+        Entry::Reduce { goal, clause } => Ok(Deed::Event(Event::Reduce { goal, clause })),
+        Entry::Run(steps) => Ok(Deed::Run(steps)),
         Entry::Answer {
             shoen,
             report,
             goal,
-        } => Event::Answer {
-            shoen,
-            report,
-            goal: goal_of(alloc, goal)?,
-        },
-    };
-    Ok(Deed::Event(event))
-}
-
-/// Nothing of an entry is done, since it ended so.
-fn stopped(end: RestoreEnd) -> EntryResult {
-    EntryResult::Stopped { steps: 0, end }
-}
-
-/// Does the event of an entry.
-fn restore_event<H: RestoringHost>(host: &mut H, event: &Event) -> EntryResult
-    ensures does { (e : Entered) → entry_of (event_of event.now) ≡ Some e → (f : H.Reading) → H.fits host.new f → IsEntryDone (H.kept f host.old).state e result (H.kept f host.new).state }
-    ensures counted { (e : Entered) → entry_of (event_of event.now) ≡ Some e → H.counted host.old (told_entry e result) host.new }
-    ensures before { (f : H.Reading) → H.fits host.new f → H.fits host.old f }
-    ensures beside { H.beside host.new ≡ H.beside host.old }
-{
-    if let Some(0) = host.room() {
-        return stopped(RestoreEnd::Full);
-    }
-    match host.apply(event) {
-        Err(_) => stopped(RestoreEnd::Memory),
-        Ok(Reply::Refused(_)) => stopped(RestoreEnd::Refused),
-        Ok(_) => EntryResult::Whole,
-    }
-}
-
-/// Does a run.
-fn restore_run<H: RestoringHost>(host: &mut H, reductions: u64) -> EntryResult
-    ensures does { (f : H.Reading) → H.fits host.new f → IsEntryDone (H.kept f host.old).state (runs reductions) result (H.kept f host.new).state }
-    ensures counted { H.counted host.old (told_entry (runs reductions) result) host.new }
-    ensures before { (f : H.Reading) → H.fits host.new f → H.fits host.old f }
-    ensures beside { H.beside host.new ≡ H.beside host.old }
-{
-    if !host.has_runs() {
-        return stopped(RestoreEnd::Refused);
-    }
-    if let Some(room) = host.room() {
-        if room < reductions {
-            return stopped(RestoreEnd::Full);
+        } => {
+            let goal = goal_of(alloc, goal)?;
+            Ok(Deed::Event(Event::Answer {
+                shoen,
+                report,
+                goal,
+            }))
         }
     }
-    let run = run_steps(host, reductions);
+}
+
+/// Whether the book can tell `n` events more.
+fn has_room<H: RestoringHost>(host: &H, n: u64) -> bool
+    ensures { IsTrue result → HasRoomFor n (H.room host.now) }
+{
+    match host.room() {
+        None => true,
+        Some(room) => n <= room,
+    }
+}
+
+/// What became of an entry to which this is the reply.
+fn result_by(reply: &Reply) -> EntryResult
+    ensures { result ≡ result_by (reply_of reply.now) }
+{
+    match reply {
+        Reply::Refused(_) => EntryResult::Stopped {
+            steps: 0,
+            end: RestoreEnd::Refused,
+        },
+        _ => EntryResult::Whole,
+    }
+}
+
+/// What became of a run that ended so.
+fn result_of_run(run: Steps) -> EntryResult
+    ensures { result ≡ result_of_run run.done run.last }
+{
     match run.last {
         FirstStep::Done => EntryResult::Whole,
-        FirstStep::Quiet | FirstStep::Refused(_) => EntryResult::Stopped {
+        FirstStep::Quiet => EntryResult::Stopped {
+            steps: run.done,
+            end: RestoreEnd::Refused,
+        },
+        FirstStep::Refused(_) => EntryResult::Stopped {
             steps: run.done,
             end: RestoreEnd::Refused,
         },
@@ -156,17 +156,77 @@ fn restore_run<H: RestoringHost>(host: &mut H, reductions: u64) -> EntryResult
     }
 }
 
+/// Does the event of an entry.
+fn restore_event<H: RestoringHost>(host: &mut H, event: &Event) -> EntryResult
+    ensures does { (e : Entered) → entry_of (event_of event.now) ≡ Some e → (f : H.Reading) → H.fits host.new f → IsEntryDone (H.kept f host.old).state e result (H.kept f host.new).state }
+    ensures counted { (e : Entered) → entry_of (event_of event.now) ≡ Some e → (f : H.Reading) → H.fits host.new f → H.counted host.old (told_entry e result) host.new }
+    ensures before { (f : H.Reading) → H.fits host.new f → H.fits host.old f }
+    ensures beside { H.beside host.new ≡ H.beside host.old }
+{
+    if !has_room(host, 1) {
+        return EntryResult::Stopped {
+            steps: 0,
+            end: RestoreEnd::Full,
+        };
+    }
+    match host.apply(event) {
+        Err(_) => EntryResult::Stopped {
+            steps: 0,
+            end: RestoreEnd::Memory,
+        },
+        Ok(reply) => result_by(&reply),
+    }
+}
+
+/// Does a run.
+fn restore_run<H: RestoringHost>(host: &mut H, reductions: u64) -> EntryResult
+    ensures does { (f : H.Reading) → H.fits host.new f → IsEntryDone (H.kept f host.old).state (runs reductions) result (H.kept f host.new).state }
+    ensures counted { (f : H.Reading) → H.fits host.new f → H.counted host.old (told_entry (runs reductions) result) host.new }
+    ensures before { (f : H.Reading) → H.fits host.new f → H.fits host.old f }
+    ensures beside { H.beside host.new ≡ H.beside host.old }
+{
+    if !host.has_runs() {
+        return EntryResult::Stopped {
+            steps: 0,
+            end: RestoreEnd::Refused,
+        };
+    }
+    if !has_room(host, reductions) {
+        return EntryResult::Stopped {
+            steps: 0,
+            end: RestoreEnd::Full,
+        };
+    }
+    let run = run_steps(host, reductions);
+    result_of_run(run)
+}
+
+/// Does what an entry asks for.
+fn restore_deed<H: RestoringHost>(host: &mut H, deed: Deed) -> EntryResult
+    ensures does { (e : Entered) → deed_in deed ≡ Some e → (f : H.Reading) → H.fits host.new f → IsEntryDone (H.kept f host.old).state e result (H.kept f host.new).state }
+    ensures counted { (e : Entered) → deed_in deed ≡ Some e → (f : H.Reading) → H.fits host.new f → H.counted host.old (told_entry e result) host.new }
+    ensures before { (f : H.Reading) → H.fits host.new f → H.fits host.old f }
+    ensures beside { H.beside host.new ≡ H.beside host.old }
+{
+    match deed {
+        Deed::Event(event) => restore_event(host, &event),
+        Deed::Run(reductions) => restore_run(host, reductions),
+    }
+}
+
 /// Does an entry.
 fn restore_entry<H: RestoringHost>(alloc: Global, host: &mut H, entry: Entry<'_>) -> EntryResult
     ensures does { (f : H.Reading) → H.fits host.new f → IsEntryDone (H.kept f host.old).state (entry_shown entry.entry) result (H.kept f host.new).state }
-    ensures counted { H.counted host.old (told_entry (entry_shown entry.entry) result) host.new }
+    ensures counted { (f : H.Reading) → H.fits host.new f → H.counted host.old (told_entry (entry_shown entry.entry) result) host.new }
     ensures before { (f : H.Reading) → H.fits host.new f → H.fits host.old f }
     ensures beside { H.beside host.new ≡ H.beside host.old }
 {
     match deed_for(alloc, entry) {
-        Err(_) => stopped(RestoreEnd::Memory),
-        Ok(Deed::Event(event)) => restore_event(host, &event),
-        Ok(Deed::Run(reductions)) => restore_run(host, reductions),
+        Err(_) => EntryResult::Stopped {
+            steps: 0,
+            end: RestoreEnd::Memory,
+        },
+        Ok(deed) => restore_deed(host, deed),
     }
 }
 
@@ -177,7 +237,7 @@ pub(crate) fn restore_all<H: RestoringHost>(
     journal: &Journal,
 ) -> Restored
     ensures restored { (f : H.Reading) → H.fits host.new f → IsRestored (H.kept f host.old).state journal.now.journal.entries result (H.kept f host.new).state }
-    ensures counted { H.counted host.old (told_of (take result.entries journal.now.journal.entries) result.steps) host.new }
+    ensures counted { (f : H.Reading) → H.fits host.new f → H.counted host.old (told_of (take result.entries journal.now.journal.entries) result.steps) host.new }
     ensures before { (f : H.Reading) → H.fits host.new f → H.fits host.old f }
     ensures beside { H.beside host.new ≡ H.beside host.old }
 {

@@ -25,11 +25,9 @@ impl<'t, R: Wait, K: PoolIds> Pool<'t, R, K> {
         let guard = self.places[account].lock(rt);
         let found = &*guard.account;
         // As in `visit`.
-        if found.account() != account {
+        if !found.is_at(account) {
             return Err(AllocError);
         }
-        // Only for the proof: the account is the replay of its journal.
-        found.shows_counts();
         found.shoens_from(from, count)
     }
 
@@ -47,11 +45,9 @@ impl<'t, R: Wait, K: PoolIds> Pool<'t, R, K> {
         let guard = self.places[account].lock(rt);
         let found = &*guard.account;
         // As in `visit`.
-        if found.account() != account {
+        if !found.is_at(account) {
             return Err(AllocError);
         }
-        // Only for the proof: the account is the replay of its journal.
-        found.shows_counts();
         found.goals_from(from, count)
     }
 
@@ -69,11 +65,9 @@ impl<'t, R: Wait, K: PoolIds> Pool<'t, R, K> {
         let mut guard = self.places[account].lock(rt);
         let found = &mut *guard.account;
         // As in `visit`.
-        if found.account() != account {
+        if !found.is_at(account) {
             return Err(AllocError);
         }
-        // Only for the proof: the account is the replay of its journal.
-        found.shows_counts();
         found.goal_text(&mut self.tables.atoms(), goal, extent)
     }
 
@@ -90,11 +84,9 @@ impl<'t, R: Wait, K: PoolIds> Pool<'t, R, K> {
         let guard = self.places[account].lock(rt);
         let found = &*guard.account;
         // As in `visit`.
-        if found.account() != account {
+        if !found.is_at(account) {
             return Err(AllocError);
         }
-        // Only for the proof: the account is the replay of its journal.
-        found.shows_counts();
         found.awaited(&self.tables.source(self.rt), goal)
     }
 
@@ -113,11 +105,9 @@ impl<'t, R: Wait, K: PoolIds> Pool<'t, R, K> {
         let guard = self.places[account].lock(rt);
         let found = &*guard.account;
         // As in `visit`.
-        if found.account() != account {
+        if !found.is_at(account) {
             return Err(AllocError);
         }
-        // Only for the proof: the account is the replay of its journal.
-        found.shows_counts();
         found.presence(goal, variable, most)
     }
 
@@ -129,11 +119,9 @@ impl<'t, R: Wait, K: PoolIds> Pool<'t, R, K> {
         let guard = self.places[account].lock(rt);
         let found = &*guard.account;
         // As in `visit`.
-        if found.account() != account {
+        if !found.is_at(account) {
             return Err(AllocError);
         }
-        // Only for the proof: the account is the replay of its journal.
-        found.shows_counts();
         Ok(found.usage())
     }
 }

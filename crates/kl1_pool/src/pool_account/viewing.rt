@@ -1,15 +1,18 @@
 // What is shown of an account with its book.
 
-ghost use Rattle.std.specs.Prelude.{◌≡◌, ◌-◌, ◌^◌, nat_lt, min, IfOk, option_map};
+ghost use Rattle.std.specs.Prelude.{◌≡◌, ◌-◌, ◌^◌, nat_lt, min, slice_get, IfOk, IsTrue, option_map};
+ghost use Rattle.kl1_command.specs.Commands.{command_view};
 ghost use Rattle.kl1_journal.specs.Keeping.{Reading, Fits, kept_of};
 ghost use Rattle.kl1_user_events.specs.Viewing.{shoen_page, goal_page, goal_text, goal_term, AreAwaited, IsPresence, usage_of};
-ghost use Rattle.kl1_pool.specs.Memory.{bytes_in};
+ghost use Rattle.kl1_pool.specs.Memory.{bytes_in, IsBeyond};
+ghost use Rattle.kl1_pool.specs.Showing.{IsFound};
 
-use crate::memory::bytes_of;
+use crate::memory::{bytes_of, takes_memory};
 use crate::named_atoms::NamedAtoms;
 use crate::pool_account::PoolAccount;
 use crate::pool_ids::PoolIds;
 use kl1_codes::SharedCodes;
+use kl1_command::Command;
 use kl1_user_events::{Extent, GoalNo, GoalView, Presence, ShoenNo, ShoenView, Usage};
 use std::alloc::AllocError;
 use std::sync::Wait;
@@ -70,10 +73,29 @@ impl<'t, R: Wait, K: PoolIds> PoolAccount<'t, R, K> {
         self.kept.usage()
     }
 
+    /// Whether the account has this number. Then it keeps to the rules and has the name that K names, and is the replay of its journal.
+    pub(crate) fn is_at(&self, account: usize) -> bool
+        ensures { IsTrue result → IsFound K.rules (slice_get K.names account) self.now.held }
+    {
+        // Called for the facts that it proves.
+        self.shows_counts();
+        self.account() == account
+    }
+
     /// Whether the account takes more bytes than `most`.
     pub fn is_over(&self, most: u64) -> bool
         ensures { (f : Reading) → result ≡ nat_lt most (min (bytes_in (usage_of (kept_of f self.now.held).state)) (2 ^ 64 - 1)) }
     {
         bytes_of(&self.usage()) > most
+    }
+
+    /// Whether the account takes more bytes than `most`, and a command may make it take more.
+    pub(crate) fn is_beyond(&self, most: u64, command: &Command) -> bool
+        ensures { IsTrue result → IsBeyond most self.now (command_view command.now) }
+    {
+        if !takes_memory(command) {
+            return false;
+        }
+        self.is_over(most)
     }
 }

@@ -1,0 +1,21 @@
+use Rattle.std.proofs.Common.{◌*◌, ◌+◌, ◌∙◌}
+use Rattle.kl1_pool.specs.declared.memory.TheConstants.{GOAL_BYTES, NAME_BYTES, SHOEN_BYTES, VARIABLE_BYTES, STRUCTURE_BYTES, REPORT_BYTES, ENTRY_BYTES}
+use Rattle.kl1_pool.proofs.Capped.{capped}
+use Rattle.kl1_pool.proofs.memory.bytes_of.Goals as goal
+
+pub returns : goal.returns
+returns c =
+    let u = c.args.usage.now in
+    let goals = u.goals.count * GOAL_BYTES in
+    let names = goals + u.names.count * NAME_BYTES in
+    let shoens = names + u.shoens.count * SHOEN_BYTES in
+    let variables = shoens + u.variables.count * VARIABLE_BYTES in
+    let structures = variables + u.structures.count * STRUCTURE_BYTES in
+    let reports = structures + u.reports.count * REPORT_BYTES in
+    let a = c.add_used-goals.ensures in
+    let b = c.add_used-names.ensures ∙ capped c.add_used-goals.result goals (u.names.count * NAME_BYTES) a in
+    let d = c.add_used-shoens.ensures ∙ capped c.add_used-names.result names (u.shoens.count * SHOEN_BYTES) b in
+    let e = c.add_used-variables.ensures ∙ capped c.add_used-shoens.result shoens (u.variables.count * VARIABLE_BYTES) d in
+    let f = c.add_used-structures.ensures ∙ capped c.add_used-variables.result variables (u.structures.count * STRUCTURE_BYTES) e in
+    let h = c.add_used-reports.ensures ∙ capped c.add_used-structures.result structures (u.reports.count * REPORT_BYTES) f in
+    c.add_used.ensures ∙ capped c.add_used-reports.result reports (u.entries.count * ENTRY_BYTES) h
