@@ -8,3 +8,4 @@ pub mod ToldEntries
 pub mod RestoredEntries
 pub mod RestoredEvents
 pub mod Capped
+pub mod Ended

@@ -1,6 +1,8 @@
 //! Accounts under locks: many threads command them, and workers go on with those that can step.
 #![tactic(auto)]
 
+ghost use Rattle.kl1_pool.specs.laws.EndedLaws.{SameEndedGrows};
+
 mod account_host;
 mod account_restoring;
 mod answer;
@@ -43,3 +45,9 @@ pub use shared_tables::SharedTables;
 pub use totals_before_reset::TotalsBeforeReset;
 pub use turn::Turn;
 pub use working::worker;
+
+/// Between two looks at an account that tell the same number of events in journals that resets ended, the account came to what it is by
+/// events without a reset, so that its journal only grew. It does nothing: its contract is this law.
+pub fn journal_grows()
+    ensures { SameEndedGrows }
+{}
