@@ -1,5 +1,5 @@
 -- Answers, and what commands leave.
-use Rattle.std.proofs.Common.{◌≡◌, ℕ, List, Some, ap}
+use Rattle.std.proofs.Common.{◌≡◌, ℕ, List, Some, ap, ◌∙◌}
 use Rattle.std.specs.Prelude.{Option}
 use Rattle.kl1_model.specs.declared.rules.Rules.{Rules}
 use Rattle.kl1_model.specs.State.{State}
@@ -14,8 +14,11 @@ use Rattle.kl1_command.specs.Performing.{IsUntouched}
 use Rattle.kl1_command.specs.Room.{PerformsWithin}
 use Rattle.kl1_pool_tickets.specs.declared.serving.TheConstants.{MOST_STEPS}
 use Rattle.kl1_pool_tickets.specs.declared.serving.TimeSlice.{TimeSlice}
-use Rattle.kl1_pool.specs.Answers.{IsGivenBySome, IsGiven}
-use Rattle.kl1_pool.specs.Showing.{IsFound, IsOfSome, IsSeenOfSome}
+use Rattle.kl1_pool.specs.Answers.{IsAccount, IsGivenBySome, IsGiven}
+use Rattle.kl1_pool.specs.Showing.{IsFound, IsOfSome, IsSeenOfSome, IsCountedBySome}
+use Rattle.kl1_tally.specs.Seats.{Book}
+use Rattle.kl1_pool.specs.declared.totals_before_reset.TotalsBeforeReset.{TotalsBeforeReset}
+use Rattle.kl1_pool.specs.Counted.{IsCounted}
 use Rattle.kl1_pool.specs.declared.restoring.Restored.{Restored}
 use Rattle.kl1_pool.specs.Restoring.{IsRestored, IsRestoredBySome}
 use Rattle.kl1_pool.specs.Stepping.{AreFirstSteps, goes_on, IsTurnOfSome}
@@ -51,6 +54,13 @@ pub seen_of_some : (rules : Rules) (name : Option (List ℕ)) (h : Held) (ended 
 seen_of_some rules name h ended P found seen =
     let f = reading_of h.0.names in
     (kept_of f h, ended, record { replay = (found.kept.replay f (reading_fits h.0.names found.names)).is; keeps_to = found.keeps_to; called = found.called }, seen)
+
+-- what an account that was found has counted
+pub counted_by_some : {p : TotalsBeforeReset} {h : Held} {b : Book} (rules : Rules) (name : Option (List ℕ)) (events steps : ℕ) → IsFound rules name h → IsCounted p h.1 b → (events ≡ b.events) × (steps ≡ b.steps) → IsCountedBySome rules name events steps
+counted_by_some {p} {h} {b} rules name events steps found counted told =
+    let f = reading_of h.0.names in
+    let account : IsAccount rules name (kept_of f h) = record { replay = (found.kept.replay f (reading_fits h.0.names found.names)).is; keeps_to = found.keeps_to; called = found.called } in
+    (kept_of f h, p, account, told.0 ∙ counted.events, told.1 ∙ counted.steps)
 
 -- how an account is restored
 pub restored_by : (rules : Rules) (name : Option (List ℕ)) (old new : Held) (es : List Entry) (r : Restored) → IsKept old → old.0.rules ≡ rules → name ≡ Some old.0.own_name → AreNames new.0.names → ((f : Reading) → Fits new.0.names f → Fits old.0.names f) →

@@ -75,7 +75,7 @@ more_of p k (e ∷ es) =
 
 with_one : (k : Kept) (e : Event) (es : List Event) → ((done k e).kept ≡ k) ⊎ (e ≡ reset → ⊥) → (fs : List Event) × HaveNoReset fs × (kept_after (done k e).kept fs ≡ kept_after (done k e).kept es) → (fs : List Event) × HaveNoReset fs × (kept_after k fs ≡ kept_after (done k e).kept es)
 with_one k e es (inl stays) rest = (rest.0, rest.1, sym (ap (λ (x : Kept). kept_after x rest.0) stays) ∙ rest.2)
-with_one k e es (inr no) rest = (e ∷ rest.0, (no, rest.1), rest.2)
+with_one k e es (inr other) rest = (e ∷ rest.0, (other, rest.1), rest.2)
 
 pub same_ended_grows : SameEndedGrows
 same_ended_grows p k [] replay written bytes same = ([], tt, refl)

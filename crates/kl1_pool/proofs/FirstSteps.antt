@@ -58,22 +58,25 @@ not_stopped false r n m is less e = let z : n ≡ m = ran_same n m e in omega (a
 -- a run all of whose steps are done, after `k` others, does first steps
 pub runs_first : (n k m : ℕ) (s after : Kept) → m ≡ n + k → run_from n k s ≡ record { kept = after; reply = ran m } → first_steps n s.state ≡ moved after.state (ran n)
 runs_first zero k m s after sum is = ap (λ (d : Done). moved d.kept.state (ran 0)) is
-runs_first (suc n) k m s after sum is = go (first s.state) refl is
+runs_first (suc n) k m s after sum is = go (λ t more e. runs_first n (suc k) m t after more e) (first s.state) refl is
   where
-    step_by : (c : Chosen) (b : Bool) → is_refused (step s.state (reduce c.goal c.clause)).reply ≡ b → first s.state ≡ Some c →
+    Later : Type 0
+    Later = (t : Kept) → m ≡ n + suc k → run_from n (suc k) t ≡ record { kept = after; reply = ran m } → first_steps n t.state ≡ moved after.state (ran n)
+
+    step_by : Later → (c : Chosen) (b : Bool) → is_refused (step s.state (reduce c.goal c.clause)).reply ≡ b → first s.state ≡ Some c →
         (if b then said s (if k == 0 then (step s.state (reduce c.goal c.clause)).reply else ran k) else run_from n (suc k) (done s (reduce c.goal c.clause)).kept) ≡ record { kept = after; reply = ran m } → first_steps (suc n) s.state ≡ moved after.state (ran (suc n))
-    step_by c true r found e = absurd (not_stopped (k == 0) (step s.state (reduce c.goal c.clause)).reply k m r (omega (arith, sum)) (ap (λ (d : Done). d.reply) e))
-    step_by c false r found e =
+    step_by later c true r found e = absurd (not_stopped (k == 0) (step s.state (reduce c.goal c.clause)).reply k m r (omega (arith, sum)) (ap (λ (d : Done). d.reply) e))
+    step_by later c false r found e =
         let one : first_step s.state ≡ step s.state (reduce c.goal c.clause) = ap (chosen_step s.state) found in
         let more : m ≡ n + suc k = omega (arith, sum) in
         goes_on n s.state (step s.state (reduce c.goal c.clause)).state after.state (ap (λ (x : Transition). x.state) one) (ap (λ (x : Transition). is_refused x.reply) one ∙ r)
-        (runs_first n (suc k) m (done s (reduce c.goal c.clause)).kept after more e)
+        (later (done s (reduce c.goal c.clause)).kept more e)
 
-    go : (o : Option Chosen) → first s.state ≡ o → run_by n k s o ≡ record { kept = after; reply = ran m } → first_steps (suc n) s.state ≡ moved after.state (ran (suc n))
-    go None found e =
+    go : Later → (o : Option Chosen) → first s.state ≡ o → run_by n k s o ≡ record { kept = after; reply = ran m } → first_steps (suc n) s.state ≡ moved after.state (ran (suc n))
+    go later None found e =
         let z : k ≡ m = ran_same k m (ap (λ (d : Done). d.reply) e) in
         absurd (omega (arith, sum, z))
-    go (Some c) found e = step_by c (is_refused (step s.state (reduce c.goal c.clause)).reply) refl found e
+    go later (Some c) found e = step_by later c (is_refused (step s.state (reduce c.goal c.clause)).reply) refl found e
 
 -- a first step that is refused leaves the account
 chosen_stays : (s : State) (o : Option Chosen) → is_refused (chosen_step s o).reply ≡ true → (chosen_step s o).state ≡ s

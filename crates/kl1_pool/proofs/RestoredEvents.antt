@@ -50,8 +50,8 @@ entry_does s model.reset y is = absurd (none-some y is)
 by_reply : (s after : State) (y : Entry) (r : model.Reply) (b : Bool) → is_refused r ≡ b → (entry_step s y).state ≡ after → (entry_step s y).reply ≡ r → (is_refused (entry_step s y).reply ≡ true → (entry_step s y).state ≡ s) →
     IsEntryDone s y (if b then result.Stopped 0 ending.Refused else result.Whole) after
 by_reply s after y r true is state reply stays =
-    let no = ap is_refused reply ∙ is in
-    (ap (λ (t : State). let z : Transition = record { state = t; reply = ran 0 } in z) (sym (stays no) ∙ state), no, (none_of s y).1)
+    let refusal = ap is_refused reply ∙ is in
+    (ap (λ (t : State). let z : Transition = record { state = t; reply = ran 0 } in z) (sym (stays refusal) ∙ state), (refusal, (none_of s y).1))
 by_reply s after y r false is state reply stays = (ap is_refused reply ∙ is, sym state)
 
 -- what becomes of an entry whose event is done with room
@@ -63,7 +63,7 @@ event_done room k after e y r x has is does so =
     let state : (entry_step k.state y).state ≡ after.state = ap (λ (t : Transition). t.state) same ∙ ap (λ (z : Done). z.kept.state) d in
     let reply : (entry_step k.state y).reply ≡ r = ap (λ (t : Transition). t.reply) same ∙ ap (λ (z : Done). z.reply) d in
     let stays : is_refused (entry_step k.state y).reply ≡ true → (entry_step k.state y).state ≡ k.state =
-    λ no. ap (λ (t : Transition). t.state) same ∙ refusals_change_nothing k.state e (sym (ap (λ (t : Transition). is_refused t.reply) same) ∙ no) in
+    λ refusal. ap (λ (t : Transition). t.state) same ∙ refusals_change_nothing k.state e (sym (ap (λ (t : Transition). is_refused t.reply) same) ∙ refusal) in
     subst (λ q. IsEntryDone k.state y q after.state) (sym so) (by_reply k.state after.state y r (is_refused r) refl state reply stays)
 
 none_told : (r : model.Reply) → is_refused r ≡ true → told_by r ≡ told_of [] 0
@@ -82,8 +82,8 @@ none_told model.was_reset h = absurd (let z : false ≡ true = h in cc)
 none_told (model.refused r) h = refl
 
 by_told : (s : State) (e : model.Event) (y : Entry) (r : model.Reply) (b : Bool) → is_refused r ≡ b → entry_of e ≡ Some y → (step s e).reply ≡ r → told_by r ≡ told_entry y (if b then result.Stopped 0 ending.Refused else result.Whole)
-by_told s e y r true no is reply = none_told r no
-by_told s e y r false no is reply = sym (ap told_by reply) ∙ told_event s e y is (ap is_refused reply ∙ no)
+by_told s e y r true by is reply = none_told r by
+by_told s e y r false by is reply = sym (ap told_by reply) ∙ told_event s e y is (ap is_refused reply ∙ by)
 
 -- and what is counted of it
 pub event_told : (room : Option ℕ) (k after : Kept) (e : model.Event) (y : Entry) (r : model.Reply) (x : EntryResult) → HasRoomFor 1 room → entry_of e ≡ Some y → done_within room k e ≡ record { kept = after; reply = r } → x ≡ result_by r → told_by r ≡ told_entry y x
@@ -93,7 +93,7 @@ event_told room k after e y r x has is does so =
 
 -- a run that the account's rules have not
 pub run_without : (s : State) (n : ℕ) → has_runs s.rules ≡ false → IsEntryDone s (runs n) (result.Stopped 0 ending.Refused) s
-run_without s n h = (refl, run_is_refused s n h, (none_of s (runs n)).1)
+run_without s n h = (refl, (run_is_refused s n h, (none_of s (runs n)).1))
 
 -- what becomes of a run of which `n` steps are done
 pub run_done : (s after : Kept) (all n : ℕ) (last : FirstStep) (x : EntryResult) → has_runs s.state.rules ≡ true → n ≤ all → RunsOn s n after → IsEnd all n last after → x ≡ result_of_run n last → IsEntryDone s.state (runs all) x after.state
@@ -103,7 +103,7 @@ run_done s after all n last x has few on end is = subst (λ q. IsEntryDone s.sta
     those = let sum : n ≡ n + 0 = omega arith in runs_first n 0 n s after sum (all_done s after n on)
 
     not_whole : n < all → is_refused (first_step after.state).reply ≡ true → IsEntryDone s.state (runs all) (result.Stopped n ending.Refused) after.state
-    not_whole less no = (those, ap (λ (t : Transition). is_refused t.reply) (run_does s.state all has) ∙ run_refused all n s.state after.state less those no, few)
+    not_whole less stuck = (those, (ap (λ (t : Transition). is_refused t.reply) (run_does s.state all has) ∙ run_refused all n s.state after.state less those stuck, few))
 
     by_last : (o : FirstStep) → IsEnd all n o after → IsEntryDone s.state (runs all) (result_of_run n o) after.state
     by_last first_step.Done e =

@@ -80,12 +80,12 @@ answered_to s report t (Some to) = answered s report t to to.origin
 
 acted_on : (s : State) (in_run : Bool) (g : Goal) (a : Option Action) → Tells one_step (reduced_by s in_run g a)
 acted_on s in_run g None h = cc
-acted_on s in_run g (Some a) =
-    by_unless (Tells one_step) s ((needs_entry in_run s && is_full s, model.journal_full) ∷ []) (record { state = acted g a (with_reduction in_run s); reply = model.reduced }) (refused one_step s) (λ h. refl)
+acted_on s in_run g (Some a) h =
+    by_unless (Tells one_step) s ((needs_entry in_run s && is_full s, model.journal_full) ∷ []) (record { state = acted g a (with_reduction in_run s); reply = model.reduced }) (refused one_step s) (λ h. refl) h
 
 reduced : (s : State) (in_run : Bool) (clause : ℕ) (g : Option Goal) → Tells one_step (reduce_goal s in_run clause g)
 reduced s in_run clause None h = cc
-reduced s in_run clause (Some g) = acted_on s in_run g (action_of s g clause)
+reduced s in_run clause (Some g) h = acted_on s in_run g (action_of s g clause) h
 
 entry_is : {x : Entry} {t : Told} (y : Entry) → Some x ≡ Some y → told_of (x ∷ []) 0 ≡ t → t ≡ told_of (y ∷ []) 0
 entry_is {x} {t} y same is = sym is ∙ ap (λ (z : Entry). told_of (z ∷ []) 0) (let e : x ≡ y = cc in e)

@@ -38,7 +38,7 @@ pub use memory::bytes_of;
 pub use named_atoms::NamedAtoms;
 pub use parts::PoolParts;
 pub use pool::Pool;
-pub use pool_account::PoolAccount;
+pub use pool_account::{BookTotals, PoolAccount};
 pub use pool_ids::PoolIds;
 pub use restoring::{RestoreEnd, Restored};
 pub use shared_tables::SharedTables;

@@ -32,6 +32,7 @@ use kl1_user_events::{ClauseNo, Event, GoalNo, Listed, Refusal, Reply};
 use std::alloc::AllocError;
 use std::marker::{Model, PhantomData};
 use std::sync::Wait;
+pub use viewing::BookTotals;
 
 /// An account with its journal and its book; what its journals counted that resets ended; and whether its ticket is out. What a book
 /// tells is always what was counted before the last reset and the events that the journal's entries are.

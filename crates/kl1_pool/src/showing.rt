@@ -1,10 +1,11 @@
 // What is shown of an account of a pool, under its lock.
 
-ghost use Rattle.std.specs.Prelude.{◌≡◌, ◌<◌, slice_get, IfOk, option_map};
+ghost use Rattle.std.specs.Prelude.{◌≡◌, ◌<◌, slice_get, IfOk, IfSome, option_map};
 ghost use Rattle.kl1_user_events.specs.Viewing.{shoen_page, goal_page, goal_text, goal_term, AreAwaited, IsPresence, usage_of};
-ghost use Rattle.kl1_pool.specs.Showing.{IsOfSome};
+ghost use Rattle.kl1_pool.specs.Showing.{IsOfSome, IsCountedBySome};
 
 use crate::pool::Pool;
+use crate::pool_account::BookTotals;
 use crate::pool_ids::PoolIds;
 use kl1_user_events::{Extent, GoalNo, GoalView, Presence, ShoenNo, ShoenView, Usage};
 use std::alloc::AllocError;
@@ -123,5 +124,21 @@ impl<'t, R: Wait, K: PoolIds> Pool<'t, R, K> {
             return Err(AllocError);
         }
         Ok(found.usage())
+    }
+
+    /// What the book of an account tells; `None` if another account was found, which never is so.
+    pub fn counted<W: Wait>(&self, rt: &W, account: usize) -> Option<BookTotals>
+        requires within { account < K.accounts }
+        ensures { IfSome result (λ totals. IsCountedBySome K.rules (slice_get K.names account) totals.events totals.steps) }
+    {
+        let guard = self.places[account].lock(rt);
+        let found = &*guard.account;
+        // As in `visit`.
+        if !found.is_at(account) {
+            return None;
+        }
+        // Called for the fact that it proves: what the book tells.
+        found.shows_counts();
+        Some(found.counted())
     }
 }

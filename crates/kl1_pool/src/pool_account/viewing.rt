@@ -17,6 +17,13 @@ use kl1_user_events::{Extent, GoalNo, GoalView, Presence, ShoenNo, ShoenView, Us
 use std::alloc::AllocError;
 use std::sync::Wait;
 
+/// What the book of an account tells: the events and the steps of all its journals.
+#[derive(Clone, Copy)]
+pub struct BookTotals {
+    pub events: u64,
+    pub steps: u64,
+}
+
 impl<'t, R: Wait, K: PoolIds> PoolAccount<'t, R, K> {
     /// What is shown of the shoens with numbers from one on, of the first `count` of them.
     pub fn shoens_from(&self, from: ShoenNo, count: usize) -> Result<Vec<ShoenView>, AllocError>
@@ -71,6 +78,16 @@ impl<'t, R: Wait, K: PoolIds> PoolAccount<'t, R, K> {
         ensures { (f : Reading) → result ≡ usage_of (kept_of f self.now.held).state }
     {
         self.kept.usage()
+    }
+
+    /// What the book tells.
+    pub fn counted(&self) -> BookTotals
+        ensures { (result.events ≡ self.now.book.events) × (result.steps ≡ self.now.book.steps) }
+    {
+        BookTotals {
+            events: self.book.events(),
+            steps: self.book.steps(),
+        }
     }
 
     /// Whether the account has this number. Then it keeps to the rules and has the name that K names, and is the replay of its journal.

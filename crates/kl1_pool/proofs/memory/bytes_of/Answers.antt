@@ -1,4 +1,4 @@
-use Rattle.std.proofs.Common.{◌*◌, ◌+◌, ◌∙◌}
+use Rattle.std.proofs.Common.{◌≡◌, ◌*◌, ◌+◌, ◌-◌, ◌^◌, min, ◌∙◌, arith}
 use Rattle.kl1_pool.specs.declared.memory.TheConstants.{GOAL_BYTES, NAME_BYTES, SHOEN_BYTES, VARIABLE_BYTES, STRUCTURE_BYTES, REPORT_BYTES, ENTRY_BYTES}
 use Rattle.kl1_pool.proofs.Capped.{capped}
 use Rattle.kl1_pool.proofs.memory.bytes_of.Goals as goal
@@ -12,7 +12,7 @@ returns c =
     let variables = shoens + u.variables.count * VARIABLE_BYTES in
     let structures = variables + u.structures.count * STRUCTURE_BYTES in
     let reports = structures + u.reports.count * REPORT_BYTES in
-    let a = c.add_used-goals.ensures in
+    let a : c.add_used-goals.result ≡ min goals (2 ^ 64 - 1) = omega (arith, c.add_used-goals.ensures) in
     let b = c.add_used-names.ensures ∙ capped c.add_used-goals.result goals (u.names.count * NAME_BYTES) a in
     let d = c.add_used-shoens.ensures ∙ capped c.add_used-names.result names (u.shoens.count * SHOEN_BYTES) b in
     let e = c.add_used-variables.ensures ∙ capped c.add_used-shoens.result shoens (u.variables.count * VARIABLE_BYTES) d in

@@ -15,7 +15,7 @@ pub loop-entry-init : goal.loop-entry-init
 loop-entry-init g c =
     let es = c.args.journal.now.journal.entries in
     record {
-      left = subst (λ rest. AreLeft es rest 0) (sym c.entries.ensures) (none_left es);
+      left = subst (λ rest. AreLeft es rest 0) (sym c.entries-entries.ensures) (none_left es);
       done = λ f fits. none_done (g.H.Host.kept f c.args.host.now).state es;
       counted = λ f fits. g.met.H.Host.none_counted c.args.host.now;
       before = λ f fits. fits;
@@ -47,8 +47,8 @@ loop-entry-preserved g c =
       beside = c.restore_entry.ensures.beside ∙ inv.beside;
     }
 
-pub returns-then-done-eq-MAX-clause-restored : goal.returns-then-done-eq-MAX-clause-restored
-returns-then-done-eq-MAX-clause-restored g c = λ f fits.
+pub returns-then-done-clause-restored : goal.returns-then-done-clause-restored
+returns-then-done-clause-restored g c = λ f fits.
     let es = c.args.journal.now.journal.entries in
     let rest = c.next.new.self in
     let n = c.loop-entry.done in
@@ -94,6 +94,6 @@ returns-clause-restored g c = λ f fits.
     let n = c.loop-entry.done in
     let mid = (g.H.Host.kept f c.loop-entry.host).state in
     let inv = c.loop-entry.invariant in
-    let left : AreLeft es [] n = subst (λ xs. AreLeft es xs n) (c.in-None.ensures.none tt) inv.left in
+    let left : AreLeft es [] n = subst (λ xs. AreLeft es xs n) (c.in_default.ensures.none refl) inv.left in
     let r : Restored = record { entries = n; steps = 0; end = ending.All } in
     restored_at (g.H.Host.kept f c.args.host.now).state es [] r mid mid left (inv.done f fits) refl (refl, refl)
