@@ -1,21 +1,17 @@
 -- A cell's term printed node by node.
 use Rattle.std.proofs.Common.{◌≡◌, ℕ, List, length, sym, ap, ◌∙◌}
-use Rattle.std.specs.Prelude.{Option}
 use Rattle.kl1_model.specs.Term.{Term}
-use Rattle.kl1_model.specs.Print.{print}
 use Rattle.kl1_term.specs.declared.printer.Printer.{Printer}
 use Rattle.kl1_term.specs.Nodes.{with_node}
 use Rattle.kl1_model.specs.declared.built_in.BuiltIn.TheVariants.{ListCell}
 use Rattle.kl1_term.specs.declared.node.Node.{Node}
 use Rattle.kl1_term.specs.declared.node.Node.TheVariants.{Structure}
-use Rattle.kl1_term.specs.Page.{limited}
 use Rattle.kl1_term.specs.Printing.{text_of, waits_of}
 use Rattle.kl1_text.specs.declared.cell_name.CellName.{CellName}
 use Rattle.kl1_atoms.specs.declared.known.Known.{Known}
 use Rattle.kl1_store.specs.declared.cell.Cell.{Cell}
 use Rattle.kl1_store.specs.Held.{Held, AreIn}
 use Rattle.kl1_user_effects.specs.Fitting.{Reading, Fits, built}
-use Rattle.kl1_user_effects.specs.Account.{meaning}
 use Rattle.kl1_user_account.specs.Tops.{list_cell, stacked_terms}
 
 -- with the terms on the stack the printer makes what another made with others, for each reading of these names, and it waits for as

@@ -3,7 +3,7 @@ use Rattle.std.specs.Prelude.{Some, None}
 use Rattle.kl1_user_events.specs.Viewing.{value_text}
 use Rattle.kl1_atoms.specs.declared.known.Known.{Known}
 use Rattle.kl1_user_effects.specs.Fitting.{Fits}
-use Rattle.kl1_user_effects.specs.Account.{Account, state_of}
+use Rattle.kl1_user_effects.specs.Account.{Account, meaning, state_of}
 use Rattle.kl1_user_account.specs.Accounts.{kept_in}
 use Rattle.kl1_user_account.proofs.Origins.{kept_at, origin_in, goal_named, none_shown, kept_shown}
 use Rattle.kl1_user_account.proofs.account.Account.value_text.Goals as goal
@@ -40,4 +40,4 @@ returns-in_ok-text-in-Some-clause-text g c =
     let P : Account → Type 0 = λ a. Some c.in_ok-text-in-Some.text.items ≡ value_text c.args.extent (state_of f a) c.args.number in
     let F : List Known → Type 0 = λ ks. Fits ks f in
     subst P c.self.view_is
-    (kept_shown c.args.extent f (kept_in u) c.args.number c.in-Some.origin c.in_ok-text-in-Some.text.items e (c.in_ok-text-in-Some.ensures.text f (subst F (sym c.requires.knows) fits) ∙ c.most_of.ensures (meaning f u.held c.in-Some.origin.goal)))
+    (kept_shown c.args.extent f (kept_in u) c.args.number c.in-Some.origin c.in_ok-text-in-Some.text.items e (c.in_ok-text-in-Some.ensures.text f (subst F (sym c.requires.knows) fits) ∙ c.most_of-most.ensures (meaning f u.store.held c.in-Some.origin.goal)))
