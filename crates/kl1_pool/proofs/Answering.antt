@@ -21,6 +21,7 @@ use Rattle.kl1_pool.specs.declared.totals_before_reset.TotalsBeforeReset.{Totals
 use Rattle.kl1_pool.specs.Counted.{IsCounted}
 use Rattle.kl1_pool.specs.declared.restoring.Restored.{Restored}
 use Rattle.kl1_pool.specs.Restoring.{IsRestored, IsRestoredBySome}
+use Rattle.kl1_pool.specs.Memory.{bytes_taken, IsTakenBySome}
 use Rattle.kl1_pool.specs.Stepping.{AreFirstSteps, goes_on, IsTurnOfSome}
 
 -- what is untouched is so in each part
@@ -61,6 +62,13 @@ counted_by_some {p} {h} {b} rules name events steps found counted told =
     let f = reading_of h.0.names in
     let account : IsAccount rules name (kept_of f h) = record { replay = (found.kept.replay f (reading_fits h.0.names found.names)).is; keeps_to = found.keeps_to; called = found.called } in
     (kept_of f h, p, account, told.0 ∙ counted.events, told.1 ∙ counted.steps)
+
+-- what an account that was found takes
+pub taken_by_some : {h : Held} (rules : Rules) (name : Option (List ℕ)) (bytes : ℕ) → IsFound rules name h → ((f : Reading) → bytes ≡ bytes_taken (kept_of f h)) → IsTakenBySome rules name bytes
+taken_by_some {h} rules name bytes found takes =
+    let f = reading_of h.0.names in
+    let account : IsAccount rules name (kept_of f h) = record { replay = (found.kept.replay f (reading_fits h.0.names found.names)).is; keeps_to = found.keeps_to; called = found.called } in
+    (kept_of f h, account, takes f)
 
 -- how an account is restored
 pub restored_by : (rules : Rules) (name : Option (List ℕ)) (old new : Held) (es : List Entry) (r : Restored) → IsKept old → old.0.rules ≡ rules → name ≡ Some old.0.own_name → AreNames new.0.names → ((f : Reading) → Fits new.0.names f → Fits old.0.names f) →

@@ -2,6 +2,7 @@
 
 ghost use Rattle.std.specs.Prelude.{◌≡◌, ◌<◌, slice_get, IfOk, IfSome, option_map};
 ghost use Rattle.kl1_user_events.specs.Viewing.{shoen_page, goal_page, goal_text, goal_term, AreAwaited, IsPresence, usage_of};
+ghost use Rattle.kl1_pool.specs.Memory.{IsTakenBySome};
 ghost use Rattle.kl1_pool.specs.Showing.{IsOfSome, IsCountedBySome};
 
 use crate::pool::Pool;
@@ -140,5 +141,19 @@ impl<'t, R: Wait, K: PoolIds> Pool<'t, R, K> {
         // Called for the fact that it proves: what the book tells.
         found.shows_counts();
         Some(found.counted())
+    }
+
+    /// About how many bytes an account takes; `None` if another account was found, which never is so.
+    pub fn bytes<W: Wait>(&self, rt: &W, account: usize) -> Option<u64>
+        requires within { account < K.accounts }
+        ensures { IfSome result (λ bytes. IsTakenBySome K.rules (slice_get K.names account) bytes) }
+    {
+        let guard = self.places[account].lock(rt);
+        let found = &*guard.account;
+        // As in `visit`.
+        if !found.is_at(account) {
+            return None;
+        }
+        Some(found.bytes())
     }
 }

@@ -1,10 +1,11 @@
 // What is shown of an account with its book.
 
-ghost use Rattle.std.specs.Prelude.{◌≡◌, ◌-◌, ◌^◌, nat_lt, min, slice_get, IfOk, IsTrue, option_map};
+ghost use Rattle.std.specs.Prelude.{◌≡◌, nat_lt, slice_get, IfOk, IsTrue, option_map};
 ghost use Rattle.kl1_command.specs.Commands.{command_view};
 ghost use Rattle.kl1_journal.specs.Keeping.{Reading, Fits, kept_of};
 ghost use Rattle.kl1_user_events.specs.Viewing.{shoen_page, goal_page, goal_text, goal_term, AreAwaited, IsPresence, usage_of};
-ghost use Rattle.kl1_pool.specs.Memory.{bytes_in, IsBeyond};
+ghost use Rattle.kl1_pool.specs.Counted.{reduces_in};
+ghost use Rattle.kl1_pool.specs.Memory.{bytes_taken, IsBeyond};
 ghost use Rattle.kl1_pool.specs.Showing.{IsFound};
 
 use crate::memory::{bytes_of, takes_memory};
@@ -99,11 +100,27 @@ impl<'t, R: Wait, K: PoolIds> PoolAccount<'t, R, K> {
         self.account() == account
     }
 
+    /// How many reductions were done since the last reset.
+    fn steps_since_reset(&self) -> u64
+        ensures { result ≡ reduces_in self.now.held.1.entries }
+    {
+        // Called for the fact that it proves: what the book tells.
+        self.shows_counts();
+        self.counted().steps.saturating_sub(self.past().steps)
+    }
+
+    /// About how many bytes the account takes.
+    pub fn bytes(&self) -> u64
+        ensures { (f : Reading) → result ≡ bytes_taken (kept_of f self.now.held) }
+    {
+        bytes_of(&self.usage(), self.steps_since_reset())
+    }
+
     /// Whether the account takes more bytes than `most`.
     pub fn is_over(&self, most: u64) -> bool
-        ensures { (f : Reading) → result ≡ nat_lt most (min (bytes_in (usage_of (kept_of f self.now.held).state)) (2 ^ 64 - 1)) }
+        ensures { (f : Reading) → result ≡ nat_lt most (bytes_taken (kept_of f self.now.held)) }
     {
-        bytes_of(&self.usage()) > most
+        self.bytes() > most
     }
 
     /// Whether the account takes more bytes than `most`, and a command may make it take more.
