@@ -7,7 +7,11 @@ use crate::disk::Disk;
 use std::alloc::Global;
 use std::fs::{self, OpenFile, OpenOptions};
 use std::io::{self, ErrorKind, Read, Seek, SeekFrom, Write};
+use std::os::unix::fs::OpenOptionsExt;
 use std::rt::Files;
+
+/// A new file is for its owner alone.
+const FILE_MODE: u32 = 0o600;
 
 /// A journal's file in a folder of the system: NAME.journal, and NAME.journal.new beside it. No contract says what the system's files hold:
 /// that they hold what the calls of a `Disk` say is trusted.
@@ -34,6 +38,7 @@ fn opened<R: Files>(rt: &R, path: &str, is_new: bool) -> io::Result<R::File> {
         .read(true)
         .append(true)
         .create_new(is_new)
+        .mode(FILE_MODE)
         .open(rt, path)
 }
 
