@@ -7,6 +7,7 @@ use std::net::SocketAddr;
 use std::time::Clock;
 
 /// Tells lines to standard error, each with its time.
+#[derive(Drop)]
 pub struct Log<'a, R: Print + Clock> {
     pub rt: &'a R,
     pub alloc: Global,
@@ -46,6 +47,25 @@ impl<R: Print + Clock> Log<'_, R> {
         };
         if all.push(first).is_ok() && all.extend_from_slice(fields).is_ok() {
             self.tell(event, all.as_slice());
+        }
+    }
+
+    /// Tells that the journal of an account goes on from what is before this line.
+    pub fn tell_repaired(&self, name: &[u8], line: u64) {
+        if let Ok(text) = format!(in self.alloc; "{line}") {
+            self.tell(
+                b"repaired",
+                &[
+                    Field {
+                        name: b"account",
+                        value: name,
+                    },
+                    Field {
+                        name: b"line",
+                        value: text.as_bytes(),
+                    },
+                ],
+            );
         }
     }
 

@@ -117,6 +117,18 @@ impl<K: PoolIds> Lobby<K> {
         if let Some(place) = found {
             let _ = visitors.open.swap_remove(place);
         }
+        drop(guard);
+        self.changed.notify_all();
+    }
+
+    /// Waits until no connection is open.
+    pub(crate) fn wait_until_empty<W: Wait>(&self, rt: &W) {
+        let guard = self
+            .changed
+            .wait_while(rt, self.visitors.lock(rt), |visitors| {
+                !visitors.open.is_empty()
+            });
+        drop(guard);
     }
 
     /// How many connections are open.
@@ -134,16 +146,6 @@ impl<K: PoolIds> Lobby<K> {
         }
         drop(guard);
         self.changed.notify_all();
-    }
-
-    /// All shares, if nobody is connected.
-    pub(crate) fn into_shares(self) -> Vec<Share<K>> {
-        let Lobby {
-            visitors,
-            changed: _,
-        } = self;
-        let Visitors { free, .. } = visitors.into_inner();
-        free
     }
 }
 
