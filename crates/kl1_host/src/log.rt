@@ -8,12 +8,12 @@ use std::time::Clock;
 
 /// Tells lines to standard error, each with its time.
 #[derive(Drop)]
-pub struct Log<'a, R: Print + Clock> {
+pub struct Log<'a, R: Eprint + Clock> {
     pub rt: &'a R,
     pub alloc: Global,
 }
 
-impl<R: Print + Clock> Log<'_, R> {
+impl<R: Eprint + Clock> Log<'_, R> {
     /// The line of an event.
     fn line_of(&self, event: &[u8], fields: &[Field<'_>]) -> Result<String, AllocError> {
         let time = match Timestamp::now(self.rt) {
@@ -32,7 +32,7 @@ impl<R: Print + Clock> Log<'_, R> {
         all.extend_from_slice(fields)?;
         let mut line = Vec::new(self.alloc);
         put_line(&mut line, all.as_slice())?;
-        String::from_utf8_lossy(line)
+        String::from_utf8_lossy(self.alloc, line.as_slice())
     }
 
     /// Tells an event of who connects from this address.

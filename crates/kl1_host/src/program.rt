@@ -24,7 +24,7 @@ use std::time::{Clock, Instant};
 
 /// The program around a host.
 #[derive(Drop)]
-pub struct Program<'f, R: Wait + Clock + Print + Files + RandomSource> {
+pub struct Program<'f, R: Wait + Clock + Eprint + Files + RandomSource> {
     pub rt: &'f R,
     pub alloc: Global,
     pub folder: &'f str,
@@ -49,7 +49,7 @@ pub struct Program<'f, R: Wait + Clock + Print + Files + RandomSource> {
 
 /// The program with what can be seen of its host.
 #[derive(Drop)]
-struct Report<'p, 'f, R: Wait + Clock + Print + Files + RandomSource, V: HostView> {
+struct Report<'p, 'f, R: Wait + Clock + Eprint + Files + RandomSource, V: HostView> {
     program: &'p Program<'f, R>,
     host: &'p V,
 }
@@ -59,7 +59,7 @@ fn number(name: &'static [u8], number: u64) -> Number<'static> {
     Number { name, number }
 }
 
-impl<R: Wait + Clock + Print + Files + RandomSource, V: HostView> Report<'_, '_, R, V> {
+impl<R: Wait + Clock + Eprint + Files + RandomSource, V: HostView> Report<'_, '_, R, V> {
     /// Puts the line of an account after others.
     fn put_account(&self, out: &mut Vec<u8>, account: usize, key: &Key) -> Result<(), AllocError> {
         let program = self.program;
@@ -82,7 +82,7 @@ impl<R: Wait + Clock + Print + Files + RandomSource, V: HostView> Report<'_, '_,
     }
 }
 
-impl<R: Wait + Clock + Print + Files + RandomSource, V: HostView> Reporter for Report<'_, '_, R, V> {
+impl<R: Wait + Clock + Eprint + Files + RandomSource, V: HostView> Reporter for Report<'_, '_, R, V> {
     fn put_status(&self, out: &mut Vec<u8>) -> Result<(), AllocError> {
         let seconds = match self.program.begun.elapsed(self.program.rt) {
             Ok(time) => time.as_secs(),
@@ -111,7 +111,7 @@ fn end_of(ended: Disconnect) -> &'static [u8] {
     }
 }
 
-impl<R: Wait + Clock + Print + Files + RandomSource> Program<'_, R> {
+impl<R: Wait + Clock + Eprint + Files + RandomSource> Program<'_, R> {
     /// The name of an account, by its number.
     pub fn name_of(&self, account: usize) -> &[u8] {
         match self.keys.get(account) {
@@ -165,7 +165,7 @@ fn local_of(alloc: Global, listener: &TcpListener) -> Result<String, AllocError>
     }
 }
 
-impl<'f, R: Wait + Clock + Print + Files + RandomSource + Sync> Front for Program<'f, R> {
+impl<'f, R: Wait + Clock + Eprint + Files + RandomSource + Sync> Front for Program<'f, R> {
     type Entrance = PausingDoor<'f, R, LoginLog<'f, R>>;
 
     ghost accounts = { λ p. length p.keys.now };
@@ -244,7 +244,7 @@ impl<'f, R: Wait + Clock + Print + Files + RandomSource + Sync> Front for Progra
             program: self,
             host,
         };
-        let asker = answer_until_stop(self.alloc, self.socket, &report);
+        let asker = answer_until_stop(self.rt, self.alloc, self.socket, &report);
         *self.asker.lock(self.rt) = asker;
         self.log.tell(b"stop", &[]);
     }

@@ -68,7 +68,7 @@ fn setup_of(settings: &Settings, accounts: usize) -> Setup {
 }
 
 /// Opens the files of the journals of accounts. With a word for the names of files in which what is repaired is kept, a fault is repaired.
-fn files_of<'r, R: Files + Clock + Print>(
+fn files_of<'r, R: Files + Clock + Eprint>(
     log: &Log<'r, R>,
     folder: &str,
     keys: &[Key],
@@ -129,7 +129,7 @@ where
         + Threads
         + Wait
         + Clock
-        + Print
+        + Eprint
         + Sync,
 {
     let (rt, alloc, keys) = (program.rt, program.alloc, program.keys);
@@ -163,7 +163,7 @@ where
         + Threads
         + Wait
         + Clock
-        + Print
+        + Eprint
         + Sync,
 {
     let alloc = rt.alloc();

@@ -135,7 +135,7 @@ pub fn disk_of<R: Files>(
 
 /// The accounts of a host, for one connection of a browser.
 #[derive(Drop)]
-pub struct WebAccounts<'w, 'f, R: Wait + Clock + Print + Files, P: Performer, V: HostView> {
+pub struct WebAccounts<'w, 'f, R: Wait + Clock + Eprint + Files, P: Performer, V: HostView> {
     pub rt: &'f R,
     pub alloc: Global,
     pub folder: &'f str,
@@ -146,7 +146,7 @@ pub struct WebAccounts<'w, 'f, R: Wait + Clock + Print + Files, P: Performer, V:
     pub record: AskedRecord,
 }
 
-impl<'w, R: Wait + Clock + Print + Files, P: Performer, V: HostView> Accounts
+impl<'w, R: Wait + Clock + Eprint + Files, P: Performer, V: HostView> Accounts
     for WebAccounts<'w, '_, R, P, V>
 {
     type Viewer = AccountViewer<'w, V>;

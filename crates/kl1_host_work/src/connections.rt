@@ -9,7 +9,7 @@ use crate::lobby::{Limits, Lobby};
 use kl1_pool::{Pool, PoolIds, Share};
 use std::alloc::Global;
 use std::net::{Net, SocketAddr, TcpListener, TcpStream};
-use std::sync::Wait;
+use std::sync::{Arc, Wait};
 use std::thread;
 use std::thread::Threads;
 use std::time::{Clock, Duration};
@@ -66,7 +66,7 @@ fn serve_client<'t, F: Front, W: Wait, R: Wait, K: PoolIds>(
 fn serve_visitor<'t, F: Front, W: Wait, R: Wait, K: PoolIds>(
     rt: &W,
     desk: &Desk<'_, 't, F, R, K>,
-    stream: TcpStream,
+    stream: Arc<TcpStream, Global>,
     address: SocketAddr,
     peers: Peers,
     number: u64,
@@ -76,8 +76,8 @@ fn serve_visitor<'t, F: Front, W: Wait, R: Wait, K: PoolIds>(
 {
     let mut share = share;
     match peers {
-        Peers::Clients => serve_client(rt, desk, &stream, address, &mut share),
-        Peers::Browsers => serve_pages(rt, desk, &stream, address, &mut share),
+        Peers::Clients => serve_client(rt, desk, &*stream, address, &mut share),
+        Peers::Browsers => serve_pages(rt, desk, &*stream, address, &mut share),
     }
     drop(stream);
     desk.lobby.give_back(rt, share);
@@ -111,12 +111,19 @@ where
                     thread::sleep(rt, Duration::from_millis(PAUSE_MILLISECONDS));
                     continue;
                 };
+                let Ok(stream) = Arc::new(desk.alloc, stream) else {
+                    desk.lobby.give_back(rt, share);
+                    continue;
+                };
                 let Some(number) = desk
                     .lobby
                     .admit(rt, &stream, address.ip(), desk.limits.each)
                 else {
                     desk.lobby.give_back(rt, share);
-                    desk.front.tell(HostEvent::TurnedAway(address));
+                    // A host that is closing wakes this accept by a connection of its own.
+                    if !desk.lobby.is_closing(rt) {
+                        desk.front.tell(HostEvent::TurnedAway(address));
+                    }
                     continue;
                 };
                 match scope.spawn(move || {

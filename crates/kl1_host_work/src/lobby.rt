@@ -3,7 +3,7 @@
 use kl1_pool::{PoolIds, Share};
 use std::alloc::{AllocError, Global};
 use std::net::{IpAddr, Shutdown, TcpStream};
-use std::sync::{Condvar, Mutex, Wait};
+use std::sync::{Arc, Condvar, Mutex, Wait};
 use std::time::Duration;
 
 /// How many connections may be open at once from one address, and how long one may be silent. How many in all is how many shares there are
@@ -19,7 +19,7 @@ pub struct Limits {
 struct Visitor {
     number: u64,
     address: IpAddr,
-    stream: TcpStream,
+    stream: Arc<TcpStream, Global>,
 }
 
 /// Shares that are free, and connections that are open.
@@ -81,11 +81,11 @@ impl<K: PoolIds> Lobby<K> {
     pub(crate) fn admit<W: Wait>(
         &self,
         rt: &W,
-        stream: &TcpStream,
+        stream: &Arc<TcpStream, Global>,
         address: IpAddr,
         each: usize,
     ) -> Option<u64> {
-        let Ok(stream) = stream.try_clone() else {
+        let Ok(stream) = Arc::try_clone(stream) else {
             return None;
         };
         let mut guard = self.visitors.lock(rt);
@@ -129,6 +129,11 @@ impl<K: PoolIds> Lobby<K> {
                 !visitors.open.is_empty()
             });
         drop(guard);
+    }
+
+    /// Whether the host lets nobody in any more.
+    pub(crate) fn is_closing<W: Wait>(&self, rt: &W) -> bool {
+        self.visitors.lock(rt).is_closing
     }
 
     /// How many connections are open.
