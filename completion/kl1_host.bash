@@ -5,12 +5,17 @@ _kl1_host() {
     COMPREPLY=()
     case $COMP_CWORD in
     1)
-        mapfile -t COMPREPLY < <(compgen -W "init add check status stop --help --version" -- "$word")
+        mapfile -t COMPREPLY < <(compgen -W "init add run check status stop --help --version" -- "$word")
         ;;
     2)
         # The folder.
         compopt -o filenames 2>/dev/null
         mapfile -t COMPREPLY < <(compgen -d -- "$word")
+        ;;
+    3)
+        if [ "${COMP_WORDS[1]}" = run ]; then
+            mapfile -t COMPREPLY < <(compgen -W "--repair" -- "$word")
+        fi
         ;;
     esac
 }

@@ -4,13 +4,17 @@ use kl1_lines::is_same;
 use std::alloc::{AllocError, Global};
 use std::io::{Read, Write};
 use std::os::unix::net::{UnixListener, UnixStream};
-use std::time::Duration;
+use std::thread;
+use std::time::{Clock, Duration};
 
 /// The most bytes of what is asked.
 const MOST_ASKED: usize = 64;
 
 /// For how long who asks may be silent, in seconds.
 const MOST_SILENT_SECONDS: u64 = 5;
+
+/// How long is waited after an accept that failed, in milliseconds: too many files may be open.
+const PAUSE_MILLISECONDS: u64 = 20;
 
 /// What is asked.
 #[derive(Clone, Copy)]
@@ -50,14 +54,18 @@ pub trait Reporter {
 }
 
 /// Answers who asks how the host goes, until somebody asks it to stop; then the stream that asked is given back, to be closed when the host
-/// has ended. `None` if the socket fails.
-pub fn answer_until_stop<S: Reporter>(
+/// has ended. `None` if nobody can ask any more.
+pub fn answer_until_stop<R: Clock, S: Reporter>(
+    rt: &R,
     alloc: Global,
     listener: &UnixListener,
     reporter: &S,
 ) -> Option<UnixStream> {
     for stream in listener.incoming() {
-        let mut stream = stream.ok()?;
+        let Ok(mut stream) = stream else {
+            thread::sleep(rt, Duration::from_millis(PAUSE_MILLISECONDS));
+            continue;
+        };
         match asked_by(&mut stream) {
             Ask::Stop => return Some(stream),
             Ask::Status => {

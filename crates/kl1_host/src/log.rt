@@ -7,12 +7,13 @@ use std::net::SocketAddr;
 use std::time::Clock;
 
 /// Tells lines to standard error, each with its time.
-pub struct Log<'a, R: Print + Clock> {
+#[derive(Drop)]
+pub struct Log<'a, R: Eprint + Clock> {
     pub rt: &'a R,
     pub alloc: Global,
 }
 
-impl<R: Print + Clock> Log<'_, R> {
+impl<R: Eprint + Clock> Log<'_, R> {
     /// The line of an event.
     fn line_of(&self, event: &[u8], fields: &[Field<'_>]) -> Result<String, AllocError> {
         let time = match Timestamp::now(self.rt) {
@@ -31,7 +32,7 @@ impl<R: Print + Clock> Log<'_, R> {
         all.extend_from_slice(fields)?;
         let mut line = Vec::new(self.alloc);
         put_line(&mut line, all.as_slice())?;
-        String::from_utf8_lossy(line)
+        String::from_utf8_lossy(self.alloc, line.as_slice())
     }
 
     /// Tells an event of who connects from this address.
@@ -46,6 +47,25 @@ impl<R: Print + Clock> Log<'_, R> {
         };
         if all.push(first).is_ok() && all.extend_from_slice(fields).is_ok() {
             self.tell(event, all.as_slice());
+        }
+    }
+
+    /// Tells that the journal of an account goes on from what is before this line.
+    pub fn tell_repaired(&self, name: &[u8], line: u64) {
+        if let Ok(text) = format!(in self.alloc; "{line}") {
+            self.tell(
+                b"repaired",
+                &[
+                    Field {
+                        name: b"account",
+                        value: name,
+                    },
+                    Field {
+                        name: b"line",
+                        value: text.as_bytes(),
+                    },
+                ],
+            );
         }
     }
 

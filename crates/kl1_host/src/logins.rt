@@ -7,12 +7,12 @@ use std::time::Clock;
 
 /// Tells the log of logins from an address.
 #[derive(Drop)]
-pub struct LoginLog<'f, R: Print + Clock> {
+pub struct LoginLog<'f, R: Eprint + Clock> {
     pub log: &'f Log<'f, R>,
     pub address: SocketAddr,
 }
 
-impl<R: Print + Clock> LoginTeller for LoginLog<'_, R> {
+impl<R: Eprint + Clock> LoginTeller for LoginLog<'_, R> {
     fn let_in(&self, name: &[u8]) {
         self.log.tell_of(
             b"login",

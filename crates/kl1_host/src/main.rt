@@ -15,9 +15,12 @@ mod log;
 mod logins;
 mod new_file;
 mod program;
+mod repair;
 mod run;
 mod settings;
+mod sockets;
 mod start_words;
+mod web;
 mod words;
 
 use crate::add::add_account;

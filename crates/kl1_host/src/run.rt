@@ -1,25 +1,29 @@
 // A host runs.
 
+ghost use Rattle.std.specs.Prelude.{◌≤◌, length, vec_len, IfOk};
+
 use crate::accounts::accounts_in;
 use crate::fault::Fault;
-use crate::folder::{FILE_MODE, JOURNALS, SOCKET, path_in};
+use crate::folder::{JOURNALS, SOCKET, path_in};
 use crate::lock::lock_folder;
 use crate::log::Log;
 use crate::program::Program;
+use crate::repair::{cut_journal, word_of_now};
 use crate::settings::settings_of;
+use crate::sockets::{bind, socket_of};
 use crate::start_words::{open_fault, start_fault};
+use crate::web::sites_of;
 use kl1_host_front::{Field, Pauses, Settings, Sync as Syncs};
 use kl1_host_journals::open_in_folder;
-use kl1_host_work::{AccountFile, Limits, Setup, Syncing, run_host};
+use kl1_host_web::SessionBook;
+use kl1_host_work::{AccountFile, Limits, Listeners, Setup, StartFault, Syncing, run_host};
 use kl1_log::FolderFile;
 use kl1_pool::{AccountName, Rules};
 use kl1_session::Key;
 use std::alloc::Global;
-use std::fs::{self, File, Permissions};
-use std::io::ErrorKind;
+use std::fs::{self, File};
 use std::net::{Net, TcpListener, TcpStream};
-use std::os::unix::fs::PermissionsExt;
-use std::os::unix::net::UnixListener;
+use std::random::RandomSource;
 use std::rt::Files;
 use std::sync::{Mutex, Wait};
 use std::thread::Threads;
@@ -46,7 +50,7 @@ fn syncing_of(sync: Syncs) -> Syncing {
     }
 }
 
-/// How a host of so many accounts is set up.
+/// How a host of this number of accounts is set up.
 fn setup_of(settings: &Settings, accounts: usize) -> Setup {
     Setup {
         workers: settings
@@ -63,64 +67,89 @@ fn setup_of(settings: &Settings, accounts: usize) -> Setup {
     }
 }
 
-/// The word for the files in which what is repaired is kept: the seconds since 1970.
-fn word_of_now<R: Clock>(rt: &R, alloc: Global) -> Result<String, Fault> {
-    let seconds = match rt.since_1970() {
-        Ok(time) => time.as_secs(),
-        Err(_) => 0,
-    };
-    Ok(format!(in alloc; "{seconds}")?)
-}
-
-/// The accounts of a folder with their journals.
-fn files_of<'r, R: Files + Clock>(
-    rt: &'r R,
-    alloc: Global,
+/// Opens the files of the journals of accounts. With a word for the names of files in which what is repaired is kept, a fault is repaired.
+fn files_of<'r, R: Files + Clock + Eprint>(
+    log: &Log<'r, R>,
     folder: &str,
     keys: &[Key],
-    repairs: bool,
-) -> Result<Vec<AccountFile<FolderFile<&'r R>>>, Fault> {
+    repair: Option<&str>,
+) -> Result<Vec<AccountFile<FolderFile<&'r R>>>, Fault>
+    ensures { IfOk result (λ files. length keys.now ≤ vec_len files) }
+{
+    let alloc = log.alloc;
     let journals = path_in(alloc, folder, JOURNALS)?;
-    let word = word_of_now(rt, alloc)?;
-    let repair = if repairs { Some(word.as_str()) } else { None };
     let mut files = Vec::with_capacity(alloc, keys.len())?;
     for key in keys {
         let text = format!(in alloc; "{}", key.name.escape_ascii())?;
         let Some(name) = AccountName::read(key.name.as_slice()) else {
             return Err(Fault::Memory);
         };
-        match open_in_folder(
-            rt,
+        let opened = open_in_folder(
+            log.rt,
             alloc,
             journals.as_str(),
             text.as_str(),
             Rules::Four,
             repair,
-        ) {
-            Ok((file, opened)) => files.push(AccountFile {
-                name,
-                file,
-                journal: opened.journal,
-            })?,
+        );
+        match opened {
+            Ok((file, opened)) => {
+                if let Some(line) = opened.repaired {
+                    log.tell_repaired(key.name.as_slice(), line);
+                }
+                files.push(AccountFile {
+                    name,
+                    file,
+                    journal: opened.journal,
+                })?;
+            }
             Err(fault) => {
                 let path = format!(in alloc; "{journals}/{text}.journal")?;
                 return Err(open_fault(alloc, path.as_str(), &fault)?);
             }
         }
     }
+    if keys.len() > files.len() {
+        return Err(Fault::Memory);
+    }
     Ok(files)
 }
 
-/// The socket at which the host of a folder is asked. One that an earlier host left goes.
-fn socket_of<R: Files + Net>(rt: &R, alloc: Global, folder: &str) -> Result<UnixListener, Fault> {
-    let path = path_in(alloc, folder, SOCKET)?;
-    match fs::remove_file(rt, path.as_str()) {
-        Err(error) if error.kind() != ErrorKind::NotFound => return Err(error.into()),
-        _ => {}
+/// Runs a host until it is asked to stop. With `repairs` a journal with a fault goes on from what is before it.
+fn serve<R>(
+    program: &Program<'_, R>,
+    settings: &Settings,
+    listeners: Listeners<'_>,
+    repairs: bool,
+) -> Result<(), Fault>
+where
+    R: Net<Listener = TcpListener, Stream = TcpStream>
+        + Files<File = File>
+        + RandomSource
+        + Threads
+        + Wait
+        + Clock
+        + Eprint
+        + Sync,
+{
+    let (rt, alloc, keys) = (program.rt, program.alloc, program.keys);
+    let word = word_of_now(rt, alloc)?;
+    let repair = if repairs { Some(word.as_str()) } else { None };
+    let setup = setup_of(settings, keys.len());
+    // Each account needs one repair at most: what is before an entry that isn't accepted is accepted.
+    for _ in 0..keys.len().saturating_add(1) {
+        let files = files_of(program.log, program.folder, keys, repair)?;
+        match run_host(rt, alloc, listeners, program, files, setup) {
+            Ok(_files) => return Ok(()),
+            Err(StartFault::Unaccepted { account, line }) if repairs => {
+                let name = program.name_of(account);
+                cut_journal(rt, alloc, program.folder, name, line, word.as_str())?;
+                program.log.tell_repaired(name, line);
+            }
+            Err(fault) => return Err(start_fault(alloc, program.folder, keys, fault)?),
+        }
     }
-    let socket = UnixListener::bind(rt, path.as_str())?;
-    fs::set_permissions(rt, path.as_str(), Permissions::from_mode(FILE_MODE))?;
-    Ok(socket)
+    Err(Fault::Memory)
 }
 
 /// Runs the host of a folder until it is asked to stop, and answers the program's status. With `repairs` a journal with a fault goes on
@@ -130,52 +159,62 @@ where
     R: Net<Listener = TcpListener, Stream = TcpStream>
         + Files<File = File>
         + AllocGlobal
+        + RandomSource
         + Threads
         + Wait
         + Clock
-        + Print
+        + Eprint
         + Sync,
 {
     let alloc = rt.alloc();
-    let _lock = lock_folder(rt, alloc, folder, "one host at a time")?;
+    let lock = lock_folder(rt, alloc, folder, "one host at a time")?;
     let settings = settings_of(rt, folder)?;
     let accounts = accounts_in(rt, folder)?;
-    let keys = accounts.keys.as_slice();
-    let files = files_of(rt, alloc, folder, keys, repairs)?;
-    let listener = match TcpListener::bind(rt, settings.listen.as_str()) {
-        Ok(listener) => listener,
-        Err(error) => {
-            let words = format!(in alloc; "{}: {error}", settings.listen)?;
-            return Err(Fault::Bad(words));
-        }
+    let clients = bind(rt, alloc, settings.listen.as_str())?;
+    let browsers = match &settings.web {
+        Some(address) => Some(bind(rt, alloc, address.as_str())?),
+        None => None,
     };
     let socket = socket_of(rt, alloc, folder)?;
     let log = Log { rt, alloc };
     let pauses = Mutex::new(Pauses::new(alloc));
+    let sessions = Mutex::new(SessionBook::new(alloc)?);
+    let sites = sites_of(alloc, settings.web.as_ref(), browsers.as_ref())?;
+    let listeners = Listeners {
+        clients: &clients,
+        browsers: browsers.as_ref(),
+    };
     let program = Program {
         rt,
         alloc,
         folder,
-        keys,
+        keys: accounts.keys.as_slice(),
+        memory_each: settings.memory_each,
         pauses: &pauses,
+        sessions: &sessions,
+        sites: sites.as_slice(),
+        idle: settings.idle / 1_000,
         log: &log,
+        listeners,
         socket: &socket,
         begun: Instant::now(rt)?,
         asker: Mutex::new(None),
     };
-    let listen = Field {
-        name: b"listen",
-        value: settings.listen.as_bytes(),
-    };
-    log.tell(b"start", &[listen]);
-    let setup = setup_of(&settings, keys.len());
-    let ended = run_host(rt, alloc, &listener, &program, files, setup);
+    log.tell(
+        b"start",
+        &[Field {
+            name: b"folder",
+            value: folder.as_bytes(),
+        }],
+    );
+    let ended = serve(&program, &settings, listeners, repairs);
     let _ = fs::remove_file(rt, path_in(alloc, folder, SOCKET)?.as_str());
-    match ended {
-        Ok(()) => {
-            log.tell(b"end", &[]);
-            Ok(0)
-        }
-        Err(fault) => Err(start_fault(alloc, folder, keys, fault)?),
+    if ended.is_ok() {
+        log.tell(b"end", &[]);
     }
+    // Who asked it to stop is told of its end when another host may run.
+    drop(lock);
+    drop(program);
+    ended?;
+    Ok(0)
 }

@@ -65,7 +65,6 @@ pub fn start_fault(
                 _ => format!(in alloc; "{path}: it can't be written")?,
             })
         }
-        StartFault::Address(error) => Fault::System(error),
         StartFault::Threads => Fault::Bad(format!(in alloc; "no thread can be made")?),
     })
 }

@@ -5,15 +5,18 @@ ghost use Rattle.kl1_session.specs.Conversations.{Done};
 ghost use Rattle.kl1_session.specs.Connections.{Serves};
 ghost use Rattle.kl1_host_work.specs.declared.connection.TheConstants.{PIECE};
 
+use crate::connections::Desk;
+use crate::front::Front;
 use crate::handler::HostHandler;
 use crate::host::Host;
+use crate::view::View;
 use kl1_host_journals::{Outgoing, SyncedWriter};
 use kl1_lines::{FailureCounter, Sink, Source};
 use kl1_pool::{Pool, PoolIds, Share};
 use kl1_session::{Disconnect, Door, History};
 use std::alloc::Global;
 use std::cell::Cell;
-use std::net::TcpStream;
+use std::net::{SocketAddr, TcpStream};
 use std::sync::Wait;
 use std::time::Duration;
 
@@ -47,8 +50,15 @@ pub fn serve<'p, 't, S: Source, T: Sink, W: Wait, R: Wait, K: PoolIds, D: Door>(
     kl1_session::serve(alloc, source, sink, &mut handler, door, &mut buffer)
 }
 
+/// Lets replies go out at once, and a peer that is gone hold no session for good. A socket that can't do this serves all the same.
+fn set_up(stream: &TcpStream, idle: Duration) {
+    let _ = stream.set_nodelay(true);
+    let _ = stream.set_read_timeout(Some(idle));
+    let _ = stream.set_write_timeout(Some(idle));
+}
+
 /// Serves one connection over a socket, and closes it if it is silent for `idle`.
-pub(crate) fn serve_stream<'t, W: Wait, R: Wait, K: PoolIds, D: Door>(
+pub(crate) fn serve_lines<'t, W: Wait, R: Wait, K: PoolIds, D: Door>(
     rt: &W,
     alloc: Global,
     stream: &TcpStream,
@@ -60,10 +70,7 @@ pub(crate) fn serve_stream<'t, W: Wait, R: Wait, K: PoolIds, D: Door>(
 ) -> Disconnect
     requires { D.accounts door.old ≤ K.accounts }
 {
-    // Replies go out at once, and a peer that is gone holds no session for good. A socket that can't do this serves all the same.
-    let _ = stream.set_nodelay(true);
-    let _ = stream.set_read_timeout(Some(idle));
-    let _ = stream.set_write_timeout(Some(idle));
+    set_up(stream, idle);
     let outgoing = Cell::new(Outgoing::new());
     let mut source = FailureCounter::new(stream);
     let writer = SyncedWriter::new(stream, rt, host.bell, host.keepers, &outgoing);
@@ -79,4 +86,34 @@ pub(crate) fn serve_stream<'t, W: Wait, R: Wait, K: PoolIds, D: Door>(
         door,
         share,
     )
+}
+
+/// Serves one connection of a browser over a socket, and closes it if it is silent for too long.
+pub(crate) fn serve_pages<'t, F: Front, W: Wait, R: Wait, K: PoolIds>(
+    rt: &W,
+    desk: &Desk<'_, 't, F, R, K>,
+    stream: &TcpStream,
+    address: SocketAddr,
+    share: &mut Share<K>,
+) {
+    set_up(stream, desk.limits.idle);
+    let outgoing = Cell::new(Outgoing::new());
+    let mut performer = HostHandler {
+        rt,
+        pool: desk.pool,
+        share,
+        host: desk.host,
+        outgoing: &outgoing,
+        history: History::new(),
+    };
+    let view = View {
+        rt,
+        desk,
+        outgoing: Some(&outgoing),
+    };
+    let mut source = FailureCounter::new(stream);
+    let writer = SyncedWriter::new(stream, rt, desk.host.bell, desk.host.keepers, &outgoing);
+    let mut sink = FailureCounter::new(writer);
+    desk.front
+        .serve_pages(address, &mut source, &mut sink, &mut performer, &view);
 }

@@ -1,10 +1,10 @@
 // A pool with its files as what does the commands of one connection.
 
-ghost use Rattle.std.specs.Prelude.{◌<◌};
 ghost use Rattle.kl1_session.specs.Histories.{done_in};
 
+use crate::front::Performer;
 use crate::host::Host;
-use crate::noting::note_for;
+use crate::noting::note_told;
 use kl1_command::{Command, Performed};
 use kl1_host_journals::Outgoing;
 use kl1_pool::{Pool, PoolIds, Share};
@@ -60,34 +60,6 @@ impl<'p, 't, W: Wait, R: Wait, K: PoolIds> HostHandler<'p, 't, W, R, K> {
         is_stopped || is_over
     }
 
-    /// Waits until all is on disk that was told of another account.
-    fn leave_others(&self, account: usize) {
-        let outgoing = self.outgoing.replace(Outgoing::Lost);
-        let outgoing = if outgoing.is_of_another(account) {
-            outgoing.freed(self.rt, self.host.bell, self.host.keepers)
-        } else {
-            outgoing
-        };
-        self.outgoing.set(outgoing);
-    }
-
-    /// Notes what was done, if replies wait for the disk, or if the scribe asks for it.
-    fn note(&self, account: usize)
-        requires { account < K.accounts }
-    {
-        let Some(keeper) = self.host.keepers.get(account) else {
-            return;
-        };
-        if self.host.syncing.replies_wait {
-            self.leave_others(account);
-            let outgoing = self.outgoing.replace(Outgoing::Lost);
-            let noted = note_for(self.rt, self.pool, keeper, account, outgoing);
-            self.outgoing.set(noted.unwrap_or(Outgoing::Lost));
-        } else if keeper.is_called() {
-            let _ = note_for(self.rt, self.pool, keeper, account, Outgoing::Lost);
-        }
-    }
-
     /// Counts a source that was loaded.
     fn count(&self, account: usize, bytes: usize, performed: &Performed) {
         if is_loaded(performed)
@@ -113,9 +85,19 @@ impl<'p, 't, W: Wait, R: Wait, K: PoolIds> CommandHandler for HostHandler<'p, 't
         let answer = self.pool.act(self.rt, account, command, self.share);
         // What is noted is what the answer says of itself, not what was asked for.
         let (performed, done_to, done) = answer.into_parts();
-        self.note(account);
+        note_told(self.rt, self.pool, self.host, self.outgoing, account);
         self.count(account, source_bytes(command), &performed);
         self.history.add(done_to, done, &performed);
         performed
+    }
+}
+
+impl<'p, 't, W: Wait, R: Wait, K: PoolIds> Performer for HostHandler<'p, 't, W, R, K> {
+    fn perform(&mut self, account: usize, command: &Command) -> Performed {
+        if account < self.pool.accounts() {
+            self.act(account, command)
+        } else {
+            Performed::Memory
+        }
     }
 }

@@ -16,15 +16,17 @@ mod restoring;
 mod running;
 mod start_fault;
 mod starting;
+mod view;
 
 pub use budget::Budget;
 pub use connection::serve;
-pub use front::{Front, HostEvent, HostView};
+pub use front::{Front, HostEvent, HostView, Performer};
 pub use handler::HostHandler;
 pub use host::{Host, Syncing};
 pub use kl1_host_journals::{Keeper, OpenFault, Outgoing};
 pub use kl1_session::Disconnect;
 pub use lobby::Limits;
 pub use restoring::AccountFile;
+pub use running::Listeners;
 pub use start_fault::StartFault;
 pub use starting::{Setup, run_host};

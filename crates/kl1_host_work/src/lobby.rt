@@ -3,7 +3,7 @@
 use kl1_pool::{PoolIds, Share};
 use std::alloc::{AllocError, Global};
 use std::net::{IpAddr, Shutdown, TcpStream};
-use std::sync::{Condvar, Mutex, Wait};
+use std::sync::{Arc, Condvar, Mutex, Wait};
 use std::time::Duration;
 
 /// How many connections may be open at once from one address, and how long one may be silent. How many in all is how many shares there are
@@ -19,7 +19,7 @@ pub struct Limits {
 struct Visitor {
     number: u64,
     address: IpAddr,
-    stream: TcpStream,
+    stream: Arc<TcpStream, Global>,
 }
 
 /// Shares that are free, and connections that are open.
@@ -81,11 +81,11 @@ impl<K: PoolIds> Lobby<K> {
     pub(crate) fn admit<W: Wait>(
         &self,
         rt: &W,
-        stream: &TcpStream,
+        stream: &Arc<TcpStream, Global>,
         address: IpAddr,
         each: usize,
     ) -> Option<u64> {
-        let Ok(stream) = stream.try_clone() else {
+        let Ok(stream) = Arc::try_clone(stream) else {
             return None;
         };
         let mut guard = self.visitors.lock(rt);
@@ -117,6 +117,23 @@ impl<K: PoolIds> Lobby<K> {
         if let Some(place) = found {
             let _ = visitors.open.swap_remove(place);
         }
+        drop(guard);
+        self.changed.notify_all();
+    }
+
+    /// Waits until no connection is open.
+    pub(crate) fn wait_until_empty<W: Wait>(&self, rt: &W) {
+        let guard = self
+            .changed
+            .wait_while(rt, self.visitors.lock(rt), |visitors| {
+                !visitors.open.is_empty()
+            });
+        drop(guard);
+    }
+
+    /// Whether the host lets nobody in any more.
+    pub(crate) fn is_closing<W: Wait>(&self, rt: &W) -> bool {
+        self.visitors.lock(rt).is_closing
     }
 
     /// How many connections are open.
@@ -134,16 +151,6 @@ impl<K: PoolIds> Lobby<K> {
         }
         drop(guard);
         self.changed.notify_all();
-    }
-
-    /// All shares, if nobody is connected.
-    pub(crate) fn into_shares(self) -> Vec<Share<K>> {
-        let Lobby {
-            visitors,
-            changed: _,
-        } = self;
-        let Visitors { free, .. } = visitors.into_inner();
-        free
     }
 }
 

@@ -4,9 +4,11 @@ ghost use Rattle.std.specs.Prelude.{◌<◌, IfSome, slice_get};
 ghost use Rattle.kl1_pool.specs.Showing.{IsSeenOfSome};
 ghost use Rattle.kl1_host_journals.specs.Outgoings.{IsNotedBySome};
 
+use crate::host::Host;
 use kl1_host_journals::{Keeper, Outgoing};
 use kl1_journal_entries::Journal;
 use kl1_pool::{JournalReader, Pool, PoolIds};
+use std::cell::Cell;
 use std::mem;
 use std::sync::Wait;
 
@@ -65,4 +67,38 @@ pub(crate) fn note<'t, W: Wait, R: Wait, K: PoolIds>(
     requires { account < K.accounts }
 {
     let _ = note_for(rt, pool, keeper, account, Outgoing::Lost);
+}
+
+/// Waits until all is on disk that was told of another account.
+fn leave_others<W: Wait>(rt: &W, host: Host<'_>, outgoing: &Cell<Outgoing>, account: usize) {
+    let before = outgoing.replace(Outgoing::Lost);
+    let after = if before.is_of_another(account) {
+        before.freed(rt, host.bell, host.keepers)
+    } else {
+        before
+    };
+    outgoing.set(after);
+}
+
+/// Notes an account of which a connection is told something, if replies wait for the disk, or if the scribe asks for it.
+pub(crate) fn note_told<'t, W: Wait, R: Wait, K: PoolIds>(
+    rt: &W,
+    pool: &Pool<'t, R, K>,
+    host: Host<'_>,
+    outgoing: &Cell<Outgoing>,
+    account: usize,
+)
+    requires { account < K.accounts }
+{
+    let Some(keeper) = host.keepers.get(account) else {
+        return;
+    };
+    if host.syncing.replies_wait {
+        leave_others(rt, host, outgoing, account);
+        let before = outgoing.replace(Outgoing::Lost);
+        let noted = note_for(rt, pool, keeper, account, before);
+        outgoing.set(noted.unwrap_or(Outgoing::Lost));
+    } else if keeper.is_called() {
+        note(rt, pool, keeper, account);
+    }
 }

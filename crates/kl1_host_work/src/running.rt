@@ -2,17 +2,16 @@
 
 ghost use Rattle.std.specs.Prelude.{◌≤◌};
 
-use crate::connections::{Desk, serve_each};
-use crate::front::{Front, HostEvent, HostView};
+use crate::connections::{Desk, PAUSE_MILLISECONDS, Peers, serve_each};
+use crate::front::{Front, HostEvent};
 use crate::host::Host;
 use crate::noting::note;
 use crate::start_fault::StartFault;
+use crate::view::View;
 use kl1_host_journals::{Bell, FaultTeller, Scribe};
 use kl1_log::{Disk, LogError, LogFile};
 use kl1_pool::{Gate, Pool, PoolIds, Share, worker};
-use kl1_user_events::Usage;
-use std::alloc::AllocError;
-use std::net::{Net, SocketAddr, TcpListener, TcpStream};
+use std::net::{Net, TcpListener, TcpStream};
 use std::sync::Wait;
 use std::thread;
 use std::thread::Threads;
@@ -77,70 +76,78 @@ fn note_on<'t, W: Wait + Clock, R: Wait, K: PoolIds>(
     }
 }
 
-/// A host as its program sees it.
-#[derive(Drop)]
-struct View<'v, 'd, 't, F: Front, N: Wait, R: Wait, K: PoolIds> {
-    rt: &'v N,
-    desk: &'v Desk<'d, 't, F, R, K>,
+/// Where connections come in.
+#[derive(Clone, Copy)]
+pub struct Listeners<'l> {
+    /// Of clients.
+    pub clients: &'l TcpListener,
+    /// Of browsers, if there is a page for them.
+    pub browsers: Option<&'l TcpListener>,
 }
 
-impl<F: Front, N: Wait, R: Wait, K: PoolIds> HostView for View<'_, '_, '_, F, N, R, K> {
-    fn is_stopped(&self, account: usize) -> bool {
-        match self.desk.host.keepers.get(account) {
-            Some(keeper) => keeper.on_disk().is_stopped(),
-            None => true,
-        }
-    }
-
-    fn connections(&self) -> usize {
-        self.desk.lobby.count(self.rt)
-    }
-
-    fn usage(&self, account: usize) -> Result<Option<Usage>, AllocError> {
-        if account >= self.desk.pool.accounts() {
-            return Ok(None);
-        }
-        match self.desk.pool.usage(self.rt, account) {
-            Ok(usage) => Ok(Some(usage)),
-            Err(error) => Err(error),
-        }
+/// Wakes an accept that waits, by a connection.
+fn wake<N: Net<Listener = TcpListener, Stream = TcpStream>>(rt: &N, listener: &TcpListener) {
+    if let Ok(address) = listener.local_addr() {
+        let _ = TcpStream::connect_timeout(rt, &address, Duration::from_secs(1));
     }
 }
 
-/// Lets the program attend to the host, and then ends its connections. The accept that waits is woken by a connection to `address`.
-fn attend_on<'t, F: Front, N, R: Wait, K: PoolIds>(
+/// Lets nobody in any more, and ends the connections that are open.
+fn close_doors<'t, F: Front, N, R: Wait, K: PoolIds>(
     rt: &N,
     desk: &Desk<'_, 't, F, R, K>,
-    address: SocketAddr,
+    listeners: Listeners<'_>,
 )
 where
     N: Net<Listener = TcpListener, Stream = TcpStream> + Wait,
 {
-    desk.front.attend(&View { rt, desk });
     desk.lobby.close(rt);
-    let _ = TcpStream::connect_timeout(rt, &address, Duration::from_secs(1));
+    wake(rt, listeners.clients);
+    if let Some(browsers) = listeners.browsers {
+        wake(rt, browsers);
+    }
 }
 
-/// Accepts connections until the host closes, and then calls the scribe for the last time.
-fn accept_on<'t, F: Front + Sync, N, R: Wait + Sync, K: PoolIds + Send + Sync>(
+/// Lets the program attend to the host, then ends its connections, and then calls the scribe for the last time: replies that wait for the
+/// disk need it until then.
+fn attend_on<'t, F: Front, N, R: Wait, K: PoolIds>(
     rt: &N,
-    listener: &TcpListener,
     desk: &Desk<'_, 't, F, R, K>,
+    listeners: Listeners<'_>,
 )
 where
-    N: Net<Listener = TcpListener, Stream = TcpStream> + Threads + Wait + Clock + Sync,
-    requires { F.accounts desk.now.front.now ≤ K.accounts }
+    N: Net<Listener = TcpListener, Stream = TcpStream> + Wait,
 {
-    serve_each(rt, listener, desk);
+    desk.front.attend(&View {
+        rt,
+        desk,
+        outgoing: None,
+    });
+    close_doors(rt, desk, listeners);
+    desk.lobby.wait_until_empty(rt);
     desk.host.bell.end(rt);
+}
+
+/// Writes until no connection is open, of a host to which its program doesn't attend.
+fn drain<'t, F: Front, D: Disk + Drop, N: Wait + Clock, R: Wait, K: PoolIds>(
+    rt: &N,
+    desk: &Desk<'_, 't, F, R, K>,
+    scribe: &mut Scribe<'_, D>,
+) {
+    for _ in rt.forever() {
+        scribe.write_all(rt, &Telling { front: desk.front });
+        if desk.lobby.count(rt) == 0 {
+            return;
+        }
+        thread::sleep(rt, Duration::from_millis(PAUSE_MILLISECONDS));
+    }
 }
 
 /// Runs a host until its program has attended to it: workers, connections, and those who note; in this thread the scribe writes. When all
 /// have ended, what is left is noted and written. Answers the files.
 pub(crate) fn run_threads<'t, F: Front + Sync, D: Disk + Drop, R, K: PoolIds + Send + Sync>(
     rt: &R,
-    listener: &TcpListener,
-    address: SocketAddr,
+    listeners: Listeners<'_>,
     desk: &Desk<'_, 't, F, R, K>,
     workers: Vec<Share<K>>,
     scribe: Scribe<'_, D>,
@@ -166,22 +173,27 @@ where
                 number = number.saturating_add(1);
             }
             let noting = scope.spawn(move || note_on(rt, desk.pool, desk.host, until));
-            let attending = scope.spawn(move || attend_on(rt, desk, address));
-            let accepting = scope.spawn(move || accept_on(rt, listener, desk));
-            let all_are_there = noting.is_ok() && attending.is_ok() && accepting.is_ok();
-            if all_are_there {
-                scribe.work(
-                    rt,
-                    desk.host.bell,
-                    desk.host.syncing.period,
-                    &Telling { front: desk.front },
-                );
+            let clients = listeners.clients;
+            let accepting = scope.spawn(move || serve_each(rt, clients, Peers::Clients, desk));
+            let mut all_are_there = noting.is_ok() && accepting.is_ok();
+            if let Some(browsers) = listeners.browsers {
+                let showing = scope.spawn(move || serve_each(rt, browsers, Peers::Browsers, desk));
+                all_are_there = all_are_there && showing.is_ok();
             }
-            desk.lobby.close(rt);
+            // The program attends to a host that has all its threads.
+            all_are_there =
+                all_are_there && scope.spawn(move || attend_on(rt, desk, listeners)).is_ok();
+            let faults = Telling { front: desk.front };
+            if all_are_there {
+                scribe.work(rt, desk.host.bell, desk.host.syncing.period, &faults);
+            } else {
+                close_doors(rt, desk, listeners);
+                drain(rt, desk, &mut scribe);
+            }
             desk.pool.close();
             until.end(rt);
             note_all(rt, desk.pool, desk.host);
-            scribe.write_all(rt, &Telling { front: desk.front });
+            scribe.write_all(rt, &faults);
             if all_are_there {
                 Ok(scribe.into_files())
             } else {

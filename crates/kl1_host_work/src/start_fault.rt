@@ -2,7 +2,6 @@
 
 use kl1_host_journals::{LinkFault, OpenFault};
 use std::alloc::{AllocError, AllocFailed};
-use std::io;
 
 /// Why a host doesn't start.
 #[derive(Drop)]
@@ -15,8 +14,6 @@ pub enum StartFault {
     Unaccepted { account: usize, line: u64 },
     /// The file of this account can't be written.
     Unlinked { account: usize, fault: LinkFault },
-    /// What the socket is bound to isn't told.
-    Address(io::Error),
     /// A thread can't be made.
     Threads,
     /// Memory was refused.

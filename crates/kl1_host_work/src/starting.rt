@@ -9,7 +9,7 @@ use crate::host::{Host, Syncing};
 use crate::lobby::{Limits, Lobby};
 use crate::names::names_of;
 use crate::restoring::{AccountFile, Shelf, restore_all};
-use crate::running::run_threads;
+use crate::running::{Listeners, run_threads};
 use crate::start_fault::StartFault;
 use kl1_atoms::AtomTable;
 use kl1_codes::CodeTable;
@@ -30,7 +30,7 @@ use std::time::Clock;
 pub struct Setup {
     /// How many threads go on with accounts.
     pub workers: usize,
-    /// How many connections may be open at once.
+    /// How many connections may be open at once; with a page for browsers one more.
     pub connections: usize,
     pub limits: Limits,
     pub syncing: Syncing,
@@ -88,7 +88,7 @@ fn called<D: Disk>(
 fn run_pool<'t, F: Front + Sync, D: Disk + Drop, R, K: PoolIds + Send + Sync>(
     rt: &R,
     alloc: Global,
-    listener: &TcpListener,
+    listeners: Listeners<'_>,
     front: &F,
     pool: &Pool<'t, R, K>,
     shares: Vec<Share<K>>,
@@ -100,10 +100,6 @@ where
     requires accounts { F.accounts front.now ≤ K.accounts }
     requires files { vec_len files ≤ K.accounts }
 {
-    let address = match listener.local_addr() {
-        Ok(address) => address,
-        Err(error) => return Err(StartFault::Address(error)),
-    };
     let mut shares = shares;
     let Some(first) = shares.as_mut_slice().first_mut() else {
         return Err(StartFault::Memory);
@@ -130,14 +126,14 @@ where
         alloc,
     };
     let scribe = Scribe::new(keepers.as_slice(), files);
-    run_threads(rt, listener, address, &desk, workers, scribe)
+    run_threads(rt, listeners, &desk, workers, scribe)
 }
 
 /// Runs a host over the parts of a pool until its end.
 fn run_parts<'t, F: Front + Sync, D: Disk + Drop, R, K: PoolIds + Send + Sync>(
     rt: &'t R,
     alloc: Global,
-    listener: &TcpListener,
+    listeners: Listeners<'_>,
     front: &F,
     parts: PoolParts<'t>,
     files: Vec<AccountFile<D>>,
@@ -153,7 +149,7 @@ where
 {
     let (pool, shares) = Pool::<R, K>::new(rt, alloc, parts)?;
     let pool = pool.bounded(setup.memory_each);
-    let ended = run_pool(rt, alloc, listener, front, &pool, shares, files, setup);
+    let ended = run_pool(rt, alloc, listeners, front, &pool, shares, files, setup);
     pool.discard();
     ended
 }
@@ -162,7 +158,7 @@ where
 fn run_brand<'t, F: Front + Sync, D: Disk + Drop, R>(
     rt: &'t R,
     alloc: Global,
-    listener: &TcpListener,
+    listeners: Listeners<'_>,
     front: &F,
     parts: PoolParts<'t>,
     files: Vec<AccountFile<D>>,
@@ -173,7 +169,7 @@ where
     requires accounts { F.accounts front.now ≤ parts.accounts }
     requires files { vec_len files ≤ parts.accounts }
 {
-    run_parts::<F, D, R, Brand>(rt, alloc, listener, front, parts, files, setup)
+    run_parts::<F, D, R, Brand>(rt, alloc, listeners, front, parts, files, setup)
 }
 
 /// Restores accounts from their files, and serves them to whoever `front` lets in, until that has attended to the host: then connections
@@ -181,7 +177,7 @@ where
 pub fn run_host<F: Front + Sync, D: Disk + Drop, R>(
     rt: &R,
     alloc: Global,
-    listener: &TcpListener,
+    listeners: Listeners<'_>,
     front: &F,
     accounts: Vec<AccountFile<D>>,
     setup: Setup,
@@ -204,8 +200,12 @@ where
         names.as_slice(),
         Rules::Four,
         seats,
-        setup.workers.saturating_add(setup.connections),
+        setup
+            .workers
+            .saturating_add(setup.connections)
+            // Who waits for the next browser has one already.
+            .saturating_add(usize::from(listeners.browsers.is_some())),
     )?
     .with_names(used);
-    run_brand(rt, alloc, listener, front, parts, accounts, setup)
+    run_brand(rt, alloc, listeners, front, parts, accounts, setup)
 }

@@ -2,7 +2,8 @@
 
 ghost use Rattle.std.specs.Prelude.{length};
 
-use kl1_host_work::{Front, HostEvent, HostView};
+use kl1_host_work::{Front, HostEvent, HostView, Performer};
+use kl1_lines::{Sink, Source};
 use kl1_session::{Key, Keys};
 use std::alloc::{AllocError, Global};
 use std::io::{self, Read, Write};
@@ -132,6 +133,16 @@ where
     }
 
     fn tell(&self, _event: HostEvent) {}
+
+    fn serve_pages<S: Source, T: Sink, P: Performer, V: HostView>(
+        &self,
+        _address: SocketAddr,
+        _source: &mut S,
+        _sink: &mut T,
+        _performer: &mut P,
+        _host: &V,
+    ) {
+    }
 
     fn attend<V: HostView>(&self, _host: &V) {
         if let Ok(replies) = self.replies() {

@@ -4,7 +4,7 @@ ghost use Rattle.std.specs.Prelude.{◌≡◌, length};
 
 use crate::guest::{Guest, Visit, keys};
 use kl1_host_journals::{OpenFault, open_file};
-use kl1_host_work::{AccountFile, Limits, Setup, StartFault, Syncing, run_host};
+use kl1_host_work::{AccountFile, Limits, Listeners, Setup, StartFault, Syncing, run_host};
 use kl1_log::{LogFile, Memory};
 use kl1_pool::{AccountName, Rules};
 use kl1_session::Key;
@@ -107,11 +107,11 @@ where
     let accounts = accounts_of(alloc, keys.as_slice(), texts, left)?;
     let listener = match TcpListener::bind(rt, "127.0.0.1:0") {
         Ok(listener) => listener,
-        Err(error) => return Err(StartFault::Address(error)),
+        Err(_) => return Err(StartFault::Threads),
     };
     let address = match listener.local_addr() {
         Ok(address) => address,
-        Err(error) => return Err(StartFault::Address(error)),
+        Err(_) => return Err(StartFault::Threads),
     };
     if keys.len() > accounts.len() {
         return Err(StartFault::Accounts);
@@ -126,7 +126,11 @@ where
         open: Mutex::new(None),
         replies: Mutex::new(Vec::new(alloc)),
     };
-    let files = run_host(rt, alloc, &listener, &guest, accounts, setup)?;
+    let listeners = Listeners {
+        clients: &listener,
+        browsers: None,
+    };
+    let files = run_host(rt, alloc, listeners, &guest, accounts, setup)?;
     let Guest { replies, .. } = guest;
     Ok(Outcome {
         replies: replies.into_inner(),

@@ -98,7 +98,7 @@ where
         ..setup()
     };
     let lines = b"login alice k1\nload 12\n:- module f.\nload 12\n:- module g.\nmodules\nlogout\n";
-    let replies = b"+ welcome alice\n+ loaded f\n- 10 memory\n+ 1\nf\n+ bye\n";
+    let replies = b"+ welcome alice\n+ loaded f\n- 10 memory\n+ 1\nf 12 0\n+ bye\n";
     let file = b"journal 4 0 0\nload 3a2d206d6f64756c6520662e\n";
     match visited(
         rt,
