@@ -1,5 +1,5 @@
 -- What waits for a file whose text is known.
-use Rattle.std.proofs.Common.{◌≡◌, ℕ, true, List, refl, sym, ap, ◌∙◌, subst}
+use Rattle.std.proofs.Common.{◌≡◌, ℕ, true, List, sym, subst}
 use Rattle.std.specs.Prelude.{Option, Some, None, option_map, bytes_eq}
 use Rattle.std.proofs.lemmas.Slice.Eq.{bytes_eq-Decides}
 use Rattle.kl1_model_server.specs.Journal.{Journal}

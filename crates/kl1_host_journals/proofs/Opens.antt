@@ -4,9 +4,8 @@ use Rattle.std.specs.Prelude.{Option, Some, None}
 use Rattle.kl1_model.specs.declared.rules.Rules.{Rules}
 use Rattle.kl1_model_server.specs.Journal.{Journal, new_journal}
 use Rattle.kl1_journal_entries.specs.Lined.{Rows}
-use Rattle.kl1_log.specs.Files.{content, FileState, Known, IfKnown}
+use Rattle.kl1_log.specs.Files.{content, Known, IfKnown}
 use Rattle.kl1_log.specs.Cuts.{whole_lines, opening_of, IsFault, IsFound}
-use Rattle.kl1_log.specs.declared.recovery.Found.{Found}
 use Rattle.kl1_log.specs.declared.recovery.Found.TheVariants.{Whole, Fault, Unopened}
 use Rattle.kl1_host_journals.specs.Openings.{IsOpened}
 use Rattle.kl1_host_journals.specs.declared.opening.OpenFault.{OpenFault}

@@ -1,7 +1,7 @@
 -- Which files have all on disk.
 use Rattle.std.proofs.Common.{◌≡◌, ℕ, true, List, [], ◌∷◌, ◌++◌, refl, sym, ap, ◌∙◌, subst}
-use Rattle.std.specs.Prelude.{Option, Some, None}
-use Rattle.kl1_log.specs.Files.{Bytes, content, FileState, Synced, Known, Does, IfKnown, is_at_rest}
+use Rattle.std.specs.Prelude.{Some, None}
+use Rattle.kl1_log.specs.Files.{content, FileState, Synced, Known, Does, IfKnown, is_at_rest}
 use Rattle.kl1_log.proofs.Moments.{rest_test}
 
 -- a file after a sync

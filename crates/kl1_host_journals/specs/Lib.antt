@@ -3,4 +3,5 @@ pub mod Outgoings
 pub mod Openings
 pub mod Links
 pub mod OpenFaults
+pub mod Gates
 pub mod SyncedWriters

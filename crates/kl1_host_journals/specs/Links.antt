@@ -1,8 +1,6 @@
 -- What is known of a file with what waits for it.
-use Rattle.std.specs.Prelude.{⊤, ◌≡◌, ℕ, List, Option, Some, None}
+use Rattle.std.specs.Prelude.{⊤, ℕ, List, Option, Some, None}
 use Rattle.kl1_model_server.specs.Journal.{Journal}
-use Rattle.kl1_log.specs.Files.{Known}
-use Rattle.kl1_log.specs.Batches.{text_of}
 use Rattle.kl1_log.specs.Waits.{IsUpTo}
 use Rattle.kl1_log.specs.declared.waiting.Waiting.{Waiting}
 

@@ -2,7 +2,7 @@
 use Rattle.std.specs.Prelude.{⊤, ◌≡◌, ◌⊎◌, ℕ}
 use Rattle.kl1_model_server.specs.Journal.{Journal}
 use Rattle.kl1_log.specs.Waits.{account_of, noted_of}
-use Rattle.kl1_log.specs.Receipts.{waits_for}
+use Rattle.kl1_log.specs.Receipts.{waits_for, reply_of}
 use Rattle.kl1_log.specs.declared.waiting.Waiting.{Waiting}
 use Rattle.kl1_host_journals.specs.declared.notes.Notes.{Notes}
 use Rattle.kl1_host_journals.specs.declared.outgoing.Outgoing.{Outgoing}
@@ -24,3 +24,9 @@ IsNotedFor old new j generation Lost = TakesIn old new j generation ⊎ KeepsAll
 -- so, of some notes
 abbrev pub IsNotedBySome : Journal → ℕ → Outgoing → Type 0
 IsNotedBySome j generation o = (old : Notes) × (new : Notes) × IsNotedFor old new j generation o
+
+-- what a leave is that was waited for: one that waits is given back, or lost
+abbrev pub IsFreed : Outgoing → Outgoing → Type 0
+IsFreed (Free permit) after = after ≡ Free permit
+IsFreed (Waits number unsent) after = (after ≡ Free (reply_of unsent)) ⊎ (after ≡ Lost)
+IsFreed Lost after = after ≡ Lost

@@ -7,7 +7,11 @@ use kl1_model::Rules;
 use std::alloc::Global;
 use std::fs::{self, File, OpenFile, OpenOptions};
 use std::io::{self, Read, Write};
+use std::os::unix::fs::OpenOptionsExt;
 use std::rt::Files;
+
+/// A new file is for its owner alone.
+const FILE_MODE: u32 = 0o600;
 
 /// Writes what the file of a journal holds into a new file beside it, NAME.journal.WORD.bad, and has it on disk.
 fn keep_aside<R: Files>(
@@ -24,6 +28,7 @@ fn keep_aside<R: Files>(
     let mut file = OpenOptions::new()
         .write(true)
         .create_new(true)
+        .mode(FILE_MODE)
         .open(rt, to.as_str())?;
     file.write_all(bytes.as_slice())?;
     file.sync_all()?;

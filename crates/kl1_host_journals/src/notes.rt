@@ -37,10 +37,10 @@ impl Notes {
     {
         if generation == self.generation {
             self.waiting.note(journal)?;
-        } else {
-            self.waiting.note_reset(journal)?;
-            self.generation = generation;
+            return Ok(());
         }
+        self.waiting.note_reset(journal)?;
+        self.generation = generation;
         Ok(())
     }
 

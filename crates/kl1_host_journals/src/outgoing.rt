@@ -1,14 +1,54 @@
 // The leave to write to a connection.
 
+ghost use Rattle.std.specs.Prelude.{◌≡◌, ◌⊎◌};
+ghost use Rattle.std.specs.Io.{WritesAtMost};
+ghost use Rattle.std.specs.Io.KnownBytes.{Keeps, WriteAppends};
+ghost use Rattle.kl1_log.specs.Receipts.{reply_of};
+ghost use Rattle.kl1_host_journals.specs.Gates.{writer_behind};
+ghost use Rattle.kl1_host_journals.specs.Outgoings.{IsFreed};
+
 use crate::bell::Bell;
 use crate::keeper::Keeper;
 use kl1_log::Unsent;
+use std::io::{Result, Write};
 use std::sync::Wait;
 
 /// The leave to write to a connection. Each connection has one, which is made with it.
 #[derive(Drop)]
 pub struct SendPermit {
-    only: (),
+    /// What it is no contract says: so a leave that is made anew isn't one that waits.
+    mark: u64,
+}
+
+/// A writer to which bytes go only by a leave to write.
+#[derive(Drop)]
+pub(crate) struct Gate<T: Write> {
+    writer: T,
+}
+
+impl<T: Write> Gate<T> {
+    /// A gate before this writer.
+    pub(crate) fn new(writer: T) -> Self
+        ensures { writer_behind result ≡ writer }
+    {
+        Gate { writer }
+    }
+
+    /// Writes some of the bytes.
+    pub(crate) fn write(&mut self, permit: &SendPermit, bytes: &[u8]) -> Result<usize>
+        ensures bound { WritesAtMost result bytes.now }
+        ensures bytes { WriteAppends (T.contents (writer_behind self.old)) (T.contents (writer_behind self.new)) result bytes.now }
+    {
+        let _permit = permit;
+        self.writer.write(bytes)
+    }
+
+    /// Sees that what was written goes on its way.
+    pub(crate) fn flush(&mut self) -> Result<()>
+        ensures { Keeps (T.contents (writer_behind self.old)) (T.contents (writer_behind self.new)) }
+    {
+        self.writer.flush()
+    }
 }
 
 /// Where the leave to write to a connection is.
@@ -25,7 +65,7 @@ pub enum Outgoing {
 impl Outgoing {
     /// That of a new connection.
     pub fn new() -> Self {
-        Outgoing::Free(SendPermit { only: () })
+        Outgoing::Free(SendPermit { mark: 0 })
     }
 
     /// Whether it waits for another account.
@@ -37,19 +77,29 @@ impl Outgoing {
     }
 
     /// Waits until the leave is here; `Lost` if it won't be. It rings for the scribe if not all is on disk yet.
-    pub fn freed<W: Wait>(self, rt: &W, bell: &Bell, keepers: &[Keeper]) -> Outgoing {
-        let Outgoing::Waits(account, unsent) = self else {
-            return self;
-        };
-        let Some(keeper) = keepers.get(account) else {
-            return Outgoing::Lost;
-        };
-        if !keeper.on_disk().is_done(rt, &unsent) {
-            bell.ring(rt);
+    pub fn freed<W: Wait>(self, rt: &W, bell: &Bell, keepers: &[Keeper]) -> Outgoing
+        ensures { IsFreed self result }
+    {
+        match self {
+            Outgoing::Free(permit) => Outgoing::Free(permit),
+            Outgoing::Waits(account, unsent) => match keepers.get(account) {
+                Some(keeper) => handed_out(rt, bell, keeper, unsent),
+                None => Outgoing::Lost,
+            },
+            Outgoing::Lost => Outgoing::Lost,
         }
-        match keeper.on_disk().wait_for(rt, &unsent) {
-            Some(receipt) => Outgoing::Free(unsent.hand_out(receipt)),
-            None => Outgoing::Lost,
-        }
+    }
+}
+
+/// A leave that waits, once all is on disk for which it does; `Lost` if that won't be.
+fn handed_out<W: Wait>(rt: &W, bell: &Bell, keeper: &Keeper, unsent: Unsent<SendPermit>) -> Outgoing
+    ensures { (result ≡ Outgoing.Free (reply_of unsent)) ⊎ (result ≡ Outgoing.Lost) }
+{
+    if !keeper.on_disk().is_done(rt, &unsent) {
+        bell.ring(rt);
+    }
+    match keeper.on_disk().wait_for(rt, &unsent) {
+        Some(receipt) => Outgoing::Free(unsent.hand_out(receipt)),
+        None => Outgoing::Lost,
     }
 }

@@ -1,33 +1,14 @@
 // A writer that writes only what is on disk.
 
 ghost use Rattle.std.specs.Prelude.{◌≡◌};
-ghost use Rattle.std.specs.Io.{WritesAtMost};
-ghost use Rattle.std.specs.Io.KnownBytes.{WriteAppends};
 ghost use Rattle.kl1_host_journals.specs.SyncedWriters.{writer_of};
 
 use crate::bell::Bell;
 use crate::keeper::Keeper;
-use crate::outgoing::{Outgoing, SendPermit};
+use crate::outgoing::{Gate, Outgoing, SendPermit};
 use std::cell::Cell;
 use std::io::{Error, ErrorKind, Result, Write};
 use std::sync::Wait;
-
-/// A writer to which bytes go only by a leave.
-#[derive(Drop)]
-struct Gate<T: Write> {
-    writer: T,
-}
-
-impl<T: Write> Gate<T> {
-    /// Writes some of the bytes.
-    fn write(&mut self, permit: &SendPermit, bytes: &[u8]) -> Result<usize>
-        ensures bound { WritesAtMost result bytes.now }
-        ensures bytes { WriteAppends (T.contents self.old.writer) (T.contents self.new.writer) result bytes.now }
-    {
-        let _permit = permit;
-        self.writer.write(bytes)
-    }
-}
 
 /// A writer that writes only once all is on disk for which the leave to write waits. It rings for the scribe before it waits.
 #[derive(Drop)]
@@ -51,7 +32,7 @@ impl<'c, T: Write, R: Wait> SyncedWriter<'c, T, R> {
         ensures { writer_of result ≡ writer }
     {
         SyncedWriter {
-            gate: Gate { writer },
+            gate: Gate::new(writer),
             rt,
             bell,
             keepers,
@@ -70,7 +51,9 @@ impl<'c, T: Write, R: Wait> SyncedWriter<'c, T, R> {
 }
 
 impl<'c, T: Write, R: Wait> Write for SyncedWriter<'c, T, R> {
-    ghost contents = { λ w. T.contents w.gate.writer };
+    ghost use Rattle.kl1_host_journals.specs.SyncedWriters.{writer_of};
+
+    ghost contents = { λ w. T.contents (writer_of w) };
 
     fn write(&mut self, buf: &[u8]) -> Result<usize> {
         let permit = self.permit()?;
@@ -80,6 +63,6 @@ impl<'c, T: Write, R: Wait> Write for SyncedWriter<'c, T, R> {
     }
 
     fn flush(&mut self) -> Result<()> {
-        self.gate.writer.flush()
+        self.gate.flush()
     }
 }
