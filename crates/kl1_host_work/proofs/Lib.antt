@@ -1,2 +1,1 @@
-pub mod UsedNames
 pub mod Restarts

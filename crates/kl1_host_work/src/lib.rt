@@ -10,7 +10,6 @@ mod handler;
 mod host;
 mod linking;
 mod lobby;
-mod names;
 mod noting;
 mod restoring;
 mod running;

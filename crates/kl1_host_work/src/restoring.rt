@@ -6,7 +6,6 @@ ghost use Rattle.kl1_host_work.specs.Restarts.{IsAllRestored};
 use crate::budget::Budget;
 use crate::front::{Front, HostEvent};
 use crate::linking::link_account;
-use crate::names::count_names;
 use crate::start_fault::StartFault;
 use kl1_host_journals::{Keeper, Linked, RestingFile};
 use kl1_journal_entries::Journal;
@@ -51,7 +50,7 @@ fn restore_account<'t, W: Wait, R: Wait, K: PoolIds>(
         RestoreEnd::Refused | RestoreEnd::Full => Err(StartFault::Unaccepted {
             account,
             // After the heading and the names.
-            line: count_names(alloc, journal)?
+            line: (journal.names().len() as u64)
                 .saturating_add(restored.entries)
                 .saturating_add(2),
         }),

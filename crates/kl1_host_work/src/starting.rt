@@ -1,19 +1,20 @@
 // A host from its files to its end.
 
 ghost use Rattle.std.specs.Prelude.{◌≡◌, ◌≤◌, vec_len, IfOk};
+ghost use Rattle.kl1_model_server.specs.laws.TextLaws.{AreNames};
 ghost use Rattle.kl1_pool.specs.Parts.{AreUsed};
 
 use crate::connections::Desk;
 use crate::front::Front;
 use crate::host::{Host, Syncing};
 use crate::lobby::{Limits, Lobby};
-use crate::names::names_of;
 use crate::restoring::{AccountFile, Shelf, restore_all};
 use crate::running::{Listeners, run_threads};
 use crate::start_fault::StartFault;
 use kl1_atoms::AtomTable;
 use kl1_codes::CodeTable;
 use kl1_host_journals::{Bell, Scribe};
+use kl1_journal_entries::Journal;
 use kl1_log::{Disk, LogFile};
 use kl1_model::limits::MOST_ACCOUNTS;
 use kl1_pool::{AccountName, Pool, PoolIds, PoolParts, Rules, Share};
@@ -55,19 +56,26 @@ fn take_shares<K: PoolIds>(
     Ok(taken)
 }
 
+/// The names that an account had used when its journal began.
+fn names_of(alloc: Global, journal: &Journal) -> Result<Vec<AtomText>, AllocError>
+    ensures { IfOk result (λ names. AreNames names.items) }
+{
+    // That these are names that an account may have used.
+    journal.shows_written();
+    Vec::from_slice(alloc, journal.names())
+}
+
 /// The names that each account had used when its journal began.
 fn used_of<D: Disk>(
     alloc: Global,
     accounts: &[AccountFile<D>],
-) -> Result<Vec<Vec<AtomText>>, StartFault>
+) -> Result<Vec<Vec<AtomText>>, AllocError>
     ensures { IfOk result (λ used. AreUsed used.items) }
 {
     let mut used = Vec::with_capacity(alloc, accounts.len())?;
     for account in accounts {
-        let Some(texts) = names_of(alloc, &account.journal)? else {
-            return Err(StartFault::Memory);
-        };
-        used.push(texts)?;
+        let names = names_of(alloc, &account.journal)?;
+        used.push(names)?;
     }
     Ok(used)
 }
