@@ -82,7 +82,8 @@ impl<R: Wait + Clock + Eprint + Files + RandomSource, V: HostView> Report<'_, '_
     }
 }
 
-impl<R: Wait + Clock + Eprint + Files + RandomSource, V: HostView> Reporter for Report<'_, '_, R, V> {
+impl<R: Wait + Clock + Eprint + Files + RandomSource, V: HostView> Reporter
+    for Report<'_, '_, R, V> {
     fn put_status(&self, out: &mut Vec<u8>) -> Result<(), AllocError> {
         let seconds = match self.program.begun.elapsed(self.program.rt) {
             Ok(time) => time.as_secs(),

@@ -147,8 +147,7 @@ pub struct WebAccounts<'w, 'f, R: Wait + Clock + Eprint + Files, P: Performer, V
 }
 
 impl<'w, R: Wait + Clock + Eprint + Files, P: Performer, V: HostView> Accounts
-    for WebAccounts<'w, '_, R, P, V>
-{
+    for WebAccounts<'w, '_, R, P, V> {
     type Viewer = AccountViewer<'w, V>;
 
     ghost use Rattle.std.specs.Prelude.{length};

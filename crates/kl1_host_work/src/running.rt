@@ -181,8 +181,8 @@ where
                 all_are_there = all_are_there && showing.is_ok();
             }
             // The program attends to a host that has all its threads.
-            all_are_there =
-                all_are_there && scope.spawn(move || attend_on(rt, desk, listeners)).is_ok();
+            all_are_there = all_are_there
+                && scope.spawn(move || attend_on(rt, desk, listeners)).is_ok();
             let faults = Telling { front: desk.front };
             if all_are_there {
                 scribe.work(rt, desk.host.bell, desk.host.syncing.period, &faults);

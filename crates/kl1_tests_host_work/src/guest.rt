@@ -141,8 +141,7 @@ where
         _sink: &mut T,
         _performer: &mut P,
         _host: &V,
-    ) {
-    }
+    ) {}
 
     fn attend<V: HostView>(&self, _host: &V) {
         if let Ok(replies) = self.replies() {
