@@ -8,7 +8,7 @@ pub none_at : (test : WebSession → Bool) (n : ℕ) (xs : List WebSession) → 
 none_at test n [] e = refl
 none_at test n (x ∷ xs) e =
     elim (test x) as (λ v. if◌then◌else◌ {A = Option ℕ} v (Some n) (place_from test (suc n) xs) ≡ None → if◌then◌else◌ {A = Option WebSession} v (Some x) (first_of test xs) ≡ None) [
-      | true ↦ λ none. grind
+      | true ↦ λ none. cc
       | false ↦ λ none. none_at test (suc n) xs none
     ] e
 

@@ -1,2 +1,4 @@
 pub mod Names
 pub mod BookPlaces
+pub mod Copies
+pub mod Texts

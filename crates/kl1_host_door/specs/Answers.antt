@@ -31,7 +31,7 @@ guards =
 -- it is for all of this host's page
 abbrev pub cookie_text : Cookie → List ℕ
 cookie_text cookie.Kept = []
-cookie_text (cookie.Set id) = codes "set-cookie: kl1=" ++ id ++ codes "; HttpOnly; SameSite=Strict; Path=/" ++ line_end
+cookie_text (cookie.Set id) = codes "set-cookie: kl1=" ++ id ++ (codes "; HttpOnly; SameSite=Strict; Path=/" ++ line_end)
 cookie_text cookie.Cleared = codes "set-cookie: kl1=; Max-Age=0; HttpOnly; SameSite=Strict; Path=/" ++ line_end
 
 -- whether the connection goes on, as it is told in the last line of a head
@@ -41,8 +41,8 @@ connection_of goes_on = (if goes_on then codes "connection: keep-alive" else cod
 -- the head of an answer up to its last line
 abbrev pub head_text : Answer → List ℕ
 head_text a =
-    codes "HTTP/1.1 " ++ text_of a.status ++ line_end ++ codes "content-type: " ++ kind_of a.content
-    ++ line_end ++ codes "content-length: " ++ decimal (length a.body.items) ++ guards ++ cookie_text a.cookie
+    codes "HTTP/1.1 " ++ text_of a.status ++ (line_end ++ codes "content-type: ") ++ kind_of a.content
+    ++ (line_end ++ codes "content-length: ") ++ decimal (length a.body.items) ++ guards ++ cookie_text a.cookie
 
 -- an answer
 abbrev pub answer_text : Answer → Bool → List ℕ

@@ -1,5 +1,5 @@
 -- The head with which bytes begin.
-use Rattle.std.specs.Prelude.{◌≡◌, ℕ, List, map, take, drop}
+use Rattle.std.specs.Prelude.{◌≡◌, ◌≤◌, ℕ, List, [], length, map, take}
 use Rattle.httparse.specs.Grammar.{RequestHead, ReadsRequest, HasNoRequest, MayBecomeRequest}
 use Rattle.httparse.specs.Spans.{span_bytes, header_bytes, name_and_value, RequestOverflows}
 use Rattle.httparse.specs.declared.spans.HeaderSpan.{HeaderSpan}
@@ -21,17 +21,17 @@ pub record IsCopied (bytes : List ℕ) (spans : List HeaderSpan) (request : Requ
   pub minor : head.minor ≡ request.version
   pub fields : map pair_of head.fields.items ≡ map (header_bytes bytes) (take request.headers spans)
 
--- bytes begin with a head of HTTP/1.1 of this length, and this is it
-pub record IsHeadOf (bytes : List ℕ) (len : ℕ) (head : Head) : Type 0 where
+-- these bytes are a head of HTTP/1.1, and this is it
+pub record IsHead (bytes : List ℕ) (head : Head) : Type 0 where
   pub h : RequestHead
-  pub reads : ReadsRequest bytes h (drop len bytes)
+  pub reads : ReadsRequest bytes h []
   pub method : head.method.items ≡ h.method
   pub target : head.target.items ≡ h.target
   pub minor : head.minor ≡ h.minor
   pub fields : map pair_of head.fields.items ≡ map name_and_value h.fields
 
--- bytes begin with a head; or they don't, but more of them may; or no head with as many fields as may be begins so
+-- bytes begin with a head of this length; or they don't, but more of them may; or no head with as many fields as may be begins so
 abbrev pub IsReading : List ℕ → Reading → Type 0
-IsReading bytes (reading.Whole head len) = IsHeadOf bytes len head
+IsReading bytes (reading.Whole head len) = (len ≤ length bytes) × IsHead (take len bytes) head
 IsReading bytes reading.Partial = HasNoRequest bytes × MayBecomeRequest bytes
 IsReading bytes reading.Bad = RequestOverflows MOST_FIELDS bytes

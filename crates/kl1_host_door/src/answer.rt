@@ -74,16 +74,17 @@ fn put_cookie(out: &mut Vec<u8>, cookie: &Cookie) -> Result<(), AllocError>
     ensures { OnOk result (out.new.items ≡ out.old.items ++ cookie_text cookie.now) }
 {
     match cookie {
-        Cookie::Kept => Ok(()),
+        Cookie::Kept => {}
         Cookie::Set(id) => {
             out.extend_from_slice(b"set-cookie: kl1=")?;
             out.extend_from_slice(id.as_slice())?;
-            out.extend_from_slice(b"; HttpOnly; SameSite=Strict; Path=/\r\n")
+            out.extend_from_slice(b"; HttpOnly; SameSite=Strict; Path=/\r\n")?;
         }
         Cookie::Cleared => out.extend_from_slice(
             b"set-cookie: kl1=; Max-Age=0; HttpOnly; SameSite=Strict; Path=/\r\n",
-        ),
+        )?,
     }
+    Ok(())
 }
 
 /// Puts the head of an answer.
@@ -95,9 +96,10 @@ fn put_head(out: &mut Vec<u8>, answer: &Answer) -> Result<(), AllocError>
     out.extend_from_slice(b"\r\ncontent-type: ")?;
     out.extend_from_slice(kind_of(answer.content))?;
     out.extend_from_slice(b"\r\ncontent-length: ")?;
-    put_decimal(out, answer.body.len() as u64)?;
+    put_decimal(out, answer.body.as_slice().len() as u64)?;
     out.extend_from_slice(GUARDS)?;
-    put_cookie(out, &answer.cookie)
+    put_cookie(out, &answer.cookie)?;
+    Ok(())
 }
 
 /// Puts an answer after the bytes, and whether the connection goes on. After an `Err` some of it may be there.
@@ -106,5 +108,6 @@ pub fn put_answer(out: &mut Vec<u8>, answer: &Answer, goes_on: bool) -> Result<(
 {
     put_head(out, answer)?;
     out.extend_from_slice(connection_of(goes_on))?;
-    out.extend_from_slice(answer.body.as_slice())
+    out.extend_from_slice(answer.body.as_slice())?;
+    Ok(())
 }

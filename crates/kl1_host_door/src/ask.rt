@@ -152,7 +152,8 @@ pub(crate) fn ask_of(method: Method, target: &[u8]) -> Result<Ask, Refusal>
     ensures { result ≡ ask_of method target.now }
 {
     if target.starts_with(SHOENS_FROM) {
-        return page_by(method, &target[SHOENS_FROM.len()..]);
+        let digits = &target[SHOENS_FROM.len()..];
+        return page_by(method, digits);
     }
     if target.contains(&b'?') {
         return Err(Refusal::Query);

@@ -31,6 +31,7 @@ pub enum Reading {
 }
 
 /// The head with which bytes begin.
+#[tactic(auto, using(crate::proofs::Copies::copied))]
 pub fn read_head(alloc: Global, bytes: &[u8]) -> Result<Reading, AllocError>
     ensures { IfOk result (IsReading bytes.now) }
 {

@@ -8,9 +8,9 @@ use crate::status::Status;
 /// Why a request is refused.
 #[derive(Clone, Copy)]
 pub enum Refusal {
-    /// Its head is no head of HTTP/1.1.
+    /// Its head is no head of HTTP/1.1, or has too many fields.
     BadHead,
-    /// Its head has too many bytes or fields.
+    /// Its head has too many bytes.
     LargeHead,
     /// A field stands twice.
     Repeated,

@@ -50,9 +50,10 @@ fn is_end(text: &[u8]) -> bool
 fn is_of(text: &[u8], session: &WebSession) -> bool
     ensures { result ≡ is_of text.now session.now }
 {
-    text.len() >= SECRET_BYTES
-        && is_same_key(&text[..SECRET_BYTES], &session.id)
-        && is_end(&text[SECRET_BYTES..])
+    if text.len() < SECRET_BYTES {
+        return false;
+    }
+    is_same_key(&text[..SECRET_BYTES], &session.id) && is_end(&text[SECRET_BYTES..])
 }
 
 /// The session whose name the cookie tells.
