@@ -34,6 +34,12 @@ Refuses why (outcome.Told answer) = IsRefusal why answer
 Refuses why (outcome.Opens account) = ⊥
 Refuses why (outcome.Closes answer) = ⊥
 
+-- if a session of a browser begins, it is of one of n accounts
+abbrev pub IsOpenedIn : ℕ → Outcome → Type 0
+IsOpenedIn n (outcome.Told answer) = ⊤
+IsOpenedIn n (outcome.Opens account) = account < n
+IsOpenedIn n (outcome.Closes answer) = ⊤
+
 -- an outcome is that the session of a browser ends
 abbrev pub IsClosed : Outcome → Type 0
 IsClosed (outcome.Told answer) = ⊥

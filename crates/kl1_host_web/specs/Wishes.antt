@@ -1,7 +1,7 @@
 -- What a request that is let in asks to be done.
 use Rattle.std.specs.Prelude.{◌≡◌, ℕ, Bool, true, false, if◌then◌else◌, List, codes, Option, Some, None, option_map, option_and_then, IsUtf8}
 use Rattle.serde_json.specs.Find.{get, as_str}
-use Rattle.serde_json.specs.Read.{read_text}
+use Rattle.serde_json.specs.Read.{read}
 use Rattle.serde_json.specs.View.{view}
 use Rattle.serde_json.specs.declared.value.Value.{Value}
 use Rattle.kl1_model.specs.Event as event
@@ -46,8 +46,8 @@ wish_view (wish.Open ask) = show_all ask
 
 -- the value that a body is, if it is in UTF-8 and JSON
 abbrev pub IsRead : List ℕ → Option Value → Type 0
-IsRead body None = IsUtf8 body → read_text body ≡ None
-IsRead body (Some value) = IsUtf8 body × (read_text body ≡ Some (view value))
+IsRead body None = IsUtf8 body → read body ≡ None
+IsRead body (Some value) = IsUtf8 body × (read body ≡ Some (view value))
 
 -- the text that a member of a value is, if there is a value
 abbrev pub text_in : List ℕ → Option Value → Option (List ℕ)

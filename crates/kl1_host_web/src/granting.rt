@@ -4,7 +4,7 @@ ghost use Rattle.std.specs.Prelude.{◌≡◌, ◌<◌, IfOk};
 ghost use Rattle.kl1_command.specs.Commands.{command_view};
 ghost use Rattle.kl1_session.specs.Conversations.{is_welcome, is_bye};
 ghost use Rattle.kl1_host_web.specs.Wishes.{wish_view, enter, leave, do_to, load_into, show_of};
-ghost use Rattle.kl1_host_web.specs.Telling.{Grants, Entered, Shows, IsOfOne, IsTold, Refuses, Enters, Leaves};
+ghost use Rattle.kl1_host_web.specs.Telling.{Grants, Entered, Shows, IsOfOne, IsTold, IsOpenedIn, Refuses, Enters, Leaves};
 
 use crate::accounts::Accounts;
 use crate::json::{refused, told_command, told_load, told_session, told_syntax};
@@ -45,6 +45,7 @@ fn is_bye(performed: &Performed) -> bool
 }
 
 /// Lets in by a name and a key.
+#[tactic(auto, using(crate::proofs::Wanting::told_opens, crate::proofs::Wanting::refused_opens))]
 fn enter<A: Accounts>(
     alloc: Global,
     accounts: &mut A,
@@ -52,6 +53,7 @@ fn enter<A: Accounts>(
     key: &[u8],
 ) -> Result<Outcome, AllocError>
     ensures house { A.house accounts.new ≡ A.house accounts.old }
+    ensures within { IfOk result (IsOpenedIn (A.house accounts.old).accounts) }
     ensures grants { Entered ((A.house accounts.old).opens name.now key.now) (A.asked accounts.old) (A.asked accounts.new) result }
 {
     let Some(account) = accounts.open(name, key) else {
@@ -66,6 +68,7 @@ fn enter<A: Accounts>(
 }
 
 /// Closes a session of an account.
+#[tactic(auto, using(crate::proofs::Wanting::told_opens, crate::proofs::Wanting::refused_opens))]
 fn leave<A: Accounts>(
     alloc: Global,
     accounts: &mut A,
@@ -73,6 +76,7 @@ fn leave<A: Accounts>(
 ) -> Result<Outcome, AllocError>
     requires { account < (A.house accounts.old).accounts }
     ensures house { A.house accounts.new ≡ A.house accounts.old }
+    ensures within { IfOk result (IsOpenedIn (A.house accounts.old).accounts) }
     ensures grants { Grants (A.house accounts.old) (leave account) (A.asked accounts.old) (A.asked accounts.new) result }
 {
     let performed = accounts.act(account, &Command::Does(Event::Logout));
@@ -84,6 +88,7 @@ fn leave<A: Accounts>(
 }
 
 /// Does a command to an account.
+#[tactic(auto, using(crate::proofs::Wanting::told_opens, crate::proofs::Wanting::refused_opens))]
 fn perform<A: Accounts>(
     alloc: Global,
     accounts: &mut A,
@@ -92,6 +97,7 @@ fn perform<A: Accounts>(
 ) -> Result<Outcome, AllocError>
     requires { account < (A.house accounts.old).accounts }
     ensures house { A.house accounts.new ≡ A.house accounts.old }
+    ensures within { IfOk result (IsOpenedIn (A.house accounts.old).accounts) }
     ensures grants { Grants (A.house accounts.old) (do_to account (command_view command.now)) (A.asked accounts.old) (A.asked accounts.new) result }
 {
     let performed = accounts.act(account, command);
@@ -99,6 +105,7 @@ fn perform<A: Accounts>(
 }
 
 /// Loads a module into an account, and tells why it is refused if it is.
+#[tactic(auto, using(crate::proofs::Wanting::told_opens, crate::proofs::Wanting::refused_opens))]
 fn load<A: Accounts>(
     alloc: Global,
     accounts: &mut A,
@@ -107,6 +114,7 @@ fn load<A: Accounts>(
 ) -> Result<Outcome, AllocError>
     requires { account < (A.house accounts.old).accounts }
     ensures house { A.house accounts.new ≡ A.house accounts.old }
+    ensures within { IfOk result (IsOpenedIn (A.house accounts.old).accounts) }
     ensures grants { Grants (A.house accounts.old) (load_into account source.items) (A.asked accounts.old) (A.asked accounts.new) result }
 {
     let command = Command::Does(Event::Load { source });
@@ -120,6 +128,7 @@ fn load<A: Accounts>(
 }
 
 /// Shows something of an account.
+#[tactic(auto, using(crate::proofs::Wanting::told_opens, crate::proofs::Wanting::refused_opens))]
 fn show<A: Accounts>(
     alloc: Global,
     accounts: &mut A,
@@ -128,6 +137,7 @@ fn show<A: Accounts>(
 ) -> Result<Outcome, AllocError>
     requires { account < (A.house accounts.old).accounts }
     ensures house { A.house accounts.new ≡ A.house accounts.old }
+    ensures within { IfOk result (IsOpenedIn (A.house accounts.old).accounts) }
     ensures grants { Grants (A.house accounts.old) (show_of account ask) (A.asked accounts.old) (A.asked accounts.new) result }
 {
     match ask {
@@ -155,6 +165,7 @@ fn show<A: Accounts>(
 }
 
 /// Does what is wanted for a request that is let in, of this target.
+#[tactic(auto, using(crate::proofs::Wanting::told_opens, crate::proofs::Wanting::refused_opens))]
 pub fn grant<A: Accounts>(
     alloc: Global,
     accounts: &mut A,
@@ -163,6 +174,7 @@ pub fn grant<A: Accounts>(
 ) -> Result<Outcome, AllocError>
     requires { IsOfOne (A.house accounts.old).accounts (wish_view wish) }
     ensures house { A.house accounts.new ≡ A.house accounts.old }
+    ensures within { IfOk result (IsOpenedIn (A.house accounts.old).accounts) }
     ensures grants { Grants (A.house accounts.old) (wish_view wish) (A.asked accounts.old) (A.asked accounts.new) result }
 {
     match wish {

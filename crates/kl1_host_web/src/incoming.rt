@@ -1,9 +1,14 @@
 // Requests as they come in.
 
+ghost use Rattle.std.specs.Prelude.{◌≡◌, ◌≤◌, true, [], length, take, drop, IfOk, IfSome, OnOk, Ok};
+ghost use Rattle.std.specs.Io.KnownBytes.{Keeps, prepend_known};
+ghost use Rattle.kl1_host_web.specs.Serving.{ComesIn, HasBody};
+
 use kl1_host_door::limits::MOST_HEAD_BYTES;
 use kl1_host_door::{Head, Reading, Refusal, read_head};
 use kl1_lines::Source;
 use std::alloc::{AllocError, Global};
+use std::mem;
 
 /// The bytes of one read.
 const PIECE: usize = 4_096;
@@ -26,18 +31,23 @@ pub(crate) struct Inbox {
 }
 
 impl Inbox {
-    pub(crate) fn new(alloc: Global) -> Self {
+    /// Nothing came in.
+    pub(crate) fn new(alloc: Global) -> Self
+        ensures { result.kept.items ≡ [] }
+    {
         Inbox {
             kept: Vec::new(alloc),
         }
     }
 
     /// Reads a piece; `false` if there is none.
-    fn read_more<S: Source>(&mut self, source: &mut S) -> Result<bool, AllocError> {
+    #[tactic(auto, using(crate::proofs::Coming::grown))]
+    fn read_more<S: Source>(&mut self, source: &mut S) -> Result<bool, AllocError>
+        ensures { result ≡ Ok true → Keeps (prepend_known self.old.kept.items (S.remaining source.old)) (prepend_known self.new.kept.items (S.remaining source.new)) }
+    {
         let mut piece = [0u8; PIECE];
         match source.read(&mut piece) {
             Ok(count) => {
-                let count = count.min(PIECE);
                 self.kept.extend_from_slice(&piece[..count])?;
                 Ok(count > 0)
             }
@@ -45,12 +55,14 @@ impl Inbox {
         }
     }
 
-    /// Takes the first `count` bytes out, or all if there are fewer.
-    fn take(&mut self, alloc: Global, count: usize) -> Result<Vec<u8>, AllocError> {
-        let count = count.min(self.kept.len());
+    /// Takes the first `count` bytes out.
+    fn take(&mut self, alloc: Global, count: usize) -> Result<Vec<u8>, AllocError>
+        requires { count ≤ length self.old.kept.items }
+        ensures taken { IfOk result (λ taken. taken.items ≡ take count self.old.kept.items) }
+        ensures rest { OnOk result (self.new.kept.items ≡ drop count self.old.kept.items) }
+    {
         let rest = Vec::from_slice(alloc, &self.kept[count..])?;
-        let mut taken = rest;
-        std::mem::swap(&mut self.kept, &mut taken);
+        let mut taken = mem::replace(&mut self.kept, rest);
         taken.truncate(count);
         Ok(taken)
     }
@@ -60,7 +72,9 @@ impl Inbox {
         &mut self,
         alloc: Global,
         source: &mut S,
-    ) -> Result<Incoming, AllocError> {
+    ) -> Result<Incoming, AllocError>
+        ensures { IfOk result (ComesIn (prepend_known self.old.kept.items (S.remaining source.old)) (prepend_known self.new.kept.items (S.remaining source.new))) }
+    {
         for _ in 0..u64::MAX {
             match read_head(alloc, self.kept.as_slice())? {
                 Reading::Whole { head, len } => {
@@ -90,7 +104,9 @@ impl Inbox {
         alloc: Global,
         source: &mut S,
         count: usize,
-    ) -> Result<Option<Vec<u8>>, AllocError> {
+    ) -> Result<Option<Vec<u8>>, AllocError>
+        ensures { IfOk result (λ body. IfSome body (λ bytes. HasBody count bytes.items (prepend_known self.old.kept.items (S.remaining source.old)) (prepend_known self.new.kept.items (S.remaining source.new)))) }
+    {
         for _ in 0..u64::MAX {
             if self.kept.len() >= count {
                 return Ok(Some(self.take(alloc, count)?));

@@ -3,7 +3,7 @@
 
 mod accounts;
 mod asked_record;
-mod grant;
+mod granting;
 mod incoming;
 mod json;
 mod metrics;
@@ -17,7 +17,7 @@ mod wish;
 
 pub use accounts::{Accounts, Measures, Stop, Sums, Viewer};
 pub use asked_record::AskedRecord;
-pub use grant::grant;
+pub use granting::grant;
 pub use kl1_host_door::{SessionBook, Site};
 pub use outcome::Outcome;
 pub use serve::Service;
