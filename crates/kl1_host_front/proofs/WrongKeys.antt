@@ -1,8 +1,8 @@
 -- Wrong keys that are remembered.
 use Rattle.std.proofs.Common.{◌≡◌, ℕ, ◌-◌, ◌<◌, List, ◌∷◌, refl, ap, sym, ◌∙◌, arith}
 use Rattle.std.proofs.lemmas.Bool.{eq-eqb, lt-ltb}
-use Rattle.kl1_host_front.specs.declared.pauses.TheConstants.{FORGOTTEN_AFTER}
-use Rattle.kl1_host_front.specs.declared.pauses.Wrong.{Wrong}
+use Rattle.kl1_host_front.specs.declared.wrong_keys.TheConstants.{FORGOTTEN_AFTER}
+use Rattle.kl1_host_front.specs.declared.wrong_keys.Wrong.{Wrong}
 use Rattle.kl1_host_front.specs.Pauses.{count_of}
 
 newest : (w : Wrong) (ws : List Wrong) → count_of (w ∷ ws) w.who w.last ≡ w.count

@@ -1,8 +1,8 @@
 -- Pauses after wrong keys.
 use Rattle.std.specs.Prelude.{ℕ, ◌+◌, ◌-◌, ◌==◌, nat_lt, if◌then◌else◌, List, [], ◌∷◌}
-use Rattle.kl1_host_front.specs.declared.pauses.TheConstants.{FORGOTTEN_AFTER, LONGEST_PAUSE, MOST_COUNTED}
-use Rattle.kl1_host_front.specs.declared.pauses.Wrong.{Wrong}
-use Rattle.kl1_host_front.specs.declared.pauses.Pauses.{Pauses}
+use Rattle.kl1_host_front.specs.declared.wrong_keys.TheConstants.{FORGOTTEN_AFTER, LONGEST_PAUSE, MOST_COUNTED}
+use Rattle.kl1_host_front.specs.declared.wrong_keys.Wrong.{Wrong}
+use Rattle.kl1_host_front.specs.declared.wrong_keys.Pauses.{Pauses}
 
 -- the wrong keys that are remembered
 abbrev pub wrongs_in : Pauses → List Wrong

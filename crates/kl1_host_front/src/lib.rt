@@ -12,11 +12,11 @@ mod settings_file;
 mod status_lines;
 mod sums;
 mod sync;
+mod wrong_keys;
 
 pub use address::address_number;
 pub use hashed_keys::{HashedKeys, sum_of};
 pub use log_line::{Field, put_line};
-pub use pauses::{FORGOTTEN_AFTER, MOST_COUNTED, MOST_REMEMBERED, Pauses};
 pub use pausing_door::{LoginTeller, PausingDoor};
 pub use quantities::{MOST_BYTES, MOST_MILLISECONDS, duration_in, size_in};
 pub use settings::{BadSetting, MOST_CONNECTIONS, MOST_WORKERS, Settings};
@@ -24,3 +24,4 @@ pub use settings_file::{BadSettings, FIRST_SETTINGS, settings_in};
 pub use status_lines::{Number, put_account_status, put_host};
 pub use sums::{SUM_BYTES, bad_line, put_account, read_sums};
 pub use sync::{MOST_SYNC_MILLISECONDS, Sync, sync_in};
+pub use wrong_keys::{FORGOTTEN_AFTER, MOST_COUNTED, MOST_REMEMBERED, Pauses};

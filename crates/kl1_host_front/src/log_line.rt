@@ -79,7 +79,7 @@ pub struct Field<'a> {
 
 /// Puts a field after others.
 fn put_field(out: &mut Vec<u8>, field: Field<'_>) -> Result<(), AllocError>
-    ensures { OnOk result (out.new.items ≡ out.old.items ++ written_field (field_view field)) }
+    ensures { OnOk result (out.new.items ≡ out.old.items ++ written_field (field_view field.entry)) }
 {
     out.extend_from_slice(field.name)?;
     out.extend_from_slice(b"=")?;

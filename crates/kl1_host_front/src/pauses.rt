@@ -2,39 +2,9 @@
 
 ghost use Rattle.std.specs.Prelude.{◌≡◌, ◌≤◌, ℕ, length, OnOk};
 ghost use Rattle.kl1_host_front.specs.Pauses.{wrongs_in, count_of, one_more, pause_after};
-ghost use Rattle.kl1_host_front.specs.declared.pauses.TheConstants.{MOST_REMEMBERED};
 
+use crate::wrong_keys::{LONGEST_PAUSE, MOST_COUNTED, FORGOTTEN_AFTER, MOST_REMEMBERED, Pauses, Wrong};
 use std::alloc::{AllocError, Global};
-
-/// How many names and addresses with wrong keys are remembered.
-pub const MOST_REMEMBERED: usize = 1_024;
-
-/// The wrong keys that count: more make no longer pause.
-pub const MOST_COUNTED: u8 = 8;
-
-/// After how many milliseconds without another wrong key those of a name or an address are forgotten: ten minutes.
-pub const FORGOTTEN_AFTER: u64 = 600_000;
-
-/// The longest pause, in milliseconds.
-pub(crate) const LONGEST_PAUSE: u64 = 10_000;
-
-/// Wrong keys of a name or an address.
-#[derive(Clone, Copy)]
-struct Wrong {
-    /// The number of the name or the address.
-    who: u128,
-    /// How many in a row, at most `MOST_COUNTED`.
-    count: u8,
-    /// When the last was tried, in milliseconds.
-    last: u64,
-}
-
-/// Wrong keys by the numbers of those for whom they were tried, the last first.
-#[derive(Drop)]
-pub struct Pauses {
-    wrongs: Vec<Wrong>,
-    ghost few: { length wrongs.items ≤ MOST_REMEMBERED },
-}
 
 /// The pause after this many wrong keys in a row, in milliseconds.
 fn pause_after(count: u8) -> u64

@@ -5,7 +5,7 @@ ghost use Rattle.kl1_session.specs.Views.{entries_view};
 ghost use Rattle.kl1_host_front.specs.Sums.{opened_by_sum};
 
 use crate::hashed_keys::HashedKeys;
-use crate::pauses::Pauses;
+use crate::wrong_keys::Pauses;
 use kl1_session::{Door, Key};
 use std::sync::{Mutex, Wait};
 use std::thread;

@@ -15,7 +15,7 @@ pub struct Number<'a> {
 
 /// Puts a name, a space and a number after others.
 fn put_number(out: &mut Vec<u8>, number: Number<'_>) -> Result<(), AllocError>
-    ensures { OnOk result (out.new.items ≡ out.old.items ++ number_words (number_view number)) }
+    ensures { OnOk result (out.new.items ≡ out.old.items ++ number_words (number_view number.entry)) }
 {
     out.extend_from_slice(number.name)?;
     out.extend_from_slice(b" ")?;
