@@ -1,5 +1,5 @@
 -- Pauses after wrong keys.
-use Rattle.std.specs.Prelude.{ℕ, ◌+◌, ◌-◌, ◌==◌, nat_lt, if◌then◌else◌, List, [], ◌∷◌}
+use Rattle.std.specs.Prelude.{◌≡◌, ℕ, ◌+◌, ◌-◌, ◌==◌, nat_lt, if◌then◌else◌, List, [], ◌∷◌}
 use Rattle.kl1_host_front.specs.declared.wrong_keys.TheConstants.{FORGOTTEN_AFTER, LONGEST_PAUSE, MOST_COUNTED}
 use Rattle.kl1_host_front.specs.declared.wrong_keys.Wrong.{Wrong}
 use Rattle.kl1_host_front.specs.declared.wrong_keys.Pauses.{Pauses}
@@ -12,6 +12,10 @@ wrongs_in p = p.wrongs.items
 abbrev pub count_of : List Wrong → ℕ → ℕ → ℕ
 count_of [] who now = 0
 count_of (w ∷ ws) who now = if w.who == who then (if nat_lt (now - w.last) FORGOTTEN_AFTER then w.count else 0) else count_of ws who now
+
+-- whoever isn't `who` has as many wrong keys in a row as before
+abbrev pub OthersStay : ℕ → List Wrong → List Wrong → Type 0
+OthersStay who before after = (other : ℕ) → (now : ℕ) → (other ≡ who → ⊥) → count_of after other now ≡ count_of before other now
 
 -- one wrong key more: beyond a number they count as that
 abbrev pub one_more : ℕ → ℕ

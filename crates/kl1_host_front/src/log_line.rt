@@ -1,6 +1,7 @@
 // Lines of the log.
 
 ghost use Rattle.std.specs.Prelude.{◌≡◌, ◌<◌, ◌++◌, map, OnOk};
+ghost use Rattle.std.specs.List.{list_all};
 ghost use Rattle.kl1_host_front.specs.LogLines.{is_plain_byte, is_plain, digit_of, written_byte, written_bytes, written_value, written_field, written_line, field_view};
 
 use std::alloc::AllocError;
@@ -16,7 +17,17 @@ fn is_plain_byte(byte: u8) -> bool
 fn is_plain(value: &[u8]) -> bool
     ensures { result ≡ is_plain value.now }
 {
-    !value.is_empty() && value.iter().all(|byte| is_plain_byte(*byte))
+    match value {
+        [] => false,
+        [_, ..] => are_plain_bytes(value),
+    }
+}
+
+/// Whether each byte may stand in a value without quotes.
+fn are_plain_bytes(bytes: &[u8]) -> bool
+    ensures { result ≡ list_all is_plain_byte bytes.now }
+{
+    bytes.iter().all(|byte| is_plain_byte(*byte))
 }
 
 /// The hexadecimal digit of a number below 16.

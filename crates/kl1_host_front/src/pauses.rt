@@ -1,7 +1,8 @@
 // Pauses after wrong keys.
 
-ghost use Rattle.std.specs.Prelude.{◌≡◌, ◌≤◌, ℕ, length, OnOk};
-ghost use Rattle.kl1_host_front.specs.Pauses.{wrongs_in, count_of, one_more, pause_after};
+ghost use Rattle.std.specs.Prelude.{◌≡◌, ◌≤◌, ◌<◌, ℕ, length, slice_get, IfSome, OnOk};
+ghost use Rattle.kl1_host_front.specs.Pauses.{wrongs_in, count_of, one_more, pause_after, OthersStay};
+ghost use Rattle.kl1_host_front.specs.declared.wrong_keys.TheConstants.{MOST_REMEMBERED};
 
 use crate::wrong_keys::{LONGEST_PAUSE, MOST_COUNTED, FORGOTTEN_AFTER, MOST_REMEMBERED, Pauses, Wrong};
 use std::alloc::{AllocError, Global};
@@ -80,6 +81,7 @@ impl Pauses {
     /// The place of `who`, or how many there are.
     fn place_of(&self, who: u128) -> usize
         ensures absent { result ≡ length (wrongs_in self.now) → (now : ℕ) → count_of (wrongs_in self.now) who now ≡ 0 }
+        ensures there { IfSome (slice_get (wrongs_in self.now) result) (λ wrong. wrong.who ≡ who) }
         ensures within { result ≤ length (wrongs_in self.now) }
     {
         let mut place = 0;
@@ -95,9 +97,10 @@ impl Pauses {
     }
 
     /// A wrong key was tried for `who` at `now`. If too many are remembered, the one whose last wrong key is the oldest is forgotten.
-    #[tactic(auto, using(crate::proofs::WrongKeys::newest_counts))]
+    #[tactic(auto, using(crate::proofs::WrongKeys::newest_counts, crate::proofs::WrongKeys::moved_others, crate::proofs::WrongKeys::added_others))]
     pub fn note_wrong(&mut self, who: u128, now: u64) -> Result<(), AllocError>
         ensures counted { OnOk result (count_of (wrongs_in self.new) who now ≡ one_more (count_of (wrongs_in self.old) who now)) }
+        ensures others { OnOk result (length (wrongs_in self.old) < MOST_REMEMBERED → OthersStay who (wrongs_in self.old) (wrongs_in self.new)) }
     {
         let count = one_more(self.count_of(who, now));
         let place = self.place_of(who);
@@ -118,8 +121,10 @@ impl Pauses {
     }
 
     /// The wrong keys of `who` are forgotten, since a good one came.
+    #[tactic(auto, using(crate::proofs::WrongKeys::removed_others))]
     pub fn forget(&mut self, who: u128)
-        ensures { (now : ℕ) → count_of (wrongs_in self.new) who now ≡ 0 }
+        ensures forgotten { (now : ℕ) → count_of (wrongs_in self.new) who now ≡ 0 }
+        ensures others { OthersStay who (wrongs_in self.old) (wrongs_in self.new) }
     {
         let mut place = self.place_of(who);
         while place < self.wrongs.len() {

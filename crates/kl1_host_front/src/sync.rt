@@ -14,9 +14,9 @@ pub const MOST_SYNC_MILLISECONDS: u64 = 3_600_000;
 pub enum Sync {
     /// Before the reply that tells of it.
     Always,
-    /// At most this many milliseconds later, from 1 to `MOST_SYNC_MILLISECONDS`.
+    /// About this many milliseconds later, from 1 to `MOST_SYNC_MILLISECONDS`. No reply waits.
     Every(u64),
-    /// When the system sees fit.
+    /// When the program sees fit. No reply waits.
     Never,
 }
 

@@ -2,8 +2,8 @@ use Rattle.std.proofs.Common.{◌≤◌, length}
 use Rattle.kl1_host_front.proofs.sums.bad_line.Given as goal
 
 -- what is left is no longer than the text
-abbrev pub invariant-loop-rest : goal.invariant-loop-rest
-invariant-loop-rest l = length l.rest ≤ length l.bytes
+abbrev pub invariant-loop-behind : goal.invariant-loop-behind
+invariant-loop-behind l = length l.rest ≤ length l.bytes
 
-abbrev pub decreases-loop-rest : goal.decreases-loop-rest
-decreases-loop-rest l = length l.rest
+abbrev pub decreases-loop-behind : goal.decreases-loop-behind
+decreases-loop-behind l = length l.rest

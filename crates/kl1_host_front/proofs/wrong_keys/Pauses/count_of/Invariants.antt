@@ -1,6 +1,6 @@
 use Rattle.std.proofs.Common.{◌≡◌, length}
 use Rattle.kl1_host_front.specs.Pauses.{wrongs_in, count_of}
-use Rattle.kl1_host_front.proofs.pauses.Pauses.count_of.Given as goal
+use Rattle.kl1_host_front.proofs.wrong_keys.Pauses.count_of.Given as goal
 
 -- nobody who was looked at is who is looked for
 abbrev pub invariant-loop-rest : goal.invariant-loop-rest
