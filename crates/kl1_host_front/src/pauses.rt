@@ -4,7 +4,9 @@ ghost use Rattle.std.specs.Prelude.{◌≡◌, ◌≤◌, ◌<◌, ℕ, length, 
 ghost use Rattle.kl1_host_front.specs.Pauses.{wrongs_in, count_of, one_more, pause_after, OthersStay};
 ghost use Rattle.kl1_host_front.specs.declared.wrong_keys.TheConstants.{MOST_REMEMBERED};
 
-use crate::wrong_keys::{LONGEST_PAUSE, MOST_COUNTED, FORGOTTEN_AFTER, MOST_REMEMBERED, Pauses, Wrong};
+use crate::wrong_keys::{
+    FORGOTTEN_AFTER, LONGEST_PAUSE, MOST_COUNTED, MOST_REMEMBERED, Pauses, Wrong,
+};
 use std::alloc::{AllocError, Global};
 
 /// The pause after this many wrong keys in a row, in milliseconds.
