@@ -1,0 +1,78 @@
+-- Requests that are attended to, one after another.
+use Rattle.std.proofs.Common.{◌≡◌, ℕ, Bool, true, false, List, [], ◌∷◌, ◌++◌, length, Some, None, Result, Ok, Err, IsErr, IfOk, refl, sym, ap, subst, ◌∙◌, inl, inr}
+use Rattle.std.specs.declared.option.Option.{Option}
+use Rattle.std.specs.declared.alloc.AllocError.{AllocError}
+use Rattle.std.specs.Io.KnownBytes.{Consumes}
+use Rattle.kl1_host_door.specs.declared.refusal.Refusal.{Refusal}
+use Rattle.kl1_host_door.specs.declared.refusal.Refusal.TheVariants as refusal
+use Rattle.kl1_host_door.specs.declared.answer.Answer.{Answer}
+use Rattle.kl1_host_door.specs.declared.session.WebSession.{WebSession}
+use Rattle.kl1_host_door.specs.declared.door.Site.{Site}
+use Rattle.kl1_host_door.specs.declared.door.Allowed.{Allowed}
+use Rattle.kl1_host_door.specs.declared.head.Head.{Head}
+use Rattle.kl1_host_door.specs.Bodies.{body_bytes}
+use Rattle.kl1_host_door.specs.Doors.{authorized}
+use Rattle.kl1_host_web.specs.Asking.{Asked, House}
+use Rattle.kl1_host_web.specs.Wishes.{wish_view, wanted, IsWish}
+use Rattle.kl1_host_web.specs.Telling.{Grants, IsRefusal}
+use Rattle.kl1_host_web.specs.Serving.{Closes, Ends, Performs, Fails, is_within, AnswersWithin, Answers, Attends, Exchange, IsNext, Exchanges, Serves, Steps, HasHead, HasNoBody, HasBody}
+use Rattle.kl1_host_web.specs.declared.wish.Wish.{Wish}
+use Rattle.kl1_host_web.specs.declared.outcome.Outcome.{Outcome}
+use Rattle.kl1_host_web.proofs.Coming.{consumes_both, consumed_front}
+
+-- a wish was granted, and what was still to do was done
+pub performs : (house : House) (a : Allowed) (body : List ℕ) (w : Wish) (before middle after : List Asked) (o : Result Outcome AllocError) (result : Result Answer AllocError) → IsWish a body w → Grants house (wish_view w) before middle o → Ends o middle after result → Performs house a body before after result
+performs house a body w before middle after o result wish grants ends = record {
+  value = wish.0;
+  reads = wish.1;
+  outcome = o;
+  middle = middle;
+  grants = subst (λ x. Grants house x before middle o) wish.2 grants;
+  ends = ends;
+}
+
+-- what is known of a request to an account that there is
+pub within : (house : House) (a : Allowed) (body : List ℕ) (before after : List Asked) (result : Result Answer AllocError) (v : Bool) → v ≡ true → Performs house a body before after result → AnswersWithin v house a body before after result
+within house a body before after result v e p = subst (λ x. AnswersWithin x house a body before after result) (sym e) (inr p)
+
+pub fails : (house : House) (a : Allowed) (body : List ℕ) (before after : List Asked) (result : Result Answer AllocError) (v : Bool) → v ≡ true → after ≡ before → IsErr result → AnswersWithin v house a body before after result
+fails house a body before after result v e same err = subst (λ x. AnswersWithin x house a body before after result) (sym e) (inl (record { asked = same; fails = err }))
+
+pub denied : (house : House) (a : Allowed) (body : List ℕ) (before after : List Asked) (result : Result Answer AllocError) (v : Bool) → v ≡ false → after ≡ before → IfOk result (IsRefusal refusal.Nobody) → AnswersWithin v house a body before after result
+denied house a body before after result v e same why = subst (λ x. AnswersWithin x house a body before after result) (sym e) (record { asked = same; refusal = why })
+
+-- a request was attended to by sessions that were open
+pub attended : (house : House) (sites : List Site) (is_local : Bool) (head : Head) (body : List ℕ) (before middle after : List Asked) (result : Result Answer AllocError) (sessions : List WebSession) (r : Result Allowed Refusal) → r ≡ authorized head sessions sites is_local → Closes before middle → Answers house r body middle after result → Attends house sites is_local head body before after result
+attended house sites is_local head body before middle after result sessions r e closes answers = record {
+  middle = middle;
+  idle = closes;
+  sessions = sessions;
+  answers = subst (λ x. Answers house x body middle after result) e answers;
+}
+
+-- a head and a body that came in one after the other are a request, which was attended to
+pub exchanges : (house : House) (sites : List Site) (is_local : Bool) (head : Head) (body : List ℕ) (n : ℕ) (answer : Result Answer AllocError) (old middle new : Option (List ℕ)) (before after : List Asked) → HasHead head old middle → body_bytes head ≡ Ok n → HasBody n body middle new → Attends house sites is_local head body before after answer → Exchanges house sites is_local (record { head = head; body = body; answer = answer }) old new before after
+exchanges house sites is_local head body n answer old middle new before after comes told follows attends = record {
+  next = record {
+    bytes = comes.bytes;
+    head = comes.is;
+    few = comes.few;
+    long = told ∙ ap Ok (sym follows.long);
+    consumes = consumes_both old middle new comes.bytes body comes.consumes follows.consumes;
+  };
+  attends = attends;
+}
+
+-- a head of which no length of a body is known
+pub no_body : (head : Head) (why : Refusal) (old middle : Option (List ℕ)) → HasHead head old middle → body_bytes head ≡ Err why → HasNoBody why old
+no_body head why old middle comes e = record {
+  bytes = comes.bytes;
+  head = head;
+  front = consumed_front old middle comes.bytes comes.consumes;
+  is = comes.is;
+  refused = e;
+}
+
+-- one more request was served
+pub one_more : (house : House) (sites : List Site) (is_local : Bool) (served : List Exchange) (x : Exchange) (old middle new : Option (List ℕ)) (before asked after : List Asked) → Serves house sites is_local served old middle before asked → Exchanges house sites is_local x middle new asked after → Serves house sites is_local (x ∷ served) old new before after
+one_more house sites is_local served x old middle new before asked after s e = (middle, asked, s, e)
