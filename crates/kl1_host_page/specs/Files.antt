@@ -5,11 +5,16 @@ use Rattle.kl1_host_door.specs.declared.answer.Content.TheVariants.{Html, Css, S
 use Rattle.kl1_host_page.specs.declared.api_js.TheConstants as api_js
 use Rattle.kl1_host_page.specs.declared.dom_js.TheConstants as dom_js
 use Rattle.kl1_host_page.specs.declared.editor_js.TheConstants as editor_js
+use Rattle.kl1_host_page.specs.declared.files.PageFile.{PageFile}
 use Rattle.kl1_host_page.specs.declared.index_html.TheConstants as index_html
 use Rattle.kl1_host_page.specs.declared.page_css.TheConstants as page_css
 use Rattle.kl1_host_page.specs.declared.page_js.TheConstants as page_js
 use Rattle.kl1_host_page.specs.declared.shoens_js.TheConstants as shoens_js
 use Rattle.kl1_host_page.specs.declared.waits_js.TheConstants as waits_js
+
+-- what the bytes of a file are, and its bytes
+abbrev pub file_view : PageFile → Content × List ℕ
+file_view file = (file.content, file.text.now)
 
 -- the file at a path: what its bytes are, and its bytes
 unfoldable pub file_at : List ℕ → Option (Content × List ℕ)
