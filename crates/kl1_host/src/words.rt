@@ -44,6 +44,29 @@ fn task<'a>(alloc: Global, name: &'a str, about: &'a str) -> Result<Command<'a>,
         .arg(word(alloc, "DIR", "The folder"))
 }
 
+/// The words of a host that runs.
+fn run<'a>(alloc: Global) -> Result<Command<'a>, AllocError> {
+    let repair = Arg::new(alloc, "repair")
+        .long("repair")
+        .action(ArgAction::SetTrue)
+        .help("Keep of a journal with a fault what is before it");
+    task(
+        alloc,
+        "run",
+        "Serves the accounts, until it is asked to stop",
+    )?
+    .arg(repair)
+}
+
+/// The words for a new account.
+fn add<'a>(alloc: Global) -> Result<Command<'a>, AllocError> {
+    task(alloc, "add", "Adds an account, and writes its key, once")?.arg(word(
+        alloc,
+        "NAME",
+        "The account's name",
+    ))
+}
+
 /// The words that the program knows.
 fn command<'a>(alloc: Global) -> Result<Command<'a>, AllocError> {
     let init = task(
@@ -51,21 +74,6 @@ fn command<'a>(alloc: Global) -> Result<Command<'a>, AllocError> {
         "init",
         "Makes a folder for accounts, with settings to look through",
     )?;
-    let add = task(alloc, "add", "Adds an account, and writes its key, once")?.arg(word(
-        alloc,
-        "NAME",
-        "The account's name",
-    ))?;
-    let repair = Arg::new(alloc, "repair")
-        .long("repair")
-        .action(ArgAction::SetTrue)
-        .help("Keep of a journal with a fault what is before it");
-    let run = task(
-        alloc,
-        "run",
-        "Serves the accounts, until it is asked to stop",
-    )?
-    .arg(repair)?;
     let check = task(
         alloc,
         "check",
@@ -79,8 +87,8 @@ fn command<'a>(alloc: Global) -> Result<Command<'a>, AllocError> {
         .override_usage(USAGE)
         .subcommand_required(true)
         .subcommand(init)?
-        .subcommand(add)?
-        .subcommand(run)?
+        .subcommand(add(alloc)?)?
+        .subcommand(run(alloc)?)?
         .subcommand(check)?
         .subcommand(status)?
         .subcommand(stop)

@@ -1,0 +1,89 @@
+// The journals of a folder are opened.
+
+ghost use Rattle.std.specs.Prelude.{◌≤◌, length, vec_len, IfOk};
+
+use crate::fault::Fault;
+use crate::folder::{JOURNALS, path_in};
+use crate::log::Log;
+use crate::start_words::open_fault;
+use kl1_host_journals::open_in_folder;
+use kl1_host_work::AccountFile;
+use kl1_log::FolderFile;
+use kl1_pool::{AccountName, Rules};
+use kl1_session::Key;
+use std::rt::Files;
+use std::thread;
+use std::thread::Threads;
+use std::time::Clock;
+
+/// Opens the file of the journal of an account. With a word for the names of files in which what is repaired is kept, a fault is repaired.
+fn file_of<'r, R: Files + Clock + Eprint>(
+    log: &Log<'r, R>,
+    folder: &str,
+    key: &Key,
+    repair: Option<&str>,
+) -> Result<AccountFile<FolderFile<&'r R>>, Fault> {
+    let alloc = log.alloc;
+    let journals = path_in(alloc, folder, JOURNALS)?;
+    let text = format!(in alloc; "{}", key.name.escape_ascii())?;
+    // All names of a folder's accounts are names.
+    let Some(name) = AccountName::read(key.name.as_slice()) else {
+        return Err(Fault::Memory);
+    };
+    let opened = open_in_folder(
+        log.rt,
+        alloc,
+        journals.as_str(),
+        text.as_str(),
+        Rules::Four,
+        repair,
+    );
+    match opened {
+        Ok((file, opened)) => {
+            if let Some(line) = opened.repaired {
+                log.tell_repaired(key.name.as_slice(), line);
+            }
+            Ok(AccountFile {
+                name,
+                file,
+                journal: opened.journal,
+            })
+        }
+        Err(fault) => {
+            let path = format!(in alloc; "{journals}/{text}.journal")?;
+            Err(open_fault(alloc, path.as_str(), &fault)?)
+        }
+    }
+}
+
+/// Opens the files of the journals of accounts, each in a thread of its own. If some can't be opened, the fault of the first of them is
+/// told.
+pub fn files_of<'r, R: Files + Clock + Eprint + Threads + Sync>(
+    log: &Log<'r, R>,
+    folder: &str,
+    keys: &[Key],
+    repair: Option<&str>,
+) -> Result<Vec<AccountFile<FolderFile<&'r R>>>, Fault>
+    ensures { IfOk result (λ files. length keys.now ≤ vec_len files) }
+{
+    let opened = thread::map_indices(
+        log.rt,
+        log.alloc,
+        keys.len(),
+        &|account: usize| {
+            match keys.get(account) {
+                Some(key) => file_of(log, folder, key, repair),
+                None => Err(Fault::Memory),
+            }
+        },
+    )?;
+    let mut files = Vec::with_capacity(log.alloc, opened.len())?;
+    for file in opened {
+        files.push(file?)?;
+    }
+    // There is one for each, but no clause says so.
+    if keys.len() > files.len() {
+        return Err(Fault::Memory);
+    }
+    Ok(files)
+}
