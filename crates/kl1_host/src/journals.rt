@@ -11,13 +11,14 @@ use kl1_host_work::AccountFile;
 use kl1_log::FolderFile;
 use kl1_pool::{AccountName, Rules};
 use kl1_session::Key;
+use std::fs::File;
 use std::rt::Files;
 use std::thread;
 use std::thread::Threads;
 use std::time::Clock;
 
 /// Opens the file of the journal of an account. With a word for the names of files in which what is repaired is kept, a fault is repaired.
-fn file_of<'r, R: Files + Clock + Eprint>(
+fn file_of<'r, R: Files<File = File> + Clock + Eprint>(
     log: &Log<'r, R>,
     folder: &str,
     key: &Key,
@@ -58,7 +59,7 @@ fn file_of<'r, R: Files + Clock + Eprint>(
 
 /// Opens the files of the journals of accounts, each in a thread of its own. If some can't be opened, the fault of the first of them is
 /// told.
-pub fn files_of<'r, R: Files + Clock + Eprint + Threads + Sync>(
+pub fn files_of<'r, R: Files<File = File> + Clock + Eprint + Threads + Sync>(
     log: &Log<'r, R>,
     folder: &str,
     keys: &[Key],

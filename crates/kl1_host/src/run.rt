@@ -98,7 +98,7 @@ where
 
 /// What a host needs of its folder, and where it listens.
 #[derive(Drop)]
-struct Opened {
+struct HostFolder {
     settings: Settings,
     accounts: Accounts,
     clients: TcpListener,
@@ -107,7 +107,7 @@ struct Opened {
 }
 
 /// Looks at the settings and the accounts of a folder, and then listens.
-fn opened<R>(rt: &R, alloc: Global, folder: &str) -> Result<Opened, Fault>
+fn opened<R>(rt: &R, alloc: Global, folder: &str) -> Result<HostFolder, Fault>
 where
     R: Net<Listener = TcpListener, Stream = TcpStream> + Files<File = File> + AllocGlobal,
 {
@@ -119,7 +119,7 @@ where
         None => None,
     };
     let socket = socket_of(rt, alloc, folder)?;
-    Ok(Opened {
+    Ok(HostFolder {
         settings,
         accounts,
         clients,
@@ -132,7 +132,7 @@ where
 fn run_opened<R>(
     log: &Log<'_, R>,
     folder: &str,
-    opened: &Opened,
+    opened: &HostFolder,
     repairs: bool,
     asker: &Mutex<Option<UnixStream>>,
 ) -> Result<(), Fault>
@@ -149,7 +149,7 @@ where
     let (rt, alloc, settings) = (log.rt, log.alloc, &opened.settings);
     let pauses = Mutex::new(Pauses::new(alloc));
     let sessions = Mutex::new(SessionBook::new(alloc)?);
-    let sites = sites_of(alloc, settings.web.as_ref(), opened.browsers.as_ref())?;
+    let sites = sites_of(alloc, settings, opened.browsers.as_ref())?;
     let program = Program {
         rt,
         alloc,

@@ -5,7 +5,7 @@ ghost use Rattle.kl1_host_web.specs.Records.{asked_in};
 use crate::folder::{JOURNALS, path_in};
 use crate::logins::LoginLog;
 use kl1_command::{Command, Performed};
-use kl1_host_front::PausingDoor;
+use kl1_host_front::{PausingDoor, Settings, host_of};
 use kl1_host_web::{Accounts, AskedRecord, Measures, Site, Stop, Sums, Viewer};
 use kl1_host_work::{HostView, Performer};
 use kl1_session::Door;
@@ -28,22 +28,39 @@ fn site(alloc: Global, host: &str) -> Result<Site, AllocError> {
 }
 
 /// The names of the host: what is set, the address where it listens, and `localhost` with the port.
-pub fn sites_of(
+fn own_sites(
     alloc: Global,
-    web: Option<&String>,
-    listener: Option<&TcpListener>,
-) -> Result<Vec<Site>, AllocError> {
-    let mut sites = Vec::new(alloc);
-    if let Some(web) = web {
-        sites.push(site(alloc, web.as_str())?)?;
-    }
-    if let Some(listener) = listener
-        && let Ok(address) = listener.local_addr()
-    {
+    sites: &mut Vec<Site>,
+    web: &str,
+    listener: &TcpListener,
+) -> Result<(), AllocError> {
+    sites.push(site(alloc, web)?)?;
+    if let Ok(address) = listener.local_addr() {
         let name = format!(in alloc; "{address}")?;
         sites.push(site(alloc, name.as_str())?)?;
         let name = format!(in alloc; "localhost:{}", address.port())?;
         sites.push(site(alloc, name.as_str())?)?;
+    }
+    Ok(())
+}
+
+/// The names by which browsers know the host: its own, and where its page comes from if a proxy stands before it.
+pub fn sites_of(
+    alloc: Global,
+    settings: &Settings,
+    listener: Option<&TcpListener>,
+) -> Result<Vec<Site>, AllocError> {
+    let mut sites = Vec::new(alloc);
+    if let (Some(web), Some(listener)) = (&settings.web, listener) {
+        own_sites(alloc, &mut sites, web.as_str(), listener)?;
+    }
+    if let Some(page) = &settings.page
+        && let Some(host) = host_of(page.as_bytes())
+    {
+        sites.push(Site {
+            host: Vec::from_slice(alloc, host)?,
+            origin: Vec::from_slice(alloc, page.as_bytes())?,
+        })?;
     }
     Ok(sites)
 }

@@ -38,7 +38,7 @@ fn word<'a>(alloc: Global, name: &'a str, help: &'a str) -> Arg<'a> {
 }
 
 /// A task over a folder.
-fn task<'a>(alloc: Global, name: &'a str, about: &'a str) -> Result<Command<'a>, AllocError> {
+fn folder_task<'a>(alloc: Global, name: &'a str, about: &'a str) -> Result<Command<'a>, AllocError> {
     Command::new(alloc, name)
         .about(about)
         .arg(word(alloc, "DIR", "The folder"))
@@ -50,7 +50,7 @@ fn run<'a>(alloc: Global) -> Result<Command<'a>, AllocError> {
         .long("repair")
         .action(ArgAction::SetTrue)
         .help("Keep of a journal with a fault what is before it");
-    task(
+    folder_task(
         alloc,
         "run",
         "Serves the accounts, until it is asked to stop",
@@ -60,7 +60,7 @@ fn run<'a>(alloc: Global) -> Result<Command<'a>, AllocError> {
 
 /// The words for a new account.
 fn add<'a>(alloc: Global) -> Result<Command<'a>, AllocError> {
-    task(alloc, "add", "Adds an account, and writes its key, once")?.arg(word(
+    folder_task(alloc, "add", "Adds an account, and writes its key, once")?.arg(word(
         alloc,
         "NAME",
         "The account's name",
@@ -69,18 +69,18 @@ fn add<'a>(alloc: Global) -> Result<Command<'a>, AllocError> {
 
 /// The words that the program knows.
 fn command<'a>(alloc: Global) -> Result<Command<'a>, AllocError> {
-    let init = task(
+    let init = folder_task(
         alloc,
         "init",
         "Makes a folder for accounts, with settings to look through",
     )?;
-    let check = task(
+    let check = folder_task(
         alloc,
         "check",
         "Looks at settings and accounts, and replays each journal",
     )?;
-    let status = task(alloc, "status", "Tells how the host that runs there goes")?;
-    let stop = task(alloc, "stop", "Stops the host that runs there")?;
+    let status = folder_task(alloc, "status", "Tells how the host that runs there goes")?;
+    let stop = folder_task(alloc, "stop", "Stops the host that runs there")?;
     Command::new(alloc, "kl1_host")
         .about("A server whose accounts outlive it")
         .version(VERSION)
