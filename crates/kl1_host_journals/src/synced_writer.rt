@@ -3,19 +3,17 @@
 ghost use Rattle.std.specs.Prelude.{◌≡◌};
 ghost use Rattle.kl1_host_journals.specs.SyncedWriters.{writer_of};
 
-use crate::bell::Bell;
 use crate::keeper::Keeper;
 use crate::outgoing::{Gate, Outgoing, SendPermit};
 use std::cell::Cell;
 use std::io::{Error, ErrorKind, Result, Write};
 use std::sync::Wait;
 
-/// A writer that writes only once all is on disk for which the leave to write waits. It rings for the scribe before it waits.
+/// A writer that writes only once all is on disk for which the leave to write waits. It rings for the account's scribe before it waits.
 #[derive(Drop)]
 pub struct SyncedWriter<'c, T: Write, R: Wait> {
     gate: Gate<T>,
     rt: &'c R,
-    bell: &'c Bell,
     keepers: &'c [Keeper],
     outgoing: &'c Cell<Outgoing>,
 }
@@ -25,8 +23,7 @@ impl<'c, T: Write, R: Wait> SyncedWriter<'c, T, R> {
     pub fn new(
         writer: T,
         rt: &'c R,
-        bell: &'c Bell,
-        keepers: &'c [Keeper],
+            keepers: &'c [Keeper],
         outgoing: &'c Cell<Outgoing>,
     ) -> Self
         ensures { writer_of result ≡ writer }
@@ -34,7 +31,6 @@ impl<'c, T: Write, R: Wait> SyncedWriter<'c, T, R> {
         SyncedWriter {
             gate: Gate::new(writer),
             rt,
-            bell,
             keepers,
             outgoing,
         }
@@ -43,7 +39,7 @@ impl<'c, T: Write, R: Wait> SyncedWriter<'c, T, R> {
     /// The leave to write, once it is here. An error if what would be told won't be on disk.
     fn permit(&self) -> Result<SendPermit> {
         let outgoing = self.outgoing.replace(Outgoing::Lost);
-        match outgoing.freed(self.rt, self.bell, self.keepers) {
+        match outgoing.freed(self.rt, self.keepers) {
             Outgoing::Free(permit) => Ok(permit),
             _ => Err(Error::from(ErrorKind::Other)),
         }

@@ -108,6 +108,6 @@ pub trait Front {
         host: &V,
     );
 
-    /// Attends to a host, in a thread of its own. The host stops when it returns.
+    /// Attends to a host, in the thread that runs it. The host stops when it returns.
     fn attend<V: HostView>(&self, host: &V);
 }
