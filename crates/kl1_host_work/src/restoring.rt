@@ -128,7 +128,7 @@ fn stand<'t, D: Disk + Drop, W: Wait, R: Wait, K: PoolIds>(
     }
 }
 
-/// Restores an account from its file, if that isn't done yet.
+/// Restores an account from its file.
 fn restore_one<'t, D: Disk + Drop, W: Wait, R: Wait, K: PoolIds>(
     rt: &W,
     alloc: Global,
@@ -136,17 +136,17 @@ fn restore_one<'t, D: Disk + Drop, W: Wait, R: Wait, K: PoolIds>(
     account: usize,
     restart: &mut Restart<D, K>,
 ) {
-    let stage = mem::replace(&mut restart.stage, Stage::Fails(StartFault::Accounts));
-    restart.stage = match stage {
-        Stage::Waits(found) if account < pool.accounts() => {
-            match stand(rt, alloc, pool, account, found, &mut restart.share) {
-                Ok(standing) => Stage::Stands(standing),
-                Err(fault) => Stage::Fails(fault),
-            }
-        }
-        Stage::Waits(_) => Stage::Fails(StartFault::Accounts),
-        stage => stage,
+    let Restart { share, stage } = restart;
+    let before = mem::replace(stage, Stage::Fails(StartFault::Accounts));
+    let Stage::Waits(found) = before else {
+        return;
     };
+    if account < pool.accounts() {
+        *stage = match stand(rt, alloc, pool, account, found, share) {
+            Ok(standing) => Stage::Stands(standing),
+            Err(fault) => Stage::Fails(fault),
+        };
+    }
 }
 
 /// Accounts that are to be restored from these files, each with a share.
@@ -181,7 +181,7 @@ fn lanes<R: Threads>(rt: &R) -> usize
 
 /// Restores the accounts of a pool from their files, each with one of the shares, several at the same time; then tells `front` of each, in
 /// order. If some can't be restored, the fault of the first of them is told. Each may load sources of `bytes` bytes.
-pub(crate) fn restore_all<'t, F: Front, D: Disk + Drop + Send, N, R: Wait, K: PoolIds>(
+pub(crate) fn restore_all<'t, F: Front, D: Disk + Drop + Send, N, R: Wait + Sync, K>(
     rt: &N,
     alloc: Global,
     pool: &Pool<'t, R, K>,
@@ -192,7 +192,7 @@ pub(crate) fn restore_all<'t, F: Front, D: Disk + Drop + Send, N, R: Wait, K: Po
 ) -> Result<Shelf<D>, StartFault>
 where
     N: Threads + Wait + Sync,
-    K: Send + Sync,
+    K: PoolIds + Send + Sync,
 {
     let mut restarts = restarts_of(alloc, files, shares)?;
     thread::for_each_mut(
@@ -205,7 +205,8 @@ where
     );
     let mut shelf = Shelf::new(alloc, restarts.len())?;
     for (account, restart) in restarts.into_iter().enumerate() {
-        match restart.stage {
+        let Restart { stage, .. } = restart;
+        match stage {
             Stage::Stands(standing) => {
                 let Standing { linked, entries } = standing;
                 shelf.add(linked, bytes)?;
