@@ -20,12 +20,7 @@ pub struct SyncedWriter<'c, T: Write, R: Wait> {
 
 impl<'c, T: Write, R: Wait> SyncedWriter<'c, T, R> {
     /// A writer over `writer`, of a connection whose leave to write is `outgoing`, to accounts of these keepers.
-    pub fn new(
-        writer: T,
-        rt: &'c R,
-            keepers: &'c [Keeper],
-        outgoing: &'c Cell<Outgoing>,
-    ) -> Self
+    pub fn new(writer: T, rt: &'c R, keepers: &'c [Keeper], outgoing: &'c Cell<Outgoing>) -> Self
         ensures { writer_of result ≡ writer }
     {
         SyncedWriter {

@@ -12,10 +12,9 @@ use kl1_journal_entries::Journal;
 use kl1_log::{Disk, LogFile};
 use kl1_pool::{AccountName, Pool, PoolIds, RestoreEnd, Share};
 use std::alloc::{AllocError, Global};
-use std::mem;
 use std::sync::Wait;
-use std::thread;
 use std::thread::Threads;
+use std::{mem, thread};
 
 /// An account with its file, and with the journal with which it begins.
 #[derive(Drop)]

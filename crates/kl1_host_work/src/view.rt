@@ -35,19 +35,12 @@ impl JournalReader for SessionsReader {
 }
 
 impl<F: Front, N: Wait, R: Wait, K: PoolIds> View<'_, '_, '_, F, N, R, K> {
-
     /// Lets the connection wait until what was seen of an account is on disk.
     fn note(&self, account: usize) {
         if let Some(outgoing) = self.outgoing
             && account < self.desk.pool.accounts()
         {
-            note_told(
-                self.rt,
-                self.desk.pool,
-                self.desk.host,
-                outgoing,
-                account,
-            );
+            note_told(self.rt, self.desk.pool, self.desk.host, outgoing, account);
         }
     }
 }
