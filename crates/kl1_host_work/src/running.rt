@@ -4,14 +4,17 @@ ghost use Rattle.std.specs.Prelude.{◌≤◌};
 
 use crate::connections::{Desk, Peers, serve_each};
 use crate::front::{Front, HostEvent};
+use crate::handler::HostHandler;
 use crate::host::Host;
 use crate::noting::note;
 use crate::start_fault::StartFault;
 use crate::view::View;
-use kl1_host_journals::{Bell, FaultTeller, Keeper, Scribe};
+use kl1_host_journals::{Bell, FaultTeller, Keeper, Outgoing, Scribe};
 use kl1_log::{Disk, LogError, LogFile};
 use kl1_pool::{Gate, Pool, PoolIds, Share, worker};
+use kl1_session::History;
 use std::alloc::{AllocError, Global};
+use std::cell::Cell;
 use std::net::{Net, TcpListener, TcpStream};
 use std::sync::Wait;
 use std::thread;
@@ -93,14 +96,28 @@ fn wake<N: Net<Listener = TcpListener, Stream = TcpStream>>(rt: &N, listener: &T
     }
 }
 
-/// Lets the program attend to a host.
-fn attend<'t, F: Front, N: Wait, R: Wait, K: PoolIds>(rt: &N, desk: &Desk<'_, 't, F, R, K>) {
+/// Lets the program attend to a host, with a share for the commands that it does.
+fn attend<'t, F: Front, N: Wait, R: Wait, K: PoolIds>(
+    rt: &N,
+    desk: &Desk<'_, 't, F, R, K>,
+    share: Share<K>,
+) {
+    let outgoing = Cell::new(Outgoing::new());
+    let mut share = share;
+    let mut performer = HostHandler {
+        rt,
+        pool: desk.pool,
+        share: &mut share,
+        host: desk.host,
+        outgoing: &outgoing,
+        history: History::new(),
+    };
     let view = View {
         rt,
         desk,
         outgoing: None,
     };
-    desk.front.attend(&view);
+    desk.front.attend(&mut performer, &view);
 }
 
 /// Lets nobody in any more, and ends the connections that are open.
@@ -126,6 +143,7 @@ fn run_accounts<'t, F: Front + Sync, R, K: PoolIds + Send + Sync>(
     listeners: Listeners<'_>,
     desk: &Desk<'_, 't, F, R, K>,
     workers: Vec<Share<K>>,
+    attending: Share<K>,
 ) -> bool
 where
     R: Net<Listener = TcpListener, Stream = TcpStream> + Threads + Wait + Clock + Sync,
@@ -155,7 +173,7 @@ where
                 all_are_there = all_are_there && showing.is_ok();
             }
             if all_are_there {
-                attend(rt, desk);
+                attend(rt, desk, attending);
             }
             close_doors(rt, desk, listeners);
             desk.lobby.wait_until_empty(rt);
@@ -198,6 +216,7 @@ pub(crate) fn run_threads<'t, F: Front + Sync, D: Disk + Drop + Send, R, K: Pool
     listeners: Listeners<'_>,
     desk: &Desk<'_, 't, F, R, K>,
     workers: Vec<Share<K>>,
+    attending: Share<K>,
     files: Vec<LogFile<D>>,
 ) -> Result<Vec<LogFile<D>>, StartFault>
 where
@@ -228,7 +247,7 @@ where
                     Err(_) => all_are_there = false,
                 }
             }
-            all_are_there = all_are_there && run_accounts(rt, listeners, desk, workers);
+            all_are_there = all_are_there && run_accounts(rt, listeners, desk, workers, attending);
             note_all(rt, desk.pool, desk.host);
             for keeper in desk.host.keepers {
                 keeper.bell().end(rt);

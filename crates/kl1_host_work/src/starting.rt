@@ -114,6 +114,9 @@ where
         budgets,
     } = restore_all(rt, alloc, pool, front, files, setup.codes_each, restoring)?;
     let workers = take_shares(alloc, &mut shares, setup.workers)?;
+    let Some(attending) = shares.pop() else {
+        return Err(StartFault::Memory);
+    };
     let lobby = Lobby::new(alloc, shares)?;
     let desk = Desk {
         front,
@@ -127,7 +130,7 @@ where
         limits: setup.limits,
         alloc,
     };
-    run_threads(rt, listeners, &desk, workers, files)
+    run_threads(rt, listeners, &desk, workers, attending, files)
 }
 
 /// Runs a host over the parts of a pool until its end.
@@ -202,6 +205,8 @@ where
         setup
             .workers
             .saturating_add(setup.connections)
+            // The program attends to the host with one.
+            .saturating_add(1)
             // Who waits for the next browser has one already.
             .saturating_add(usize::from(listeners.browsers.is_some()))
             // Accounts are restored with shares of their own.

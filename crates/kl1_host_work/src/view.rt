@@ -5,7 +5,7 @@ use crate::front::{Front, HostView};
 use crate::noting::note_told;
 use kl1_host_journals::Outgoing;
 use kl1_journal_entries::Journal;
-use kl1_pool::{JournalReader, PoolIds};
+use kl1_pool::{BookTotals, JournalReader, PoolIds};
 use kl1_user_events::{Extent, GoalNo, GoalView, Presence, ShoenNo, ShoenView, Usage};
 use std::alloc::AllocError;
 use std::cell::Cell;
@@ -76,6 +76,28 @@ impl<F: Front, N: Wait, R: Wait, K: PoolIds> HostView for View<'_, '_, '_, F, N,
         let usage = self.desk.pool.usage(self.rt, account)?;
         self.note(account);
         Ok(usage)
+    }
+
+    fn bytes(&self, account: usize) -> Result<u64, AllocError> {
+        if account >= self.desk.pool.accounts() {
+            return Err(AllocError);
+        }
+        let Some(bytes) = self.desk.pool.bytes(self.rt, account) else {
+            return Err(AllocError);
+        };
+        self.note(account);
+        Ok(bytes)
+    }
+
+    fn counted(&self, account: usize) -> Result<BookTotals, AllocError> {
+        if account >= self.desk.pool.accounts() {
+            return Err(AllocError);
+        }
+        let Some(totals) = self.desk.pool.counted(self.rt, account) else {
+            return Err(AllocError);
+        };
+        self.note(account);
+        Ok(totals)
     }
 
     fn shoens_from(
