@@ -15,7 +15,7 @@ use std::thread::Threads;
 use std::time::{Clock, Duration};
 
 /// How long is waited after an accept that failed, in milliseconds: too many files may be open.
-pub(crate) const PAUSE_MILLISECONDS: u64 = 20;
+const PAUSE_MILLISECONDS: u64 = 20;
 
 /// Who comes in.
 #[derive(Clone, Copy)]

@@ -13,7 +13,6 @@ use crate::running::{Listeners, run_threads};
 use crate::start_fault::StartFault;
 use kl1_atoms::AtomTable;
 use kl1_codes::CodeTable;
-use kl1_host_journals::{Bell, Scribe};
 use kl1_journal_entries::Journal;
 use kl1_log::{Disk, LogFile};
 use kl1_model::limits::MOST_ACCOUNTS;
@@ -93,7 +92,7 @@ fn called<D: Disk>(
 }
 
 /// Runs a host over a pool until its end.
-fn run_pool<'t, F: Front + Sync, D: Disk + Drop, R, K: PoolIds + Send + Sync>(
+fn run_pool<'t, F: Front + Sync, D: Disk + Drop + Send, R, K: PoolIds + Send + Sync>(
     rt: &R,
     alloc: Global,
     listeners: Listeners<'_>,
@@ -105,21 +104,20 @@ fn run_pool<'t, F: Front + Sync, D: Disk + Drop, R, K: PoolIds + Send + Sync>(
 ) -> Result<Vec<LogFile<D>>, StartFault>
 where
     R: Net<Listener = TcpListener, Stream = TcpStream> + Threads + Wait + Clock + Sync,
-    requires accounts { F.accounts front.now ≤ K.accounts }
-    requires files { vec_len files ≤ K.accounts }
+    requires { F.accounts front.now ≤ K.accounts }
 {
     let mut shares = shares;
-    let Some(first) = shares.as_mut_slice().first_mut() else {
-        return Err(StartFault::Memory);
-    };
+    let restoring = take_shares(alloc, &mut shares, files.len())?;
     let Shelf {
         files,
         keepers,
         budgets,
-    } = restore_all(rt, alloc, pool, front, files, setup.codes_each, first)?;
+    } = restore_all(rt, alloc, pool, front, files, setup.codes_each, restoring)?;
     let workers = take_shares(alloc, &mut shares, setup.workers)?;
+    let Some(attending) = shares.pop() else {
+        return Err(StartFault::Memory);
+    };
     let lobby = Lobby::new(alloc, shares)?;
-    let bell = Bell::new();
     let desk = Desk {
         front,
         pool,
@@ -127,18 +125,16 @@ where
         host: Host {
             keepers: keepers.as_slice(),
             budgets: budgets.as_slice(),
-            bell: &bell,
             syncing: setup.syncing,
         },
         limits: setup.limits,
         alloc,
     };
-    let scribe = Scribe::new(keepers.as_slice(), files);
-    run_threads(rt, listeners, &desk, workers, scribe)
+    run_threads(rt, listeners, &desk, workers, attending, files)
 }
 
 /// Runs a host over the parts of a pool until its end.
-fn run_parts<'t, F: Front + Sync, D: Disk + Drop, R, K: PoolIds + Send + Sync>(
+fn run_parts<'t, F: Front + Sync, D: Disk + Drop + Send, R, K: PoolIds + Send + Sync>(
     rt: &'t R,
     alloc: Global,
     listeners: Listeners<'_>,
@@ -153,7 +149,6 @@ where
     requires names { (parts.rules ≡ K.rules) × (parts.names ≡ K.names) }
     requires tickets { (parts.tally ≡ K.tally) × (parts.queue ≡ K.queue) × (parts.accounts ≡ K.accounts) × (parts.shares ≡ K.shares) }
     requires accounts { F.accounts front.now ≤ parts.accounts }
-    requires files { vec_len files ≤ parts.accounts }
 {
     let (pool, shares) = Pool::<R, K>::new(rt, alloc, parts)?;
     let pool = pool.bounded(setup.memory_each);
@@ -163,7 +158,7 @@ where
 }
 
 /// `run_parts` of parts that no type names yet.
-fn run_brand<'t, F: Front + Sync, D: Disk + Drop, R>(
+fn run_brand<'t, F: Front + Sync, D: Disk + Drop + Send, R>(
     rt: &'t R,
     alloc: Global,
     listeners: Listeners<'_>,
@@ -175,14 +170,13 @@ fn run_brand<'t, F: Front + Sync, D: Disk + Drop, R>(
 where
     R: Net<Listener = TcpListener, Stream = TcpStream> + Threads + Wait + Clock + Sync,
     requires accounts { F.accounts front.now ≤ parts.accounts }
-    requires files { vec_len files ≤ parts.accounts }
 {
     run_parts::<F, D, R, Brand>(rt, alloc, listeners, front, parts, files, setup)
 }
 
 /// Restores accounts from their files, and serves them to whoever `front` lets in, until that has attended to the host: then connections
 /// are ended, and what is left is written. Answers the files.
-pub fn run_host<F: Front + Sync, D: Disk + Drop, R>(
+pub fn run_host<F: Front + Sync, D: Disk + Drop + Send, R>(
     rt: &R,
     alloc: Global,
     listeners: Listeners<'_>,
@@ -211,8 +205,12 @@ where
         setup
             .workers
             .saturating_add(setup.connections)
+            // The program attends to the host with one.
+            .saturating_add(1)
             // Who waits for the next browser has one already.
-            .saturating_add(usize::from(listeners.browsers.is_some())),
+            .saturating_add(usize::from(listeners.browsers.is_some()))
+            // Accounts are restored with shares of their own.
+            .saturating_add(accounts.len()),
     )?
     .with_names(used);
     run_brand(rt, alloc, listeners, front, parts, accounts, setup)
