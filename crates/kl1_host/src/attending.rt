@@ -32,6 +32,17 @@ fn number(name: &'static [u8], number: u64) -> Number<'static> {
     Number { name, number }
 }
 
+/// Ends the sessions of browsers that made no request for too long.
+fn end_idle<R, P: Performer, V: HostView>(program: &Program<'_, R>, performer: &mut P, host: &V)
+where
+    R: Wait + Clock + Eprint + Files + RandomSource,
+{
+    // No key is tried, so it counts for no address.
+    let address = SocketAddr::V4(SocketAddrV4::new(Ipv4Addr::LOCALHOST, 0));
+    let mut accounts = program.accounts_of(address, performer, host);
+    program.service(true).end_idle(&mut accounts);
+}
+
 impl<R, P: Performer, V: HostView> Attending<'_, '_, R, P, V>
 where
     R: Wait + Clock + Eprint + Files + RandomSource,
@@ -81,20 +92,10 @@ where
 
     /// Ends the sessions of browsers that made no request for too long.
     fn tick(&mut self) {
-        let Attending {
-            program,
-            performer,
-            host,
-            last,
-        } = self;
-        let second = program.machine.seconds();
-        if second == *last {
-            return;
+        let second = self.program.machine.seconds();
+        if second != self.last {
+            self.last = second;
+            end_idle(self.program, self.performer, self.host);
         }
-        *last = second;
-        // No key is tried, so it counts for no address.
-        let address = SocketAddr::V4(SocketAddrV4::new(Ipv4Addr::LOCALHOST, 0));
-        let mut accounts = program.accounts_of(address, &mut **performer, *host);
-        program.service(true).end_idle(&mut accounts);
     }
 }
