@@ -97,9 +97,9 @@ fn wake<N: Net<Listener = TcpListener, Stream = TcpStream>>(rt: &N, listener: &T
 }
 
 /// Lets the program attend to a host, with a share for the commands that it does.
-fn attend<'t, F: Front, N: Wait, R: Wait, K: PoolIds>(
-    rt: &N,
-    desk: &Desk<'_, 't, F, R, K>,
+fn attend<'p, 't, F: Front, N: Wait, R: Wait, K: PoolIds>(
+    rt: &'p N,
+    desk: &'p Desk<'p, 't, F, R, K>,
     share: Share<K>,
 ) {
     let outgoing = Cell::new(Outgoing::new());

@@ -92,12 +92,12 @@ fn called<D: Disk>(
 }
 
 /// Runs a host over a pool until its end.
-fn run_pool<'t, F: Front + Sync, D: Disk + Drop + Send, R, K: PoolIds + Send + Sync>(
+fn run_pool<'p, 't, F: Front + Sync, D: Disk + Drop + Send, R, K: PoolIds + Send + Sync>(
     rt: &R,
     alloc: Global,
     listeners: Listeners<'_>,
-    front: &F,
-    pool: &Pool<'t, R, K>,
+    front: &'p F,
+    pool: &'p Pool<'t, R, K>,
     shares: Vec<Share<K>>,
     files: Vec<AccountFile<D>>,
     setup: Setup,
