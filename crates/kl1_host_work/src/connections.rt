@@ -76,8 +76,8 @@ fn serve_visitor<'t, F: Front, W: Wait, R: Wait, K: PoolIds>(
 {
     let mut share = share;
     match peers {
-        Peers::Clients => serve_client(rt, desk, &*stream, address, &mut share),
-        Peers::Browsers => serve_pages(rt, desk, &*stream, address, &mut share),
+        Peers::Clients => serve_client(&*rt, &*desk, &*stream, address, &mut share),
+        Peers::Browsers => serve_pages(&*rt, &*desk, &*stream, address, &mut share),
     }
     drop(stream);
     desk.lobby.give_back(rt, share);
@@ -94,6 +94,7 @@ pub(crate) fn serve_each<'t, F: Front + Sync, N, R: Wait + Sync, K: PoolIds + Se
 )
 where
     N: Net<Listener = TcpListener, Stream = TcpStream> + Threads + Wait + Clock + Sync,
+    F::Entrance: Send,
     requires { F.accounts desk.now.front.now ≤ K.accounts }
 {
     thread::scope(

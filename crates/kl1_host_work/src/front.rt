@@ -92,7 +92,7 @@ pub trait Performer {
 
 /// The program around a host: who is let in, what is told to its log, and when it stops.
 pub trait Front {
-    type Entrance: Door + Drop + Send;
+    type Entrance: Door + Drop;
 
     /// How many accounts there are.
     ghost accounts: { Self → ℕ };

@@ -104,6 +104,7 @@ fn run_pool<'p, 't, F: Front + Sync, D: Disk + Drop + Send, R, K: PoolIds + Send
 ) -> Result<Vec<LogFile<D>>, StartFault>
 where
     R: Net<Listener = TcpListener, Stream = TcpStream> + Threads + Wait + Clock + Sync,
+    F::Entrance: Send,
     requires { F.accounts front.now ≤ K.accounts }
 {
     let mut shares = shares;
@@ -118,15 +119,16 @@ where
         return Err(StartFault::Memory);
     };
     let lobby = Lobby::new(alloc, shares)?;
+    let host = Host {
+        keepers: keepers.as_slice(),
+        budgets: budgets.as_slice(),
+        syncing: setup.syncing,
+    };
     let desk = Desk {
         front,
         pool,
         lobby: &lobby,
-        host: Host {
-            keepers: keepers.as_slice(),
-            budgets: budgets.as_slice(),
-            syncing: setup.syncing,
-        },
+        host,
         limits: setup.limits,
         alloc,
     };
@@ -145,6 +147,7 @@ fn run_parts<'t, F: Front + Sync, D: Disk + Drop + Send, R, K: PoolIds + Send + 
 ) -> Result<Vec<LogFile<D>>, StartFault>
 where
     R: Net<Listener = TcpListener, Stream = TcpStream> + Threads + Wait + Clock + Sync,
+    F::Entrance: Send,
     requires tables { (parts.table ≡ K.table) × (parts.seats ≡ K.seats) × (parts.codes ≡ K.codes) }
     requires names { (parts.rules ≡ K.rules) × (parts.names ≡ K.names) }
     requires tickets { (parts.tally ≡ K.tally) × (parts.queue ≡ K.queue) × (parts.accounts ≡ K.accounts) × (parts.shares ≡ K.shares) }
@@ -169,6 +172,7 @@ fn run_brand<'t, F: Front + Sync, D: Disk + Drop + Send, R>(
 ) -> Result<Vec<LogFile<D>>, StartFault>
 where
     R: Net<Listener = TcpListener, Stream = TcpStream> + Threads + Wait + Clock + Sync,
+    F::Entrance: Send,
     requires accounts { F.accounts front.now ≤ parts.accounts }
 {
     run_parts::<F, D, R, Brand>(rt, alloc, listeners, front, parts, files, setup)
@@ -186,6 +190,7 @@ pub fn run_host<F: Front + Sync, D: Disk + Drop + Send, R>(
 ) -> Result<Vec<LogFile<D>>, StartFault>
 where
     R: Net<Listener = TcpListener, Stream = TcpStream> + Threads + Wait + Clock + Sync,
+    F::Entrance: Send,
     requires { F.accounts front.now ≤ vec_len accounts }
 {
     let names = called(alloc, accounts.as_slice())?;
