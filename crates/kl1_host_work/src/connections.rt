@@ -1,6 +1,6 @@
 // Connections without end, each in a thread of its own.
 
-ghost use Rattle.std.specs.Prelude.{◌≤◌};
+ghost use Rattle.std.specs.Prelude.{◌≡◌, ◌≤◌};
 
 use crate::connection::{serve_lines, serve_pages};
 use crate::front::{Front, HostEvent};
@@ -35,6 +35,29 @@ pub(crate) struct Desk<'d, 't, F: Front, R: Wait, K: PoolIds> {
     pub(crate) host: Host<'d>,
     pub(crate) limits: Limits,
     pub(crate) alloc: Global,
+}
+
+impl<'d, 't, F: Front, R: Wait, K: PoolIds> Desk<'d, 't, F, R, K> {
+    /// A desk of these.
+    pub(crate) fn new(
+        front: &'d F,
+        pool: &'d Pool<'t, R, K>,
+        lobby: &'d Lobby<K>,
+        host: Host<'d>,
+        limits: Limits,
+        alloc: Global,
+    ) -> Self
+        ensures { result.front.now ≡ front.now }
+    {
+        Desk {
+            front,
+            pool,
+            lobby,
+            host,
+            limits,
+            alloc,
+        }
+    }
 }
 
 /// Serves a connection of a client.

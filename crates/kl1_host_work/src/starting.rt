@@ -124,14 +124,7 @@ where
         budgets: budgets.as_slice(),
         syncing: setup.syncing,
     };
-    let desk = Desk {
-        front,
-        pool,
-        lobby: &lobby,
-        host,
-        limits: setup.limits,
-        alloc,
-    };
+    let desk = Desk::new(&*front, &*pool, &lobby, host, setup.limits, alloc);
     run_threads(rt, listeners, &desk, workers, attending, files)
 }
 
