@@ -96,12 +96,16 @@ fn wake<N: Net<Listener = TcpListener, Stream = TcpStream>>(rt: &N, listener: &T
     }
 }
 
-/// Lets the program attend to a host, with a share for the commands that it does.
-fn attend<'t, F: Front, N: Wait, R: Wait, K: PoolIds>(
-    rt: &N,
-    desk: &Desk<'_, 't, F, R, K>,
+/// Lets the program attend to a host if all its threads are there, with a share for the commands that it does.
+fn attend<'p, 't, F: Front, N: Wait, R: Wait, K: PoolIds>(
+    rt: &'p N,
+    desk: &'p Desk<'p, 't, F, R, K>,
+    all_are_there: bool,
     share: Share<K>,
 ) {
+    if !all_are_there {
+        return;
+    }
     let outgoing = Cell::new(Outgoing::new());
     let mut share = share;
     let mut performer = HostHandler {
@@ -147,6 +151,7 @@ fn run_accounts<'t, F: Front + Sync, R, K: PoolIds + Send + Sync>(
 ) -> bool
 where
     R: Net<Listener = TcpListener, Stream = TcpStream> + Threads + Wait + Clock + Sync,
+    F::Entrance: Send,
     requires { F.accounts desk.now.front.now ≤ K.accounts }
 {
     let until = Bell::new();
@@ -172,9 +177,7 @@ where
                 let showing = scope.spawn(move || serve_each(rt, browsers, Peers::Browsers, desk));
                 all_are_there = all_are_there && showing.is_ok();
             }
-            if all_are_there {
-                attend(rt, desk, attending);
-            }
+            attend(&*rt, &*desk, all_are_there, attending);
             close_doors(rt, desk, listeners);
             desk.lobby.wait_until_empty(rt);
             desk.pool.close();
@@ -221,6 +224,7 @@ pub(crate) fn run_threads<'t, F: Front + Sync, D: Disk + Drop + Send, R, K: Pool
 ) -> Result<Vec<LogFile<D>>, StartFault>
 where
     R: Net<Listener = TcpListener, Stream = TcpStream> + Threads + Wait + Clock + Sync,
+    F::Entrance: Send,
     requires { F.accounts desk.now.front.now ≤ K.accounts }
 {
     let period = desk.host.syncing.period;

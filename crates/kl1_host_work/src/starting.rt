@@ -92,18 +92,19 @@ fn called<D: Disk>(
 }
 
 /// Runs a host over a pool until its end.
-fn run_pool<'t, F: Front + Sync, D: Disk + Drop + Send, R, K: PoolIds + Send + Sync>(
+fn run_pool<'p, 't, F: Front + Sync, D: Disk + Drop + Send, R, K: PoolIds + Send + Sync>(
     rt: &R,
     alloc: Global,
     listeners: Listeners<'_>,
-    front: &F,
-    pool: &Pool<'t, R, K>,
+    front: &'p F,
+    pool: &'p Pool<'t, R, K>,
     shares: Vec<Share<K>>,
     files: Vec<AccountFile<D>>,
     setup: Setup,
 ) -> Result<Vec<LogFile<D>>, StartFault>
 where
     R: Net<Listener = TcpListener, Stream = TcpStream> + Threads + Wait + Clock + Sync,
+    F::Entrance: Send,
     requires { F.accounts front.now ≤ K.accounts }
 {
     let mut shares = shares;
@@ -118,18 +119,12 @@ where
         return Err(StartFault::Memory);
     };
     let lobby = Lobby::new(alloc, shares)?;
-    let desk = Desk {
-        front,
-        pool,
-        lobby: &lobby,
-        host: Host {
-            keepers: keepers.as_slice(),
-            budgets: budgets.as_slice(),
-            syncing: setup.syncing,
-        },
-        limits: setup.limits,
-        alloc,
+    let host = Host {
+        keepers: keepers.as_slice(),
+        budgets: budgets.as_slice(),
+        syncing: setup.syncing,
     };
+    let desk = Desk::new(&*front, &*pool, &lobby, host, setup.limits, alloc);
     run_threads(rt, listeners, &desk, workers, attending, files)
 }
 
@@ -145,6 +140,7 @@ fn run_parts<'t, F: Front + Sync, D: Disk + Drop + Send, R, K: PoolIds + Send + 
 ) -> Result<Vec<LogFile<D>>, StartFault>
 where
     R: Net<Listener = TcpListener, Stream = TcpStream> + Threads + Wait + Clock + Sync,
+    F::Entrance: Send,
     requires tables { (parts.table ≡ K.table) × (parts.seats ≡ K.seats) × (parts.codes ≡ K.codes) }
     requires names { (parts.rules ≡ K.rules) × (parts.names ≡ K.names) }
     requires tickets { (parts.tally ≡ K.tally) × (parts.queue ≡ K.queue) × (parts.accounts ≡ K.accounts) × (parts.shares ≡ K.shares) }
@@ -169,6 +165,7 @@ fn run_brand<'t, F: Front + Sync, D: Disk + Drop + Send, R>(
 ) -> Result<Vec<LogFile<D>>, StartFault>
 where
     R: Net<Listener = TcpListener, Stream = TcpStream> + Threads + Wait + Clock + Sync,
+    F::Entrance: Send,
     requires accounts { F.accounts front.now ≤ parts.accounts }
 {
     run_parts::<F, D, R, Brand>(rt, alloc, listeners, front, parts, files, setup)
@@ -186,6 +183,7 @@ pub fn run_host<F: Front + Sync, D: Disk + Drop + Send, R>(
 ) -> Result<Vec<LogFile<D>>, StartFault>
 where
     R: Net<Listener = TcpListener, Stream = TcpStream> + Threads + Wait + Clock + Sync,
+    F::Entrance: Send,
     requires { F.accounts front.now ≤ vec_len accounts }
 {
     let names = called(alloc, accounts.as_slice())?;

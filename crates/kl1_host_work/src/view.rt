@@ -47,7 +47,9 @@ impl<F: Front, N: Wait, R: Wait, K: PoolIds> View<'_, '_, '_, F, N, R, K> {
 
 impl<F: Front, N: Wait, R: Wait, K: PoolIds> HostView for View<'_, '_, '_, F, N, R, K> {
     fn is_stopped(&self, account: usize) -> bool {
-        match self.desk.host.keepers.get(account) {
+        let desk = self.desk;
+        let keepers = desk.host.keepers;
+        match keepers.get(account) {
             Some(keeper) => keeper.on_disk().is_stopped(),
             None => true,
         }
