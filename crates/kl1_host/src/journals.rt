@@ -1,6 +1,6 @@
 // The journals of a folder are opened.
 
-ghost use Rattle.std.specs.Prelude.{◌≤◌, length, vec_len, IfOk};
+ghost use Rattle.std.specs.Prelude.{◌<◌, ◌≤◌, length, vec_len, IfOk};
 
 use crate::fault::Fault;
 use crate::folder::{JOURNALS, path_in};
@@ -11,6 +11,7 @@ use kl1_host_work::AccountFile;
 use kl1_log::FolderFile;
 use kl1_pool::{AccountName, Rules};
 use kl1_session::Key;
+use std::alloc::Global;
 use std::fs::File;
 use std::rt::Files;
 use std::thread;
@@ -57,8 +58,46 @@ fn file_of<'r, R: Files<File = File> + Clock + Eprint>(
     }
 }
 
-/// Opens the files of the journals of accounts, each in a thread of its own. If some can't be opened, the fault of the first of them is
-/// told.
+/// An account whose file is to be opened, and then what became of that.
+#[derive(Drop)]
+struct Opening<'k, 'r, R: Files<File = File>> {
+    key: &'k Key,
+    file: Option<Result<AccountFile<FolderFile<&'r R>>, Fault>>,
+}
+
+/// Accounts whose files are to be opened.
+fn openings_of<'k, 'r, R: Files<File = File>>(
+    alloc: Global,
+    keys: &'k [Key],
+) -> Result<Vec<Opening<'k, 'r, R>>, Fault> {
+    let mut openings = Vec::with_capacity(alloc, keys.len())?;
+    for key in keys {
+        openings.push(Opening { key, file: None })?;
+    }
+    Ok(openings)
+}
+
+/// Opens the file of the journal of an account.
+fn open_one<'k, 'r, R: Files<File = File> + Clock + Eprint>(
+    log: &Log<'r, R>,
+    folder: &str,
+    repair: Option<&str>,
+    opening: &mut Opening<'k, 'r, R>,
+) {
+    opening.file = Some(file_of(log, folder, opening.key, repair));
+}
+
+/// How many threads open files: as many as there are processors.
+fn lanes<R: Threads>(rt: &R) -> usize
+    ensures { 0 < result }
+{
+    match thread::available_parallelism(rt) {
+        Ok(processors) => processors.get(),
+        Err(_) => 1,
+    }
+}
+
+/// Opens the files of the journals of accounts, several at the same time. If some can't be opened, the fault of the first of them is told.
 pub fn files_of<'r, R: Files<File = File> + Clock + Eprint + Threads + Sync>(
     log: &Log<'r, R>,
     folder: &str,
@@ -67,20 +106,19 @@ pub fn files_of<'r, R: Files<File = File> + Clock + Eprint + Threads + Sync>(
 ) -> Result<Vec<AccountFile<FolderFile<&'r R>>>, Fault>
     ensures { IfOk result (λ files. length keys.now ≤ vec_len files) }
 {
-    let opened = thread::map_indices(
+    let mut openings = openings_of(log.alloc, keys)?;
+    thread::for_each_mut(
         log.rt,
-        log.alloc,
-        keys.len(),
-        &|account: usize| {
-            match keys.get(account) {
-                Some(key) => file_of(log, folder, key, repair),
-                None => Err(Fault::Memory),
-            }
-        },
-    )?;
-    let mut files = Vec::with_capacity(log.alloc, opened.len())?;
-    for file in opened {
-        files.push(file?)?;
+        openings.as_mut_slice(),
+        lanes(log.rt),
+        &|_place: usize, opening: &mut Opening<'_, 'r, R>| open_one(log, folder, repair, opening),
+    );
+    let mut files = Vec::with_capacity(log.alloc, openings.len())?;
+    for opening in openings {
+        match opening.file {
+            Some(file) => files.push(file?)?,
+            None => return Err(Fault::Memory),
+        }
     }
     // There is one for each, but no clause says so.
     if keys.len() > files.len() {
