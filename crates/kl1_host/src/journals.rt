@@ -8,7 +8,7 @@ use crate::log::Log;
 use crate::start_words::open_fault;
 use kl1_host_journals::open_in_folder;
 use kl1_host_work::AccountFile;
-use kl1_log::FolderFile;
+use kl1_log::{Disk, FolderFile};
 use kl1_pool::{AccountName, Rules};
 use kl1_session::Key;
 use std::alloc::Global;
@@ -60,16 +60,16 @@ fn file_of<'r, R: Files<File = File> + Clock + Eprint>(
 
 /// An account whose file is to be opened, and then what became of that.
 #[derive(Drop)]
-struct Opening<'k, 'r, R: Files<File = File>> {
+struct Opening<'k, D: Disk> {
     key: &'k Key,
-    file: Option<Result<AccountFile<FolderFile<&'r R>>, Fault>>,
+    file: Option<Result<AccountFile<D>, Fault>>,
 }
 
 /// Accounts whose files are to be opened.
-fn openings_of<'k, 'r, R: Files<File = File>>(
+fn openings_of<'k, D: Disk + Drop>(
     alloc: Global,
     keys: &'k [Key],
-) -> Result<Vec<Opening<'k, 'r, R>>, Fault> {
+) -> Result<Vec<Opening<'k, D>>, Fault> {
     let mut openings = Vec::with_capacity(alloc, keys.len())?;
     for key in keys {
         openings.push(Opening { key, file: None })?;
@@ -78,11 +78,11 @@ fn openings_of<'k, 'r, R: Files<File = File>>(
 }
 
 /// Opens the file of the journal of an account.
-fn open_one<'k, 'r, R: Files<File = File> + Clock + Eprint>(
+fn open_one<'r, R: Files<File = File> + Clock + Eprint>(
     log: &Log<'r, R>,
     folder: &str,
     repair: Option<&str>,
-    opening: &mut Opening<'k, 'r, R>,
+    opening: &mut Opening<'_, FolderFile<&'r R>>,
 ) {
     opening.file = Some(file_of(log, folder, opening.key, repair));
 }
@@ -111,7 +111,9 @@ pub fn files_of<'r, R: Files<File = File> + Clock + Eprint + Threads + Sync>(
         log.rt,
         openings.as_mut_slice(),
         lanes(log.rt),
-        &|_place: usize, opening: &mut Opening<'_, 'r, R>| open_one(log, folder, repair, opening),
+        &|_place: usize, opening: &mut Opening<'_, FolderFile<&R>>| open_one(
+            log, folder, repair, opening,
+        ),
     );
     let mut files = Vec::with_capacity(log.alloc, openings.len())?;
     for opening in openings {
