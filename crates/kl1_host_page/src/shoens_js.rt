@@ -68,7 +68,7 @@ function line(shoen) {
   );
   // Charges and allowances come as texts, since they may be greater than a number here is exact.
   const allowance = shoen.allowance === MOST ? "" : ` of ${BigInt(shoen.allowance).toLocaleString("en")}`;
-  const used = `${BigInt(shoen.charged).toLocaleString("en")}${allowance} reductions, ${shoen.alive.toLocaleString("en")} goals`;
+  const used = `${BigInt(shoen.charged).toLocaleString("en")}${allowance} reductions, ${shoen.alive.toLocaleString("en")} ${shoen.alive === 1 ? "goal" : "goals"}`;
   return make(
     "div",
     { class: "shoen" },
