@@ -6,48 +6,62 @@ use Rattle.std.specs.Io.KnownBytes.{Consumes}
 use Rattle.kl1_host_door.specs.declared.refusal.Refusal.{Refusal}
 use Rattle.kl1_host_door.specs.declared.refusal.Refusal.TheVariants as refusal
 use Rattle.kl1_host_door.specs.declared.answer.Answer.{Answer}
+use Rattle.kl1_host_door.specs.declared.answer.Cookie.TheVariants as cookie
 use Rattle.kl1_host_door.specs.declared.session.WebSession.{WebSession}
 use Rattle.kl1_host_door.specs.declared.door.Site.{Site}
 use Rattle.kl1_host_door.specs.declared.door.Allowed.{Allowed}
 use Rattle.kl1_host_door.specs.declared.head.Head.{Head}
 use Rattle.kl1_host_door.specs.Bodies.{body_bytes}
 use Rattle.kl1_host_door.specs.Doors.{authorized}
-use Rattle.kl1_host_web.specs.Asking.{Asked, House}
+use Rattle.kl1_model.specs.Event as event
+use Rattle.kl1_model_server.specs.Command.{does}
+use Rattle.kl1_command.specs.declared.performed.Performed.{Performed}
+use Rattle.kl1_host_web.specs.Asking.{Asked, did, House}
 use Rattle.kl1_host_web.specs.Wishes.{wish_view, wanted, IsWish}
 use Rattle.kl1_host_web.specs.Telling.{Grants, IsRefusal}
-use Rattle.kl1_host_web.specs.Serving.{Closes, Ends, Performs, Fails, is_within, AnswersWithin, Answers, Attends, Exchange, IsNext, Exchanges, Serves, Steps, HasHead, HasNoBody, HasBody}
+use Rattle.kl1_host_web.specs.Serving.{Closes, is_set, Begins, Begun, Ends, Performs, Fails, is_within, AnswersWithin, Answers, Attends, Exchange, IsNext, Exchanges, Serves, Steps, HasHead, HasNoBody, HasBody}
 use Rattle.kl1_host_web.specs.declared.wish.Wish.{Wish}
 use Rattle.kl1_host_web.specs.declared.outcome.Outcome.{Outcome}
 use Rattle.kl1_host_web.proofs.Coming.{consumes_both, consumed_front}
 
+-- the session of an account was closed again, and the answer refuses
+pub begun_refused : (account : ℕ) (before after : List Asked) (answer : Performed) (why : Refusal) (result : Result Answer AllocError) → after ≡ before ++ did account (does event.logout) answer ∷ [] → IfOk result (IsRefusal why) → Begun account before after result
+begun_refused account before after answer why (Ok told) e h = subst (λ x. Begins (is_set x) account before after) (sym h.cookie) (answer, e)
+begun_refused account before after answer why (Err error) e h = (false, (answer, e))
+
+-- the session of a browser is there, and the answer sets its cookie
+pub begun_told : (account : ℕ) (before after : List Asked) (id : List ℕ) (result : Result Answer AllocError) → after ≡ before → IfOk result (λ answer. answer.cookie ≡ cookie.Set id) → Begun account before after result
+begun_told account before after id (Ok told) e h = subst (λ x. Begins (is_set x) account before after) (sym h) e
+begun_told account before after id (Err error) e h = (true, e)
+
 -- a wish was granted, and what was still to do was done
-pub performs : (house : House) (a : Allowed) (body : List ℕ) (w : Wish) (before middle after : List Asked) (o : Result Outcome AllocError) (result : Result Answer AllocError) → IsWish a body w → Grants house (wish_view w) before middle o → Ends o middle after result → Performs house a body before after result
-performs house a body w before middle after o result wish grants ends = record {
+pub performs : (house : House) (a : Allowed) (path body : List ℕ) (w : Wish) (before middle after : List Asked) (o : Result Outcome AllocError) (result : Result Answer AllocError) → IsWish a body w → Grants house path (wish_view w) before middle o → Ends o middle after result → Performs house a path body before after result
+performs house a path body w before middle after o result wish grants ends = record {
   value = wish.0;
   reads = wish.1;
   outcome = o;
   middle = middle;
-  grants = subst (λ x. Grants house x before middle o) wish.2 grants;
+  grants = subst (λ x. Grants house path x before middle o) wish.2 grants;
   ends = ends;
 }
 
 -- what is known of a request to an account that there is
-pub within : (house : House) (a : Allowed) (body : List ℕ) (before after : List Asked) (result : Result Answer AllocError) (v : Bool) → v ≡ true → Performs house a body before after result → AnswersWithin v house a body before after result
-within house a body before after result v e p = subst (λ x. AnswersWithin x house a body before after result) (sym e) (inr p)
+pub within : (house : House) (a : Allowed) (path body : List ℕ) (before after : List Asked) (result : Result Answer AllocError) (v : Bool) → v ≡ true → Performs house a path body before after result → AnswersWithin v house a path body before after result
+within house a path body before after result v e p = subst (λ x. AnswersWithin x house a path body before after result) (sym e) (inr p)
 
-pub fails : (house : House) (a : Allowed) (body : List ℕ) (before after : List Asked) (result : Result Answer AllocError) (v : Bool) → v ≡ true → after ≡ before → IsErr result → AnswersWithin v house a body before after result
-fails house a body before after result v e same err = subst (λ x. AnswersWithin x house a body before after result) (sym e) (inl (record { asked = same; fails = err }))
+pub fails : (house : House) (a : Allowed) (path body : List ℕ) (before after : List Asked) (result : Result Answer AllocError) (v : Bool) → v ≡ true → after ≡ before → IsErr result → AnswersWithin v house a path body before after result
+fails house a path body before after result v e same err = subst (λ x. AnswersWithin x house a path body before after result) (sym e) (inl (record { asked = same; fails = err }))
 
-pub denied : (house : House) (a : Allowed) (body : List ℕ) (before after : List Asked) (result : Result Answer AllocError) (v : Bool) → v ≡ false → after ≡ before → IfOk result (IsRefusal refusal.Nobody) → AnswersWithin v house a body before after result
-denied house a body before after result v e same why = subst (λ x. AnswersWithin x house a body before after result) (sym e) (record { asked = same; refusal = why })
+pub denied : (house : House) (a : Allowed) (path body : List ℕ) (before after : List Asked) (result : Result Answer AllocError) (v : Bool) → v ≡ false → after ≡ before → IfOk result (IsRefusal refusal.Nobody) → AnswersWithin v house a path body before after result
+denied house a path body before after result v e same why = subst (λ x. AnswersWithin x house a path body before after result) (sym e) (record { asked = same; refusal = why })
 
 -- a request was attended to by sessions that were open
-pub attended : (house : House) (sites : List Site) (is_local : Bool) (head : Head) (body : List ℕ) (before middle after : List Asked) (result : Result Answer AllocError) (sessions : List WebSession) (r : Result Allowed Refusal) → r ≡ authorized head sessions sites is_local → Closes before middle → Answers house r body middle after result → Attends house sites is_local head body before after result
+pub attended : (house : House) (sites : List Site) (is_local : Bool) (head : Head) (body : List ℕ) (before middle after : List Asked) (result : Result Answer AllocError) (sessions : List WebSession) (r : Result Allowed Refusal) → r ≡ authorized head sessions sites is_local → Closes before middle → Answers house r head.target.items body middle after result → Attends house sites is_local head body before after result
 attended house sites is_local head body before middle after result sessions r e closes answers = record {
   middle = middle;
   idle = closes;
   sessions = sessions;
-  answers = subst (λ x. Answers house x body middle after result) e answers;
+  answers = subst (λ x. Answers house x head.target.items body middle after result) e answers;
 }
 
 -- a head and a body that came in one after the other are a request, which was attended to

@@ -1,15 +1,18 @@
 -- Of which account something is wanted.
-use Rattle.std.proofs.Common.{◌≡◌, ◌<◌, ℕ, nat_lt, Bool, true, false, if◌then◌else◌, List, codes, Option, Some, None, refl, ap, sym, subst, ◌∙◌, arith}
+use Rattle.std.proofs.Common.{◌≡◌, ◌<◌, ℕ, nat_lt, Bool, true, false, if◌then◌else◌, List, codes, Option, Some, None, Result, Ok, Err, IfOk, refl, ap, sym, subst, ◌∙◌, arith}
 use Rattle.serde_json.specs.declared.value.Value.{Value}
 use Rattle.kl1_model_server.specs.Command.{Command, parse}
 use Rattle.kl1_host_door.specs.declared.refusal.Refusal.TheVariants.{BadBody}
 use Rattle.kl1_host_door.specs.declared.ask.Ask.{Ask}
 use Rattle.kl1_host_door.specs.declared.ask.Ask.TheVariants as ask
+use Rattle.std.specs.declared.alloc.AllocError.{AllocError}
+use Rattle.kl1_host_door.specs.declared.answer.Answer.{Answer}
+use Rattle.kl1_host_door.specs.declared.answer.Content.{Content}
 use Rattle.kl1_host_door.specs.declared.session.WebSession.{WebSession}
 use Rattle.kl1_host_door.specs.declared.door.Allowed.{Allowed}
 use Rattle.kl1_host_door.specs.declared.door.Allowed.TheVariants as allowed
 use Rattle.kl1_host_web.specs.Wishes.{Wanted, refuse, syntax, enter, do_to, load_into, wish_view, text_in, login_in, is_plain, plain, command_in, load_in, owned, anyone, wanted, IsWish}
-use Rattle.kl1_host_web.specs.Telling.{IsOfOne, IsTold, IsClosed, IsOpenedIn, Refuses}
+use Rattle.kl1_host_web.specs.Telling.{IsOfOne, IsTold, IsClosed, IsOpenedIn, Refuses, IsRefusal, KeepsCookie, IsFile, IsPage, ShowsAll, IsShown}
 use Rattle.kl1_host_web.specs.Serving.{is_within}
 use Rattle.kl1_host_web.specs.declared.wish.Wish.{Wish}
 use Rattle.kl1_host_web.specs.declared.outcome.Outcome.{Outcome}
@@ -87,6 +90,38 @@ pub refused_opens : (n : ℕ) (why : Refusal) (o : Outcome) → Refuses why o �
 refused_opens n why (outcome.Told answer) t = tt
 refused_opens n why (outcome.Opens account) t = absurd t
 refused_opens n why (outcome.Closes answer) t = tt
+
+pub shown_opens : (n : ℕ) (a : Ask) (path : List ℕ) (o : Outcome) → IsShown a path o → IsOpenedIn n o
+shown_opens n a path (outcome.Told answer) t = tt
+shown_opens n a path (outcome.Opens account) t = absurd t
+shown_opens n a path (outcome.Closes answer) t = tt
+
+-- ---- what there is at a path
+
+pub page_is : (o p : Option (Content × List ℕ)) (result : Result Answer AllocError) → o ≡ p → IfOk result (IsPage o) → IfOk result (IsPage p)
+page_is o p result e h = subst (λ x. IfOk result (IsPage x)) e h
+
+pub refusal_keeps : (why : Refusal) (result : Result Answer AllocError) → IfOk result (IsRefusal why) → IfOk result KeepsCookie
+refusal_keeps why (Ok answer) h = h.cookie
+refusal_keeps why (Err e) h = tt
+
+pub text_keeps : (content : Content) (text : List ℕ) (result : Result Answer AllocError) → IfOk result (IsFile content text) → IfOk result KeepsCookie
+text_keeps content text (Ok answer) h = h.cookie
+text_keeps content text (Err e) h = tt
+
+-- what is no file keeps the cookie
+pub no_file : (a : Ask) (path : List ℕ) (result : Result Answer AllocError) → (a ≡ ask.File → ⊥) → IfOk result KeepsCookie → IfOk result (ShowsAll a path)
+no_file ask.File path result other h = absurd (other refl)
+no_file ask.Login path result other h = h
+no_file ask.Session path result other h = h
+no_file ask.Logout path result other h = h
+no_file ask.Command path result other h = h
+no_file ask.Load path result other h = h
+no_file ask.Account path result other h = h
+no_file (ask.Shoens from) path result other h = h
+no_file ask.Waiting path result other h = h
+no_file ask.Metrics path result other h = h
+no_file ask.Health path result other h = h
 
 -- ---- what a line and a text want
 

@@ -61,12 +61,12 @@ Ends (Ok (outcome.Opens account)) before after result = Begun account before aft
 Ends (Ok (outcome.Closes answer)) before after result = (after ≡ before) × (result ≡ Ok answer)
 
 -- what a request wants by its body was granted, and it was answered so
-pub record Performs (house : House) (a : Allowed) (body : List ℕ) (before after : List Asked) (result : Result Answer AllocError) : Type 0 where
+pub record Performs (house : House) (a : Allowed) (path body : List ℕ) (before after : List Asked) (result : Result Answer AllocError) : Type 0 where
   pub value : Option Value
   pub reads : IsRead body value
   pub outcome : Result Outcome AllocError
   pub middle : List Asked
-  pub grants : Grants house (wanted a value) before middle outcome
+  pub grants : Grants house path (wanted a value) before middle outcome
   pub ends : Ends outcome middle after result
 
 -- memory was refused before anything was asked
@@ -84,15 +84,15 @@ abbrev pub is_within : ℕ → Allowed → Bool
 is_within n (allowed.Anyone a) = true
 is_within n (allowed.Owner session a) = nat_lt session.account n
 
--- what comes of a request that is let in, to an account that there is or isn't
-abbrev pub AnswersWithin : Bool → House → Allowed → List ℕ → List Asked → List Asked → Result Answer AllocError → Type 0
-AnswersWithin true house a body before after result = Fails before after result ⊎ Performs house a body before after result
-AnswersWithin false house a body before after result = Denies refusal.Nobody before after result
+-- what comes of a request for a path that is let in, to an account that there is or isn't
+abbrev pub AnswersWithin : Bool → House → Allowed → List ℕ → List ℕ → List Asked → List Asked → Result Answer AllocError → Type 0
+AnswersWithin true house a path body before after result = Fails before after result ⊎ Performs house a path body before after result
+AnswersWithin false house a path body before after result = Denies refusal.Nobody before after result
 
--- what comes of a request that may have this
-abbrev pub Answers : House → Result Allowed Refusal → List ℕ → List Asked → List Asked → Result Answer AllocError → Type 0
-Answers house (Err why) body before after result = Denies why before after result
-Answers house (Ok a) body before after result = AnswersWithin (is_within house.accounts a) house a body before after result
+-- what comes of a request for a path that may have this
+abbrev pub Answers : House → Result Allowed Refusal → List ℕ → List ℕ → List Asked → List Asked → Result Answer AllocError → Type 0
+Answers house (Err why) path body before after result = Denies why before after result
+Answers house (Ok a) path body before after result = AnswersWithin (is_within house.accounts a) house a path body before after result
 
 -- ---- what comes in
 
@@ -161,7 +161,7 @@ pub record Attends (house : House) (sites : List Site) (is_local : Bool) (head :
   pub middle : List Asked
   pub idle : Closes before middle
   pub sessions : List WebSession
-  pub answers : Answers house (authorized head sessions sites is_local) body middle after result
+  pub answers : Answers house (authorized head sessions sites is_local) head.target.items body middle after result
 
 -- the next request was read and attended to
 pub record Exchanges (house : House) (sites : List Site) (is_local : Bool) (x : Exchange) (old new : Option (List ℕ)) (before after : List Asked) : Type 0 where

@@ -10,8 +10,11 @@ use Rattle.kl1_host_door.specs.declared.ask.Ask.TheVariants as ask
 use Rattle.kl1_host_door.specs.declared.refusal.Refusal.{Refusal}
 use Rattle.kl1_host_door.specs.declared.refusal.Refusal.TheVariants as refusal
 use Rattle.kl1_host_door.specs.declared.answer.Answer.{Answer}
-use Rattle.kl1_host_door.specs.declared.answer.Cookie.TheVariants.{Kept}
+use Rattle.kl1_host_door.specs.declared.answer.Content.{Content}
+use Rattle.kl1_host_door.specs.declared.answer.Cookie.TheVariants.{Kept, Cleared}
+use Rattle.kl1_host_door.specs.declared.status.Status.TheVariants.{Good}
 use Rattle.kl1_host_door.specs.Refusals.{status_of}
+use Rattle.kl1_host_page.specs.Files.{file_at}
 use Rattle.kl1_host_web.specs.Asking.{Asked, did, looked, House}
 use Rattle.kl1_host_web.specs.Wishes.{Wanted, refuse, syntax, enter, leave, do_to, load_into, tell, show_of, show_all}
 use Rattle.kl1_host_web.specs.declared.outcome.Outcome.{Outcome}
@@ -22,9 +25,13 @@ pub record IsRefusal (why : Refusal) (answer : Answer) : Type 0 where
   pub status : answer.status ≡ status_of why
   pub cookie : answer.cookie ≡ Kept
 
--- an outcome is an answer alone: no session of a browser begins or ends
+-- an answer leaves the cookie of a browser as it is
+abbrev pub KeepsCookie : Answer → Type 0
+KeepsCookie answer = answer.cookie ≡ Kept
+
+-- an outcome is an answer alone: no session of a browser begins or ends, and its cookie stays
 abbrev pub IsTold : Outcome → Type 0
-IsTold (outcome.Told answer) = ⊤
+IsTold (outcome.Told answer) = KeepsCookie answer
 IsTold (outcome.Opens account) = ⊥
 IsTold (outcome.Closes answer) = ⊥
 
@@ -40,11 +47,34 @@ IsOpenedIn n (outcome.Told answer) = ⊤
 IsOpenedIn n (outcome.Opens account) = account < n
 IsOpenedIn n (outcome.Closes answer) = ⊤
 
--- an outcome is that the session of a browser ends
+-- an outcome is that the session of a browser ends, and with it its cookie
 abbrev pub IsClosed : Outcome → Type 0
 IsClosed (outcome.Told answer) = ⊥
 IsClosed (outcome.Opens account) = ⊥
-IsClosed (outcome.Closes answer) = ⊤
+IsClosed (outcome.Closes answer) = answer.cookie ≡ Cleared
+
+-- an answer is a file of the page: what its bytes are, and its bytes
+pub record IsFile (content : Content) (text : List ℕ) (answer : Answer) : Type 0 where
+  pub status : answer.status ≡ Good
+  pub content_is : answer.content ≡ content
+  pub cookie : KeepsCookie answer
+  pub text_is : answer.body.items ≡ text
+
+-- an answer is what there is at a path: a file, or that there is none
+abbrev pub IsPage : Option (Content × List ℕ) → Answer → Type 0
+IsPage None answer = IsRefusal refusal.NoPage answer
+IsPage (Some file) answer = IsFile file.0 file.1 answer
+
+-- an answer shows what is of no account, at this path
+abbrev pub ShowsAll : Ask → List ℕ → Answer → Type 0
+ShowsAll ask.File path answer = IsPage (file_at path) answer
+ShowsAll a path answer = KeepsCookie answer
+
+-- an outcome is an answer that shows what is of no account, at this path
+abbrev pub IsShown : Ask → List ℕ → Outcome → Type 0
+IsShown a path (outcome.Told answer) = ShowsAll a path answer
+IsShown a path (outcome.Opens account) = ⊥
+IsShown a path (outcome.Closes answer) = ⊥
 
 -- a login was answered, by `welcome` or not: the session of a browser begins only after `welcome`
 abbrev pub Enters : Bool → ℕ → Outcome → Type 0
@@ -70,21 +100,21 @@ Shows account ask.Account before after =
     × (after ≡ before ++ did account (does (event.read is_quiet)) first ∷ did account (does (event.read modules)) second ∷ looked account ∷ [])
 Shows account a before after = after ≡ before ++ looked account ∷ []
 
--- what becomes of what is wanted: what is asked of accounts, in order, and how it ends. Only the account that is named is asked, and
--- no other; after an `Err`, by which memory was refused, the same was asked.
-abbrev pub Grants : {E : Type 0} → House → Wanted → List Asked → List Asked → Result Outcome E → Type 0
-Grants house (refuse why) before after result = (after ≡ before) × IfOk result (Refuses why)
-Grants house syntax before after result = (after ≡ before) × IfOk result IsTold
-Grants house (enter name key) before after result = Entered (house.opens name key) before after result
-Grants house (leave account) before after result =
+-- what becomes of what is wanted at a path: what is asked of accounts, in order, and how it ends. Only the account that is named is
+-- asked, and no other; after an `Err`, by which memory was refused, the same was asked.
+abbrev pub Grants : {E : Type 0} → House → List ℕ → Wanted → List Asked → List Asked → Result Outcome E → Type 0
+Grants house path (refuse why) before after result = (after ≡ before) × IfOk result (Refuses why)
+Grants house path syntax before after result = (after ≡ before) × IfOk result IsTold
+Grants house path (enter name key) before after result = Entered (house.opens name key) before after result
+Grants house path (leave account) before after result =
     (answer : Performed) × (after ≡ before ++ did account (does event.logout) answer ∷ []) × IfOk result (Leaves (is_bye answer))
-Grants house (do_to account command) before after result =
+Grants house path (do_to account command) before after result =
     (answer : Performed) × (after ≡ before ++ did account command answer ∷ []) × IfOk result IsTold
-Grants house (load_into account source) before after result =
+Grants house path (load_into account source) before after result =
     (answer : Performed) × (after ≡ before ++ did account (does (event.load source)) answer ∷ []) × IfOk result IsTold
-Grants house (tell session) before after result = (after ≡ before) × IfOk result IsTold
-Grants house (show_of account a) before after result = Shows account a before after × IfOk result IsTold
-Grants house (show_all a) before after result = (after ≡ before) × IfOk result IsTold
+Grants house path (tell session) before after result = (after ≡ before) × IfOk result IsTold
+Grants house path (show_of account a) before after result = Shows account a before after × IfOk result IsTold
+Grants house path (show_all a) before after result = (after ≡ before) × IfOk result (IsShown a path)
 
 -- the account of what is wanted, if it is of one, is one of n
 abbrev pub IsOfOne : ℕ → Wanted → Type 0

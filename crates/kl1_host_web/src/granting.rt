@@ -1,10 +1,10 @@
 // What is done for a request that is let in.
 
-ghost use Rattle.std.specs.Prelude.{◌≡◌, ◌<◌, IfOk};
+ghost use Rattle.std.specs.Prelude.{◌≡◌, ◌<◌, [], IfOk};
 ghost use Rattle.kl1_command.specs.Commands.{command_view};
 ghost use Rattle.kl1_session.specs.Conversations.{is_welcome, is_bye};
 ghost use Rattle.kl1_host_web.specs.Wishes.{wish_view, enter, leave, do_to, load_into, show_of};
-ghost use Rattle.kl1_host_web.specs.Telling.{Grants, Entered, Shows, IsOfOne, IsTold, IsOpenedIn, Refuses, Enters, Leaves};
+ghost use Rattle.kl1_host_web.specs.Telling.{KeepsCookie, Grants, Entered, Shows, IsOfOne, IsTold, IsOpenedIn, Refuses, Enters, Leaves};
 
 use crate::accounts::Accounts;
 use crate::json::{refused, told_command, told_load, told_session, told_syntax};
@@ -18,6 +18,7 @@ use std::alloc::{AllocError, Global};
 
 /// An answer, if memory was there for it.
 fn told(answer: Result<Answer, AllocError>) -> Result<Outcome, AllocError>
+    requires { IfOk answer KeepsCookie }
     ensures { IfOk result IsTold }
 {
     Ok(Outcome::Told(answer?))
@@ -77,7 +78,7 @@ fn leave<A: Accounts>(
     requires { account < (A.house accounts.old).accounts }
     ensures house { A.house accounts.new ≡ A.house accounts.old }
     ensures within { IfOk result (IsOpenedIn (A.house accounts.old).accounts) }
-    ensures grants { Grants (A.house accounts.old) (leave account) (A.asked accounts.old) (A.asked accounts.new) result }
+    ensures grants { Grants (A.house accounts.old) [] (leave account) (A.asked accounts.old) (A.asked accounts.new) result }
 {
     let performed = accounts.act(account, &Command::Does(Event::Logout));
     if is_bye(&performed) {
@@ -98,7 +99,7 @@ fn perform<A: Accounts>(
     requires { account < (A.house accounts.old).accounts }
     ensures house { A.house accounts.new ≡ A.house accounts.old }
     ensures within { IfOk result (IsOpenedIn (A.house accounts.old).accounts) }
-    ensures grants { Grants (A.house accounts.old) (do_to account (command_view command.now)) (A.asked accounts.old) (A.asked accounts.new) result }
+    ensures grants { Grants (A.house accounts.old) [] (do_to account (command_view command.now)) (A.asked accounts.old) (A.asked accounts.new) result }
 {
     let performed = accounts.act(account, command);
     told(told_command(alloc, &performed, Cookie::Kept))
@@ -115,7 +116,7 @@ fn load<A: Accounts>(
     requires { account < (A.house accounts.old).accounts }
     ensures house { A.house accounts.new ≡ A.house accounts.old }
     ensures within { IfOk result (IsOpenedIn (A.house accounts.old).accounts) }
-    ensures grants { Grants (A.house accounts.old) (load_into account source.items) (A.asked accounts.old) (A.asked accounts.new) result }
+    ensures grants { Grants (A.house accounts.old) [] (load_into account source.items) (A.asked accounts.old) (A.asked accounts.new) result }
 {
     let command = Command::Does(Event::Load { source });
     let performed = accounts.act(account, &command);
@@ -138,7 +139,7 @@ fn show<A: Accounts>(
     requires { account < (A.house accounts.old).accounts }
     ensures house { A.house accounts.new ≡ A.house accounts.old }
     ensures within { IfOk result (IsOpenedIn (A.house accounts.old).accounts) }
-    ensures grants { Grants (A.house accounts.old) (show_of account ask) (A.asked accounts.old) (A.asked accounts.new) result }
+    ensures grants { Grants (A.house accounts.old) [] (show_of account ask) (A.asked accounts.old) (A.asked accounts.new) result }
 {
     match ask {
         Ask::Account => {
@@ -175,7 +176,7 @@ pub fn grant<A: Accounts>(
     requires { IsOfOne (A.house accounts.old).accounts (wish_view wish) }
     ensures house { A.house accounts.new ≡ A.house accounts.old }
     ensures within { IfOk result (IsOpenedIn (A.house accounts.old).accounts) }
-    ensures grants { Grants (A.house accounts.old) (wish_view wish) (A.asked accounts.old) (A.asked accounts.new) result }
+    ensures grants { Grants (A.house accounts.old) target.now (wish_view wish) (A.asked accounts.old) (A.asked accounts.new) result }
 {
     match wish {
         Wish::Refuse(refusal) => refuse(alloc, refusal),
@@ -186,6 +187,6 @@ pub fn grant<A: Accounts>(
         Wish::Load { account, source } => load(alloc, accounts, account, source),
         Wish::Tell(session) => told(told_session(alloc, accounts, &session, Cookie::Kept)),
         Wish::Show { account, ask } => show(alloc, accounts, account, ask),
-        Wish::Open(ask) => told(open_page(alloc, accounts, ask, target)),
+        Wish::Open(ask) => Ok(Outcome::Told(open_page(alloc, accounts, ask, target)?)),
     }
 }

@@ -2,7 +2,7 @@
 
 ghost use Rattle.std.specs.Prelude.{◌≡◌, ◌<◌, ◌++◌, OnOk, IfOk};
 ghost use Rattle.kl1_session.specs.Replies.{told};
-ghost use Rattle.kl1_host_web.specs.Telling.{IsRefusal};
+ghost use Rattle.kl1_host_web.specs.Telling.{IsRefusal, KeepsCookie};
 
 use crate::accounts::Accounts;
 use kl1_command::{Performed, put_reply};
@@ -115,7 +115,9 @@ pub(crate) fn told_session<A: Accounts>(
 }
 
 /// The answer to a line that is no command.
-pub(crate) fn told_syntax(alloc: Global) -> Result<Answer, AllocError> {
+pub(crate) fn told_syntax(alloc: Global) -> Result<Answer, AllocError>
+    ensures { IfOk result KeepsCookie }
+{
     let value = json!(in alloc; {"reply": ["- 1 syntax"]})?;
     told_value(alloc, Status::Good, Cookie::Kept, &value)
 }
@@ -160,7 +162,9 @@ pub(crate) fn told_load(
     alloc: Global,
     performed: &Performed,
     source: &[u8],
-) -> Result<Answer, AllocError> {
+) -> Result<Answer, AllocError>
+    ensures { IfOk result KeepsCookie }
+{
     let reply = reply_value(alloc, performed)?;
     let reasons = reasons_value(alloc, source)?;
     let value = json!(in alloc; {"reply": reply, "reasons": reasons})?;

@@ -1,5 +1,9 @@
 // What an account shows, and what the host has done, as answers.
 
+ghost use Rattle.std.specs.Prelude.{IfOk};
+ghost use Rattle.kl1_host_page.specs.Files.{file_at};
+ghost use Rattle.kl1_host_web.specs.Telling.{KeepsCookie, IsFile, IsPage, ShowsAll};
+
 use crate::accounts::{Accounts, Stop, Viewer};
 use crate::json::{refused, text_value, told_value};
 use crate::metrics::put_metrics;
@@ -85,7 +89,9 @@ pub(crate) fn account_page<V: Viewer>(
     name: &[u8],
     quiet: &Performed,
     modules: &Performed,
-) -> Result<Answer, AllocError> {
+) -> Result<Answer, AllocError>
+    ensures { IfOk result KeepsCookie }
+{
     let name = text_value(alloc, name)?;
     let quiet = matches!(quiet, Performed::Whole(Reply::Quiet(true)));
     let usage = viewer.usage()?;
@@ -148,7 +154,9 @@ pub(crate) fn shoens_page<V: Viewer>(
     alloc: Global,
     viewer: &mut V,
     from: u64,
-) -> Result<Answer, AllocError> {
+) -> Result<Answer, AllocError>
+    ensures { IfOk result KeepsCookie }
+{
     let views = viewer.shoens_from(ShoenNo(from), SHOENS_A_PAGE + 1)?;
     let mut shoens = Vec::new(alloc);
     for view in views.iter().take(SHOENS_A_PAGE) {
@@ -164,13 +172,17 @@ pub(crate) fn shoens_page<V: Viewer>(
 }
 
 /// The goals that wait.
-pub(crate) fn waiting_page<V: Viewer>(alloc: Global, viewer: &mut V) -> Result<Answer, AllocError> {
+pub(crate) fn waiting_page<V: Viewer>(alloc: Global, viewer: &mut V) -> Result<Answer, AllocError>
+    ensures { IfOk result KeepsCookie }
+{
     let value = waiting_value(alloc, viewer)?;
     told_value(alloc, Status::Good, Cookie::Kept, &value)
 }
 
 /// A text as an answer.
-fn told_text(alloc: Global, content: Content, text: &[u8]) -> Result<Answer, AllocError> {
+fn told_text(alloc: Global, content: Content, text: &[u8]) -> Result<Answer, AllocError>
+    ensures { IfOk result (IsFile content text.now) }
+{
     Ok(Answer {
         status: Status::Good,
         content,
@@ -180,7 +192,10 @@ fn told_text(alloc: Global, content: Content, text: &[u8]) -> Result<Answer, All
 }
 
 /// The file of the page at a path.
-fn file_page(alloc: Global, path: &[u8]) -> Result<Answer, AllocError> {
+#[tactic(auto, using(crate::proofs::Wanting::page_is))]
+fn file_page(alloc: Global, path: &[u8]) -> Result<Answer, AllocError>
+    ensures { IfOk result (IsPage (file_at path.now)) }
+{
     match file_at(path) {
         Some(file) => told_text(alloc, file.content, file.text.as_bytes()),
         None => refused(alloc, Refusal::NoPage),
@@ -193,7 +208,9 @@ pub(crate) fn open_page<A: Accounts>(
     accounts: &A,
     ask: Ask,
     target: &[u8],
-) -> Result<Answer, AllocError> {
+) -> Result<Answer, AllocError>
+    ensures { IfOk result (ShowsAll ask target.now) }
+{
     match ask {
         Ask::File => file_page(alloc, target),
         Ask::Metrics => {

@@ -180,7 +180,7 @@ impl<'p, R: Wait, M: Machine> Service<'p, R, M> {
         body: &[u8],
     ) -> Result<Answer, AllocError>
         ensures house { A.house accounts.new ≡ A.house accounts.old }
-        ensures answers { AnswersWithin (is_within (A.house accounts.old).accounts allowed.now) (A.house accounts.old) allowed.now body.now (A.asked accounts.old) (A.asked accounts.new) result }
+        ensures answers { AnswersWithin (is_within (A.house accounts.old).accounts allowed.now) (A.house accounts.old) allowed.now head.now.target.items body.now (A.asked accounts.old) (A.asked accounts.new) result }
     {
         if !is_within(accounts.count(), allowed) {
             return refused(self.alloc, Refusal::Nobody);
