@@ -20,6 +20,8 @@ use Rattle.kl1_host_web.specs.Asking.{Asked, did, House}
 use Rattle.kl1_host_web.specs.Wishes.{wish_view, wanted, IsWish}
 use Rattle.kl1_host_web.specs.Telling.{Grants, IsRefusal}
 use Rattle.kl1_host_web.specs.Serving.{Closes, is_set, Begins, Begun, Ends, Performs, Fails, is_within, AnswersWithin, Answers, Attends, Exchange, IsNext, Exchanges, Serves, Steps, HasHead, HasNoBody, HasBody}
+use Rattle.kl1_host_web.specs.declared.serve.Served.{Served}
+use Rattle.kl1_host_web.specs.declared.serve.Served.TheVariants as served_as
 use Rattle.kl1_host_web.specs.declared.wish.Wish.{Wish}
 use Rattle.kl1_host_web.specs.declared.outcome.Outcome.{Outcome}
 use Rattle.kl1_host_web.proofs.Coming.{consumes_both, consumed_front}
@@ -90,3 +92,26 @@ no_body head why old middle comes e = record {
 -- one more request was served
 pub one_more : (house : House) (sites : List Site) (is_local : Bool) (served : List Exchange) (x : Exchange) (old middle new : Option (List ℕ)) (before asked after : List Asked) → Serves house sites is_local served old middle before asked → Exchanges house sites is_local x middle new asked after → Serves house sites is_local (x ∷ served) old new before after
 one_more house sites is_local served x old middle new before asked after s e = (middle, asked, s, e)
+
+-- ---- what becomes of a connection
+
+stays : (house : House) (sites : List Site) (is_local : Bool) (served : List Exchange) (old left : Option (List ℕ)) (before asked after : List Asked) → after ≡ asked → Serves house sites is_local served old left before asked → Serves house sites is_local served old left before after
+stays house sites is_local served old left before asked after e h = subst (λ x. Serves house sites is_local served old left before x) (sym e) h
+
+-- a request was answered after those that were served
+pub answered : (house : House) (sites : List Site) (is_local : Bool) (served : List Exchange) (old middle new : Option (List ℕ)) (before asked after : List Asked) (answer : Answer) (goes_on : Bool) → Serves house sites is_local served old middle before asked → Steps house sites is_local middle new asked after (Ok (served_as.Answered answer goes_on)) → (all : List Exchange) × Serves house sites is_local all old new before after
+answered house sites is_local served old middle new before asked after answer goes_on h k =
+    let x : Exchange = record { head = k.0; body = k.1; answer = Ok answer } in
+    (x ∷ served, one_more house sites is_local served x old middle new before asked after h k.2)
+
+-- whatever became of the next request, those that were read are served
+pub stepped : (house : House) (sites : List Site) (is_local : Bool) (served : List Exchange) (old middle new : Option (List ℕ)) (before asked after : List Asked) (r : Result Served AllocError) → Serves house sites is_local served old middle before asked → Steps house sites is_local middle new asked after r → (all : List Exchange) × (left : Option (List ℕ)) × Serves house sites is_local all old left before after
+stepped house sites is_local served old middle new before asked after (Ok (served_as.Answered answer goes_on)) h k =
+    let x : Exchange = record { head = k.0; body = k.1; answer = Ok answer } in
+    (x ∷ served, new, one_more house sites is_local served x old middle new before asked after h k.2)
+stepped house sites is_local served old middle new before asked after (Ok (served_as.Refused why)) h k = (served, middle, stays house sites is_local served old middle before asked after k.0 h)
+stepped house sites is_local served old middle new before asked after (Ok served_as.Ended) h k = (served, middle, stays house sites is_local served old middle before asked after k h)
+stepped house sites is_local served old middle new before asked after (Err e) h (inl k) = (served, middle, stays house sites is_local served old middle before asked after k h)
+stepped house sites is_local served old middle new before asked after (Err e) h (inr k) =
+    let x : Exchange = record { head = k.0; body = k.1; answer = Err e } in
+    (x ∷ served, new, one_more house sites is_local served x old middle new before asked after h k.2)

@@ -83,6 +83,29 @@ fn stopped_value(alloc: Global, stopped: Option<Stop>) -> Result<Value, AllocErr
 }
 
 /// What an account has of what is limited, its modules, and whether it is quiet.
+fn account_value<V: Viewer>(
+    alloc: Global,
+    viewer: &mut V,
+    name: &[u8],
+    quiet: &Performed,
+    modules: &Performed,
+) -> Result<Value, AllocError> {
+    let name = text_value(alloc, name)?;
+    let quiet = matches!(quiet, Performed::Whole(Reply::Quiet(true)));
+    let usage = viewer.usage()?;
+    let usage = usage_value(alloc, &usage)?;
+    let stopped = stopped_value(alloc, viewer.stopped())?;
+    let modules = modules_value(alloc, modules)?;
+    json!(in alloc; {
+        "name": name,
+        "quiet": quiet,
+        "stopped": stopped,
+        "usage": usage,
+        "modules": modules
+    })
+}
+
+/// What an account has of what is limited, its modules, and whether it is quiet.
 pub(crate) fn account_page<V: Viewer>(
     alloc: Global,
     viewer: &mut V,
@@ -92,19 +115,7 @@ pub(crate) fn account_page<V: Viewer>(
 ) -> Result<Answer, AllocError>
     ensures { IfOk result KeepsCookie }
 {
-    let name = text_value(alloc, name)?;
-    let quiet = matches!(quiet, Performed::Whole(Reply::Quiet(true)));
-    let usage = viewer.usage()?;
-    let usage = usage_value(alloc, &usage)?;
-    let stopped = stopped_value(alloc, viewer.stopped())?;
-    let modules = modules_value(alloc, modules)?;
-    let value = json!(in alloc; {
-        "name": name,
-        "quiet": quiet,
-        "stopped": stopped,
-        "usage": usage,
-        "modules": modules
-    })?;
+    let value = account_value(alloc, viewer, name, quiet, modules)?;
     told_value(alloc, Status::Good, Cookie::Kept, &value)
 }
 
