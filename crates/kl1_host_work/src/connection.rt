@@ -73,7 +73,7 @@ pub(crate) fn serve_lines<'t, W: Wait, R: Wait, K: PoolIds, D: Door>(
     set_up(stream, idle);
     let outgoing = Cell::new(Outgoing::new());
     let mut source = FailureCounter::new(stream);
-    let writer = SyncedWriter::new(stream, rt, host.bell, host.keepers, &outgoing);
+    let writer = SyncedWriter::new(stream, rt, host.keepers, &outgoing);
     let mut sink = FailureCounter::new(writer);
     serve(
         rt,
@@ -89,12 +89,12 @@ pub(crate) fn serve_lines<'t, W: Wait, R: Wait, K: PoolIds, D: Door>(
 }
 
 /// Serves one connection of a browser over a socket, and closes it if it is silent for too long.
-pub(crate) fn serve_pages<'t, F: Front, W: Wait, R: Wait, K: PoolIds>(
-    rt: &W,
-    desk: &Desk<'_, 't, F, R, K>,
+pub(crate) fn serve_pages<'p, 't, F: Front, W: Wait, R: Wait, K: PoolIds>(
+    rt: &'p W,
+    desk: &'p Desk<'p, 't, F, R, K>,
     stream: &TcpStream,
     address: SocketAddr,
-    share: &mut Share<K>,
+    share: &'p mut Share<K>,
 ) {
     set_up(stream, desk.limits.idle);
     let outgoing = Cell::new(Outgoing::new());
@@ -112,7 +112,7 @@ pub(crate) fn serve_pages<'t, F: Front, W: Wait, R: Wait, K: PoolIds>(
         outgoing: Some(&outgoing),
     };
     let mut source = FailureCounter::new(stream);
-    let writer = SyncedWriter::new(stream, rt, desk.host.bell, desk.host.keepers, &outgoing);
+    let writer = SyncedWriter::new(stream, rt, desk.host.keepers, &outgoing);
     let mut sink = FailureCounter::new(writer);
     desk.front
         .serve_pages(address, &mut source, &mut sink, &mut performer, &view);

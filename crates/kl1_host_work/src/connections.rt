@@ -1,6 +1,6 @@
 // Connections without end, each in a thread of its own.
 
-ghost use Rattle.std.specs.Prelude.{◌≤◌};
+ghost use Rattle.std.specs.Prelude.{◌≡◌, ◌≤◌};
 
 use crate::connection::{serve_lines, serve_pages};
 use crate::front::{Front, HostEvent};
@@ -15,7 +15,7 @@ use std::thread::Threads;
 use std::time::{Clock, Duration};
 
 /// How long is waited after an accept that failed, in milliseconds: too many files may be open.
-pub(crate) const PAUSE_MILLISECONDS: u64 = 20;
+const PAUSE_MILLISECONDS: u64 = 20;
 
 /// Who comes in.
 #[derive(Clone, Copy)]
@@ -35,6 +35,29 @@ pub(crate) struct Desk<'d, 't, F: Front, R: Wait, K: PoolIds> {
     pub(crate) host: Host<'d>,
     pub(crate) limits: Limits,
     pub(crate) alloc: Global,
+}
+
+impl<'d, 't, F: Front, R: Wait, K: PoolIds> Desk<'d, 't, F, R, K> {
+    /// A desk of these.
+    pub(crate) fn new(
+        front: &'d F,
+        pool: &'d Pool<'t, R, K>,
+        lobby: &'d Lobby<K>,
+        host: Host<'d>,
+        limits: Limits,
+        alloc: Global,
+    ) -> Self
+        ensures { result.front.now ≡ front.now }
+    {
+        Desk {
+            front,
+            pool,
+            lobby,
+            host,
+            limits,
+            alloc,
+        }
+    }
 }
 
 /// Serves a connection of a client.
@@ -76,8 +99,8 @@ fn serve_visitor<'t, F: Front, W: Wait, R: Wait, K: PoolIds>(
 {
     let mut share = share;
     match peers {
-        Peers::Clients => serve_client(rt, desk, &*stream, address, &mut share),
-        Peers::Browsers => serve_pages(rt, desk, &*stream, address, &mut share),
+        Peers::Clients => serve_client(&*rt, &*desk, &*stream, address, &mut share),
+        Peers::Browsers => serve_pages(&*rt, &*desk, &*stream, address, &mut share),
     }
     drop(stream);
     desk.lobby.give_back(rt, share);
@@ -94,6 +117,7 @@ pub(crate) fn serve_each<'t, F: Front + Sync, N, R: Wait + Sync, K: PoolIds + Se
 )
 where
     N: Net<Listener = TcpListener, Stream = TcpStream> + Threads + Wait + Clock + Sync,
+    F::Entrance: Send,
     requires { F.accounts desk.now.front.now ≤ K.accounts }
 {
     thread::scope(

@@ -5,6 +5,7 @@ ghost use Rattle.std.specs.Prelude.{◌≡◌, ℕ};
 use kl1_command::{Command, Performed};
 use kl1_lines::{Sink, Source};
 use kl1_log::LogError;
+use kl1_pool::BookTotals;
 use kl1_session::{Disconnect, Door};
 use kl1_user_events::{Extent, GoalNo, GoalView, Presence, ShoenNo, ShoenView, Usage};
 use std::alloc::AllocError;
@@ -39,6 +40,12 @@ pub trait HostView {
 
     /// What of an account is in use.
     fn usage(&self, account: usize) -> Result<Usage, AllocError>;
+
+    /// About how many bytes an account takes.
+    fn bytes(&self, account: usize) -> Result<u64, AllocError>;
+
+    /// The events and the steps of an account.
+    fn counted(&self, account: usize) -> Result<BookTotals, AllocError>;
 
     /// What is shown of shoens of an account with numbers from one on, of the first `count` of them.
     fn shoens_from(
@@ -108,6 +115,6 @@ pub trait Front {
         host: &V,
     );
 
-    /// Attends to a host, in a thread of its own. The host stops when it returns.
-    fn attend<V: HostView>(&self, host: &V);
+    /// Attends to a host, in the thread that runs it, and may do commands. The host stops when it returns.
+    fn attend<P: Performer, V: HostView>(&self, performer: &mut P, host: &V);
 }

@@ -1,7 +1,7 @@
 // What all threads of a host share beside the pool.
 
 use crate::budget::Budget;
-use kl1_host_journals::{Bell, Keeper};
+use kl1_host_journals::Keeper;
 use std::time::Duration;
 
 /// Whether replies wait until what they tell is on disk, and after how long what is new is written at the latest.
@@ -11,12 +11,10 @@ pub struct Syncing {
     pub period: Duration,
 }
 
-/// What all threads of a host share beside the pool: for each account, in order, its keeper and what it may still load; and what wakes the
-/// scribe.
+/// What all threads of a host share beside the pool: for each account, in order, its keeper and what it may still load.
 #[derive(Clone, Copy)]
 pub struct Host<'h> {
     pub keepers: &'h [Keeper],
     pub budgets: &'h [Budget],
-    pub bell: &'h Bell,
     pub syncing: Syncing,
 }

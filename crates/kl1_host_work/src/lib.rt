@@ -23,6 +23,7 @@ pub use front::{Front, HostEvent, HostView, Performer};
 pub use handler::HostHandler;
 pub use host::{Host, Syncing};
 pub use kl1_host_journals::{Keeper, OpenFault, Outgoing};
+pub use kl1_pool::BookTotals;
 pub use kl1_session::Disconnect;
 pub use lobby::Limits;
 pub use restoring::AccountFile;

@@ -83,7 +83,8 @@ pub(crate) fn link_account<'t, D: Disk + Drop, W: Wait, R: Wait, K: PoolIds>(
     if !pool.look(rt, account, &mut linking) {
         return Err(LinkFault::Memory);
     }
-    match linking.linkage {
+    let Linking { linkage, .. } = linking;
+    match linkage {
         Linkage::Linked(linked) => Ok(linked),
         Linkage::Failed(fault) => Err(fault),
         Linkage::Unlinked(_) => Err(LinkFault::Memory),

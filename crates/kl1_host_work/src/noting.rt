@@ -73,7 +73,7 @@ pub(crate) fn note<'t, W: Wait, R: Wait, K: PoolIds>(
 fn leave_others<W: Wait>(rt: &W, host: Host<'_>, outgoing: &Cell<Outgoing>, account: usize) {
     let before = outgoing.replace(Outgoing::Lost);
     let after = if before.is_of_another(account) {
-        before.freed(rt, host.bell, host.keepers)
+        before.freed(rt, host.keepers)
     } else {
         before
     };

@@ -2,15 +2,19 @@
 
 ghost use Rattle.std.specs.Prelude.{◌≤◌};
 
-use crate::connections::{Desk, PAUSE_MILLISECONDS, Peers, serve_each};
+use crate::connections::{Desk, Peers, serve_each};
 use crate::front::{Front, HostEvent};
+use crate::handler::HostHandler;
 use crate::host::Host;
 use crate::noting::note;
 use crate::start_fault::StartFault;
 use crate::view::View;
-use kl1_host_journals::{Bell, FaultTeller, Scribe};
+use kl1_host_journals::{Bell, FaultTeller, Keeper, Outgoing, Scribe};
 use kl1_log::{Disk, LogError, LogFile};
 use kl1_pool::{Gate, Pool, PoolIds, Share, worker};
+use kl1_session::History;
+use std::alloc::{AllocError, Global};
+use std::cell::Cell;
 use std::net::{Net, TcpListener, TcpStream};
 use std::sync::Wait;
 use std::thread;
@@ -92,6 +96,34 @@ fn wake<N: Net<Listener = TcpListener, Stream = TcpStream>>(rt: &N, listener: &T
     }
 }
 
+/// Lets the program attend to a host if all its threads are there, with a share for the commands that it does.
+fn attend<'p, 't, F: Front, N: Wait, R: Wait, K: PoolIds>(
+    rt: &'p N,
+    desk: &'p Desk<'p, 't, F, R, K>,
+    all_are_there: bool,
+    share: Share<K>,
+) {
+    if !all_are_there {
+        return;
+    }
+    let outgoing = Cell::new(Outgoing::new());
+    let mut share = share;
+    let mut performer = HostHandler {
+        rt,
+        pool: desk.pool,
+        share: &mut share,
+        host: desk.host,
+        outgoing: &outgoing,
+        history: History::new(),
+    };
+    let view = View {
+        rt,
+        desk,
+        outgoing: None,
+    };
+    desk.front.attend(&mut performer, &view);
+}
+
 /// Lets nobody in any more, and ends the connections that are open.
 fn close_doors<'t, F: Front, N, R: Wait, K: PoolIds>(
     rt: &N,
@@ -108,52 +140,18 @@ where
     }
 }
 
-/// Lets the program attend to the host, then ends its connections, and then calls the scribe for the last time: replies that wait for the
-/// disk need it until then.
-fn attend_on<'t, F: Front, N, R: Wait, K: PoolIds>(
-    rt: &N,
-    desk: &Desk<'_, 't, F, R, K>,
-    listeners: Listeners<'_>,
-)
-where
-    N: Net<Listener = TcpListener, Stream = TcpStream> + Wait,
-{
-    desk.front.attend(&View {
-        rt,
-        desk,
-        outgoing: None,
-    });
-    close_doors(rt, desk, listeners);
-    desk.lobby.wait_until_empty(rt);
-    desk.host.bell.end(rt);
-}
-
-/// Writes until no connection is open, of a host to which its program doesn't attend.
-fn drain<'t, F: Front, D: Disk + Drop, N: Wait + Clock, R: Wait, K: PoolIds>(
-    rt: &N,
-    desk: &Desk<'_, 't, F, R, K>,
-    scribe: &mut Scribe<'_, D>,
-) {
-    for _ in rt.forever() {
-        scribe.write_all(rt, &Telling { front: desk.front });
-        if desk.lobby.count(rt) == 0 {
-            return;
-        }
-        thread::sleep(rt, Duration::from_millis(PAUSE_MILLISECONDS));
-    }
-}
-
-/// Runs a host until its program has attended to it: workers, connections, and those who note; in this thread the scribe writes. When all
-/// have ended, what is left is noted and written. Answers the files.
-pub(crate) fn run_threads<'t, F: Front + Sync, D: Disk + Drop, R, K: PoolIds + Send + Sync>(
+/// Runs a host until its program has attended to it: workers, connections, and who notes what workers do. When it returns, all of them have
+/// ended. Answers whether all threads could be made; the program attends to no other host.
+fn run_accounts<'t, F: Front + Sync, R, K: PoolIds + Send + Sync>(
     rt: &R,
     listeners: Listeners<'_>,
     desk: &Desk<'_, 't, F, R, K>,
     workers: Vec<Share<K>>,
-    scribe: Scribe<'_, D>,
-) -> Result<Vec<LogFile<D>>, StartFault>
+    attending: Share<K>,
+) -> bool
 where
     R: Net<Listener = TcpListener, Stream = TcpStream> + Threads + Wait + Clock + Sync,
+    F::Entrance: Send,
     requires { F.accounts desk.now.front.now ≤ K.accounts }
 {
     let until = Bell::new();
@@ -161,10 +159,9 @@ where
     thread::scope(
         thread::scope_env(),
         rt,
-        move |scope| -> Result<Vec<LogFile<D>>, StartFault>
+        move |scope| -> bool
             requires { F.accounts desk.now.front.now ≤ K.accounts }
         {
-            let mut scribe = scribe;
             let mut number = 0u64;
             for share in workers {
                 if let Ok(handle) = scope.spawn(move || drop(work(rt, desk.pool, number, share))) {
@@ -180,22 +177,90 @@ where
                 let showing = scope.spawn(move || serve_each(rt, browsers, Peers::Browsers, desk));
                 all_are_there = all_are_there && showing.is_ok();
             }
-            // The program attends to a host that has all its threads.
-            all_are_there =
-                all_are_there && scope.spawn(move || attend_on(rt, desk, listeners)).is_ok();
-            let faults = Telling { front: desk.front };
-            if all_are_there {
-                scribe.work(rt, desk.host.bell, desk.host.syncing.period, &faults);
-            } else {
-                close_doors(rt, desk, listeners);
-                drain(rt, desk, &mut scribe);
-            }
+            attend(&*rt, &*desk, all_are_there, attending);
+            close_doors(rt, desk, listeners);
+            desk.lobby.wait_until_empty(rt);
             desk.pool.close();
             until.end(rt);
+            all_are_there
+        },
+    )
+}
+
+/// Writes for an account until its bell says that it is to end, and gives the file back.
+fn write_on<D: Disk + Drop, W: Wait + Clock, T: FaultTeller>(
+    rt: &W,
+    scribe: Scribe<'_, D>,
+    period: Duration,
+    faults: &T,
+) -> LogFile<D> {
+    let mut scribe = scribe;
+    scribe.work(rt, period, faults);
+    scribe.into_file()
+}
+
+/// The scribes of accounts with these keepers and files, in order.
+fn scribes_of<D: Disk + Drop>(
+    alloc: Global,
+    keepers: &[Keeper],
+    files: Vec<LogFile<D>>,
+) -> Result<Vec<Scribe<'_, D>>, AllocError> {
+    let mut scribes = Vec::with_capacity(alloc, files.len())?;
+    for (account, (keeper, file)) in keepers.iter().zip(files).enumerate() {
+        scribes.push(Scribe::new(account, keeper, file))?;
+    }
+    Ok(scribes)
+}
+
+/// Runs a host until its program has attended to it, with a scribe for each account in a thread of its own: replies that wait for the disk
+/// need them as long as a connection is open. When all else has ended, what is left is noted, and they write it. Answers the files.
+pub(crate) fn run_threads<'t, F: Front + Sync, D: Disk + Drop + Send, R, K: PoolIds + Send + Sync>(
+    rt: &R,
+    listeners: Listeners<'_>,
+    desk: &Desk<'_, 't, F, R, K>,
+    workers: Vec<Share<K>>,
+    attending: Share<K>,
+    files: Vec<LogFile<D>>,
+) -> Result<Vec<LogFile<D>>, StartFault>
+where
+    R: Net<Listener = TcpListener, Stream = TcpStream> + Threads + Wait + Clock + Sync,
+    F::Entrance: Send,
+    requires { F.accounts desk.now.front.now ≤ K.accounts }
+{
+    let period = desk.host.syncing.period;
+    let faults = Telling { front: desk.front };
+    let faults = &faults;
+    // No memory is asked for once a scribe is there, so that nothing keeps this from ending it.
+    let handles = Vec::with_capacity(desk.alloc, files.len())?;
+    let back = Vec::with_capacity(desk.alloc, files.len())?;
+    let scribes = scribes_of(desk.alloc, desk.host.keepers, files)?;
+    thread::scope(
+        thread::scope_env(),
+        rt,
+        move |scope| -> Result<Vec<LogFile<D>>, StartFault>
+            requires { F.accounts desk.now.front.now ≤ K.accounts }
+        {
+            let mut handles = handles;
+            let mut back = back;
+            let mut all_are_there = true;
+            for scribe in scribes {
+                match scope.spawn(move || write_on(rt, scribe, period, faults)) {
+                    Ok(handle) => {
+                        let _ = handles.push(handle);
+                    }
+                    Err(_) => all_are_there = false,
+                }
+            }
+            all_are_there = all_are_there && run_accounts(rt, listeners, desk, workers, attending);
             note_all(rt, desk.pool, desk.host);
-            scribe.write_all(rt, &faults);
+            for keeper in desk.host.keepers {
+                keeper.bell().end(rt);
+            }
+            for handle in handles {
+                let _ = back.push(handle.join(rt));
+            }
             if all_are_there {
-                Ok(scribe.into_files())
+                Ok(back)
             } else {
                 Err(StartFault::Threads)
             }

@@ -13,7 +13,6 @@ use crate::running::{Listeners, run_threads};
 use crate::start_fault::StartFault;
 use kl1_atoms::AtomTable;
 use kl1_codes::CodeTable;
-use kl1_host_journals::{Bell, Scribe};
 use kl1_journal_entries::Journal;
 use kl1_log::{Disk, LogFile};
 use kl1_model::limits::MOST_ACCOUNTS;
@@ -93,52 +92,44 @@ fn called<D: Disk>(
 }
 
 /// Runs a host over a pool until its end.
-fn run_pool<'t, F: Front + Sync, D: Disk + Drop, R, K: PoolIds + Send + Sync>(
+fn run_pool<'p, 't, F: Front + Sync, D: Disk + Drop + Send, R, K: PoolIds + Send + Sync>(
     rt: &R,
     alloc: Global,
     listeners: Listeners<'_>,
-    front: &F,
-    pool: &Pool<'t, R, K>,
+    front: &'p F,
+    pool: &'p Pool<'t, R, K>,
     shares: Vec<Share<K>>,
     files: Vec<AccountFile<D>>,
     setup: Setup,
 ) -> Result<Vec<LogFile<D>>, StartFault>
 where
     R: Net<Listener = TcpListener, Stream = TcpStream> + Threads + Wait + Clock + Sync,
-    requires accounts { F.accounts front.now ≤ K.accounts }
-    requires files { vec_len files ≤ K.accounts }
+    F::Entrance: Send,
+    requires { F.accounts front.now ≤ K.accounts }
 {
     let mut shares = shares;
-    let Some(first) = shares.as_mut_slice().first_mut() else {
-        return Err(StartFault::Memory);
-    };
+    let restoring = take_shares(alloc, &mut shares, files.len())?;
     let Shelf {
         files,
         keepers,
         budgets,
-    } = restore_all(rt, alloc, pool, front, files, setup.codes_each, first)?;
+    } = restore_all(rt, alloc, pool, front, files, setup.codes_each, restoring)?;
     let workers = take_shares(alloc, &mut shares, setup.workers)?;
-    let lobby = Lobby::new(alloc, shares)?;
-    let bell = Bell::new();
-    let desk = Desk {
-        front,
-        pool,
-        lobby: &lobby,
-        host: Host {
-            keepers: keepers.as_slice(),
-            budgets: budgets.as_slice(),
-            bell: &bell,
-            syncing: setup.syncing,
-        },
-        limits: setup.limits,
-        alloc,
+    let Some(attending) = shares.pop() else {
+        return Err(StartFault::Memory);
     };
-    let scribe = Scribe::new(keepers.as_slice(), files);
-    run_threads(rt, listeners, &desk, workers, scribe)
+    let lobby = Lobby::new(alloc, shares)?;
+    let host = Host {
+        keepers: keepers.as_slice(),
+        budgets: budgets.as_slice(),
+        syncing: setup.syncing,
+    };
+    let desk = Desk::new(&*front, &*pool, &lobby, host, setup.limits, alloc);
+    run_threads(rt, listeners, &desk, workers, attending, files)
 }
 
 /// Runs a host over the parts of a pool until its end.
-fn run_parts<'t, F: Front + Sync, D: Disk + Drop, R, K: PoolIds + Send + Sync>(
+fn run_parts<'t, F: Front + Sync, D: Disk + Drop + Send, R, K: PoolIds + Send + Sync>(
     rt: &'t R,
     alloc: Global,
     listeners: Listeners<'_>,
@@ -149,11 +140,11 @@ fn run_parts<'t, F: Front + Sync, D: Disk + Drop, R, K: PoolIds + Send + Sync>(
 ) -> Result<Vec<LogFile<D>>, StartFault>
 where
     R: Net<Listener = TcpListener, Stream = TcpStream> + Threads + Wait + Clock + Sync,
+    F::Entrance: Send,
     requires tables { (parts.table ≡ K.table) × (parts.seats ≡ K.seats) × (parts.codes ≡ K.codes) }
     requires names { (parts.rules ≡ K.rules) × (parts.names ≡ K.names) }
     requires tickets { (parts.tally ≡ K.tally) × (parts.queue ≡ K.queue) × (parts.accounts ≡ K.accounts) × (parts.shares ≡ K.shares) }
     requires accounts { F.accounts front.now ≤ parts.accounts }
-    requires files { vec_len files ≤ parts.accounts }
 {
     let (pool, shares) = Pool::<R, K>::new(rt, alloc, parts)?;
     let pool = pool.bounded(setup.memory_each);
@@ -163,7 +154,7 @@ where
 }
 
 /// `run_parts` of parts that no type names yet.
-fn run_brand<'t, F: Front + Sync, D: Disk + Drop, R>(
+fn run_brand<'t, F: Front + Sync, D: Disk + Drop + Send, R>(
     rt: &'t R,
     alloc: Global,
     listeners: Listeners<'_>,
@@ -174,15 +165,15 @@ fn run_brand<'t, F: Front + Sync, D: Disk + Drop, R>(
 ) -> Result<Vec<LogFile<D>>, StartFault>
 where
     R: Net<Listener = TcpListener, Stream = TcpStream> + Threads + Wait + Clock + Sync,
+    F::Entrance: Send,
     requires accounts { F.accounts front.now ≤ parts.accounts }
-    requires files { vec_len files ≤ parts.accounts }
 {
     run_parts::<F, D, R, Brand>(rt, alloc, listeners, front, parts, files, setup)
 }
 
 /// Restores accounts from their files, and serves them to whoever `front` lets in, until that has attended to the host: then connections
 /// are ended, and what is left is written. Answers the files.
-pub fn run_host<F: Front + Sync, D: Disk + Drop, R>(
+pub fn run_host<F: Front + Sync, D: Disk + Drop + Send, R>(
     rt: &R,
     alloc: Global,
     listeners: Listeners<'_>,
@@ -192,6 +183,7 @@ pub fn run_host<F: Front + Sync, D: Disk + Drop, R>(
 ) -> Result<Vec<LogFile<D>>, StartFault>
 where
     R: Net<Listener = TcpListener, Stream = TcpStream> + Threads + Wait + Clock + Sync,
+    F::Entrance: Send,
     requires { F.accounts front.now ≤ vec_len accounts }
 {
     let names = called(alloc, accounts.as_slice())?;
@@ -211,8 +203,12 @@ where
         setup
             .workers
             .saturating_add(setup.connections)
+            // The program attends to the host with one.
+            .saturating_add(1)
             // Who waits for the next browser has one already.
-            .saturating_add(usize::from(listeners.browsers.is_some())),
+            .saturating_add(usize::from(listeners.browsers.is_some()))
+            // Accounts are restored with shares of their own.
+            .saturating_add(accounts.len()),
     )?
     .with_names(used);
     run_brand(rt, alloc, listeners, front, parts, accounts, setup)

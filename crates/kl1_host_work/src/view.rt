@@ -5,7 +5,7 @@ use crate::front::{Front, HostView};
 use crate::noting::note_told;
 use kl1_host_journals::Outgoing;
 use kl1_journal_entries::Journal;
-use kl1_pool::{JournalReader, PoolIds};
+use kl1_pool::{BookTotals, JournalReader, PoolIds};
 use kl1_user_events::{Extent, GoalNo, GoalView, Presence, ShoenNo, ShoenView, Usage};
 use std::alloc::AllocError;
 use std::cell::Cell;
@@ -35,26 +35,21 @@ impl JournalReader for SessionsReader {
 }
 
 impl<F: Front, N: Wait, R: Wait, K: PoolIds> View<'_, '_, '_, F, N, R, K> {
-
     /// Lets the connection wait until what was seen of an account is on disk.
     fn note(&self, account: usize) {
         if let Some(outgoing) = self.outgoing
             && account < self.desk.pool.accounts()
         {
-            note_told(
-                self.rt,
-                self.desk.pool,
-                self.desk.host,
-                outgoing,
-                account,
-            );
+            note_told(self.rt, self.desk.pool, self.desk.host, outgoing, account);
         }
     }
 }
 
 impl<F: Front, N: Wait, R: Wait, K: PoolIds> HostView for View<'_, '_, '_, F, N, R, K> {
     fn is_stopped(&self, account: usize) -> bool {
-        match self.desk.host.keepers.get(account) {
+        let desk = self.desk;
+        let keepers = desk.host.keepers;
+        match keepers.get(account) {
             Some(keeper) => keeper.on_disk().is_stopped(),
             None => true,
         }
@@ -83,6 +78,28 @@ impl<F: Front, N: Wait, R: Wait, K: PoolIds> HostView for View<'_, '_, '_, F, N,
         let usage = self.desk.pool.usage(self.rt, account)?;
         self.note(account);
         Ok(usage)
+    }
+
+    fn bytes(&self, account: usize) -> Result<u64, AllocError> {
+        if account >= self.desk.pool.accounts() {
+            return Err(AllocError);
+        }
+        let Some(bytes) = self.desk.pool.bytes(self.rt, account) else {
+            return Err(AllocError);
+        };
+        self.note(account);
+        Ok(bytes)
+    }
+
+    fn counted(&self, account: usize) -> Result<BookTotals, AllocError> {
+        if account >= self.desk.pool.accounts() {
+            return Err(AllocError);
+        }
+        let Some(totals) = self.desk.pool.counted(self.rt, account) else {
+            return Err(AllocError);
+        };
+        self.note(account);
+        Ok(totals)
     }
 
     fn shoens_from(

@@ -143,7 +143,7 @@ where
         _host: &V,
     ) {}
 
-    fn attend<V: HostView>(&self, _host: &V) {
+    fn attend<P: Performer, V: HostView>(&self, _performer: &mut P, _host: &V) {
         if let Ok(replies) = self.replies() {
             *self.replies.lock(self.rt) = replies;
         }
