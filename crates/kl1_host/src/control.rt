@@ -4,6 +4,7 @@ use kl1_lines::is_same;
 use std::alloc::{AllocError, Global};
 use std::io::{Read, Write};
 use std::os::unix::net::{UnixListener, UnixStream};
+use std::sync::Wait;
 use std::thread;
 use std::time::{Clock, Duration};
 
@@ -13,8 +14,8 @@ const MOST_ASKED: usize = 64;
 /// For how long who asks may be silent, in seconds.
 const MOST_SILENT_SECONDS: u64 = 5;
 
-/// How long is waited after an accept that failed, in milliseconds: too many files may be open.
-const PAUSE_MILLISECONDS: u64 = 20;
+/// How long is waited if nobody asks, in milliseconds.
+const PAUSE_MILLISECONDS: u64 = 50;
 
 /// What is asked.
 #[derive(Clone, Copy)]
@@ -47,37 +48,45 @@ fn asked_by(stream: &mut UnixStream) -> Ask {
     }
 }
 
-/// What tells how a host goes.
-pub trait Reporter {
-    /// Puts the lines that tell it after others.
+/// Who attends to a host.
+pub trait Attendant {
+    /// Puts the lines that tell how the host goes after others.
     fn put_status(&self, out: &mut Vec<u8>) -> Result<(), AllocError>;
+
+    /// Does what is to be done again and again, each second at most once.
+    fn tick(&mut self);
 }
 
-/// Answers who asks how the host goes, until somebody asks it to stop; then the stream that asked is given back, to be closed when the host
-/// has ended. `None` if nobody can ask any more.
-pub fn answer_until_stop<R: Clock, S: Reporter>(
+/// Answers who asks for the status.
+fn tell_status<A: Attendant>(alloc: Global, attendant: &A, stream: &mut UnixStream) {
+    let mut lines = Vec::new(alloc);
+    if attendant.put_status(&mut lines).is_ok() {
+        let _ = stream.write_all(lines.as_slice());
+    }
+}
+
+/// Answers who asks how the host goes, until somebody asks it to stop: gives the stream that asked, to be closed when the host has ended.
+pub fn answer_until_stop<R: Wait + Clock, A: Attendant>(
     rt: &R,
     alloc: Global,
     listener: &UnixListener,
-    reporter: &S,
-) -> Option<UnixStream> {
-    for stream in listener.incoming() {
-        let Ok(mut stream) = stream else {
+    attendant: &mut A,
+) -> UnixStream {
+    let _ = listener.set_nonblocking(true);
+    for _ in rt.forever() {
+        attendant.tick();
+        // Nobody asks, or too many files are open.
+        let Ok((mut stream, _)) = listener.accept() else {
             thread::sleep(rt, Duration::from_millis(PAUSE_MILLISECONDS));
             continue;
         };
         match asked_by(&mut stream) {
-            Ask::Stop => return Some(stream),
-            Ask::Status => {
-                let mut lines = Vec::new(alloc);
-                if reporter.put_status(&mut lines).is_ok() {
-                    let _ = stream.write_all(lines.as_slice());
-                }
-            }
+            Ask::Stop => return stream,
+            Ask::Status => tell_status(alloc, attendant, &mut stream),
             Ask::Unknown => {
                 let _ = stream.write_all(b"status and stop are what a host is asked\n");
             }
         }
     }
-    None
+    unreachable!()
 }

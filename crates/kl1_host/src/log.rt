@@ -13,40 +13,68 @@ pub struct Log<'a, R: Eprint + Clock> {
     pub alloc: Global,
 }
 
+/// Puts fields after those of a line.
+fn add_fields(line: &mut Vec<u8>, fields: &[Field<'_>]) -> Result<(), AllocError> {
+    if fields.is_empty() {
+        return Ok(());
+    }
+    // The line goes on where its end was.
+    if line.pop().is_some() {
+        line.push(b' ')?;
+    }
+    put_line(line, fields)
+}
+
 impl<R: Eprint + Clock> Log<'_, R> {
-    /// The line of an event.
-    fn line_of(&self, event: &[u8], fields: &[Field<'_>]) -> Result<String, AllocError> {
+    /// The line of an event, without more.
+    fn line_of(&self, event: &[u8]) -> Result<Vec<u8>, AllocError> {
         let time = match Timestamp::now(self.rt) {
             Ok(now) => format!(in self.alloc; "{now:.3}")?,
             Err(_) => format!(in self.alloc; "-")?,
         };
-        let mut all = Vec::with_capacity(self.alloc, fields.len().saturating_add(2))?;
-        all.push(Field {
+        let time = Field {
             name: b"time",
             value: time.as_bytes(),
-        })?;
-        all.push(Field {
+        };
+        let event = Field {
             name: b"event",
             value: event,
-        })?;
-        all.extend_from_slice(fields)?;
+        };
         let mut line = Vec::new(self.alloc);
-        put_line(&mut line, all.as_slice())?;
-        String::from_utf8_lossy(self.alloc, line.as_slice())
+        add_fields(&mut line, &[time])?;
+        add_fields(&mut line, &[event])?;
+        Ok(line)
+    }
+
+    /// The line of an event of who connects from this address.
+    fn line_with(
+        &self,
+        event: &[u8],
+        address: SocketAddr,
+        fields: &[Field<'_>],
+    ) -> Result<Vec<u8>, AllocError> {
+        let peer = format!(in self.alloc; "{address}")?;
+        let peer = Field {
+            name: b"peer",
+            value: peer.as_bytes(),
+        };
+        let mut line = self.line_of(event)?;
+        add_fields(&mut line, &[peer])?;
+        add_fields(&mut line, fields)?;
+        Ok(line)
+    }
+
+    /// Writes a line. One that can't be written is passed over: the host serves all the same.
+    fn write(&self, line: &[u8]) {
+        if let Ok(text) = String::from_utf8_lossy(self.alloc, line) {
+            let _ = eprint!(self.rt; "{text}");
+        }
     }
 
     /// Tells an event of who connects from this address.
     pub fn tell_of(&self, event: &[u8], address: SocketAddr, fields: &[Field<'_>]) {
-        let Ok(peer) = format!(in self.alloc; "{address}") else {
-            return;
-        };
-        let mut all = Vec::new(self.alloc);
-        let first = Field {
-            name: b"peer",
-            value: peer.as_bytes(),
-        };
-        if all.push(first).is_ok() && all.extend_from_slice(fields).is_ok() {
-            self.tell(event, all.as_slice());
+        if let Ok(line) = self.line_with(event, address, fields) {
+            self.write(line.as_slice());
         }
     }
 
@@ -69,10 +97,12 @@ impl<R: Eprint + Clock> Log<'_, R> {
         }
     }
 
-    /// Tells an event. One that can't be told is passed over: the host serves all the same.
+    /// Tells an event.
     pub fn tell(&self, event: &[u8], fields: &[Field<'_>]) {
-        if let Ok(line) = self.line_of(event, fields) {
-            let _ = eprint!(self.rt; "{line}");
+        if let Ok(mut line) = self.line_of(event)
+            && add_fields(&mut line, fields).is_ok()
+        {
+            self.write(line.as_slice());
         }
     }
 }

@@ -1,18 +1,17 @@
 // What a host asks of this program.
 
-ghost use Rattle.std.specs.Prelude.{length};
+ghost use Rattle.std.specs.Prelude.{◌≡◌, length};
 
-use crate::control::{Reporter, answer_until_stop};
+use crate::attending::Attending;
+use crate::control::answer_until_stop;
 use crate::log::Log;
 use crate::logins::LoginLog;
-use crate::web::{ThisMachine, WebAccounts, disk_of, is_local};
-use kl1_host_front::{
-    Field, Number, Pauses, PausingDoor, address_number, put_account_status, put_host,
-};
+use crate::machine::ThisMachine;
+use crate::web::{WebAccounts, is_local};
+use kl1_host_front::{Field, Pauses, PausingDoor, address_number};
 use kl1_host_web::{AskedRecord, Page, Service, SessionBook, Site};
 use kl1_host_work::{Front, HostEvent, HostView, Listeners, Performer};
 use kl1_lines::{Sink, Source};
-use kl1_pool::bytes_of;
 use kl1_session::{Disconnect, Key};
 use std::alloc::{AllocError, Global};
 use std::net::{SocketAddr, TcpListener};
@@ -38,69 +37,14 @@ pub struct Program<'f, R: Wait + Clock + Eprint + Files + RandomSource> {
     pub sites: &'f [Site],
     /// After how many seconds without a request a browser's session ends.
     pub idle: u64,
+    pub machine: ThisMachine<'f, R>,
     pub log: &'f Log<'f, R>,
     pub listeners: Listeners<'f>,
     /// Where it is asked how it goes, and to stop.
     pub socket: &'f UnixListener,
     pub begun: Instant,
     /// Who asked it to stop, and waits for its end.
-    pub asker: Mutex<Option<UnixStream>>,
-}
-
-/// The program with what can be seen of its host.
-#[derive(Drop)]
-struct Report<'p, 'f, R: Wait + Clock + Eprint + Files + RandomSource, V: HostView> {
-    program: &'p Program<'f, R>,
-    host: &'p V,
-}
-
-/// A number with its name.
-fn number(name: &'static [u8], number: u64) -> Number<'static> {
-    Number { name, number }
-}
-
-impl<R: Wait + Clock + Eprint + Files + RandomSource, V: HostView> Report<'_, '_, R, V> {
-    /// Puts the line of an account after others.
-    fn put_account(&self, out: &mut Vec<u8>, account: usize, key: &Key) -> Result<(), AllocError> {
-        let program = self.program;
-        let name = key.name.as_slice();
-        let usage = self.host.usage(account)?;
-        let numbers = [
-            number(b"sessions", self.host.sessions(account)?),
-            number(b"entries", usage.entries.count),
-            number(
-                b"disk",
-                disk_of(program.rt, program.alloc, program.folder, name)?,
-            ),
-            number(b"memory", bytes_of(&usage)),
-            number(b"goals", usage.goals.count),
-            number(b"shoens", usage.shoens.count),
-            number(b"variables", usage.variables.count),
-            number(b"structures", usage.structures.count),
-        ];
-        put_account_status(out, name, &numbers, self.host.is_stopped(account))
-    }
-}
-
-impl<R: Wait + Clock + Eprint + Files + RandomSource, V: HostView> Reporter
-    for Report<'_, '_, R, V> {
-    fn put_status(&self, out: &mut Vec<u8>) -> Result<(), AllocError> {
-        let seconds = match self.program.begun.elapsed(self.program.rt) {
-            Ok(time) => time.as_secs(),
-            Err(_) => 0,
-        };
-        let numbers = [
-            number(b"seconds", seconds),
-            number(b"connections", self.host.connections() as u64),
-        ];
-        put_host(out, &numbers)?;
-        let mut account = 0usize;
-        for key in self.program.keys {
-            self.put_account(out, account, key)?;
-            account = account.saturating_add(1);
-        }
-        Ok(())
-    }
+    pub asker: &'f Mutex<Option<UnixStream>>,
 }
 
 /// The word for how a connection ended.
@@ -112,7 +56,57 @@ fn end_of(ended: Disconnect) -> &'static [u8] {
     }
 }
 
-impl<R: Wait + Clock + Eprint + Files + RandomSource> Program<'_, R> {
+impl<'f, R: Wait + Clock + Eprint + Files + RandomSource> Program<'f, R> {
+    /// Who lets in whoever connects from this address.
+    fn door_of(&self, address: SocketAddr) -> PausingDoor<'f, R, LoginLog<'f, R>>
+        ensures { result.keys.now ≡ self.now.keys.now }
+    {
+        PausingDoor {
+            rt: self.rt,
+            keys: self.keys,
+            pauses: self.pauses,
+            address: address_number(address.ip()),
+            teller: LoginLog {
+                log: self.log,
+                address,
+            },
+        }
+    }
+
+    /// The accounts of a host, for whoever asks from this address.
+    pub fn accounts_of<'w, P: Performer, V: HostView>(
+        &self,
+        address: SocketAddr,
+        performer: &'w mut P,
+        host: &'w V,
+    ) -> WebAccounts<'w, 'f, R, P, V> {
+        WebAccounts {
+            rt: self.rt,
+            alloc: self.alloc,
+            folder: self.folder,
+            most_bytes: self.memory_each,
+            door: self.door_of(address),
+            performer,
+            host,
+            record: AskedRecord::new(),
+        }
+    }
+
+    /// What browsers are served by.
+    pub fn service(&self, is_local: bool) -> Service<'_, R, ThisMachine<'f, R>> {
+        Service {
+            rt: self.rt,
+            alloc: self.alloc,
+            machine: &self.machine,
+            page: Page {
+                sessions: self.sessions,
+                sites: self.sites,
+                idle: self.idle,
+            },
+            is_local,
+        }
+    }
+
     /// The name of an account, by its number.
     pub fn name_of(&self, account: usize) -> &[u8] {
         match self.keys.get(account) {
@@ -172,16 +166,7 @@ impl<'f, R: Wait + Clock + Eprint + Files + RandomSource + Sync> Front for Progr
     ghost accounts = { λ p. length p.keys.now };
 
     fn door(&self, address: SocketAddr) -> PausingDoor<'f, R, LoginLog<'f, R>> {
-        PausingDoor {
-            rt: self.rt,
-            keys: self.keys,
-            pauses: self.pauses,
-            address: address_number(address.ip()),
-            teller: LoginLog {
-                log: self.log,
-                address,
-            },
-        }
+        self.door_of(address)
     }
 
     fn tell(&self, event: HostEvent) {
@@ -214,39 +199,21 @@ impl<'f, R: Wait + Clock + Eprint + Files + RandomSource + Sync> Front for Progr
         performer: &mut P,
         host: &V,
     ) {
-        let mut accounts = WebAccounts {
-            rt: self.rt,
-            alloc: self.alloc,
-            folder: self.folder,
-            most_bytes: self.memory_each,
-            door: self.door(address),
-            performer,
-            host,
-            record: AskedRecord::new(),
-        };
-        let machine = ThisMachine { rt: self.rt };
-        let service = Service {
-            rt: self.rt,
-            alloc: self.alloc,
-            machine: &machine,
-            page: Page {
-                sessions: self.sessions,
-                sites: self.sites,
-                idle: self.idle,
-            },
-            is_local: is_local(address),
-        };
-        service.serve(source, sink, &mut accounts);
+        let mut accounts = self.accounts_of(address, performer, host);
+        self.service(is_local(address))
+            .serve(source, sink, &mut accounts);
     }
 
-    fn attend<V: HostView>(&self, host: &V) {
+    fn attend<P: Performer, V: HostView>(&self, performer: &mut P, host: &V) {
         let _ = self.tell_ready();
-        let report = Report {
+        let mut attending = Attending {
             program: self,
+            performer,
             host,
+            last: 0,
         };
-        let asker = answer_until_stop(self.rt, self.alloc, self.socket, &report);
-        *self.asker.lock(self.rt) = asker;
+        let asker = answer_until_stop(self.rt, self.alloc, self.socket, &mut attending);
+        *self.asker.lock(self.rt) = Some(asker);
         self.log.tell(b"stop", &[]);
     }
 }

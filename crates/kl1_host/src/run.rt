@@ -1,28 +1,25 @@
 // A host runs.
 
-ghost use Rattle.std.specs.Prelude.{◌≤◌, length, vec_len, IfOk};
-
-use crate::accounts::accounts_in;
+use crate::accounts::{Accounts, accounts_in};
 use crate::fault::Fault;
-use crate::folder::{JOURNALS, SOCKET, path_in};
+use crate::folder::{SOCKET, path_in};
+use crate::journals::files_of;
 use crate::lock::lock_folder;
 use crate::log::Log;
+use crate::machine::ThisMachine;
 use crate::program::Program;
 use crate::repair::{cut_journal, word_of_now};
 use crate::settings::settings_of;
 use crate::sockets::{bind, socket_of};
-use crate::start_words::{open_fault, start_fault};
+use crate::start_words::start_fault;
 use crate::web::sites_of;
 use kl1_host_front::{Field, Pauses, Settings, Sync as Syncs};
-use kl1_host_journals::open_in_folder;
 use kl1_host_web::SessionBook;
-use kl1_host_work::{AccountFile, Limits, Listeners, Setup, StartFault, Syncing, run_host};
-use kl1_log::FolderFile;
-use kl1_pool::{AccountName, Rules};
-use kl1_session::Key;
+use kl1_host_work::{Limits, Listeners, Setup, StartFault, Syncing, run_host};
 use std::alloc::Global;
 use std::fs::{self, File};
 use std::net::{Net, TcpListener, TcpStream};
+use std::os::unix::net::{UnixListener, UnixStream};
 use std::random::RandomSource;
 use std::rt::Files;
 use std::sync::{Mutex, Wait};
@@ -67,61 +64,8 @@ fn setup_of(settings: &Settings, accounts: usize) -> Setup {
     }
 }
 
-/// Opens the files of the journals of accounts. With a word for the names of files in which what is repaired is kept, a fault is repaired.
-fn files_of<'r, R: Files + Clock + Eprint>(
-    log: &Log<'r, R>,
-    folder: &str,
-    keys: &[Key],
-    repair: Option<&str>,
-) -> Result<Vec<AccountFile<FolderFile<&'r R>>>, Fault>
-    ensures { IfOk result (λ files. length keys.now ≤ vec_len files) }
-{
-    let alloc = log.alloc;
-    let journals = path_in(alloc, folder, JOURNALS)?;
-    let mut files = Vec::with_capacity(alloc, keys.len())?;
-    for key in keys {
-        let text = format!(in alloc; "{}", key.name.escape_ascii())?;
-        let Some(name) = AccountName::read(key.name.as_slice()) else {
-            return Err(Fault::Memory);
-        };
-        let opened = open_in_folder(
-            log.rt,
-            alloc,
-            journals.as_str(),
-            text.as_str(),
-            Rules::Four,
-            repair,
-        );
-        match opened {
-            Ok((file, opened)) => {
-                if let Some(line) = opened.repaired {
-                    log.tell_repaired(key.name.as_slice(), line);
-                }
-                files.push(AccountFile {
-                    name,
-                    file,
-                    journal: opened.journal,
-                })?;
-            }
-            Err(fault) => {
-                let path = format!(in alloc; "{journals}/{text}.journal")?;
-                return Err(open_fault(alloc, path.as_str(), &fault)?);
-            }
-        }
-    }
-    if keys.len() > files.len() {
-        return Err(Fault::Memory);
-    }
-    Ok(files)
-}
-
 /// Runs a host until it is asked to stop. With `repairs` a journal with a fault goes on from what is before it.
-fn serve<R>(
-    program: &Program<'_, R>,
-    settings: &Settings,
-    listeners: Listeners<'_>,
-    repairs: bool,
-) -> Result<(), Fault>
+fn serve<R>(program: &Program<'_, R>, settings: &Settings, repairs: bool) -> Result<(), Fault>
 where
     R: Net<Listener = TcpListener, Stream = TcpStream>
         + Files<File = File>
@@ -139,7 +83,7 @@ where
     // Each account needs one repair at most: what is before an entry that isn't accepted is accepted.
     for _ in 0..keys.len().saturating_add(1) {
         let files = files_of(program.log, program.folder, keys, repair)?;
-        match run_host(rt, alloc, listeners, program, files, setup) {
+        match run_host(rt, alloc, program.listeners, program, files, setup) {
             Ok(_files) => return Ok(()),
             Err(StartFault::Unaccepted { account, line }) if repairs => {
                 let name = program.name_of(account);
@@ -150,6 +94,118 @@ where
         }
     }
     Err(Fault::Memory)
+}
+
+/// What a host needs of its folder, and where it listens.
+#[derive(Drop)]
+struct HostFolder {
+    settings: Settings,
+    accounts: Accounts,
+    clients: TcpListener,
+    browsers: Option<TcpListener>,
+    socket: UnixListener,
+}
+
+/// Looks at the settings and the accounts of a folder, and then listens.
+fn opened<R>(rt: &R, alloc: Global, folder: &str) -> Result<HostFolder, Fault>
+where
+    R: Net<Listener = TcpListener, Stream = TcpStream> + Files<File = File> + AllocGlobal,
+{
+    let settings = settings_of(rt, folder)?;
+    let accounts = accounts_in(rt, folder)?;
+    let clients = bind(rt, alloc, settings.listen.as_str())?;
+    let browsers = match &settings.web {
+        Some(address) => Some(bind(rt, alloc, address.as_str())?),
+        None => None,
+    };
+    let socket = socket_of(rt, alloc, folder)?;
+    Ok(HostFolder {
+        settings,
+        accounts,
+        clients,
+        browsers,
+        socket,
+    })
+}
+
+/// Runs a host with what is opened until it is asked to stop.
+fn run_opened<R>(
+    log: &Log<'_, R>,
+    folder: &str,
+    opened: &HostFolder,
+    repairs: bool,
+    asker: &Mutex<Option<UnixStream>>,
+) -> Result<(), Fault>
+where
+    R: Net<Listener = TcpListener, Stream = TcpStream>
+        + Files<File = File>
+        + RandomSource
+        + Threads
+        + Wait
+        + Clock
+        + Eprint
+        + Sync,
+{
+    let (rt, alloc, settings) = (log.rt, log.alloc, &opened.settings);
+    let pauses = Mutex::new(Pauses::new(alloc));
+    let sessions = Mutex::new(SessionBook::new(alloc)?);
+    let sites = sites_of(alloc, settings, opened.browsers.as_ref())?;
+    let program = Program {
+        rt,
+        alloc,
+        folder,
+        keys: opened.accounts.keys.as_slice(),
+        memory_each: settings.memory_each,
+        pauses: &pauses,
+        sessions: &sessions,
+        sites: sites.as_slice(),
+        idle: settings.idle / 1_000,
+        machine: ThisMachine { rt },
+        log,
+        listeners: Listeners {
+            clients: &opened.clients,
+            browsers: opened.browsers.as_ref(),
+        },
+        socket: &opened.socket,
+        begun: Instant::now(rt)?,
+        asker,
+    };
+    serve(&program, settings, repairs)
+}
+
+/// Runs the host of a folder, which is locked meanwhile, until it is asked to stop.
+fn run_locked<R>(
+    rt: &R,
+    folder: &str,
+    repairs: bool,
+    asker: &Mutex<Option<UnixStream>>,
+) -> Result<(), Fault>
+where
+    R: Net<Listener = TcpListener, Stream = TcpStream>
+        + Files<File = File>
+        + AllocGlobal
+        + RandomSource
+        + Threads
+        + Wait
+        + Clock
+        + Eprint
+        + Sync,
+{
+    let alloc = rt.alloc();
+    let _lock = lock_folder(rt, alloc, folder, "one host at a time")?;
+    let opened = opened(rt, alloc, folder)?;
+    let log = Log { rt, alloc };
+    let folder_field = Field {
+        name: b"folder",
+        value: folder.as_bytes(),
+    };
+    log.tell(b"start", &[folder_field]);
+    let ended = run_opened(&log, folder, &opened, repairs, asker);
+    let _ = fs::remove_file(rt, path_in(alloc, folder, SOCKET)?.as_str());
+    if ended.is_ok() {
+        log.tell(b"end", &[]);
+    }
+    ended
 }
 
 /// Runs the host of a folder until it is asked to stop, and answers the program's status. With `repairs` a journal with a fault goes on
@@ -166,55 +222,9 @@ where
         + Eprint
         + Sync,
 {
-    let alloc = rt.alloc();
-    let lock = lock_folder(rt, alloc, folder, "one host at a time")?;
-    let settings = settings_of(rt, folder)?;
-    let accounts = accounts_in(rt, folder)?;
-    let clients = bind(rt, alloc, settings.listen.as_str())?;
-    let browsers = match &settings.web {
-        Some(address) => Some(bind(rt, alloc, address.as_str())?),
-        None => None,
-    };
-    let socket = socket_of(rt, alloc, folder)?;
-    let log = Log { rt, alloc };
-    let pauses = Mutex::new(Pauses::new(alloc));
-    let sessions = Mutex::new(SessionBook::new(alloc)?);
-    let sites = sites_of(alloc, settings.web.as_ref(), browsers.as_ref())?;
-    let listeners = Listeners {
-        clients: &clients,
-        browsers: browsers.as_ref(),
-    };
-    let program = Program {
-        rt,
-        alloc,
-        folder,
-        keys: accounts.keys.as_slice(),
-        memory_each: settings.memory_each,
-        pauses: &pauses,
-        sessions: &sessions,
-        sites: sites.as_slice(),
-        idle: settings.idle / 1_000,
-        log: &log,
-        listeners,
-        socket: &socket,
-        begun: Instant::now(rt)?,
-        asker: Mutex::new(None),
-    };
-    log.tell(
-        b"start",
-        &[Field {
-            name: b"folder",
-            value: folder.as_bytes(),
-        }],
-    );
-    let ended = serve(&program, &settings, listeners, repairs);
-    let _ = fs::remove_file(rt, path_in(alloc, folder, SOCKET)?.as_str());
-    if ended.is_ok() {
-        log.tell(b"end", &[]);
-    }
-    // Who asked it to stop is told of its end when another host may run.
-    drop(lock);
-    drop(program);
-    ended?;
+    let asker = Mutex::new(None);
+    run_locked(rt, folder, repairs, &asker)?;
+    // Who asked it to stop is told of its end only now, when another host may run.
+    drop(asker);
     Ok(0)
 }

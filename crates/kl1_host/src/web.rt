@@ -5,16 +5,14 @@ ghost use Rattle.kl1_host_web.specs.Records.{asked_in};
 use crate::folder::{JOURNALS, path_in};
 use crate::logins::LoginLog;
 use kl1_command::{Command, Performed};
-use kl1_host_front::PausingDoor;
-use kl1_host_web::{Accounts, AskedRecord, Machine, Measures, Site, Stop, Sums, Viewer};
+use kl1_host_front::{PausingDoor, Settings, host_of};
+use kl1_host_web::{Accounts, AskedRecord, Measures, Site, Stop, Sums, Viewer};
 use kl1_host_work::{HostView, Performer};
-use kl1_pool::bytes_of;
 use kl1_session::Door;
 use kl1_user_events::{Extent, GoalNo, GoalView, Presence, ShoenNo, ShoenView, Usage};
 use std::alloc::{AllocError, Global};
 use std::fs;
 use std::net::{SocketAddr, TcpListener};
-use std::random::RandomSource;
 use std::rt::Files;
 use std::snapshot::Snapshot;
 use std::sync::Wait;
@@ -30,22 +28,39 @@ fn site(alloc: Global, host: &str) -> Result<Site, AllocError> {
 }
 
 /// The names of the host: what is set, the address where it listens, and `localhost` with the port.
-pub fn sites_of(
+fn own_sites(
     alloc: Global,
-    web: Option<&String>,
-    listener: Option<&TcpListener>,
-) -> Result<Vec<Site>, AllocError> {
-    let mut sites = Vec::new(alloc);
-    if let Some(web) = web {
-        sites.push(site(alloc, web.as_str())?)?;
-    }
-    if let Some(listener) = listener
-        && let Ok(address) = listener.local_addr()
-    {
+    sites: &mut Vec<Site>,
+    web: &str,
+    listener: &TcpListener,
+) -> Result<(), AllocError> {
+    sites.push(site(alloc, web)?)?;
+    if let Ok(address) = listener.local_addr() {
         let name = format!(in alloc; "{address}")?;
         sites.push(site(alloc, name.as_str())?)?;
         let name = format!(in alloc; "localhost:{}", address.port())?;
         sites.push(site(alloc, name.as_str())?)?;
+    }
+    Ok(())
+}
+
+/// The names by which browsers know the host: its own, and where its page comes from if a proxy stands before it.
+pub fn sites_of(
+    alloc: Global,
+    settings: &Settings,
+    listener: Option<&TcpListener>,
+) -> Result<Vec<Site>, AllocError> {
+    let mut sites = Vec::new(alloc);
+    if let (Some(web), Some(listener)) = (&settings.web, listener) {
+        own_sites(alloc, &mut sites, web.as_str(), listener)?;
+    }
+    if let Some(page) = &settings.page
+        && let Some(host) = host_of(page.as_bytes())
+    {
+        sites.push(Site {
+            host: Vec::from_slice(alloc, host)?,
+            origin: Vec::from_slice(alloc, page.as_bytes())?,
+        })?;
     }
     Ok(sites)
 }
@@ -53,25 +68,6 @@ pub fn sites_of(
 /// Whether an address is of the machine of the host.
 pub fn is_local(address: SocketAddr) -> bool {
     address.ip().to_canonical().is_loopback()
-}
-
-/// The clock and the randomness of the machine.
-#[derive(Drop)]
-pub struct ThisMachine<'m, R: Clock + RandomSource> {
-    pub rt: &'m R,
-}
-
-impl<R: Clock + RandomSource> Machine for ThisMachine<'_, R> {
-    fn seconds(&self) -> u64 {
-        match self.rt.monotonic() {
-            Ok(time) => time.as_secs(),
-            Err(_) => 0,
-        }
-    }
-
-    fn fill(&self, bytes: &mut [u8]) -> bool {
-        self.rt.fill_bytes(bytes).is_ok()
-    }
 }
 
 /// What shows an account of a host.
@@ -111,8 +107,8 @@ impl<V: HostView> Viewer for AccountViewer<'_, V> {
         if self.host.is_stopped(self.account) {
             return Some(Stop::Disk);
         }
-        match self.host.usage(self.account) {
-            Ok(usage) if bytes_of(&usage) > self.most_bytes => Some(Stop::Memory),
+        match self.host.bytes(self.account) {
+            Ok(bytes) if bytes > self.most_bytes => Some(Stop::Memory),
             _ => None,
         }
     }
@@ -205,15 +201,20 @@ impl<'w, R: Wait + Clock + Eprint + Files, P: Performer, V: HostView> Accounts
     }
 
     fn sums(&self) -> Sums {
-        let mut sessions = 0u64;
-        for account in 0..self.door.keys.len() {
-            sessions = sessions.saturating_add(self.host.sessions(account).unwrap_or(0));
-        }
-        Sums {
+        let mut sums = Sums {
             accounts: self.door.keys.len() as u64,
-            sessions,
+            sessions: 0,
             events: 0,
             steps: 0,
+        };
+        for account in 0..self.door.keys.len() {
+            let sessions = self.host.sessions(account).unwrap_or(0);
+            sums.sessions = sums.sessions.saturating_add(sessions);
+            if let Ok(counted) = self.host.counted(account) {
+                sums.events = sums.events.saturating_add(counted.events);
+                sums.steps = sums.steps.saturating_add(counted.steps);
+            }
         }
+        sums
     }
 }

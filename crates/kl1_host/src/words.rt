@@ -38,49 +38,61 @@ fn word<'a>(alloc: Global, name: &'a str, help: &'a str) -> Arg<'a> {
 }
 
 /// A task over a folder.
-fn task<'a>(alloc: Global, name: &'a str, about: &'a str) -> Result<Command<'a>, AllocError> {
+fn folder_task<'a>(
+    alloc: Global,
+    name: &'a str,
+    about: &'a str,
+) -> Result<Command<'a>, AllocError> {
     Command::new(alloc, name)
         .about(about)
         .arg(word(alloc, "DIR", "The folder"))
 }
 
-/// The words that the program knows.
-fn command<'a>(alloc: Global) -> Result<Command<'a>, AllocError> {
-    let init = task(
-        alloc,
-        "init",
-        "Makes a folder for accounts, with settings to look through",
-    )?;
-    let add = task(alloc, "add", "Adds an account, and writes its key, once")?.arg(word(
-        alloc,
-        "NAME",
-        "The account's name",
-    ))?;
+/// The words of a host that runs.
+fn run<'a>(alloc: Global) -> Result<Command<'a>, AllocError> {
     let repair = Arg::new(alloc, "repair")
         .long("repair")
         .action(ArgAction::SetTrue)
         .help("Keep of a journal with a fault what is before it");
-    let run = task(
+    folder_task(
         alloc,
         "run",
         "Serves the accounts, until it is asked to stop",
     )?
-    .arg(repair)?;
-    let check = task(
+    .arg(repair)
+}
+
+/// The words for a new account.
+fn add<'a>(alloc: Global) -> Result<Command<'a>, AllocError> {
+    folder_task(alloc, "add", "Adds an account, and writes its key, once")?.arg(word(
+        alloc,
+        "NAME",
+        "The account's name",
+    ))
+}
+
+/// The words that the program knows.
+fn command<'a>(alloc: Global) -> Result<Command<'a>, AllocError> {
+    let init = folder_task(
+        alloc,
+        "init",
+        "Makes a folder for accounts, with settings to look through",
+    )?;
+    let check = folder_task(
         alloc,
         "check",
         "Looks at settings and accounts, and replays each journal",
     )?;
-    let status = task(alloc, "status", "Tells how the host that runs there goes")?;
-    let stop = task(alloc, "stop", "Stops the host that runs there")?;
+    let status = folder_task(alloc, "status", "Tells how the host that runs there goes")?;
+    let stop = folder_task(alloc, "stop", "Stops the host that runs there")?;
     Command::new(alloc, "kl1_host")
         .about("A server whose accounts outlive it")
         .version(VERSION)
         .override_usage(USAGE)
         .subcommand_required(true)
         .subcommand(init)?
-        .subcommand(add)?
-        .subcommand(run)?
+        .subcommand(add(alloc)?)?
+        .subcommand(run(alloc)?)?
         .subcommand(check)?
         .subcommand(status)?
         .subcommand(stop)
