@@ -1,13 +1,30 @@
 #!/usr/bin/env python3
 import os, re, time
-CRITICAL = {"kl1_run", "kl1_user", "kl1_journal", "kl1_world", "kl1_script", "kl1_pool", "kl1_trace_work", "kl1_trace", "kl1_tests"}
-def want(cwd, cmd, name=""):
-    if name == "kl1_trace" and cwd.startswith("/tmp/rt-copy"): return -19
-    if cwd.startswith("/tmp/rt-copy") and name not in CRITICAL: return -9
-    if "rt-edit" in cwd: return -7
-    if cwd.startswith(("/tmp/rt-copy", "/work/main", "/work/wt/gate", "/work/wt/g2", "/work/wt/g3", "/work/wt/g4", "/work/wt/next")): return -12
+import sys
+def _below():
+    deps={}
+    for line in open("/work/wt/host2/crates.txt"):
+        name, colon, rest = line.split("#")[0].partition(":")
+        if colon: deps[name.strip()]=rest.split()
+    out=set()
+    def walk(n):
+        for d in deps.get(n,[]):
+            if d in deps and d not in out: out.add(d); walk(d)
+    for n in ("kl1_pool","kl1_host_web","kl1_world","kl1_host_journals"): walk(n); out.add(n)
+    return out - {"kl1_host_web","kl1_host_page"}
+CRITICAL = _below()
+def want(cwd, cmd, name="", VERB=""):
+    if cwd.startswith("/tmp/plants-"): return -3
+    if "/tmp/tmp." in cmd or ("clang" in cmd and cwd.startswith("/work/wt/h")): return -2
+    if "rt-edit" in cwd: return -4
+    if cwd.startswith("/work/wt/hpool"): return -2
+    if cwd.startswith("/work/wt/hwork"): return -9
+    if cwd.startswith("/work/wt/hweb"): return -9
+    if cwd.startswith("/work/wt/h"): return 4
+    if cwd.startswith("/tmp/rt-copy") and name not in CRITICAL: return -7
+    if "rt-edit" in cwd: return -4
+    if cwd.startswith(("/tmp/rt-copy", "/work/main", "/work/wt/gate", "/work/wt/g2", "/work/wt/g3", "/work/wt/g4", "/tmp/rt-", "/work/wt/next")): return -12
     if "rattle-native" in cwd and "rt-try" not in cwd: return -9
-    if name == "kl1_host_front": return -9
     if cwd.startswith("/work/wt"): return 10
     if "/tmp/tmp." in cmd or "/tmp/tmp." in cwd or "rt-try" in cwd: return 4
     return 5
@@ -19,7 +36,7 @@ while True:
             words = open(f"/proc/{p}/cmdline","rb").read().decode(errors="replace").split("\0"); cmd = words[0]
             name = words[words.index("--crate-name") + 1] if "--crate-name" in words else ""
             if not re.search(r"rattle|clang|antt|valgrind|callgrind", cmd): continue
-            n = want(os.readlink(f"/proc/{p}/cwd"), cmd, name)
+            n = want(os.readlink(f"/proc/{p}/cwd"), cmd, name, words[1] if len(words) > 1 else "")
             if n is None: continue
             if n > -8:
                 with open(f'/proc/{p}/oom_score_adj','w') as f: f.write('600')
