@@ -195,18 +195,6 @@ where
     )
 }
 
-/// Writes for an account until its bell says that it is to end, and gives the file back.
-fn write_on<D: Disk + Drop, W: Wait + Clock, T: FaultTeller>(
-    rt: &W,
-    scribe: Scribe<'_, D>,
-    period: Duration,
-    faults: &T,
-) -> LogFile<D> {
-    let mut scribe = scribe;
-    scribe.work(rt, period, faults);
-    scribe.into_file()
-}
-
 /// The scribes of accounts with these keepers and files, in order.
 fn scribes_of<D: Disk + Drop>(
     alloc: Global,
@@ -220,8 +208,90 @@ fn scribes_of<D: Disk + Drop>(
     Ok(scribes)
 }
 
+/// Writes for an account until its bell says that it is to end, and gives the file back.
+fn write_on<D: Disk + Drop, W: Wait + Clock, T: FaultTeller>(
+    rt: &W,
+    scribe: Scribe<'_, D>,
+    period: Duration,
+    faults: &T,
+) -> LogFile<D> {
+    let mut scribe = scribe;
+    scribe.work(rt, period, faults);
+    scribe.into_file()
+}
+
+/// Lets each scribe write in a thread of its own while `run` runs, which is told whether all of these could be made, and which ends their
+/// bells. Answers the files, or that some thread couldn't be made.
+fn write_while<D: Disk + Drop + Send, R, T: FaultTeller + Sync, G: FnOnce(bool) -> bool>(
+    rt: &R,
+    alloc: Global,
+    scribes: Vec<Scribe<'_, D>>,
+    period: Duration,
+    faults: &T,
+    run: G,
+) -> Result<Vec<LogFile<D>>, StartFault>
+where
+    R: Threads + Wait + Clock + Sync,
+    requires { (there : _) → G.pre run there }
+{
+    // No memory is asked for once a scribe is there, so that nothing keeps `run` from ending it.
+    let handles = Vec::with_capacity(alloc, scribes.len())?;
+    let back = Vec::with_capacity(alloc, scribes.len())?;
+    thread::scope(
+        thread::scope_env(),
+        rt,
+        move |scope| -> Result<Vec<LogFile<D>>, StartFault>
+            requires { (there : _) → G.pre run there }
+        {
+            let mut handles = handles;
+            let mut back = back;
+            let mut all_are_there = true;
+            for scribe in scribes {
+                match scope.spawn(move || write_on(rt, scribe, period, faults)) {
+                    Ok(handle) => {
+                        let _ = handles.push(handle);
+                    }
+                    Err(_) => all_are_there = false,
+                }
+            }
+            let all_were_there = run(all_are_there);
+            for handle in handles {
+                let _ = back.push(handle.join(rt));
+            }
+            if all_were_there {
+                Ok(back)
+            } else {
+                Err(StartFault::Threads)
+            }
+        },
+    )
+}
+
+/// Runs a host until its program has attended to it, if all scribes are there. When all else has ended, what is left is noted, and the
+/// scribes are told to write it and end. Answers whether all threads could be made.
+fn run_noted<'t, F: Front + Sync, R, K: PoolIds + Send + Sync>(
+    rt: &R,
+    listeners: Listeners<'_>,
+    desk: &Desk<'_, 't, F, R, K>,
+    workers: Vec<Share<K>>,
+    attending: Share<K>,
+    scribes_are_there: bool,
+) -> bool
+where
+    R: Net<Listener = TcpListener, Stream = TcpStream> + Threads + Wait + Clock + Sync,
+    F::Entrance: Send,
+    requires { F.accounts desk.now.front.now ≤ K.accounts }
+{
+    let all_are_there = scribes_are_there && run_accounts(rt, listeners, desk, workers, attending);
+    note_all(rt, desk.pool, desk.host);
+    for keeper in desk.host.keepers {
+        keeper.bell().end(rt);
+    }
+    all_are_there
+}
+
 /// Runs a host until its program has attended to it, with a scribe for each account in a thread of its own: replies that wait for the disk
-/// need them as long as a connection is open. When all else has ended, what is left is noted, and they write it. Answers the files.
+/// need them as long as a connection is open. Answers the files.
 pub(crate) fn run_threads<'t, F: Front + Sync, D: Disk + Drop + Send, R, K: PoolIds + Send + Sync>(
     rt: &R,
     listeners: Listeners<'_>,
@@ -235,43 +305,16 @@ where
     F::Entrance: Send,
     requires { F.accounts desk.now.front.now ≤ K.accounts }
 {
-    let period = desk.host.syncing.period;
     let faults = Telling { front: desk.front };
-    let faults = &faults;
-    // No memory is asked for once a scribe is there, so that nothing keeps this from ending it.
-    let handles = Vec::with_capacity(desk.alloc, files.len())?;
-    let back = Vec::with_capacity(desk.alloc, files.len())?;
     let scribes = scribes_of(desk.alloc, desk.host.keepers, files)?;
-    thread::scope(
-        thread::scope_env(),
+    write_while(
         rt,
-        move |scope| -> Result<Vec<LogFile<D>>, StartFault>
+        desk.alloc,
+        scribes,
+        desk.host.syncing.period,
+        &faults,
+        move |there: bool| -> bool
             requires { F.accounts desk.now.front.now ≤ K.accounts }
-        {
-            let mut handles = handles;
-            let mut back = back;
-            let mut all_are_there = true;
-            for scribe in scribes {
-                match scope.spawn(move || write_on(rt, scribe, period, faults)) {
-                    Ok(handle) => {
-                        let _ = handles.push(handle);
-                    }
-                    Err(_) => all_are_there = false,
-                }
-            }
-            all_are_there = all_are_there && run_accounts(rt, listeners, desk, workers, attending);
-            note_all(rt, desk.pool, desk.host);
-            for keeper in desk.host.keepers {
-                keeper.bell().end(rt);
-            }
-            for handle in handles {
-                let _ = back.push(handle.join(rt));
-            }
-            if all_are_there {
-                Ok(back)
-            } else {
-                Err(StartFault::Threads)
-            }
-        },
+        { run_noted(rt, listeners, desk, workers, attending, there) },
     )
 }
