@@ -130,7 +130,14 @@ const ACKNOWLEDGED: &[(&[u8], &[u8])] = &[
 
 /// Whether some bytes stand in others.
 fn has(bytes: &[u8], wanted: &[u8]) -> bool {
-    bytes.windows(wanted.len()).any(|window| window == wanted)
+    for start in 0..bytes.len() {
+        if let Some(rest) = bytes.get(start..)
+            && rest.starts_with(wanted)
+        {
+            return true;
+        }
+    }
+    false
 }
 
 /// Of files that fail after some number of calls and bytes, whatever was replied is on disk.
