@@ -1,0 +1,6 @@
+pub mod Quantities
+pub mod Syncs
+pub mod Sums
+pub mod Pauses
+pub mod LogLines
+pub mod StatusLines
