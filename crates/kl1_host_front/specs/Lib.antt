@@ -1,5 +1,6 @@
 pub mod Quantities
 pub mod Syncs
+pub mod Origins
 pub mod Sums
 pub mod Pauses
 pub mod LogLines

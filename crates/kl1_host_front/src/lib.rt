@@ -4,6 +4,7 @@
 mod address;
 mod hashed_keys;
 mod log_line;
+mod origin;
 mod pauses;
 mod pausing_door;
 mod quantities;
@@ -17,6 +18,7 @@ mod wrong_keys;
 pub use address::address_number;
 pub use hashed_keys::{HashedKeys, sum_of};
 pub use log_line::{Field, put_line};
+pub use origin::host_of;
 pub use pausing_door::{LoginTeller, PausingDoor};
 pub use quantities::{MOST_BYTES, MOST_MILLISECONDS, duration_in, size_in};
 pub use settings::{BadSetting, MOST_CONNECTIONS, MOST_WORKERS, Settings};

@@ -2,6 +2,7 @@
 
 ghost use Rattle.std.specs.Prelude.{◌≤◌, IfOk};
 
+use crate::origin::host_of;
 use crate::quantities::{duration_in, size_in};
 use crate::sync::{Sync, sync_in};
 use std::alloc::{AllocError, Global};
@@ -14,6 +15,8 @@ pub struct Settings {
     pub listen: String,
     /// Where it shows its page, if it does.
     pub web: Option<String>,
+    /// Where browsers say that its page comes from, if they find it by another name than its address: an origin.
+    pub page: Option<String>,
     /// How many threads go on with accounts; `None` for one for each account.
     pub workers: Option<u32>,
     /// When journals are on the disk.
@@ -49,6 +52,8 @@ pub enum BadSetting {
     Size,
     /// It is a time, as `"10m"`.
     Time,
+    /// It is an origin, as `"https://kl1.example.org"`.
+    Origin,
     /// It is `"always"`, `"never"` or a time up to an hour.
     Sync,
     /// Memory was refused.
@@ -65,6 +70,7 @@ impl BadSetting {
             BadSetting::Number(_) => "is a number from 1 to 65536",
             BadSetting::Size => "is a size, as \"256 MB\"",
             BadSetting::Time => "is a time, as \"10m\", \"90s\" or \"100ms\"",
+            BadSetting::Origin => "is an origin, as \"https://kl1.example.org\"",
             BadSetting::Sync => "is \"always\", \"never\" or a time up to an hour, as \"100ms\"",
             BadSetting::Memory => "takes memory that there isn't",
         }
@@ -85,6 +91,17 @@ fn text_of(alloc: Global, value: &Value) -> Result<String, BadSetting> {
     let mut copy = String::new(alloc);
     copy.push_str(text)?;
     Ok(copy)
+}
+
+/// The copy of an origin.
+fn origin_of(alloc: Global, value: &Value) -> Result<String, BadSetting> {
+    let Some(text) = value.as_str() else {
+        return Err(BadSetting::Origin);
+    };
+    if host_of(text.as_bytes()).is_none() {
+        return Err(BadSetting::Origin);
+    }
+    text_of(alloc, value)
 }
 
 /// A number from 1 to `most`.
@@ -136,6 +153,7 @@ impl Settings {
         Ok(Settings {
             listen,
             web: None,
+            page: None,
             workers: None,
             sync: Sync::Always,
             idle: 600_000,
@@ -151,6 +169,7 @@ impl Settings {
         match name {
             "listen" => self.listen = text_of(alloc, value)?,
             "web" => self.web = Some(text_of(alloc, value)?),
+            "page" => self.page = Some(origin_of(alloc, value)?),
             "workers" => self.workers = Some(number_of(value, MOST_WORKERS)?),
             "sync" => self.sync = sync_of(value)?,
             "idle" => self.idle = time_of(value)?,

@@ -132,6 +132,9 @@ pub const FIRST_SETTINGS: &str = "\
 # Where a browser finds its page, an address and a port; without this there is none.
 # web = \"127.0.0.1:7480\"
 
+# Where the page comes from, as browsers say it, if they find it through a proxy by another name.
+# page = \"https://kl1.example.org\"
+
 # How many threads go on with accounts, 1 to 64; without this one for each account.
 # workers = 4
 
