@@ -1,16 +1,15 @@
 -- First steps as runs do them and as entries do them, and what is counted of entries.
-use Rattle.std.proofs.Common.{◌≡◌, ℕ, zero, suc, ◌+◌, ◌-◌, ◌<◌, ◌≤◌, ◌==◌, nat_le, nat_lt, not, ◌&&◌, Bool, true, false, if◌then◌else◌, List, [], ◌∷◌, ◌++◌, length, refl, sym, ap, ◌∙◌, subst, arith}
-use Rattle.std.specs.Prelude.{Option, Some, None, is_some}
+use Rattle.std.proofs.Common.{◌≡◌, ℕ, zero, suc, ◌+◌, ◌-◌, ◌<◌, ◌==◌, Bool, true, false, if◌then◌else◌, refl, sym, ap, ◌∙◌, subst, arith}
+use Rattle.std.specs.Prelude.{Option, Some, None}
 use Rattle.kl1_model.specs.State.{State, has_runs}
 use Rattle.kl1_model.specs.Event as model
 use Rattle.kl1_model.specs.Event.{Event, syntax, reduce, ran, Reply, Transition, refuse, is_refused}
 use Rattle.kl1_model.specs.Choice.{Chosen, first}
 use Rattle.kl1_model.specs.Step.{step}
 use Rattle.kl1_model.proofs.TreeSteps.{refusals_change_nothing}
-use Rattle.kl1_model_server.specs.Journal.{Entry, runs, Kept, Done, done, chosen_step, first_step, first_steps, entry_step}
+use Rattle.kl1_model_server.specs.Journal.{runs, Kept, Done, done, chosen_step, first_step, first_steps, entry_step}
 use Rattle.kl1_model_server.specs.Command.{said, run_from}
 use Rattle.kl1_command.specs.Performing.{stopped_by}
-use Rattle.kl1_command.specs.Stepping.{RunsOn}
 
 abbrev moved : State → Reply → Transition
 moved s r = record { state = s; reply = r }

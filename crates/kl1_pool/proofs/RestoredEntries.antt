@@ -1,10 +1,9 @@
 -- Entries that are done one after another, and what is counted of them.
-use Rattle.std.proofs.Common.{◌≡◌, ℕ, suc, ◌+◌, ◌≤◌, not, ◌&&◌, Bool, true, false, List, [], ◌∷◌, ◌++◌, take, drop, length, length-append, refl, sym, ap, ◌∙◌, subst, arith}
-use Rattle.std.specs.Prelude.{IsTrue}
-use Rattle.std.proofs.lemmas.Bool.{and_parts, and_from, not_from_false}
+use Rattle.std.proofs.Common.{◌≡◌, ℕ, ◌+◌, not, true, false, List, [], ◌∷◌, ◌++◌, take, drop, length, length-append, refl, sym, ap, ◌∙◌, subst, arith}
+use Rattle.std.proofs.lemmas.Bool.{and_parts, and_from}
 use Rattle.std.proofs.lemmas.List.{append_assoc}
 use Rattle.kl1_model.specs.State.{State}
-use Rattle.kl1_model.specs.Event.{ran, Transition, is_refused}
+use Rattle.kl1_model.specs.Event.{ran, is_refused}
 use Rattle.kl1_model_server.specs.Journal.{Entry, entry_step, first_steps}
 use Rattle.kl1_model_server.specs.laws.ReplayLaws.{are_accepted}
 use Rattle.kl1_command.specs.Told.{Told}

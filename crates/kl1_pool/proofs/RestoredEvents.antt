@@ -5,7 +5,6 @@ use Rattle.std.proofs.lemmas.Option.{same_Some, none-some}
 use Rattle.kl1_model.specs.State.{State, has_runs}
 use Rattle.kl1_model.specs.Event as model
 use Rattle.kl1_model.specs.Event.{ran, Transition, is_refused}
-use Rattle.kl1_model.specs.Choice.{first}
 use Rattle.kl1_model.specs.Step.{step}
 use Rattle.kl1_model.proofs.TreeSteps.{refusals_change_nothing}
 use Rattle.kl1_model_server.specs.Journal.{Entry, loads, starts, sends, steps, answers, runs, entry_step, first_step, first_steps, Kept, Done, done}
@@ -13,7 +12,7 @@ use Rattle.kl1_user_events.specs.Views.{refusal_of}
 use Rattle.kl1_journal_entries.specs.Lined.{entry_of}
 use Rattle.kl1_command.specs.declared.first_step.FirstStep.{FirstStep}
 use Rattle.kl1_command.specs.declared.first_step.FirstStep.TheVariants as first_step
-use Rattle.kl1_command.specs.Told.{Told, told_by, told_steps}
+use Rattle.kl1_command.specs.Told.{told_by, told_steps}
 use Rattle.kl1_command.specs.Room.{HasRoomFor, done_within}
 use Rattle.kl1_command.specs.Stepping.{RunsOn, IsEnd}
 use Rattle.kl1_command.proofs.Runs.{all_done}

@@ -1,5 +1,5 @@
 -- What the replies to entries that are accepted tell to be counted.
-use Rattle.std.proofs.Common.{◌≡◌, ℕ, suc, nat_le, nat_lt, not, ◌&&◌, Bool, true, false, List, [], ◌∷◌, length, refl, ap, sym, ◌∙◌}
+use Rattle.std.proofs.Common.{◌≡◌, ℕ, suc, nat_le, nat_lt, not, ◌&&◌, Bool, false, [], ◌∷◌, length, refl, ap, sym, ◌∙◌}
 use Rattle.std.specs.Prelude.{Option, Some, None, is_some}
 use Rattle.kl1_model.specs.declared.limits.TheConstants.{MOST_MODULES, MOST_SOURCE_BYTES}
 use Rattle.kl1_model.specs.Term.{Term}
@@ -16,7 +16,7 @@ use Rattle.kl1_model.specs.Sending.{may_send, has_room_to_send, send_to, send_li
 use Rattle.kl1_model.specs.Answering.{may_answer, has_room_to_answer, unanswered_at, answer_by, answer_living, answer_to}
 use Rattle.kl1_model.specs.Step.{load_module, start_by, step}
 use Rattle.kl1_model.specs.code.Steps.{reduced_by, send_by, answer_in, with_module}
-use Rattle.kl1_model_server.specs.Journal.{Entry, loads, starts, sends, steps, answers}
+use Rattle.kl1_model_server.specs.Journal.{Entry}
 use Rattle.kl1_journal_entries.specs.Lined.{entry_of}
 use Rattle.kl1_command.specs.Told.{Told, told_by}
 use Rattle.kl1_pool.specs.Restoring.{told_of}

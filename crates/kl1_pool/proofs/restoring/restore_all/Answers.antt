@@ -1,10 +1,7 @@
 use Rattle.std.proofs.Common.{[], ◌∷◌, take, sym, subst, refl, ◌∙◌}
-use Rattle.kl1_model_server.specs.Journal.{Entry}
 use Rattle.kl1_journal_entries.specs.Shown.{entry_shown}
-use Rattle.kl1_command.specs.Told.{Told}
 use Rattle.kl1_pool.specs.declared.restoring.RestoreEnd.TheVariants as ending
 use Rattle.kl1_pool.specs.declared.restoring.Restored.{Restored}
-use Rattle.kl1_pool.specs.declared.restoring.EntryResult.{EntryResult}
 use Rattle.kl1_pool.specs.declared.restoring.EntryResult.TheVariants as result
 use Rattle.kl1_pool.specs.Restoring.{IsEntryDone, told_of, told_entry}
 use Rattle.kl1_pool.proofs.RestoredEntries.{AreLeft, none_left, none_done, left_more, done_more, restored_at, ends_before, told_more, told_steps_more}

@@ -3,7 +3,7 @@ use Rattle.kl1_user_events.specs.Views.{event_of, reply_of}
 use Rattle.kl1_command.specs.Told.{told_steps}
 use Rattle.kl1_pool.specs.declared.restoring.RestoreEnd.TheVariants as ending
 use Rattle.kl1_pool.specs.declared.restoring.EntryResult.TheVariants as result
-use Rattle.kl1_pool.specs.Restoring.{IsEntryDone, told_entry}
+use Rattle.kl1_pool.specs.Restoring.{IsEntryDone}
 use Rattle.kl1_pool.proofs.RestoredEvents.{none_of, event_done, event_told}
 use Rattle.kl1_pool.proofs.restoring.restore_event.Goals as goal
 
