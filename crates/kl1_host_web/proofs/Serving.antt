@@ -1,9 +1,8 @@
 -- Requests that are attended to, one after another.
-use Rattle.std.proofs.Common.{◌≡◌, ℕ, Bool, true, false, List, [], ◌∷◌, ◌++◌, length, Some, None, Result, Ok, Err, IsErr, IsErrAnd, IfOk, IfSome, Vec, refl, sym, ap, subst, ◌∙◌, inl, inr}
+use Rattle.std.proofs.Common.{◌≡◌, ℕ, Bool, true, false, List, [], ◌∷◌, ◌++◌, Some, Result, Ok, Err, IsErr, IsErrAnd, IfOk, IfSome, Vec, sym, ap, subst, ◌∙◌, inl, inr}
 use Rattle.std.specs.declared.option.Option.{Option}
 use Rattle.std.specs.declared.alloc.AllocError.{AllocError}
 use Rattle.std.specs.declared.alloc.Global.{Global}
-use Rattle.std.specs.Io.KnownBytes.{Consumes}
 use Rattle.kl1_host_door.specs.declared.refusal.Refusal.{Refusal}
 use Rattle.kl1_host_door.specs.declared.refusal.Refusal.TheVariants as refusal
 use Rattle.kl1_host_door.specs.declared.answer.Answer.{Answer}
@@ -18,9 +17,9 @@ use Rattle.kl1_model.specs.Event as event
 use Rattle.kl1_model_server.specs.Command.{does}
 use Rattle.kl1_command.specs.declared.performed.Performed.{Performed}
 use Rattle.kl1_host_web.specs.Asking.{Asked, did, House}
-use Rattle.kl1_host_web.specs.Wishes.{wish_view, wanted, IsWish}
+use Rattle.kl1_host_web.specs.Wishes.{wish_view, IsWish}
 use Rattle.kl1_host_web.specs.Telling.{Grants, IsRefusal}
-use Rattle.kl1_host_web.specs.Serving.{Closes, is_set, Begins, Begun, Ends, Performs, Fails, is_within, AnswersWithin, Answers, Attends, Exchange, IsNext, Exchanges, Serves, Steps, HasHead, HasNoBody, HasBody}
+use Rattle.kl1_host_web.specs.Serving.{Closes, is_set, Begins, Begun, Ends, Performs, AnswersWithin, Answers, Attends, Exchange, Exchanges, Serves, Steps, HasHead, HasNoBody, HasBody}
 use Rattle.kl1_host_web.specs.declared.serve.Served.{Served}
 use Rattle.kl1_host_web.specs.declared.serve.Served.TheVariants as served_as
 use Rattle.kl1_host_web.specs.declared.wish.Wish.{Wish}

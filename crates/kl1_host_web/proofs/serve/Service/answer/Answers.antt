@@ -1,4 +1,4 @@
-use Rattle.std.proofs.Common.{◌≡◌, Bool, true, Ok, Err, refl, sym, ap, subst, ◌∙◌}
+use Rattle.std.proofs.Common.{Ok, Err, refl, sym, ap, subst, ◌∙◌}
 use Rattle.kl1_host_web.specs.Asking.{House}
 use Rattle.kl1_host_web.specs.Telling.{IsOpenedIn}
 use Rattle.kl1_host_web.specs.Serving.{is_within}

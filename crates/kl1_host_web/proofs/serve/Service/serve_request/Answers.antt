@@ -1,7 +1,7 @@
-use Rattle.std.proofs.Common.{◌≡◌, List, ℕ, length, Some, Ok, Err, refl, sym, subst, inr}
+use Rattle.std.proofs.Common.{List, ℕ, Ok, Err, refl, sym, subst, inr}
 use Rattle.std.specs.declared.option.Option.{Option}
 use Rattle.std.specs.Io.KnownBytes.{prepend_known}
-use Rattle.kl1_host_web.specs.Serving.{ComesIn, HasHead, HasBody, Exchange, Exchanges}
+use Rattle.kl1_host_web.specs.Serving.{ComesIn, HasHead, HasBody}
 use Rattle.kl1_host_web.specs.declared.incoming.Incoming.{Incoming}
 use Rattle.kl1_host_web.proofs.Serving.{exchanges, no_body, failed, body_is}
 use Rattle.kl1_host_web.proofs.serve.Service.serve_request.Goals as goal
