@@ -130,7 +130,14 @@ const ACKNOWLEDGED: &[(&[u8], &[u8])] = &[
 
 /// Whether some bytes stand in others.
 fn has(bytes: &[u8], wanted: &[u8]) -> bool {
-    bytes.windows(wanted.len()).any(|window| window == wanted)
+    let mut rest = bytes;
+    while let [_, others @ ..] = rest {
+        if rest.starts_with(wanted) {
+            return true;
+        }
+        rest = others;
+    }
+    false
 }
 
 /// Of files that fail after some number of calls and bytes, whatever was replied is on disk.
