@@ -130,12 +130,12 @@ const ACKNOWLEDGED: &[(&[u8], &[u8])] = &[
 
 /// Whether some bytes stand in others.
 fn has(bytes: &[u8], wanted: &[u8]) -> bool {
-    let mut rest = bytes;
-    while let [_, others @ ..] = rest {
-        if rest.starts_with(wanted) {
+    for start in 0..bytes.len() {
+        if let Some(rest) = bytes.get(start..)
+            && rest.starts_with(wanted)
+        {
             return true;
         }
-        rest = others;
     }
     false
 }
