@@ -1,4 +1,4 @@
-// What wakes the scribe.
+// What wakes a scribe.
 
 use std::sync::{Condvar, Mutex, Wait};
 use std::time::{Clock, Duration};
@@ -10,7 +10,7 @@ struct Calls {
     is_ending: bool,
 }
 
-/// What wakes the scribe: a call of those whose replies wait, or that it is to end.
+/// What wakes a scribe: a call of those whose replies wait, or that it is to end.
 #[derive(Drop)]
 pub struct Bell {
     calls: Mutex<Calls>,

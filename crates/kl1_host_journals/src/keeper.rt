@@ -2,6 +2,7 @@
 
 ghost use Rattle.kl1_host_journals.specs.Outgoings.{IsNotedBySome};
 
+use crate::bell::Bell;
 use crate::notes::Notes;
 use crate::on_disk::OnDisk;
 use crate::outgoing::Outgoing;
@@ -17,6 +18,8 @@ use std::sync::{Mutex, Wait};
 pub struct Keeper {
     notes: Mutex<Notes>,
     on_disk: OnDisk,
+    /// What wakes the account's scribe.
+    bell: Bell,
     /// Whether the scribe asks whoever commands the account next to note it.
     is_due: AtomicBool,
 }
@@ -27,6 +30,7 @@ impl Keeper {
         Keeper {
             notes: Mutex::new(notes),
             on_disk: OnDisk::new(receipt),
+            bell: Bell::new(),
             is_due: AtomicBool::new(false),
         }
     }
@@ -34,6 +38,11 @@ impl Keeper {
     /// How far the account is on disk.
     pub fn on_disk(&self) -> &OnDisk {
         &self.on_disk
+    }
+
+    /// What wakes the account's scribe.
+    pub fn bell(&self) -> &Bell {
+        &self.bell
     }
 
     /// Notes what has come to the journal.

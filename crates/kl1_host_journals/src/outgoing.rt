@@ -7,7 +7,6 @@ ghost use Rattle.kl1_log.specs.Receipts.{reply_of};
 ghost use Rattle.kl1_host_journals.specs.Gates.{writer_behind};
 ghost use Rattle.kl1_host_journals.specs.Outgoings.{IsFreed};
 
-use crate::bell::Bell;
 use crate::keeper::Keeper;
 use kl1_log::Unsent;
 use std::io::{Result, Write};
@@ -76,14 +75,14 @@ impl Outgoing {
         }
     }
 
-    /// Waits until the leave is here; `Lost` if it won't be. It rings for the scribe if not all is on disk yet.
-    pub fn freed<W: Wait>(self, rt: &W, bell: &Bell, keepers: &[Keeper]) -> Outgoing
+    /// Waits until the leave is here; `Lost` if it won't be. It rings for the account's scribe if not all is on disk yet.
+    pub fn freed<W: Wait>(self, rt: &W, keepers: &[Keeper]) -> Outgoing
         ensures { IsFreed self result }
     {
         match self {
             Outgoing::Free(permit) => Outgoing::Free(permit),
             Outgoing::Waits(account, unsent) => match keepers.get(account) {
-                Some(keeper) => handed_out(rt, bell, keeper, unsent),
+                Some(keeper) => handed_out(rt, keeper, unsent),
                 None => Outgoing::Lost,
             },
             Outgoing::Lost => Outgoing::Lost,
@@ -92,11 +91,11 @@ impl Outgoing {
 }
 
 /// A leave that waits, once all is on disk for which it does; `Lost` if that won't be.
-fn handed_out<W: Wait>(rt: &W, bell: &Bell, keeper: &Keeper, unsent: Unsent<SendPermit>) -> Outgoing
+fn handed_out<W: Wait>(rt: &W, keeper: &Keeper, unsent: Unsent<SendPermit>) -> Outgoing
     ensures { (result ≡ Outgoing.Free (reply_of unsent)) ⊎ (result ≡ Outgoing.Lost) }
 {
     if !keeper.on_disk().is_done(rt, &unsent) {
-        bell.ring(rt);
+        keeper.bell().ring(rt);
     }
     match keeper.on_disk().wait_for(rt, &unsent) {
         Some(receipt) => Outgoing::Free(unsent.hand_out(receipt)),

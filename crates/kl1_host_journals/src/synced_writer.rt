@@ -3,38 +3,29 @@
 ghost use Rattle.std.specs.Prelude.{◌≡◌};
 ghost use Rattle.kl1_host_journals.specs.SyncedWriters.{writer_of};
 
-use crate::bell::Bell;
 use crate::keeper::Keeper;
 use crate::outgoing::{Gate, Outgoing, SendPermit};
 use std::cell::Cell;
 use std::io::{Error, ErrorKind, Result, Write};
 use std::sync::Wait;
 
-/// A writer that writes only once all is on disk for which the leave to write waits. It rings for the scribe before it waits.
+/// A writer that writes only once all is on disk for which the leave to write waits. It rings for the account's scribe before it waits.
 #[derive(Drop)]
 pub struct SyncedWriter<'c, T: Write, R: Wait> {
     gate: Gate<T>,
     rt: &'c R,
-    bell: &'c Bell,
     keepers: &'c [Keeper],
     outgoing: &'c Cell<Outgoing>,
 }
 
 impl<'c, T: Write, R: Wait> SyncedWriter<'c, T, R> {
     /// A writer over `writer`, of a connection whose leave to write is `outgoing`, to accounts of these keepers.
-    pub fn new(
-        writer: T,
-        rt: &'c R,
-        bell: &'c Bell,
-        keepers: &'c [Keeper],
-        outgoing: &'c Cell<Outgoing>,
-    ) -> Self
+    pub fn new(writer: T, rt: &'c R, keepers: &'c [Keeper], outgoing: &'c Cell<Outgoing>) -> Self
         ensures { writer_of result ≡ writer }
     {
         SyncedWriter {
             gate: Gate::new(writer),
             rt,
-            bell,
             keepers,
             outgoing,
         }
@@ -43,7 +34,7 @@ impl<'c, T: Write, R: Wait> SyncedWriter<'c, T, R> {
     /// The leave to write, once it is here. An error if what would be told won't be on disk.
     fn permit(&self) -> Result<SendPermit> {
         let outgoing = self.outgoing.replace(Outgoing::Lost);
-        match outgoing.freed(self.rt, self.bell, self.keepers) {
+        match outgoing.freed(self.rt, self.keepers) {
             Outgoing::Free(permit) => Ok(permit),
             _ => Err(Error::from(ErrorKind::Other)),
         }

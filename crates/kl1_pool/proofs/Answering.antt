@@ -1,8 +1,10 @@
 -- Answers, and what commands leave.
-use Rattle.std.proofs.Common.{◌≡◌, ℕ, List, Some, ap}
+use Rattle.std.proofs.Common.{◌≡◌, ℕ, List, Some, ap, ◌∙◌}
 use Rattle.std.specs.Prelude.{Option}
 use Rattle.kl1_model.specs.declared.rules.Rules.{Rules}
+use Rattle.kl1_model.specs.State.{State}
 use Rattle.kl1_model_server.specs.Command.{Command}
+use Rattle.kl1_model_server.specs.Journal.{Entry, Journal}
 use Rattle.kl1_atoms.specs.Names.{AreNames}
 use Rattle.kl1_journal.specs.Keeping.{Reading, Fits, Held, kept_of, IsKept}
 use Rattle.kl1_user.specs.Readings.{reading_of, reading_fits}
@@ -12,7 +14,14 @@ use Rattle.kl1_command.specs.Performing.{IsUntouched}
 use Rattle.kl1_command.specs.Room.{PerformsWithin}
 use Rattle.kl1_pool_tickets.specs.declared.serving.TheConstants.{MOST_STEPS}
 use Rattle.kl1_pool_tickets.specs.declared.serving.TimeSlice.{TimeSlice}
-use Rattle.kl1_pool.specs.Answers.{IsGivenBySome, IsGiven}
+use Rattle.kl1_pool.specs.Answers.{IsAccount, IsGivenBySome, IsGiven}
+use Rattle.kl1_pool.specs.Showing.{IsFound, IsOfSome, IsSeenOfSome, IsCountedBySome}
+use Rattle.kl1_tally.specs.Seats.{Book}
+use Rattle.kl1_pool.specs.declared.totals_before_reset.TotalsBeforeReset.{TotalsBeforeReset}
+use Rattle.kl1_pool.specs.Counted.{IsCounted}
+use Rattle.kl1_pool.specs.declared.restoring.Restored.{Restored}
+use Rattle.kl1_pool.specs.Restoring.{IsRestored, IsRestoredBySome}
+use Rattle.kl1_pool.specs.Memory.{bytes_taken, IsTakenBySome}
 use Rattle.kl1_pool.specs.Stepping.{AreFirstSteps, goes_on, IsTurnOfSome}
 
 -- what is untouched is so in each part
@@ -33,6 +42,41 @@ given rules name room old new c p kept keeps called names before does =
     let f = reading_of new.0.names in
     let fits = reading_fits new.0.names names in
     by_some rules name c p (room, kept_of f old, kept_of f new, record { replay = (kept.replay f (before f fits)).is; keeps_to = keeps; called = called }, does f fits)
+
+-- what is shown of an account that was found
+pub of_some : (rules : Rules) (name : Option (List ℕ)) (h : Held) (P : State → Type 0) → IsFound rules name h → ((f : Reading) → Fits h.0.names f → P (kept_of f h).state) → IsOfSome rules name P
+of_some rules name h P found shows =
+    let f = reading_of h.0.names in
+    let fits = reading_fits h.0.names found.names in
+    (kept_of f h, record { replay = (found.kept.replay f fits).is; keeps_to = found.keeps_to; called = found.called }, shows f fits)
+
+-- what is seen of the journal of an account that was found
+pub seen_of_some : (rules : Rules) (name : Option (List ℕ)) (h : Held) (ended : ℕ) (P : Journal → ℕ → Type 0) → IsFound rules name h → P h.1 ended → IsSeenOfSome rules name P
+seen_of_some rules name h ended P found seen =
+    let f = reading_of h.0.names in
+    (kept_of f h, ended, record { replay = (found.kept.replay f (reading_fits h.0.names found.names)).is; keeps_to = found.keeps_to; called = found.called }, seen)
+
+-- what an account that was found has counted
+pub counted_by_some : {p : TotalsBeforeReset} {h : Held} {b : Book} (rules : Rules) (name : Option (List ℕ)) (events steps : ℕ) → IsFound rules name h → IsCounted p h.1 b → (events ≡ b.events) × (steps ≡ b.steps) → IsCountedBySome rules name events steps
+counted_by_some {p} {h} {b} rules name events steps found counted told =
+    let f = reading_of h.0.names in
+    let account : IsAccount rules name (kept_of f h) = record { replay = (found.kept.replay f (reading_fits h.0.names found.names)).is; keeps_to = found.keeps_to; called = found.called } in
+    (kept_of f h, p, account, told.0 ∙ counted.events, told.1 ∙ counted.steps)
+
+-- what an account that was found takes
+pub taken_by_some : {h : Held} (rules : Rules) (name : Option (List ℕ)) (bytes : ℕ) → IsFound rules name h → ((f : Reading) → bytes ≡ bytes_taken (kept_of f h)) → IsTakenBySome rules name bytes
+taken_by_some {h} rules name bytes found takes =
+    let f = reading_of h.0.names in
+    let account : IsAccount rules name (kept_of f h) = record { replay = (found.kept.replay f (reading_fits h.0.names found.names)).is; keeps_to = found.keeps_to; called = found.called } in
+    (kept_of f h, account, takes f)
+
+-- how an account is restored
+pub restored_by : (rules : Rules) (name : Option (List ℕ)) (old new : Held) (es : List Entry) (r : Restored) → IsKept old → old.0.rules ≡ rules → name ≡ Some old.0.own_name → AreNames new.0.names → ((f : Reading) → Fits new.0.names f → Fits old.0.names f) →
+    ((f : Reading) → Fits new.0.names f → IsRestored (kept_of f old).state es r (kept_of f new).state) → IsRestoredBySome rules name es r
+restored_by rules name old new es r kept keeps called names before restored =
+    let f = reading_of new.0.names in
+    let fits = reading_fits new.0.names names in
+    (kept_of f old, (kept_of f new).state, record { replay = (kept.replay f (before f fits)).is; keeps_to = keeps; called = called }, restored f fits)
 
 -- the turn of an account
 pub turn_of : (rules : Rules) (name : Option (List ℕ)) (old new : Held) (t : TimeSlice) → IsKept old → old.0.rules ≡ rules → name ≡ Some old.0.own_name → AreNames new.0.names → ((f : Reading) → Fits new.0.names f → Fits old.0.names f) →

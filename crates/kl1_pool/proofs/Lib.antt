@@ -3,3 +3,9 @@ pub mod Tells
 pub mod PoolAccounts
 pub mod Naming
 pub mod Answering
+pub mod FirstSteps
+pub mod ToldEntries
+pub mod RestoredEntries
+pub mod RestoredEvents
+pub mod Capped
+pub mod Ended

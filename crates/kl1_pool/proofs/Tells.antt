@@ -29,17 +29,17 @@ use Rattle.kl1_command.specs.Told.{events_by, steps_by}
 use Rattle.kl1_pool.specs.Counted.{events_in, reduces_in, IsCounted, with_more, past_by, is_run, ended, HasRoom}
 
 -- what holds of both sides of a choice holds of it
-by_choice : (P : Transition → Type 0) (c : Bool) (x y : Transition) → P x → P y → P (if c then x else y)
+pub by_choice : (P : Transition → Type 0) (c : Bool) (x y : Transition) → P x → P y → P (if c then x else y)
 by_choice P true x y h k = h
 by_choice P false x y h k = k
 
 -- what isn't refused holds, and what is refused does
-by_unless : (P : Transition → Type 0) (s : State) (rs : List (Bool × model.Refusal)) (x : Transition) → ((r : model.Refusal) → P (refuse s r)) → P x → P (model.unless s rs x)
+pub by_unless : (P : Transition → Type 0) (s : State) (rs : List (Bool × model.Refusal)) (x : Transition) → ((r : model.Refusal) → P (refuse s r)) → P x → P (model.unless s rs x)
 by_unless P s [] x refuses h = h
 by_unless P s (r ∷ rs) x refuses h = by_choice P r.0 (refuse s r.1) (unless s rs x) (refuses r.1) (by_unless P s rs x refuses h)
 
 -- events among more entries
-events_more : (es fs : List Entry) → events_in (es ++ fs) ≡ events_in es + events_in fs
+pub events_more : (es fs : List Entry) → events_in (es ++ fs) ≡ events_in es + events_in fs
 events_more [] fs = let e : events_in fs ≡ 0 + events_in fs = omega arith in e
 events_more (loads text ∷ es) fs = let h = events_more es fs in let e : suc (events_in (es ++ fs)) ≡ suc (events_in es) + events_in fs = omega (arith, h) in e
 events_more (starts allowance low high t ∷ es) fs = let h = events_more es fs in let e : suc (events_in (es ++ fs)) ≡ suc (events_in es) + events_in fs = omega (arith, h) in e
@@ -49,7 +49,7 @@ events_more (steps goal clause ∷ es) fs = let h = events_more es fs in let e :
 events_more (runs n ∷ es) fs = let h = events_more es fs in let e : n + events_in (es ++ fs) ≡ n + events_in es + events_in fs = omega (arith, h) in e
 
 -- reductions among more entries
-reduces_more : (es fs : List Entry) → reduces_in (es ++ fs) ≡ reduces_in es + reduces_in fs
+pub reduces_more : (es fs : List Entry) → reduces_in (es ++ fs) ≡ reduces_in es + reduces_in fs
 reduces_more [] fs = let e : reduces_in fs ≡ 0 + reduces_in fs = omega arith in e
 reduces_more (loads text ∷ es) fs = reduces_more es fs
 reduces_more (starts allowance low high t ∷ es) fs = reduces_more es fs

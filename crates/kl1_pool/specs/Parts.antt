@@ -1,20 +1,23 @@
 -- What contracts see of the parts of a pool that no type names yet, and of new seats.
-use Rattle.std.specs.Prelude.{◌≡◌, ℕ, List, [], All, map, slice_get, Some}
+use Rattle.std.specs.Prelude.{◌≡◌, ℕ, List, [], All, map, slice_get, Some, Vec}
+use Rattle.std.specs.declared.alloc.Global.{Global}
 use Rattle.atomic_table.specs.Seated.{TableId}
 use Rattle.boxcar.specs.Table.{Shelves}
 use Rattle.kl1_model.specs.declared.rules.Rules.{Rules}
 use Rattle.kl1_atoms.specs.Seats.{face_in, IsSharedSeat}
 use Rattle.kl1_atoms.specs.declared.atom_seat.AtomSeat.{AtomSeat}
 use Rattle.kl1_tally.specs.Seats.{Book}
+use Rattle.kl1_model_server.specs.laws.TextLaws.{AreNames}
 
 -- which table of names they have, and for how many accounts that was made; which table of codes; which rules the accounts keep to, and
--- what they are called; which tally and which queue; and for how many accounts and shares these are
+-- what they are called; which names they had used at their last resets, those that had used some; which tally and which queue; and for how many accounts and shares these are
 pub record PoolPartsValue : Type 0 where
   pub table : TableId
   pub seats : ℕ
   pub codes : Shelves
   pub rules : Rules
   pub names : List (List ℕ)
+  pub used : List (List (List ℕ))
   pub tally : TableId
   pub queue : TableId
   pub accounts : ℕ
@@ -31,3 +34,11 @@ AreFreshSeats table accounts seats = All (IsFreshSeat table accounts) seats
 -- these are the names at the numbers of the accounts that these books are of
 abbrev pub AreNamed : List (List ℕ) → List Book → List (List ℕ) → Type 0
 AreNamed all books names = map (λ (b : Book). slice_get all b.account) books ≡ map (λ (n : List ℕ). Some n) names
+
+-- for each account the names that it had used
+abbrev pub used_names : List (Vec (List ℕ) Global) → List (List (List ℕ))
+used_names used = map (λ v. v.items) used
+
+-- each account may have used its names
+abbrev pub AreUsed : List (Vec (List ℕ) Global) → Type 0
+AreUsed used = All (λ v. AreNames v.items) used

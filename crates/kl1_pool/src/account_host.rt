@@ -2,6 +2,7 @@
 
 use crate::pool_account::PoolAccount;
 use crate::pool_ids::PoolIds;
+use crate::restoring::RestoringHost;
 use crate::shared_tables::SharedTables;
 use kl1_command::Host;
 use kl1_pool_tickets::{PoolShared, Share};
@@ -84,4 +85,15 @@ impl<'a, 's, 'p, 'm, 't, R: Wait, K: PoolIds> Host for AccountHost<'a, 's, 'p, '
     ghost counted_on = { λ a b c n m first then. counted_more a.account.now b.account.now c.account.now a.share.now b.share.now c.share.now n m first then };
 
     ghost room_left = { λ a b told counted. counted_room a.account.now b.account.now a.share.now b.share.now told counted };
+}
+
+impl<'a, 's, 'p, 'm, 't, R: Wait, K: PoolIds> RestoringHost
+    for AccountHost<'a, 's, 'p, 'm, 't, R, K> {
+    ghost use Rattle.kl1_pool.specs.Growing.{counted_sum};
+
+    fn has_runs(&self) -> bool {
+        self.account.has_runs()
+    }
+
+    ghost adds_up = { λ a b c t u first_no then_no first then. counted_sum a.account.now b.account.now c.account.now a.share.now b.share.now c.share.now t u first_no then_no first then };
 }

@@ -9,6 +9,7 @@ ghost use Rattle.kl1_journal.specs.Keeping.{Reading, Fits, kept_of};
 ghost use Rattle.kl1_pool.specs.Counted.{room_in};
 ghost use Rattle.kl1_pool.specs.PoolAccounts.{HasCounted};
 ghost use Rattle.kl1_pool.specs.Answers.{IsGiven};
+ghost use Rattle.kl1_pool.specs.Memory.{IsBeyond};
 
 use crate::account_host::AccountHost;
 use crate::pool_account::PoolAccount;
@@ -20,8 +21,8 @@ use std::marker::{Model, PhantomData};
 use std::snapshot::Snapshot;
 use std::sync::Wait;
 
-/// The answer to a command to an account of the pool that K names. Nothing makes one but a command that was done, or an account that
-/// isn't the one that was asked for. Contracts see for which account and for which command it is.
+/// The answer to a command to an account of the pool that K names. Nothing makes one but a command that was done, an account that isn't
+/// the one that was asked for, or an account that takes more bytes than it may, to a command that takes memory. Contracts see for which account and for which command it is.
 #[derive(Drop)]
 pub struct Answer<K: PoolIds> {
     performed: Performed,
@@ -59,6 +60,29 @@ impl<K: PoolIds> Answer<K> {
         ensures told { told_in result.performed ≡ told_steps 0 }
     {
         let _found = found.account();
+        Answer {
+            performed: Performed::Memory,
+            account: Snapshot::of(&account),
+            command: Snapshot::of(command),
+            of: PhantomData,
+        }
+    }
+
+    /// The answer to a command that takes memory, if the account takes more than `most` bytes: as if memory was refused. Nothing is done.
+    pub(crate) fn over<'t, R: Wait>(
+        found: &PoolAccount<'t, R, K>,
+        most: u64,
+        account: usize,
+        command: &Command,
+    ) -> Answer<K>
+        requires { IsBeyond most found.now (command_view command.now) }
+        ensures account { result.account ≡ account }
+        ensures command { result.command ≡ command_view command.now }
+        ensures told { told_in result.performed ≡ told_steps 0 }
+    {
+        // It is asked for only because of what is known of it.
+        let _found = found.account();
+        let _most = most;
         Answer {
             performed: Performed::Memory,
             account: Snapshot::of(&account),

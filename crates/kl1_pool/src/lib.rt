@@ -1,19 +1,26 @@
 //! Accounts under locks: many threads command them, and workers go on with those that can step.
 #![tactic(auto)]
 
+ghost use Rattle.kl1_pool.specs.laws.EndedLaws.{SameEndedGrows};
+
 mod account_host;
+mod account_restoring;
 mod answer;
 mod counting;
 mod gate;
 mod gathering;
 mod locked_slot;
 mod locked_slots;
+mod looking;
+mod memory;
 mod named_atoms;
 mod parts;
 mod pool;
 mod pool_account;
 mod pool_ids;
+mod restoring;
 mod shared_tables;
+mod showing;
 mod totals_before_reset;
 mod turn;
 mod working;
@@ -26,12 +33,21 @@ pub use kl1_command::{Command, FirstStep, Performed, Steps};
 pub use kl1_journal::{AccountName, Rules};
 pub use kl1_pool_tickets::{Share, TimeSlice, Totals};
 pub use locked_slot::LockedSlot;
+pub use looking::JournalReader;
+pub use memory::bytes_of;
 pub use named_atoms::NamedAtoms;
 pub use parts::PoolParts;
 pub use pool::Pool;
-pub use pool_account::PoolAccount;
+pub use pool_account::{BookTotals, PoolAccount};
 pub use pool_ids::PoolIds;
+pub use restoring::{RestoreEnd, Restored};
 pub use shared_tables::SharedTables;
 pub use totals_before_reset::TotalsBeforeReset;
 pub use turn::Turn;
 pub use working::worker;
+
+/// Between two looks at an account that tell the same number of events in journals that resets ended, the account came to what it is by
+/// events without a reset, so that its journal only grew. It does nothing: its contract is this law.
+pub fn journal_grows()
+    ensures { SameEndedGrows }
+{}

@@ -3,21 +3,27 @@
 ghost use Rattle.std.specs.Prelude.{◌≡◌, ℕ, List, Some, slice_get};
 ghost use Rattle.atomic_table.specs.Seated.{TableId};
 ghost use Rattle.kl1_model.specs.declared.rules.Rules.{Rules};
+ghost use Rattle.kl1_model_server.specs.laws.TextLaws.{AreNames};
 ghost use Rattle.kl1_pool_tickets.specs.Parts.{IsNewBook};
 ghost use Rattle.kl1_pool.specs.Parts.{IsFreshSeat};
 
 use crate::pool_account::PoolAccount;
 use crate::pool_ids::PoolIds;
+use crate::shared_tables::SharedTables;
 use crossbeam_utils::CachePadded;
 use kl1_atoms::AtomSeat;
 use kl1_journal::{AccountName, JournaledAccount, Rules};
 use kl1_pool_tickets::Booked;
 use kl1_tally::BookSeat;
+use kl1_text::AtomText;
 use std::alloc::{AllocError, Global};
 use std::sync::Wait;
 
 /// What an account in which nothing has happened is made as.
 pub(crate) trait Fresh: Drop {
+    /// The tables that it is made over.
+    type Tables;
+
     /// Which table of names its seat is of.
     ghost table: { TableId };
 
@@ -33,18 +39,21 @@ pub(crate) trait Fresh: Drop {
     /// What accounts are called, in the order of their numbers.
     ghost names: { List (List ℕ) };
 
-    /// An account of this name, which keeps to these rules, in which nothing has happened.
+    /// An account of this name, which keeps to these rules, in which nothing has happened since the reset at which it had used `texts`.
     fn fresh(
         alloc: Global,
+        tables: &Self::Tables,
         name: AccountName,
         rules: Rules,
         seat: AtomSeat,
         book: BookSeat,
+        texts: &[AtomText],
     ) -> Result<Self, AllocError>
         requires seat { IsFreshSeat table seats seat }
         requires book { IsNewBook tally book }
         requires rules { rules ≡ keeps_to }
-        requires name { slice_get names book.account ≡ Some name };
+        requires name { slice_get names book.account ≡ Some name }
+        requires texts { AreNames texts.now };
 }
 
 /// An account under its lock. It is padded: a lock's word is written by each thread that wants the account, and no word of an account
@@ -55,6 +64,8 @@ pub struct LockedSlot<'t, R: Wait, K: PoolIds> {
 }
 
 impl<'t, R: Wait, K: PoolIds> Fresh for LockedSlot<'t, R, K> {
+    type Tables = SharedTables<'t, K>;
+
     ghost table = { K.table };
 
     ghost seats = { K.seats };
@@ -67,12 +78,15 @@ impl<'t, R: Wait, K: PoolIds> Fresh for LockedSlot<'t, R, K> {
 
     fn fresh(
         alloc: Global,
+        tables: &SharedTables<'t, K>,
         name: AccountName,
         rules: Rules,
         seat: AtomSeat,
         book: BookSeat,
+        texts: &[AtomText],
     ) -> Result<Self, AllocError> {
-        let kept = JournaledAccount::new(alloc, name, rules, seat)?;
+        let mut atoms = tables.atoms();
+        let kept = JournaledAccount::with_names(alloc, name, rules, &mut atoms, seat, texts)?;
         let account = CachePadded::new(PoolAccount::new(kept, book));
         Ok(LockedSlot { account })
     }

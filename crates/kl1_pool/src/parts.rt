@@ -1,14 +1,16 @@
 // The parts of a pool before a type names them.
 
-ghost use Rattle.std.specs.Prelude.{◌≡◌, ℕ, ◌<◌, ◌≤◌, Some, slice_get, IfOk, length, vec_len};
+ghost use Rattle.std.specs.Prelude.{◌≡◌, ℕ, ◌<◌, ◌≤◌, [], Some, slice_get, IfOk, length, vec_len};
 ghost use Rattle.kl1_atoms.specs.Seats.{face_in, IsNewSharedSeat};
 ghost use Rattle.kl1_atoms.specs.declared.atom_seat.AtomSeat.{AtomSeat};
 ghost use Rattle.kl1_tally.specs.declared.amounts.TheConstants.{MOST_ACCOUNTS};
+ghost use Rattle.kl1_pool.specs.Parts.{AreUsed, used_names};
 
 use kl1_atoms::{AtomSeat, AtomTable};
 use kl1_codes::CodeTable;
 use kl1_journal::{AccountName, Rules};
 use kl1_pool_tickets::Parts;
+use kl1_text::AtomText;
 use std::alloc::{AllocError, Global};
 use std::marker::Model;
 
@@ -22,6 +24,8 @@ pub struct PoolParts<'t> {
     pub(crate) accounts: Vec<AccountName>,
     pub(crate) rules: Rules,
     pub(crate) seats: Vec<AtomSeat>,
+    /// For each account the names that it had used at its last reset, by its number; none of an account whose number isn't below the length.
+    pub(crate) used: Vec<Vec<AtomText>>,
     pub(crate) tickets: Parts,
 }
 
@@ -30,15 +34,15 @@ impl<'t> Model for PoolParts<'t> {
     ghost use Rattle.std.specs.Coded.{codes};
     ghost use Rattle.atomic_table.specs.Seated.{table_id_coded};
     ghost use Rattle.boxcar.specs.Table.{shelves_coded};
-    ghost use Rattle.kl1_pool.specs.Parts.{PoolPartsValue, AreFreshSeats};
+    ghost use Rattle.kl1_pool.specs.Parts.{PoolPartsValue, AreFreshSeats, AreUsed, used_names};
 
     ghost Value = { PoolPartsValue };
 
     ghost coded = { Prim.hlevel (codes, table_id_coded, shelves_coded) };
 
-    ghost view = { λ p. record { table = p.table.now.table.shared.table_id; seats = p.table.now.accounts; codes = p.code_table.now; rules = p.rules; names = p.accounts.items; tally = p.tickets.tally; queue = p.tickets.queue; accounts = p.tickets.accounts; shares = p.tickets.shares } };
+    ghost view = { λ p. record { table = p.table.now.table.shared.table_id; seats = p.table.now.accounts; codes = p.code_table.now; rules = p.rules; names = p.accounts.items; used = used_names p.used.items; tally = p.tickets.tally; queue = p.tickets.queue; accounts = p.tickets.accounts; shares = p.tickets.shares } };
 
-    ghost invariant = { λ p. AreFreshSeats p.table.now.table.shared.table_id p.table.now.accounts p.seats.items × (vec_len p.accounts ≡ p.tickets.accounts) × (vec_len p.seats ≡ p.tickets.accounts) };
+    ghost invariant = { λ p. AreFreshSeats p.table.now.table.shared.table_id p.table.now.accounts p.seats.items × (vec_len p.accounts ≡ p.tickets.accounts) × (vec_len p.seats ≡ p.tickets.accounts) × AreUsed p.used.items };
 }
 
 impl<'t> PoolParts<'t> {
@@ -61,6 +65,7 @@ impl<'t> PoolParts<'t> {
         ensures codes { IfOk result (λ parts. parts.codes ≡ codes.now) }
         ensures rules { IfOk result (λ parts. parts.rules ≡ rules) }
         ensures names { IfOk result (λ parts. parts.names ≡ accounts.now) }
+        ensures used { IfOk result (λ parts. parts.used ≡ []) }
         ensures counts { IfOk result (λ parts. (parts.accounts ≡ length accounts.now) × (parts.shares ≡ shares)) }
     {
         let names = accounts.to_vec(alloc)?;
@@ -71,7 +76,34 @@ impl<'t> PoolParts<'t> {
             accounts: names,
             rules,
             seats,
+            used: Vec::new(alloc),
             tickets,
         })
+    }
+
+    /// The same, but that of each account nothing has happened since the reset at which it had used the names that stand in `used` at its
+    /// number. An account of which none stand there has used none.
+    pub fn with_names(self, used: Vec<Vec<AtomText>>) -> PoolParts<'t>
+        requires { AreUsed used.items }
+        ensures { result ≡ record self.entry { used = used_names used.items } }
+    {
+        let PoolParts {
+            table,
+            code_table,
+            accounts,
+            rules,
+            seats,
+            used: _,
+            tickets,
+        } = self;
+        PoolParts {
+            table,
+            code_table,
+            accounts,
+            rules,
+            seats,
+            used,
+            tickets,
+        }
     }
 }

@@ -29,6 +29,8 @@ pub struct Pool<'t, R: Wait, K: PoolIds> {
     pub(crate) tables: SharedTables<'t, K>,
     pub(crate) common: PoolShared<K>,
     pub(crate) places: Vec<Mutex<LockedSlot<'t, R, K>>>,
+    /// The most bytes that an account may take if it is to go on.
+    pub(crate) most_bytes: u64,
     pub ghost counted: { vec_len places ≡ K.accounts },
 }
 
@@ -57,6 +59,7 @@ impl<'t, R: Wait, K: PoolIds> Pool<'t, R, K> {
             accounts,
             rules,
             seats,
+            used,
             tickets,
         } = parts;
         let Opened {
@@ -64,21 +67,49 @@ impl<'t, R: Wait, K: PoolIds> Pool<'t, R, K> {
             books,
             shares,
         } = tickets.open::<K>(alloc)?;
-        let places = places_of::<LockedSlot<'t, R, K>>(alloc, accounts, rules, seats, books)?;
         let tables = SharedTables {
             names: table,
             codes: code_table,
             of: PhantomData,
         };
+        let places = places_of::<LockedSlot<'t, R, K>>(
+            alloc,
+            &tables,
+            accounts,
+            rules,
+            seats,
+            books,
+            used.as_slice(),
+        )?;
         Ok((
             Pool {
                 rt,
                 tables,
                 common,
                 places,
+                most_bytes: u64::MAX,
             },
             shares,
         ))
+    }
+
+    /// The same pool, in which an account that takes more than `most_bytes` bytes gets no turns, and commands to it that take memory are
+    /// answered as if memory was refused, until it is reset.
+    pub fn bounded(self, most_bytes: u64) -> Pool<'t, R, K> {
+        let Pool {
+            rt,
+            tables,
+            common,
+            places,
+            most_bytes: _,
+        } = self;
+        Pool {
+            rt,
+            tables,
+            common,
+            places,
+            most_bytes,
+        }
     }
 
     /// How many accounts there are.
@@ -107,6 +138,10 @@ impl<'t, R: Wait, K: PoolIds> Pool<'t, R, K> {
         if found.account() != account {
             return (Answer::misplaced(found, account, command), false);
         }
+        if found.is_beyond(self.most_bytes, command) {
+            let answer = Answer::over(found, self.most_bytes, account, command);
+            return (answer, false);
+        }
         let answer = found.perform(self.rt, &self.common, &self.tables, share, command);
         let wants = found.wants_ticket();
         (answer, wants)
@@ -134,7 +169,7 @@ impl<'t, R: Wait, K: PoolIds> Pool<'t, R, K> {
     }
 
     /// Puts an account's ticket; if it can't be put, none is out.
-    fn offer<W: Wait>(&self, rt: &W, account: usize, share: &mut Share<K>)
+    pub(crate) fn offer<W: Wait>(&self, rt: &W, account: usize, share: &mut Share<K>)
         requires within { account < MOST_ACCOUNTS }
         ensures { Acts account 0 0 share.old share.new }
     {
@@ -150,7 +185,8 @@ impl<'t, R: Wait, K: PoolIds> Pool<'t, R, K> {
         }
     }
 
-    /// A turn of an account under its lock, as `PoolAccount::turn`, between `enter` and `leave` of a gate. Unless the ticket is to be
+    /// A turn of an account under its lock, as `PoolAccount::turn`, between `enter` and `leave` of a gate. An account that takes more bytes
+    /// than it may gets none. Unless the ticket is to be
     /// put back, none is out afterwards.
     pub(crate) fn turn<G: Gate, W: Wait>(
         &self,
@@ -173,6 +209,10 @@ impl<'t, R: Wait, K: PoolIds> Pool<'t, R, K> {
         if found.account() != account {
             return NO_TURN;
         }
+        if found.is_over(self.most_bytes) {
+            found.clear_ticket();
+            return NO_TURN;
+        }
         gate.enter(number);
         let slice = found.time_slice(self.rt, &self.common, &self.tables, share);
         gate.leave(number);
@@ -190,6 +230,7 @@ impl<'t, R: Wait, K: PoolIds> Pool<'t, R, K> {
             tables: _,
             common: _,
             places,
+            most_bytes: _,
         } = self;
         drop_all(places);
     }

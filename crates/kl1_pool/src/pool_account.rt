@@ -1,7 +1,10 @@
 // An account with its book.
 
+mod viewing;
+
 ghost use Rattle.std.specs.Prelude.{◌≡◌, ◌<◌, ◌≤◌, ◌^◌, ◌&&◌, if◌then◌else◌, [], Some, slice_get, IfOk, IsOk, IsTrue, OnErr, true, false, not, option_map};
 ghost use Rattle.kl1_model.specs.Event.{reduce as reduce_event, refused, journal_full};
+ghost use Rattle.kl1_model.specs.State.{has_runs};
 ghost use Rattle.kl1_model.specs.Choice.{first, quiet};
 ghost use Rattle.kl1_model_server.specs.Journal.{done, is_entry};
 ghost use Rattle.kl1_model_server.specs.JournalText.{page_of};
@@ -22,12 +25,14 @@ use crate::pool_ids::PoolIds;
 use crate::totals_before_reset::TotalsBeforeReset;
 use kl1_codes::SharedCodes;
 use kl1_journal::JournaledAccount;
+use kl1_journal_entries::Journal;
 use kl1_pool_tickets::{Booked, Share};
 use kl1_tally::{BookSeat, Tally};
 use kl1_user_events::{ClauseNo, Event, GoalNo, Listed, Refusal, Reply};
 use std::alloc::AllocError;
 use std::marker::{Model, PhantomData};
 use std::sync::Wait;
+pub use viewing::BookTotals;
 
 /// An account with its journal and its book; what its journals counted that resets ended; and whether its ticket is out. What a book
 /// tells is always what was counted before the last reset and the events that the journal's entries are.
@@ -172,6 +177,29 @@ impl<'t, R: Wait, K: PoolIds> PoolAccount<'t, R, K> {
         ensures { IfOk result (λ lines. lines ≡ page_of self.now.held.1 from count) }
     {
         self.kept.journal(from, count)
+    }
+
+    /// The journal, lent.
+    pub(crate) fn lent_journal(&self) -> &Journal
+        ensures { result.now.journal ≡ self.now.held.1 }
+    {
+        self.kept.lent_journal()
+    }
+
+    /// Whether the account keeps to rules by which there are runs.
+    pub(crate) fn has_runs(&self) -> bool
+        ensures { (f : Reading) → Fits self.now.held.0.names f → result ≡ has_runs (kept_of f self.now.held).state.rules }
+    {
+        // This is called for the fact that it proves: the journal has the account's rules.
+        self.shows_counts();
+        self.lent_journal().rules().has_runs()
+    }
+
+    /// What was counted before the last reset.
+    pub(crate) fn past(&self) -> TotalsBeforeReset
+        ensures { result ≡ self.now.past }
+    {
+        self.past
     }
 
     /// The first goal that can step, with the clause by which it steps.

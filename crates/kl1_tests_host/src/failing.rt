@@ -1,7 +1,7 @@
 // Files that fail.
 
-use crate::shelf::{ENOUGH, FRESH, Faults, Shelf, journal_of, on_disk};
-use kl1_host_journals::{Bell, Keeper, Outgoing, Scribe, SyncedWriter};
+use crate::shelf::{ENOUGH, FRESH, Faults, Shelf, journal_of, on_disk, only_scribe};
+use kl1_host_journals::{Keeper, Outgoing, Scribe, SyncedWriter};
 use kl1_log::Memory;
 use std::alloc::{AllocError, Global};
 use std::cell::Cell;
@@ -43,12 +43,11 @@ fn is_told<R: Wait>(
     let Some(keeper) = keepers.first() else {
         return Ok(false);
     };
-    let bell = Bell::new();
     let journal = journal_of(alloc, text)?;
     let outgoing = Cell::new(keeper.note_for(rt, &journal, generation, 0, Outgoing::new()));
-    scribe.write_all(rt, faults);
+    scribe.write(rt, faults);
     let mut out = Vec::new(alloc);
-    let mut writer = SyncedWriter::new(&mut out, rt, &bell, keepers, &outgoing);
+    let mut writer = SyncedWriter::new(&mut out, rt, keepers, &outgoing);
     let is_written = writer.write_all(b"+ ran\n").is_ok();
     Ok(is_written && out.as_slice() == b"+ ran\n".as_slice())
 }
@@ -59,7 +58,9 @@ fn told_of<R: Wait>(rt: &R, alloc: Global, left: usize) -> Result<Option<usize>,
         return Ok(Some(0));
     };
     let faults = Faults::new();
-    let mut scribe = Scribe::new(keepers.as_slice(), files);
+    let Some(mut scribe) = only_scribe(keepers.as_slice(), files) else {
+        return Ok(None);
+    };
     let mut told = 0usize;
     for (generation, text) in TEXTS {
         let keepers = keepers.as_slice();
@@ -67,10 +68,7 @@ fn told_of<R: Wait>(rt: &R, alloc: Global, left: usize) -> Result<Option<usize>,
             told = told.saturating_add(1);
         }
     }
-    let bytes = match scribe.files() {
-        [file] => on_disk(file)?,
-        _ => return Ok(None),
-    };
+    let bytes = on_disk(scribe.file())?;
     // What isn't told may be on disk all the same, as a whole change.
     let has_told = bytes.as_slice() == file_after(told)
         || bytes.as_slice() == file_after(told.saturating_add(1));
@@ -97,22 +95,27 @@ pub(crate) fn failed_file_stops_its_account_alone<R: Wait>(
     rt: &R,
     alloc: Global,
 ) -> Result<bool, AllocError> {
-    let Some(Shelf { files, keepers }) = Shelf::new(alloc, &[ENOUGH, 6])? else {
+    let Some(Shelf { mut files, keepers }) = Shelf::new(alloc, &[ENOUGH, 6])? else {
         return Ok(false);
     };
     let faults = Faults::new();
-    let mut scribe = Scribe::new(keepers.as_slice(), files);
     let [first, second] = keepers.as_slice() else {
         return Ok(false);
     };
+    let (Some(other), Some(file)) = (files.pop(), files.pop()) else {
+        return Ok(false);
+    };
+    let mut one_scribe = Scribe::new(0, first, file);
+    let mut two_scribe = Scribe::new(1, second, other);
     let grown = journal_of(alloc, b"journal 4 0 0\nrun 3\n")?;
-    let bell = Bell::new();
     let one = first.note_for(rt, &grown, 0, 0, Outgoing::new());
     let two = second.note_for(rt, &grown, 0, 1, Outgoing::new());
-    scribe.write_all(rt, &faults);
-    scribe.write_all(rt, &faults);
-    let one = one.freed(rt, &bell, keepers.as_slice());
-    let two = two.freed(rt, &bell, keepers.as_slice());
+    for _ in 0..2usize {
+        one_scribe.write(rt, &faults);
+        two_scribe.write(rt, &faults);
+    }
+    let one = one.freed(rt, keepers.as_slice());
+    let two = two.freed(rt, keepers.as_slice());
     let is_right = matches!(one, Outgoing::Free(_)) && matches!(two, Outgoing::Lost);
     let stopped = second.on_disk().is_stopped() && !first.on_disk().is_stopped();
     Ok(is_right && stopped && faults.told() == 10)

@@ -1,6 +1,6 @@
 // Files in memory with their keepers.
 
-use kl1_host_journals::{FaultTeller, Keeper, LinkFault, Linked, link, open_file};
+use kl1_host_journals::{FaultTeller, Keeper, LinkFault, Linked, Scribe, link, open_file};
 use kl1_journal_entries::Journal;
 use kl1_log::{LogError, LogFile, Memory};
 use kl1_model::Rules;
@@ -96,6 +96,17 @@ impl Shelf {
         }
         Ok(Some(Shelf { files, keepers }))
     }
+}
+
+/// The scribe of a shelf that has one account.
+pub(crate) fn only_scribe(
+    keepers: &[Keeper],
+    files: Vec<LogFile<Memory>>,
+) -> Option<Scribe<'_, Memory>> {
+    let mut files = files;
+    let file = files.pop()?;
+    let keeper = keepers.first()?;
+    Some(Scribe::new(0, keeper, file))
 }
 
 /// The bytes that are surely on the disk of a file.

@@ -1,7 +1,7 @@
 // Replies that wait for the disk.
 
-use crate::shelf::{ENOUGH, Faults, Shelf, journal_of, on_disk};
-use kl1_host_journals::{Bell, Keeper, Outgoing, Scribe, SyncedWriter};
+use crate::shelf::{ENOUGH, Faults, Shelf, journal_of, on_disk, only_scribe};
+use kl1_host_journals::{Keeper, Outgoing, SyncedWriter};
 use std::alloc::{AllocError, Global};
 use std::cell::Cell;
 use std::io::Write;
@@ -28,7 +28,9 @@ pub(crate) fn reply_waits_for_its_lines<R: Wait>(
         return Ok(false);
     };
     let faults = Faults::new();
-    let mut scribe = Scribe::new(keepers.as_slice(), files);
+    let Some(mut scribe) = only_scribe(keepers.as_slice(), files) else {
+        return Ok(false);
+    };
     let Some(keeper) = keepers.as_slice().first() else {
         return Ok(false);
     };
@@ -40,14 +42,11 @@ pub(crate) fn reply_waits_for_its_lines<R: Wait>(
     let waits = !is_free(rt, keeper, &reply);
     let longer = journal_of(alloc, b"journal 4 0 0\nrun 7\nstop 1\n")?;
     let reply = keeper.note_for(rt, &longer, 0, 0, reply);
-    scribe.write_all(rt, &faults);
+    scribe.write(rt, &faults);
     let is_sent = is_free(rt, keeper, &reply);
     let again = keeper.note_for(rt, &longer, 0, 0, Outgoing::new());
     let again_waits = !is_free(rt, keeper, &again);
-    let bytes = match scribe.files() {
-        [file] => on_disk(file)?,
-        _ => return Ok(false),
-    };
+    let bytes = on_disk(scribe.file())?;
     let is_right = bytes.as_slice() == b"journal 4 0 0\nrun 3\nrun 4\nstop 1\n".as_slice();
     Ok(!reading_waits && waits && is_sent && !again_waits && is_right && faults.told() == 0)
 }
@@ -61,7 +60,9 @@ pub(crate) fn reset_begins_the_file_anew<R: Wait>(
         return Ok(false);
     };
     let faults = Faults::new();
-    let mut scribe = Scribe::new(keepers.as_slice(), files);
+    let Some(mut scribe) = only_scribe(keepers.as_slice(), files) else {
+        return Ok(false);
+    };
     let Some(keeper) = keepers.as_slice().first() else {
         return Ok(false);
     };
@@ -71,17 +72,14 @@ pub(crate) fn reset_begins_the_file_anew<R: Wait>(
     let reply = keeper.note_for(rt, &after, 3, 0, reply);
     let later = journal_of(alloc, b"journal 4 0 1\nname f\nrun 1\nstop 1\n")?;
     let reply = keeper.note_for(rt, &later, 3, 0, reply);
-    scribe.write_all(rt, &faults);
+    scribe.write(rt, &faults);
     let is_sent = is_free(rt, keeper, &reply);
-    let bytes = match scribe.files() {
-        [file] => on_disk(file)?,
-        _ => return Ok(false),
-    };
+    let bytes = on_disk(scribe.file())?;
     Ok(is_sent && bytes.as_slice() == b"journal 4 0 1\nname f\nrun 1\nstop 1\n".as_slice())
 }
 
 /// Writes a reply that tells of a journal, and then calls the scribe for the last time. Answers whether it was written.
-fn write_reply<R: Wait>(rt: &R, alloc: Global, keepers: &[Keeper], bell: &Bell) -> bool {
+fn write_reply<R: Wait>(rt: &R, alloc: Global, keepers: &[Keeper]) -> bool {
     let outgoing = Cell::new(Outgoing::new());
     let mut out = Vec::new(alloc);
     let mut is_written = false;
@@ -90,10 +88,12 @@ fn write_reply<R: Wait>(rt: &R, alloc: Global, keepers: &[Keeper], bell: &Bell) 
         journal_of(alloc, b"journal 4 0 0\nrun 3\n"),
     ) {
         outgoing.set(keeper.note_for(rt, &grown, 0, 0, Outgoing::new()));
-        let mut writer = SyncedWriter::new(&mut out, rt, bell, keepers, &outgoing);
+        let mut writer = SyncedWriter::new(&mut out, rt, keepers, &outgoing);
         is_written = writer.write_all(b"+ ran 3\n").is_ok();
     }
-    bell.end(rt);
+    if let Some(keeper) = keepers.first() {
+        keeper.bell().end(rt);
+    }
     is_written && out.as_slice() == b"+ ran 3\n".as_slice()
 }
 
@@ -106,19 +106,17 @@ pub(crate) fn writer_waits_for_the_scribe<R: Threads + Wait + Clock + Sync>(
         return Ok(false);
     };
     let faults = Faults::new();
-    let bell = Bell::new();
-    let mut scribe = Scribe::new(keepers.as_slice(), files);
-    let (bell, shared) = (&bell, keepers.as_slice());
+    let shared = keepers.as_slice();
+    let Some(mut scribe) = only_scribe(shared, files) else {
+        return Ok(false);
+    };
     let is_written = thread::scope(thread::scope_env(), rt, |scope| {
-        let Ok(writing) = scope.spawn(move || write_reply(rt, alloc, shared, bell)) else {
+        let Ok(writing) = scope.spawn(move || write_reply(rt, alloc, shared)) else {
             return false;
         };
-        scribe.work(rt, bell, Duration::from_secs(3_600), &faults);
+        scribe.work(rt, Duration::from_secs(3_600), &faults);
         writing.join(rt)
     });
-    let bytes = match scribe.files() {
-        [file] => on_disk(file)?,
-        _ => return Ok(false),
-    };
+    let bytes = on_disk(scribe.file())?;
     Ok(is_written && bytes.as_slice() == b"journal 4 0 0\nrun 3\n".as_slice())
 }

@@ -2,6 +2,7 @@
 
 use crate::pool::gate::{Counter, LOOKS};
 use crate::pool::replaying::put_replay;
+use crate::pool::restoring::{comes_over, put_look, put_over, put_restored};
 use kl1_command::{Parsed, command_in, put_reply};
 use kl1_lines::{NextRecord, Record, Request, next_record};
 use kl1_pool::{Command, Performed, Pool, PoolIds, Share};
@@ -133,7 +134,8 @@ fn account_of(name: &[u8]) -> usize {
 }
 
 /// Does what a record asks for. Beside commands, `rest` waits until the account is quiet, `turns N` until N turns have ended, and
-/// `replay` puts how the replay of its journal ends.
+/// `replay` puts how the replay of its journal ends, `look` puts its journal as it is looked at, `restore NAME` does the entries of
+/// another account's journal to it, `memory` puts whether it takes more bytes than it may, and `grow` waits until it does.
 fn play_record<'t, R: Wait, K: PoolIds>(
     rt: &R,
     pool: &Pool<'t, R, K>,
@@ -150,6 +152,17 @@ fn play_record<'t, R: Wait, K: PoolIds>(
             }
         }
         Request::Line(b"replay") => put_replay(rt, pool, account, share, out),
+        Request::Line(b"look") => put_look(rt, pool, account, out),
+        Request::Line(b"memory") => put_over(rt, pool, account, share, out),
+        Request::Line(b"grow") => {
+            if !comes_over(rt, pool, account, share) {
+                out.fail();
+            }
+        }
+        Request::Line(line) if line.starts_with(b"restore ") => {
+            let (_, from) = cut(line, b' ');
+            put_restored(rt, pool, account, account_of(from), share, out);
+        }
         Request::Line(line) if line.starts_with(b"turns ") => {
             let (_, count) = cut(line, b' ');
             if !come_turns(gate, number_of(count)) {

@@ -6,9 +6,10 @@ use crate::pool::gate::{Counter, Held};
 use crate::pool::job::Job;
 use crate::pool::numbers::small;
 use crate::pool::play::play;
+use crate::pool::setup::{BY_THREE, Setup, by_four};
 use crate::pool::tried::tried;
 use kl1_pool::{Pool, PoolIds, Share, Totals, worker};
-use kl1_tests_rows::{Text, cut};
+use kl1_tests_rows::{Text, cut, number_of};
 use std::alloc::Global;
 use std::rt::Clock;
 use std::sync::Wait;
@@ -86,21 +87,27 @@ fn put_totals(out: &mut Text, told: &Totals, are_known: bool) {
     }
 }
 
-/// What a row's first text says: how many workers there are, whom the gate holds, and whether the number of steps is known.
-fn how(text: &[u8]) -> (usize, Held, bool)
+/// What a row's first text says: how many workers there are, whom the gate holds, and whether the number of steps is known; and how
+/// accounts are made.
+fn how(text: &[u8]) -> (usize, Held, bool, Setup)
     ensures { result.0 ≤ 9 }
 {
     match text {
         [digit, letters @ ..] => {
             let workers = usize::from(digit.saturating_sub(b'0').min(9));
             match letters {
-                b"meet" => (workers, Held::First, true),
-                b"cut" => (workers, Held::After(8), false),
-                b"some" => (workers, Held::None, false),
-                _ => (workers, Held::None, true),
+                b"meet" => (workers, Held::First, true, BY_THREE),
+                b"cut" => (workers, Held::After(8), false, BY_THREE),
+                b"some" => (workers, Held::None, false, BY_THREE),
+                b"four" => (workers, Held::None, true, by_four(u64::MAX)),
+                letters if letters.starts_with(b"bytes ") => {
+                    let (_, bytes) = cut(letters, b' ');
+                    (workers, Held::None, false, by_four(number_of(bytes)))
+                }
+                _ => (workers, Held::None, true, BY_THREE),
             }
         }
-        _ => (0, Held::None, true),
+        _ => (0, Held::None, true, BY_THREE),
     }
 }
 
@@ -109,14 +116,14 @@ fn answer<R: Threads + Wait + Clock + Sync>(rt: &R, act: &[u8], out: &mut Text) 
     let (front, rest) = cut(act, MARK);
     let (before, rest) = cut(rest, MARK);
     let (during, after) = cut(rest, MARK);
-    let (workers, held, are_known) = how(front);
+    let (workers, held, are_known, setup) = how(front);
     let row = Row {
         gate: Counter::new(held),
         before,
         during,
         after,
     };
-    match tried(rt, 2, workers + 1, &row, out) {
+    match tried(rt, 2, workers + 1, setup, &row, out) {
         Ok(told) => put_totals(out, &told, are_known),
         Err(_) => out.fail(),
     }

@@ -6,6 +6,7 @@ use crate::pool::gate::{Counter, Held};
 use crate::pool::job::Job;
 use crate::pool::numbers::small;
 use crate::pool::play::{is_quiet, put_answer};
+use crate::pool::setup::BY_THREE;
 use crate::pool::tried::tried;
 use kl1_lines::Request;
 use kl1_pool::{Pool, PoolIds, Share, Totals, worker};
@@ -208,7 +209,7 @@ fn steps_a_second<R: Threads + Wait + Clock + Sync>(
         start: b"start 200000 0 10 r:spin",
         asked: Asked::Rest,
     };
-    let told = tried(rt, accounts, workers + 1, &busy, &mut out)?;
+    let told = tried(rt, accounts, workers + 1, BY_THREE, &busy, &mut out)?;
     let nanoseconds = number_of(out.bytes.as_slice()).max(1);
     Ok(small(u128::from(steps_of(&told)) * 1_000_000_000 / u128::from(nanoseconds)))
 }
@@ -226,7 +227,7 @@ pub fn put_looks<R: Threads + Wait + Clock + Sync>(
         start: b"start 260000 0 10 r:spin",
         asked: Asked::Looks(account, 2_000),
     };
-    if tried(rt, 16, 5, &job, out).is_err() {
+    if tried(rt, 16, 5, BY_THREE, &job, out).is_err() {
         out.fail();
     }
 }

@@ -2,6 +2,7 @@
 
 use crate::pool::job::Job;
 use crate::pool::play::put_answer;
+use crate::pool::setup::BY_THREE;
 use crate::pool::tried::tried;
 use kl1_lines::{Request, is_same};
 use kl1_pool::{Pool, PoolIds, Share, Totals};
@@ -108,7 +109,7 @@ pub fn eight_threads_start<R: Threads + Wait + Clock + Sync>(
     alloc: Global,
 ) -> Result<bool, AllocError> {
     let mut out = Text::new(alloc);
-    let told = tried(rt, 1, 8, &Starts, &mut out)?;
+    let told = tried(rt, 1, 8, BY_THREE, &Starts, &mut out)?;
     let (sum, rest) = sum_in(out.bytes.as_slice());
     Ok(!out.has_failed && sum == 400 * 401 / 2 && is_same(rest, b"+ 400\n") && are_right(&told))
 }

@@ -3,10 +3,11 @@
 ghost use Rattle.std.specs.Prelude.{◌≡◌, ◌<◌, ◌≤◌, IfOk, vec_len};
 
 use crate::pool::job::Job;
+use crate::pool::setup::Setup;
 use crate::pool::threads::work;
 use kl1_atoms::AtomTable;
 use kl1_codes::CodeTable;
-use kl1_pool::{AccountName, Pool, PoolIds, PoolParts, Rules, Totals, gather};
+use kl1_pool::{AccountName, Pool, PoolIds, PoolParts, Totals, gather};
 use kl1_tests_rows::Text;
 use std::alloc::{AllocError, Global};
 use std::marker::Brand;
@@ -19,6 +20,7 @@ fn done<'t, J: Job + Sync, R: Threads + Wait + Clock + Sync, K: PoolIds + Send +
     rt: &'t R,
     alloc: Global,
     parts: PoolParts<'t>,
+    most_bytes: u64,
     job: &J,
     out: &mut Text,
 ) -> Result<Totals, AllocError>
@@ -28,6 +30,7 @@ fn done<'t, J: Job + Sync, R: Threads + Wait + Clock + Sync, K: PoolIds + Send +
     requires some { 0 < parts.shares }
 {
     let (pool, mut shares) = Pool::<R, K>::new(rt, alloc, parts)?;
+    let pool = pool.bounded(most_bytes);
     job.begin(rt, &pool, &mut shares[0], out);
     match work(rt, alloc, &pool, job, shares, out) {
         Ok(mut shares) => {
@@ -46,12 +49,13 @@ fn done_of<'t, J: Job + Sync, R: Threads + Wait + Clock + Sync>(
     rt: &'t R,
     alloc: Global,
     parts: PoolParts<'t>,
+    most_bytes: u64,
     job: &J,
     out: &mut Text,
 ) -> Result<Totals, AllocError>
     requires some { 0 < parts.shares }
 {
-    done::<J, R, Brand>(rt, alloc, parts, job, out)
+    done::<J, R, Brand>(rt, alloc, parts, most_bytes, job, out)
 }
 
 /// The names `a`, `b` and so on.
@@ -74,6 +78,7 @@ pub fn tried<J: Job + Sync, R: Threads + Wait + Clock + Sync>(
     rt: &R,
     accounts: usize,
     threads: usize,
+    setup: Setup,
     job: &J,
     out: &mut Text,
 ) -> Result<Totals, AllocError>
@@ -89,9 +94,9 @@ pub fn tried<J: Job + Sync, R: Threads + Wait + Clock + Sync>(
         &table,
         &codes,
         names.as_slice(),
-        Rules::Three,
+        setup.rules,
         seats,
         threads,
     )?;
-    done_of(rt, alloc, parts, job, out)
+    done_of(rt, alloc, parts, setup.most_bytes, job, out)
 }

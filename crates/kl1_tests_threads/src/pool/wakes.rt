@@ -4,6 +4,7 @@ use crate::pool::gate::{Counter, Held, LOOKS};
 use crate::pool::job::Job;
 use crate::pool::numbers::small;
 use crate::pool::play::{comes_to_rest, put_answer};
+use crate::pool::setup::BY_THREE;
 use crate::pool::speeds::put_halves;
 use crate::pool::tried::tried;
 use kl1_lines::Request;
@@ -108,7 +109,7 @@ pub fn put_wakes<R: Threads + Wait + Clock + Sync>(rt: &R, out: &mut Text) {
         starts: 500,
         seconds: 0,
     };
-    if tried(rt, 1, 5, &job, out).is_err() {
+    if tried(rt, 1, 5, BY_THREE, &job, out).is_err() {
         out.fail();
     }
 }
@@ -120,7 +121,7 @@ pub fn sleep_idle<R: Threads + Wait + Clock + Sync>(rt: &R, out: &mut Text, seco
         starts: 0,
         seconds,
     };
-    if tried(rt, 1, 5, &job, out).is_err() {
+    if tried(rt, 1, 5, BY_THREE, &job, out).is_err() {
         out.fail();
     }
 }

@@ -7,4 +7,5 @@ invariant_of-result c = (
   fresh_seats c.args.table.now.table.shared.table_id c.args.table.now.accounts c.args.seats.items c.requires.seats,
   search rules,
   search rules,
+  search rules,
 )

@@ -1,0 +1,4 @@
+pub mod Coming
+pub mod Closing
+pub mod Wanting
+pub mod Serving

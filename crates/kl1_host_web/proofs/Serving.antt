@@ -1,0 +1,127 @@
+-- Requests that are attended to, one after another.
+use Rattle.std.proofs.Common.{◌≡◌, ℕ, Bool, true, false, List, [], ◌∷◌, ◌++◌, Some, Result, Ok, Err, IsErr, IsErrAnd, IfOk, IfSome, Vec, sym, ap, subst, ◌∙◌, inl, inr}
+use Rattle.std.specs.declared.option.Option.{Option}
+use Rattle.std.specs.declared.alloc.AllocError.{AllocError}
+use Rattle.std.specs.declared.alloc.Global.{Global}
+use Rattle.kl1_host_door.specs.declared.refusal.Refusal.{Refusal}
+use Rattle.kl1_host_door.specs.declared.refusal.Refusal.TheVariants as refusal
+use Rattle.kl1_host_door.specs.declared.answer.Answer.{Answer}
+use Rattle.kl1_host_door.specs.declared.answer.Cookie.TheVariants as cookie
+use Rattle.kl1_host_door.specs.declared.session.WebSession.{WebSession}
+use Rattle.kl1_host_door.specs.declared.door.Site.{Site}
+use Rattle.kl1_host_door.specs.declared.door.Allowed.{Allowed}
+use Rattle.kl1_host_door.specs.declared.head.Head.{Head}
+use Rattle.kl1_host_door.specs.Bodies.{body_bytes}
+use Rattle.kl1_host_door.specs.Doors.{authorized}
+use Rattle.kl1_model.specs.Event as event
+use Rattle.kl1_model_server.specs.Command.{does}
+use Rattle.kl1_command.specs.declared.performed.Performed.{Performed}
+use Rattle.kl1_host_web.specs.Asking.{Asked, did, House}
+use Rattle.kl1_host_web.specs.Wishes.{wish_view, IsWish}
+use Rattle.kl1_host_web.specs.Telling.{Grants, IsRefusal}
+use Rattle.kl1_host_web.specs.Serving.{Closes, is_set, Begins, Begun, Ends, Performs, AnswersWithin, Answers, Attends, Exchange, Exchanges, Serves, Steps, HasHead, HasNoBody, HasBody}
+use Rattle.kl1_host_web.specs.declared.serve.Served.{Served}
+use Rattle.kl1_host_web.specs.declared.serve.Served.TheVariants as served_as
+use Rattle.kl1_host_web.specs.declared.wish.Wish.{Wish}
+use Rattle.kl1_host_web.specs.declared.outcome.Outcome.{Outcome}
+use Rattle.kl1_host_web.proofs.Coming.{consumes_both, consumed_front}
+
+-- the session of an account was closed again, and the answer refuses
+pub begun_refused : (account : ℕ) (before after : List Asked) (answer : Performed) (why : Refusal) (result : Result Answer AllocError) → after ≡ before ++ did account (does event.logout) answer ∷ [] → IfOk result (IsRefusal why) → Begun account before after result
+begun_refused account before after answer why (Ok told) e h = subst (λ x. Begins (is_set x) account before after) (sym h.cookie) (answer, e)
+begun_refused account before after answer why (Err error) e h = (false, (answer, e))
+
+-- the session of a browser is there, and the answer sets its cookie
+pub begun_told : (account : ℕ) (before after : List Asked) (id : List ℕ) (result : Result Answer AllocError) → after ≡ before → IfOk result (λ answer. answer.cookie ≡ cookie.Set id) → Begun account before after result
+begun_told account before after id (Ok told) e h = subst (λ x. Begins (is_set x) account before after) (sym h) e
+begun_told account before after id (Err error) e h = (true, e)
+
+-- a wish was granted, and what was still to do was done
+pub performs : (house : House) (a : Allowed) (path body : List ℕ) (w : Wish) (before middle after : List Asked) (o : Result Outcome AllocError) (result : Result Answer AllocError) → IsWish a body w → Grants house path (wish_view w) before middle o → Ends o middle after result → Performs house a path body before after result
+performs house a path body w before middle after o result wish grants ends = record {
+  value = wish.0;
+  reads = wish.1;
+  outcome = o;
+  middle = middle;
+  grants = subst (λ x. Grants house path x before middle o) wish.2 grants;
+  ends = ends;
+}
+
+-- what is known of a request to an account that there is
+pub within : (house : House) (a : Allowed) (path body : List ℕ) (before after : List Asked) (result : Result Answer AllocError) (v : Bool) → v ≡ true → Performs house a path body before after result → AnswersWithin v house a path body before after result
+within house a path body before after result v e p = subst (λ x. AnswersWithin x house a path body before after result) (sym e) (inr p)
+
+pub fails : (house : House) (a : Allowed) (path body : List ℕ) (before after : List Asked) (result : Result Answer AllocError) (v : Bool) → v ≡ true → after ≡ before → IsErr result → AnswersWithin v house a path body before after result
+fails house a path body before after result v e same err = subst (λ x. AnswersWithin x house a path body before after result) (sym e) (inl (record { asked = same; fails = err }))
+
+pub denied : (house : House) (a : Allowed) (path body : List ℕ) (before after : List Asked) (result : Result Answer AllocError) (v : Bool) → v ≡ false → after ≡ before → IfOk result (IsRefusal refusal.Nobody) → AnswersWithin v house a path body before after result
+denied house a path body before after result v e same why = subst (λ x. AnswersWithin x house a path body before after result) (sym e) (record { asked = same; refusal = why })
+
+-- a request was attended to by sessions that were open
+pub attended : (house : House) (sites : List Site) (is_local : Bool) (head : Head) (body : List ℕ) (before middle after : List Asked) (result : Result Answer AllocError) (sessions : List WebSession) (r : Result Allowed Refusal) → r ≡ authorized head sessions sites is_local → Closes before middle → Answers house r head.target.items body middle after result → Attends house sites is_local head body before after result
+attended house sites is_local head body before middle after result sessions r e closes answers = record {
+  middle = middle;
+  idle = closes;
+  sessions = sessions;
+  answers = subst (λ x. Answers house x head.target.items body middle after result) e answers;
+}
+
+-- a head and a body that came in one after the other are a request, which was attended to
+pub exchanges : (house : House) (sites : List Site) (is_local : Bool) (head : Head) (body : List ℕ) (n : ℕ) (answer : Result Answer AllocError) (old middle new : Option (List ℕ)) (before after : List Asked) → HasHead head old middle → body_bytes head ≡ Ok n → HasBody n body middle new → Attends house sites is_local head body before after answer → Exchanges house sites is_local (record { head = head; body = body; answer = answer }) old new before after
+exchanges house sites is_local head body n answer old middle new before after comes told follows attends = record {
+  next = record {
+    bytes = comes.bytes;
+    head = comes.is;
+    few = comes.few;
+    long = told ∙ ap Ok (sym follows.long);
+    consumes = consumes_both old middle new comes.bytes body comes.consumes follows.consumes;
+  };
+  attends = attends;
+}
+
+-- a head of which no length of a body is known
+pub no_body : (head : Head) (why : Refusal) (old middle : Option (List ℕ)) → HasHead head old middle → body_bytes head ≡ Err why → HasNoBody why old
+no_body head why old middle comes e = record {
+  bytes = comes.bytes;
+  head = head;
+  front = consumed_front old middle comes.bytes comes.consumes;
+  is = comes.is;
+  refused = e;
+}
+
+-- one more request was served
+pub one_more : (house : House) (sites : List Site) (is_local : Bool) (served : List Exchange) (x : Exchange) (old middle new : Option (List ℕ)) (before asked after : List Asked) → Serves house sites is_local served old middle before asked → Exchanges house sites is_local x middle new asked after → Serves house sites is_local (x ∷ served) old new before after
+one_more house sites is_local served x old middle new before asked after s e = (middle, asked, s, e)
+
+-- memory was refused for the answer to a request that was attended to
+pub failed : (house : House) (sites : List Site) (is_local : Bool) (old new : Option (List ℕ)) (before after : List Asked) (head : Head) (body : List ℕ) (e : AllocError) (r : Result Served AllocError) → IsErrAnd r (λ f. f ≡ e) → Exchanges house sites is_local (record { head = head; body = body; answer = Err e }) old new before after → Steps house sites is_local old new before after r
+failed house sites is_local old new before after head body e (Ok s) h x = absurd h
+failed house sites is_local old new before after head body e (Err f) h x =
+    inr (head, body, subst (λ y. Exchanges house sites is_local (record { head = head; body = body; answer = Err y }) old new before after) (sym h) x)
+
+-- a body that was read
+pub body_is : (n : ℕ) (middle new : Option (List ℕ)) (o : Option (Vec ℕ Global)) (body : Vec ℕ Global) → o ≡ Some body → IfSome o (λ bytes. HasBody n bytes.items middle new) → HasBody n body.items middle new
+body_is n middle new o body e h = subst (λ x. IfSome x (λ bytes. HasBody n bytes.items middle new)) e h
+
+-- ---- what becomes of a connection
+
+stays : (house : House) (sites : List Site) (is_local : Bool) (served : List Exchange) (old left : Option (List ℕ)) (before asked after : List Asked) → after ≡ asked → Serves house sites is_local served old left before asked → Serves house sites is_local served old left before after
+stays house sites is_local served old left before asked after e h = subst (λ x. Serves house sites is_local served old left before x) (sym e) h
+
+-- a request was answered after those that were served
+pub answered : (house : House) (sites : List Site) (is_local : Bool) (served : List Exchange) (old middle new : Option (List ℕ)) (before asked after : List Asked) (answer : Answer) (goes_on : Bool) → Serves house sites is_local served old middle before asked → Steps house sites is_local middle new asked after (Ok (served_as.Answered answer goes_on)) → (all : List Exchange) × Serves house sites is_local all old new before after
+answered house sites is_local served old middle new before asked after answer goes_on h k =
+    let x : Exchange = record { head = k.0; body = k.1; answer = Ok answer } in
+    (x ∷ served, one_more house sites is_local served x old middle new before asked after h k.2)
+
+-- whatever became of the next request, those that were read are served
+pub stepped : (house : House) (sites : List Site) (is_local : Bool) (served : List Exchange) (old middle new : Option (List ℕ)) (before asked after : List Asked) (r : Result Served AllocError) → Serves house sites is_local served old middle before asked → Steps house sites is_local middle new asked after r → (all : List Exchange) × (left : Option (List ℕ)) × Serves house sites is_local all old left before after
+stepped house sites is_local served old middle new before asked after (Ok (served_as.Answered answer goes_on)) h k =
+    let x : Exchange = record { head = k.0; body = k.1; answer = Ok answer } in
+    (x ∷ served, new, one_more house sites is_local served x old middle new before asked after h k.2)
+stepped house sites is_local served old middle new before asked after (Ok (served_as.Refused why)) h k = (served, middle, stays house sites is_local served old middle before asked after k.0 h)
+stepped house sites is_local served old middle new before asked after (Ok served_as.Ended) h k = (served, middle, stays house sites is_local served old middle before asked after k h)
+stepped house sites is_local served old middle new before asked after (Err e) h (inl k) = (served, middle, stays house sites is_local served old middle before asked after k h)
+stepped house sites is_local served old middle new before asked after (Err e) h (inr k) =
+    let x : Exchange = record { head = k.0; body = k.1; answer = Err e } in
+    (x ∷ served, new, one_more house sites is_local served x old middle new before asked after h k.2)

@@ -1,0 +1,5 @@
+pub mod Asking
+pub mod Wishes
+pub mod Telling
+pub mod Records
+pub mod Serving

@@ -1,0 +1,187 @@
+-- What the requests of a connection come to, one after another, and what accounts are asked for each.
+use Rattle.std.specs.Prelude.{◌≡◌, ◌<◌, ◌≤◌, ◌⊎◌, ⊤, ℕ, nat_lt, Bool, true, false, ◌++◌, List, [], ◌∷◌, length, map, Option, Some, None, Result, Ok, Err, IfOk, IsErr}
+use Rattle.std.specs.declared.alloc.AllocError.{AllocError}
+use Rattle.std.specs.Io.KnownBytes.{Consumes}
+use Rattle.serde_json.specs.declared.value.Value.{Value}
+use Rattle.kl1_model.specs.Event as event
+use Rattle.kl1_model_server.specs.Command.{does}
+use Rattle.kl1_command.specs.declared.performed.Performed.{Performed}
+use Rattle.httparse.specs.Spans.{RequestOverflows}
+use Rattle.kl1_host_door.specs.declared.limits.TheConstants.{MOST_HEAD_BYTES, MOST_FIELDS}
+use Rattle.kl1_host_door.specs.declared.refusal.Refusal.{Refusal}
+use Rattle.kl1_host_door.specs.declared.refusal.Refusal.TheVariants as refusal
+use Rattle.kl1_host_door.specs.declared.answer.Answer.{Answer}
+use Rattle.kl1_host_door.specs.declared.answer.Cookie.{Cookie}
+use Rattle.kl1_host_door.specs.declared.answer.Cookie.TheVariants as cookie
+use Rattle.kl1_host_door.specs.declared.session.WebSession.{WebSession}
+use Rattle.kl1_host_door.specs.declared.door.Site.{Site}
+use Rattle.kl1_host_door.specs.declared.door.Allowed.{Allowed}
+use Rattle.kl1_host_door.specs.declared.door.Allowed.TheVariants as allowed
+use Rattle.kl1_host_door.specs.declared.head.Head.{Head}
+use Rattle.kl1_host_door.specs.Heads.{IsHead}
+use Rattle.kl1_host_door.specs.Bodies.{body_bytes}
+use Rattle.kl1_host_door.specs.Doors.{authorized}
+use Rattle.kl1_host_web.specs.Asking.{Asked, did, House}
+use Rattle.kl1_host_web.specs.Wishes.{IsRead, wanted}
+use Rattle.kl1_host_web.specs.Telling.{Grants, IsRefusal}
+use Rattle.kl1_host_web.specs.declared.incoming.Incoming.{Incoming}
+use Rattle.kl1_host_web.specs.declared.incoming.Incoming.TheVariants as incoming
+use Rattle.kl1_host_web.specs.declared.outcome.Outcome.{Outcome}
+use Rattle.kl1_host_web.specs.declared.outcome.Outcome.TheVariants as outcome
+use Rattle.kl1_host_web.specs.declared.serve.Served.{Served}
+use Rattle.kl1_host_web.specs.declared.serve.Served.TheVariants as served
+
+-- ---- one request that is let in
+
+-- sessions of accounts were closed, each by a logout, whatever was answered
+abbrev pub Closes : List Asked → List Asked → Type 0
+Closes before after = (closed : List (ℕ × Performed)) × (after ≡ before ++ map (λ c. did c.0 (does event.logout) c.1) closed)
+
+-- whether what is told of a cookie is the name of a session
+abbrev pub is_set : Cookie → Bool
+is_set cookie.Kept = false
+is_set (cookie.Set id) = true
+is_set cookie.Cleared = false
+
+-- the session of a browser begins; or that of the account that was opened for it is closed again
+abbrev pub Begins : Bool → ℕ → List Asked → List Asked → Type 0
+Begins true account before after = after ≡ before
+Begins false account before after = (answer : Performed) × (after ≡ before ++ did account (does event.logout) answer ∷ [])
+
+-- the session of a browser begins if the answer sets its cookie; without memory for an answer, it began or not
+abbrev pub Begun : ℕ → List Asked → List Asked → Result Answer AllocError → Type 0
+Begun account before after (Ok answer) = Begins (is_set answer.cookie) account before after
+Begun account before after (Err e) = (begins : Bool) × Begins begins account before after
+
+-- what is still asked after a request was granted, and its answer: only the session of a browser may still begin
+abbrev pub Ends : Result Outcome AllocError → List Asked → List Asked → Result Answer AllocError → Type 0
+Ends (Err e) before after result = (after ≡ before) × IsErr result
+Ends (Ok (outcome.Told answer)) before after result = (after ≡ before) × (result ≡ Ok answer)
+Ends (Ok (outcome.Opens account)) before after result = Begun account before after result
+Ends (Ok (outcome.Closes answer)) before after result = (after ≡ before) × (result ≡ Ok answer)
+
+-- what a request wants by its body was granted, and it was answered so
+pub record Performs (house : House) (a : Allowed) (path body : List ℕ) (before after : List Asked) (result : Result Answer AllocError) : Type 0 where
+  pub value : Option Value
+  pub reads : IsRead body value
+  pub outcome : Result Outcome AllocError
+  pub middle : List Asked
+  pub grants : Grants house path (wanted a value) before middle outcome
+  pub ends : Ends outcome middle after result
+
+-- memory was refused before anything was asked
+pub record Fails (before after : List Asked) (result : Result Answer AllocError) : Type 0 where
+  pub asked : after ≡ before
+  pub fails : IsErr result
+
+-- nothing was asked, and the answer refuses for this reason
+pub record Denies (why : Refusal) (before after : List Asked) (result : Result Answer AllocError) : Type 0 where
+  pub asked : after ≡ before
+  pub refusal : IfOk result (IsRefusal why)
+
+-- whether a request is of no account, or of one of n
+abbrev pub is_within : ℕ → Allowed → Bool
+is_within n (allowed.Anyone a) = true
+is_within n (allowed.Owner session a) = nat_lt session.account n
+
+-- what comes of a request for a path that is let in, to an account that there is or isn't
+abbrev pub AnswersWithin : Bool → House → Allowed → List ℕ → List ℕ → List Asked → List Asked → Result Answer AllocError → Type 0
+AnswersWithin true house a path body before after result = Fails before after result ⊎ Performs house a path body before after result
+AnswersWithin false house a path body before after result = Denies refusal.Nobody before after result
+
+-- what comes of a request for a path that may have this
+abbrev pub Answers : House → Result Allowed Refusal → List ℕ → List ℕ → List Asked → List Asked → Result Answer AllocError → Type 0
+Answers house (Err why) path body before after result = Denies why before after result
+Answers house (Ok a) path body before after result = AnswersWithin (is_within house.accounts a) house a path body before after result
+
+-- ---- what comes in
+
+-- bytes that aren't read yet begin with these, as far as they are known
+abbrev pub IsFront : List ℕ → Option (List ℕ) → Type 0
+IsFront front None = ⊤
+IsFront front (Some text) = (rest : List ℕ) × (text ≡ front ++ rest)
+
+-- why there is no head at the front of what came in: whatever follows, it has more fields than a head may have; or it has more bytes
+abbrev pub IsNoHead : Refusal → List ℕ → Type 0
+IsNoHead refusal.BadHead front = RequestOverflows MOST_FIELDS front
+IsNoHead refusal.LargeHead front = MOST_HEAD_BYTES < length front
+IsNoHead why front = ⊥
+
+-- bytes that aren't read yet begin with no head, for this reason
+pub record HasNoHead (why : Refusal) (old : Option (List ℕ)) : Type 0 where
+  pub bytes : List ℕ
+  pub front : IsFront bytes old
+  pub refused : IsNoHead why bytes
+
+-- bytes that aren't read yet begin with a head that doesn't tell the length of a body that it may have
+pub record HasNoBody (why : Refusal) (old : Option (List ℕ)) : Type 0 where
+  pub bytes : List ℕ
+  pub head : Head
+  pub front : IsFront bytes old
+  pub is : IsHead bytes head
+  pub refused : body_bytes head ≡ Err why
+
+-- bytes that aren't read yet begin with a head, and the others are left
+pub record HasHead (head : Head) (old new : Option (List ℕ)) : Type 0 where
+  pub bytes : List ℕ
+  pub is : IsHead bytes head
+  pub few : length bytes ≤ MOST_HEAD_BYTES
+  pub consumes : Consumes old new bytes
+
+-- what comes in is a head; or there is none, as it is told; or nothing more comes
+abbrev pub ComesIn : Option (List ℕ) → Option (List ℕ) → Incoming → Type 0
+ComesIn old new (incoming.Head head) = HasHead head old new
+ComesIn old new (incoming.Refused why) = HasNoHead why old
+ComesIn old new incoming.Ended = ⊤
+
+-- bytes that aren't read yet begin with a body of n bytes, and the others are left
+pub record HasBody (n : ℕ) (body : List ℕ) (old new : Option (List ℕ)) : Type 0 where
+  pub long : length body ≡ n
+  pub consumes : Consumes old new body
+
+-- ---- the requests of a connection
+
+-- a request by its head and its body, and what was answered; without memory for an answer nothing
+pub record Exchange : Type 0 where
+  pub head : Head
+  pub body : List ℕ
+  pub answer : Result Answer AllocError
+
+-- the bytes that aren't read yet begin with the head of this request and its body, and the others are left
+pub record IsNext (x : Exchange) (old new : Option (List ℕ)) : Type 0 where
+  pub bytes : List ℕ
+  pub head : IsHead bytes x.head
+  pub few : length bytes ≤ MOST_HEAD_BYTES
+  pub long : body_bytes x.head ≡ Ok (length x.body)
+  pub consumes : Consumes old new (bytes ++ x.body)
+
+-- a request of this head and this body was attended to: sessions were closed whose browsers made no request for too long, and then
+-- there comes of it what it may have by the sessions of browsers that are open
+pub record Attends (house : House) (sites : List Site) (is_local : Bool) (head : Head) (body : List ℕ) (before after : List Asked) (result : Result Answer AllocError) : Type 0 where
+  pub middle : List Asked
+  pub idle : Closes before middle
+  pub sessions : List WebSession
+  pub answers : Answers house (authorized head sessions sites is_local) head.target.items body middle after result
+
+-- the next request was read and attended to
+pub record Exchanges (house : House) (sites : List Site) (is_local : Bool) (x : Exchange) (old new : Option (List ℕ)) (before after : List Asked) : Type 0 where
+  pub next : IsNext x old new
+  pub attends : Attends house sites is_local x.head x.body before after x.answer
+
+-- requests were read one after another, here the last of them first, and attended to; accounts were asked nothing else
+abbrev pub Serves : House → List Site → Bool → List Exchange → Option (List ℕ) → Option (List ℕ) → List Asked → List Asked → Type 0
+Serves house sites is_local [] old new before after = (new ≡ old) × (after ≡ before)
+Serves house sites is_local (x ∷ earlier) old new before after =
+    (middle : Option (List ℕ)) × (asked : List Asked)
+    × Serves house sites is_local earlier old middle before asked × Exchanges house sites is_local x middle new asked after
+
+-- what became of the next request: it was read and attended to; or it can't be read for this reason, or nothing more comes, and accounts
+-- were asked nothing; if memory was refused, either
+abbrev pub Steps : House → List Site → Bool → Option (List ℕ) → Option (List ℕ) → List Asked → List Asked → Result Served AllocError → Type 0
+Steps house sites is_local old new before after (Ok (served.Answered answer goes_on)) =
+    (head : Head) × (body : List ℕ) × Exchanges house sites is_local (record { head = head; body = body; answer = Ok answer }) old new before after
+Steps house sites is_local old new before after (Ok (served.Refused why)) = (after ≡ before) × (HasNoHead why old ⊎ HasNoBody why old)
+Steps house sites is_local old new before after (Ok served.Ended) = after ≡ before
+Steps house sites is_local old new before after (Err e) =
+    (after ≡ before)
+    ⊎ ((head : Head) × (body : List ℕ) × Exchanges house sites is_local (record { head = head; body = body; answer = Err e }) old new before after)

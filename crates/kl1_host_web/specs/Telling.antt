@@ -1,0 +1,129 @@
+-- What becomes of what is wanted.
+use Rattle.std.specs.Prelude.{◌≡◌, ◌<◌, ℕ, Bool, true, false, ⊤, ◌++◌, List, [], ◌∷◌, Option, Some, None, Result, IfOk}
+use Rattle.kl1_model.specs.Event as event
+use Rattle.kl1_model.specs.Event.{is_quiet, modules}
+use Rattle.kl1_model_server.specs.Command.{does}
+use Rattle.kl1_session.specs.Conversations.{is_welcome, is_bye}
+use Rattle.kl1_command.specs.declared.performed.Performed.{Performed}
+use Rattle.kl1_host_door.specs.declared.ask.Ask.{Ask}
+use Rattle.kl1_host_door.specs.declared.ask.Ask.TheVariants as ask
+use Rattle.kl1_host_door.specs.declared.refusal.Refusal.{Refusal}
+use Rattle.kl1_host_door.specs.declared.refusal.Refusal.TheVariants as refusal
+use Rattle.kl1_host_door.specs.declared.answer.Answer.{Answer}
+use Rattle.kl1_host_door.specs.declared.answer.Content.{Content}
+use Rattle.kl1_host_door.specs.declared.answer.Cookie.TheVariants.{Kept, Cleared}
+use Rattle.kl1_host_door.specs.declared.status.Status.TheVariants.{Good}
+use Rattle.kl1_host_door.specs.Refusals.{status_of}
+use Rattle.kl1_host_page.specs.Files.{file_at}
+use Rattle.kl1_host_web.specs.Asking.{Asked, did, looked, House}
+use Rattle.kl1_host_web.specs.Wishes.{Wanted, refuse, syntax, enter, leave, do_to, load_into, tell, show_of, show_all}
+use Rattle.kl1_host_web.specs.declared.outcome.Outcome.{Outcome}
+use Rattle.kl1_host_web.specs.declared.outcome.Outcome.TheVariants as outcome
+
+-- an answer that refuses for this reason
+pub record IsRefusal (why : Refusal) (answer : Answer) : Type 0 where
+  pub status : answer.status ≡ status_of why
+  pub cookie : answer.cookie ≡ Kept
+
+-- an answer leaves the cookie of a browser as it is
+abbrev pub KeepsCookie : Answer → Type 0
+KeepsCookie answer = answer.cookie ≡ Kept
+
+-- an outcome is an answer alone: no session of a browser begins or ends, and its cookie stays
+abbrev pub IsTold : Outcome → Type 0
+IsTold (outcome.Told answer) = KeepsCookie answer
+IsTold (outcome.Opens account) = ⊥
+IsTold (outcome.Closes answer) = ⊥
+
+-- an outcome is an answer that refuses for this reason
+abbrev pub Refuses : Refusal → Outcome → Type 0
+Refuses why (outcome.Told answer) = IsRefusal why answer
+Refuses why (outcome.Opens account) = ⊥
+Refuses why (outcome.Closes answer) = ⊥
+
+-- if a session of a browser begins, it is of one of n accounts
+abbrev pub IsOpenedIn : ℕ → Outcome → Type 0
+IsOpenedIn n (outcome.Told answer) = ⊤
+IsOpenedIn n (outcome.Opens account) = account < n
+IsOpenedIn n (outcome.Closes answer) = ⊤
+
+-- an outcome is that the session of a browser ends, and with it its cookie
+abbrev pub IsClosed : Outcome → Type 0
+IsClosed (outcome.Told answer) = ⊥
+IsClosed (outcome.Opens account) = ⊥
+IsClosed (outcome.Closes answer) = answer.cookie ≡ Cleared
+
+-- an answer is a file of the page: what its bytes are, and its bytes
+pub record IsFile (content : Content) (text : List ℕ) (answer : Answer) : Type 0 where
+  pub status : answer.status ≡ Good
+  pub content_is : answer.content ≡ content
+  pub cookie : KeepsCookie answer
+  pub text_is : answer.body.items ≡ text
+
+-- an answer is what there is at a path: a file, or that there is none
+abbrev pub IsPage : Option (Content × List ℕ) → Answer → Type 0
+IsPage None answer = IsRefusal refusal.NoPage answer
+IsPage (Some file) answer = IsFile file.0 file.1 answer
+
+-- an answer shows what is of no account, at this path
+abbrev pub ShowsAll : Ask → List ℕ → Answer → Type 0
+ShowsAll ask.File path answer = IsPage (file_at path) answer
+ShowsAll a path answer = KeepsCookie answer
+
+-- an outcome is an answer that shows what is of no account, at this path
+abbrev pub IsShown : Ask → List ℕ → Outcome → Type 0
+IsShown a path (outcome.Told answer) = ShowsAll a path answer
+IsShown a path (outcome.Opens account) = ⊥
+IsShown a path (outcome.Closes answer) = ⊥
+
+-- a login was answered, by `welcome` or not: the session of a browser begins only after `welcome`
+abbrev pub Enters : Bool → ℕ → Outcome → Type 0
+Enters true account o = o ≡ outcome.Opens account
+Enters false account o = Refuses refusal.ManySessions o
+
+-- a logout was answered, by `bye` or not: the session of a browser ends only after `bye`
+abbrev pub Leaves : Bool → Outcome → Type 0
+Leaves true o = IsClosed o
+Leaves false o = IsTold o
+
+-- a login by a name and a key, by the account to which they let in: without one nothing is asked of any
+abbrev pub Entered : {E : Type 0} → Option ℕ → List Asked → List Asked → Result Outcome E → Type 0
+Entered None before after result = (after ≡ before) × IfOk result (Refuses refusal.WrongKey)
+Entered (Some account) before after result =
+    (answer : Performed) × (after ≡ before ++ did account (does event.login) answer ∷ [])
+    × IfOk result (Enters (is_welcome answer) account)
+
+-- what of an account is asked to show it: its modules and whether it is quiet are commands, the rest is looked at
+abbrev pub Shows : ℕ → Ask → List Asked → List Asked → Type 0
+Shows account ask.Account before after =
+    (first : Performed) × (second : Performed)
+    × (after ≡ before ++ did account (does (event.read is_quiet)) first ∷ did account (does (event.read modules)) second ∷ looked account ∷ [])
+Shows account a before after = after ≡ before ++ looked account ∷ []
+
+-- what becomes of what is wanted at a path: what is asked of accounts, in order, and how it ends. Only the account that is named is
+-- asked, and no other; after an `Err`, by which memory was refused, the same was asked.
+abbrev pub Grants : {E : Type 0} → House → List ℕ → Wanted → List Asked → List Asked → Result Outcome E → Type 0
+Grants house path (refuse why) before after result = (after ≡ before) × IfOk result (Refuses why)
+Grants house path syntax before after result = (after ≡ before) × IfOk result IsTold
+Grants house path (enter name key) before after result = Entered (house.opens name key) before after result
+Grants house path (leave account) before after result =
+    (answer : Performed) × (after ≡ before ++ did account (does event.logout) answer ∷ []) × IfOk result (Leaves (is_bye answer))
+Grants house path (do_to account command) before after result =
+    (answer : Performed) × (after ≡ before ++ did account command answer ∷ []) × IfOk result IsTold
+Grants house path (load_into account source) before after result =
+    (answer : Performed) × (after ≡ before ++ did account (does (event.load source)) answer ∷ []) × IfOk result IsTold
+Grants house path (tell session) before after result = (after ≡ before) × IfOk result IsTold
+Grants house path (show_of account a) before after result = Shows account a before after × IfOk result IsTold
+Grants house path (show_all a) before after result = (after ≡ before) × IfOk result (IsShown a path)
+
+-- the account of what is wanted, if it is of one, is one of n
+abbrev pub IsOfOne : ℕ → Wanted → Type 0
+IsOfOne n (refuse why) = ⊤
+IsOfOne n syntax = ⊤
+IsOfOne n (enter name key) = ⊤
+IsOfOne n (leave account) = account < n
+IsOfOne n (do_to account command) = account < n
+IsOfOne n (load_into account source) = account < n
+IsOfOne n (tell session) = session.account < n
+IsOfOne n (show_of account a) = account < n
+IsOfOne n (show_all a) = ⊤

@@ -1,0 +1,105 @@
+// The accounts of a host, as browsers use them.
+
+ghost use Rattle.std.specs.Prelude.{◌≡◌, ◌<◌, ◌++◌, ◌∷◌, [], List, IfSome};
+ghost use Rattle.kl1_command.specs.Commands.{command_view};
+ghost use Rattle.kl1_host_web.specs.Asking.{Asked, did, looked, House};
+
+use kl1_command::{Command, Performed};
+use kl1_user_events::{Extent, GoalNo, GoalView, Presence, ShoenNo, ShoenView, Usage};
+use std::alloc::AllocError;
+
+/// Why an account does no more.
+#[derive(Clone, Copy)]
+pub enum Stop {
+    /// Its file can't be written.
+    Disk,
+    /// It has more in memory than it may.
+    Memory,
+}
+
+/// What an account has done.
+#[derive(Clone, Copy)]
+pub struct Measures {
+    /// The entries of its journal.
+    pub entries: u64,
+    /// The bytes of its file.
+    pub bytes: u64,
+}
+
+/// What a host has done since it runs.
+#[derive(Clone, Copy)]
+pub struct Sums {
+    pub accounts: u64,
+    pub sessions: u64,
+    pub events: u64,
+    pub steps: u64,
+}
+
+/// What one account shows. Nothing of this changes it.
+pub trait Viewer {
+    /// The shoens with numbers from one on, the first `count` of them.
+    fn shoens_from(&mut self, from: ShoenNo, count: usize) -> Result<Vec<ShoenView>, AllocError>;
+
+    /// The goals with numbers from one on, the first `count` of them.
+    fn goals_from(&mut self, from: GoalNo, count: usize) -> Result<Vec<GoalView>, AllocError>;
+
+    /// The text of a goal; `None` if there is no such goal.
+    fn goal_text(&mut self, goal: GoalNo, extent: Extent) -> Result<Option<Vec<u8>>, AllocError>;
+
+    /// The variables that a goal waits for; `None` if there is no such goal.
+    fn awaited(&mut self, goal: GoalNo) -> Result<Option<Vec<u32>>, AllocError>;
+
+    /// Whether a variable is in a goal, as far as `most` of its parts tell.
+    fn presence(&mut self, goal: GoalNo, variable: u64, most: u64) -> Result<Presence, AllocError>;
+
+    /// What there is of what is limited.
+    fn usage(&mut self) -> Result<Usage, AllocError>;
+
+    /// Why the account does no more; `None` if it does.
+    fn stopped(&mut self) -> Option<Stop>;
+}
+
+/// The accounts of a host by their numbers, from 0: who is let in to them, what is done to them, and what they show.
+pub trait Accounts {
+    type Viewer: Viewer + Drop;
+
+    /// How many accounts there are, and whom names and keys let in.
+    ghost house: { Self → House };
+
+    /// What was asked of accounts, in order.
+    ghost asked: { Self → List Asked };
+
+    /// How many accounts there are.
+    fn count(&self) -> usize
+        ensures { result ≡ (house self.now).accounts };
+
+    /// The account to which a name and a key let in.
+    fn open(&mut self, name: &[u8], key: &[u8]) -> Option<usize>
+        ensures value { result ≡ (house self.old).opens name.now key.now }
+        ensures within { IfSome result (λ n. n < (house self.old).accounts) }
+        ensures house { house self.new ≡ house self.old }
+        ensures asked { asked self.new ≡ asked self.old };
+
+    /// Puts the name of an account after the bytes.
+    fn put_name(&self, account: usize, out: &mut Vec<u8>) -> Result<(), AllocError>
+        requires { account < (house self.now).accounts };
+
+    /// Does a command to an account.
+    fn act(&mut self, account: usize, command: &Command) -> Performed
+        requires { account < (house self.old).accounts }
+        ensures house { house self.new ≡ house self.old }
+        ensures asked { asked self.new ≡ asked self.old ++ did account (command_view command.now) result ∷ [] };
+
+    /// What shows an account.
+    fn look(&mut self, account: usize) -> Self::Viewer
+        requires { account < (house self.old).accounts }
+        ensures house { house self.new ≡ house self.old }
+        ensures asked { asked self.new ≡ asked self.old ++ looked account ∷ [] };
+
+    /// What an account has done.
+    fn measures(&self, account: usize) -> Measures
+        requires { account < (house self.now).accounts };
+
+    /// What the host has done.
+    fn sums(&self) -> Sums;
+}

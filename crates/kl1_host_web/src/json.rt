@@ -1,0 +1,172 @@
+// Answers in JSON.
+
+ghost use Rattle.std.specs.Prelude.{◌≡◌, ◌<◌, ◌++◌, OnOk, IfOk};
+ghost use Rattle.kl1_session.specs.Replies.{told};
+ghost use Rattle.kl1_host_web.specs.Telling.{IsRefusal, KeepsCookie};
+
+use crate::accounts::Accounts;
+use kl1_command::{Performed, put_reply};
+use kl1_host_door::{Answer, Content, Cookie, Refusal, Status, WebSession, status_of, words_of};
+use kl1_lines::split_feed;
+use kl1_reasons::{MOST_REASONS, Reason, reasons_of};
+use kl1_user_events::Reply;
+use serde_json::{Value, json, push};
+use std::alloc::{AllocError, Global};
+use std::str;
+
+/// An answer of a value.
+pub(crate) fn told_value(
+    alloc: Global,
+    status: Status,
+    cookie: Cookie,
+    value: &Value,
+) -> Result<Answer, AllocError>
+    ensures { IfOk result (λ answer. (answer.status ≡ status) × (answer.cookie ≡ cookie)) }
+{
+    Ok(Answer {
+        status,
+        content: Content::Json,
+        cookie,
+        body: value.to_string(alloc)?.into_bytes(),
+    })
+}
+
+/// The answer to a request that is refused.
+pub fn refused(alloc: Global, refusal: Refusal) -> Result<Answer, AllocError>
+    ensures { IfOk result (IsRefusal refusal) }
+{
+    let value = json!(in alloc; {"error": (words_of(refusal))})?;
+    told_value(alloc, status_of(refusal), Cookie::Kept, &value)
+}
+
+/// Bytes as a text; nothing if they are none in UTF-8, as those of replies always are.
+fn text_of(bytes: &[u8]) -> &str {
+    str::from_utf8(bytes).unwrap_or("")
+}
+
+/// A text as a value.
+pub(crate) fn text_value(alloc: Global, bytes: &[u8]) -> Result<Value, AllocError> {
+    let text = text_of(bytes);
+    json!(in alloc; text)
+}
+
+/// Puts what is told of a command after the bytes.
+fn put_performed(out: &mut Vec<u8>, performed: &Performed) -> Result<(), AllocError>
+    ensures { OnOk result (out.new.items ≡ out.old.items ++ told performed.now) }
+{
+    match performed {
+        Performed::Whole(reply) => put_reply(out, reply),
+        Performed::Short { steps } => put_reply(out, &Reply::Ran(*steps)),
+        Performed::Memory => out.extend_from_slice(b"- 10 memory\n"),
+    }
+}
+
+/// The lines of a text, of which each has its end.
+fn lines_value(alloc: Global, text: &[u8]) -> Result<Value, AllocError> {
+    let mut lines = Vec::new(alloc);
+    let mut rest = text;
+    // Each round takes a byte at least.
+    for _ in text {
+        let Some((line, others)) = split_feed(rest) else {
+            break;
+        };
+        push(&mut lines, text_value(alloc, line)?)?;
+        rest = others;
+    }
+    Ok(Value::Array(lines))
+}
+
+/// The lines that are told of a command.
+fn reply_value(alloc: Global, performed: &Performed) -> Result<Value, AllocError> {
+    let mut text = Vec::new(alloc);
+    put_performed(&mut text, performed)?;
+    lines_value(alloc, text.as_slice())
+}
+
+/// The answer to a command.
+pub(crate) fn told_command(
+    alloc: Global,
+    performed: &Performed,
+    cookie: Cookie,
+) -> Result<Answer, AllocError>
+    ensures { IfOk result (λ answer. answer.cookie ≡ cookie) }
+{
+    let reply = reply_value(alloc, performed)?;
+    let value = json!(in alloc; {"reply": reply})?;
+    told_value(alloc, Status::Good, cookie, &value)
+}
+
+/// The name and the token of a session.
+pub(crate) fn told_session<A: Accounts>(
+    alloc: Global,
+    accounts: &A,
+    session: &WebSession,
+    cookie: Cookie,
+) -> Result<Answer, AllocError>
+    requires { session.now.account < (A.house accounts.now).accounts }
+    ensures { IfOk result (λ answer. answer.cookie ≡ cookie) }
+{
+    let mut name = Vec::new(alloc);
+    accounts.put_name(session.account, &mut name)?;
+    let name = text_value(alloc, name.as_slice())?;
+    let token = text_value(alloc, session.token.as_slice())?;
+    let value = json!(in alloc; {"name": name, "token": token})?;
+    told_value(alloc, Status::Good, cookie, &value)
+}
+
+/// The answer to a line that is no command.
+pub(crate) fn told_syntax(alloc: Global) -> Result<Answer, AllocError>
+    ensures { IfOk result KeepsCookie }
+{
+    let value = json!(in alloc; {"reply": ["- 1 syntax"]})?;
+    told_value(alloc, Status::Good, Cookie::Kept, &value)
+}
+
+/// Puts hints on one line after the bytes.
+fn put_hints(out: &mut Vec<u8>, hints: &[Vec<u8>]) -> Result<(), AllocError> {
+    for hint in hints {
+        if !out.is_empty() {
+            out.extend_from_slice(b"; ")?;
+        }
+        out.extend_from_slice(hint.as_slice())?;
+    }
+    Ok(())
+}
+
+/// A reason with the place of which it tells.
+fn reason_value(alloc: Global, reason: &Reason) -> Result<Value, AllocError> {
+    let mut hints = Vec::new(alloc);
+    put_hints(&mut hints, reason.words.hints.as_slice())?;
+    let why = text_value(alloc, reason.words.why.as_slice())?;
+    let hint = text_value(alloc, hints.as_slice())?;
+    json!(in alloc; {
+        "line": (reason.place.line),
+        "column": (reason.place.column),
+        "why": why,
+        "hint": hint
+    })
+}
+
+/// The reasons why a source is refused; none if it isn't.
+fn reasons_value(alloc: Global, source: &[u8]) -> Result<Value, AllocError> {
+    let reasons = reasons_of(alloc, source, MOST_REASONS)?;
+    let mut values = Vec::new(alloc);
+    for reason in reasons.as_slice() {
+        push(&mut values, reason_value(alloc, reason)?)?;
+    }
+    Ok(Value::Array(values))
+}
+
+/// The answer to a load.
+pub(crate) fn told_load(
+    alloc: Global,
+    performed: &Performed,
+    source: &[u8],
+) -> Result<Answer, AllocError>
+    ensures { IfOk result KeepsCookie }
+{
+    let reply = reply_value(alloc, performed)?;
+    let reasons = reasons_value(alloc, source)?;
+    let value = json!(in alloc; {"reply": reply, "reasons": reasons})?;
+    told_value(alloc, Status::Good, Cookie::Kept, &value)
+}

@@ -1,0 +1,235 @@
+// What an account shows, and what the host has done, as answers.
+
+ghost use Rattle.std.specs.Prelude.{IfOk};
+ghost use Rattle.kl1_host_page.specs.Files.{file_at};
+ghost use Rattle.kl1_host_web.specs.Telling.{KeepsCookie, IsFile, IsPage, ShowsAll};
+
+use crate::accounts::{Accounts, Stop, Viewer};
+use crate::json::{refused, text_value, told_value};
+use crate::metrics::put_metrics;
+use crate::waiting::waiting_value;
+use kl1_command::Performed;
+use kl1_host_door::limits::SHOENS_A_PAGE;
+use kl1_host_door::{Answer, Ask, Content, Cookie, Refusal, Status};
+use kl1_host_page::file_at;
+use kl1_lines::{number_in, put_decimal, split_name};
+use kl1_model::Condition;
+use kl1_user_events::{Reply, ShoenNo, ShoenView, Usage, Used};
+use serde_json::{Value, json, push};
+use std::alloc::{AllocError, Global};
+
+/// What there is of something, and the most that there may be.
+fn used_value(alloc: Global, used: Used) -> Result<Value, AllocError> {
+    json!(in alloc; {"count": (used.count), "most": (used.most)})
+}
+
+/// What an account has of what is limited.
+fn usage_value(alloc: Global, usage: &Usage) -> Result<Value, AllocError> {
+    let goals = used_value(alloc, usage.goals)?;
+    let names = used_value(alloc, usage.names)?;
+    let shoens = used_value(alloc, usage.shoens)?;
+    let variables = used_value(alloc, usage.variables)?;
+    let structures = used_value(alloc, usage.structures)?;
+    let reports = used_value(alloc, usage.reports)?;
+    let entries = used_value(alloc, usage.entries)?;
+    json!(in alloc; {
+        "goals": goals,
+        "names": names,
+        "shoens": shoens,
+        "variables": variables,
+        "structures": structures,
+        "reports": reports,
+        "entries": entries
+    })
+}
+
+/// A module, from its line of a reply: its name, the bytes of its source, and its clauses. A name in quotes may have blanks, so the
+/// numbers are taken from the end.
+fn module_value(alloc: Global, line: &[u8]) -> Result<Value, AllocError> {
+    let (rest, clauses) = cut_last(line);
+    let (name, bytes) = cut_last(rest);
+    let name = text_value(alloc, name)?;
+    let bytes = number_in(bytes).unwrap_or(0);
+    let clauses = number_in(clauses).unwrap_or(0);
+    json!(in alloc; {"name": name, "bytes": bytes, "clauses": clauses})
+}
+
+/// What stands before the last space of a line, and what after it.
+fn cut_last(line: &[u8]) -> (&[u8], &[u8]) {
+    match line.iter().rposition(|byte| *byte == b' ') {
+        Some(place) if place < line.len() => (&line[..place], &line[place + 1..]),
+        _ => (line, &[]),
+    }
+}
+
+/// The modules that a reply lists.
+fn modules_value(alloc: Global, performed: &Performed) -> Result<Value, AllocError> {
+    let mut values = Vec::new(alloc);
+    if let Performed::Whole(Reply::Listed(listed)) = performed {
+        for line in listed.texts() {
+            push(&mut values, module_value(alloc, line.as_slice())?)?;
+        }
+    }
+    Ok(Value::Array(values))
+}
+
+/// Why an account does no more, as a value.
+fn stopped_value(alloc: Global, stopped: Option<Stop>) -> Result<Value, AllocError> {
+    match stopped {
+        None => Ok(Value::Null),
+        Some(Stop::Disk) => json!(in alloc; "disk"),
+        Some(Stop::Memory) => json!(in alloc; "memory"),
+    }
+}
+
+/// What an account has of what is limited, its modules, and whether it is quiet.
+fn account_value<V: Viewer>(
+    alloc: Global,
+    viewer: &mut V,
+    name: &[u8],
+    quiet: &Performed,
+    modules: &Performed,
+) -> Result<Value, AllocError> {
+    let name = text_value(alloc, name)?;
+    let quiet = matches!(quiet, Performed::Whole(Reply::Quiet(true)));
+    let usage = viewer.usage()?;
+    let usage = usage_value(alloc, &usage)?;
+    let stopped = stopped_value(alloc, viewer.stopped())?;
+    let modules = modules_value(alloc, modules)?;
+    json!(in alloc; {
+        "name": name,
+        "quiet": quiet,
+        "stopped": stopped,
+        "usage": usage,
+        "modules": modules
+    })
+}
+
+/// What an account has of what is limited, its modules, and whether it is quiet.
+pub(crate) fn account_page<V: Viewer>(
+    alloc: Global,
+    viewer: &mut V,
+    name: &[u8],
+    quiet: &Performed,
+    modules: &Performed,
+) -> Result<Answer, AllocError>
+    ensures { IfOk result KeepsCookie }
+{
+    let value = account_value(alloc, viewer, name, quiet, modules)?;
+    told_value(alloc, Status::Good, Cookie::Kept, &value)
+}
+
+/// The word for the state of a shoen.
+fn condition_word(condition: Condition) -> &'static str {
+    match condition {
+        Condition::Terminated => "terminated",
+        Condition::Aborted => "aborted",
+        Condition::Stopped => "stopped",
+        Condition::Exhausted => "exhausted",
+        Condition::Running => "running",
+    }
+}
+
+/// A number that may be greater than a browser's are exact, as a text.
+fn large_value(alloc: Global, number: u64) -> Result<Value, AllocError> {
+    let mut text = Vec::new(alloc);
+    put_decimal(&mut text, number)?;
+    text_value(alloc, text.as_slice())
+}
+
+/// The number of a shoen, if there is one.
+fn shoen_value(alloc: Global, shoen: Option<ShoenNo>) -> Result<Value, AllocError> {
+    match shoen {
+        None => Ok(Value::Null),
+        Some(ShoenNo(number)) => json!(in alloc; number),
+    }
+}
+
+/// A shoen.
+fn view_value(alloc: Global, view: &ShoenView) -> Result<Value, AllocError> {
+    let parent = shoen_value(alloc, view.parent)?;
+    let charged = large_value(alloc, view.charged)?;
+    let allowance = large_value(alloc, view.allowance)?;
+    json!(in alloc; {
+        "number": (view.number.0),
+        "parent": parent,
+        "condition": (condition_word(view.condition)),
+        "charged": charged,
+        "allowance": allowance,
+        "alive": (view.alive)
+    })
+}
+
+/// The shoens from one on, and the number of the first of the next page.
+pub(crate) fn shoens_page<V: Viewer>(
+    alloc: Global,
+    viewer: &mut V,
+    from: u64,
+) -> Result<Answer, AllocError>
+    ensures { IfOk result KeepsCookie }
+{
+    let views = viewer.shoens_from(ShoenNo(from), SHOENS_A_PAGE + 1)?;
+    let mut shoens = Vec::new(alloc);
+    for view in views.iter().take(SHOENS_A_PAGE) {
+        push(&mut shoens, view_value(alloc, view)?)?;
+    }
+    let next = shoen_value(
+        alloc,
+        views.as_slice().get(SHOENS_A_PAGE).map(|view| view.number),
+    )?;
+    let shoens = Value::Array(shoens);
+    let value = json!(in alloc; {"shoens": shoens, "next": next})?;
+    told_value(alloc, Status::Good, Cookie::Kept, &value)
+}
+
+/// The goals that wait.
+pub(crate) fn waiting_page<V: Viewer>(alloc: Global, viewer: &mut V) -> Result<Answer, AllocError>
+    ensures { IfOk result KeepsCookie }
+{
+    let value = waiting_value(alloc, viewer)?;
+    told_value(alloc, Status::Good, Cookie::Kept, &value)
+}
+
+/// A text as an answer.
+fn told_text(alloc: Global, content: Content, text: &[u8]) -> Result<Answer, AllocError>
+    ensures { IfOk result (IsFile content text.now) }
+{
+    Ok(Answer {
+        status: Status::Good,
+        content,
+        cookie: Cookie::Kept,
+        body: Vec::from_slice(alloc, text)?,
+    })
+}
+
+/// The file of the page at a path.
+#[tactic(auto, using(crate::proofs::Wanting::page_is))]
+fn file_page(alloc: Global, path: &[u8]) -> Result<Answer, AllocError>
+    ensures { IfOk result (IsPage (file_at path.now)) }
+{
+    match file_at(path) {
+        Some(file) => told_text(alloc, file.content, file.text.as_bytes()),
+        None => refused(alloc, Refusal::NoPage),
+    }
+}
+
+/// What is of no account: a file of the page, what the host has done, or that it is there.
+pub(crate) fn open_page<A: Accounts>(
+    alloc: Global,
+    accounts: &A,
+    ask: Ask,
+    target: &[u8],
+) -> Result<Answer, AllocError>
+    ensures { IfOk result (ShowsAll ask target.now) }
+{
+    match ask {
+        Ask::File => file_page(alloc, target),
+        Ask::Metrics => {
+            let mut text = Vec::new(alloc);
+            put_metrics(&mut text, accounts)?;
+            told_text(alloc, Content::Text, text.as_slice())
+        }
+        Ask::Health => told_text(alloc, Content::Text, b"ok\n"),
+        _ => refused(alloc, Refusal::NoPage),
+    }
+}

@@ -1,0 +1,276 @@
+// One connection of a browser.
+
+ghost use Rattle.std.specs.Prelude.{◌≡◌, ◌<◌, ℕ, List, true, IfSome, Ok};
+ghost use Rattle.std.specs.declared.option.Option.{Option};
+ghost use Rattle.std.specs.Io.KnownBytes.{Appends, prepend_known};
+ghost use Rattle.kl1_host_door.specs.Answers.{answer_text};
+ghost use Rattle.kl1_host_door.specs.Books.{passes};
+ghost use Rattle.kl1_host_door.specs.Doors.{authorized};
+ghost use Rattle.kl1_host_door.specs.declared.session.WebSession.{WebSession};
+ghost use Rattle.kl1_host_web.specs.Telling.{IsOpenedIn};
+ghost use Rattle.kl1_host_web.specs.Serving.{Closes, Begun, Ends, is_within, AnswersWithin, Attends, Exchange, Serves, Steps};
+
+use crate::accounts::Accounts;
+use crate::granting::grant;
+use crate::incoming::{Inbox, Incoming};
+use crate::json::{refused, told_session};
+use crate::outcome::Outcome;
+use crate::secret::new_session;
+use crate::site::{Machine, Page};
+use crate::wish::wish_of;
+use kl1_command::Command;
+use kl1_host_door::{
+    Allowed, Answer, Cookie, Head, Refusal, SessionTest, WebSession, authorize, body_bytes,
+    put_answer, value_of,
+};
+use kl1_lines::{Sink, Source, finish};
+use kl1_user_events::Event;
+use std::alloc::{AllocError, Global};
+use std::sync::Wait;
+
+/// What a connection is served by, and whether it comes from the machine of the host.
+#[derive(Drop)]
+pub struct Service<'p, R: Wait, M: Machine> {
+    pub rt: &'p R,
+    pub alloc: Global,
+    pub machine: &'p M,
+    pub page: Page<'p>,
+    pub is_local: bool,
+}
+
+/// What becomes of a request.
+#[derive(Drop)]
+enum Served {
+    /// It is answered, and the connection goes on or not.
+    Answered(Answer, bool),
+    /// It is refused, and nothing is known of what comes after it.
+    Refused(Refusal),
+    /// There is none: the connection has ended.
+    Ended,
+}
+
+/// Closes a session of an account, as a browser's has ended.
+#[tactic(auto, using(crate::proofs::Closing::closes_none, crate::proofs::Closing::closes_one))]
+fn log_out<A: Accounts>(accounts: &mut A, session: &WebSession)
+    ensures house { A.house accounts.new ≡ A.house accounts.old }
+    ensures asked { Closes (A.asked accounts.old) (A.asked accounts.new) }
+{
+    if session.account < accounts.count() {
+        let _ = accounts.act(session.account, &Command::Does(Event::Logout));
+    }
+}
+
+/// Whether a request is of no account, or of one of `accounts`.
+fn is_within(accounts: usize, allowed: &Allowed) -> bool
+    ensures { result ≡ is_within accounts allowed.now }
+{
+    match allowed {
+        Allowed::Anyone(_) => true,
+        Allowed::Owner { session, .. } => session.account < accounts,
+    }
+}
+
+/// Whether the connection goes on after an answer to this head.
+fn goes_on(head: &Head) -> bool {
+    let is_later = head.minor == 1;
+    match value_of(head.fields.as_slice(), b"connection") {
+        None => is_later,
+        Some(word) => {
+            if is_later {
+                !word.eq_ignore_ascii_case(b"close")
+            } else {
+                word.eq_ignore_ascii_case(b"keep-alive")
+            }
+        }
+    }
+}
+
+impl<'p, R: Wait, M: Machine> Service<'p, R, M> {
+    /// Takes out the first session that passes a test.
+    #[tactic(auto, using(crate::proofs::Closing::first_passes))]
+    fn take(&self, test: SessionTest) -> Option<WebSession>
+        ensures { IfSome result (λ session. passes test session ≡ true) }
+    {
+        let mut guard = self.page.sessions.lock(self.rt);
+        let book = &mut *guard;
+        book.take(test)
+    }
+
+    /// Adds a session of a browser, and tells whether there was room for it.
+    fn add(&self, session: WebSession) -> bool {
+        let mut guard = self.page.sessions.lock(self.rt);
+        let book = &mut *guard;
+        book.add(session)
+    }
+
+    /// What a request may have, by the sessions that are open now.
+    fn allowed(&self, head: &Head) -> Result<Allowed, Refusal>
+        ensures { (sessions : List WebSession) × (result ≡ authorized head.now sessions self.now.page.sites.now self.now.is_local) }
+    {
+        let mut guard = self.page.sessions.lock(self.rt);
+        let book = &mut *guard;
+        let allowed = authorize(head, book.sessions(), self.page.sites, self.is_local);
+        if let Ok(Allowed::Owner { session, .. }) = &allowed {
+            book.touch(session.id, self.machine.seconds());
+        }
+        allowed
+    }
+
+    /// Ends the sessions of browsers that made no request for too long.
+    #[tactic(auto, using(crate::proofs::Closing::closes_none, crate::proofs::Closing::closes_more))]
+    pub fn end_idle<A: Accounts>(&self, accounts: &mut A)
+        ensures house { A.house accounts.new ≡ A.house accounts.old }
+        ensures asked { Closes (A.asked accounts.old) (A.asked accounts.new) }
+    {
+        let before = self.machine.seconds().saturating_sub(self.page.idle);
+        for _ in 0..u64::MAX {
+            match self.take(SessionTest::IsIdle(before)) {
+                Some(session) => log_out(accounts, &session),
+                None => return,
+            }
+        }
+    }
+
+    /// Begins the session of a browser to which a session of its account is open. Without room for it that is closed again.
+    fn begin<A: Accounts>(&self, accounts: &mut A, account: usize) -> Result<Answer, AllocError>
+        requires { account < (A.house accounts.old).accounts }
+        ensures house { A.house accounts.new ≡ A.house accounts.old }
+        ensures asked { Begun account (A.asked accounts.old) (A.asked accounts.new) result }
+    {
+        let Some(session) = new_session(self.machine, account) else {
+            let _ = accounts.act(account, &Command::Does(Event::Logout));
+            return refused(self.alloc, Refusal::Memory);
+        };
+        if !self.add(session) {
+            let _ = accounts.act(account, &Command::Does(Event::Logout));
+            return refused(self.alloc, Refusal::ManySessions);
+        }
+        told_session(self.alloc, accounts, &session, Cookie::Set(session.id))
+    }
+
+    /// The answer to a request that ended so.
+    fn settle<A: Accounts>(
+        &self,
+        accounts: &mut A,
+        allowed: &Allowed,
+        outcome: Outcome,
+    ) -> Result<Answer, AllocError>
+        requires { IsOpenedIn (A.house accounts.old).accounts outcome }
+        ensures house { A.house accounts.new ≡ A.house accounts.old }
+        ensures ends { Ends (Ok outcome) (A.asked accounts.old) (A.asked accounts.new) result }
+    {
+        match outcome {
+            Outcome::Told(answer) => Ok(answer),
+            Outcome::Opens(account) => self.begin(accounts, account),
+            Outcome::Closes(answer) => {
+                if let Allowed::Owner { session, .. } = allowed {
+                    let _ = self.take(SessionTest::IsCalled(session.id));
+                }
+                Ok(answer)
+            }
+        }
+    }
+
+    /// The answer to a request that is let in.
+    fn answer<A: Accounts>(
+        &self,
+        accounts: &mut A,
+        head: &Head,
+        allowed: &Allowed,
+        body: &[u8],
+    ) -> Result<Answer, AllocError>
+        ensures house { A.house accounts.new ≡ A.house accounts.old }
+        ensures answers { AnswersWithin (is_within (A.house accounts.old).accounts allowed.now) (A.house accounts.old) allowed.now head.now.target.items body.now (A.asked accounts.old) (A.asked accounts.new) result }
+    {
+        if !is_within(accounts.count(), allowed) {
+            return refused(self.alloc, Refusal::Nobody);
+        }
+        let wish = wish_of(self.alloc, allowed, body)?;
+        let outcome = grant(self.alloc, accounts, wish, head.target.as_slice())?;
+        self.settle(accounts, allowed, outcome)
+    }
+
+    /// The answer to a request of this head and this body, or why it is refused.
+    fn attend<A: Accounts>(
+        &self,
+        accounts: &mut A,
+        head: &Head,
+        body: &[u8],
+    ) -> Result<Answer, AllocError>
+        ensures house { A.house accounts.new ≡ A.house accounts.old }
+        ensures answers { Attends (A.house accounts.old) self.now.page.sites.now self.now.is_local head.now body.now (A.asked accounts.old) (A.asked accounts.new) result }
+    {
+        self.end_idle(accounts);
+        match self.allowed(head) {
+            Err(refusal) => refused(self.alloc, refusal),
+            Ok(allowed) => self.answer(accounts, head, &allowed, body),
+        }
+    }
+
+    /// Reads the next request, and does what it asks for.
+    fn serve_request<S: Source, A: Accounts>(
+        &self,
+        source: &mut S,
+        inbox: &mut Inbox,
+        accounts: &mut A,
+    ) -> Result<Served, AllocError>
+        ensures house { A.house accounts.new ≡ A.house accounts.old }
+        ensures steps { Steps (A.house accounts.old) self.now.page.sites.now self.now.is_local (prepend_known inbox.old.kept.items (S.remaining source.old)) (prepend_known inbox.new.kept.items (S.remaining source.new)) (A.asked accounts.old) (A.asked accounts.new) result }
+    {
+        let head = match inbox.head(self.alloc, source)? {
+            Incoming::Head(head) => head,
+            Incoming::Refused(refusal) => return Ok(Served::Refused(refusal)),
+            Incoming::Ended => return Ok(Served::Ended),
+        };
+        let count = match body_bytes(&head) {
+            Ok(count) => count as usize,
+            Err(refusal) => return Ok(Served::Refused(refusal)),
+        };
+        // The body is read also if the request is refused, so that the next one is found.
+        let Some(body) = inbox.body(self.alloc, source, count)? else {
+            return Ok(Served::Ended);
+        };
+        let answer = self.attend(accounts, &head, body.as_slice())?;
+        Ok(Served::Answered(answer, goes_on(&head)))
+    }
+
+    /// Writes an answer; `false` if that failed.
+    fn send<T: Sink>(&self, sink: &mut T, answer: &Answer, goes_on: bool) -> bool
+        ensures { result ≡ true → Appends (T.contents sink.old) (T.contents sink.new) (answer_text answer.now goes_on) }
+    {
+        let mut text = Vec::new(self.alloc);
+        put_answer(&mut text, answer, goes_on).is_ok() && finish(sink, text.as_slice()).is_ok()
+    }
+
+    /// Writes that a request is refused. Without memory nothing is written.
+    fn send_refusal<T: Sink>(&self, sink: &mut T, refusal: Refusal) {
+        if let Ok(answer) = refused(self.alloc, refusal) {
+            let _ = self.send(sink, &answer, false);
+        }
+    }
+
+    /// Serves one connection: its requests one after another, until it ends, an answer says so, or one of them can't be read.
+    pub fn serve<S: Source, T: Sink, A: Accounts>(
+        &self,
+        source: &mut S,
+        sink: &mut T,
+        accounts: &mut A,
+    )
+        ensures house { A.house accounts.new ≡ A.house accounts.old }
+        ensures served { (served : List Exchange) × (left : Option (List ℕ)) × Serves (A.house accounts.old) self.now.page.sites.now self.now.is_local served (S.remaining source.old) left (A.asked accounts.old) (A.asked accounts.new) }
+    {
+        let mut inbox = Inbox::new(self.alloc);
+        for _ in 0..u64::MAX {
+            match self.serve_request(source, &mut inbox, accounts) {
+                Ok(Served::Answered(answer, goes_on)) => {
+                    if !self.send(sink, &answer, goes_on) || !goes_on {
+                        return;
+                    }
+                }
+                Ok(Served::Refused(refusal)) => return self.send_refusal(sink, refusal),
+                Ok(Served::Ended) => return,
+                Err(_) => return self.send_refusal(sink, Refusal::Memory),
+            }
+        }
+    }
+}

@@ -1,0 +1,24 @@
+// A host's page, as all its connections have it.
+
+use kl1_host_door::{SessionBook, Site};
+use std::sync::Mutex;
+
+/// A host's page, as all its connections have it.
+#[derive(Clone, Copy)]
+pub struct Page<'p> {
+    /// The sessions of browsers that are open.
+    pub sessions: &'p Mutex<SessionBook>,
+    /// The names by which the host is known.
+    pub sites: &'p [Site],
+    /// After how many seconds without a request a session ends.
+    pub idle: u64,
+}
+
+/// What a page needs of its machine.
+pub trait Machine {
+    /// The seconds since some second.
+    fn seconds(&self) -> u64;
+
+    /// Fills a buffer with bytes that nobody can guess; `false` if that can't be done.
+    fn fill(&self, bytes: &mut [u8]) -> bool;
+}

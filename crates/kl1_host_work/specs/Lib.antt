@@ -1,0 +1,2 @@
+pub mod Linkages
+pub mod Restarts

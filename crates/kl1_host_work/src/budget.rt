@@ -1,0 +1,39 @@
+// How many bytes of sources an account may still load.
+
+use std::sync::atomic::{AtomicU64, Ordering};
+
+/// How many bytes of sources an account may still load until the next start: codes are never given back.
+#[derive(Drop)]
+pub struct Budget {
+    left: AtomicU64,
+}
+
+impl Budget {
+    /// This many bytes.
+    pub fn new(bytes: u64) -> Self {
+        Budget {
+            left: AtomicU64::new(bytes),
+        }
+    }
+
+    /// Whether a source of this many bytes may be loaded.
+    pub(crate) fn allows(&self, bytes: usize) -> bool {
+        bytes as u64 <= self.left.load(Ordering::SeqCst)
+    }
+
+    /// Counts a source that was loaded. Of loads at the same time some may go over the budget.
+    pub(crate) fn spend(&self, bytes: usize) {
+        let bytes = bytes as u64;
+        for _ in 0..u64::MAX {
+            let left = self.left.load(Ordering::SeqCst);
+            let next = left.saturating_sub(bytes);
+            if self
+                .left
+                .compare_exchange(left, next, Ordering::SeqCst, Ordering::SeqCst)
+                .is_ok()
+            {
+                return;
+            }
+        }
+    }
+}

@@ -1,0 +1,119 @@
+// One connection.
+
+ghost use Rattle.std.specs.Prelude.{◌≤◌, List, []};
+ghost use Rattle.kl1_session.specs.Conversations.{Done};
+ghost use Rattle.kl1_session.specs.Connections.{Serves};
+ghost use Rattle.kl1_host_work.specs.declared.connection.TheConstants.{PIECE};
+
+use crate::connections::Desk;
+use crate::front::Front;
+use crate::handler::HostHandler;
+use crate::host::Host;
+use crate::view::View;
+use kl1_host_journals::{Outgoing, SyncedWriter};
+use kl1_lines::{FailureCounter, Sink, Source};
+use kl1_pool::{Pool, PoolIds, Share};
+use kl1_session::{Disconnect, Door, History};
+use std::alloc::Global;
+use std::cell::Cell;
+use std::net::{SocketAddr, TcpStream};
+use std::sync::Wait;
+use std::time::Duration;
+
+/// The bytes of one read. They bound what one connection may have read and not yet answered.
+pub(crate) const PIECE: usize = 4_096;
+
+/// Serves one connection of whom `door` lets in, to the accounts of a pool. `sink` is to write only by `outgoing`.
+pub fn serve<'p, 't, S: Source, T: Sink, W: Wait, R: Wait, K: PoolIds, D: Door>(
+    rt: &'p W,
+    alloc: Global,
+    source: &mut S,
+    sink: &mut T,
+    pool: &'p Pool<'t, R, K>,
+    host: Host<'p>,
+    outgoing: &'p Cell<Outgoing>,
+    door: &mut D,
+    share: &'p mut Share<K>,
+) -> Disconnect
+    requires { D.accounts door.old ≤ K.accounts }
+    ensures { (done : List Done) × Serves (D.opens door.old) PIECE result (S.remaining source.old) (S.remaining source.new) (T.contents sink.old) (T.contents sink.new) [] done }
+{
+    let mut handler = HostHandler {
+        rt,
+        pool,
+        share,
+        host,
+        outgoing,
+        history: History::new(),
+    };
+    let mut buffer = [0u8; PIECE];
+    kl1_session::serve(alloc, source, sink, &mut handler, door, &mut buffer)
+}
+
+/// Lets replies go out at once, and a peer that is gone hold no session for good. A socket that can't do this serves all the same.
+fn set_up(stream: &TcpStream, idle: Duration) {
+    let _ = stream.set_nodelay(true);
+    let _ = stream.set_read_timeout(Some(idle));
+    let _ = stream.set_write_timeout(Some(idle));
+}
+
+/// Serves one connection over a socket, and closes it if it is silent for `idle`.
+pub(crate) fn serve_lines<'t, W: Wait, R: Wait, K: PoolIds, D: Door>(
+    rt: &W,
+    alloc: Global,
+    stream: &TcpStream,
+    pool: &Pool<'t, R, K>,
+    host: Host<'_>,
+    idle: Duration,
+    door: &mut D,
+    share: &mut Share<K>,
+) -> Disconnect
+    requires { D.accounts door.old ≤ K.accounts }
+{
+    set_up(stream, idle);
+    let outgoing = Cell::new(Outgoing::new());
+    let mut source = FailureCounter::new(stream);
+    let writer = SyncedWriter::new(stream, rt, host.keepers, &outgoing);
+    let mut sink = FailureCounter::new(writer);
+    serve(
+        rt,
+        alloc,
+        &mut source,
+        &mut sink,
+        pool,
+        host,
+        &outgoing,
+        door,
+        share,
+    )
+}
+
+/// Serves one connection of a browser over a socket, and closes it if it is silent for too long.
+pub(crate) fn serve_pages<'p, 't, F: Front, W: Wait, R: Wait, K: PoolIds>(
+    rt: &'p W,
+    desk: &'p Desk<'p, 't, F, R, K>,
+    stream: &TcpStream,
+    address: SocketAddr,
+    share: &'p mut Share<K>,
+) {
+    set_up(stream, desk.limits.idle);
+    let outgoing = Cell::new(Outgoing::new());
+    let mut performer = HostHandler {
+        rt,
+        pool: desk.pool,
+        share,
+        host: desk.host,
+        outgoing: &outgoing,
+        history: History::new(),
+    };
+    let view = View {
+        rt,
+        desk,
+        outgoing: Some(&outgoing),
+    };
+    let mut source = FailureCounter::new(stream);
+    let writer = SyncedWriter::new(stream, rt, desk.host.keepers, &outgoing);
+    let mut sink = FailureCounter::new(writer);
+    desk.front
+        .serve_pages(address, &mut source, &mut sink, &mut performer, &view);
+}

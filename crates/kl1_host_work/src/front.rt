@@ -1,0 +1,120 @@
+// What a host asks of the program around it.
+
+ghost use Rattle.std.specs.Prelude.{◌≡◌, ℕ};
+
+use kl1_command::{Command, Performed};
+use kl1_lines::{Sink, Source};
+use kl1_log::LogError;
+use kl1_pool::BookTotals;
+use kl1_session::{Disconnect, Door};
+use kl1_user_events::{Extent, GoalNo, GoalView, Presence, ShoenNo, ShoenView, Usage};
+use std::alloc::AllocError;
+use std::net::SocketAddr;
+
+/// What a host tells.
+#[derive(Drop)]
+pub enum HostEvent {
+    /// An account is restored, with this many entries of its journal.
+    Restored { account: usize, entries: u64 },
+    /// A connection of a client is open.
+    Opened(SocketAddr),
+    /// A connection is refused: too many are open.
+    TurnedAway(SocketAddr),
+    /// A connection of a client has ended.
+    Closed(SocketAddr, Disconnect),
+    /// An account's file can't be written: it gets nothing more, and the account no commands.
+    Stopped { account: usize, error: LogError },
+}
+
+/// What can be seen of a host that runs. What looks at an account waits for one that is in the midst of a reduction, and gives an error if
+/// there is no such account.
+pub trait HostView {
+    /// Whether an account's file gets nothing more, and the account no commands.
+    fn is_stopped(&self, account: usize) -> bool;
+
+    /// How many connections are open.
+    fn connections(&self) -> usize;
+
+    /// How many sessions of an account are open.
+    fn sessions(&self, account: usize) -> Result<u64, AllocError>;
+
+    /// What of an account is in use.
+    fn usage(&self, account: usize) -> Result<Usage, AllocError>;
+
+    /// About how many bytes an account takes.
+    fn bytes(&self, account: usize) -> Result<u64, AllocError>;
+
+    /// The events and the steps of an account.
+    fn counted(&self, account: usize) -> Result<BookTotals, AllocError>;
+
+    /// What is shown of shoens of an account with numbers from one on, of the first `count` of them.
+    fn shoens_from(
+        &self,
+        account: usize,
+        from: ShoenNo,
+        count: usize,
+    ) -> Result<Vec<ShoenView>, AllocError>;
+
+    /// What is shown of goals of an account with numbers from one on, of the first `count` of them.
+    fn goals_from(
+        &self,
+        account: usize,
+        from: GoalNo,
+        count: usize,
+    ) -> Result<Vec<GoalView>, AllocError>;
+
+    /// The text of a goal of an account; `None` if there is no such goal.
+    fn goal_text(
+        &self,
+        account: usize,
+        goal: GoalNo,
+        extent: Extent,
+    ) -> Result<Option<Vec<u8>>, AllocError>;
+
+    /// The variables that a goal of an account waits for; `None` if there is no such goal.
+    fn awaited(&self, account: usize, goal: GoalNo) -> Result<Option<Vec<u32>>, AllocError>;
+
+    /// Whether a variable is in a goal of an account, as far as `most` of its parts tell.
+    fn presence(
+        &self,
+        account: usize,
+        goal: GoalNo,
+        variable: u64,
+        most: u64,
+    ) -> Result<Presence, AllocError>;
+}
+
+/// What does commands for a connection.
+pub trait Performer {
+    /// Does a command to an account; if there is no such account, as if memory was refused.
+    fn perform(&mut self, account: usize, command: &Command) -> Performed;
+}
+
+/// The program around a host: who is let in, what is told to its log, and when it stops.
+pub trait Front {
+    type Entrance: Door + Drop;
+
+    /// How many accounts there are.
+    ghost accounts: { Self → ℕ };
+
+    /// Who lets in whoever connects from this address.
+    fn door(&self, address: SocketAddr) -> Self::Entrance
+        ensures { Self.Entrance.accounts result ≡ accounts self.now };
+
+    /// Takes in what a host tells.
+    fn tell(&self, event: HostEvent);
+
+    /// Serves a connection of a browser from this address. What is written waits until all is on disk that `performer` has done and `host`
+    /// has shown.
+    fn serve_pages<S: Source, T: Sink, P: Performer, V: HostView>(
+        &self,
+        address: SocketAddr,
+        source: &mut S,
+        sink: &mut T,
+        performer: &mut P,
+        host: &V,
+    );
+
+    /// Attends to a host, in the thread that runs it, and may do commands. The host stops when it returns.
+    fn attend<P: Performer, V: HostView>(&self, performer: &mut P, host: &V);
+}

@@ -1,0 +1,32 @@
+//! A server whose accounts outlive it, at work: accounts of a pool that are restored from their files, behind a listening socket, and what
+//! is told to clients is on disk.
+#![tactic(auto)]
+
+mod budget;
+mod connection;
+mod connections;
+mod front;
+mod handler;
+mod host;
+mod linking;
+mod lobby;
+mod noting;
+mod restoring;
+mod running;
+mod start_fault;
+mod starting;
+mod view;
+
+pub use budget::Budget;
+pub use connection::serve;
+pub use front::{Front, HostEvent, HostView, Performer};
+pub use handler::HostHandler;
+pub use host::{Host, Syncing};
+pub use kl1_host_journals::{Keeper, OpenFault, Outgoing};
+pub use kl1_pool::BookTotals;
+pub use kl1_session::Disconnect;
+pub use lobby::Limits;
+pub use restoring::AccountFile;
+pub use running::Listeners;
+pub use start_fault::StartFault;
+pub use starting::{Setup, run_host};

@@ -1,0 +1,219 @@
+// Accounts restored from their files.
+
+ghost use Rattle.std.specs.Prelude.{◌<◌, slice_get, IfOk};
+ghost use Rattle.kl1_host_work.specs.Restarts.{IsAllRestored};
+
+use crate::budget::Budget;
+use crate::front::{Front, HostEvent};
+use crate::linking::link_account;
+use crate::start_fault::StartFault;
+use kl1_host_journals::{Keeper, Linked, RestingFile};
+use kl1_journal_entries::Journal;
+use kl1_log::{Disk, LogFile};
+use kl1_pool::{AccountName, Pool, PoolIds, RestoreEnd, Share};
+use std::alloc::{AllocError, Global};
+use std::sync::Wait;
+use std::thread::Threads;
+use std::{mem, thread};
+
+/// An account with its file, and with the journal with which it begins.
+#[derive(Drop)]
+pub struct AccountFile<D: Disk> {
+    pub name: AccountName,
+    pub file: RestingFile<D>,
+    pub journal: Journal,
+}
+
+/// The accounts' files, and what all threads share of them.
+#[derive(Drop)]
+pub(crate) struct Shelf<D: Disk> {
+    pub(crate) files: Vec<LogFile<D>>,
+    pub(crate) keepers: Vec<Keeper>,
+    pub(crate) budgets: Vec<Budget>,
+}
+
+/// Does the entries of a journal to an account in which nothing has happened; answers how many they are.
+#[tactic(auto, using(crate::proofs::Restarts::all_restored))]
+fn restore_account<'t, W: Wait, R: Wait, K: PoolIds>(
+    rt: &W,
+    alloc: Global,
+    pool: &Pool<'t, R, K>,
+    account: usize,
+    journal: &Journal,
+    share: &mut Share<K>,
+) -> Result<u64, StartFault>
+    requires { account < K.accounts }
+    ensures { IfOk result (λ n. IsAllRestored K.rules (slice_get K.names account) journal.now.journal.entries n) }
+{
+    let restored = pool.restore(rt, alloc, account, journal, share);
+    match restored.end {
+        RestoreEnd::All => Ok(restored.entries),
+        RestoreEnd::Memory => Err(StartFault::Memory),
+        RestoreEnd::Refused | RestoreEnd::Full => Err(StartFault::Unaccepted {
+            account,
+            // After the heading and the names.
+            line: (journal.names().len() as u64)
+                .saturating_add(restored.entries)
+                .saturating_add(2),
+        }),
+    }
+}
+
+impl<D: Disk + Drop> Shelf<D> {
+    /// No files, with room for this number of them.
+    fn new(alloc: Global, accounts: usize) -> Result<Self, AllocError> {
+        Ok(Shelf {
+            files: Vec::with_capacity(alloc, accounts)?,
+            keepers: Vec::with_capacity(alloc, accounts)?,
+            budgets: Vec::with_capacity(alloc, accounts)?,
+        })
+    }
+
+    /// Adds the file of the next account.
+    fn add(&mut self, linked: Linked<D>, bytes: u64) -> Result<(), AllocError> {
+        let Linked {
+            file,
+            notes,
+            receipt,
+        } = linked;
+        self.files.push(file)?;
+        self.keepers.push(Keeper::new(notes, receipt))?;
+        self.budgets.push(Budget::new(bytes))?;
+        Ok(())
+    }
+}
+
+/// An account whose entries are done, and whose file is linked with its journal.
+#[derive(Drop)]
+struct Standing<D: Disk> {
+    linked: Linked<D>,
+    entries: u64,
+}
+
+/// How far it is with an account.
+#[derive(Drop)]
+enum Stage<D: Disk> {
+    /// It isn't restored yet.
+    Waits(AccountFile<D>),
+    /// It is restored.
+    Stands(Standing<D>),
+    /// It can't be restored.
+    Fails(StartFault),
+}
+
+/// An account that is restored, with a share for that.
+#[derive(Drop)]
+struct Restart<D: Disk, K: PoolIds> {
+    share: Share<K>,
+    stage: Stage<D>,
+}
+
+/// Restores an account from its file, and links that with the account's journal.
+fn stand<'t, D: Disk + Drop, W: Wait, R: Wait, K: PoolIds>(
+    rt: &W,
+    alloc: Global,
+    pool: &Pool<'t, R, K>,
+    account: usize,
+    found: AccountFile<D>,
+    share: &mut Share<K>,
+) -> Result<Standing<D>, StartFault>
+    requires { account < K.accounts }
+{
+    let AccountFile { file, journal, .. } = found;
+    let entries = restore_account(rt, alloc, pool, account, &journal, share)?;
+    match link_account(rt, alloc, pool, account, file) {
+        Ok(linked) => Ok(Standing { linked, entries }),
+        Err(fault) => Err(StartFault::Unlinked { account, fault }),
+    }
+}
+
+/// Restores an account from its file.
+fn restore_one<'t, D: Disk + Drop, W: Wait, R: Wait, K: PoolIds>(
+    rt: &W,
+    alloc: Global,
+    pool: &Pool<'t, R, K>,
+    account: usize,
+    restart: &mut Restart<D, K>,
+) {
+    let Restart { share, stage } = restart;
+    let before = mem::replace(stage, Stage::Fails(StartFault::Accounts));
+    let Stage::Waits(found) = before else {
+        return;
+    };
+    if account < pool.accounts() {
+        *stage = match stand(rt, alloc, pool, account, found, share) {
+            Ok(standing) => Stage::Stands(standing),
+            Err(fault) => Stage::Fails(fault),
+        };
+    }
+}
+
+/// Accounts that are to be restored from these files, each with a share.
+fn restarts_of<D: Disk + Drop, K: PoolIds>(
+    alloc: Global,
+    files: Vec<AccountFile<D>>,
+    shares: Vec<Share<K>>,
+) -> Result<Vec<Restart<D, K>>, StartFault> {
+    let mut shares = shares;
+    let mut restarts = Vec::with_capacity(alloc, files.len())?;
+    for found in files {
+        let Some(share) = shares.pop() else {
+            return Err(StartFault::Memory);
+        };
+        restarts.push(Restart {
+            share,
+            stage: Stage::Waits(found),
+        })?;
+    }
+    Ok(restarts)
+}
+
+/// How many threads restore accounts: as many as there are processors.
+fn lanes<R: Threads>(rt: &R) -> usize
+    ensures { 0 < result }
+{
+    match thread::available_parallelism(rt) {
+        Ok(processors) => processors.get(),
+        Err(_) => 1,
+    }
+}
+
+/// Restores the accounts of a pool from their files, each with one of the shares, several at the same time; then tells `front` of each, in
+/// order. If some can't be restored, the fault of the first of them is told. Each may load sources of `bytes` bytes.
+pub(crate) fn restore_all<'t, F: Front, D: Disk + Drop + Send, N, R: Wait + Sync, K>(
+    rt: &N,
+    alloc: Global,
+    pool: &Pool<'t, R, K>,
+    front: &F,
+    files: Vec<AccountFile<D>>,
+    bytes: u64,
+    shares: Vec<Share<K>>,
+) -> Result<Shelf<D>, StartFault>
+where
+    N: Threads + Wait + Sync,
+    K: PoolIds + Send + Sync,
+{
+    let mut restarts = restarts_of(alloc, files, shares)?;
+    thread::for_each_mut(
+        rt,
+        restarts.as_mut_slice(),
+        lanes(rt),
+        &|account: usize, restart: &mut Restart<D, K>| {
+            restore_one(rt, alloc, pool, account, restart)
+        },
+    );
+    let mut shelf = Shelf::new(alloc, restarts.len())?;
+    for (account, restart) in restarts.into_iter().enumerate() {
+        let Restart { stage, .. } = restart;
+        match stage {
+            Stage::Stands(standing) => {
+                let Standing { linked, entries } = standing;
+                shelf.add(linked, bytes)?;
+                front.tell(HostEvent::Restored { account, entries });
+            }
+            Stage::Fails(fault) => return Err(fault),
+            Stage::Waits(_) => return Err(StartFault::Accounts),
+        }
+    }
+    Ok(shelf)
+}

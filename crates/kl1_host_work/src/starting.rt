@@ -1,0 +1,216 @@
+// A host from its files to its end.
+
+ghost use Rattle.std.specs.Prelude.{◌≡◌, ◌≤◌, vec_len, IfOk};
+ghost use Rattle.kl1_model_server.specs.laws.TextLaws.{AreNames};
+ghost use Rattle.kl1_pool.specs.Parts.{AreUsed};
+
+use crate::connections::Desk;
+use crate::front::Front;
+use crate::host::{Host, Syncing};
+use crate::lobby::{Limits, Lobby};
+use crate::restoring::{AccountFile, Shelf, restore_all};
+use crate::running::{Listeners, run_threads};
+use crate::start_fault::StartFault;
+use kl1_atoms::AtomTable;
+use kl1_codes::CodeTable;
+use kl1_journal_entries::Journal;
+use kl1_log::{Disk, LogFile};
+use kl1_model::limits::MOST_ACCOUNTS;
+use kl1_pool::{AccountName, Pool, PoolIds, PoolParts, Rules, Share};
+use kl1_text::AtomText;
+use std::alloc::{AllocError, Global};
+use std::marker::Brand;
+use std::net::{Net, TcpListener, TcpStream};
+use std::sync::Wait;
+use std::thread::Threads;
+use std::time::Clock;
+
+/// How a host is set up.
+#[derive(Clone, Copy)]
+pub struct Setup {
+    /// How many threads go on with accounts.
+    pub workers: usize,
+    /// How many connections may be open at once; with a page for browsers one more.
+    pub connections: usize,
+    pub limits: Limits,
+    pub syncing: Syncing,
+    /// How many bytes of sources each account may load.
+    pub codes_each: u64,
+    /// How many bytes each account may take.
+    pub memory_each: u64,
+}
+
+/// The last `count` of some shares, or all if they are fewer; the others are left.
+fn take_shares<K: PoolIds>(
+    alloc: Global,
+    shares: &mut Vec<Share<K>>,
+    count: usize,
+) -> Result<Vec<Share<K>>, AllocError> {
+    let mut taken = Vec::with_capacity(alloc, count)?;
+    for _ in 0..count {
+        if let Some(share) = shares.pop() {
+            taken.push(share)?;
+        }
+    }
+    Ok(taken)
+}
+
+/// The names that an account had used when its journal began.
+fn names_of(alloc: Global, journal: &Journal) -> Result<Vec<AtomText>, AllocError>
+    ensures { IfOk result (λ names. AreNames names.items) }
+{
+    // That these are names that an account may have used.
+    journal.shows_written();
+    Vec::from_slice(alloc, journal.names())
+}
+
+/// The names that each account had used when its journal began.
+#[tactic(auto, using(crate::proofs::UsedNames::one_more_used))]
+fn used_of<D: Disk>(
+    alloc: Global,
+    accounts: &[AccountFile<D>],
+) -> Result<Vec<Vec<AtomText>>, AllocError>
+    ensures { IfOk result (λ used. AreUsed used.items) }
+{
+    let mut used = Vec::with_capacity(alloc, accounts.len())?;
+    for account in accounts {
+        let names = names_of(alloc, &account.journal)?;
+        used.push(names)?;
+    }
+    Ok(used)
+}
+
+/// What accounts are called, in order.
+fn called<D: Disk>(
+    alloc: Global,
+    accounts: &[AccountFile<D>],
+) -> Result<Vec<AccountName>, StartFault> {
+    let mut names = Vec::with_capacity(alloc, accounts.len())?;
+    for account in accounts {
+        names.push(account.name)?;
+    }
+    Ok(names)
+}
+
+/// Runs a host over a pool until its end.
+fn run_pool<'p, 't, F: Front + Sync, D: Disk + Drop + Send, R, K: PoolIds + Send + Sync>(
+    rt: &R,
+    alloc: Global,
+    listeners: Listeners<'_>,
+    front: &'p F,
+    pool: &'p Pool<'t, R, K>,
+    shares: Vec<Share<K>>,
+    files: Vec<AccountFile<D>>,
+    setup: Setup,
+) -> Result<Vec<LogFile<D>>, StartFault>
+where
+    R: Net<Listener = TcpListener, Stream = TcpStream> + Threads + Wait + Clock + Sync,
+    F::Entrance: Send,
+    requires { F.accounts front.now ≤ K.accounts }
+{
+    let mut shares = shares;
+    let restoring = take_shares(alloc, &mut shares, files.len())?;
+    let Shelf {
+        files,
+        keepers,
+        budgets,
+    } = restore_all(rt, alloc, pool, front, files, setup.codes_each, restoring)?;
+    let workers = take_shares(alloc, &mut shares, setup.workers)?;
+    let Some(attending) = shares.pop() else {
+        return Err(StartFault::Memory);
+    };
+    let lobby = Lobby::new(alloc, shares)?;
+    let host = Host {
+        keepers: keepers.as_slice(),
+        budgets: budgets.as_slice(),
+        syncing: setup.syncing,
+    };
+    let desk = Desk::new(&*front, &*pool, &lobby, host, setup.limits, alloc);
+    run_threads(rt, listeners, &desk, workers, attending, files)
+}
+
+/// Runs a host over the parts of a pool until its end.
+fn run_parts<'t, F: Front + Sync, D: Disk + Drop + Send, R, K: PoolIds + Send + Sync>(
+    rt: &'t R,
+    alloc: Global,
+    listeners: Listeners<'_>,
+    front: &F,
+    parts: PoolParts<'t>,
+    files: Vec<AccountFile<D>>,
+    setup: Setup,
+) -> Result<Vec<LogFile<D>>, StartFault>
+where
+    R: Net<Listener = TcpListener, Stream = TcpStream> + Threads + Wait + Clock + Sync,
+    F::Entrance: Send,
+    requires tables { (parts.table ≡ K.table) × (parts.seats ≡ K.seats) × (parts.codes ≡ K.codes) }
+    requires names { (parts.rules ≡ K.rules) × (parts.names ≡ K.names) }
+    requires tickets { (parts.tally ≡ K.tally) × (parts.queue ≡ K.queue) × (parts.accounts ≡ K.accounts) × (parts.shares ≡ K.shares) }
+    requires accounts { F.accounts front.now ≤ parts.accounts }
+{
+    let (pool, shares) = Pool::<R, K>::new(rt, alloc, parts)?;
+    let pool = pool.bounded(setup.memory_each);
+    let ended = run_pool(rt, alloc, listeners, front, &pool, shares, files, setup);
+    pool.discard();
+    ended
+}
+
+/// `run_parts` of parts that no type names yet.
+fn run_brand<'t, F: Front + Sync, D: Disk + Drop + Send, R>(
+    rt: &'t R,
+    alloc: Global,
+    listeners: Listeners<'_>,
+    front: &F,
+    parts: PoolParts<'t>,
+    files: Vec<AccountFile<D>>,
+    setup: Setup,
+) -> Result<Vec<LogFile<D>>, StartFault>
+where
+    R: Net<Listener = TcpListener, Stream = TcpStream> + Threads + Wait + Clock + Sync,
+    F::Entrance: Send,
+    requires accounts { F.accounts front.now ≤ parts.accounts }
+{
+    run_parts::<F, D, R, Brand>(rt, alloc, listeners, front, parts, files, setup)
+}
+
+/// Restores accounts from their files, and serves them to whoever `front` lets in, until that has attended to the host: then connections
+/// are ended, and what is left is written. Answers the files.
+pub fn run_host<F: Front + Sync, D: Disk + Drop + Send, R>(
+    rt: &R,
+    alloc: Global,
+    listeners: Listeners<'_>,
+    front: &F,
+    accounts: Vec<AccountFile<D>>,
+    setup: Setup,
+) -> Result<Vec<LogFile<D>>, StartFault>
+where
+    R: Net<Listener = TcpListener, Stream = TcpStream> + Threads + Wait + Clock + Sync,
+    F::Entrance: Send,
+    requires { F.accounts front.now ≤ vec_len accounts }
+{
+    let names = called(alloc, accounts.as_slice())?;
+    if names.is_empty() || names.len() > MOST_ACCOUNTS || names.len() != accounts.len() {
+        return Err(StartFault::Accounts);
+    }
+    let used = used_of(alloc, accounts.as_slice())?;
+    let (table, seats) = AtomTable::new(alloc, names.len())?;
+    let codes = CodeTable::new(alloc)?;
+    let parts = PoolParts::new(
+        alloc,
+        &table,
+        &codes,
+        names.as_slice(),
+        Rules::Four,
+        seats,
+        setup
+            .workers
+            .saturating_add(setup.connections)
+            // The program attends to the host with one.
+            .saturating_add(1)
+            // Who waits for the next browser has one already.
+            .saturating_add(usize::from(listeners.browsers.is_some()))
+            // Accounts are restored with shares of their own.
+            .saturating_add(accounts.len()),
+    )?
+    .with_names(used);
+    run_brand(rt, alloc, listeners, front, parts, accounts, setup)
+}

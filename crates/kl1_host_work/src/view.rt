@@ -1,0 +1,173 @@
+// A host as its program sees it.
+
+use crate::connections::Desk;
+use crate::front::{Front, HostView};
+use crate::noting::note_told;
+use kl1_host_journals::Outgoing;
+use kl1_journal_entries::Journal;
+use kl1_pool::{BookTotals, JournalReader, PoolIds};
+use kl1_user_events::{Extent, GoalNo, GoalView, Presence, ShoenNo, ShoenView, Usage};
+use std::alloc::AllocError;
+use std::cell::Cell;
+use std::sync::Wait;
+
+/// A host as its program sees it.
+#[derive(Drop)]
+pub(crate) struct View<'v, 'd, 't, F: Front, N: Wait, R: Wait, K: PoolIds> {
+    pub(crate) rt: &'v N,
+    pub(crate) desk: &'v Desk<'d, 't, F, R, K>,
+    /// The leave to write of the connection that is told what is seen; `None` if no connection is.
+    pub(crate) outgoing: Option<&'v Cell<Outgoing>>,
+}
+
+/// Reads how many sessions are open.
+#[derive(Drop)]
+struct SessionsReader {
+    sessions: u64,
+}
+
+impl JournalReader for SessionsReader {
+    ghost reads = { λ before after journal ended. Unit {0} };
+
+    fn read(&mut self, journal: &Journal, _ended: u64) {
+        self.sessions = journal.sessions();
+    }
+}
+
+impl<F: Front, N: Wait, R: Wait, K: PoolIds> View<'_, '_, '_, F, N, R, K> {
+    /// Lets the connection wait until what was seen of an account is on disk.
+    fn note(&self, account: usize) {
+        if let Some(outgoing) = self.outgoing
+            && account < self.desk.pool.accounts()
+        {
+            note_told(self.rt, self.desk.pool, self.desk.host, outgoing, account);
+        }
+    }
+}
+
+impl<F: Front, N: Wait, R: Wait, K: PoolIds> HostView for View<'_, '_, '_, F, N, R, K> {
+    fn is_stopped(&self, account: usize) -> bool {
+        let desk = self.desk;
+        let keepers = desk.host.keepers;
+        match keepers.get(account) {
+            Some(keeper) => keeper.on_disk().is_stopped(),
+            None => true,
+        }
+    }
+
+    fn connections(&self) -> usize {
+        self.desk.lobby.count(self.rt)
+    }
+
+    fn sessions(&self, account: usize) -> Result<u64, AllocError> {
+        if account >= self.desk.pool.accounts() {
+            return Err(AllocError);
+        }
+        let mut reader = SessionsReader { sessions: 0 };
+        if self.desk.pool.look(self.rt, account, &mut reader) {
+            Ok(reader.sessions)
+        } else {
+            Err(AllocError)
+        }
+    }
+
+    fn usage(&self, account: usize) -> Result<Usage, AllocError> {
+        if account >= self.desk.pool.accounts() {
+            return Err(AllocError);
+        }
+        let usage = self.desk.pool.usage(self.rt, account)?;
+        self.note(account);
+        Ok(usage)
+    }
+
+    fn bytes(&self, account: usize) -> Result<u64, AllocError> {
+        if account >= self.desk.pool.accounts() {
+            return Err(AllocError);
+        }
+        let Some(bytes) = self.desk.pool.bytes(self.rt, account) else {
+            return Err(AllocError);
+        };
+        self.note(account);
+        Ok(bytes)
+    }
+
+    fn counted(&self, account: usize) -> Result<BookTotals, AllocError> {
+        if account >= self.desk.pool.accounts() {
+            return Err(AllocError);
+        }
+        let Some(totals) = self.desk.pool.counted(self.rt, account) else {
+            return Err(AllocError);
+        };
+        self.note(account);
+        Ok(totals)
+    }
+
+    fn shoens_from(
+        &self,
+        account: usize,
+        from: ShoenNo,
+        count: usize,
+    ) -> Result<Vec<ShoenView>, AllocError> {
+        if account >= self.desk.pool.accounts() {
+            return Err(AllocError);
+        }
+        let views = self.desk.pool.shoens_from(self.rt, account, from, count)?;
+        self.note(account);
+        Ok(views)
+    }
+
+    fn goals_from(
+        &self,
+        account: usize,
+        from: GoalNo,
+        count: usize,
+    ) -> Result<Vec<GoalView>, AllocError> {
+        if account >= self.desk.pool.accounts() {
+            return Err(AllocError);
+        }
+        let views = self.desk.pool.goals_from(self.rt, account, from, count)?;
+        self.note(account);
+        Ok(views)
+    }
+
+    fn goal_text(
+        &self,
+        account: usize,
+        goal: GoalNo,
+        extent: Extent,
+    ) -> Result<Option<Vec<u8>>, AllocError> {
+        if account >= self.desk.pool.accounts() {
+            return Err(AllocError);
+        }
+        let text = self.desk.pool.goal_text(self.rt, account, goal, extent)?;
+        self.note(account);
+        Ok(text)
+    }
+
+    fn awaited(&self, account: usize, goal: GoalNo) -> Result<Option<Vec<u32>>, AllocError> {
+        if account >= self.desk.pool.accounts() {
+            return Err(AllocError);
+        }
+        let awaited = self.desk.pool.awaited(self.rt, account, goal)?;
+        self.note(account);
+        Ok(awaited)
+    }
+
+    fn presence(
+        &self,
+        account: usize,
+        goal: GoalNo,
+        variable: u64,
+        most: u64,
+    ) -> Result<Presence, AllocError> {
+        if account >= self.desk.pool.accounts() {
+            return Err(AllocError);
+        }
+        let presence = self
+            .desk
+            .pool
+            .presence(self.rt, account, goal, variable, most)?;
+        self.note(account);
+        Ok(presence)
+    }
+}

@@ -1,0 +1,20 @@
+use Rattle.std.proofs.Common.{◌≡◌, sym, subst}
+use Rattle.std.specs.Prelude.{Some, slice_get}
+use Rattle.kl1_codes.specs.Numbered.{ArePlaced}
+use Rattle.kl1_journal.specs.Keeping.{Held}
+use Rattle.kl1_pool.specs.Counted.{IsCounted}
+use Rattle.kl1_pool.specs.PoolAccounts.{StandsIn}
+use Rattle.kl1_pool.proofs.pool_account.PoolAccount.goal_text.Goals as goal
+
+pub invariant_of-self : goal.invariant_of-self
+invariant_of-self g c =
+    let same = sym c.goal_text.ensures.same in
+    let b = c.self.inside.book in (
+      c.goal_text.ensures.of,
+      subst (λ (h : Held). ArePlaced (StandsIn g.K.PoolIds.codes) h.0.modules) same c.self.invariant.1,
+      c.self.invariant.2,
+      c.self.invariant.3,
+      subst (λ (h : Held). IsCounted c.self.inside.past h.1 b) same c.self.invariant.4,
+      subst (λ (h : Held). h.0.rules ≡ g.K.PoolIds.rules) same c.self.invariant.5,
+      subst (λ (h : Held). slice_get g.K.PoolIds.names b.account ≡ Some h.0.own_name) same c.self.invariant.6,
+    )

@@ -1,0 +1,16 @@
+use Rattle.std.proofs.Common.{◌≡◌, ℕ, sym, subst, ◌∙◌}
+use Rattle.std.specs.Prelude.{Some, slice_get}
+use Rattle.std.proofs.lemmas.Bool.{eqb-true}
+use Rattle.kl1_pool.proofs.pool_account.PoolAccount.is_at.Goals as goal
+
+pub returns : goal.returns
+returns g c = λ yes.
+    let held = c.args.self.now.held in
+    let found = c.shows_counts.ensures in
+    let here = sym c.account.ensures ∙ eqb-true c.account.result c.args.account yes in
+    record {
+      kept = found.kept;
+      names = found.names;
+      keeps_to = found.rules;
+      called = subst (λ (k : ℕ). slice_get g.K.PoolIds.names k ≡ Some held.0.own_name) here found.name;
+    }

@@ -1,0 +1,135 @@
+// What is shown of an account with its book.
+
+ghost use Rattle.std.specs.Prelude.{◌≡◌, nat_lt, slice_get, IfOk, IsTrue, option_map};
+ghost use Rattle.kl1_command.specs.Commands.{command_view};
+ghost use Rattle.kl1_journal.specs.Keeping.{Reading, Fits, kept_of};
+ghost use Rattle.kl1_user_events.specs.Viewing.{shoen_page, goal_page, goal_text, goal_term, AreAwaited, IsPresence, usage_of};
+ghost use Rattle.kl1_pool.specs.Counted.{reduces_in};
+ghost use Rattle.kl1_pool.specs.Memory.{bytes_taken, IsBeyond};
+ghost use Rattle.kl1_pool.specs.Showing.{IsFound};
+
+use crate::memory::{bytes_of, takes_memory};
+use crate::named_atoms::NamedAtoms;
+use crate::pool_account::PoolAccount;
+use crate::pool_ids::PoolIds;
+use kl1_codes::SharedCodes;
+use kl1_command::Command;
+use kl1_user_events::{Extent, GoalNo, GoalView, Presence, ShoenNo, ShoenView, Usage};
+use std::alloc::AllocError;
+use std::sync::Wait;
+
+/// What the book of an account tells: the events and the steps of all its journals.
+#[derive(Clone, Copy)]
+pub struct BookTotals {
+    pub events: u64,
+    pub steps: u64,
+}
+
+impl<'t, R: Wait, K: PoolIds> PoolAccount<'t, R, K> {
+    /// What is shown of the shoens with numbers from one on, of the first `count` of them.
+    pub fn shoens_from(&self, from: ShoenNo, count: usize) -> Result<Vec<ShoenView>, AllocError>
+        ensures { IfOk result (λ views. (f : Reading) → views.items ≡ shoen_page (kept_of f self.now.held).state from.0 count) }
+    {
+        self.kept.shoens_from(from, count)
+    }
+
+    /// What is shown of the goals with numbers from one on, of the first `count` of them.
+    pub fn goals_from(&self, from: GoalNo, count: usize) -> Result<Vec<GoalView>, AllocError>
+        ensures { IfOk result (λ views. (f : Reading) → Fits self.now.held.0.names f → views.items ≡ goal_page (kept_of f self.now.held).state from.0 count) }
+    {
+        self.kept.goals_from(from, count)
+    }
+
+    /// The text of the term of a goal, cut or whole; `None` if there is no such goal, or it is a monitor.
+    pub fn goal_text(
+        &mut self,
+        names: &mut NamedAtoms<'t, K>,
+        goal: GoalNo,
+        extent: Extent,
+    ) -> Result<Option<Vec<u8>>, AllocError>
+        ensures text { IfOk result (λ shown. (f : Reading) → Fits self.new.held.0.names f → option_map (λ text. text.items) shown ≡ goal_text extent (kept_of f self.new.held).state goal.0) }
+        ensures same { self.new ≡ self.old }
+    {
+        self.kept.goal_text(names, goal, extent)
+    }
+
+    /// The numbers of the variables that a goal waits for, once each in increasing order, whether it is held back or not; `None` if there
+    /// is no such goal. A variable has the number with which it is printed.
+    pub fn awaited(
+        &self,
+        codes: &SharedCodes<'t, R>,
+        goal: GoalNo,
+    ) -> Result<Option<Vec<u32>>, AllocError>
+        requires codes { codes.now.table.now ≡ K.codes }
+        ensures { IfOk result (λ awaited. (f : Reading) → Fits self.now.held.0.names f → AreAwaited (kept_of f self.now.held).state goal.0 (option_map (λ numbers. numbers.items) awaited)) }
+    {
+        self.kept.awaited(codes, goal)
+    }
+
+    /// Whether variable `variable` is in the term of a goal; `Unknown` if it isn't among the first `most` parts, and there are more. No
+    /// goal, and a monitor, have none.
+    pub fn presence(&self, goal: GoalNo, variable: u64, most: u64) -> Result<Presence, AllocError>
+        ensures { IfOk result (λ presence. (f : Reading) → IsPresence variable most (goal_term (kept_of f self.now.held).state goal.0) presence) }
+    {
+        self.kept.presence(goal, variable, most)
+    }
+
+    /// What the account has of what is limited.
+    pub fn usage(&self) -> Usage
+        ensures { (f : Reading) → result ≡ usage_of (kept_of f self.now.held).state }
+    {
+        self.kept.usage()
+    }
+
+    /// What the book tells.
+    pub fn counted(&self) -> BookTotals
+        ensures { (result.events ≡ self.now.book.events) × (result.steps ≡ self.now.book.steps) }
+    {
+        BookTotals {
+            events: self.book.events(),
+            steps: self.book.steps(),
+        }
+    }
+
+    /// Whether the account has this number. Then it keeps to the rules and has the name that K names, and is the replay of its journal.
+    pub(crate) fn is_at(&self, account: usize) -> bool
+        ensures { IsTrue result → IsFound K.rules (slice_get K.names account) self.now.held }
+    {
+        // Called for the facts that it proves.
+        self.shows_counts();
+        self.account() == account
+    }
+
+    /// How many reductions were done since the last reset.
+    fn steps_since_reset(&self) -> u64
+        ensures { result ≡ reduces_in self.now.held.1.entries }
+    {
+        // Called for the fact that it proves: what the book tells.
+        self.shows_counts();
+        self.counted().steps.saturating_sub(self.past().steps)
+    }
+
+    /// About how many bytes the account takes.
+    pub fn bytes(&self) -> u64
+        ensures { (f : Reading) → result ≡ bytes_taken (kept_of f self.now.held) }
+    {
+        bytes_of(&self.usage(), self.steps_since_reset())
+    }
+
+    /// Whether the account takes more bytes than `most`.
+    pub fn is_over(&self, most: u64) -> bool
+        ensures { (f : Reading) → result ≡ nat_lt most (bytes_taken (kept_of f self.now.held)) }
+    {
+        self.bytes() > most
+    }
+
+    /// Whether the account takes more bytes than `most`, and a command may make it take more.
+    pub(crate) fn is_beyond(&self, most: u64, command: &Command) -> bool
+        ensures { IsTrue result → IsBeyond most self.now (command_view command.now) }
+    {
+        if !takes_memory(command) {
+            return false;
+        }
+        self.is_over(most)
+    }
+}

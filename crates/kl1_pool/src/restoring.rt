@@ -1,0 +1,270 @@
+// Doing the entries of a journal to an account.
+
+ghost use Rattle.std.specs.Prelude.{◌≡◌, take, Some, IfOk, IsTrue, false};
+ghost use Rattle.kl1_model.specs.State.{has_runs};
+ghost use Rattle.kl1_model_server.specs.Journal.{Entry as Entered, runs};
+ghost use Rattle.kl1_user_events.specs.Views.{event_of, reply_of};
+ghost use Rattle.kl1_journal_entries.specs.Found.{deed_in};
+ghost use Rattle.kl1_journal_entries.specs.Lined.{entry_of};
+ghost use Rattle.kl1_journal_entries.specs.Shown.{entry_shown};
+ghost use Rattle.kl1_journal_entries.specs.Slots.{goal_in};
+ghost use Rattle.kl1_command.specs.Told.{Told};
+ghost use Rattle.kl1_command.specs.Room.{HasRoomFor};
+ghost use Rattle.kl1_pool.specs.Restoring.{IsEntryDone, IsRestored, result_by, result_of_run, told_entry, told_of, told_sum};
+
+use kl1_command::{FirstStep, Host, Steps, run_steps};
+use kl1_journal_entries::{Deed, Entry, Journal};
+use kl1_read::read_goal;
+use kl1_term::Term;
+use kl1_user_events::{Event, Reply};
+use std::alloc::{AllocError, Global};
+
+/// Why a restore did no more entries.
+#[derive(Clone, Copy)]
+pub enum RestoreEnd {
+    /// There are no more.
+    All,
+    /// The next one isn't accepted, or not whole.
+    Refused,
+    /// Memory was refused.
+    Memory,
+    /// The account's book, or the count of entries, can't tell the next one.
+    Full,
+}
+
+/// How many entries of a journal were done whole, how many first steps of the next one then, which are some only if it is a run; and why
+/// no more were.
+#[derive(Clone, Copy)]
+pub struct Restored {
+    pub entries: u64,
+    pub steps: u64,
+    pub end: RestoreEnd,
+}
+
+/// What became of an entry.
+#[derive(Clone, Copy)]
+pub(crate) enum EntryResult {
+    /// It is done.
+    Whole,
+    /// So many of its first steps are done, and no more since it ended so.
+    Stopped { steps: u64, end: RestoreEnd },
+}
+
+/// A host that tells whether its account keeps to rules by which there are runs, and that adds up what it counts.
+pub(crate) trait RestoringHost: Host {
+    /// Whether the account keeps to rules by which there are runs.
+    fn has_runs(&self) -> bool
+        ensures { (f : Self.Reading) → Self.fits self.now f → result ≡ has_runs (Self.kept f self.now).state.rules };
+
+    /// What is counted and then more is counted as all of it, if no journal was ended.
+    ghost adds_up: { (a b c : Self) (t u : Told) → t.is_reset ≡ false → u.is_reset ≡ false → Self.counted a t b → Self.counted b u c → Self.counted a (told_sum t u) c };
+}
+
+/// The goal whose print this is.
+fn goal_of(alloc: Global, print: &[u8]) -> Result<Term, AllocError>
+    ensures { IfOk result (λ goal. goal ≡ goal_in print.now) }
+{
+    match read_goal(alloc, print) {
+        Ok(goal) => Ok(goal),
+        // The print of a goal reads back: it is want of memory.
+        Err(_) => Err(AllocError),
+    }
+}
+
+/// What an entry asks for.
+fn deed_for(alloc: Global, entry: Entry<'_>) -> Result<Deed, AllocError>
+    ensures { IfOk result (λ deed. deed_in deed ≡ Some (entry_shown entry.entry)) }
+{
+    match entry {
+        Entry::Load(source) => {
+            let source = Vec::from_slice(alloc, source)?;
+            Ok(Deed::Event(Event::Load { source }))
+        }
+        Entry::Start {
+            allowance,
+            low,
+            high,
+            goal,
+        } => {
+            let goal = goal_of(alloc, goal)?;
+            Ok(Deed::Event(Event::Start {
+                allowance,
+                low,
+                high,
+                goal,
+            }))
+        }
+        Entry::Control { shoen, message } => Ok(Deed::Event(Event::Control { shoen, message })),
+        Entry::Reduce { goal, clause } => Ok(Deed::Event(Event::Reduce { goal, clause })),
+        Entry::Run(steps) => Ok(Deed::Run(steps)),
+        Entry::Answer {
+            shoen,
+            report,
+            goal,
+        } => {
+            let goal = goal_of(alloc, goal)?;
+            Ok(Deed::Event(Event::Answer {
+                shoen,
+                report,
+                goal,
+            }))
+        }
+    }
+}
+
+/// Whether the book can tell `n` events more.
+fn has_room<H: RestoringHost>(host: &H, n: u64) -> bool
+    ensures { IsTrue result → HasRoomFor n (H.room host.now) }
+{
+    match host.room() {
+        None => true,
+        Some(room) => n <= room,
+    }
+}
+
+/// What became of an entry to which this is the reply.
+fn result_by(reply: &Reply) -> EntryResult
+    ensures { result ≡ result_by (reply_of reply.now) }
+{
+    match reply {
+        Reply::Refused(_) => EntryResult::Stopped {
+            steps: 0,
+            end: RestoreEnd::Refused,
+        },
+        _ => EntryResult::Whole,
+    }
+}
+
+/// What became of a run that ended so.
+fn result_of_run(run: Steps) -> EntryResult
+    ensures { result ≡ result_of_run run.done run.last }
+{
+    match run.last {
+        FirstStep::Done => EntryResult::Whole,
+        FirstStep::Quiet => EntryResult::Stopped {
+            steps: run.done,
+            end: RestoreEnd::Refused,
+        },
+        FirstStep::Refused(_) => EntryResult::Stopped {
+            steps: run.done,
+            end: RestoreEnd::Refused,
+        },
+        FirstStep::Memory => EntryResult::Stopped {
+            steps: run.done,
+            end: RestoreEnd::Memory,
+        },
+    }
+}
+
+/// Does the event of an entry.
+fn restore_event<H: RestoringHost>(host: &mut H, event: &Event) -> EntryResult
+    ensures does { (e : Entered) → entry_of (event_of event.now) ≡ Some e → (f : H.Reading) → H.fits host.new f → IsEntryDone (H.kept f host.old).state e result (H.kept f host.new).state }
+    ensures counted { (e : Entered) → entry_of (event_of event.now) ≡ Some e → (f : H.Reading) → H.fits host.new f → H.counted host.old (told_entry e result) host.new }
+    ensures before { (f : H.Reading) → H.fits host.new f → H.fits host.old f }
+    ensures beside { H.beside host.new ≡ H.beside host.old }
+{
+    if !has_room(host, 1) {
+        return EntryResult::Stopped {
+            steps: 0,
+            end: RestoreEnd::Full,
+        };
+    }
+    match host.apply(event) {
+        Err(_) => EntryResult::Stopped {
+            steps: 0,
+            end: RestoreEnd::Memory,
+        },
+        Ok(reply) => result_by(&reply),
+    }
+}
+
+/// Does a run.
+fn restore_run<H: RestoringHost>(host: &mut H, reductions: u64) -> EntryResult
+    ensures does { (f : H.Reading) → H.fits host.new f → IsEntryDone (H.kept f host.old).state (runs reductions) result (H.kept f host.new).state }
+    ensures counted { (f : H.Reading) → H.fits host.new f → H.counted host.old (told_entry (runs reductions) result) host.new }
+    ensures before { (f : H.Reading) → H.fits host.new f → H.fits host.old f }
+    ensures beside { H.beside host.new ≡ H.beside host.old }
+{
+    if !host.has_runs() {
+        return EntryResult::Stopped {
+            steps: 0,
+            end: RestoreEnd::Refused,
+        };
+    }
+    if !has_room(host, reductions) {
+        return EntryResult::Stopped {
+            steps: 0,
+            end: RestoreEnd::Full,
+        };
+    }
+    let run = run_steps(host, reductions);
+    result_of_run(run)
+}
+
+/// Does what an entry asks for.
+fn restore_deed<H: RestoringHost>(host: &mut H, deed: Deed) -> EntryResult
+    ensures does { (e : Entered) → deed_in deed ≡ Some e → (f : H.Reading) → H.fits host.new f → IsEntryDone (H.kept f host.old).state e result (H.kept f host.new).state }
+    ensures counted { (e : Entered) → deed_in deed ≡ Some e → (f : H.Reading) → H.fits host.new f → H.counted host.old (told_entry e result) host.new }
+    ensures before { (f : H.Reading) → H.fits host.new f → H.fits host.old f }
+    ensures beside { H.beside host.new ≡ H.beside host.old }
+{
+    match deed {
+        Deed::Event(event) => restore_event(host, &event),
+        Deed::Run(reductions) => restore_run(host, reductions),
+    }
+}
+
+/// Does an entry.
+fn restore_entry<H: RestoringHost>(alloc: Global, host: &mut H, entry: Entry<'_>) -> EntryResult
+    ensures does { (f : H.Reading) → H.fits host.new f → IsEntryDone (H.kept f host.old).state (entry_shown entry.entry) result (H.kept f host.new).state }
+    ensures counted { (f : H.Reading) → H.fits host.new f → H.counted host.old (told_entry (entry_shown entry.entry) result) host.new }
+    ensures before { (f : H.Reading) → H.fits host.new f → H.fits host.old f }
+    ensures beside { H.beside host.new ≡ H.beside host.old }
+{
+    match deed_for(alloc, entry) {
+        Err(_) => EntryResult::Stopped {
+            steps: 0,
+            end: RestoreEnd::Memory,
+        },
+        Ok(deed) => restore_deed(host, deed),
+    }
+}
+
+/// Does the entries of a journal, one after another, until one isn't accepted whole.
+pub(crate) fn restore_all<H: RestoringHost>(
+    alloc: Global,
+    host: &mut H,
+    journal: &Journal,
+) -> Restored
+    ensures restored { (f : H.Reading) → H.fits host.new f → IsRestored (H.kept f host.old).state journal.now.journal.entries result (H.kept f host.new).state }
+    ensures counted { (f : H.Reading) → H.fits host.new f → H.counted host.old (told_of (take result.entries journal.now.journal.entries) result.steps) host.new }
+    ensures before { (f : H.Reading) → H.fits host.new f → H.fits host.old f }
+    ensures beside { H.beside host.new ≡ H.beside host.old }
+{
+    let mut entries = journal.entries();
+    let mut done = 0;
+    while let Some(entry) = entries.next() {
+        if done == u64::MAX {
+            return Restored {
+                entries: done,
+                steps: 0,
+                end: RestoreEnd::Full,
+            };
+        }
+        match restore_entry(alloc, host, entry) {
+            EntryResult::Whole => done += 1,
+            EntryResult::Stopped { steps, end } => {
+                return Restored {
+                    entries: done,
+                    steps,
+                    end,
+                };
+            }
+        }
+    }
+    Restored {
+        entries: done,
+        steps: 0,
+        end: RestoreEnd::All,
+    }
+}

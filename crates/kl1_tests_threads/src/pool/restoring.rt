@@ -1,0 +1,142 @@
+// Looking at the journals of accounts, and restoring accounts from them.
+
+use crate::pool::gate::LOOKS;
+use crate::pool::play::answered;
+use kl1_journal_entries::Journal;
+use kl1_pool::{Command, JournalReader, Performed, Pool, PoolIds, RestoreEnd, Restored, Share};
+use kl1_tests_rows::Text;
+use std::sync::Wait;
+use std::thread;
+
+/// The text of the journal that it read, and how many events were counted in journals before that.
+#[derive(Drop)]
+struct Copy {
+    text: Text,
+    ended: u64,
+}
+
+impl JournalReader for Copy {
+    ghost reads = { λ _ _ _ _. Unit {0} };
+
+    fn read(&mut self, journal: &Journal, ended: u64) {
+        self.ended = ended;
+        match journal.text_lines(self.text.alloc) {
+            Ok(lines) => {
+                for line in lines.texts() {
+                    self.text.put(line.as_slice());
+                    self.text.put(b"\n");
+                }
+            }
+            Err(_) => self.text.fail(),
+        }
+    }
+}
+
+/// What is seen of the journal of an account.
+fn seen<'t, R: Wait, K: PoolIds>(
+    rt: &R,
+    pool: &Pool<'t, R, K>,
+    account: usize,
+    out: &mut Text,
+) -> Copy {
+    let mut copy = Copy {
+        text: Text::new(out.alloc),
+        ended: 0,
+    };
+    if account >= pool.accounts() || !pool.look(rt, account, &mut copy) || copy.text.has_failed {
+        out.fail();
+    }
+    copy
+}
+
+/// Puts the text of an account's journal, after a line with how many events were counted in its journals that resets ended.
+pub fn put_look<'t, R: Wait, K: PoolIds>(
+    rt: &R,
+    pool: &Pool<'t, R, K>,
+    account: usize,
+    out: &mut Text,
+) {
+    let copy = seen(rt, pool, account, out);
+    out.put(b"+ after ");
+    out.put_number(copy.ended);
+    out.put(b"\n");
+    out.put(copy.text.bytes.as_slice());
+}
+
+/// Puts what became of a restore.
+fn put_end(out: &mut Text, restored: Restored) {
+    out.put(b"+ ");
+    out.put_number(restored.entries);
+    out.put(b" ");
+    out.put_number(restored.steps);
+    out.put(match restored.end {
+        RestoreEnd::All => b" all\n",
+        RestoreEnd::Refused => b" refused\n",
+        RestoreEnd::Memory => b" memory\n",
+        RestoreEnd::Full => b" full\n",
+    });
+}
+
+/// Does the entries of the journal of account `from` to another account, and puts how many were done whole, how many first steps of the
+/// next one, and why no more were.
+pub fn put_restored<'t, R: Wait, K: PoolIds>(
+    rt: &R,
+    pool: &Pool<'t, R, K>,
+    account: usize,
+    from: usize,
+    share: &mut Share<K>,
+    out: &mut Text,
+) {
+    let copy = seen(rt, pool, from, out);
+    match Journal::read(out.alloc, copy.text.bytes.as_slice()) {
+        Ok(Some(journal)) if account < pool.accounts() => {
+            let restored = pool.restore(rt, out.alloc, account, &journal, share);
+            put_end(out, restored);
+        }
+        _ => out.fail(),
+    }
+}
+
+/// Whether an account refuses memory to a run of no steps, as one does that takes more bytes than it may.
+fn is_over<'t, R: Wait, K: PoolIds>(
+    rt: &R,
+    pool: &Pool<'t, R, K>,
+    account: usize,
+    share: &mut Share<K>,
+) -> bool {
+    matches!(
+        answered(rt, pool, account, &Command::Run(0), share),
+        Performed::Memory
+    )
+}
+
+/// Puts whether an account takes more bytes than it may.
+pub fn put_over<'t, R: Wait, K: PoolIds>(
+    rt: &R,
+    pool: &Pool<'t, R, K>,
+    account: usize,
+    share: &mut Share<K>,
+    out: &mut Text,
+) {
+    out.put(if is_over(rt, pool, account, share) {
+        b"+ over\n"
+    } else {
+        b"+ within\n"
+    });
+}
+
+/// Waits until an account takes more bytes than it may; whether it came to that.
+pub fn comes_over<'t, R: Wait, K: PoolIds>(
+    rt: &R,
+    pool: &Pool<'t, R, K>,
+    account: usize,
+    share: &mut Share<K>,
+) -> bool {
+    for _look in 0..LOOKS {
+        if is_over(rt, pool, account, share) {
+            return true;
+        }
+        thread::yield_now();
+    }
+    false
+}
