@@ -1,4 +1,4 @@
-// api.js of crates/kl1_host/web, as tools/write_page wrote it.
+// api.js of crates/kl1_host_page/web, as tools/write_page wrote it.
 
 /// The bytes of `api.js`.
 pub const TEXT: &str =

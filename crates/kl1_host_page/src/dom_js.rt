@@ -1,4 +1,4 @@
-// dom.js of crates/kl1_host/web, as tools/write_page wrote it.
+// dom.js of crates/kl1_host_page/web, as tools/write_page wrote it.
 
 /// The bytes of `dom.js`.
 pub const TEXT: &str =

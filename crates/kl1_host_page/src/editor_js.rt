@@ -1,4 +1,4 @@
-// editor.js of crates/kl1_host/web, as tools/write_page wrote it.
+// editor.js of crates/kl1_host_page/web, as tools/write_page wrote it.
 
 /// The bytes of `editor.js`.
 pub const TEXT: &str =

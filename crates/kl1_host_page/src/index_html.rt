@@ -1,4 +1,4 @@
-// index.html of crates/kl1_host/web, as tools/write_page wrote it.
+// index.html of crates/kl1_host_page/web, as tools/write_page wrote it.
 
 /// The bytes of `index.html`.
 pub const TEXT: &str = r##"<!doctype html>
@@ -33,6 +33,7 @@ pub const TEXT: &str = r##"<!doctype html>
 </main>
 
 <main id="main" hidden>
+  <div class="column">
   <section class="card" aria-labelledby="shoens-title">
     <h2 id="shoens-title">Shoens</h2>
     <p class="empty" id="no-shoens">None yet: load a module, and start a goal.</p>
@@ -42,7 +43,8 @@ pub const TEXT: &str = r##"<!doctype html>
 
   <section class="card" aria-labelledby="reports-title">
     <h2 id="reports-title">Reports <span id="reports-of"></span></h2>
-    <p class="empty" id="no-reports">Choose a shoen that the console started, to see its reports.</p>
+    <p class="empty" id="no-reports">Start a goal, or choose a shoen that was started so, to see its reports.</p>
+    <p id="value" hidden>Its goal with what is bound: <code></code></p>
     <ol id="reports" class="log"></ol>
   </section>
 
@@ -53,6 +55,8 @@ pub const TEXT: &str = r##"<!doctype html>
     <ul id="waits" class="plain"></ul>
   </section>
 
+  </div>
+  <div class="column">
   <section class="card" aria-labelledby="module-title">
     <h2 id="module-title">Module</h2>
     <form id="module">
@@ -90,6 +94,7 @@ pub const TEXT: &str = r##"<!doctype html>
     </form>
   </section>
 
+  </div>
   <section class="card wide" aria-labelledby="console-title">
     <h2 id="console-title">Console</h2>
     <ol id="console" class="log" aria-live="polite"></ol>

@@ -1,4 +1,4 @@
-// page.css of crates/kl1_host/web, as tools/write_page wrote it.
+// page.css of crates/kl1_host_page/web, as tools/write_page wrote it.
 
 /// The bytes of `page.css`.
 pub const TEXT: &str = r#":root {
@@ -29,7 +29,8 @@ header { display: flex; align-items: center; gap: .75rem; padding: .6rem 1rem; b
 .notice { margin: .75rem 1rem 0; padding: .5rem .75rem; border-left: 4px solid var(--warn); background: var(--card); }
 .notice.bad { border-color: var(--bad); }
 
-main { display: grid; gap: 1rem; padding: 1rem; grid-template-columns: minmax(0, 1fr); align-items: start; }
+main, .column { display: grid; gap: 1rem; grid-template-columns: minmax(0, 1fr); align-items: start; }
+main { padding: 1rem; }
 @media (min-width: 900px) {
   main#main { grid-template-columns: minmax(0, 1fr) minmax(0, 1fr); }
   .wide { grid-column: 1 / -1; }
@@ -37,6 +38,8 @@ main { display: grid; gap: 1rem; padding: 1rem; grid-template-columns: minmax(0,
 .card { background: var(--card); border: 1px solid var(--line); border-radius: .4rem; padding: .9rem 1rem; min-width: 0; }
 .narrow { max-width: 24rem; margin: 8vh auto; width: 100%; }
 .empty { color: var(--soft); margin: 0; }
+#value { margin: 0 0 .5rem; font-size: .85rem; color: var(--soft); }
+#value code { color: var(--ink); }
 .row { display: flex; flex-wrap: wrap; gap: .6rem; align-items: end; margin-top: .6rem; }
 .grow { flex: 1 1 14rem; }
 
@@ -49,6 +52,7 @@ button { min-height: 2.2rem; padding: .25rem .8rem; border: 1px solid var(--acce
 button.quiet { background: transparent; color: var(--accent); }
 button.danger { background: transparent; color: var(--bad); border-color: var(--bad); }
 button:disabled { opacity: .5; cursor: default; }
+::file-selector-button { font: inherit; min-height: 2.2rem; padding: .25rem .8rem; margin-right: .5rem; border: 1px solid var(--accent); border-radius: .25rem; background: transparent; color: var(--accent); cursor: pointer; }
 #login button { margin-top: 1rem; width: 100%; }
 
 .badge { font-size: .75rem; border: 1px solid currentColor; border-radius: 1rem; padding: 0 .55rem; white-space: nowrap; }

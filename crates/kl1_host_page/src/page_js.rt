@@ -1,4 +1,4 @@
-// page.js of crates/kl1_host/web, as tools/write_page wrote it.
+// page.js of crates/kl1_host_page/web, as tools/write_page wrote it.
 
 /// The bytes of `page.js`.
 pub const TEXT: &str =
@@ -15,6 +15,7 @@ const WHEN_HIDDEN = 10000;
 
 let isIn = false;
 let pages = 1;
+let entries = 0;
 let timer = null;
 let looking = false;
 
@@ -64,6 +65,9 @@ async function readShoens() {
 
 async function lookOnce() {
   const [account, shoens, waiting] = await Promise.all([api.account(), readShoens(), api.waiting()]);
+  // Somebody else may have begun the account anew: what was shown of it is gone then.
+  if (account.usage.entries.count < entries) forgetShoens();
+  entries = account.usage.entries.count;
   showAccount(account);
   showShoens(shoens);
   showWaits(waiting.goals, waiting.next !== null);
@@ -124,7 +128,8 @@ onSubmit("start", async ({ goal, allowance }) => {
 });
 
 onSubmit("reset", async (_, form) => {
-  await api.command("reset");
+  const [first] = await api.command("reset");
+  if (first.startsWith("-")) return tell(`The reset is refused: ${first.slice(2)}`, true);
   form.reset();
   pages = 1;
   forgetShoens();

@@ -1,4 +1,4 @@
-// waits.js of crates/kl1_host/web, as tools/write_page wrote it.
+// waits.js of crates/kl1_host_page/web, as tools/write_page wrote it.
 
 /// The bytes of `waits.js`.
 pub const TEXT: &str =

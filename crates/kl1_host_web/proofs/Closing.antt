@@ -1,5 +1,5 @@
 -- Sessions that are closed, and the sessions of browsers that are taken out for it.
-use Rattle.std.proofs.Common.{◌≡◌, ℕ, Bool, true, false, if◌then◌else◌, List, [], ◌∷◌, ◌++◌, map, Option, Some, None, refl, ap, sym, ◌∙◌, append_assoc, append-nil}
+use Rattle.std.proofs.Common.{◌≡◌, ℕ, Bool, true, false, if◌then◌else◌, List, [], ◌∷◌, ◌++◌, map, Option, Some, refl, ap, sym, ◌∙◌, append_assoc, append-nil}
 use Rattle.std.proofs.lemmas.List.{map-append}
 use Rattle.kl1_model.specs.Event as event
 use Rattle.kl1_model_server.specs.Command.{does}
@@ -15,7 +15,7 @@ closes_none a b e = ([], e ∙ sym (append-nil a))
 pub closes_one : (a b : List Asked) (n : ℕ) (answer : Performed) → b ≡ a ++ did n (does event.logout) answer ∷ [] → Closes a b
 closes_one a b n answer e = ((n, answer) ∷ [], e)
 
-logout_of : ℕ × Performed → Asked
+abbrev logout_of : ℕ × Performed → Asked
 logout_of c = did c.0 (does event.logout) c.1
 
 pub closes_more : (a b c : List Asked) → Closes a b → Closes b c → Closes a c

@@ -1,8 +1,8 @@
 -- Requests that are attended to, one after another.
-use Rattle.std.proofs.Common.{◌≡◌, ℕ, Bool, true, false, List, [], ◌∷◌, ◌++◌, length, Some, None, Result, Ok, Err, IsErr, IfOk, refl, sym, ap, subst, ◌∙◌, inl, inr}
+use Rattle.std.proofs.Common.{◌≡◌, ℕ, Bool, true, false, List, [], ◌∷◌, ◌++◌, Some, Result, Ok, Err, IsErr, IsErrAnd, IfOk, IfSome, Vec, sym, ap, subst, ◌∙◌, inl, inr}
 use Rattle.std.specs.declared.option.Option.{Option}
 use Rattle.std.specs.declared.alloc.AllocError.{AllocError}
-use Rattle.std.specs.Io.KnownBytes.{Consumes}
+use Rattle.std.specs.declared.alloc.Global.{Global}
 use Rattle.kl1_host_door.specs.declared.refusal.Refusal.{Refusal}
 use Rattle.kl1_host_door.specs.declared.refusal.Refusal.TheVariants as refusal
 use Rattle.kl1_host_door.specs.declared.answer.Answer.{Answer}
@@ -17,9 +17,9 @@ use Rattle.kl1_model.specs.Event as event
 use Rattle.kl1_model_server.specs.Command.{does}
 use Rattle.kl1_command.specs.declared.performed.Performed.{Performed}
 use Rattle.kl1_host_web.specs.Asking.{Asked, did, House}
-use Rattle.kl1_host_web.specs.Wishes.{wish_view, wanted, IsWish}
+use Rattle.kl1_host_web.specs.Wishes.{wish_view, IsWish}
 use Rattle.kl1_host_web.specs.Telling.{Grants, IsRefusal}
-use Rattle.kl1_host_web.specs.Serving.{Closes, is_set, Begins, Begun, Ends, Performs, Fails, is_within, AnswersWithin, Answers, Attends, Exchange, IsNext, Exchanges, Serves, Steps, HasHead, HasNoBody, HasBody}
+use Rattle.kl1_host_web.specs.Serving.{Closes, is_set, Begins, Begun, Ends, Performs, AnswersWithin, Answers, Attends, Exchange, Exchanges, Serves, Steps, HasHead, HasNoBody, HasBody}
 use Rattle.kl1_host_web.specs.declared.serve.Served.{Served}
 use Rattle.kl1_host_web.specs.declared.serve.Served.TheVariants as served_as
 use Rattle.kl1_host_web.specs.declared.wish.Wish.{Wish}
@@ -92,6 +92,16 @@ no_body head why old middle comes e = record {
 -- one more request was served
 pub one_more : (house : House) (sites : List Site) (is_local : Bool) (served : List Exchange) (x : Exchange) (old middle new : Option (List ℕ)) (before asked after : List Asked) → Serves house sites is_local served old middle before asked → Exchanges house sites is_local x middle new asked after → Serves house sites is_local (x ∷ served) old new before after
 one_more house sites is_local served x old middle new before asked after s e = (middle, asked, s, e)
+
+-- memory was refused for the answer to a request that was attended to
+pub failed : (house : House) (sites : List Site) (is_local : Bool) (old new : Option (List ℕ)) (before after : List Asked) (head : Head) (body : List ℕ) (e : AllocError) (r : Result Served AllocError) → IsErrAnd r (λ f. f ≡ e) → Exchanges house sites is_local (record { head = head; body = body; answer = Err e }) old new before after → Steps house sites is_local old new before after r
+failed house sites is_local old new before after head body e (Ok s) h x = absurd h
+failed house sites is_local old new before after head body e (Err f) h x =
+    inr (head, body, subst (λ y. Exchanges house sites is_local (record { head = head; body = body; answer = Err y }) old new before after) (sym h) x)
+
+-- a body that was read
+pub body_is : (n : ℕ) (middle new : Option (List ℕ)) (o : Option (Vec ℕ Global)) (body : Vec ℕ Global) → o ≡ Some body → IfSome o (λ bytes. HasBody n bytes.items middle new) → HasBody n body.items middle new
+body_is n middle new o body e h = subst (λ x. IfSome x (λ bytes. HasBody n bytes.items middle new)) e h
 
 -- ---- what becomes of a connection
 

@@ -11,8 +11,8 @@ use Rattle.kl1_host_door.specs.declared.answer.Content.{Content}
 use Rattle.kl1_host_door.specs.declared.session.WebSession.{WebSession}
 use Rattle.kl1_host_door.specs.declared.door.Allowed.{Allowed}
 use Rattle.kl1_host_door.specs.declared.door.Allowed.TheVariants as allowed
-use Rattle.kl1_host_web.specs.Wishes.{Wanted, refuse, syntax, enter, do_to, load_into, wish_view, text_in, login_in, is_plain, plain, command_in, load_in, owned, anyone, wanted, IsWish}
-use Rattle.kl1_host_web.specs.Telling.{IsOfOne, IsTold, IsClosed, IsOpenedIn, Refuses, IsRefusal, KeepsCookie, IsFile, IsPage, ShowsAll, IsShown}
+use Rattle.kl1_host_web.specs.Wishes.{Wanted, refuse, syntax, enter, do_to, load_into, wish_view, text_in, is_plain, plain, command_in, owned, anyone, wanted, IsWish}
+use Rattle.kl1_host_web.specs.Telling.{IsOfOne, IsTold, IsOpenedIn, Refuses, IsRefusal, KeepsCookie, IsFile, IsPage, ShowsAll, IsShown}
 use Rattle.kl1_host_web.specs.Serving.{is_within}
 use Rattle.kl1_host_web.specs.declared.wish.Wish.{Wish}
 use Rattle.kl1_host_web.specs.declared.outcome.Outcome.{Outcome}

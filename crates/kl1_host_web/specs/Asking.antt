@@ -1,5 +1,5 @@
 -- What is asked of the accounts of a host.
-use Rattle.std.specs.Prelude.{◌≡◌, ◌++◌, ℕ, List, Option}
+use Rattle.std.specs.Prelude.{ℕ, List, Option}
 use Rattle.kl1_model_server.specs.Command.{Command}
 use Rattle.kl1_command.specs.declared.performed.Performed.{Performed}
 

@@ -11,7 +11,7 @@ returns-in_default-clause-asked g c =
 pub returns-then-not-add-clause-asked : goal.returns-then-not-add-clause-asked
 returns-then-not-add-clause-asked g c =
     let asked = g.A.Accounts.asked in
-    begun_refused c.args.account (asked c.args.accounts.now) (asked c.act.new.self) c.act.result refusal.ManySessions c.refused.result c.act.ensures.asked c.refused.ensures
+    begun_refused c.args.account (asked c.args.accounts.now) (asked c.act-then-not-add.new.self) c.act-then-not-add.result refusal.ManySessions c.refused-then-not-add.result c.act-then-not-add.ensures.asked c.refused-then-not-add.ensures
 
 pub returns-clause-asked : goal.returns-clause-asked
 returns-clause-asked g c =

@@ -7,9 +7,8 @@ use Rattle.kl1_host_web.proofs.serve.Service.serve.Given as goal
 abbrev pub invariant-loop : goal.invariant-loop
 invariant-loop g l =
     let remaining = g.S.Source.remaining in
-    let house = g.A.Accounts.house in
     let asked = g.A.Accounts.asked in
     record {
-      house : house l.accounts ≡ house l.fn.accounts;
-      served : (served : List Exchange) × Serves (house l.fn.accounts) l.self.page.sites.now l.self.is_local served (remaining l.fn.source) (prepend_known l.inbox.kept.items (remaining l.source)) (asked l.fn.accounts) (asked l.accounts);
+      house : g.A.Accounts.house l.accounts ≡ g.A.Accounts.house l.fn.accounts;
+      served : (served : List Exchange) × Serves (g.A.Accounts.house l.fn.accounts) l.self.page.sites.now l.self.is_local served (remaining l.fn.source) (prepend_known l.inbox.kept.items (remaining l.source)) (asked l.fn.accounts) (asked l.accounts);
     }

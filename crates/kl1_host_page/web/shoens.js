@@ -5,6 +5,8 @@ import { $, fill, make, tell } from "./dom.js";
 
 let chosen = null;
 let reports = [];
+// Whether all reports that came are on the page: while an answer is written there, none are put beside it.
+let isShown = true;
 let refresh = () => {};
 
 export function startShoens(again) {
@@ -16,6 +18,7 @@ export function forgetShoens() {
   chosen = null;
   reports = [];
   showReports();
+  showValue(null);
 }
 
 /** Sends a command, tells a refusal, and looks again. */
@@ -61,7 +64,7 @@ function line(shoen) {
   );
   // Charges and allowances come as texts, since they may be greater than a number here is exact.
   const allowance = shoen.allowance === MOST ? "" : ` of ${BigInt(shoen.allowance).toLocaleString("en")}`;
-  const used = `${BigInt(shoen.charged).toLocaleString("en")}${allowance} reductions, ${shoen.alive.toLocaleString("en")} goals`;
+  const used = `${BigInt(shoen.charged).toLocaleString("en")}${allowance} reductions, ${shoen.alive.toLocaleString("en")} ${shoen.alive === 1 ? "goal" : "goals"}`;
   return make(
     "div",
     { class: "shoen" },
@@ -78,6 +81,7 @@ export function showShoens(shoens) {
   $("no-shoens").hidden = shoens.length > 0;
   const below = Map.groupBy ? Map.groupBy(shoens, (shoen) => shoen.parent) : grouped(shoens);
   const listed = new Set(shoens.map((shoen) => shoen.number));
+  if (chosen !== null && !listed.has(chosen)) forgetShoens();
   const item = (shoen) => {
     const children = (below.get(shoen.number) ?? []).map(item);
     return make("li", {}, line(shoen), children.length ? make("ul", { class: "tree" }, ...children) : null);
@@ -98,26 +102,35 @@ function choose(number) {
   chosen = number;
   reports = [];
   showReports();
+  showValue(null);
   refresh();
 }
 
-/** Asks for the reports that have come since. */
+function showValue(text) {
+  $("value").hidden = text === null;
+  $("value").querySelector("code").textContent = text ?? "";
+}
+
+/** Asks for the reports that have come since, and for the goal as it is now. */
 export async function readReports() {
   if (chosen === null) return;
   const asked = chosen;
-  const more = await api.reports(asked, reports.length + 1);
-  if (asked !== chosen || more.length === 0) return;
+  const [more, [value]] = await Promise.all([api.reports(asked, reports.length + 1), api.command(`value ${asked}`)]);
+  if (asked !== chosen) return;
+  showValue(value.startsWith("+ ") ? value.slice(2) : null);
+  if (more.length === 0 && isShown) return;
   reports.push(...more);
   showReports();
 }
 
 /** An exception's form: a goal in place of the one that failed. */
 function answerForm(place) {
+  const shoen = chosen;
   const goal = make("input", { autocomplete: "off", spellcheck: "false", required: true, placeholder: "X = 1" });
   const send = async (event) => {
     event.preventDefault();
     goal.blur();
-    await act(`answer ${chosen} ${place} ${goal.value}`);
+    await act(`answer ${shoen} ${place} ${goal.value}`);
   };
   return make(
     "form",
@@ -132,11 +145,11 @@ function showReports() {
   $("no-reports").hidden = chosen !== null;
   const list = $("reports");
   const atEnd = list.scrollTop + list.clientHeight >= list.scrollHeight - 4;
-  const shown = fill(
+  isShown = fill(
     list,
     reports.map((text, place) =>
       make("li", {}, `${place + 1}  ${text}`, text.startsWith("exception(") ? answerForm(place + 1) : null),
     ),
   );
-  if (shown && atEnd) list.scrollTop = list.scrollHeight;
+  if (isShown && atEnd) list.scrollTop = list.scrollHeight;
 }

@@ -11,6 +11,7 @@ const WHEN_HIDDEN = 10000;
 
 let isIn = false;
 let pages = 1;
+let entries = 0;
 let timer = null;
 let looking = false;
 
@@ -60,6 +61,9 @@ async function readShoens() {
 
 async function lookOnce() {
   const [account, shoens, waiting] = await Promise.all([api.account(), readShoens(), api.waiting()]);
+  // Somebody else may have begun the account anew: what was shown of it is gone then.
+  if (account.usage.entries.count < entries) forgetShoens();
+  entries = account.usage.entries.count;
   showAccount(account);
   showShoens(shoens);
   showWaits(waiting.goals, waiting.next !== null);
@@ -120,7 +124,8 @@ onSubmit("start", async ({ goal, allowance }) => {
 });
 
 onSubmit("reset", async (_, form) => {
-  await api.command("reset");
+  const [first] = await api.command("reset");
+  if (first.startsWith("-")) return tell(`The reset is refused: ${first.slice(2)}`, true);
   form.reset();
   pages = 1;
   forgetShoens();
