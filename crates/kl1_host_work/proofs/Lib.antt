@@ -1,1 +1,2 @@
 pub mod Restarts
+pub mod UsedNames

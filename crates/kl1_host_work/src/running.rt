@@ -171,10 +171,18 @@ where
             }
             let noting = scope.spawn(move || note_on(rt, desk.pool, desk.host, until));
             let clients = listeners.clients;
-            let accepting = scope.spawn(move || serve_each(rt, clients, Peers::Clients, desk));
+            let accepting = scope.spawn(
+                move ||
+                    requires { F.accounts desk.now.front.now ≤ K.accounts }
+                { serve_each(rt, clients, Peers::Clients, desk) },
+            );
             let mut all_are_there = noting.is_ok() && accepting.is_ok();
             if let Some(browsers) = listeners.browsers {
-                let showing = scope.spawn(move || serve_each(rt, browsers, Peers::Browsers, desk));
+                let showing = scope.spawn(
+                    move ||
+                        requires { F.accounts desk.now.front.now ≤ K.accounts }
+                    { serve_each(rt, browsers, Peers::Browsers, desk) },
+                );
                 all_are_there = all_are_there && showing.is_ok();
             }
             attend(&*rt, &*desk, all_are_there, attending);

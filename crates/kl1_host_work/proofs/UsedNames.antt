@@ -1,0 +1,17 @@
+-- What accounts had used, with one account more.
+use Rattle.std.proofs.Common.{arith, ◌≡◌, ℕ, List, [], ◌∷◌, ◌++◌, sym, subst}
+use Rattle.std.specs.Prelude.{Vec}
+use Rattle.std.specs.declared.alloc.Global.{Global}
+use Rattle.std.proofs.lemmas.List.Elements.{All-append, All-cons}
+use Rattle.kl1_model_server.specs.laws.TextLaws.{AreNames}
+use Rattle.kl1_pool.specs.Parts.{AreUsed}
+
+-- no account has used any
+none_used : AreUsed []
+none_used k d few = absurd (omega (arith, few))
+
+-- the names of one account more
+pub one_more_used : (used after : List (Vec (List ℕ) Global)) (names : Vec (List ℕ) Global) → after ≡ used ++ names ∷ [] → AreUsed used → AreNames names.items → AreUsed after
+one_more_used used after names is all one =
+    let P : Vec (List ℕ) Global → Type 0 = λ v. AreNames v.items in
+    subst AreUsed (sym is) (All-append P used (names ∷ []) all (All-cons P names [] one none_used))
