@@ -14,15 +14,16 @@ def _below():
     return out - {"kl1_host_web","kl1_host_page"}
 CRITICAL = _below()
 def want(cwd, cmd, name="", VERB=""):
+    if cwd.startswith("/tmp/rt-copy") and name in ("kl1_host_work", "kl1_tests_host_work"): return -14
     if cwd.startswith("/tmp/plants-"): return -3
     if "/tmp/tmp." in cmd or ("clang" in cmd and cwd.startswith("/work/wt/h")): return -2
-    if "rt-edit" in cwd: return -4
+    if "rt-edit" in cwd: return -8
     if cwd.startswith("/work/wt/hpool"): return -2
     if cwd.startswith("/work/wt/hwork"): return -9
     if cwd.startswith("/work/wt/hweb"): return -9
     if cwd.startswith("/work/wt/h"): return 4
     if cwd.startswith("/tmp/rt-copy") and name not in CRITICAL: return -7
-    if "rt-edit" in cwd: return -4
+    if "rt-edit" in cwd: return -8
     if cwd.startswith(("/tmp/rt-copy", "/work/main", "/work/wt/gate", "/work/wt/g2", "/work/wt/g3", "/work/wt/g4", "/tmp/rt-", "/work/wt/next")): return -12
     if "rattle-native" in cwd and "rt-try" not in cwd: return -9
     if cwd.startswith("/work/wt"): return 10
