@@ -1,20 +1,18 @@
 -- The file of a journal that has grown.
 use Rattle.std.proofs.Common.{◌≡◌, ◌⊎◌, ℕ, suc, ◌+◌, ◌-◌, ◌≤◌, ◌<◌, ◌==◌, nat_lt, nat_le, Bool, true, false, if◌then◌else◌, List, [], ◌∷◌, ◌++◌, map, length, take, drop, refl, sym, ap, ◌∙◌, subst, arith, inl, inr, append_assoc}
-use Rattle.std.specs.Prelude.{Option, Some, None, option_map, replicate}
+use Rattle.std.specs.Prelude.{Option, None, option_map, replicate}
 use Rattle.std.specs.List.{list_all, AllByRecursion}
-use Rattle.std.proofs.lemmas.Option.{same_Some}
 use Rattle.std.proofs.lemmas.Bool.{and_from, cases_lt, lt-ltb, le-ltb}
 use Rattle.std.proofs.lemmas.List.{append-nil, length-append, length-drop, length-map, length-take, take_all, drop_at, map-append, replicate-append-replicate}
 use Rattle.kl1_model.specs.declared.rules.Rules.{Rules}
 use Rattle.kl1_model.specs.declared.limits.TheConstants.{MOST_LINE_BYTES}
 use Rattle.kl1_model_server.specs.Command.{written_line, written_lines}
 use Rattle.kl1_model_server.specs.Journal.{Entry, runs, Journal}
-use Rattle.kl1_model_server.specs.JournalText.{entry_line, name_line, Heading, heading_in, heading_line, journal_lines, Lines, lines_of, journal_of, journal_in}
-use Rattle.kl1_model_server.specs.laws.TextLaws.{HasLine, is_unbroken, IsWritten, journal_text}
+use Rattle.kl1_model_server.specs.JournalText.{entry_line, name_line, heading_line, journal_lines, Lines, lines_of, journal_of, journal_in}
+use Rattle.kl1_model_server.specs.laws.TextLaws.{HasLine, is_unbroken, IsWritten}
 use Rattle.kl1_model_server.proofs.TextEntries.{entries_read_back}
 use Rattle.kl1_model_server.proofs.TextJournals.{journals_read_back}
 use Rattle.kl1_model_server.proofs.TextLines.{lines_of_lines}
-use Rattle.kl1_model_server.proofs.TextNames.{headings_read_back}
 use Rattle.kl1_model_server.proofs.TextUnbroken.{entry_unbroken}
 use Rattle.kl1_log.specs.declared.mark.Mark.{Mark}
 use Rattle.kl1_log.specs.Deeds.{deeds_of, deeds_of_entry, IsFile, shut_text}
