@@ -10,6 +10,9 @@ some_same n p e = cc
 add_suc : (n i : ℕ) → n + suc i ≡ suc n + i
 add_suc n i = omega arith
 
+zero_add : (i : ℕ) → i ≡ 0 + i
+zero_add i = omega arith
+
 -- where none has a place, none passes
 pub none_at : (test : WebSession → Bool) (n : ℕ) (xs : List WebSession) → place_from test n xs ≡ None → first_of test xs ≡ None
 none_at test n [] e = refl
@@ -45,7 +48,7 @@ put_back id second n (suc i) (x ∷ xs) d y e is =
     ] e
 
 pub touched_at : (id : List ℕ) (second i : ℕ) (xs : List WebSession) (d y : WebSession) → place_of (passes (test.IsCalled id)) xs ≡ Some i → y ≡ seen_at second (get_or xs i d) → set xs i y ≡ touched id second xs
-touched_at id second i xs d y e is = put_back id second 0 i xs d y e is
+touched_at id second i xs d y e is = put_back id second 0 i xs d y (e ∙ ap Some (zero_add i)) is
 
 -- where none has the name, all stay
 untouched : (id : List ℕ) (second n : ℕ) (xs : List WebSession) → place_from (λ s. bytes_eq s.id id) n xs ≡ None → xs ≡ touched id second xs

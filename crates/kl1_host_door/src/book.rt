@@ -1,6 +1,7 @@
 // The sessions of browsers that are open.
 
 ghost use Rattle.std.specs.Prelude.{◌≡◌, ◌<◌, ◌≤◌, [], length, vec_capacity, IfOk, IfSome};
+ghost use Rattle.kl1_host_door.specs.declared.limits.TheConstants.{MOST_SESSIONS};
 ghost use Rattle.kl1_host_door.specs.Books.{passes, place_of, touched, IsAdded, first_of, without_first};
 
 use crate::limits::{MOST_SESSIONS, SECRET_BYTES};
