@@ -1,14 +1,13 @@
-// What the host is asked: each answer is JSON, and each request but a login carries the token that came with the login. A cookie goes to
-// every port of a host's name, so it alone lets in to nothing. The token is kept for this tab and for this page's scheme, name and port.
+// What the host is asked: each answer is JSON, and each request carries the token that came with the login. A cookie goes to every port of
+// a host's name, so it alone lets in to nothing. The token is kept for this page's scheme, name and port, and all tabs have it.
 
 const KEPT_AS = "kl1-token";
-let token = sessionStorage.getItem(KEPT_AS);
+const kept = () => localStorage.getItem(KEPT_AS);
+const keep = (token) => localStorage.setItem(KEPT_AS, token);
+const forget = () => localStorage.removeItem(KEPT_AS);
 
-function keep(text) {
-  token = text;
-  if (text === null) sessionStorage.removeItem(KEPT_AS);
-  else sessionStorage.setItem(KEPT_AS, text);
-}
+/** Has something done when another tab logs in or out. */
+export const whenChanged = (again) => addEventListener("storage", ({ key }) => key === KEPT_AS && again());
 
 /** An answer that is a refusal, with the words that the host gave. */
 export class Refused extends Error {
@@ -19,8 +18,8 @@ export class Refused extends Error {
 }
 
 async function ask(path, { headers, ...options } = {}) {
-  const carried = token;
-  const all = carried === null ? headers : { ...headers, "x-kl1-token": carried };
+  const token = kept();
+  const all = token === null ? headers : { ...headers, "x-kl1-token": token };
   let answer;
   try {
     answer = await fetch(path, { credentials: "same-origin", cache: "no-store", headers: all, ...options });
@@ -28,7 +27,7 @@ async function ask(path, { headers, ...options } = {}) {
     throw new Refused(0, "The host can't be reached.");
   }
   // The session has ended, unless another has begun since.
-  if (answer.status === 403 && carried === token) keep(null);
+  if (answer.status === 403 && token === kept()) forget();
   const body = await answer.json().catch(() => ({}));
   if (!answer.ok) throw new Refused(answer.status, body.error ?? `The host answered ${answer.status}.`);
   return body;
@@ -37,20 +36,19 @@ async function ask(path, { headers, ...options } = {}) {
 const post = (path, value) =>
   ask(path, { method: "POST", headers: { "content-type": "application/json" }, body: JSON.stringify(value) });
 
-/** Who is logged in by the token of this tab and the cookie of the browser; fails with status 403 if nobody is. */
+/** Who is logged in by the token and the cookie of this browser; fails with status 403 if nobody is. */
 export async function whoami() {
-  if (token === null) throw new Refused(403, "Nobody is logged in.");
+  if (kept() === null) throw new Refused(403, "Nobody is logged in.");
   return (await ask("/api/session")).name;
 }
 
 export async function login(name, key) {
-  keep(null);
   const session = await post("/api/login", { name, key });
   keep(session.token);
   return session.name;
 }
 
-export const logout = () => post("/api/logout", {}).finally(() => keep(null));
+export const logout = () => post("/api/logout", {}).finally(forget);
 
 /** The lines of the reply to a command. */
 export const command = async (line) => (await post("/api/command", { line })).reply;
