@@ -1,9 +1,9 @@
 -- Heads that are copied out of the bytes in which they were found.
-use Rattle.std.proofs.Common.{◌≡◌, ◌<◌, ◌≤◌, ◌-◌, ℕ, suc, List, [], ◌∷◌, ◌++◌, length, map, take, drop, get_or, All, ap, sym, subst, ◌∙◌, append-nil, append_assoc, arith}
+use Rattle.std.proofs.Common.{◌≡◌, ◌≤◌, ◌-◌, ℕ, suc, List, [], ◌∷◌, ◌++◌, length, map, take, drop, get_or, All, ap, sym, subst, ◌∙◌, append-nil, append_assoc, arith}
 use Rattle.std.proofs.Math.Seq.{take-append_seam}
 use Rattle.std.proofs.lemmas.List.{map-append, take_all}
 use Rattle.httparse.specs.Grammar.{print_request}
-use Rattle.httparse.specs.Spans.{header_bytes, IsRequestAt, IsRequestOf}
+use Rattle.httparse.specs.Spans.{header_bytes, IsRequestOf}
 use Rattle.httparse.specs.declared.spans.HeaderSpan.{HeaderSpan}
 use Rattle.httparse.specs.declared.spans.RequestSpans.{RequestSpans}
 use Rattle.kl1_host_door.specs.declared.field.Field.{Field}

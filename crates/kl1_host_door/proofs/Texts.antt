@@ -1,5 +1,5 @@
 -- Texts that are put part by part, and what stands at their front.
-use Rattle.std.proofs.Common.{◌≡◌, ◌≤◌, ◌-◌, ℕ, nat_le, nat_eq, Bool, true, List, ◌++◌, length, take, drop, bytes_eq, refl, ap, ◌∙◌, append_assoc, arith, le_of_eq, length-drop, take_all}
+use Rattle.std.proofs.Common.{◌≡◌, ◌≤◌, ◌-◌, ℕ, nat_le, nat_eq, true, List, ◌++◌, length, take, drop, bytes_eq, refl, ap, ◌∙◌, append_assoc, arith, le_of_eq, length-drop, take_all}
 use Rattle.std.specs.List.{starts_with}
 use Rattle.kl1_host_door.specs.declared.ask.Method.{Method}
 use Rattle.kl1_host_door.specs.declared.limits.TheConstants.{SECRET_BYTES}

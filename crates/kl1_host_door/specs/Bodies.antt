@@ -1,5 +1,5 @@
 -- How long the body of a request is.
-use Rattle.std.specs.Prelude.{ℕ, nat_le, if◌then◌else◌, List, bytes_eq, codes, Option, Some, None, Result, Ok, Err}
+use Rattle.std.specs.Prelude.{ℕ, nat_le, if◌then◌else◌, List, bytes_eq, codes, Some, None, Result, Ok, Err}
 use Rattle.kl1_model.specs.Line.{number_in}
 use Rattle.kl1_host_door.specs.declared.limits.TheConstants.{MOST_BODY_BYTES}
 use Rattle.kl1_host_door.specs.declared.refusal.Refusal.{Refusal}

@@ -1,5 +1,5 @@
 -- The sessions of browsers that are open.
-use Rattle.std.specs.Prelude.{◌≡◌, ◌<◌, ℕ, suc, nat_lt, Bool, true, false, if◌then◌else◌, List, [], ◌∷◌, ◌++◌, length, remove, bytes_eq, Option, Some, None}
+use Rattle.std.specs.Prelude.{◌≡◌, ◌<◌, ◌≤◌, ℕ, suc, nat_lt, Bool, true, false, if◌then◌else◌, List, [], ◌∷◌, ◌++◌, length, remove, bytes_eq, Option, Some, None}
 use Rattle.kl1_host_door.specs.declared.limits.TheConstants.{MOST_SESSIONS}
 use Rattle.kl1_host_door.specs.declared.session.WebSession.{WebSession}
 use Rattle.kl1_host_door.specs.declared.book.SessionTest.{SessionTest}
@@ -10,14 +10,19 @@ abbrev pub passes : SessionTest → WebSession → Bool
 passes (test.IsCalled id) session = bytes_eq session.id id
 passes (test.IsIdle before) session = nat_lt session.last before
 
--- the secrets of a session with its account
-abbrev pub secrets_of : WebSession → List ℕ × List ℕ × ℕ
-secrets_of session = (session.id, session.token, session.account)
+-- a session whose last request is at this second
+abbrev pub seen_at : ℕ → WebSession → WebSession
+seen_at second session = record { id = session.id; token = session.token; account = session.account; last = second }
 
--- a session was added at the end, as there was room for it; or there is nothing new
+-- the sessions after a request of the first with this name, at this second
+abbrev pub touched : List ℕ → ℕ → List WebSession → List WebSession
+touched id second [] = []
+touched id second (s ∷ ss) = if bytes_eq s.id id then seen_at second s ∷ ss else s ∷ touched id second ss
+
+-- a session was added at the end, as there was room for it; or as many are open as may be, and there is nothing new
 abbrev pub IsAdded : Bool → WebSession → List WebSession → List WebSession → Type 0
 IsAdded true session old new = (length old < MOST_SESSIONS) × (new ≡ old ++ session ∷ [])
-IsAdded false session old new = new ≡ old
+IsAdded false session old new = (MOST_SESSIONS ≤ length old) × (new ≡ old)
 
 -- the place of the first session that passes a test, counted from a number on
 abbrev pub place_from : (WebSession → Bool) → ℕ → List WebSession → Option ℕ

@@ -1,5 +1,5 @@
 -- Who is let in, and to what.
-use Rattle.std.specs.Prelude.{ℕ, Bool, true, false, not, ◌&&◌, if◌then◌else◌, List, bytes_eq, codes, Option, Some, None, Result, Ok, Err}
+use Rattle.std.specs.Prelude.{ℕ, Bool, ◌&&◌, if◌then◌else◌, List, bytes_eq, codes, Option, Some, None, Result, Ok, Err}
 use Rattle.std.specs.List.{list_any}
 use Rattle.kl1_host_door.specs.declared.refusal.Refusal.{Refusal}
 use Rattle.kl1_host_door.specs.declared.refusal.Refusal.TheVariants as refusal
@@ -37,34 +37,34 @@ site_refusal fields sites = elim (value_of (codes "host") fields) [
       else Some refusal.OtherHost
 ]
 
--- who may have what is asked for: files and a login anyone, what the host has done the machine itself, an account's who has the cookie
--- of one of its sessions, and if something changes that session's token, too
+-- who may have what is asked for: files and a login anyone, what the host has done the machine itself, and all that is of an account who
+-- has the cookie of one of its sessions and that session's token
 abbrev pub right_of : Ask → Right
 right_of File = right.Anyone
 right_of Login = right.Anyone
-right_of Session = right.Reader
-right_of Logout = right.Changer
-right_of Command = right.Changer
-right_of Load = right.Changer
-right_of Account = right.Reader
-right_of (Shoens from) = right.Reader
-right_of Waiting = right.Reader
+right_of Session = right.Owner
+right_of Logout = right.Owner
+right_of Command = right.Owner
+right_of Load = right.Owner
+right_of Account = right.Owner
+right_of (Shoens from) = right.Owner
+right_of Waiting = right.Owner
 right_of Metrics = right.Machine
 right_of Health = right.Machine
 
--- who has the cookie of a session is let in to its account, with its token if that is wanted
-abbrev pub by_owner : Ask → List Field → List WebSession → Bool → Result Allowed Refusal
-by_owner ask fields sessions wants_token = elim (session_of fields sessions) [
+-- who has the cookie of a session and its token is let in to its account. A browser sends the cookie to each port of a host's name, and the
+-- token only to who asks as the page does: so a cookie alone lets in to nothing.
+abbrev pub by_owner : Ask → List Field → List WebSession → Result Allowed Refusal
+by_owner ask fields sessions = elim (session_of fields sessions) [
   | None ↦ Err refusal.Nobody
-  | Some session ↦ if wants_token && not (has_token fields session) then Err refusal.Token else Ok (allowed.Owner session ask)
+  | Some session ↦ if has_token fields session then Ok (allowed.Owner session.id session.account ask) else Err refusal.Token
 ]
 
 -- by the right that is wanted
 abbrev pub by_right : Right → Ask → List Field → List WebSession → Bool → Result Allowed Refusal
 by_right right.Anyone ask fields sessions is_local = Ok (allowed.Anyone ask)
 by_right right.Machine ask fields sessions is_local = if is_local then Ok (allowed.Anyone ask) else Err refusal.NotLocal
-by_right right.Reader ask fields sessions is_local = by_owner ask fields sessions false
-by_right right.Changer ask fields sessions is_local = by_owner ask fields sessions true
+by_right right.Owner ask fields sessions is_local = by_owner ask fields sessions
 
 -- who may have what is asked for is let in
 abbrev pub admitted : Ask → List Field → List WebSession → Bool → Result Allowed Refusal

@@ -1,7 +1,8 @@
 // The sessions of browsers that are open.
 
-ghost use Rattle.std.specs.Prelude.{◌≡◌, ◌<◌, [], length, map, IfOk, IfSome};
-ghost use Rattle.kl1_host_door.specs.Books.{passes, place_of, secrets_of, IsAdded, first_of, without_first};
+ghost use Rattle.std.specs.Prelude.{◌≡◌, ◌<◌, ◌≤◌, [], length, vec_capacity, IfOk, IfSome};
+ghost use Rattle.kl1_host_door.specs.declared.limits.TheConstants.{MOST_SESSIONS};
+ghost use Rattle.kl1_host_door.specs.Books.{passes, place_of, touched, IsAdded, first_of, without_first};
 
 use crate::limits::{MOST_SESSIONS, SECRET_BYTES};
 use crate::session::WebSession;
@@ -12,7 +13,8 @@ use std::marker::Model;
 /// The sessions of browsers that are open, at most `MOST_SESSIONS`, in the order in which they were opened.
 #[derive(Drop)]
 pub struct SessionBook {
-    open: Vec<WebSession>,
+    list: Vec<WebSession>,
+    ghost room: { MOST_SESSIONS ≤ vec_capacity list },
 }
 
 impl Model for SessionBook {
@@ -21,7 +23,7 @@ impl Model for SessionBook {
 
     ghost Value = { List WebSession };
 
-    ghost view = { λ b. b.open.items };
+    ghost view = { λ b. b.list.items };
 }
 
 impl SessionBook {
@@ -30,7 +32,7 @@ impl SessionBook {
         ensures { IfOk result (λ book. book ≡ []) }
     {
         Ok(SessionBook {
-            open: Vec::with_capacity(alloc, MOST_SESSIONS)?,
+            list: Vec::with_capacity(alloc, MOST_SESSIONS)?,
         })
     }
 
@@ -38,17 +40,18 @@ impl SessionBook {
     pub fn sessions(&self) -> &[WebSession]
         ensures { result.now ≡ self.now }
     {
-        self.open.as_slice()
+        self.list.as_slice()
     }
 
     /// Adds a session, and tells whether it did: as many may be open as `MOST_SESSIONS`.
     pub fn add(&mut self, session: WebSession) -> bool
         ensures { IsAdded result session self.old self.new }
     {
-        if self.open.len() >= MOST_SESSIONS {
+        if self.list.len() >= MOST_SESSIONS {
             return false;
         }
-        self.open.push(session).is_ok()
+        self.list.push_reserved(session);
+        true
     }
 
     /// Takes out the first session that passes a test; `None` if there is none.
@@ -57,19 +60,19 @@ impl SessionBook {
         ensures value { result ≡ first_of (passes test) self.old }
         ensures taken { self.new ≡ without_first (passes test) self.old }
     {
-        let place = place_of(self.open.as_slice(), test)?;
-        let session = found(self.open.as_slice(), test);
-        let _ = self.open.remove(place);
+        let place = place_of(self.list.as_slice(), test)?;
+        let session = found(self.list.as_slice(), test);
+        let _ = self.list.remove(place);
         session
     }
 
     /// Notes the second of a request of the session with this name.
-    #[tactic(auto, using(crate::proofs::BookPlaces::secrets_stay))]
+    #[tactic(auto, using(crate::proofs::BookPlaces::touched_at, crate::proofs::BookPlaces::none_touched))]
     pub fn touch(&mut self, id: [u8; SECRET_BYTES], now: u64)
-        ensures { map secrets_of self.new ≡ map secrets_of self.old }
+        ensures { self.new ≡ touched id now self.old }
     {
-        if let Some(place) = place_of(self.open.as_slice(), SessionTest::IsCalled(id)) {
-            self.open[place].last = now;
+        if let Some(place) = place_of(self.list.as_slice(), SessionTest::IsCalled(id)) {
+            self.list[place].last = now;
         }
     }
 }

@@ -7,6 +7,7 @@ ghost use Rattle.kl1_host_door.specs.Doors.{is_host, is_origin, site_refusal, ri
 use crate::ask::{Ask, ask_of, method_in};
 use crate::field::{Field, is_single, value_of};
 use crate::head::Head;
+use crate::limits::SECRET_BYTES;
 use crate::refusal::Refusal;
 use crate::session::{WebSession, has_token, session_of};
 
@@ -23,8 +24,12 @@ pub struct Site {
 pub enum Allowed {
     /// What is asked for is of no account.
     Anyone(Ask),
-    /// It is done to the account of this session.
-    Owner { session: WebSession, ask: Ask },
+    /// It is of the account of this number, whose session has this name. The session's token isn't here: no answer needs it.
+    Owner {
+        id: [u8; SECRET_BYTES],
+        account: usize,
+        ask: Ask,
+    },
 }
 
 /// Who may have what is asked for.
@@ -33,10 +38,8 @@ enum Right {
     Anyone,
     /// A program on the machine of the host.
     Machine,
-    /// Who has the cookie of a session.
-    Reader,
     /// Who has the cookie of a session, and its token.
-    Changer,
+    Owner,
 }
 
 /// Whether the host is known by this name.
@@ -82,34 +85,33 @@ fn right_of(ask: Ask) -> Right
     match ask {
         Ask::File => Right::Anyone,
         Ask::Login => Right::Anyone,
-        Ask::Session => Right::Reader,
-        Ask::Logout => Right::Changer,
-        Ask::Command => Right::Changer,
-        Ask::Load => Right::Changer,
-        Ask::Account => Right::Reader,
-        Ask::Shoens(_) => Right::Reader,
-        Ask::Waiting => Right::Reader,
+        Ask::Session => Right::Owner,
+        Ask::Logout => Right::Owner,
+        Ask::Command => Right::Owner,
+        Ask::Load => Right::Owner,
+        Ask::Account => Right::Owner,
+        Ask::Shoens(_) => Right::Owner,
+        Ask::Waiting => Right::Owner,
         Ask::Metrics => Right::Machine,
         Ask::Health => Right::Machine,
     }
 }
 
-/// Lets in who has the cookie of a session, and its token if that is wanted.
-fn by_owner(
-    ask: Ask,
-    fields: &[Field],
-    sessions: &[WebSession],
-    wants_token: bool,
-) -> Result<Allowed, Refusal>
-    ensures { result ≡ by_owner ask fields.now sessions.now wants_token }
+/// Lets in who has the cookie of a session and its token.
+fn by_owner(ask: Ask, fields: &[Field], sessions: &[WebSession]) -> Result<Allowed, Refusal>
+    ensures { result ≡ by_owner ask fields.now sessions.now }
 {
     let Some(session) = session_of(fields, sessions) else {
         return Err(Refusal::Nobody);
     };
-    if wants_token && !has_token(fields, &session) {
+    if !has_token(fields, &session) {
         return Err(Refusal::Token);
     }
-    Ok(Allowed::Owner { session, ask })
+    Ok(Allowed::Owner {
+        id: session.id,
+        account: session.account,
+        ask,
+    })
 }
 
 /// Lets in who may have what is asked for.
@@ -130,8 +132,7 @@ fn admitted(
                 Err(Refusal::NotLocal)
             }
         }
-        Right::Reader => by_owner(ask, fields, sessions, false),
-        Right::Changer => by_owner(ask, fields, sessions, true),
+        Right::Owner => by_owner(ask, fields, sessions),
     }
 }
 

@@ -7,7 +7,7 @@ use crate::field::{Field, value_of};
 use crate::limits::SECRET_BYTES;
 use kl1_session::is_same_key;
 
-/// A session of a browser: its name, which only the browser's cookie has; the token that each change tells; the number of its account,
+/// A session of a browser: its name, which only the browser's cookie has; the token that each request tells; the number of its account,
 /// from 0; and the second of its last request.
 #[derive(Clone, Copy)]
 pub struct WebSession {

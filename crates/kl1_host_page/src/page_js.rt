@@ -155,5 +155,7 @@ document.addEventListener("visibilitychange", () => document.hidden || look());
 
 startShoens(look);
 startEditor(look);
-api.whoami().then(show, () => show(null));
+const enter = () => api.whoami().then(show, () => show(null));
+api.whenChanged(enter);
+enter();
 "#;

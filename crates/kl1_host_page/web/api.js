@@ -1,6 +1,13 @@
-// What the host is asked: each answer is JSON, and each change carries the token that came with the login.
+// What the host is asked: each answer is JSON, and each request carries the token that came with the login. A cookie goes to every port of
+// a host's name, so it alone lets in to nothing. The token is kept for this page's scheme, name and port, and all tabs have it.
 
-let token = null;
+const KEPT_AS = "kl1-token";
+const kept = () => localStorage.getItem(KEPT_AS);
+const keep = (token) => localStorage.setItem(KEPT_AS, token);
+const forget = () => localStorage.removeItem(KEPT_AS);
+
+/** Has something done when another tab logs in or out. */
+export const whenChanged = (again) => addEventListener("storage", ({ key }) => key === KEPT_AS && again());
 
 /** An answer that is a refusal, with the words that the host gave. */
 export class Refused extends Error {
@@ -10,42 +17,38 @@ export class Refused extends Error {
   }
 }
 
-async function ask(path, options) {
+async function ask(path, { headers, ...options } = {}) {
+  const token = kept();
+  const all = token === null ? headers : { ...headers, "x-kl1-token": token };
   let answer;
   try {
-    answer = await fetch(path, { credentials: "same-origin", cache: "no-store", ...options });
+    answer = await fetch(path, { credentials: "same-origin", cache: "no-store", headers: all, ...options });
   } catch {
     throw new Refused(0, "The host can't be reached.");
   }
+  // The session has ended, unless another has begun since.
+  if (answer.status === 403 && token === kept()) forget();
   const body = await answer.json().catch(() => ({}));
   if (!answer.ok) throw new Refused(answer.status, body.error ?? `The host answered ${answer.status}.`);
   return body;
 }
 
 const post = (path, value) =>
-  ask(path, {
-    method: "POST",
-    headers: { "content-type": "application/json", ...(token && { "x-kl1-token": token }) },
-    body: JSON.stringify(value),
-  });
+  ask(path, { method: "POST", headers: { "content-type": "application/json" }, body: JSON.stringify(value) });
 
-/** Who is logged in by the cookie that the browser has; fails with status 403 if nobody is. */
+/** Who is logged in by the token and the cookie of this browser; fails with status 403 if nobody is. */
 export async function whoami() {
-  const session = await ask("/api/session");
-  token = session.token;
-  return session.name;
+  if (kept() === null) throw new Refused(403, "Nobody is logged in.");
+  return (await ask("/api/session")).name;
 }
 
 export async function login(name, key) {
   const session = await post("/api/login", { name, key });
-  token = session.token;
+  keep(session.token);
   return session.name;
 }
 
-export async function logout() {
-  await post("/api/logout", {});
-  token = null;
-}
+export const logout = () => post("/api/logout", {}).finally(forget);
 
 /** The lines of the reply to a command. */
 export const command = async (line) => (await post("/api/command", { line })).reply;

@@ -1,4 +1,4 @@
 pub mod Coming
-pub mod Closing
+pub mod Ending
 pub mod Wanting
 pub mod Serving

@@ -19,7 +19,7 @@ use Rattle.kl1_command.specs.declared.performed.Performed.{Performed}
 use Rattle.kl1_host_web.specs.Asking.{Asked, did, House}
 use Rattle.kl1_host_web.specs.Wishes.{wish_view, IsWish}
 use Rattle.kl1_host_web.specs.Telling.{Grants, IsRefusal}
-use Rattle.kl1_host_web.specs.Serving.{Closes, is_set, Begins, Begun, Ends, Performs, AnswersWithin, Answers, Attends, Exchange, Exchanges, Serves, Steps, HasHead, HasNoBody, HasBody}
+use Rattle.kl1_host_web.specs.Serving.{EndsIdle, is_set, Begins, Begun, Ends, Performs, AnswersWithin, Answers, Attends, Exchange, Exchanges, Serves, Steps, HasHead, HasNoBody, HasBody}
 use Rattle.kl1_host_web.specs.declared.serve.Served.{Served}
 use Rattle.kl1_host_web.specs.declared.serve.Served.TheVariants as served_as
 use Rattle.kl1_host_web.specs.declared.wish.Wish.{Wish}
@@ -58,17 +58,17 @@ pub denied : (house : House) (a : Allowed) (path body : List ℕ) (before after 
 denied house a path body before after result v e same why = subst (λ x. AnswersWithin x house a path body before after result) (sym e) (record { asked = same; refusal = why })
 
 -- a request was attended to by sessions that were open
-pub attended : (house : House) (sites : List Site) (is_local : Bool) (head : Head) (body : List ℕ) (before middle after : List Asked) (result : Result Answer AllocError) (sessions : List WebSession) (r : Result Allowed Refusal) → r ≡ authorized head sessions sites is_local → Closes before middle → Answers house r head.target.items body middle after result → Attends house sites is_local head body before after result
-attended house sites is_local head body before middle after result sessions r e closes answers = record {
+pub attended : (tells : ℕ → Type 0) (idle : ℕ) (house : House) (sites : List Site) (is_local : Bool) (head : Head) (body : List ℕ) (before middle after : List Asked) (result : Result Answer AllocError) (sessions : List WebSession) (r : Result Allowed Refusal) → r ≡ authorized head sessions sites is_local → EndsIdle tells idle house.accounts before middle → Answers house r head.target.items body middle after result → Attends tells idle house sites is_local head body before after result
+attended tells idle house sites is_local head body before middle after result sessions r e ends answers = record {
   middle = middle;
-  idle = closes;
+  ends = ends;
   sessions = sessions;
   answers = subst (λ x. Answers house x head.target.items body middle after result) e answers;
 }
 
 -- a head and a body that came in one after the other are a request, which was attended to
-pub exchanges : (house : House) (sites : List Site) (is_local : Bool) (head : Head) (body : List ℕ) (n : ℕ) (answer : Result Answer AllocError) (old middle new : Option (List ℕ)) (before after : List Asked) → HasHead head old middle → body_bytes head ≡ Ok n → HasBody n body middle new → Attends house sites is_local head body before after answer → Exchanges house sites is_local (record { head = head; body = body; answer = answer }) old new before after
-exchanges house sites is_local head body n answer old middle new before after comes told follows attends = record {
+pub exchanges : (tells : ℕ → Type 0) (idle : ℕ) (house : House) (sites : List Site) (is_local : Bool) (head : Head) (body : List ℕ) (n : ℕ) (answer : Result Answer AllocError) (old middle new : Option (List ℕ)) (before after : List Asked) → HasHead head old middle → body_bytes head ≡ Ok n → HasBody n body middle new → Attends tells idle house sites is_local head body before after answer → Exchanges tells idle house sites is_local (record { head = head; body = body; answer = answer }) old new before after
+exchanges tells idle house sites is_local head body n answer old middle new before after comes told follows attends = record {
   next = record {
     bytes = comes.bytes;
     head = comes.is;
@@ -90,14 +90,14 @@ no_body head why old middle comes e = record {
 }
 
 -- one more request was served
-pub one_more : (house : House) (sites : List Site) (is_local : Bool) (served : List Exchange) (x : Exchange) (old middle new : Option (List ℕ)) (before asked after : List Asked) → Serves house sites is_local served old middle before asked → Exchanges house sites is_local x middle new asked after → Serves house sites is_local (x ∷ served) old new before after
-one_more house sites is_local served x old middle new before asked after s e = (middle, asked, s, e)
+pub one_more : (tells : ℕ → Type 0) (idle : ℕ) (house : House) (sites : List Site) (is_local : Bool) (served : List Exchange) (x : Exchange) (old middle new : Option (List ℕ)) (before asked after : List Asked) → Serves tells idle house sites is_local served old middle before asked → Exchanges tells idle house sites is_local x middle new asked after → Serves tells idle house sites is_local (x ∷ served) old new before after
+one_more tells idle house sites is_local served x old middle new before asked after s e = (middle, asked, s, e)
 
 -- memory was refused for the answer to a request that was attended to
-pub failed : (house : House) (sites : List Site) (is_local : Bool) (old new : Option (List ℕ)) (before after : List Asked) (head : Head) (body : List ℕ) (e : AllocError) (r : Result Served AllocError) → IsErrAnd r (λ f. f ≡ e) → Exchanges house sites is_local (record { head = head; body = body; answer = Err e }) old new before after → Steps house sites is_local old new before after r
-failed house sites is_local old new before after head body e (Ok s) h x = absurd h
-failed house sites is_local old new before after head body e (Err f) h x =
-    inr (head, body, subst (λ y. Exchanges house sites is_local (record { head = head; body = body; answer = Err y }) old new before after) (sym h) x)
+pub failed : (tells : ℕ → Type 0) (idle : ℕ) (house : House) (sites : List Site) (is_local : Bool) (old new : Option (List ℕ)) (before after : List Asked) (head : Head) (body : List ℕ) (e : AllocError) (r : Result Served AllocError) → IsErrAnd r (λ f. f ≡ e) → Exchanges tells idle house sites is_local (record { head = head; body = body; answer = Err e }) old new before after → Steps tells idle house sites is_local old new before after r
+failed tells idle house sites is_local old new before after head body e (Ok s) h x = absurd h
+failed tells idle house sites is_local old new before after head body e (Err f) h x =
+    inr (head, body, subst (λ y. Exchanges tells idle house sites is_local (record { head = head; body = body; answer = Err y }) old new before after) (sym h) x)
 
 -- a body that was read
 pub body_is : (n : ℕ) (middle new : Option (List ℕ)) (o : Option (Vec ℕ Global)) (body : Vec ℕ Global) → o ≡ Some body → IfSome o (λ bytes. HasBody n bytes.items middle new) → HasBody n body.items middle new
@@ -105,23 +105,23 @@ body_is n middle new o body e h = subst (λ x. IfSome x (λ bytes. HasBody n byt
 
 -- ---- what becomes of a connection
 
-stays : (house : House) (sites : List Site) (is_local : Bool) (served : List Exchange) (old left : Option (List ℕ)) (before asked after : List Asked) → after ≡ asked → Serves house sites is_local served old left before asked → Serves house sites is_local served old left before after
-stays house sites is_local served old left before asked after e h = subst (λ x. Serves house sites is_local served old left before x) (sym e) h
+stays : (tells : ℕ → Type 0) (idle : ℕ) (house : House) (sites : List Site) (is_local : Bool) (served : List Exchange) (old left : Option (List ℕ)) (before asked after : List Asked) → after ≡ asked → Serves tells idle house sites is_local served old left before asked → Serves tells idle house sites is_local served old left before after
+stays tells idle house sites is_local served old left before asked after e h = subst (λ x. Serves tells idle house sites is_local served old left before x) (sym e) h
 
 -- a request was answered after those that were served
-pub answered : (house : House) (sites : List Site) (is_local : Bool) (served : List Exchange) (old middle new : Option (List ℕ)) (before asked after : List Asked) (answer : Answer) (goes_on : Bool) → Serves house sites is_local served old middle before asked → Steps house sites is_local middle new asked after (Ok (served_as.Answered answer goes_on)) → (all : List Exchange) × Serves house sites is_local all old new before after
-answered house sites is_local served old middle new before asked after answer goes_on h k =
+pub answered : (tells : ℕ → Type 0) (idle : ℕ) (house : House) (sites : List Site) (is_local : Bool) (served : List Exchange) (old middle new : Option (List ℕ)) (before asked after : List Asked) (answer : Answer) (goes_on : Bool) → Serves tells idle house sites is_local served old middle before asked → Steps tells idle house sites is_local middle new asked after (Ok (served_as.Answered answer goes_on)) → (all : List Exchange) × Serves tells idle house sites is_local all old new before after
+answered tells idle house sites is_local served old middle new before asked after answer goes_on h k =
     let x : Exchange = record { head = k.0; body = k.1; answer = Ok answer } in
-    (x ∷ served, one_more house sites is_local served x old middle new before asked after h k.2)
+    (x ∷ served, one_more tells idle house sites is_local served x old middle new before asked after h k.2)
 
 -- whatever became of the next request, those that were read are served
-pub stepped : (house : House) (sites : List Site) (is_local : Bool) (served : List Exchange) (old middle new : Option (List ℕ)) (before asked after : List Asked) (r : Result Served AllocError) → Serves house sites is_local served old middle before asked → Steps house sites is_local middle new asked after r → (all : List Exchange) × (left : Option (List ℕ)) × Serves house sites is_local all old left before after
-stepped house sites is_local served old middle new before asked after (Ok (served_as.Answered answer goes_on)) h k =
+pub stepped : (tells : ℕ → Type 0) (idle : ℕ) (house : House) (sites : List Site) (is_local : Bool) (served : List Exchange) (old middle new : Option (List ℕ)) (before asked after : List Asked) (r : Result Served AllocError) → Serves tells idle house sites is_local served old middle before asked → Steps tells idle house sites is_local middle new asked after r → (all : List Exchange) × (left : Option (List ℕ)) × Serves tells idle house sites is_local all old left before after
+stepped tells idle house sites is_local served old middle new before asked after (Ok (served_as.Answered answer goes_on)) h k =
     let x : Exchange = record { head = k.0; body = k.1; answer = Ok answer } in
-    (x ∷ served, new, one_more house sites is_local served x old middle new before asked after h k.2)
-stepped house sites is_local served old middle new before asked after (Ok (served_as.Refused why)) h k = (served, middle, stays house sites is_local served old middle before asked after k.0 h)
-stepped house sites is_local served old middle new before asked after (Ok served_as.Ended) h k = (served, middle, stays house sites is_local served old middle before asked after k h)
-stepped house sites is_local served old middle new before asked after (Err e) h (inl k) = (served, middle, stays house sites is_local served old middle before asked after k h)
-stepped house sites is_local served old middle new before asked after (Err e) h (inr k) =
+    (x ∷ served, new, one_more tells idle house sites is_local served x old middle new before asked after h k.2)
+stepped tells idle house sites is_local served old middle new before asked after (Ok (served_as.Refused why)) h k = (served, middle, stays tells idle house sites is_local served old middle before asked after k.0 h)
+stepped tells idle house sites is_local served old middle new before asked after (Ok served_as.Ended) h k = (served, middle, stays tells idle house sites is_local served old middle before asked after k h)
+stepped tells idle house sites is_local served old middle new before asked after (Err e) h (inl k) = (served, middle, stays tells idle house sites is_local served old middle before asked after k h)
+stepped tells idle house sites is_local served old middle new before asked after (Err e) h (inr k) =
     let x : Exchange = record { head = k.0; body = k.1; answer = Err e } in
-    (x ∷ served, new, one_more house sites is_local served x old middle new before asked after h k.2)
+    (x ∷ served, new, one_more tells idle house sites is_local served x old middle new before asked after h k.2)

@@ -8,7 +8,6 @@ use Rattle.kl1_host_door.specs.declared.ask.Ask.TheVariants as ask
 use Rattle.std.specs.declared.alloc.AllocError.{AllocError}
 use Rattle.kl1_host_door.specs.declared.answer.Answer.{Answer}
 use Rattle.kl1_host_door.specs.declared.answer.Content.{Content}
-use Rattle.kl1_host_door.specs.declared.session.WebSession.{WebSession}
 use Rattle.kl1_host_door.specs.declared.door.Allowed.{Allowed}
 use Rattle.kl1_host_door.specs.declared.door.Allowed.TheVariants as allowed
 use Rattle.kl1_host_web.specs.Wishes.{Wanted, refuse, syntax, enter, do_to, load_into, wish_view, text_in, is_plain, plain, command_in, owned, anyone, wanted, IsWish}
@@ -55,25 +54,25 @@ of_anyone n ask.Waiting value = tt
 of_anyone n ask.Metrics value = tt
 of_anyone n ask.Health value = tt
 
-of_owned : (n : ℕ) (session : WebSession) (a : Ask) (value : Option Value) → session.account < n → IsOfOne n (owned session a value)
-of_owned n session ask.File value w = w
-of_owned n session ask.Login value w = w
-of_owned n session ask.Session value w = w
-of_owned n session ask.Logout value w = w
-of_owned n session ask.Command value w = of_line n session.account (text_in (codes "line") value) w
-of_owned n session ask.Load value w = of_text n session.account (text_in (codes "text") value) w
-of_owned n session ask.Account value w = w
-of_owned n session (ask.Shoens from) value w = w
-of_owned n session ask.Waiting value w = w
-of_owned n session ask.Metrics value w = w
-of_owned n session ask.Health value w = w
+of_owned : (n account : ℕ) (a : Ask) (value : Option Value) → account < n → IsOfOne n (owned account a value)
+of_owned n account ask.File value w = w
+of_owned n account ask.Login value w = w
+of_owned n account ask.Session value w = w
+of_owned n account ask.Logout value w = w
+of_owned n account ask.Command value w = of_line n account (text_in (codes "line") value) w
+of_owned n account ask.Load value w = of_text n account (text_in (codes "text") value) w
+of_owned n account ask.Account value w = w
+of_owned n account (ask.Shoens from) value w = w
+of_owned n account ask.Waiting value w = w
+of_owned n account ask.Metrics value w = w
+of_owned n account ask.Health value w = w
 
 less : (a b : ℕ) → nat_lt a b ≡ true → a < b
 less a b e = grind arith
 
 of_wanted : (n : ℕ) (a : Allowed) (value : Option Value) → is_within n a ≡ true → IsOfOne n (wanted a value)
 of_wanted n (allowed.Anyone a) value e = of_anyone n a value
-of_wanted n (allowed.Owner session a) value e = of_owned n session a value (less session.account n e)
+of_wanted n (allowed.Owner session a) value e = of_owned n account a value (less session.account n e)
 
 -- a wish is of an account that there is, if the session is
 pub of_wish : (n : ℕ) (a : Allowed) (body : List ℕ) (w : Wish) → is_within n a ≡ true → IsWish a body w → IsOfOne n (wish_view w)

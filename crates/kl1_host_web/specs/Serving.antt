@@ -1,5 +1,5 @@
 -- What the requests of a connection come to, one after another, and what accounts are asked for each.
-use Rattle.std.specs.Prelude.{◌≡◌, ◌<◌, ◌≤◌, ◌⊎◌, ⊤, ℕ, nat_lt, Bool, true, false, ◌++◌, List, [], ◌∷◌, length, map, Option, Some, None, Result, Ok, Err, IfOk, IsErr}
+use Rattle.std.specs.Prelude.{◌≡◌, ◌<◌, ◌≤◌, ◌-◌, ◌⊎◌, ⊤, ℕ, nat_lt, Bool, true, false, if◌then◌else◌, ◌++◌, List, [], ◌∷◌, length, Option, Some, None, Result, Ok, Err, IfOk, IsErr}
 use Rattle.std.specs.declared.alloc.AllocError.{AllocError}
 use Rattle.std.specs.Io.KnownBytes.{Consumes}
 use Rattle.serde_json.specs.declared.value.Value.{Value}
@@ -21,7 +21,9 @@ use Rattle.kl1_host_door.specs.declared.head.Head.{Head}
 use Rattle.kl1_host_door.specs.Heads.{IsHead}
 use Rattle.kl1_host_door.specs.Bodies.{body_bytes}
 use Rattle.kl1_host_door.specs.Doors.{authorized}
-use Rattle.kl1_host_web.specs.Asking.{Asked, did, House}
+use Rattle.kl1_host_door.specs.declared.book.SessionTest.TheVariants as test
+use Rattle.kl1_host_door.specs.Books.{passes, first_of}
+use Rattle.kl1_host_web.specs.Asking.{Asked, did, sought, House}
 use Rattle.kl1_host_web.specs.Wishes.{IsRead, wanted}
 use Rattle.kl1_host_web.specs.Telling.{Grants, IsRefusal}
 use Rattle.kl1_host_web.specs.declared.incoming.Incoming.{Incoming}
@@ -31,11 +33,44 @@ use Rattle.kl1_host_web.specs.declared.outcome.Outcome.TheVariants as outcome
 use Rattle.kl1_host_web.specs.declared.serve.Served.{Served}
 use Rattle.kl1_host_web.specs.declared.serve.Served.TheVariants as served
 
--- ---- one request that is let in
+-- ---- sessions whose browsers made no request for too long
 
--- sessions of accounts were closed, each by a logout, whatever was answered
-abbrev pub Closes : List Asked → List Asked → Type 0
-Closes before after = (closed : List (ℕ × Performed)) × (after ≡ before ++ map (λ c. did c.0 (does event.logout) c.1) closed)
+-- the book of sessions was searched for one whose last request is more than `idle` seconds before a second that the machine told; this,
+-- the first there is, was found, and this was noted
+pub record Seeks (tells : ℕ → Type 0) (idle : ℕ) (found : Option WebSession) (note : Asked) : Type 0 where
+  pub second : ℕ
+  pub told : tells second
+  pub sessions : List WebSession
+  pub is_first : found ≡ first_of (passes (test.IsIdle (second - idle))) sessions
+  pub noted : note ≡ sought (second - idle) sessions
+
+-- a session that was found, what was noted of that, and what was answered to a logout of its account
+pub record Ending : Type 0 where
+  pub session : WebSession
+  pub note : Asked
+  pub answer : Performed
+
+-- a logout of an account, if it is one of n
+abbrev pub logout_of : ℕ → ℕ → Performed → List Asked
+logout_of n account answer = if nat_lt account n then did account (does event.logout) answer ∷ [] else []
+
+-- sessions were found in the book one after another, here the last of them first, and its account was logged out of for each
+abbrev pub EndsEach : (ℕ → Type 0) → ℕ → ℕ → List Ending → List Asked → List Asked → Type 0
+EndsEach tells idle n [] before after = after ≡ before
+EndsEach tells idle n (e ∷ earlier) before after =
+    (middle : List Asked) × EndsEach tells idle n earlier before middle × Seeks tells idle (Some e.session) e.note
+    × (after ≡ middle ++ e.note ∷ logout_of n e.session.account e.answer)
+
+-- sessions that were found were ended, until none was found; accounts were asked nothing else
+pub record EndsIdle (tells : ℕ → Type 0) (idle n : ℕ) (before after : List Asked) : Type 0 where
+  pub ended : List Ending
+  pub middle : List Asked
+  pub each : EndsEach tells idle n ended before middle
+  pub note : Asked
+  pub none : Seeks tells idle None note
+  pub rest : after ≡ middle ++ note ∷ []
+
+-- ---- one request that is let in
 
 -- whether what is told of a cookie is the name of a session
 abbrev pub is_set : Cookie → Bool
@@ -82,7 +117,7 @@ pub record Denies (why : Refusal) (before after : List Asked) (result : Result A
 -- whether a request is of no account, or of one of n
 abbrev pub is_within : ℕ → Allowed → Bool
 is_within n (allowed.Anyone a) = true
-is_within n (allowed.Owner session a) = nat_lt session.account n
+is_within n (allowed.Owner id account a) = nat_lt account n
 
 -- what comes of a request for a path that is let in, to an account that there is or isn't
 abbrev pub AnswersWithin : Bool → House → Allowed → List ℕ → List ℕ → List Asked → List Asked → Result Answer AllocError → Type 0
@@ -155,33 +190,33 @@ pub record IsNext (x : Exchange) (old new : Option (List ℕ)) : Type 0 where
   pub long : body_bytes x.head ≡ Ok (length x.body)
   pub consumes : Consumes old new (bytes ++ x.body)
 
--- a request of this head and this body was attended to: sessions were closed whose browsers made no request for too long, and then
+-- a request of this head and this body was attended to: the sessions whose browsers made no request for too long were ended, and then
 -- there comes of it what it may have by the sessions of browsers that are open
-pub record Attends (house : House) (sites : List Site) (is_local : Bool) (head : Head) (body : List ℕ) (before after : List Asked) (result : Result Answer AllocError) : Type 0 where
+pub record Attends (tells : ℕ → Type 0) (idle : ℕ) (house : House) (sites : List Site) (is_local : Bool) (head : Head) (body : List ℕ) (before after : List Asked) (result : Result Answer AllocError) : Type 0 where
   pub middle : List Asked
-  pub idle : Closes before middle
+  pub ends : EndsIdle tells idle house.accounts before middle
   pub sessions : List WebSession
   pub answers : Answers house (authorized head sessions sites is_local) head.target.items body middle after result
 
 -- the next request was read and attended to
-pub record Exchanges (house : House) (sites : List Site) (is_local : Bool) (x : Exchange) (old new : Option (List ℕ)) (before after : List Asked) : Type 0 where
+pub record Exchanges (tells : ℕ → Type 0) (idle : ℕ) (house : House) (sites : List Site) (is_local : Bool) (x : Exchange) (old new : Option (List ℕ)) (before after : List Asked) : Type 0 where
   pub next : IsNext x old new
-  pub attends : Attends house sites is_local x.head x.body before after x.answer
+  pub attends : Attends tells idle house sites is_local x.head x.body before after x.answer
 
 -- requests were read one after another, here the last of them first, and attended to; accounts were asked nothing else
-abbrev pub Serves : House → List Site → Bool → List Exchange → Option (List ℕ) → Option (List ℕ) → List Asked → List Asked → Type 0
-Serves house sites is_local [] old new before after = (new ≡ old) × (after ≡ before)
-Serves house sites is_local (x ∷ earlier) old new before after =
+abbrev pub Serves : (ℕ → Type 0) → ℕ → House → List Site → Bool → List Exchange → Option (List ℕ) → Option (List ℕ) → List Asked → List Asked → Type 0
+Serves tells idle house sites is_local [] old new before after = (new ≡ old) × (after ≡ before)
+Serves tells idle house sites is_local (x ∷ earlier) old new before after =
     (middle : Option (List ℕ)) × (asked : List Asked)
-    × Serves house sites is_local earlier old middle before asked × Exchanges house sites is_local x middle new asked after
+    × Serves tells idle house sites is_local earlier old middle before asked × Exchanges tells idle house sites is_local x middle new asked after
 
 -- what became of the next request: it was read and attended to; or it can't be read for this reason, or nothing more comes, and accounts
 -- were asked nothing; if memory was refused, either
-abbrev pub Steps : House → List Site → Bool → Option (List ℕ) → Option (List ℕ) → List Asked → List Asked → Result Served AllocError → Type 0
-Steps house sites is_local old new before after (Ok (served.Answered answer goes_on)) =
-    (head : Head) × (body : List ℕ) × Exchanges house sites is_local (record { head = head; body = body; answer = Ok answer }) old new before after
-Steps house sites is_local old new before after (Ok (served.Refused why)) = (after ≡ before) × (HasNoHead why old ⊎ HasNoBody why old)
-Steps house sites is_local old new before after (Ok served.Ended) = after ≡ before
-Steps house sites is_local old new before after (Err e) =
+abbrev pub Steps : (ℕ → Type 0) → ℕ → House → List Site → Bool → Option (List ℕ) → Option (List ℕ) → List Asked → List Asked → Result Served AllocError → Type 0
+Steps tells idle house sites is_local old new before after (Ok (served.Answered answer goes_on)) =
+    (head : Head) × (body : List ℕ) × Exchanges tells idle house sites is_local (record { head = head; body = body; answer = Ok answer }) old new before after
+Steps tells idle house sites is_local old new before after (Ok (served.Refused why)) = (after ≡ before) × (HasNoHead why old ⊎ HasNoBody why old)
+Steps tells idle house sites is_local old new before after (Ok served.Ended) = after ≡ before
+Steps tells idle house sites is_local old new before after (Err e) =
     (after ≡ before)
-    ⊎ ((head : Head) × (body : List ℕ) × Exchanges house sites is_local (record { head = head; body = body; answer = Err e }) old new before after)
+    ⊎ ((head : Head) × (body : List ℕ) × Exchanges tells idle house sites is_local (record { head = head; body = body; answer = Err e }) old new before after)

@@ -1,5 +1,7 @@
 -- What becomes of what is wanted.
-use Rattle.std.specs.Prelude.{◌≡◌, ◌<◌, ℕ, Bool, true, false, ⊤, ◌++◌, List, [], ◌∷◌, Option, Some, None, Result, IfOk}
+use Rattle.std.specs.Prelude.{◌≡◌, ◌<◌, ℕ, Bool, true, false, ⊤, ◌++◌, List, [], ◌∷◌, codes, Option, Some, None, Result, IfOk}
+use Rattle.serde_json.specs.Data.{string, object, member, no_members}
+use Rattle.serde_json.specs.Written.{compact_text}
 use Rattle.kl1_model.specs.Event as event
 use Rattle.kl1_model.specs.Event.{is_quiet, modules}
 use Rattle.kl1_model_server.specs.Command.{does}
@@ -13,17 +15,22 @@ use Rattle.kl1_host_door.specs.declared.answer.Answer.{Answer}
 use Rattle.kl1_host_door.specs.declared.answer.Content.{Content}
 use Rattle.kl1_host_door.specs.declared.answer.Cookie.TheVariants.{Kept, Cleared}
 use Rattle.kl1_host_door.specs.declared.status.Status.TheVariants.{Good}
-use Rattle.kl1_host_door.specs.Refusals.{status_of}
+use Rattle.kl1_host_door.specs.Refusals.{status_of, words_of}
 use Rattle.kl1_host_page.specs.Files.{file_at}
 use Rattle.kl1_host_web.specs.Asking.{Asked, did, looked, House}
 use Rattle.kl1_host_web.specs.Wishes.{Wanted, refuse, syntax, enter, leave, do_to, load_into, tell, show_of, show_all}
 use Rattle.kl1_host_web.specs.declared.outcome.Outcome.{Outcome}
 use Rattle.kl1_host_web.specs.declared.outcome.Outcome.TheVariants as outcome
 
+-- what is told of a request that is refused: the words for the reason, and nothing else
+abbrev pub refusal_text : Refusal → List ℕ
+refusal_text why = compact_text (object (member (codes "error") (string (words_of why)) no_members))
+
 -- an answer that refuses for this reason
 pub record IsRefusal (why : Refusal) (answer : Answer) : Type 0 where
   pub status : answer.status ≡ status_of why
   pub cookie : answer.cookie ≡ Kept
+  pub text : answer.body.items ≡ refusal_text why
 
 -- an answer leaves the cookie of a browser as it is
 abbrev pub KeepsCookie : Answer → Type 0
@@ -112,7 +119,7 @@ Grants house path (do_to account command) before after result =
     (answer : Performed) × (after ≡ before ++ did account command answer ∷ []) × IfOk result IsTold
 Grants house path (load_into account source) before after result =
     (answer : Performed) × (after ≡ before ++ did account (does (event.load source)) answer ∷ []) × IfOk result IsTold
-Grants house path (tell session) before after result = (after ≡ before) × IfOk result IsTold
+Grants house path (tell account) before after result = (after ≡ before) × IfOk result IsTold
 Grants house path (show_of account a) before after result = Shows account a before after × IfOk result IsTold
 Grants house path (show_all a) before after result = (after ≡ before) × IfOk result (IsShown a path)
 
@@ -124,6 +131,6 @@ IsOfOne n (enter name key) = ⊤
 IsOfOne n (leave account) = account < n
 IsOfOne n (do_to account command) = account < n
 IsOfOne n (load_into account source) = account < n
-IsOfOne n (tell session) = session.account < n
+IsOfOne n (tell account) = account < n
 IsOfOne n (show_of account a) = account < n
 IsOfOne n (show_all a) = ⊤

@@ -12,15 +12,14 @@ use Rattle.kl1_host_door.specs.declared.ask.Ask.{Ask}
 use Rattle.kl1_host_door.specs.declared.ask.Ask.TheVariants as ask
 use Rattle.kl1_host_door.specs.declared.refusal.Refusal.{Refusal}
 use Rattle.kl1_host_door.specs.declared.refusal.Refusal.TheVariants.{BadBody}
-use Rattle.kl1_host_door.specs.declared.session.WebSession.{WebSession}
 use Rattle.kl1_host_door.specs.declared.door.Allowed.{Allowed}
 use Rattle.kl1_host_door.specs.declared.door.Allowed.TheVariants as allowed
 use Rattle.kl1_host_web.specs.declared.wish.Wish.{Wish}
 use Rattle.kl1_host_web.specs.declared.wish.Wish.TheVariants as wish
 
 -- what is asked to be done: it is refused; it is a line that is no command; a name and a key are to let in; a session of an account is
--- to be closed; a command is to be done to an account; a source is to be loaded into one; it is to be told whose session
--- this is; or something is to be shown, of an account or of none
+-- to be closed; a command is to be done to an account; a source is to be loaded into one; it is to be told which
+-- account this is; or something is to be shown, of an account or of none. Nothing of this is a session's name or its token.
 pub data Wanted : Type 0 where
   refuse : Refusal → Wanted
   syntax : Wanted
@@ -28,7 +27,7 @@ pub data Wanted : Type 0 where
   leave : ℕ → Wanted
   do_to : ℕ → Command → Wanted
   load_into : ℕ → List ℕ → Wanted
-  tell : WebSession → Wanted
+  tell : ℕ → Wanted
   show_of : ℕ → Ask → Wanted
   show_all : Ask → Wanted
 
@@ -40,7 +39,7 @@ wish_view (wish.Enter name key) = enter name.items key.items
 wish_view (wish.Leave account) = leave account
 wish_view (wish.Do account command) = do_to account (command_view command)
 wish_view (wish.Load account source) = load_into account source.items
-wish_view (wish.Tell session) = tell session
+wish_view (wish.Tell account) = tell account
 wish_view (wish.Show account ask) = show_of account ask
 wish_view (wish.Open ask) = show_all ask
 
@@ -81,13 +80,13 @@ command_in account value = elim (text_in (codes "line") value) [ None ↦ refuse
 abbrev pub load_in : ℕ → Option Value → Wanted
 load_in account value = elim (text_in (codes "text") value) [ None ↦ refuse BadBody | Some text ↦ load_into account text ]
 
--- what is asked of the account of a session
-abbrev pub owned : WebSession → Ask → Option Value → Wanted
-owned session ask.Session value = tell session
-owned session ask.Logout value = leave session.account
-owned session ask.Command value = command_in session.account value
-owned session ask.Load value = load_in session.account value
-owned session a value = show_of session.account a
+-- what is asked of the account of this number
+abbrev pub owned : ℕ → Ask → Option Value → Wanted
+owned account ask.Session value = tell account
+owned account ask.Logout value = leave account
+owned account ask.Command value = command_in account value
+owned account ask.Load value = load_in account value
+owned account a value = show_of account a
 
 -- what is asked without a session
 abbrev pub anyone : Ask → Option Value → Wanted
@@ -97,7 +96,7 @@ anyone a value = show_all a
 -- what a request that is let in wants, by the value of its body
 abbrev pub wanted : Allowed → Option Value → Wanted
 wanted (allowed.Anyone a) value = anyone a value
-wanted (allowed.Owner session a) value = owned session a value
+wanted (allowed.Owner id account a) value = owned account a value
 
 -- this is what a request that is let in wants, by its body
 abbrev pub IsWish : Allowed → List ℕ → Wish → Type 0

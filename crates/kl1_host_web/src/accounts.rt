@@ -2,11 +2,13 @@
 
 ghost use Rattle.std.specs.Prelude.{◌≡◌, ◌<◌, ◌++◌, ◌∷◌, [], List, IfSome};
 ghost use Rattle.kl1_command.specs.Commands.{command_view};
-ghost use Rattle.kl1_host_web.specs.Asking.{Asked, did, looked, House};
+ghost use Rattle.kl1_host_web.specs.Asking.{Asked, did, looked, sought, House};
 
 use kl1_command::{Command, Performed};
+use kl1_host_door::SessionBook;
 use kl1_user_events::{Extent, GoalNo, GoalView, Presence, ShoenNo, ShoenView, Usage};
 use std::alloc::AllocError;
+use std::snapshot::Snapshot;
 
 /// Why an account does no more.
 #[derive(Clone, Copy)]
@@ -95,6 +97,12 @@ pub trait Accounts {
         requires { account < (house self.old).accounts }
         ensures house { house self.new ≡ house self.old }
         ensures asked { asked self.new ≡ asked self.old ++ looked account ∷ [] };
+
+    /// Notes that the book of sessions was searched for one whose last request was before this second, and which it had. It is there for
+    /// contracts: no account is asked.
+    fn note_search(&mut self, before: Snapshot<u64>, book: Snapshot<SessionBook>)
+        ensures house { house self.new ≡ house self.old }
+        ensures asked { asked self.new ≡ asked self.old ++ sought before.value book.value ∷ [] };
 
     /// What an account has done.
     fn measures(&self, account: usize) -> Measures

@@ -2,14 +2,16 @@
 
 ghost use Rattle.std.specs.Prelude.{◌≡◌, [], ◌++◌, ◌∷◌};
 ghost use Rattle.kl1_command.specs.Commands.{command_view};
-ghost use Rattle.kl1_host_web.specs.Asking.{did, looked};
+ghost use Rattle.kl1_host_web.specs.Asking.{did, looked, sought};
 ghost use Rattle.kl1_host_web.specs.Records.{asked_in};
 
 use kl1_command::{Command, Performed};
+use kl1_host_door::SessionBook;
 use logbook::{Opening, Rule, Seen, Start};
 use std::snapshot::Snapshot;
 
-/// What was asked: a command was done to an account, with what was answered, or an account was looked at.
+/// What was asked: a command was done to an account, with what was answered; an account was looked at; or the book of sessions was
+/// searched.
 #[derive(Drop)]
 enum Note {
     Did {
@@ -18,6 +20,10 @@ enum Note {
         performed: Snapshot<Performed>,
     },
     Looked(Snapshot<usize>),
+    Sought {
+        before: Snapshot<u64>,
+        book: Snapshot<SessionBook>,
+    },
 }
 
 /// A book without words: it is there for its log.
@@ -104,6 +110,18 @@ impl AskedRecord {
         let longer = Longer {
             before: Snapshot::of(&self.seen),
             entry: Note::Looked(Snapshot::of(&account)),
+        };
+        let (seen, _pens) = Seen::open_row::<Longer, More>(&longer, Start::alone(), 0);
+        self.seen = seen;
+    }
+
+    /// Takes in that the book of sessions was searched for one whose last request was before this second.
+    pub fn sought(&mut self, before: Snapshot<u64>, book: Snapshot<SessionBook>)
+        ensures { asked_in self.new ≡ asked_in self.old ++ sought before.value book.value ∷ [] }
+    {
+        let longer = Longer {
+            before: Snapshot::of(&self.seen),
+            entry: Note::Sought { before, book },
         };
         let (seen, _pens) = Seen::open_row::<Longer, More>(&longer, Start::alone(), 0);
         self.seen = seen;

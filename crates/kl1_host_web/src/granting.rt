@@ -7,7 +7,7 @@ ghost use Rattle.kl1_host_web.specs.Wishes.{wish_view, enter, leave, do_to, load
 ghost use Rattle.kl1_host_web.specs.Telling.{KeepsCookie, Grants, Entered, Shows, IsOfOne, IsTold, IsOpenedIn, Refuses, Enters, Leaves};
 
 use crate::accounts::Accounts;
-use crate::json::{refused, told_command, told_load, told_session, told_syntax};
+use crate::json::{refused, told_command, told_load, told_name, told_syntax};
 use crate::outcome::Outcome;
 use crate::pages::{account_page, open_page, shoens_page, waiting_page};
 use crate::wish::Wish;
@@ -185,7 +185,7 @@ pub fn grant<A: Accounts>(
         Wish::Leave { account } => leave(alloc, accounts, account),
         Wish::Do { account, command } => perform(alloc, accounts, account, &command),
         Wish::Load { account, source } => load(alloc, accounts, account, source),
-        Wish::Tell(session) => told(told_session(alloc, accounts, &session, Cookie::Kept)),
+        Wish::Tell(account) => told(told_name(alloc, accounts, account)),
         Wish::Show { account, ask } => show(alloc, accounts, account, ask),
         Wish::Open(ask) => Ok(Outcome::Told(open_page(alloc, accounts, ask, target)?)),
     }

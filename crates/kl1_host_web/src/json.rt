@@ -1,7 +1,10 @@
 // Answers in JSON.
 
-ghost use Rattle.std.specs.Prelude.{◌≡◌, ◌<◌, ◌++◌, OnOk, IfOk};
+ghost use Rattle.std.specs.Prelude.{◌≡◌, ◌<◌, ◌++◌, false, OnOk, IfOk};
+ghost use Rattle.serde_json.specs.View.{view};
+ghost use Rattle.serde_json.specs.Written.{compact_text, has_float};
 ghost use Rattle.kl1_session.specs.Replies.{told};
+ghost use Rattle.kl1_host_door.specs.declared.answer.Cookie.TheVariants.{Set};
 ghost use Rattle.kl1_host_web.specs.Telling.{IsRefusal, KeepsCookie};
 
 use crate::accounts::Accounts;
@@ -21,7 +24,8 @@ pub(crate) fn told_value(
     cookie: Cookie,
     value: &Value,
 ) -> Result<Answer, AllocError>
-    ensures { IfOk result (λ answer. (answer.status ≡ status) × (answer.cookie ≡ cookie)) }
+    ensures head { IfOk result (λ answer. (answer.status ≡ status) × (answer.cookie ≡ cookie)) }
+    ensures text { IfOk result (λ answer. has_float (view value.now) ≡ false → answer.body.items ≡ compact_text (view value.now)) }
 {
     Ok(Answer {
         status,
@@ -96,22 +100,42 @@ pub(crate) fn told_command(
     told_value(alloc, Status::Good, cookie, &value)
 }
 
-/// The name and the token of a session.
+/// The name of an account as a value.
+fn name_value<A: Accounts>(alloc: Global, accounts: &A, account: usize) -> Result<Value, AllocError>
+    requires { account < (A.house accounts.now).accounts }
+{
+    let mut name = Vec::new(alloc);
+    accounts.put_name(account, &mut name)?;
+    text_value(alloc, name.as_slice())
+}
+
+/// The answer to a login: the name of the account and the token of the session, which a browser is told here alone, with its cookie.
 pub(crate) fn told_session<A: Accounts>(
     alloc: Global,
     accounts: &A,
     session: &WebSession,
-    cookie: Cookie,
 ) -> Result<Answer, AllocError>
     requires { session.now.account < (A.house accounts.now).accounts }
-    ensures { IfOk result (λ answer. answer.cookie ≡ cookie) }
+    ensures { IfOk result (λ answer. answer.cookie ≡ Set session.now.id) }
 {
-    let mut name = Vec::new(alloc);
-    accounts.put_name(session.account, &mut name)?;
-    let name = text_value(alloc, name.as_slice())?;
+    let name = name_value(alloc, accounts, session.account)?;
     let token = text_value(alloc, session.token.as_slice())?;
     let value = json!(in alloc; {"name": name, "token": token})?;
-    told_value(alloc, Status::Good, cookie, &value)
+    told_value(alloc, Status::Good, Cookie::Set(session.id), &value)
+}
+
+/// The name of an account.
+pub(crate) fn told_name<A: Accounts>(
+    alloc: Global,
+    accounts: &A,
+    account: usize,
+) -> Result<Answer, AllocError>
+    requires { account < (A.house accounts.now).accounts }
+    ensures { IfOk result KeepsCookie }
+{
+    let name = name_value(alloc, accounts, account)?;
+    let value = json!(in alloc; {"name": name})?;
+    told_value(alloc, Status::Good, Cookie::Kept, &value)
 }
 
 /// The answer to a line that is no command.

@@ -28,13 +28,13 @@ const SESSIONS: Measure = Measure {
 const EVENTS: Measure = Measure {
     name: b"kl1_events_total",
     kind: b"counter",
-    help: b"Events that were done since the host runs.",
+    help: b"Events that were done, those that the start restored among them.",
 };
 
 const STEPS: Measure = Measure {
     name: b"kl1_steps_total",
     kind: b"counter",
-    help: b"Steps that were done since the host runs.",
+    help: b"Steps that were done, those that the start restored among them.",
 };
 
 const ENTRIES: Measure = Measure {

@@ -1,14 +1,15 @@
 // One connection of a browser.
 
-ghost use Rattle.std.specs.Prelude.{◌≡◌, ◌<◌, ℕ, List, true, IfSome, Ok};
+ghost use Rattle.std.specs.Prelude.{◌≡◌, ◌<◌, ◌++◌, ◌∷◌, [], ℕ, List, true, Ok};
 ghost use Rattle.std.specs.declared.option.Option.{Option};
 ghost use Rattle.std.specs.Io.KnownBytes.{Appends, prepend_known};
 ghost use Rattle.kl1_host_door.specs.Answers.{answer_text};
-ghost use Rattle.kl1_host_door.specs.Books.{passes};
 ghost use Rattle.kl1_host_door.specs.Doors.{authorized};
 ghost use Rattle.kl1_host_door.specs.declared.session.WebSession.{WebSession};
+ghost use Rattle.kl1_command.specs.declared.performed.Performed.{Performed};
+ghost use Rattle.kl1_host_web.specs.Asking.{Asked};
 ghost use Rattle.kl1_host_web.specs.Telling.{IsOpenedIn};
-ghost use Rattle.kl1_host_web.specs.Serving.{Closes, Begun, Ends, is_within, AnswersWithin, Attends, Exchange, Serves, Steps};
+ghost use Rattle.kl1_host_web.specs.Serving.{Seeks, logout_of, EndsIdle, Begun, Ends, is_within, AnswersWithin, Attends, Exchange, Serves, Steps};
 
 use crate::accounts::Accounts;
 use crate::granting::grant;
@@ -19,13 +20,15 @@ use crate::secret::new_session;
 use crate::site::{Machine, Page};
 use crate::wish::wish_of;
 use kl1_command::Command;
+use kl1_host_door::limits::SECRET_BYTES;
 use kl1_host_door::{
-    Allowed, Answer, Cookie, Head, Refusal, SessionTest, WebSession, authorize, body_bytes,
-    put_answer, value_of,
+    Allowed, Answer, Head, Refusal, SessionTest, WebSession, authorize, body_bytes, put_answer,
+    value_of,
 };
 use kl1_lines::{Sink, Source, finish};
 use kl1_user_events::Event;
 use std::alloc::{AllocError, Global};
+use std::snapshot::Snapshot;
 use std::sync::Wait;
 
 /// What a connection is served by, and whether it comes from the machine of the host.
@@ -49,14 +52,14 @@ enum Served {
     Ended,
 }
 
-/// Closes a session of an account, as a browser's has ended.
-#[tactic(auto, using(crate::proofs::Closing::closes_none, crate::proofs::Closing::closes_one))]
-fn log_out<A: Accounts>(accounts: &mut A, session: &WebSession)
+/// Closes a session of an account, if there is this account, as a browser's has ended.
+#[tactic(auto, using(crate::proofs::Ending::one_logout, crate::proofs::Ending::no_logout))]
+fn log_out<A: Accounts>(accounts: &mut A, account: usize)
     ensures house { A.house accounts.new ≡ A.house accounts.old }
-    ensures asked { Closes (A.asked accounts.old) (A.asked accounts.new) }
+    ensures asked { (answer : Performed) × (A.asked accounts.new ≡ A.asked accounts.old ++ logout_of (A.house accounts.old).accounts account answer) }
 {
-    if session.account < accounts.count() {
-        let _ = accounts.act(session.account, &Command::Does(Event::Logout));
+    if account < accounts.count() {
+        let _ = accounts.act(account, &Command::Does(Event::Logout));
     }
 }
 
@@ -66,7 +69,7 @@ fn is_within(accounts: usize, allowed: &Allowed) -> bool
 {
     match allowed {
         Allowed::Anyone(_) => true,
-        Allowed::Owner { session, .. } => session.account < accounts,
+        Allowed::Owner { account, .. } => *account < accounts,
     }
 }
 
@@ -86,14 +89,23 @@ fn goes_on(head: &Head) -> bool {
 }
 
 impl<'p, R: Wait, M: Machine> Service<'p, R, M> {
-    /// Takes out the first session that passes a test.
-    #[tactic(auto, using(crate::proofs::Closing::first_passes))]
-    fn take(&self, test: SessionTest) -> Option<WebSession>
-        ensures { IfSome result (λ session. passes test session ≡ true) }
-    {
+    /// Takes the session with this name out of the book.
+    fn forget(&self, id: [u8; SECRET_BYTES]) {
         let mut guard = self.page.sessions.lock(self.rt);
         let book = &mut *guard;
-        book.take(test)
+        let _ = book.take(SessionTest::IsCalled(id));
+    }
+
+    /// Takes the first session out of the book whose browser made no request for too long; `None` if there is none.
+    fn take_idle<A: Accounts>(&self, accounts: &mut A) -> Option<WebSession>
+        ensures house { A.house accounts.new ≡ A.house accounts.old }
+        ensures seeks { (note : Asked) × Seeks (M.tells self.now.machine.now) self.now.page.idle result note × (A.asked accounts.new ≡ A.asked accounts.old ++ note ∷ []) }
+    {
+        let before = self.machine.seconds().saturating_sub(self.page.idle);
+        let mut guard = self.page.sessions.lock(self.rt);
+        let book = &mut *guard;
+        accounts.note_search(Snapshot::of(&before), Snapshot::of(book));
+        book.take(SessionTest::IsIdle(before))
     }
 
     /// Adds a session of a browser, and tells whether there was room for it.
@@ -110,22 +122,20 @@ impl<'p, R: Wait, M: Machine> Service<'p, R, M> {
         let mut guard = self.page.sessions.lock(self.rt);
         let book = &mut *guard;
         let allowed = authorize(head, book.sessions(), self.page.sites, self.is_local);
-        if let Ok(Allowed::Owner { session, .. }) = &allowed {
-            book.touch(session.id, self.machine.seconds());
+        if let Ok(Allowed::Owner { id, .. }) = &allowed {
+            book.touch(*id, self.machine.seconds());
         }
         allowed
     }
 
-    /// Ends the sessions of browsers that made no request for too long.
-    #[tactic(auto, using(crate::proofs::Closing::closes_none, crate::proofs::Closing::closes_more))]
+    /// Ends the sessions of browsers that made no request for too long: each is taken out of the book and logged out, until there is none.
     pub fn end_idle<A: Accounts>(&self, accounts: &mut A)
         ensures house { A.house accounts.new ≡ A.house accounts.old }
-        ensures asked { Closes (A.asked accounts.old) (A.asked accounts.new) }
+        ensures ends { EndsIdle (M.tells self.now.machine.now) self.now.page.idle (A.house accounts.old).accounts (A.asked accounts.old) (A.asked accounts.new) }
     {
-        let before = self.machine.seconds().saturating_sub(self.page.idle);
-        for _ in 0..u64::MAX {
-            match self.take(SessionTest::IsIdle(before)) {
-                Some(session) => log_out(accounts, &session),
+        for _ in self.rt.forever() {
+            match self.take_idle(accounts) {
+                Some(session) => log_out(accounts, session.account),
                 None => return,
             }
         }
@@ -145,7 +155,7 @@ impl<'p, R: Wait, M: Machine> Service<'p, R, M> {
             let _ = accounts.act(account, &Command::Does(Event::Logout));
             return refused(self.alloc, Refusal::ManySessions);
         }
-        told_session(self.alloc, accounts, &session, Cookie::Set(session.id))
+        told_session(self.alloc, accounts, &session)
     }
 
     /// The answer to a request that ended so.
@@ -163,8 +173,8 @@ impl<'p, R: Wait, M: Machine> Service<'p, R, M> {
             Outcome::Told(answer) => Ok(answer),
             Outcome::Opens(account) => self.begin(accounts, account),
             Outcome::Closes(answer) => {
-                if let Allowed::Owner { session, .. } = allowed {
-                    let _ = self.take(SessionTest::IsCalled(session.id));
+                if let Allowed::Owner { id, .. } = allowed {
+                    self.forget(*id);
                 }
                 Ok(answer)
             }
@@ -198,7 +208,7 @@ impl<'p, R: Wait, M: Machine> Service<'p, R, M> {
         body: &[u8],
     ) -> Result<Answer, AllocError>
         ensures house { A.house accounts.new ≡ A.house accounts.old }
-        ensures answers { Attends (A.house accounts.old) self.now.page.sites.now self.now.is_local head.now body.now (A.asked accounts.old) (A.asked accounts.new) result }
+        ensures answers { Attends (M.tells self.now.machine.now) self.now.page.idle (A.house accounts.old) self.now.page.sites.now self.now.is_local head.now body.now (A.asked accounts.old) (A.asked accounts.new) result }
     {
         self.end_idle(accounts);
         match self.allowed(head) {
@@ -215,7 +225,7 @@ impl<'p, R: Wait, M: Machine> Service<'p, R, M> {
         accounts: &mut A,
     ) -> Result<Served, AllocError>
         ensures house { A.house accounts.new ≡ A.house accounts.old }
-        ensures steps { Steps (A.house accounts.old) self.now.page.sites.now self.now.is_local (prepend_known inbox.old.kept.items (S.remaining source.old)) (prepend_known inbox.new.kept.items (S.remaining source.new)) (A.asked accounts.old) (A.asked accounts.new) result }
+        ensures steps { Steps (M.tells self.now.machine.now) self.now.page.idle (A.house accounts.old) self.now.page.sites.now self.now.is_local (prepend_known inbox.old.kept.items (S.remaining source.old)) (prepend_known inbox.new.kept.items (S.remaining source.new)) (A.asked accounts.old) (A.asked accounts.new) result }
     {
         let head = match inbox.head(self.alloc, source)? {
             Incoming::Head(head) => head,
@@ -257,7 +267,7 @@ impl<'p, R: Wait, M: Machine> Service<'p, R, M> {
         accounts: &mut A,
     )
         ensures house { A.house accounts.new ≡ A.house accounts.old }
-        ensures served { (served : List Exchange) × (left : Option (List ℕ)) × Serves (A.house accounts.old) self.now.page.sites.now self.now.is_local served (S.remaining source.old) left (A.asked accounts.old) (A.asked accounts.new) }
+        ensures served { (served : List Exchange) × (left : Option (List ℕ)) × Serves (M.tells self.now.machine.now) self.now.page.idle (A.house accounts.old) self.now.page.sites.now self.now.is_local served (S.remaining source.old) left (A.asked accounts.old) (A.asked accounts.new) }
     {
         let mut inbox = Inbox::new(self.alloc);
         for _ in 0..u64::MAX {

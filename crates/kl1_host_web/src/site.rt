@@ -1,5 +1,7 @@
 // A host's page, as all its connections have it.
 
+ghost use Rattle.std.specs.Prelude.{ℕ, ⊤};
+
 use kl1_host_door::{SessionBook, Site};
 use std::sync::Mutex;
 
@@ -16,8 +18,12 @@ pub struct Page<'p> {
 
 /// What a page needs of its machine.
 pub trait Machine {
+    /// Which seconds it has told.
+    ghost tells: { Self → ℕ → Type 0 } = { λ _ _. ⊤ };
+
     /// The seconds since some second.
-    fn seconds(&self) -> u64;
+    fn seconds(&self) -> u64
+        ensures { tells self.now result };
 
     /// Fills a buffer with bytes that nobody can guess; `false` if that can't be done.
     fn fill(&self, bytes: &mut [u8]) -> bool;

@@ -5,7 +5,7 @@ ghost use Rattle.kl1_command.specs.Commands.{parsed_view, command_view};
 ghost use Rattle.kl1_host_web.specs.Wishes.{wish_view, IsRead, text_in, login_in, is_plain, plain, command_in, load_in, owned, anyone, IsWish};
 
 use kl1_command::{Command, Parsed, parse};
-use kl1_host_door::{Allowed, Ask, Refusal, WebSession};
+use kl1_host_door::{Allowed, Ask, Refusal};
 use kl1_user_events::Event;
 use serde_json::Value;
 use std::alloc::{AllocError, Global};
@@ -25,8 +25,8 @@ pub enum Wish {
     Do { account: usize, command: Command },
     /// To load a module into an account.
     Load { account: usize, source: Vec<u8> },
-    /// To tell whose session this is.
-    Tell(WebSession),
+    /// To tell which account this is.
+    Tell(usize),
     /// To show something of an account.
     Show { account: usize, ask: Ask },
     /// To show what is of no account.
@@ -126,18 +126,17 @@ fn load_in(alloc: Global, account: usize, value: &Option<Value>) -> Result<Wish,
     }
 }
 
-/// What is asked of the account of a session.
+/// What is asked of the account of this number.
 fn owned_wish(
     alloc: Global,
-    session: WebSession,
+    account: usize,
     ask: Ask,
     value: &Option<Value>,
 ) -> Result<Wish, AllocError>
-    ensures { IfOk result (λ wish. wish_view wish ≡ owned session ask value.now) }
+    ensures { IfOk result (λ wish. wish_view wish ≡ owned account ask value.now) }
 {
-    let account = session.account;
     match ask {
-        Ask::Session => Ok(Wish::Tell(session)),
+        Ask::Session => Ok(Wish::Tell(account)),
         Ask::Logout => Ok(Wish::Leave { account }),
         Ask::Command => command_in(alloc, account, value),
         Ask::Load => load_in(alloc, account, value),
@@ -162,6 +161,6 @@ pub fn wish_of(alloc: Global, allowed: &Allowed, body: &[u8]) -> Result<Wish, Al
     let value = read_body(alloc, body)?;
     match allowed {
         Allowed::Anyone(ask) => open_wish(alloc, *ask, &value),
-        Allowed::Owner { session, ask } => owned_wish(alloc, *session, *ask, &value),
+        Allowed::Owner { account, ask, .. } => owned_wish(alloc, *account, *ask, &value),
     }
 }

@@ -5,7 +5,7 @@ ghost use Rattle.kl1_host_web.specs.Records.{asked_in};
 ghost use Rattle.kl1_tests_web.specs.Known.{opens};
 
 use kl1_command::{Command, Performed};
-use kl1_host_web::{Accounts, AskedRecord, Machine, Measures, Stop, Sums, Viewer};
+use kl1_host_web::{Accounts, AskedRecord, Machine, Measures, SessionBook, Stop, Sums, Viewer};
 use kl1_model::Condition;
 use kl1_text::AtomText;
 use kl1_user_events::{
@@ -298,6 +298,10 @@ impl Accounts for Known {
             alloc: self.alloc,
             account,
         }
+    }
+
+    fn note_search(&mut self, before: Snapshot<u64>, book: Snapshot<SessionBook>) {
+        self.record.sought(before, book);
     }
 
     fn measures(&self, account: usize) -> Measures {

@@ -1,4 +1,4 @@
-use Rattle.std.proofs.Common.{◌≡◌, ap, ap₂, ◌∙◌}
+use Rattle.std.proofs.Common.{ap₂, ◌∙◌}
 use Rattle.httparse.specs.Spans.{IsHeaderWithin}
 use Rattle.kl1_host_door.proofs.Copies.{copied_more, all_rest}
 use Rattle.kl1_host_door.proofs.head.fields_in.Goals as goal
