@@ -1,5 +1,8 @@
 // What a host that runs is asked by its socket.
 
+ghost use Rattle.std.specs.Prelude.{◌≡◌};
+ghost use Rattle.kl1_host.specs.Asks.{asked_in};
+
 use kl1_lines::is_same;
 use std::alloc::{AllocError, Global};
 use std::io::{Read, Write};
@@ -26,11 +29,12 @@ enum Ask {
 }
 
 /// What these bytes ask, of which the last may be a line feed.
-fn ask_in(bytes: &[u8]) -> Ask {
-    let line = bytes.strip_suffix(b"\n").unwrap_or(bytes);
-    if is_same(line, b"status") {
+fn ask_in(bytes: &[u8]) -> Ask
+    ensures { result ≡ asked_in bytes.now }
+{
+    if is_same(bytes, b"status") || is_same(bytes, b"status\n") {
         Ask::Status
-    } else if is_same(line, b"stop") {
+    } else if is_same(bytes, b"stop") || is_same(bytes, b"stop\n") {
         Ask::Stop
     } else {
         Ask::Unknown

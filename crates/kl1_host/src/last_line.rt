@@ -1,4 +1,4 @@
-// Lines of what is written.
+// The last line of what is written.
 
 use std::alloc::Global;
 use std::io::{self, ErrorKind, Write};
@@ -55,18 +55,4 @@ impl Write for LastLine {
     fn flush(&mut self) -> io::Result<()> {
         Ok(())
     }
-}
-
-/// Where a line begins among bytes, by its number, the first being 1; their end if there are fewer lines.
-pub fn line_start(bytes: &[u8], line: u64) -> usize {
-    let mut number = 1u64;
-    for (place, byte) in bytes.iter().enumerate() {
-        if number >= line {
-            return place;
-        }
-        if *byte == b'\n' {
-            number = number.saturating_add(1);
-        }
-    }
-    bytes.len()
 }

@@ -1,6 +1,7 @@
 // What a host asks of this program.
 
 ghost use Rattle.std.specs.Prelude.{◌≡◌, length};
+ghost use Rattle.kl1_host.specs.Ends.{end_word};
 
 use crate::attending::Attending;
 use crate::control::answer_until_stop;
@@ -48,7 +49,9 @@ pub struct Program<'f, R: Wait + Clock + Eprint + Files + RandomSource> {
 }
 
 /// The word for how a connection ended.
-fn end_of(ended: Disconnect) -> &'static [u8] {
+fn end_of(ended: Disconnect) -> &'static [u8]
+    ensures { result.now ≡ end_word ended }
+{
     match ended {
         Disconnect::Bye => b"logout",
         Disconnect::Ended => b"end",

@@ -1,8 +1,11 @@
 // Journals are repaired.
 
+ghost use Rattle.std.specs.Prelude.{◌≡◌, ◌≤◌, length, take};
+ghost use Rattle.kl1_host.specs.Repairs.{lines_before};
+
 use crate::fault::Fault;
 use crate::folder::{FILE_MODE, JOURNALS};
-use crate::last_line::line_start;
+use kl1_journal_entries::next_line;
 use kl1_log::{Disk, FolderFile};
 use std::alloc::Global;
 use std::fs::{self, File, OpenOptions};
@@ -18,6 +21,24 @@ pub fn word_of_now<R: Clock>(rt: &R, alloc: Global) -> Result<String, Fault> {
         Err(_) => 0,
     };
     Ok(format!(in alloc; "{seconds}")?)
+}
+
+/// How many bytes of a text are before this line, the first being 1; those of all whole lines if there are fewer.
+fn bytes_before(text: &[u8], line: u64) -> usize
+    ensures before { take result text.now ≡ lines_before text.now line }
+    ensures within { result ≤ length text.now }
+{
+    let lines = line.saturating_sub(1);
+    let mut rest = text;
+    let mut count = 0;
+    while count < lines {
+        let Some((_, after)) = next_line(rest) else {
+            return text.len() - rest.len();
+        };
+        rest = after;
+        count += 1;
+    }
+    text.len() - rest.len()
 }
 
 /// Keeps what the file of the journal of an account holds in a new file beside it, and then cuts it to the lines before this one, the first
@@ -43,6 +64,6 @@ pub fn cut_journal<R: Files<File = File>>(
     kept.write_all(bytes.as_slice())?;
     kept.sync_all()?;
     fs::open(rt, journals.as_str())?.sync_all()?;
-    disk.cut(line_start(bytes.as_slice(), line))?;
+    disk.cut(bytes_before(bytes.as_slice(), line))?;
     Ok(())
 }

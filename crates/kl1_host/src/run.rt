@@ -1,5 +1,7 @@
 // A host runs.
 
+ghost use Rattle.kl1_host.specs.Setups.{IsSynced, IsSetUp};
+
 use crate::accounts::{Accounts, accounts_in};
 use crate::fault::Fault;
 use crate::folder::{SOCKET, path_in};
@@ -30,7 +32,9 @@ use std::time::{Clock, Duration, Instant};
 const WRITTEN_AFTER: u64 = 100;
 
 /// When journals are written, and whether replies wait for it.
-fn syncing_of(sync: Syncs) -> Syncing {
+fn syncing_of(sync: Syncs) -> Syncing
+    ensures { IsSynced sync result }
+{
     match sync {
         Syncs::Always => Syncing {
             replies_wait: true,
@@ -48,11 +52,14 @@ fn syncing_of(sync: Syncs) -> Syncing {
 }
 
 /// How a host of this number of accounts is set up.
-fn setup_of(settings: &Settings, accounts: usize) -> Setup {
+fn setup_of(settings: &Settings, accounts: usize) -> Setup
+    ensures { IsSetUp settings.now accounts result }
+{
     Setup {
-        workers: settings
-            .workers
-            .map_or(accounts, |workers| workers as usize),
+        workers: match settings.workers {
+            Some(workers) => workers as usize,
+            None => accounts,
+        },
         connections: settings.connections as usize,
         limits: Limits {
             each: settings.connections_each as usize,
