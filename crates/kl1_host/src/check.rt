@@ -110,7 +110,8 @@ fn check_journal(rt: &HostRuntime, folder: &str, name: &str) -> Result<bool, Fau
     match recover(alloc, text.as_slice())? {
         Found::Whole { journal, bytes } => {
             let whole = text.get(..bytes).unwrap_or(text.as_slice());
-            tell_whole(rt, name, &journal, whole, text.len() - whole.len())
+            let torn = text.len().saturating_sub(whole.len());
+            tell_whole(rt, name, &journal, whole, torn)
         }
         Found::Fault { line, .. } => {
             println!(rt; "{name}: fault: line {line}")?;

@@ -6,7 +6,7 @@ use crate::folder::{JOURNALS, path_in};
 use crate::logins::LoginLog;
 use kl1_command::{Command, Performed};
 use kl1_host_front::{PausingDoor, Settings, host_of};
-use kl1_host_web::{Accounts, AskedRecord, Measures, Site, Stop, Sums, Viewer};
+use kl1_host_web::{Accounts, AskedRecord, Measures, SessionBook, Site, Stop, Sums, Viewer};
 use kl1_host_work::{HostView, Performer};
 use kl1_session::Door;
 use kl1_user_events::{Extent, GoalNo, GoalView, Presence, ShoenNo, ShoenView, Usage};
@@ -184,6 +184,10 @@ impl<'w, R: Wait + Clock + Eprint + Files, P: Performer, V: HostView> Accounts
             account,
             most_bytes: self.most_bytes,
         }
+    }
+
+    fn note_search(&mut self, before: Snapshot<u64>, book: Snapshot<SessionBook>) {
+        self.record.sought(before, book);
     }
 
     fn measures(&self, account: usize) -> Measures {

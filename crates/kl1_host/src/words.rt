@@ -71,31 +71,40 @@ fn add<'a>(alloc: Global) -> Result<Command<'a>, AllocError> {
     ))
 }
 
-/// The words that the program knows.
-fn command<'a>(alloc: Global) -> Result<Command<'a>, AllocError> {
-    let init = folder_task(
-        alloc,
-        "init",
-        "Makes a folder for accounts, with settings to look through",
-    )?;
-    let check = folder_task(
-        alloc,
-        "check",
-        "Looks at settings and accounts, and replays each journal",
-    )?;
-    let status = folder_task(alloc, "status", "Tells how the host that runs there goes")?;
-    let stop = folder_task(alloc, "stop", "Stops the host that runs there")?;
+/// The program's name, before its tasks.
+fn program<'a>(alloc: Global) -> Command<'a> {
     Command::new(alloc, "kl1_host")
         .about("A server whose accounts outlive it")
         .version(VERSION)
         .override_usage(USAGE)
         .subcommand_required(true)
+}
+
+/// The words that make a folder, change it and serve from it.
+fn kept<'a>(alloc: Global) -> Result<Command<'a>, AllocError> {
+    let init = folder_task(
+        alloc,
+        "init",
+        "Makes a folder for accounts, with settings to look through",
+    )?;
+    program(alloc)
         .subcommand(init)?
         .subcommand(add(alloc)?)?
-        .subcommand(run(alloc)?)?
-        .subcommand(check)?
-        .subcommand(status)?
-        .subcommand(stop)
+        .subcommand(run(alloc)?)
+}
+
+/// The words that the program knows.
+fn command<'a>(alloc: Global) -> Result<Command<'a>, AllocError> {
+    let check = folder_task(
+        alloc,
+        "check",
+        "Looks at settings and accounts, and replays each journal",
+    )?;
+    let looked = kept(alloc)?.subcommand(check)?;
+    let status = folder_task(alloc, "status", "Tells how the host that runs there goes")?;
+    let asked = looked.subcommand(status)?;
+    let stop = folder_task(alloc, "stop", "Stops the host that runs there")?;
+    asked.subcommand(stop)
 }
 
 /// The folder that the words of a task name.
@@ -103,23 +112,52 @@ fn folder_in<'a>(matches: &ArgMatches<'a>) -> &'a str {
     matches.get_str("DIR").unwrap_or("")
 }
 
+/// The task of this word, with what the words after it say; `None` if there is none.
+fn task_of<'a>(word: &str, words: &ArgMatches<'a>) -> Option<Task<'a>> {
+    let folder = folder_in(words);
+    if word == "init" {
+        Some(Task::Init(folder))
+    } else if word == "add" {
+        let name = words.get_str("NAME").unwrap_or("");
+        Some(Task::Add { folder, name })
+    } else if word == "run" {
+        let repairs = words.get_flag("repair");
+        Some(Task::Run { folder, repairs })
+    } else {
+        look_of(word, folder)
+    }
+}
+
+/// The task of this word over a folder that changes nothing in it; `None` if there is none.
+fn look_of<'a>(word: &str, folder: &'a str) -> Option<Task<'a>> {
+    if word == "check" {
+        Some(Task::Check(folder))
+    } else if word == "status" {
+        Some(Task::Status(folder))
+    } else if word == "stop" {
+        Some(Task::Stop(folder))
+    } else {
+        None
+    }
+}
+
+/// The error of words that name no task.
+fn no_task(alloc: Global) -> Result<Error, AllocError> {
+    command(alloc)?.error(ErrorKind::MissingSubcommand, "a task is wanted")
+}
+
+/// The task that was found among words.
+fn found_task<'a>(matches: &ArgMatches<'a>) -> Option<Task<'a>> {
+    let (word, words) = matches.subcommand()?;
+    task_of(word, words)
+}
+
 /// What the words ask for, of which the first is the program's name.
 pub fn task_in<'a>(alloc: Global, words: &'a [String]) -> Result<Task<'a>, Error> {
     let matches = command(alloc)?.try_get_matches_from(words)?;
-    match matches.subcommand() {
-        Some(("init", words)) => Ok(Task::Init(folder_in(words))),
-        Some(("add", words)) => Ok(Task::Add {
-            folder: folder_in(words),
-            name: words.get_str("NAME").unwrap_or(""),
-        }),
-        Some(("run", words)) => Ok(Task::Run {
-            folder: folder_in(words),
-            repairs: words.get_flag("repair"),
-        }),
-        Some(("check", words)) => Ok(Task::Check(folder_in(words))),
-        Some(("status", words)) => Ok(Task::Status(folder_in(words))),
-        Some(("stop", words)) => Ok(Task::Stop(folder_in(words))),
-        _ => Err(command(alloc)?.error(ErrorKind::MissingSubcommand, "a task is wanted")?),
+    match found_task(&matches) {
+        Some(task) => Ok(task),
+        None => Err(no_task(alloc)?),
     }
 }
 
