@@ -1,11 +1,9 @@
 -- What waits for a file whose text is known.
-use Rattle.std.proofs.Common.{◌≡◌, ℕ, true, List, sym, subst}
-use Rattle.std.specs.Prelude.{Option, Some, None, option_map, bytes_eq}
-use Rattle.std.proofs.lemmas.Slice.Eq.{bytes_eq-Decides}
+use Rattle.std.proofs.Common.{◌≡◌, ℕ, List, sym, subst}
+use Rattle.std.specs.Prelude.{Option, Some, None, option_map}
 use Rattle.kl1_model_server.specs.Journal.{Journal}
 use Rattle.kl1_log.specs.Files.{content, Known, IfKnown}
 use Rattle.kl1_log.specs.Batches.{text_of, text_after}
-use Rattle.kl1_log.specs.Deeds.{IsFile}
 use Rattle.kl1_log.specs.Waits.{IsUpTo}
 use Rattle.kl1_log.specs.declared.change.Change.{Change}
 use Rattle.kl1_log.specs.declared.waiting.Waiting.{Waiting}
@@ -20,7 +18,3 @@ read_up_to (Some c) w bytes j is h = subst (λ (t : List ℕ). IsUpTo w t j) is 
 pub taken_up_to : (v w : Waiting) (change : Change) (t u : Option (List ℕ)) (j : Journal) → ((text : List ℕ) (k : Journal) → IsUpTo v text k → IsUpTo w (text_after text change) k) → u ≡ option_map (λ text. text_after text change) t → IsUpToIf v t j → IsUpToIf w u j
 taken_up_to v w change None u j goes is h = subst (λ (x : Option (List ℕ)). IsUpToIf w x j) (sym is) h
 taken_up_to v w change (Some text) u j goes is h = subst (λ (x : Option (List ℕ)). IsUpToIf w x j) (sym is) (goes text j h)
-
--- what waits for a file whose bytes are the text of the journal
-pub file_up_to : (w : Waiting) (bytes text : List ℕ) (j : Journal) → ((t : List ℕ) → IsFile t j → IsUpTo w t j) → IsFile text j → bytes_eq bytes text ≡ true → IsUpTo w bytes j
-file_up_to w bytes text j up is same = subst (λ (t : List ℕ). IsUpTo w t j) (sym ((bytes_eq-Decides bytes text).0 same)) (up text is)

@@ -1,17 +1,17 @@
 // A journal's file with what waits for it.
 
-ghost use Rattle.std.specs.Prelude.{◌≡◌, IfOk, bytes_eq};
+ghost use Rattle.std.specs.Prelude.{◌≡◌, IfOk};
 ghost use Rattle.kl1_log.specs.Batches.{text_of};
 ghost use Rattle.kl1_log.specs.LogFiles.{disk_of, account_of as account_of_file, changes_of as changes_of_file};
 ghost use Rattle.kl1_log.specs.Receipts.{account_of, changes_of};
-ghost use Rattle.kl1_log.specs.Waits.{account_of as account_of_waiting, taken_of, noted_of, IsUpTo};
+ghost use Rattle.kl1_log.specs.Waits.{taken_of, noted_of};
 ghost use Rattle.kl1_host_journals.specs.Notes.{waiting_of, generation_of};
 ghost use Rattle.kl1_host_journals.specs.Links.{IsUpToIf};
 
 use crate::notes::Notes;
 use crate::resting_file::RestingFile;
 use kl1_journal_entries::Journal;
-use kl1_log::{Disk, LogError, LogFile, Receipt, Waiting, begun};
+use kl1_log::{Disk, LogError, LogFile, Receipt, Waiting};
 use std::alloc::{AllocError, Global};
 use std::io;
 
@@ -40,33 +40,6 @@ impl From<AllocError> for LinkFault {
     }
 }
 
-/// Whether bytes are the same as others.
-fn are_same(bytes: &[u8], others: &[u8]) -> bool
-    ensures { result ≡ bytes_eq bytes.now others.now }
-{
-    bytes == others
-}
-
-/// What waits for a file of this account that has these bytes: nothing, if they are the text of the journal; or else that it is begun anew.
-#[tactic(auto, using(crate::proofs::LinkedFiles::file_up_to))]
-fn waiting_for(
-    alloc: Global,
-    account: u32,
-    bytes: &[u8],
-    journal: &Journal,
-) -> Result<Waiting, AllocError>
-    ensures file { IfOk result (λ w. IsUpTo w bytes.now journal.now.journal) }
-    ensures account { IfOk result (λ w. (account_of_waiting w ≡ account) × (taken_of w ≡ 0)) }
-{
-    let text = begun(alloc, journal)?.bytes;
-    let mut waiting = Waiting::new(alloc, account, journal)?;
-    if are_same(bytes, text.as_slice()) {
-        return Ok(waiting);
-    }
-    waiting.note_reset(journal)?;
-    Ok(waiting)
-}
-
 /// The file of this account with what waits for it, which is nothing: it is one of `journal`, in this generation. If its bytes aren't the
 /// text of the journal, it is begun anew.
 #[tactic(auto, using(crate::proofs::LinkedFiles::read_up_to, crate::proofs::LinkedFiles::taken_up_to, crate::proofs::Resting::same_rests))]
@@ -87,7 +60,7 @@ pub fn link<D: Disk + Drop>(
         Ok(bytes) => bytes,
         Err(error) => return Err(LinkFault::Unread(error)),
     };
-    let mut waiting = waiting_for(alloc, account, bytes.as_slice(), journal)?;
+    let mut waiting = Waiting::over(alloc, account, bytes.as_slice(), journal)?;
     let mut file = LogFile::new(disk, account);
     match file.write(waiting.take()) {
         Ok(receipt) => Ok(Linked {

@@ -1,23 +1,21 @@
 -- The file of a journal that has grown.
 use Rattle.std.proofs.Common.{◌≡◌, ◌⊎◌, ℕ, suc, ◌+◌, ◌-◌, ◌≤◌, ◌<◌, ◌==◌, nat_lt, nat_le, Bool, true, false, if◌then◌else◌, List, [], ◌∷◌, ◌++◌, map, length, take, drop, refl, sym, ap, ◌∙◌, subst, arith, inl, inr, append_assoc}
-use Rattle.std.specs.Prelude.{Option, Some, None, option_map, replicate}
+use Rattle.std.specs.Prelude.{Option, None, option_map, replicate}
 use Rattle.std.specs.List.{list_all, AllByRecursion}
-use Rattle.std.proofs.lemmas.Option.{same_Some}
 use Rattle.std.proofs.lemmas.Bool.{and_from, cases_lt, lt-ltb, le-ltb}
 use Rattle.std.proofs.lemmas.List.{append-nil, length-append, length-drop, length-map, length-take, take_all, drop_at, map-append, replicate-append-replicate}
 use Rattle.kl1_model.specs.declared.rules.Rules.{Rules}
 use Rattle.kl1_model.specs.declared.limits.TheConstants.{MOST_LINE_BYTES}
 use Rattle.kl1_model_server.specs.Command.{written_line, written_lines}
 use Rattle.kl1_model_server.specs.Journal.{Entry, runs, Journal}
-use Rattle.kl1_model_server.specs.JournalText.{entry_line, name_line, Heading, heading_in, heading_line, journal_lines, Lines, lines_of, journal_of, journal_in}
-use Rattle.kl1_model_server.specs.laws.TextLaws.{HasLine, is_unbroken, IsWritten, journal_text}
+use Rattle.kl1_model_server.specs.JournalText.{entry_line, name_line, heading_line, journal_lines, Lines, lines_of, journal_of, journal_in}
+use Rattle.kl1_model_server.specs.laws.TextLaws.{HasLine, is_unbroken, IsWritten}
 use Rattle.kl1_model_server.proofs.TextEntries.{entries_read_back}
 use Rattle.kl1_model_server.proofs.TextJournals.{journals_read_back}
 use Rattle.kl1_model_server.proofs.TextLines.{lines_of_lines}
-use Rattle.kl1_model_server.proofs.TextNames.{headings_read_back}
 use Rattle.kl1_model_server.proofs.TextUnbroken.{entry_unbroken}
 use Rattle.kl1_log.specs.declared.mark.Mark.{Mark}
-use Rattle.kl1_log.specs.Deeds.{deeds_of, deeds_of_entry, IsFile}
+use Rattle.kl1_log.specs.Deeds.{deeds_of, deeds_of_entry, IsFile, shut_text}
 use Rattle.kl1_log.specs.Later.{Grows, AreLater, IsLater, run_length, last_run, IsMark, run_if, run_of_line, run_of_lines, run_line}
 use Rattle.kl1_log.proofs.LinesCut.{lines_then, text_of_journal}
 use Rattle.kl1_log.proofs.EntriesMore.{with_more, journal_then, entries_back}
@@ -345,24 +343,14 @@ page_some old j m mark l page =
 
 -- ---- the text of a journal
 
-abbrev pub shut : Journal → Journal
-shut j = record j { sessions = 0 }
-
-shut_written : (j : Journal) → IsWritten j → IsWritten (shut j)
+shut_written : (j : Journal) → IsWritten j → IsWritten (record j { sessions = 0 })
 shut_written j w = record { sessions = omega arith; names = w.names; entries = w.entries }
 
--- the number of names that the first line tells
-pub names_told : (j : Journal) (first : List ℕ) (more : List (List ℕ)) (h : Heading) → IsWritten j → first ∷ more ≡ journal_lines j → Some h ≡ heading_in first → h.names ≡ length j.names
-names_told j first more h w page read =
-    let is = first_is first (heading_line j.rules j.sessions (length j.names)) more (map name_line j.names ++ map entry_line j.entries) page in
-    let back = headings_read_back j.rules j.sessions (length j.names) w.sessions w.names.few in
-    ap (λ (x : Heading). x.names) (same_Some h (record { rules = j.rules; sessions = j.sessions; names = length j.names }) (read ∙ ap heading_in is ∙ back))
-
-pub begun_file : (j : Journal) (first : List ℕ) (more : List (List ℕ)) (bytes : List ℕ) → IsWritten j → first ∷ more ≡ journal_lines j → bytes ≡ written_line (heading_line j.rules 0 (length j.names)) ++ written_lines more → IsFile bytes j
-begun_file j first more bytes w page put =
-    let others = others_are first (heading_line j.rules j.sessions (length j.names)) more (map name_line j.names ++ map entry_line j.entries) page in
-    let text : bytes ≡ journal_text (shut j) = put ∙ ap (λ (x : List (List ℕ)). written_line (heading_line j.rules 0 (length j.names)) ++ written_lines x) others in
-    record { read = shut j; is = ap journal_in text ∙ journals_read_back (shut j) (shut_written j w); closed = refl; says = record { rules = refl; names = refl; deeds = refl } }
+-- the text of a journal is a file of it
+pub shut_file : (j : Journal) (bytes : List ℕ) → IsWritten j → bytes ≡ shut_text j → IsFile bytes j
+shut_file j bytes w text =
+    let shut = record j { sessions = 0 } in
+    record { read = shut; is = ap journal_in text ∙ journals_read_back shut (shut_written j w); closed = refl; says = record { rules = refl; names = refl; deeds = refl } }
 
 names_run : (h : List ℕ) (names : List (List ℕ)) (es : List Entry) → run_of_line h ≡ 0 → AllByRecursion HasLine es → run_of_lines ((h ∷ map name_line names) ++ map entry_line es) ≡ last_run es
 names_run h [] es none all = lines_run h es none all

@@ -60,14 +60,6 @@ heading_put rules n out a b d new line p q r s t =
     pieces : (out v line : List ℕ) → (((out ++ codes "journal ") ++ v) ++ codes " 0 ") ++ written_line line ≡ out ++ written_line (codes "journal " ++ v ++ codes " " ++ codes "0" ++ codes " " ++ line)
     pieces out v line = simp append_assoc
 
--- the text of a journal, piece by piece
-pub begun_put : (rules same : Rules) (names told : ℕ) (none one two : List ℕ) (more : List (List ℕ)) → none ≡ [] → one ≡ none ++ written_line (heading_line same 0 told) → two ≡ one ++ written_lines more → same ≡ rules → told ≡ names → two ≡ written_line (heading_line rules 0 names) ++ written_lines more
-begun_put rules same names told none one two more p q r s t =
-    r
-    ∙ ap (λ (x : List ℕ). x ++ written_lines more) (q ∙ ap (λ (x : List ℕ). x ++ written_line (heading_line same 0 told)) p)
-    ∙ ap (λ (x : Rules). written_line (heading_line x 0 told) ++ written_lines more) s
-    ∙ ap (λ (x : ℕ). written_line (heading_line rules 0 x) ++ written_lines more) t
-
 -- the last of lines that are read one by one
 pub last_read : {E : Type 0} (r : Result ℕ E) (line last : List ℕ) (rest : List (Vec ℕ Global)) (lines : List (List ℕ)) → IfOk r (λ n. n ≡ run_of_line line) → line ≡ last → run_of_lines (last ∷ bytes_in rest) ≡ run_of_lines lines → length rest < 1 → IfOk r (λ n. n ≡ run_of_lines lines)
 last_read (Err e) line last rest lines is same all none = tt

@@ -3,6 +3,7 @@ use Rattle.std.specs.Prelude.{◌≡◌, ℕ, List, [], ◌∷◌, ◌++◌, tak
 use Rattle.kl1_model.specs.State.{State, fresh_with}
 use Rattle.kl1_model_server.specs.Journal.{Entry, loads, starts, sends, steps, answers, runs, Journal, entry_step}
 use Rattle.kl1_model_server.specs.JournalText.{journal_in}
+use Rattle.kl1_model_server.specs.laws.TextLaws.{journal_text}
 
 -- the deeds of an entry: a run of `n` reductions is `n` runs of one, and any other entry is one deed
 abbrev pub deeds_of_entry : Entry → List Entry
@@ -38,3 +39,7 @@ pub record IsFile (text : List ℕ) (j : Journal) : Type 0 where
   pub is : journal_in text ≡ Some read
   pub closed : read.sessions ≡ 0
   pub says : SaysSame read j
+
+-- the text of a journal, with no session open
+abbrev pub shut_text : Journal → List ℕ
+shut_text j = journal_text (record j { sessions = 0 })

@@ -4,13 +4,13 @@ ghost use Rattle.std.specs.Prelude.{◌≡◌, ◌++◌, ℕ, List, map, IfOk, O
 ghost use Rattle.kl1_model_server.specs.Command.{written_line, written_lines};
 ghost use Rattle.kl1_model_server.specs.Journal as model;
 ghost use Rattle.kl1_model_server.specs.Journal.{runs};
-ghost use Rattle.kl1_model_server.specs.JournalText.{entry_line, heading_line, version};
-ghost use Rattle.kl1_log.specs.Deeds.{IsFile};
+ghost use Rattle.kl1_model_server.specs.JournalText.{entry_line, heading_line, journal_lines, version};
+ghost use Rattle.kl1_log.specs.Deeds.{IsFile, shut_text};
 ghost use Rattle.kl1_log.specs.Later.{IsLater, IsMark, run_of_line, run_of_lines, run_line};
 
 use crate::mark::Mark;
 use itoa::Buffer;
-use kl1_journal_entries::{Deed, Journal, entry_of, heading_of};
+use kl1_journal_entries::{Deed, Journal, entry_of};
 use kl1_model::Rules;
 use std::alloc::{AllocError, Global};
 
@@ -136,23 +136,31 @@ fn put_heading(out: &mut Vec<u8>, rules: Rules, names: u64) -> Result<(), AllocE
     put_line(out, buffer.format(names).as_bytes())
 }
 
+/// The text of a journal with no session open; these are the lines of its text.
+fn shut_text(alloc: Global, journal: &Journal, lines: &[Vec<u8>]) -> Result<Vec<u8>, AllocError>
+    requires { map (λ t. t.items) lines.now ≡ journal_lines journal.now.journal }
+    ensures { IfOk result (λ bytes. bytes.items ≡ shut_text journal.now.journal) }
+{
+    let [_first, more @ ..] = lines else {
+        return Err(AllocError);
+    };
+    let mut bytes = Vec::new(alloc);
+    put_heading(&mut bytes, journal.rules(), journal.names().len() as u64)?;
+    put_lines(&mut bytes, more)?;
+    Ok(bytes)
+}
+
 /// The text of a journal, with no session open.
+#[tactic(auto, using(crate::proofs::GrownFiles::shut_file, crate::proofs::GrownFiles::begun_mark))]
 pub fn begun(alloc: Global, journal: &Journal) -> Result<Growth, AllocError>
+    ensures text { IfOk result (λ growth. growth.bytes.items ≡ shut_text journal.now.journal) }
     ensures file { IfOk result (λ growth. IsFile growth.bytes.items journal.now.journal) }
     ensures mark { IfOk result (λ growth. IsMark growth.mark journal.now.journal) }
 {
     // This is called for the fact that it proves: the journal has a text that reads back.
     journal.shows_written();
     let text = journal.text_lines(alloc)?;
-    let [first, more @ ..] = text.texts() else {
-        return Err(AllocError);
-    };
-    let Some(heading) = heading_of(first) else {
-        return Err(AllocError);
-    };
-    let mut bytes = Vec::new(alloc);
-    put_heading(&mut bytes, journal.rules(), heading.names)?;
-    put_lines(&mut bytes, more)?;
+    let bytes = shut_text(alloc, journal, text.texts())?;
     let run = last_run_of(alloc, text.texts())?;
     let lines = text.len() as u64;
     Ok(Growth {

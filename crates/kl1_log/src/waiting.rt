@@ -2,7 +2,7 @@
 
 ghost use Rattle.std.specs.Prelude.{◌≡◌, ℕ, List, IfOk, OnOk, OnErr};
 ghost use Rattle.kl1_model_server.specs.Journal as model;
-ghost use Rattle.kl1_log.specs.Deeds.{IsFile};
+ghost use Rattle.kl1_log.specs.Deeds.{IsFile, shut_text};
 ghost use Rattle.kl1_log.specs.Later.{IsLater};
 ghost use Rattle.kl1_log.specs.Batches.{text_after};
 ghost use Rattle.kl1_log.specs.Waits.{account_of, taken_of, noted_of, IsCounted, IsUpTo, CountsOn, Keeps, IsTaken};
@@ -38,19 +38,36 @@ fn noted_after(noted: u64, bytes: &[u8]) -> Result<u64, AllocError>
 }
 
 impl Waiting {
-    /// Nothing waits: the file of this account is one of `journal`.
-    pub fn new(alloc: Global, account: u32, journal: &Journal) -> Result<Self, AllocError>
-        ensures file { IfOk result (λ w. (text : List ℕ) → IsFile text journal.now.journal → IsUpTo w text journal.now.journal) }
-        ensures account { IfOk result (λ w. account_of w ≡ account) }
-        ensures none { IfOk result (λ w. (taken_of w ≡ 0) × (noted_of w ≡ 0)) }
+    /// What waits for a file of this account that has the bytes `text`: nothing, if they are the text of the journal with no session open,
+    /// and otherwise that the file is begun anew.
+    #[tactic(auto, using(crate::proofs::Waits::text_waits))]
+    pub fn over(
+        alloc: Global,
+        account: u32,
+        text: &[u8],
+        journal: &Journal,
+    ) -> Result<Self, AllocError>
+        ensures file { IfOk result (λ w. IsUpTo w text.now journal.now.journal) }
+        ensures same { IfOk result (λ w. text.now ≡ shut_text journal.now.journal → noted_of w ≡ 0) }
+        ensures account { IfOk result (λ w. (account_of w ≡ account) × (taken_of w ≡ 0)) }
     {
-        let Growth { mark, .. } = begun(alloc, journal)?;
+        let Growth { bytes, mark } = begun(alloc, journal)?;
+        if text == bytes.as_slice() {
+            return Ok(Waiting {
+                account,
+                mark,
+                change: Change::Appends(Vec::new(alloc)),
+                taken: 0,
+                noted: 0,
+                alloc,
+            });
+        }
         Ok(Waiting {
             account,
             mark,
-            change: Change::Appends(Vec::new(alloc)),
+            change: Change::Begins(bytes),
             taken: 0,
-            noted: 0,
+            noted: 1,
             alloc,
         })
     }
