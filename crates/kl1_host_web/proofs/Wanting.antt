@@ -72,7 +72,7 @@ less a b e = grind arith
 
 of_wanted : (n : ℕ) (a : Allowed) (value : Option Value) → is_within n a ≡ true → IsOfOne n (wanted a value)
 of_wanted n (allowed.Anyone a) value e = of_anyone n a value
-of_wanted n (allowed.Owner session a) value e = of_owned n account a value (less session.account n e)
+of_wanted n (allowed.Owner id account a) value e = of_owned n account a value (less account n e)
 
 -- a wish is of an account that there is, if the session is
 pub of_wish : (n : ℕ) (a : Allowed) (body : List ℕ) (w : Wish) → is_within n a ≡ true → IsWish a body w → IsOfOne n (wish_view w)
