@@ -7,6 +7,10 @@ use Rattle.kl1_model_server.specs.JournalText.{Lines, lines_of}
 use Rattle.kl1_log.specs.Cuts.{whole_lines}
 use Rattle.kl1_log.proofs.Faults.{IsSplit}
 
+-- as many lines of a text, by another name of their number
+pub as_many : {n k : ℕ} (text : List ℕ) → n ≡ k → written_lines (take n (whole_lines text)) ≡ written_lines (take k (whole_lines text))
+as_many text is = ap (λ (x : ℕ). written_lines (take x (whole_lines text))) is
+
 -- the bytes before what is left are the lines that were counted
 lines_cut : (text rest : List ℕ) (count lines : ℕ) (s : IsSplit text rest count) → s.0 ≡ take lines (whole_lines text) → take (length text - length rest) text ≡ written_lines (take lines (whole_lines text))
 lines_cut text rest count lines s is =

@@ -1,4 +1,4 @@
-use Rattle.std.proofs.Common.{◌-◌, ◌≤◌, length}
+use Rattle.std.proofs.Common.{◌-◌, ◌≤◌}
 use Rattle.kl1_log.proofs.Faults.{IsSplit}
 use Rattle.kl1_host.proofs.repair.bytes_before.Given as goal
 
