@@ -77,14 +77,29 @@ fn openings_of<'k, D: Disk + Drop>(
     Ok(openings)
 }
 
+/// What opens the file of the journal of an account.
+trait Opener<D: Disk> {
+    fn open(&self, key: &Key) -> Result<AccountFile<D>, Fault>;
+}
+
+/// Opens files of a folder. With a word for the names of files in which what is repaired is kept, faults are repaired.
+#[derive(Drop)]
+struct FolderOpener<'l, 'r, R: Files + Clock + Eprint> {
+    log: &'l Log<'r, R>,
+    folder: &'l str,
+    repair: Option<&'l str>,
+}
+
+impl<'r, R: Files<File = File> + Clock + Eprint> Opener<FolderFile<&'r R>>
+    for FolderOpener<'_, 'r, R> {
+    fn open(&self, key: &Key) -> Result<AccountFile<FolderFile<&'r R>>, Fault> {
+        file_of(self.log, self.folder, key, self.repair)
+    }
+}
+
 /// Opens the file of the journal of an account.
-fn open_one<'r, R: Files<File = File> + Clock + Eprint>(
-    log: &Log<'r, R>,
-    folder: &str,
-    repair: Option<&str>,
-    opening: &mut Opening<'_, FolderFile<&'r R>>,
-) {
-    opening.file = Some(file_of(log, folder, opening.key, repair));
+fn open_one<D: Disk + Drop, O: Opener<D>>(opener: &O, opening: &mut Opening<'_, D>) {
+    opening.file = Some(opener.open(opening.key));
 }
 
 /// How many threads open files: as many as there are processors.
@@ -97,6 +112,20 @@ fn lanes<R: Threads>(rt: &R) -> usize
     }
 }
 
+/// Opens the files of the journals of accounts, several at the same time.
+fn open_all<D: Disk + Drop + Send, N: Threads + Sync, O: Opener<D> + Sync>(
+    rt: &N,
+    opener: &O,
+    openings: &mut [Opening<'_, D>],
+) {
+    thread::for_each_mut(
+        rt,
+        openings,
+        lanes(rt),
+        &|_place: usize, opening: &mut Opening<'_, D>| open_one(opener, opening),
+    );
+}
+
 /// Opens the files of the journals of accounts, several at the same time. If some can't be opened, the fault of the first of them is told.
 pub fn files_of<'r, R: Files<File = File> + Clock + Eprint + Threads + Sync>(
     log: &Log<'r, R>,
@@ -107,14 +136,12 @@ pub fn files_of<'r, R: Files<File = File> + Clock + Eprint + Threads + Sync>(
     ensures { IfOk result (λ files. length keys.now ≤ vec_len files) }
 {
     let mut openings = openings_of(log.alloc, keys)?;
-    thread::for_each_mut(
-        log.rt,
-        openings.as_mut_slice(),
-        lanes(log.rt),
-        &|_place: usize, opening: &mut Opening<'_, FolderFile<&R>>| open_one(
-            log, folder, repair, opening,
-        ),
-    );
+    let opener = FolderOpener {
+        log,
+        folder,
+        repair,
+    };
+    open_all(log.rt, &opener, openings.as_mut_slice());
     let mut files = Vec::with_capacity(log.alloc, openings.len())?;
     for opening in openings {
         match opening.file {
