@@ -1,6 +1,6 @@
 // The journals of a folder are opened.
 
-ghost use Rattle.std.specs.Prelude.{◌<◌, ◌≤◌, length, vec_len, IfOk};
+ghost use Rattle.std.specs.Prelude.{◌≤◌, length, vec_len, IfOk};
 
 use crate::fault::Fault;
 use crate::folder::{JOURNALS, path_in};
@@ -8,14 +8,12 @@ use crate::log::Log;
 use crate::start_words::open_fault;
 use kl1_host_journals::open_in_folder;
 use kl1_host_work::AccountFile;
-use kl1_log::{Disk, FolderFile};
+use kl1_log::FolderFile;
 use kl1_pool::{AccountName, Rules};
 use kl1_session::Key;
 use std::alloc::Global;
 use std::fs::File;
 use std::rt::Files;
-use std::thread;
-use std::thread::Threads;
 use std::time::Clock;
 
 /// Opens the file of the journal of an account. With a word for the names of files in which what is repaired is kept, a fault is repaired.
@@ -58,47 +56,8 @@ fn file_of<'r, R: Files<File = File> + Clock + Eprint>(
     }
 }
 
-/// An account whose file is to be opened, and then what became of that.
-#[derive(Drop)]
-struct Opening<'k, D: Disk> {
-    key: &'k Key,
-    file: Option<Result<AccountFile<D>, Fault>>,
-}
-
-/// Accounts whose files are to be opened.
-fn openings_of<'k, D: Disk + Drop>(
-    alloc: Global,
-    keys: &'k [Key],
-) -> Result<Vec<Opening<'k, D>>, Fault> {
-    let mut openings = Vec::with_capacity(alloc, keys.len())?;
-    for key in keys {
-        openings.push(Opening { key, file: None })?;
-    }
-    Ok(openings)
-}
-
-/// Opens the file of the journal of an account.
-fn open_one<'r, R: Files<File = File> + Clock + Eprint>(
-    log: &Log<'r, R>,
-    folder: &str,
-    repair: Option<&str>,
-    opening: &mut Opening<'_, FolderFile<&'r R>>,
-) {
-    opening.file = Some(file_of(log, folder, opening.key, repair));
-}
-
-/// How many threads open files: as many as there are processors.
-fn lanes<R: Threads>(rt: &R) -> usize
-    ensures { 0 < result }
-{
-    match thread::available_parallelism(rt) {
-        Ok(processors) => processors.get(),
-        Err(_) => 1,
-    }
-}
-
-/// Opens the files of the journals of accounts, several at the same time. If some can't be opened, the fault of the first of them is told.
-pub fn files_of<'r, R: Files<File = File> + Clock + Eprint + Threads + Sync>(
+/// Opens the files of the journals of accounts, in order, until one can't be opened.
+pub fn files_of<'r, R: Files<File = File> + Clock + Eprint>(
     log: &Log<'r, R>,
     folder: &str,
     keys: &[Key],
@@ -106,21 +65,9 @@ pub fn files_of<'r, R: Files<File = File> + Clock + Eprint + Threads + Sync>(
 ) -> Result<Vec<AccountFile<FolderFile<&'r R>>>, Fault>
     ensures { IfOk result (λ files. length keys.now ≤ vec_len files) }
 {
-    let mut openings = openings_of(log.alloc, keys)?;
-    thread::for_each_mut(
-        log.rt,
-        openings.as_mut_slice(),
-        lanes(log.rt),
-        &|_place: usize, opening: &mut Opening<'_, FolderFile<&R>>| open_one(
-            log, folder, repair, opening,
-        ),
-    );
-    let mut files = Vec::with_capacity(log.alloc, openings.len())?;
-    for opening in openings {
-        match opening.file {
-            Some(file) => files.push(file?)?,
-            None => return Err(Fault::Memory),
-        }
+    let mut files = Vec::with_capacity(log.alloc, keys.len())?;
+    for key in keys {
+        files.push(file_of(log, folder, key, repair)?)?;
     }
     // There is one for each, but no clause says so.
     if keys.len() > files.len() {
