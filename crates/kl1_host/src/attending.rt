@@ -8,7 +8,6 @@ use kl1_host_web::Machine;
 use kl1_host_work::{HostView, Performer};
 use kl1_session::Key;
 use std::alloc::AllocError;
-use std::net::{Ipv4Addr, SocketAddr, SocketAddrV4};
 use std::random::RandomSource;
 use std::rt::Files;
 use std::sync::Wait;
@@ -30,17 +29,6 @@ where
 /// A number with its name.
 fn number(name: &'static [u8], number: u64) -> Number<'static> {
     Number { name, number }
-}
-
-/// Ends the sessions of browsers that made no request for too long.
-fn end_idle<R, P: Performer, V: HostView>(program: &Program<'_, R>, performer: &mut P, host: &V)
-where
-    R: Wait + Clock + Eprint + Files + RandomSource,
-{
-    // No key is tried, so it counts for no address.
-    let address = SocketAddr::V4(SocketAddrV4::new(Ipv4Addr::LOCALHOST, 0));
-    let mut accounts = program.accounts_of(address, performer, host);
-    program.service(true).end_idle(&mut accounts);
 }
 
 impl<R, P: Performer, V: HostView> Attending<'_, '_, R, P, V>
@@ -95,7 +83,7 @@ where
         let second = self.program.machine.seconds();
         if second != self.last {
             self.last = second;
-            end_idle(self.program, self.performer, self.host);
+            self.program.end_idle(self.performer, self.host);
         }
     }
 }

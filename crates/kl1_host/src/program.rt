@@ -15,7 +15,7 @@ use kl1_host_work::{Front, HostEvent, HostView, Listeners, Performer};
 use kl1_lines::{Sink, Source};
 use kl1_session::{Disconnect, Key};
 use std::alloc::{AllocError, Global};
-use std::net::{SocketAddr, TcpListener};
+use std::net::{Ipv4Addr, SocketAddr, SocketAddrV4, TcpListener};
 use std::os::unix::net::{UnixListener, UnixStream};
 use std::random::RandomSource;
 use std::rt::Files;
@@ -108,6 +108,14 @@ impl<'f, R: Wait + Clock + Eprint + Files + RandomSource> Program<'f, R> {
             },
             is_local,
         }
+    }
+
+    /// Ends the sessions of browsers that made no request for too long.
+    pub fn end_idle<P: Performer, V: HostView>(&self, performer: &mut P, host: &V) {
+        // No key is tried, so it counts for no address.
+        let address = SocketAddr::V4(SocketAddrV4::new(Ipv4Addr::LOCALHOST, 0));
+        let mut accounts = self.accounts_of(address, performer, host);
+        self.service(true).end_idle(&mut accounts);
     }
 
     /// The name of an account, by its number.

@@ -82,6 +82,7 @@ where
         + Clock
         + Eprint
         + Sync,
+    R::Dir: Send + Sync,
 {
     let (rt, alloc, keys) = (program.rt, program.alloc, program.keys);
     let word = word_of_now(rt, alloc)?;
@@ -152,6 +153,7 @@ where
         + Clock
         + Eprint
         + Sync,
+    R::Dir: Send + Sync,
 {
     let (rt, alloc, settings) = (log.rt, log.alloc, &opened.settings);
     let pauses = Mutex::new(Pauses::new(alloc));
@@ -197,6 +199,7 @@ where
         + Clock
         + Eprint
         + Sync,
+    R::Dir: Send + Sync,
 {
     let alloc = rt.alloc();
     let _lock = lock_folder(rt, alloc, folder, "one host at a time")?;
@@ -228,6 +231,7 @@ where
         + Clock
         + Eprint
         + Sync,
+    R::Dir: Send + Sync,
 {
     let asker = Mutex::new(None);
     run_locked(rt, folder, repairs, &asker)?;
