@@ -77,12 +77,12 @@ impl<'f, R: Wait + Clock + Eprint + Files + RandomSource> Program<'f, R> {
     }
 
     /// The accounts of a host, for whoever asks from this address.
-    pub fn accounts_of<'w, P: Performer, V: HostView>(
+    pub fn accounts_of<'p, 'w, P: Performer, V: HostView>(
         &self,
         address: SocketAddr,
-        performer: &'w mut P,
+        performer: &'p mut P,
         host: &'w V,
-    ) -> WebAccounts<'w, 'f, R, P, V> {
+    ) -> WebAccounts<'p, 'w, 'f, R, P, V> {
         WebAccounts {
             rt: self.rt,
             alloc: self.alloc,

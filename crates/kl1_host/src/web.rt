@@ -131,19 +131,19 @@ pub fn disk_of<R: Files>(
 
 /// The accounts of a host, for one connection of a browser.
 #[derive(Drop)]
-pub struct WebAccounts<'w, 'f, R: Wait + Clock + Eprint + Files, P: Performer, V: HostView> {
+pub struct WebAccounts<'p, 'w, 'f, R: Wait + Clock + Eprint + Files, P: Performer, V: HostView> {
     pub rt: &'f R,
     pub alloc: Global,
     pub folder: &'f str,
     pub most_bytes: u64,
     pub door: PausingDoor<'f, R, LoginLog<'f, R>>,
-    pub performer: &'w mut P,
+    pub performer: &'p mut P,
     pub host: &'w V,
     pub record: AskedRecord,
 }
 
 impl<'w, R: Wait + Clock + Eprint + Files, P: Performer, V: HostView> Accounts
-    for WebAccounts<'w, '_, R, P, V> {
+    for WebAccounts<'_, 'w, '_, R, P, V> {
     type Viewer = AccountViewer<'w, V>;
 
     ghost use Rattle.std.specs.Prelude.{length};
