@@ -1,0 +1,4 @@
+pub mod SettledStays
+pub mod Waking
+pub mod Restood
+pub mod GoalOrder

@@ -1,0 +1,4 @@
+pub mod Core
+pub mod Parts
+pub mod Effects
+pub mod Rescheduling
