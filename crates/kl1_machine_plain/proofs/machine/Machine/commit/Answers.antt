@@ -1,0 +1,67 @@
+use Rattle.std.proofs.Common.{◌≡◌, ◌+◌, List, sym, ◌∙◌, arith, subst}
+use Rattle.std.specs.Prelude.{Some}
+use Rattle.std.proofs.lemmas.Result.{on_ok_weaker}
+use Rattle.kl1_text.specs.declared.cell_name.CellName.{CellName}
+use Rattle.kl1_store.specs.declared.qualified.Qualified.{Qualified}
+use Rattle.kl1_goals_moves.specs.Moves.{taken_places}
+use Rattle.kl1_user_effects.specs.Moving.{priorities_by}
+use Rattle.kl1_user_effects.proofs.TreesIn.{never_absent}
+use Rattle.kl1_user_effects.proofs.States.{found_shoen_in}
+use Rattle.kl1_machine_plain.specs.Effects.{with_goals}
+use Rattle.kl1_machine_plain.proofs.Keeping.{keeps_store, keeps_then, grown_machine}
+use Rattle.kl1_machine_plain.proofs.Bodies.{commits_exhausted, commits_body, needs_keep}
+use Rattle.kl1_machine_plain.proofs.machine.Machine.commit.Goals as goal
+
+pub unreachable-requires : goal.unreachable-requires
+unreachable-requires c =
+    let low = c.requires.owned.low in
+    let high = c.requires.owned.high in
+    never_absent 0 c.args.goal.shoen c.args.self.now.shoens.shoens c.len-numbered.ensures.numbered low (omega (arith, high)) (sym c.lend.ensures.value ∙ (sym c.copied.ensures ∙ c.in_default.is))
+
+pub put_each-requires-clause-machine : goal.put_each-requires-clause-machine
+put_each-requires-clause-machine c = grown_machine c.args.self.now c.commit.new.store c.in_ok-commit.ensures.grown c.requires.machine
+
+pub returns-then-not-has_room-clause-ok : goal.returns-then-not-has_room-clause-ok
+returns-then-not-has_room-clause-ok c =
+    on_ok_weaker c.raise.result
+    (commits_exhausted (record { predicate = c.args.predicate; place = c.args.place; places = taken_places c.args.trial.now }) c.args.goal c.args.cell c.args.self.now c.raise.new.self c.needs_of-needs.result c.needs_of-needs.ensures (sym c.has_room.ensures ∙ c.if-not-has_room.true))
+    c.raise.ensures.ok
+
+pub returns-clause-ok : goal.returns-clause-ok
+returns-clause-ok c =
+    let m = c.args.self.now in
+    let k = c.commit.new.store in
+    let e = c.in_ok-commit.ensures in
+    let sh = c.in-Some.shoen in
+    let cells = c.commit.new.goals.items in
+    let ps = c.priorities_of.result.now in
+    let G : List (Qualified CellName) → Type 0 = λ xs. c.put_each.new.self ≡ with_goals sh.number (priorities_by (Some sh) c.args.goal.priority ps) xs (record m { store = k }) in
+    commits_body (record { predicate = c.args.predicate; place = c.args.place; places = taken_places c.args.trial.now }) c.args.goal c.args.cell m k sh ps cells c.needs_of-needs.result c.put_each.new.self
+    (record {
+      machine = c.requires.machine;
+      owned = c.requires.owned;
+      found = sym c.lend.ensures.value ∙ (sym c.copied.ensures ∙ c.in-Some.is);
+      number = c.in-Some.ensures.number;
+      needs = c.needs_of-needs.ensures;
+      room = sym c.has_room.ensures ∙ c.if-not-has_room.false;
+      grown = e.grown;
+      hooks = e.hooks;
+      inside = e.inside;
+      priorities = c.priorities_of.ensures;
+      body = e.goals;
+    })
+    c.in_ok-put_each.ensures.machine (subst G c.deref.ensures.value c.in_ok-put_each.ensures.ok)
+
+pub returns-clause-keeps : goal.returns-clause-keeps
+returns-clause-keeps c =
+    let m = c.args.self.now in
+    let e = c.in_ok-commit.ensures in
+    needs_keep c.needs_of-needs.result m c.put_each.new.self (keeps_then m _ _ (keeps_store m c.commit.new.store e.grown e.hooks) c.in_ok-put_each.ensures.keeps)
+
+-- ---- if memory is refused
+
+pub returns-in_err-commit-clause-keeps : goal.returns-in_err-commit-clause-keeps
+returns-in_err-commit-clause-keeps c = keeps_store c.args.self.now c.commit.new.store c.commit.ensures.grown c.commit.ensures.hooks
+
+pub returns-in_err-put_each-clause-keeps : goal.returns-in_err-put_each-clause-keeps
+returns-in_err-put_each-clause-keeps c = let e = c.in_ok-commit.ensures in keeps_then c.args.self.now _ _ (keeps_store c.args.self.now c.commit.new.store e.grown e.hooks) c.put_each.ensures.keeps
