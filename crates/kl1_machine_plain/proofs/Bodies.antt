@@ -17,7 +17,6 @@ use Rattle.kl1_store.specs.declared.qualified.Qualified.{Qualified}
 use Rattle.kl1_store.specs.Held.{Held}
 use Rattle.kl1_store.specs.Hooks.{Kept}
 use Rattle.kl1_store.specs.InModules.{AreQualifiedIn, qualified_list}
-use Rattle.kl1_store.specs.Sound.{Grown}
 use Rattle.kl1_match.specs.declared.place.Place.{Place}
 use Rattle.kl1_goals_moves.specs.Moves.{IsCandidate}
 use Rattle.kl1_goals_moves.specs.Bodies.{IsBody, AreNeeds}
@@ -39,9 +38,10 @@ use Rattle.kl1_user_effects.proofs.Frames.{keeps_same}
 use Rattle.kl1_user_effects.proofs.Goals.{count_read}
 use Rattle.kl1_user_effects.proofs.Works.{turns_as}
 use Rattle.kl1_user_effects.proofs.Commits.{with_body, goals_for_above, commit_turns, room_read}
-use Rattle.kl1_machine_parts.specs.Rows.{Rowed}
+use Rattle.kl1_machine_row.specs.Rows.{Rowed}
 use Rattle.kl1_machine_plain.specs.declared.machine.Machine.{Machine}
 use Rattle.kl1_machine_plain.specs.Machines.{made, IsMachine, Keeps}
+use Rattle.kl1_machine_plain.proofs.Keeping.{Grows}
 use Rattle.kl1_machine_plain.specs.Effects.{goal_at, with_goal, with_goals, Acts, ActsAs, Chosen, Commits}
 
 -- ---- goals of a body
@@ -126,8 +126,7 @@ pub record HasBody (b : Chosen) (goal : Goal CellName) (m : Machine) (k : Kept C
   pub number : sh.number ≡ goal.shoen
   pub needs : AreNeedsOf b n
   pub room : room_in m n ≡ true
-  pub grown : Grown m.store.held k.held
-  pub hooks : k.hooks ≡ m.store.hooks
+  pub grows : Grows m k
   pub inside : AreQualifiedIn k.held cells
   pub priorities : (f : Reading) (h : Held CellName) (places : List (Place CellName)) (c : Candidate) → IsCandidate f h b.predicate b.place places c → ps ≡ body_priorities c.clause
   pub body : (f : Reading) → Reads built f → (c : Candidate) → IsCandidate f m.store.held b.predicate b.place b.places c → IsBody f c m.store.held k.held cells
@@ -154,7 +153,7 @@ commits_body b goal x m k sh ps cells n u a after is =
     subst C (sym (is ∙ goals_are sh.number qs cells (record m { store = k })))
     (λ machine. record {
       turns = λ ms c candidate.
-          let B = commit_turns ms h k.held (made m) goal (Some sh) ps n.variables n.nodes cells c a.machine.inside a.grown a.found a.owned a.inside (λ f knows. a.priorities f h b.places (c f) (candidate f knows)) (λ f knows. (a.needs f h b.places (c f) (candidate f knows)).variables)
+          let B = commit_turns ms h k.held (made m) goal (Some sh) ps n.variables n.nodes cells c a.machine.inside a.grows.grown a.found a.owned a.inside (λ f knows. a.priorities f h b.places (c f) (candidate f knows)) (λ f knows. (a.needs f h b.places (c f) (candidate f knows)).variables)
           (λ f knows. (a.needs f h b.places (c f) (candidate f knows)).nodes) (λ f knows. a.body f knows.reads (c f) (candidate f knows)) in
           record {
             inside = (needs_machine n v machine).inside;
@@ -173,8 +172,8 @@ commits_body b goal x m k sh ps cells n u a after is =
           };
       acts = record {
         machine = needs_machine n v machine;
-        grown = a.grown;
-        hooks = a.hooks;
+        grown = a.grows.grown;
+        hooks = a.grows.hooks;
         comes = record { added = come; goals = refl; above = goals_for_above m.counts.last_goal m.counts.last_goal sh.number qs cells (omega arith); last = omega arith; met = no_monitors come m.counts.last_goal sh.number qs cells };
         lives = keeps_same bare m.shoens.shoens;
         count = refl;

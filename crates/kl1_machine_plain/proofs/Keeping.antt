@@ -4,7 +4,7 @@ use Rattle.kl1_text.specs.declared.cell_name.CellName.{CellName}
 use Rattle.kl1_store.specs.Held.{Held}
 use Rattle.kl1_store.specs.Sound.{Grown}
 use Rattle.kl1_store.proofs.Grows.{Grown-same}
-use Rattle.kl1_store.specs.Hooks.{Kept, HasGrown}
+use Rattle.kl1_store.specs.Hooks.{Kept, HasGrown, point_of}
 use Rattle.kl1_store_hooks.proofs.Hooked.{HasGrown-same, HasGrown-trans}
 use Rattle.kl1_goals.specs.declared.task.Task.{Task}
 use Rattle.kl1_goals.specs.declared.goal.Goal.{Goal}
@@ -15,10 +15,10 @@ use Rattle.kl1_user_effects.specs.Kept.{IsTaskIn, IsOwned, AreUpTo}
 use Rattle.kl1_user_effects.proofs.Goals.{goals_in_append, owned_append, up_to_append, up_to_more}
 use Rattle.kl1_user_effects.proofs.Substituting.{has_grown}
 use Rattle.kl1_user_effects.proofs.Works.{grown_made}
-use Rattle.kl1_machine_parts.specs.Rows.{Rowed}
+use Rattle.kl1_machine_row.specs.Rows.{Rowed}
 use Rattle.kl1_machine_plain.specs.declared.counts.Counts.{Counts}
 use Rattle.kl1_machine_plain.specs.declared.machine.Machine.{Machine}
-use Rattle.kl1_machine_plain.specs.Machines.{made, IsMachine, Keeps}
+use Rattle.kl1_machine_plain.specs.Machines.{made, IsMachine, Keeps, IsBegun, IsBack}
 use Rattle.kl1_machine_plain.specs.Effects.{goal_at, with_goal, Puts}
 
 -- ---- what stays
@@ -32,9 +32,13 @@ keeps_then m n o p q = record {
   rest = q.rest ∙ ap (λ (x : Machine). let z : Machine = record x { store = o.store; goals = record x.goals { goals = o.goals.goals }; shoens = record x.shoens { shoens = o.shoens.shoens }; counts = o.counts } in z) p.rest;
 }
 
--- a store that has grown by no hook
-pub keeps_store : (m : Machine) (k : Kept CellName) → Grown m.store.held k.held → k.hooks ≡ m.store.hooks → Keeps m (record m { store = k })
-keeps_store m k g h = record { grown = has_grown m.store k g h; rest = refl }
+-- a machine's store has grown, by no hook
+pub record Grows (m : Machine) (k : Kept CellName) : Type 0 where
+  pub grown : Grown m.store.held k.held
+  pub hooks : k.hooks ≡ m.store.hooks
+
+pub keeps_store : (m : Machine) (k : Kept CellName) → Grows m k → Keeps m (record m { store = k })
+keeps_store m k g = record { grown = has_grown m.store k g.grown g.hooks; rest = refl }
 
 -- a store that went back to what it was
 pub keeps_back : (m n : Machine) (k : Kept CellName) → Keeps m n → k.held ≡ m.store.held → k.hooks ≡ m.store.hooks → Keeps m (record n { store = k })
@@ -43,8 +47,8 @@ keeps_back m n k p held hooks =
     record { grown = has_grown m.store k (subst G (sym held) (Grown-same m.store.held)) hooks; rest = ap (λ (x : Machine). let z : Machine = record x { store = k } in z) p.rest }
 
 -- and a tree of which only shoens are others
-pub keeps_tree : (m : Machine) (k : Kept CellName) (t : Tree CellName) (c : Counts) → Grown m.store.held k.held → k.hooks ≡ m.store.hooks → t ≡ record m.shoens { shoens = t.shoens } → Keeps m (record m { store = k; shoens = t; counts = c })
-keeps_tree m k t c g h e = record { grown = has_grown m.store k g h; rest = ap (λ (u : Tree CellName). let z : Machine = record m { store = k; shoens = u; counts = c } in z) e }
+pub keeps_tree : (m : Machine) (k : Kept CellName) (t : Tree CellName) (c : Counts) → Grows m k → t ≡ record m.shoens { shoens = t.shoens } → Keeps m (record m { store = k; shoens = t; counts = c })
+keeps_tree m k t c g e = record { grown = has_grown m.store k g.grown g.hooks; rest = ap (λ (u : Tree CellName). let z : Machine = record m { store = k; shoens = u; counts = c } in z) e }
 
 -- and a table of which only goals are others
 pub keeps_goals : (m : Machine) (r : Rowed) (c : Counts) → r ≡ record m.goals { goals = r.goals } → Keeps m (record m { goals = r; counts = c })
@@ -52,8 +56,8 @@ keeps_goals m r c e = record { grown = HasGrown-same m.store; rest = ap (λ (x :
 
 -- ---- that it is a machine
 
-pub grown_machine : (m : Machine) (k : Kept CellName) → Grown m.store.held k.held → IsMachine m → IsMachine (record m { store = k })
-grown_machine m k g i = record { inside = grown_made m.store.held k.held (made m) g i.inside; last = i.last; known = i.known }
+pub grown_machine : (m : Machine) (k : Kept CellName) → Grows m k → IsMachine m → IsMachine (record m { store = k })
+grown_machine m k g i = record { inside = grown_made m.store.held k.held (made m) g.grown i.inside; last = i.last; known = i.known }
 
 before_up : (last n : ℕ) (gs : List (Goal CellName)) → last < n → AreUpTo last gs → AreBefore n gs
 before_up last n [] lt a = tt
@@ -87,3 +91,26 @@ puts_one m r shoen priority n task i inside own number goals rest =
     let is : record m { goals = r; counts = record m.counts { last_goal = n } } ≡ C (suc m.counts.last_goal) =
     ap (λ (x : Rowed). let z : Machine = record m { goals = x; counts = record m.counts { last_goal = n } } in z) (rest ∙ ap (λ (gs : List (Goal CellName)). let z : Rowed = record m.goals { goals = gs } in z) goals) ∙ ap C next in
     subst P (sym is) (record { is = refl; machine = put_machine m (goal_at (suc m.counts.last_goal) shoen priority task) refl inside (record { low = own.low; high = own.high }) i })
+
+-- ---- back to where an event began
+
+pub begun_mark : (b m : Machine) → IsBegun b → Keeps b m → m.mark ≡ point_of b.store
+begun_mark b m i k = ap (λ (x : Machine). x.mark) k.rest ∙ i.mark
+
+pub went_back : (b m : Machine) (k : Kept CellName) (r : Rowed) (t : Tree CellName) → IsBegun b → Keeps b m → k.held ≡ b.store.held → k.hooks ≡ b.store.hooks → r ≡ record m.goals { goals = m.goals.begun; shoens = m.goals.begun_shoens } → t.shoens ≡ m.shoens.kept → t.work ≡ m.shoens.kept_work →
+    IsBack b (record m { store = k; goals = r; shoens = t; counts = m.begun })
+went_back b m k r t i p held hooks goals shoens work =
+    let known : m.goals.begun_shoens ≡ b.goals.shoens = ap (λ (x : Machine). x.goals.begun_shoens) p.rest ∙ i.goal_shoens in
+    let begun : m.goals.begun ≡ b.goals.goals = ap (λ (x : Machine). x.goals.begun) p.rest ∙ i.goals in
+    let counts : m.begun ≡ b.counts = ap (λ (x : Machine). x.begun) p.rest ∙ i.counts in
+    record {
+      held = held;
+      hooks = hooks;
+      goals = goals
+          ∙ ap (λ (x : Machine). let z : Rowed = record x.goals { goals = m.goals.begun; shoens = m.goals.begun_shoens } in z) p.rest
+          ∙ ap (λ (gs : List (Goal CellName)). let z : Rowed = record b.goals { goals = gs; shoens = m.goals.begun_shoens } in z) begun
+          ∙ ap (λ (n : ℕ). let z : Rowed = record b.goals { shoens = n } in z) known;
+      shoens = shoens ∙ ap (λ (x : Machine). x.shoens.kept) p.rest ∙ i.shoens;
+      work = work ∙ ap (λ (x : Machine). x.shoens.kept_work) p.rest ∙ i.work;
+      rest = ap (λ (x : Machine). let z : Machine = record x { store = k; goals = r; shoens = t; counts = m.begun } in z) p.rest ∙ ap (λ (c : Counts). let z : Machine = record b { store = k; goals = r; shoens = t; counts = c } in z) counts;
+    }

@@ -21,7 +21,7 @@ use Rattle.kl1_store.specs.Hooks.{Kept}
 use Rattle.kl1_store.specs.Sound.{Bound, IsFormed, Grown}
 use Rattle.kl1_store.proofs.Terms.{term_of-variable, term_of-unbound}
 use Rattle.kl1_store.proofs.Grows.{Grown-variable, Grown-trans, Grown-same}
-use Rattle.kl1_stream.specs.Exceptions.{IsException, IsExceptionWith}
+use Rattle.kl1_stream.specs.Exceptions.{IsException}
 use Rattle.kl1_goals.specs.declared.task.Task.TheVariants.{Substitutes}
 use Rattle.kl1_goals.specs.declared.goal.Goal.{Goal}
 use Rattle.kl1_shoen_paths.specs.declared.shoen.Shoen.{Shoen}
@@ -39,23 +39,24 @@ use Rattle.kl1_user_effects.proofs.States.{Agree, found_in, in_grown}
 use Rattle.kl1_user_effects.proofs.Works.{read_as, rereads, grown_made, last_made, turns_then, turns_as}
 use Rattle.kl1_user_effects.proofs.Reported.{unmade_turns}
 use Rattle.kl1_user_effects.proofs.Streams.{grown_turns, raised_turns}
-use Rattle.kl1_user_effects.proofs.Substituting.{IsAsked, asked, asked_grown, new_in, new_stays, reported_here, replaced_turns, plain_turns, unreported_turns, whole_turns}
+use Rattle.kl1_user_effects.proofs.Substituting.{IsAsked, asked_grown, new_in, new_stays, reported_here, replaced_turns, plain_turns, unreported_turns, whole_turns}
 use Rattle.kl1_machine_plain.specs.declared.counts.Counts.{Counts}
 use Rattle.kl1_machine_plain.specs.declared.machine.Machine.{Machine}
 use Rattle.kl1_machine_plain.specs.Machines.{made, IsMachine}
+use Rattle.kl1_machine_plain.proofs.Keeping.{Grows}
 use Rattle.kl1_machine_plain.specs.Effects.{goal_at, Puts, Comes, Acts, Reports, Tells, ReportsAs, ActsAs}
 
 -- ---- what stays
 
 -- a machine whose store has grown before, by no hook
-pub reports_since : (m : Machine) (k : Kept CellName) (n : Machine) → Grown m.store.held k.held → k.hooks ≡ m.store.hooks → Reports (record m { store = k }) n → Reports m n
-reports_since m k n g hooks r = record { machine = r.machine; grown = Grown-trans m.store.held k.held n.store.held g r.grown; hooks = r.hooks ∙ hooks; lives = r.lives; count = r.count; rest = r.rest }
+pub reports_since : (m : Machine) (k : Kept CellName) (n : Machine) → Grows m k → Reports (record m { store = k }) n → Reports m n
+reports_since m k n g r = record { machine = r.machine; grown = Grown-trans m.store.held k.held n.store.held g.grown r.grown; hooks = r.hooks ∙ g.hooks; lives = r.lives; count = r.count; rest = r.rest }
 
-acts_since : (m : Machine) (k : Kept CellName) (n : Machine) → Grown m.store.held k.held → k.hooks ≡ m.store.hooks → Acts (record m { store = k }) n → Acts m n
-acts_since m k n g hooks a = record {
+acts_since : (m : Machine) (k : Kept CellName) (n : Machine) → Grows m k → Acts (record m { store = k }) n → Acts m n
+acts_since m k n g a = record {
   machine = a.machine;
-  grown = Grown-trans m.store.held k.held n.store.held g a.grown;
-  hooks = a.hooks ∙ hooks;
+  grown = Grown-trans m.store.held k.held n.store.held g.grown a.grown;
+  hooks = a.hooks ∙ g.hooks;
   comes = record { added = a.comes.added; goals = a.comes.goals; above = a.comes.above; last = a.comes.last; met = a.comes.met };
   lives = a.lives;
   count = a.count;
@@ -84,30 +85,30 @@ counts_reported m n r =
 -- ---- without a substitute
 
 -- an exception of a term is reported
-pub exception_reported : (m : Machine) (k : Kept CellName) (n : ℕ) (kind : BuiltIn) (goal message : Cell CellName) (u : Machine) (told : Bool) → IsMachine m → Grown m.store.held k.held → k.hooks ≡ m.store.hooks → IsException built m.store.held k.held kind goal message →
+pub exception_reported : (m : Machine) (k : Kept CellName) (n : ℕ) (kind : BuiltIn) (goal message : Cell CellName) (u : Machine) (told : Bool) → IsMachine m → Grows m k → IsException built m.store.held k.held kind goal message →
     Tells n message (record m { store = k }) u told → ReportsAs (λ f. report n (exception (text_of kind) (meaning f m.store.held goal))) m u
-exception_reported m k n kind goal message u told i g hooks e tells = record {
-  turns = λ ms. raised_turns ms m.store.held k.held u.store.held (made m) (made u) n kind goal message g e i.inside (λ j. tells.turns ms);
-  reports = reports_since m k u g hooks tells.reports;
+exception_reported m k n kind goal message u told i g e tells = record {
+  turns = λ ms. raised_turns ms m.store.held k.held u.store.held (made m) (made u) n kind goal message g.grown e i.inside (λ j. tells.turns ms);
+  reports = reports_since m k u g tells.reports;
 }
 
 -- a goal is made whole, and its exception is reported
-pub raised_alone : (m : Machine) (k : Kept CellName) (goal : Goal CellName) (kind : BuiltIn) (cell : Qualified CellName) (x : Cell CellName) (u : Machine) → IsMachine m → has_substitutes m.rules ≡ false → Grown m.store.held k.held → k.hooks ≡ m.store.hooks → IsWhole m.store.held k.held cell x →
+pub raised_alone : (m : Machine) (k : Kept CellName) (goal : Goal CellName) (kind : BuiltIn) (cell : Qualified CellName) (x : Cell CellName) (u : Machine) → IsMachine m → has_substitutes m.rules ≡ false → Grows m k → IsWhole m.store.held k.held cell x →
     ReportsAs (λ f. report goal.shoen (exception (text_of kind) (meaning f k.held x))) (record m { store = k }) u → ActsAs (λ f. raised (goal_with (meaning f m.store.held) goal) (text_of kind) (aim f m.store.held cell)) m u
-raised_alone m k goal kind cell x u i one g hooks whole r =
-    let s = reports_since m k u g hooks r.reports in
+raised_alone m k goal kind cell x u i one g whole r =
+    let s = reports_since m k u g r.reports in
     record {
-      turns = λ ms. whole_turns ms m.store.held k.held u.store.held (made m) (made u) goal (text_of kind) cell x g whole i.inside (λ j. plain_turns ms k.held u.store.held (made m) (made u) goal (text_of kind) x one (r.turns ms));
+      turns = λ ms. whole_turns ms m.store.held k.held u.store.held (made m) (made u) goal (text_of kind) cell x g.grown whole i.inside (λ j. plain_turns ms k.held u.store.held (made m) (made u) goal (text_of kind) x one (r.turns ms));
       acts = acts_reported m u s;
       counts = counts_reported m u s;
     }
 
 -- a goal is made whole, and raises the exception
-pub raised_whole : (m : Machine) (k : Kept CellName) (goal : Goal CellName) (kind : BuiltIn) (cell : Qualified CellName) (x : Cell CellName) (u : Machine) → IsMachine m → Grown m.store.held k.held → k.hooks ≡ m.store.hooks → IsWhole m.store.held k.held cell x →
+pub raised_whole : (m : Machine) (k : Kept CellName) (goal : Goal CellName) (kind : BuiltIn) (cell : Qualified CellName) (x : Cell CellName) (u : Machine) → IsMachine m → Grows m k → IsWhole m.store.held k.held cell x →
     ActsAs (λ f. raised (goal_with (meaning f k.held) goal) (text_of kind) (meaning f k.held x)) (record m { store = k }) u → ActsAs (λ f. raised (goal_with (meaning f m.store.held) goal) (text_of kind) (aim f m.store.held cell)) m u
-raised_whole m k goal kind cell x u i g hooks whole r = record {
-  turns = λ ms. whole_turns ms m.store.held k.held u.store.held (made m) (made u) goal (text_of kind) cell x g whole i.inside (λ j. r.turns ms);
-  acts = acts_since m k u g hooks r.acts;
+raised_whole m k goal kind cell x u i g whole r = record {
+  turns = λ ms. whole_turns ms m.store.held k.held u.store.held (made m) (made u) goal (text_of kind) cell x g.grown whole i.inside (λ j. r.turns ms);
+  acts = acts_since m k u g r.acts;
   counts = r.counts;
 }
 
@@ -178,6 +179,9 @@ pub record Asks (m : Machine) (k : Kept CellName) (goal : Goal CellName) (kind :
 abbrev pub Raises : Machine → Goal CellName → BuiltIn → Cell CellName → Machine → Type 0
 Raises m goal kind term n = ActsAs (λ f. raised (goal_with (meaning f m.store.held) goal) (text_of kind) (meaning f m.store.held term)) m n
 
+pub asks_grows : (m : Machine) (k : Kept CellName) (goal : Goal CellName) (kind : BuiltIn) (term message : Cell CellName) → Asks m k goal kind term message → Grows m k
+asks_grows m k goal kind term message a = record { grown = asked_grown m.store.held k.held kind term message a.asked; hooks = a.hooks }
+
 -- whether the exception is reported is told of the exception without the variable
 told_here : (m : Machine) (k : Kept CellName) (goal : Goal CellName) (kind : BuiltIn) (term message : Cell CellName) (u : Machine) (told : Bool) → Asks m k goal kind term message → Tells goal.shoen message (record m { store = k }) u told →
     (f : Reading) → Reads built f → (s : State) → is_reported goal.shoen (exception (text_of kind) (meaning f m.store.held term)) (worked f s m.store.held (made m)) ≡ told
@@ -208,7 +212,7 @@ raised_asked m k goal kind term message u z a tells puts =
     let new : Reading → State → State = λ f s. record s { last_variable = suc s.last_variable } in
     let says : Reading → State → State = λ f. report goal.shoen (meaning f k.held message) in
     let stands : Reading → State → State = λ f. replaced_by (goal_with (meaning f l) goal) (task_with (meaning f l) task) in
-    let r = reports_since m k u (asked_grown h k.held kind term message a.asked) a.hooks tells.reports in
+    let r = reports_since m k u (asks_grows m k goal kind term message a) tells.reports in
     let last : u.counts.last_goal ≡ m.counts.last_goal = ap (λ (y : Machine). y.counts.last_goal) r.rest in
     let goals : u.goals.goals ≡ m.goals.goals = ap (λ (y : Machine). y.goals.goals) r.rest in
     subst Z (sym puts.is)
@@ -262,14 +266,6 @@ raised_unasked m k goal kind term message u b a tells held hooks =
     let F : Machine → Type 0 = λ y. KeepsLives m.shoens.shoens y.shoens.shoens in
     record { machine = machine; grown = subst G (sym held) (Grown-same h); hooks = hooks; lives = subst F is tells.reports.lives; count = subst K is tells.reports.count; rest = refl }) in
     subst A (sym is) (record { turns = turns; acts = acts_reported m v r; counts = refl })
-
--- a store after a new variable and an exception with it, for a goal of a machine
-pub asks_since : (m : Machine) (n k : Kept CellName) (goal : Goal CellName) (kind : BuiltIn) (term message : Cell CellName) (v : ℕ) → IsMachine m → (has_substitutes m.rules ≡ true) × IsOwned (length m.shoens.shoens) goal → IsFormed m.store.held → IsIn m.store.held term → (v ≡ m.store.held.variables) × (n.held ≡ with_variable m.store.held) →
-    k.hooks ≡ m.store.hooks → Grown n.held k.held → IsExceptionWith built n.held k.held kind term (Variable v) message → Asks m k goal kind term message
-asks_since m n k goal kind term message v i own formed inside fresh hooks grown e = record { machine = i; two = own.0; owned = own.1; asked = asked m.store.held n.held k.held kind term message v formed inside fresh grown e; hooks = hooks }
-
-pub asks_grown : (m : Machine) (k : Kept CellName) (goal : Goal CellName) (kind : BuiltIn) (term message : Cell CellName) → Asks m k goal kind term message → Grown m.store.held k.held
-asks_grown m k goal kind term message a = asked_grown m.store.held k.held kind term message a.asked
 
 -- the new variable is a task's, and the goal's shoen is still there
 pub asks_task : (m : Machine) (k : Kept CellName) (goal : Goal CellName) (kind : BuiltIn) (term message : Cell CellName) (u : Machine) (told : Bool) (v : ℕ) → Asks m k goal kind term message → Tells goal.shoen message (record m { store = k }) u told → v ≡ m.store.held.variables → IsIn u.store.held (Variable v)

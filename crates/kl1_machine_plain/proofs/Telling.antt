@@ -1,15 +1,14 @@
 -- What a report leaves of a machine.
-use Rattle.std.proofs.Common.{◌≡◌, ℕ, suc, ◌+◌, not, ◌&&◌, ◌||◌, Bool, true, false, if◌then◌else◌, List, length, refl, sym, ap, ◌∙◌, arith, subst}
+use Rattle.std.proofs.Common.{◌≡◌, ℕ, suc, ◌+◌, not, ◌&&◌, ◌||◌, Bool, true, false, if◌then◌else◌, List, [], length, refl, sym, ap, ◌∙◌, arith, subst}
 use Rattle.std.specs.Prelude.{find, Option, Some, None, is_some, option_map}
 use Rattle.kl1_model.specs.Term.{Term, variable, integer, atom, structure, occurs}
 use Rattle.kl1_model.specs.State as model
 use Rattle.kl1_model.specs.State.{State}
-use Rattle.kl1_model.specs.Report.{is_reported}
+use Rattle.kl1_model.specs.Report.{report, is_reported}
 use Rattle.kl1_model.specs.code.Steps.{is_reported_at, is_reported_of}
 use Rattle.kl1_text.specs.Reading.{Reads}
 use Rattle.kl1_text.specs.declared.cell_name.CellName.{CellName}
 use Rattle.kl1_store.specs.declared.cell.Cell.{Cell}
-use Rattle.kl1_store.specs.Sound.{Grown}
 use Rattle.kl1_store.specs.Hooks.{Kept}
 use Rattle.kl1_store.proofs.Grows.{Grown-same}
 use Rattle.kl1_stream.specs.declared.told.Told.{Told}
@@ -17,19 +16,21 @@ use Rattle.kl1_stream.specs.declared.told.Told.TheVariants.{Dropped, Broken, Sen
 use Rattle.kl1_stream.specs.Reports.{Breaks, ToldAs}
 use Rattle.kl1_shoen_paths.specs.declared.shoen.Shoen.{Shoen}
 use Rattle.kl1_shoen.specs.Shoens.{Tree, has_number, changed}
+use Rattle.kl1_codes.specs.Numbered.{Numbered}
 use Rattle.kl1_user_effects.specs.Fitting.{Reading, built}
 use Rattle.kl1_user_effects.specs.Account.{meaning, shoen_with}
 use Rattle.kl1_user_effects.specs.Frames.{bare}
 use Rattle.kl1_user_effects.specs.Reports.{unheard}
-use Rattle.kl1_user_effects.specs.Works.{worked}
+use Rattle.kl1_user_effects.specs.Works.{worked, Turns}
 use Rattle.kl1_user_effects.proofs.States.{found_in, changed_count}
 use Rattle.kl1_user_effects.proofs.Frames.{keeps_same, keeps_changed}
-use Rattle.kl1_user_effects.proofs.Works.{torn, tailed, last_made, report_turns, no_report_turns}
+use Rattle.kl1_user_effects.proofs.Works.{torn, tailed, last_made, after_report, report_turns, no_report_turns}
 use Rattle.kl1_user_effects.proofs.LateFree.{same_free, sent_free}
 use Rattle.kl1_machine_plain.specs.declared.counts.Counts.{Counts}
 use Rattle.kl1_machine_plain.specs.declared.machine.Machine.{Machine}
 use Rattle.kl1_machine_plain.specs.Machines.{made, IsMachine}
 use Rattle.kl1_machine_plain.specs.Effects.{Tells}
+use Rattle.kl1_machine_plain.proofs.Keeping.{Grows}
 
 -- ---- whether a report is made
 
@@ -54,8 +55,7 @@ is_sent (Sent next) = true
 pub record Hears (m : Machine) (k : Kept CellName) (n : ℕ) (x : Cell CellName) (sh : Shoen CellName) (told : Told) : Type 0 where
   pub machine : IsMachine m
   pub found : find (has_number n) m.shoens.shoens ≡ Some sh
-  pub grown : Grown m.store.held k.held
-  pub hooks : k.hooks ≡ m.store.hooks
+  pub grows : Grows m k
   pub told_as : ToldAs built m.store.held k.held sh.tail sh.is_broken (last_made m.rules m.counts.reports) x told
 
 told_as : (m : Machine) (k : Kept CellName) (n : ℕ) (x : Cell CellName) (sh : Shoen CellName) (told : Told) → Hears m k n x sh told → (f : Reading) → Reads built f → (s : State) → is_reported n (meaning f m.store.held x) (worked f s m.store.held (made m)) ≡ is_sent told
@@ -99,30 +99,31 @@ unheard_same n t sh e broken = ap (λ b. if b then t.shoens else changed n torn 
 abbrev with_shoens : Machine → Kept CellName → List (Shoen CellName) → Machine
 with_shoens m k ss = record m { store = k; shoens = record m.shoens { shoens = ss } }
 
+heard_turns : (m : Machine) (k : Kept CellName) (n : ℕ) (x : Cell CellName) (sh : Shoen CellName) (told : Told) → Hears m k n x sh told → (ms : List Numbered) → Turns ms (λ f. report n (meaning f m.store.held x)) m.store.held k.held (made m) (after_report n (made m) told)
+heard_turns m k n x sh told a ms = report_turns ms m.store.held k.held (made m) n sh x told a.grows.grown a.machine.inside a.found a.told_as
+
 pub tells : (m : Machine) (k : Kept CellName) (n : ℕ) (x : Cell CellName) (sh : Shoen CellName) (told : Told) → Hears m k n x sh told → Tells n x m (told_machine m k n told) (is_sent told)
 tells m k n x sh Dropped a =
     let d = a.told_as in
-    let turns = λ ms. report_turns ms m.store.held k.held (made m) n sh x Dropped a.grown a.machine.inside a.found d in
     record {
-      turns = turns;
+      turns = heard_turns m k n x sh Dropped a;
       told_is = told_as m k n x sh Dropped a;
       dropped = λ b. ap (with_shoens m k) (unheard_same n m.shoens sh a.found d.0);
       keeps = same_free m.store.held k.held m.shoens.shoens n d.1;
-      reports = record { machine = record { inside = (turns []).inside; last = a.machine.last; known = a.machine.known }; grown = a.grown; hooks = a.hooks; lives = keeps_same bare m.shoens.shoens; count = refl; rest = refl };
+      reports = record { machine = record { inside = (heard_turns m k n x sh Dropped a []).inside; last = a.machine.last; known = a.machine.known }; grown = a.grows.grown; hooks = a.grows.hooks; lives = keeps_same bare m.shoens.shoens; count = refl; rest = refl };
     }
 tells m k n x sh Broken a =
     let d = a.told_as in
-    let turns = λ ms. report_turns ms m.store.held k.held (made m) n sh x Broken a.grown a.machine.inside a.found d in
     let count = changed_count n torn m.shoens.shoens in
     record {
-      turns = turns;
+      turns = heard_turns m k n x sh Broken a;
       told_is = told_as m k n x sh Broken a;
       dropped = λ b. ap (with_shoens m k) (unheard_torn n m.shoens sh a.found d.whole);
       keeps = same_free m.store.held k.held m.shoens.shoens n d.same;
       reports = record {
-        machine = record { inside = (turns []).inside; last = a.machine.last; known = a.machine.known ∙ sym count };
-        grown = a.grown;
-        hooks = a.hooks;
+        machine = record { inside = (heard_turns m k n x sh Broken a []).inside; last = a.machine.last; known = a.machine.known ∙ sym count };
+        grown = a.grows.grown;
+        hooks = a.grows.hooks;
         lives = keeps_changed bare torn n m.shoens.shoens (λ h. refl);
         count = count;
         rest = refl;
@@ -130,17 +131,16 @@ tells m k n x sh Broken a =
     }
 tells m k n x sh (Sent next) a =
     let d = a.told_as in
-    let turns = λ ms. report_turns ms m.store.held k.held (made m) n sh x (Sent next) a.grown a.machine.inside a.found d in
     let count = changed_count n (tailed next) m.shoens.shoens in
     record {
-      turns = turns;
+      turns = heard_turns m k n x sh (Sent next) a;
       told_is = told_as m k n x sh (Sent next) a;
       dropped = λ b. absurd (cc);
       keeps = sent_free m.store.held k.held m.shoens.shoens n sh (last_made m.rules m.counts.reports) x next a.found d;
       reports = record {
-        machine = record { inside = (turns []).inside; last = a.machine.last; known = a.machine.known ∙ sym count };
-        grown = a.grown;
-        hooks = a.hooks;
+        machine = record { inside = (heard_turns m k n x sh (Sent next) a []).inside; last = a.machine.last; known = a.machine.known ∙ sym count };
+        grown = a.grows.grown;
+        hooks = a.grows.hooks;
         lives = keeps_changed bare (tailed next) n m.shoens.shoens (λ h. refl);
         count = count;
         rest = refl;

@@ -1,11 +1,12 @@
 // One machine: an account's parts. Each part that goes back keeps what was when the event began.
 
+mod beginning;
 mod committing;
 mod reporting;
 
 use crate::counts::Counts;
 use kl1_goals::Rules;
-use kl1_machine_parts::GoalRow;
+use kl1_machine_row::GoalRow;
 use kl1_shoen::ShoenTree;
 use kl1_store::{Point, Store};
 use kl1_text::{AtomText, CellName};

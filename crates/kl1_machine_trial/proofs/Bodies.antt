@@ -1,6 +1,7 @@
 -- Goals that come after the others, and bodies.
-use Rattle.std.proofs.Common.{◌≡◌, ℕ, suc, ◌+◌, ◌-◌, ◌<◌, ◌≤◌, ◌&&◌, not, Bool, true, false, List, [], ◌∷◌, ◌++◌, length, map, refl, sym, ap, ◌∙◌, arith, subst, append-nil, append_assoc, length-map}
+use Rattle.std.proofs.Common.{◌≡◌, ℕ, suc, ◌+◌, ◌-◌, ◌<◌, ◌≤◌, ◌&&◌, not, Bool, true, false, List, [], ◌∷◌, ◌++◌, length, map, refl, sym, ap, ◌∙◌, arith, subst, append-nil, append_assoc}
 use Rattle.std.specs.Prelude.{find, nat_le, count_by, Option, Some, option_map, unwrap_or}
+use Rattle.std.proofs.lemmas.List.{length-map}
 use Rattle.std.specs.List.{AllByRecursion, list_any}
 use Rattle.kl1_model.specs.Module.{goals_of}
 use Rattle.kl1_model.specs.Match.{Candidate}

@@ -1,6 +1,7 @@
 -- What a report leaves of a machine's fields.
-use Rattle.std.proofs.Common.{◌≡◌, ℕ, suc, not, ◌&&◌, ◌||◌, Bool, true, false, if◌then◌else◌, List, length, refl, sym, ap, ◌∙◌, subst, length-map}
+use Rattle.std.proofs.Common.{◌≡◌, ℕ, suc, not, ◌&&◌, ◌||◌, Bool, true, false, if◌then◌else◌, List, length, refl, sym, ap, ◌∙◌, subst}
 use Rattle.std.specs.Prelude.{find, Option, Some, None, is_some, option_map}
+use Rattle.std.proofs.lemmas.List.{length-map}
 use Rattle.kl1_model.specs.Term.{Term, variable, integer, atom, structure, occurs}
 use Rattle.kl1_model.specs.State as model
 use Rattle.kl1_model.specs.State.{State}

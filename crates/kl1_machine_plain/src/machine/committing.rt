@@ -19,7 +19,7 @@ use crate::machine::Machine;
 use kl1_clause::Predicate;
 use kl1_goals::{Goal, Task};
 use kl1_goals_moves::{Needs, Trial, commit as put_body, needs_of, priorities_of};
-use kl1_machine_parts::priority_in;
+use kl1_machine_row::priority_in;
 use kl1_model::BuiltIn;
 use kl1_shoen::Shoen;
 use kl1_store::Qualified;

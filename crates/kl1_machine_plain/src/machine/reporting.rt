@@ -16,7 +16,7 @@ ghost use Rattle.kl1_machine_plain.specs.Effects.{Tells, ReportsAs, ActsAs, Puts
 
 use crate::machine::Machine;
 use kl1_goals::{Goal, Task};
-use kl1_machine_parts::{keep_at_times, whole};
+use kl1_machine_row::{keep_at_times, whole};
 use kl1_model::BuiltIn;
 use kl1_store::{Cell, Qualified};
 use kl1_stream::{Told, append_report, exception_of, exception_with};

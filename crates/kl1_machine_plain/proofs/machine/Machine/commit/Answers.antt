@@ -19,7 +19,7 @@ unreachable-requires c =
     never_absent 0 c.args.goal.shoen c.args.self.now.shoens.shoens c.len-numbered.ensures.numbered low (omega (arith, high)) (sym c.lend.ensures.value ∙ (sym c.copied.ensures ∙ c.in_default.is))
 
 pub put_each-requires-clause-machine : goal.put_each-requires-clause-machine
-put_each-requires-clause-machine c = grown_machine c.args.self.now c.commit.new.store c.in_ok-commit.ensures.grown c.requires.machine
+put_each-requires-clause-machine c = grown_machine c.args.self.now c.commit.new.store (record { grown = c.in_ok-commit.ensures.grown; hooks = c.in_ok-commit.ensures.hooks }) c.requires.machine
 
 pub returns-then-not-has_room-clause-ok : goal.returns-then-not-has_room-clause-ok
 returns-then-not-has_room-clause-ok c =
@@ -44,8 +44,7 @@ returns-clause-ok c =
       number = c.in-Some.ensures.number;
       needs = c.needs_of-needs.ensures;
       room = sym c.has_room.ensures ∙ c.if-not-has_room.false;
-      grown = e.grown;
-      hooks = e.hooks;
+      grows = record { grown = e.grown; hooks = e.hooks };
       inside = e.inside;
       priorities = c.priorities_of.ensures;
       body = e.goals;
@@ -56,12 +55,12 @@ pub returns-clause-keeps : goal.returns-clause-keeps
 returns-clause-keeps c =
     let m = c.args.self.now in
     let e = c.in_ok-commit.ensures in
-    needs_keep c.needs_of-needs.result m c.put_each.new.self (keeps_then m _ _ (keeps_store m c.commit.new.store e.grown e.hooks) c.in_ok-put_each.ensures.keeps)
+    needs_keep c.needs_of-needs.result m c.put_each.new.self (keeps_then m _ _ (keeps_store m c.commit.new.store (record { grown = e.grown; hooks = e.hooks })) c.in_ok-put_each.ensures.keeps)
 
 -- ---- if memory is refused
 
 pub returns-in_err-commit-clause-keeps : goal.returns-in_err-commit-clause-keeps
-returns-in_err-commit-clause-keeps c = keeps_store c.args.self.now c.commit.new.store c.commit.ensures.grown c.commit.ensures.hooks
+returns-in_err-commit-clause-keeps c = keeps_store c.args.self.now c.commit.new.store (record { grown = c.commit.ensures.grown; hooks = c.commit.ensures.hooks })
 
 pub returns-in_err-put_each-clause-keeps : goal.returns-in_err-put_each-clause-keeps
-returns-in_err-put_each-clause-keeps c = let e = c.in_ok-commit.ensures in keeps_then c.args.self.now _ _ (keeps_store c.args.self.now c.commit.new.store e.grown e.hooks) c.put_each.ensures.keeps
+returns-in_err-put_each-clause-keeps c = let e = c.in_ok-commit.ensures in keeps_then c.args.self.now _ _ (keeps_store c.args.self.now c.commit.new.store (record { grown = e.grown; hooks = e.hooks })) c.put_each.ensures.keeps

@@ -32,13 +32,13 @@ pub returns-in-Dropped-clause-ok : goal.returns-in-Dropped-clause-ok
 returns-in-Dropped-clause-ok c =
     let a = c.in_ok-append_report.ensures in
     tells c.args.self.now c.append_report.new.store c.args.number c.args.message c.in-Some.shoen Dropped
-    (record { machine = c.requires.machine; found = sym c.lend.ensures.value ∙ (sym c.copied.ensures ∙ c.in-Some.is); grown = a.grown; hooks = a.hooks; told_as = rw c.limits.ensures.value at (rw c.in-Dropped.is at a.told) })
+    (record { machine = c.requires.machine; found = sym c.lend.ensures.value ∙ (sym c.copied.ensures ∙ c.in-Some.is); grows = record { grown = a.grown; hooks = a.hooks }; told_as = rw c.limits.ensures.value at (rw c.in-Dropped.is at a.told) })
 
 pub returns-in_ok-break_stream-in-Broken-clause-ok : goal.returns-in_ok-break_stream-in-Broken-clause-ok
 returns-in_ok-break_stream-in-Broken-clause-ok c =
     let a = c.in_ok-append_report.ensures in
     tells_by c.args.self.now c.append_report.new.store c.args.number c.args.message c.in-Some.shoen Broken c.break_stream.new.self c.in_ok-break_stream-in-Broken.ensures.ok
-    (record { machine = c.requires.machine; found = sym c.lend.ensures.value ∙ (sym c.copied.ensures ∙ c.in-Some.is); grown = a.grown; hooks = a.hooks; told_as = rw c.limits.ensures.value at (rw c.in-Broken.is at a.told) })
+    (record { machine = c.requires.machine; found = sym c.lend.ensures.value ∙ (sym c.copied.ensures ∙ c.in-Some.is); grows = record { grown = a.grown; hooks = a.hooks }; told_as = rw c.limits.ensures.value at (rw c.in-Broken.is at a.told) })
 
 pub returns-in_ok-set_tail-in-Sent-clause-ok : goal.returns-in_ok-set_tail-in-Sent-clause-ok
 returns-in_ok-set_tail-in-Sent-clause-ok c =
@@ -58,8 +58,7 @@ returns-in_ok-set_tail-in-Sent-clause-ok c =
     (record {
       machine = c.requires.machine;
       found = sym c.lend.ensures.value ∙ (sym c.copied.ensures ∙ c.in-Some.is);
-      grown = subst G held a.grown;
-      hooks = c.keep_at_times.ensures.hooks ∙ a.hooks;
+      grows = record { grown = subst G held a.grown; hooks = c.keep_at_times.ensures.hooks ∙ a.hooks };
       told_as = subst D held (rw c.limits.ensures.value at (rw c.in-Sent.is at a.told));
     }))
 
@@ -69,7 +68,7 @@ pub returns-in_default-clause-keeps : goal.returns-in_default-clause-keeps
 returns-in_default-clause-keeps c = keeps_same c.args.self.now
 
 pub returns-in-Dropped-clause-keeps : goal.returns-in-Dropped-clause-keeps
-returns-in-Dropped-clause-keeps c = keeps_store c.args.self.now c.append_report.new.store c.in_ok-append_report.ensures.grown c.in_ok-append_report.ensures.hooks
+returns-in-Dropped-clause-keeps c = keeps_store c.args.self.now c.append_report.new.store (record { grown = c.in_ok-append_report.ensures.grown; hooks = c.in_ok-append_report.ensures.hooks })
 
 pub returns-in_err-append_report-clause-keeps : goal.returns-in_err-append_report-clause-keeps
-returns-in_err-append_report-clause-keeps c = keeps_store c.args.self.now c.append_report.new.store c.append_report.ensures.grown c.append_report.ensures.hooks
+returns-in_err-append_report-clause-keeps c = keeps_store c.args.self.now c.append_report.new.store (record { grown = c.append_report.ensures.grown; hooks = c.append_report.ensures.hooks })
