@@ -1,8 +1,9 @@
-use Rattle.std.proofs.Common.{◌≡◌, ◌+◌, List, sym, ◌∙◌, arith, subst}
+use Rattle.std.proofs.Common.{◌≡◌, List, sym, ◌∙◌, arith, subst}
 use Rattle.std.specs.Prelude.{Some}
 use Rattle.std.proofs.lemmas.Result.{on_ok_weaker}
 use Rattle.kl1_text.specs.declared.cell_name.CellName.{CellName}
 use Rattle.kl1_store.specs.declared.qualified.Qualified.{Qualified}
+use Rattle.kl1_store.specs.InModules.{AreQualifiedIn}
 use Rattle.kl1_goals_moves.specs.Moves.{taken_places}
 use Rattle.kl1_user_effects.specs.Moving.{priorities_by}
 use Rattle.kl1_user_effects.proofs.TreesIn.{never_absent}
@@ -20,6 +21,25 @@ unreachable-requires c =
 
 pub put_each-requires-clause-machine : goal.put_each-requires-clause-machine
 put_each-requires-clause-machine c = grown_machine c.args.self.now c.commit.new.store (record { grown = c.in_ok-commit.ensures.grown; hooks = c.in_ok-commit.ensures.hooks }) c.requires.machine
+
+pub put_each-requires-clause-low : goal.put_each-requires-clause-low
+put_each-requires-clause-low c = let number = c.in-Some.ensures.number in let low = c.requires.owned.low in omega (arith, number, low)
+
+pub put_each-requires-clause-high : goal.put_each-requires-clause-high
+put_each-requires-clause-high c = let number = c.in-Some.ensures.number in let high = c.requires.owned.high in omega (arith, number, high)
+
+pub put_each-requires-clause-least : goal.put_each-requires-clause-least
+put_each-requires-clause-least c =
+    let m = c.args.self.now in
+    (found_shoen_in m.store.held c.args.goal.shoen m.shoens.shoens c.in-Some.shoen c.requires.machine.inside.shoens (sym c.lend.ensures.value ∙ (sym c.copied.ensures ∙ c.in-Some.is))).low
+
+pub put_each-requires-clause-most : goal.put_each-requires-clause-most
+put_each-requires-clause-most c =
+    let m = c.args.self.now in
+    (found_shoen_in m.store.held c.args.goal.shoen m.shoens.shoens c.in-Some.shoen c.requires.machine.inside.shoens (sym c.lend.ensures.value ∙ (sym c.copied.ensures ∙ c.in-Some.is))).high
+
+pub put_each-requires-clause-cells : goal.put_each-requires-clause-cells
+put_each-requires-clause-cells c = let G : List (Qualified CellName) → Type 0 = λ xs. AreQualifiedIn c.commit.new.store.held xs in subst G (sym c.deref.ensures.value) c.in_ok-commit.ensures.inside
 
 pub returns-then-not-has_room-clause-ok : goal.returns-then-not-has_room-clause-ok
 returns-then-not-has_room-clause-ok c =

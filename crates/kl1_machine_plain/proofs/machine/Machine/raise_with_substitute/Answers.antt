@@ -149,3 +149,6 @@ returns-in_err-tell-clause-keeps c =
     let fresh = c.in_ok-fresh.ensures in
     let g : Grows m k = record { grown = Grown-trans h n k.held (next_grown h n _ fresh.ok) e.grown; hooks = e.hooks ∙ fresh.hooks } in
     keeps_then m (record m { store = k }) c.tell.new.self (keeps_store m k g) c.tell.ensures.keeps
+
+pub put-requires-clause-monitor : goal.put-requires-clause-monitor
+put-requires-clause-monitor c = λ b. absurd (cc)
