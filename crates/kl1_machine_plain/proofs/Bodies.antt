@@ -60,8 +60,8 @@ none_more m =
     ap (λ gs. with_row gs m.counts.last_goal m) (sym (append-nil m.goals.goals)) ∙ ap (λ n. with_row (m.goals.goals ++ []) n m) e
 
 goals_are : (shoen : ℕ) (ps : List ℕ) (xs : List (Qualified CellName)) (m : Machine) → with_goals shoen ps xs m ≡ with_come shoen ps xs m
-goals_are shoen [] xs m = none_more m
-goals_are shoen (p ∷ ps) [] m = none_more m
+goals_are shoen ps [] m = none_more m
+goals_are shoen [] (x ∷ xs) m = none_more m
 goals_are shoen (p ∷ ps) (x ∷ xs) m =
     let g = goal_at (suc m.counts.last_goal) shoen p (Reduces x) in
     let more = goals_for (suc m.counts.last_goal) shoen ps xs in
@@ -77,8 +77,8 @@ as_many last shoen (p ∷ ps) [] e = refl
 as_many last shoen (p ∷ ps) (x ∷ xs) e = ap suc (as_many (suc last) shoen ps xs (omega (arith, e)))
 
 no_monitors : (all : List (Goal CellName)) (last shoen : ℕ) (ps : List ℕ) (xs : List (Qualified CellName)) → AllByRecursion (λ g. is_monitor g ≡ true → list_any (is_goal_of g.shoen) all ≡ true) (goals_for last shoen ps xs)
-no_monitors all last shoen [] xs = tt
-no_monitors all last shoen (p ∷ ps) [] = tt
+no_monitors all last shoen ps [] = tt
+no_monitors all last shoen [] (x ∷ xs) = tt
 no_monitors all last shoen (p ∷ ps) (x ∷ xs) = (λ b. absurd (cc), no_monitors all (suc last) shoen ps xs)
 
 -- ---- whether there is room

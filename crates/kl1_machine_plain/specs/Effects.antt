@@ -40,8 +40,8 @@ with_goal g m = record m { goals = record m.goals { goals = m.goals.goals ++ g �
 
 -- goals more for these cells, each with its priority
 abbrev pub with_goals : ℕ → List ℕ → List (Qualified CellName) → Machine → Machine
-with_goals shoen [] xs m = m
-with_goals shoen (p ∷ ps) [] m = m
+with_goals shoen ps [] m = m
+with_goals shoen [] (x ∷ xs) m = m
 with_goals shoen (p ∷ ps) (x ∷ xs) m = with_goals shoen ps xs (with_goal (goal_at (suc m.counts.last_goal) shoen p (Reduces x)) m)
 
 -- a machine has come on by this change of states
