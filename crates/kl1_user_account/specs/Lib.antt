@@ -2,6 +2,7 @@ pub mod Waking
 pub mod Keeping
 pub mod Accounts
 pub mod Looking
+pub mod Serving
 pub mod Tops
 pub mod Loadings
 pub mod Reducing

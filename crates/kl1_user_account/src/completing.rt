@@ -2,19 +2,18 @@
 
 ghost use Rattle.std.specs.Prelude.{◌≡◌, ◌+◌, ◌≤◌, ◌++◌, true, [], length, drop, OnOk};
 ghost use Rattle.kl1_store.specs.Hooks.{HasGrown, told_by};
-ghost use Rattle.kl1_clause.specs.Predicates.{AreSome};
 ghost use Rattle.kl1_user_effects.specs.Kept.{AreGoalsIn, AreShoensIn};
 ghost use Rattle.kl1_user_effects.specs.Drafts.{goals_left};
 ghost use Rattle.kl1_user_effects.specs.Installing.{AreNext};
-ghost use Rattle.kl1_user_account.specs.Looking.{Serves, WakesTold};
+ghost use Rattle.kl1_user_account.specs.Looking.{WakesTold};
 ghost use Rattle.kl1_shoen.specs.Shoens.{is_enabled_at};
 ghost use Rattle.kl1_user_account.specs.Finishing.{LooksAgain, ShiftsFor, LetsStill, Finishes};
 
+use crate::clauses::Clauses;
 use crate::looking::{wake_added, wake_told};
-use kl1_clause::Predicate;
-use kl1_codes::{CodeSource, CodedModules};
+use kl1_codes::CodeSource;
 use kl1_goals::GoalTable;
-use kl1_goals_moves::{Kind, Trial};
+use kl1_goals_moves::Trial;
 use kl1_shoen::ShoenTree;
 use kl1_store::{Point, Store};
 use kl1_text::CellName;
@@ -26,9 +25,7 @@ fn wake_any<C: CodeSource>(
     store: &mut Store<CellName>,
     goals: &GoalTable<CellName>,
     shoens: &ShoenTree<CellName>,
-    modules: &CodedModules<'_, C>,
-    known: &Kind<CellName>,
-    predicate: &Predicate<'_, CellName>,
+    clauses: &Clauses<'_, C>,
     trial: &mut Trial<CellName>,
     removed: u64,
     told: &mut Vec<u64>,
@@ -36,9 +33,7 @@ fn wake_any<C: CodeSource>(
 ) -> Result<(), AllocError>
     requires goals { AreGoalsIn store.old.held goals.now.goals }
     requires shoens { AreShoensIn store.old.held shoens.now.shoens }
-    requires some { AreSome predicate.now.names.now predicate.now.clauses.now }
-    requires serves { Serves modules.now.loaded known.now predicate.now }
-    ensures wakes { OnOk result (WakesTold modules.now shoens.now.shoens store.old.held store.old.hooks store.new.hooks goals.now.goals removed told.old.items changes.old.items changes.new.items) }
+    ensures wakes { OnOk result (WakesTold clauses.now.program shoens.now.shoens store.old.held store.old.hooks store.new.hooks goals.now.goals removed told.old.items changes.old.items changes.new.items) }
     ensures held { store.new.held ≡ store.old.held }
     ensures grown { HasGrown store.old store.new }
 {
@@ -46,7 +41,7 @@ fn wake_any<C: CodeSource>(
         return Ok(());
     }
     wake_told(
-        store, goals, shoens, modules, known, predicate, trial, removed, told, changes,
+        store, goals, shoens, clauses, trial, removed, told, changes,
     )
 }
 
@@ -62,15 +57,12 @@ fn tell_bound(store: &Store<CellName>, since: Point, told: &mut Vec<u64>) -> Res
     store.tell(since, told)
 }
 
-/// Looks at the goals that were told of bindings since a mark, and at those that come. The predicate of goals of one kind is
-/// known, and that shoen `letting` lets its goals step.
+/// Looks at the goals that were told of bindings since a mark, and at those that come. Shoen `letting` is known to let its goals step.
 fn look_again<C: CodeSource>(
     store: &mut Store<CellName>,
     goals: &GoalTable<CellName>,
     shoens: &ShoenTree<CellName>,
-    modules: &CodedModules<'_, C>,
-    known: &Kind<CellName>,
-    predicate: &Predicate<'_, CellName>,
+    clauses: &Clauses<'_, C>,
     trial: &mut Trial<CellName>,
     draft: &mut Draft,
     mark: Point,
@@ -79,11 +71,9 @@ fn look_again<C: CodeSource>(
     requires goals { AreGoalsIn store.old.held goals.now.goals }
     requires added { AreGoalsIn store.old.held draft.old.added.items }
     requires shoens { AreShoensIn store.old.held shoens.now.shoens }
-    requires some { AreSome predicate.now.names.now predicate.now.clauses.now }
-    requires serves { Serves modules.now.loaded known.now predicate.now }
     requires lets { is_enabled_at shoens.now.shoens shoens.now.work letting ≡ true }
     requires changes { draft.old.changes.items ≡ [] }
-    ensures looks { OnOk result (LooksAgain modules.now mark store.old store.new shoens.now goals.now.goals draft.old draft.new) }
+    ensures looks { OnOk result (LooksAgain clauses.now.program mark store.old store.new shoens.now goals.now.goals draft.old draft.new) }
     ensures rest { OnOk result (draft.new ≡ record draft.old { changes = draft.new.changes; told = draft.new.told; added = draft.new.added }) }
     ensures held { store.new.held ≡ store.old.held }
     ensures grown { HasGrown store.old store.new }
@@ -95,9 +85,7 @@ fn look_again<C: CodeSource>(
         store,
         goals,
         shoens,
-        modules,
-        known,
-        predicate,
+        clauses,
         trial,
         draft.removed,
         &mut draft.told,
@@ -106,9 +94,7 @@ fn look_again<C: CodeSource>(
     wake_added(
         store,
         shoens,
-        modules,
-        known,
-        predicate,
+        clauses,
         trial,
         letting,
         &mut draft.added,
@@ -155,16 +141,13 @@ fn still_lets(shoens: &ShoenTree<CellName>, draft: &Draft, walk: &Walk, running:
 }
 
 /// Finishes a draft of what was done since a mark: looks at the goals that are to be looked at, finds which shoens let or hold back their
-/// goals other than before if any may, and makes room for what comes. The predicate of goals of one kind is known, and shoen `running` let
-/// its goals step before. If memory is refused, the store may have grown.
+/// goals other than before if any may, and makes room for what comes. Shoen `running` let its goals step before. If memory is refused, the store may have grown.
 #[inline(always)]
 pub(crate) fn finish<C: CodeSource>(
     store: &mut Store<CellName>,
     goals: &mut GoalTable<CellName>,
     shoens: &ShoenTree<CellName>,
-    modules: &CodedModules<'_, C>,
-    known: &Kind<CellName>,
-    predicate: &Predicate<'_, CellName>,
+    clauses: &Clauses<'_, C>,
     trial: &mut Trial<CellName>,
     draft: &mut Draft,
     walk: &Walk,
@@ -174,15 +157,13 @@ pub(crate) fn finish<C: CodeSource>(
     requires goals { AreGoalsIn store.old.held goals.old.goals }
     requires added { AreGoalsIn store.old.held draft.old.added.items }
     requires shoens { AreShoensIn store.old.held shoens.now.shoens }
-    requires some { AreSome predicate.now.names.now predicate.now.clauses.now }
-    requires serves { Serves modules.now.loaded known.now predicate.now }
     requires lets { LetsStill shoens.now walk.now.reached.items running draft.old }
     requires changes { draft.old.changes.items ≡ [] }
     requires next { AreNext goals.old.goals (length shoens.now.shoens) draft.old.added.items }
     requires stay { goals_left draft.old.added.items draft.old ≡ draft.old.added.items }
     requires known_shoens { goals.old.shoens ≤ length shoens.now.shoens }
     requires one_opens { length shoens.now.shoens ≤ goals.old.shoens + 1 }
-    ensures finishes { OnOk result (Finishes modules.now mark store.old store.new shoens.now goals.old.goals goals.new walk.now.reached.items draft.old draft.new) }
+    ensures finishes { OnOk result (Finishes clauses.now.program mark store.old store.new shoens.now goals.old.goals goals.new walk.now.reached.items draft.old draft.new) }
     ensures held { store.new.held ≡ store.old.held }
     ensures grown { HasGrown store.old store.new }
     ensures goals { goals.new.goals ≡ goals.old.goals }
@@ -192,7 +173,7 @@ pub(crate) fn finish<C: CodeSource>(
     let _numbered = shoens.len();
     let letting = still_lets(shoens, draft, walk, running);
     look_again(
-        store, goals, shoens, modules, known, predicate, trial, draft, mark, letting,
+        store, goals, shoens, clauses, trial, draft, mark, letting,
     )?;
     find_shifts(shoens, draft, walk)?;
     goals.reserve(draft.added.len(), 1)

@@ -10,7 +10,7 @@ ghost use Rattle.kl1_match.specs.Waiting.{AreUnbound};
 ghost use Rattle.kl1_match.specs.GoalCells.{goal_variables};
 ghost use Rattle.kl1_user_account.specs.Starting.{Judges, IsDrafted};
 
-use crate::looking::predicate_of;
+use crate::clauses::predicate_of;
 use crate::opening::{Opening, open_streams};
 use kl1_clause::Instruction;
 use kl1_codes::{CodeSource, CodedModules};

@@ -6,6 +6,7 @@ mod account_name;
 mod answerable;
 mod answering;
 mod asking;
+mod clauses;
 mod completing;
 mod counted;
 mod exchange;

@@ -2,30 +2,24 @@
 
 ghost use Rattle.std.specs.Prelude.{◌≡◌, ◌||◌, ℕ, true, List, IfOk, OnOk};
 ghost use Rattle.std.specs.List.Sorted.{IsPermutation, IsNonDecreasing};
-ghost use Rattle.kl1_model.specs.Term.{Term};
 ghost use Rattle.kl1_text.specs.declared.cell_name.CellName.{CellName};
-ghost use Rattle.kl1_store.specs.Held.{Held, IsIn};
+ghost use Rattle.kl1_store.specs.Held.{IsIn};
 ghost use Rattle.kl1_store.specs.Hooks.{HasGrown};
 ghost use Rattle.kl1_clause.specs.Predicates.{AreSome};
-ghost use Rattle.kl1_goals_moves.specs.Kinds.{IsKind, KindIn};
-ghost use Rattle.kl1_goals_moves.specs.Moves.{HasPredicate};
+ghost use Rattle.kl1_goals_moves.specs.Kinds.{KindIn};
 ghost use Rattle.kl1_goals.specs.declared.task.Task.TheVariants.{Monitor, Reduces, Substitutes};
 ghost use Rattle.kl1_goals.specs.Lists.{is_monitor};
 ghost use Rattle.kl1_shoen.specs.Shoens.{is_enabled_at};
 ghost use Rattle.kl1_shoen_paths.specs.declared.shoen.Shoen.{Shoen};
-ghost use Rattle.kl1_codes.specs.Finding.{contents};
 ghost use Rattle.kl1_codes.specs.Shelves.{Program};
-ghost use Rattle.kl1_user_effects.specs.Fitting.{Reading};
 ghost use Rattle.kl1_user_effects.specs.Kept.{IsTaskIn, AreGoalsIn, AreShoensIn};
-ghost use Rattle.kl1_user_effects.specs.Works.{Knows};
-ghost use Rattle.kl1_user_account.specs.Looking.{Serves, calls_same, StandsBy, HearsAt, StandsAt, FindsOut, Wakes, WakesTold, LooksAtMost, LooksOnce, LooksAtOne, LooksAtAdded};
+ghost use Rattle.kl1_user_account.specs.Looking.{StandsBy, HearsAt, StandsAt, FindsOut, Wakes, WakesTold, LooksAtMost, LooksOnce, LooksAtOne, LooksAtAdded};
 
+use crate::clauses::Clauses;
 use kl1_clause::Predicate;
-use kl1_codes::{CodeSource, CodedModules};
+use kl1_codes::CodeSource;
 use kl1_goals::{Goal, GoalTable, Rules, Task};
-use kl1_goals_moves::{
-    Call, Kind, Trial, kind_of_qualified, or_none, standing_of, substitute_standing,
-};
+use kl1_goals_moves::{Kind, Trial, kind_of_qualified, standing_of, substitute_standing};
 use kl1_shoen::ShoenTree;
 use kl1_store::{Cell, Qualified, Store};
 use kl1_store_hooks::hang_on;
@@ -33,71 +27,6 @@ use kl1_stream::{Control, read_control};
 use kl1_text::CellName;
 use kl1_user_effects::Change;
 use std::alloc::AllocError;
-
-/// The clauses of the predicate of a goal of a kind; none if there is no such predicate, or it is no call.
-#[inline(always)]
-pub(crate) fn predicate_of<'a, C: CodeSource>(
-    modules: &'a CodedModules<'_, C>,
-    kind: Kind<CellName>,
-) -> Predicate<'a, CellName>
-    ensures some { AreSome result.names.now result.clauses.now }
-    ensures has { (f : Reading) → Knows modules.now.loaded f → (h : Held CellName) (t : Term) → IsKind f h t kind → HasPredicate f h (contents modules.now.loaded) kind result }
-    ensures serves { Serves modules.now.loaded kind result }
-{
-    match kind {
-        Kind::Calls(call) => or_none(modules.find(call.module_name, call.name, call.count)),
-        Kind::Unifies(_, _) => or_none(None),
-        Kind::Assigns(_, _) => or_none(None),
-        Kind::Spells(_, _) => or_none(None),
-        Kind::Executes(_) => or_none(None),
-        Kind::Goes => or_none(None),
-        Kind::Waits(_) => or_none(None),
-        Kind::Nothing => or_none(None),
-    }
-}
-
-/// Whether goals of a kind call the predicate that a call does.
-fn calls_same(call: Call<CellName>, kind: &Kind<CellName>) -> bool
-    ensures { result ≡ calls_same call kind.now }
-{
-    match *kind {
-        Kind::Calls(other) => {
-            other.module_name.number == call.module_name.number
-                && other.name.number == call.name.number
-                && other.count == call.count
-        }
-        Kind::Unifies(_, _) => false,
-        Kind::Assigns(_, _) => false,
-        Kind::Spells(_, _) => false,
-        Kind::Executes(_) => false,
-        Kind::Goes => false,
-        Kind::Waits(_) => false,
-        Kind::Nothing => false,
-    }
-}
-
-/// The clauses of the predicate of a goal of a kind, if those of goals of another kind are known: of the same predicate they
-/// aren't looked up again.
-#[inline(always)]
-fn predicate_near<'a, C: CodeSource>(
-    modules: &'a CodedModules<'_, C>,
-    known: &Kind<CellName>,
-    predicate: &Predicate<'a, CellName>,
-    kind: Kind<CellName>,
-) -> Predicate<'a, CellName>
-    requires some { AreSome predicate.now.names.now predicate.now.clauses.now }
-    requires serves { Serves modules.now.loaded known.now predicate.now }
-    ensures some { AreSome result.names.now result.clauses.now }
-    ensures serves { Serves modules.now.loaded kind result }
-{
-    let Kind::Calls(call) = *known else {
-        return predicate_of(modules, kind);
-    };
-    if calls_same(call, &kind) {
-        return *predicate;
-    }
-    predicate_of(modules, kind)
-}
 
 /// The clause by which goal `number`, which is of a kind, can step by these rules and the clauses of its predicate, or none. The number is
 /// hung on each variable that the goal waits for then; if memory is refused, it may hang on some of them.
@@ -124,27 +53,23 @@ pub(crate) fn hung_standing(
     Ok(standing)
 }
 
-/// The clause by which goal `number`, which is for a cell, can step, if the predicate of goals of one kind is known; or none.
+/// The clause by which goal `number`, which is for a cell, can step, or none.
 #[inline(always)]
 fn standing_at<C: CodeSource>(
     store: &mut Store<CellName>,
-    modules: &CodedModules<'_, C>,
-    known: &Kind<CellName>,
-    predicate: &Predicate<'_, CellName>,
+    clauses: &Clauses<'_, C>,
     trial: &mut Trial<CellName>,
     number: u64,
     cell: Qualified<CellName>,
 ) -> Result<Option<u64>, AllocError>
     requires cell { IsIn store.old.held cell.cell }
-    requires some { AreSome predicate.now.names.now predicate.now.clauses.now }
-    requires serves { Serves modules.now.loaded known.now predicate.now }
-    ensures stands { IfOk result (λ standing. (shoens : List (Shoen CellName)) (shoen : ℕ) → StandsAt modules.now shoens store.old.held store.new.hooks shoen (Reduces cell) (record { number = number; standing = standing })) }
+    ensures stands { IfOk result (λ standing. (shoens : List (Shoen CellName)) (shoen : ℕ) → StandsAt clauses.now.program shoens store.old.held store.new.hooks shoen (Reduces cell) (record { number = number; standing = standing })) }
     ensures held { store.new.held ≡ store.old.held }
     ensures grown { HasGrown store.old store.new }
 {
     let kind = kind_of_qualified(store, cell);
-    let clauses = predicate_near(modules, known, predicate, kind);
-    hung_standing(store, modules.rules(), kind, clauses, trial, number)
+    let predicate = clauses.near(kind);
+    hung_standing(store, clauses.rules(), kind, predicate, trial, number)
 }
 
 /// The clause by which monitor `number` can step that reads this control stream: 0, or none as long as it waits. The number is
@@ -210,30 +135,25 @@ pub(crate) fn substitute_hung(
     Ok(standing)
 }
 
-/// The clause by which a goal can step, or none. The predicate of goals of one kind is known here and below; the goal's number is hung
-/// on each variable that it waits for.
+/// The clause by which a goal can step, or none. The goal's number is hung on each variable that it waits for.
 #[inline(always)]
 fn task_standing<C: CodeSource>(
     store: &mut Store<CellName>,
     shoens: &ShoenTree<CellName>,
-    modules: &CodedModules<'_, C>,
-    known: &Kind<CellName>,
-    predicate: &Predicate<'_, CellName>,
+    clauses: &Clauses<'_, C>,
     trial: &mut Trial<CellName>,
     goal: &Goal<CellName>,
 ) -> Result<Option<u64>, AllocError>
     requires task { IsTaskIn store.old.held goal.now.task }
     requires shoens { AreShoensIn store.old.held shoens.now.shoens }
-    requires some { AreSome predicate.now.names.now predicate.now.clauses.now }
-    requires serves { Serves modules.now.loaded known.now predicate.now }
-    ensures stands { IfOk result (λ standing. StandsAt modules.now shoens.now.shoens store.old.held store.new.hooks goal.now.shoen goal.now.task (record { number = goal.now.number; standing = standing })) }
+    ensures stands { IfOk result (λ standing. StandsAt clauses.now.program shoens.now.shoens store.old.held store.new.hooks goal.now.shoen goal.now.task (record { number = goal.now.number; standing = standing })) }
     ensures held { store.new.held ≡ store.old.held }
     ensures grown { HasGrown store.old store.new }
 {
     match goal.task {
         Task::Monitor => monitor_standing(store, shoens, goal.number, goal.shoen),
         Task::Reduces(cell) => {
-            standing_at(store, modules, known, predicate, trial, goal.number, cell)
+            standing_at(store, clauses, trial, goal.number, cell)
         }
         Task::Substitutes(term) => substitute_hung(store, trial, goal.number, term),
     }
@@ -243,22 +163,18 @@ fn task_standing<C: CodeSource>(
 fn look_at_task<C: CodeSource>(
     store: &mut Store<CellName>,
     shoens: &ShoenTree<CellName>,
-    modules: &CodedModules<'_, C>,
-    known: &Kind<CellName>,
-    predicate: &Predicate<'_, CellName>,
+    clauses: &Clauses<'_, C>,
     trial: &mut Trial<CellName>,
     goal: &Goal<CellName>,
     changes: &mut Vec<Change>,
 ) -> Result<(), AllocError>
     requires task { IsTaskIn store.old.held goal.now.task }
     requires shoens { AreShoensIn store.old.held shoens.now.shoens }
-    requires some { AreSome predicate.now.names.now predicate.now.clauses.now }
-    requires serves { Serves modules.now.loaded known.now predicate.now }
-    ensures finds { OnOk result (FindsOut modules.now shoens.now.shoens store.old.held store.new.hooks goal.now.shoen goal.now.task goal.now.number changes.old.items changes.new.items) }
+    ensures finds { OnOk result (FindsOut clauses.now.program shoens.now.shoens store.old.held store.new.hooks goal.now.shoen goal.now.task goal.now.number changes.old.items changes.new.items) }
     ensures held { store.new.held ≡ store.old.held }
     ensures grown { HasGrown store.old store.new }
 {
-    let standing = task_standing(store, shoens, modules, known, predicate, trial, goal)?;
+    let standing = task_standing(store, shoens, clauses, trial, goal)?;
     changes.push(Change {
         number: goal.number,
         standing,
@@ -271,9 +187,7 @@ fn wake<C: CodeSource>(
     store: &mut Store<CellName>,
     goals: &GoalTable<CellName>,
     shoens: &ShoenTree<CellName>,
-    modules: &CodedModules<'_, C>,
-    known: &Kind<CellName>,
-    predicate: &Predicate<'_, CellName>,
+    clauses: &Clauses<'_, C>,
     trial: &mut Trial<CellName>,
     removed: u64,
     number: u64,
@@ -281,9 +195,7 @@ fn wake<C: CodeSource>(
 ) -> Result<(), AllocError>
     requires goals { AreGoalsIn store.old.held goals.now.goals }
     requires shoens { AreShoensIn store.old.held shoens.now.shoens }
-    requires some { AreSome predicate.now.names.now predicate.now.clauses.now }
-    requires serves { Serves modules.now.loaded known.now predicate.now }
-    ensures wakes { OnOk result (Wakes modules.now shoens.now.shoens store.old.held store.old.hooks store.new.hooks goals.now.goals removed number changes.old.items changes.new.items) }
+    ensures wakes { OnOk result (Wakes clauses.now.program shoens.now.shoens store.old.held store.old.hooks store.new.hooks goals.now.goals removed number changes.old.items changes.new.items) }
     ensures one { OnOk result (LooksAtMost number changes.old.items changes.new.items) }
     ensures held { store.new.held ≡ store.old.held }
     ensures grown { HasGrown store.old store.new }
@@ -295,7 +207,7 @@ fn wake<C: CodeSource>(
         None => Ok(()),
         Some(goal) => {
             look_at_task(
-                store, shoens, modules, known, predicate, trial, &goal, changes,
+                store, shoens, clauses, trial, &goal, changes,
             )
         }
     }
@@ -318,9 +230,7 @@ pub(crate) fn wake_told<C: CodeSource>(
     store: &mut Store<CellName>,
     goals: &GoalTable<CellName>,
     shoens: &ShoenTree<CellName>,
-    modules: &CodedModules<'_, C>,
-    known: &Kind<CellName>,
-    predicate: &Predicate<'_, CellName>,
+    clauses: &Clauses<'_, C>,
     trial: &mut Trial<CellName>,
     removed: u64,
     told: &mut Vec<u64>,
@@ -328,9 +238,7 @@ pub(crate) fn wake_told<C: CodeSource>(
 ) -> Result<(), AllocError>
     requires goals { AreGoalsIn store.old.held goals.now.goals }
     requires shoens { AreShoensIn store.old.held shoens.now.shoens }
-    requires some { AreSome predicate.now.names.now predicate.now.clauses.now }
-    requires serves { Serves modules.now.loaded known.now predicate.now }
-    ensures wakes { OnOk result (WakesTold modules.now shoens.now.shoens store.old.held store.old.hooks store.new.hooks goals.now.goals removed told.old.items changes.old.items changes.new.items) }
+    ensures wakes { OnOk result (WakesTold clauses.now.program shoens.now.shoens store.old.held store.old.hooks store.new.hooks goals.now.goals removed told.old.items changes.old.items changes.new.items) }
     ensures once { OnOk result (LooksOnce changes.old.items changes.new.items) }
     ensures held { store.new.held ≡ store.old.held }
     ensures grown { HasGrown store.old store.new }
@@ -344,7 +252,7 @@ pub(crate) fn wake_told<C: CodeSource>(
         }
         last = *number;
         wake(
-            store, goals, shoens, modules, known, predicate, trial, removed, last, changes,
+            store, goals, shoens, clauses, trial, removed, last, changes,
         )?;
     }
     Ok(())
@@ -366,23 +274,19 @@ fn may_step(shoens: &ShoenTree<CellName>, letting: u64, goal: &Goal<CellName>) -
 fn look_at_added<C: CodeSource>(
     store: &mut Store<CellName>,
     shoens: &ShoenTree<CellName>,
-    modules: &CodedModules<'_, C>,
-    known: &Kind<CellName>,
-    predicate: &Predicate<'_, CellName>,
+    clauses: &Clauses<'_, C>,
     trial: &mut Trial<CellName>,
     letting: u64,
     goal: &mut Goal<CellName>,
 ) -> Result<(), AllocError>
     requires task { IsTaskIn store.old.held goal.old.task }
     requires shoens { AreShoensIn store.old.held shoens.now.shoens }
-    requires some { AreSome predicate.now.names.now predicate.now.clauses.now }
-    requires serves { Serves modules.now.loaded known.now predicate.now }
     requires lets { is_enabled_at shoens.now.shoens shoens.now.work letting ≡ true }
-    ensures looks { OnOk result (LooksAtOne modules.now shoens.now.shoens shoens.now.work store.old.held store.new.hooks goal.old goal.new) }
+    ensures looks { OnOk result (LooksAtOne clauses.now.program shoens.now.shoens shoens.now.work store.old.held store.new.hooks goal.old goal.new) }
     ensures held { store.new.held ≡ store.old.held }
     ensures grown { HasGrown store.old store.new }
 {
-    let standing = task_standing(store, shoens, modules, known, predicate, trial, goal)?;
+    let standing = task_standing(store, shoens, clauses, trial, goal)?;
     let is_enabled = may_step(shoens, letting, goal);
     goal.standing = standing;
     goal.is_enabled = is_enabled;
@@ -394,26 +298,22 @@ fn look_at_added<C: CodeSource>(
 pub(crate) fn wake_added<C: CodeSource>(
     store: &mut Store<CellName>,
     shoens: &ShoenTree<CellName>,
-    modules: &CodedModules<'_, C>,
-    known: &Kind<CellName>,
-    predicate: &Predicate<'_, CellName>,
+    clauses: &Clauses<'_, C>,
     trial: &mut Trial<CellName>,
     letting: u64,
     added: &mut Vec<Goal<CellName>>,
 ) -> Result<(), AllocError>
     requires added { AreGoalsIn store.old.held added.old.items }
     requires shoens { AreShoensIn store.old.held shoens.now.shoens }
-    requires some { AreSome predicate.now.names.now predicate.now.clauses.now }
-    requires serves { Serves modules.now.loaded known.now predicate.now }
     requires lets { is_enabled_at shoens.now.shoens shoens.now.work letting ≡ true }
-    ensures looks { OnOk result (LooksAtAdded modules.now shoens.now.shoens shoens.now.work store.old.held store.new.hooks added.old.items added.new.items) }
+    ensures looks { OnOk result (LooksAtAdded clauses.now.program shoens.now.shoens shoens.now.work store.old.held store.new.hooks added.old.items added.new.items) }
     ensures held { store.new.held ≡ store.old.held }
     ensures grown { HasGrown store.old store.new }
 {
     for place in 0..added.len() {
         let goal = &mut added[place];
         look_at_added(
-            store, shoens, modules, known, predicate, trial, letting, goal,
+            store, shoens, clauses, trial, letting, goal,
         )?;
     }
     Ok(())

@@ -2,7 +2,6 @@
 
 ghost use Rattle.std.specs.Prelude.{◌≡◌, false, ◌+◌, ◌<◌, ◌≤◌, ◌^◌, ℕ, List, length, Some, None, IfOk, IfErr, OnOk, vec_capacity};
 ghost use Rattle.kl1_model.specs.declared.limits.TheConstants.{MONITOR_PRIORITY};
-ghost use Rattle.kl1_clause.specs.Predicates.{AreSome};
 ghost use Rattle.kl1_goals_moves.specs.Kinds.{IsKind, KindIn};
 ghost use Rattle.kl1_goals_moves.specs.Moves.{HasPredicate, MoveIn, taken_places};
 ghost use Rattle.kl1_stream.specs.Controls.{ControlIn};
@@ -16,7 +15,6 @@ ghost use Rattle.kl1_user_effects.specs.Fitting.{Reading};
 ghost use Rattle.kl1_user_effects.specs.Account.{aim};
 ghost use Rattle.kl1_user_effects.specs.Kept.{AreShoensIn};
 ghost use Rattle.kl1_user_effects.specs.Works.{Knows};
-ghost use Rattle.kl1_user_account.specs.Looking.{Serves};
 ghost use Rattle.kl1_user_account.specs.Reducing.{HasRow, MayHave, IsFullFor, RefusesAmong, IsSteppable, is_read, NotHeard, HeardAs, NotMade, IsMade, IsToMake, account_at, IsReduced, ReducesAs};
 ghost use Rattle.kl1_user_account.specs.Finishing.{BeganWith};
 ghost use Rattle.kl1_user_account.specs.Keeping.{IsKept};
@@ -24,10 +22,9 @@ ghost use Rattle.kl1_user_effects.specs.Drafts.{CanGoBack};
 ghost use Rattle.kl1_user_effects.specs.Installing.{IsBegun};
 ghost use Rattle.kl1_user_steps.specs.Spelling.{HasRoomFor};
 
+use crate::clauses::Clauses;
 use crate::completing::finish;
 use crate::limits::are_numbers;
-use crate::looking::predicate_of;
-use kl1_clause::Predicate;
 use kl1_codes::{CodeSource, CodedModules};
 use kl1_goals::{Goal, GoalTable, Task};
 use kl1_goals_moves::{Kind, Move, Trial, kind_of_qualified, move_of, substitute_move};
@@ -111,23 +108,20 @@ fn control_to_read(
 /// journal may be full, or why that is refused.
 fn move_to_make<C: CodeSource>(
     store: &Store<CellName>,
-    modules: &CodedModules<'_, C>,
-    kind: Kind<CellName>,
-    predicate: Predicate<'_, CellName>,
+    clauses: &Clauses<'_, C>,
     trial: &mut Trial<CellName>,
     is_full: bool,
     cell: Qualified<CellName>,
     clause: u64,
 ) -> Result<Result<Move<CellName>, Refusal>, AllocError>
-    requires kind { KindIn store.now.held kind }
-    requires some { AreSome predicate.names.now predicate.clauses.now }
-    requires is { (f : Reading) → Knows modules.now.loaded f → IsKind f store.now.held (aim f store.now.held cell) kind }
-    requires has { (f : Reading) → Knows modules.now.loaded f → (h : Held CellName) (t : Term) → IsKind f h t kind → HasPredicate f h (contents modules.now.loaded) kind predicate }
-    ensures refused { IfOk result (λ o. IfErr o (NotMade store.now.held modules.now is_full cell clause)) }
-    ensures makes { IfOk result (λ o. IfOk o (IsMade store.now.held modules.now is_full cell clause predicate.entry (taken_places trial.new) trial.new.text)) }
-    ensures inside { IfOk result (λ o. IfOk o (λ made. MoveIn store.now.held predicate.entry (taken_places trial.new) trial.new.text (Some made))) }
+    requires kind { KindIn store.now.held clauses.now.kind }
+    requires is { (f : Reading) → Knows clauses.now.program.loaded f → IsKind f store.now.held (aim f store.now.held cell) clauses.now.kind }
+    requires has { (f : Reading) → Knows clauses.now.program.loaded f → (h : Held CellName) (t : Term) → IsKind f h t clauses.now.kind → HasPredicate f h (contents clauses.now.program.loaded) clauses.now.kind clauses.now.predicate }
+    ensures refused { IfOk result (λ o. IfErr o (NotMade store.now.held clauses.now.program is_full cell clause)) }
+    ensures makes { IfOk result (λ o. IfOk o (IsMade store.now.held clauses.now.program is_full cell clause clauses.now.predicate (taken_places trial.new) trial.new.text)) }
+    ensures inside { IfOk result (λ o. IfOk o (λ made. MoveIn store.now.held clauses.now.predicate (taken_places trial.new) trial.new.text (Some made))) }
 {
-    let Some(made) = move_of(store, modules.rules(), kind, predicate, clause, trial)? else {
+    let Some(made) = move_of(store, clauses.rules(), clauses.kind(), clauses.known(), clause, trial)? else {
         return Ok(Err(Refusal::Step));
     };
     if is_full {
@@ -176,14 +170,12 @@ fn draft_reading<C: CodeSource>(
     walk.reached.clear();
     read(store, goals, shoens, draft, walk, goal.shoen, control)?;
     draft.told.push(goal.number)?;
-    let predicate = predicate_of(modules, Kind::Nothing);
+    let clauses = Clauses::of_kind(modules, Kind::Nothing);
     finish(
         store,
         goals,
         shoens,
-        modules,
-        &Kind::Nothing,
-        &predicate,
+        &clauses,
         trial,
         draft,
         walk,
@@ -194,13 +186,13 @@ fn draft_reading<C: CodeSource>(
 }
 
 /// Drafts a move that a goal for a cell, which may step, is to make by clause `clause`, for an account whose journal
-/// may be full. The predicate of goals of a kind is known. The draft has begun with what the account has.
+/// may be full. The draft has begun with what the account has.
 #[inline(always)]
 fn draft_made<C: CodeSource>(
     store: &mut Store<CellName>,
     goals: &mut GoalTable<CellName>,
     shoens: &mut ShoenTree<CellName>,
-    modules: &CodedModules<'_, C>,
+    clauses: &Clauses<'_, C>,
     names: &mut AccountNames,
     trial: &mut Trial<CellName>,
     draft: &mut Draft,
@@ -209,22 +201,18 @@ fn draft_made<C: CodeSource>(
     goal: Goal<CellName>,
     cell: Qualified<CellName>,
     clause: u64,
-    kind: Kind<CellName>,
-    predicate: Predicate<'_, CellName>,
     made: Move<CellName>,
 ) -> Result<(), AllocError>
     requires steppable { IsSteppable goals.old.goals goal.number clause goal }
     requires level { goal.priority ≤ MONITOR_PRIORITY }
-    requires begun { IsBegun 0 modules.now.rules draft.old.last_goal draft.old.variables draft.old.nodes draft.old.reports draft.old }
-    requires kept { (own : List ℕ × ℕ) (entries : ℕ × ℕ) → MayHave modules.now.rules entries → IsKept (account_at own store.old.held goals.old.goals shoens.old modules.now names.old.names draft.old.last_goal draft.old.variables draft.old.nodes draft.old.reports entries) store.old.hooks goals.old.shoens }
+    requires begun { IsBegun 0 clauses.now.program.rules draft.old.last_goal draft.old.variables draft.old.nodes draft.old.reports draft.old }
+    requires kept { (own : List ℕ × ℕ) (entries : ℕ × ℕ) → MayHave clauses.now.program.rules entries → IsKept (account_at own store.old.held goals.old.goals shoens.old clauses.now.program names.old.names draft.old.last_goal draft.old.variables draft.old.nodes draft.old.reports entries) store.old.hooks goals.old.shoens }
     requires few { length shoens.old.work + 1 < 2 ^ 63 }
     requires begins { BeganWith shoens.old shoens.old.shoens shoens.old.work }
     requires cell { IsIn store.old.held cell.cell }
-    requires some { AreSome predicate.names.now predicate.clauses.now }
-    requires serves { Serves modules.now.loaded kind predicate }
-    requires makes { IsToMake store.old.held modules.now is_full goal.task cell clause predicate (taken_places trial.old) trial.old.text made }
-    requires inside { MoveIn store.old.held predicate (taken_places trial.old) trial.old.text (Some made) }
-    ensures ok { OnOk result ((own : List ℕ × ℕ) (entries : ℕ × ℕ) → MayHave modules.now.rules entries → IsFullFor (account_at own store.old.held goals.old.goals shoens.old modules.now names.old.names draft.old.last_goal draft.old.variables draft.old.nodes draft.old.reports entries) goal.number clause is_full → IsReduced (account_at own store.old.held goals.old.goals shoens.old modules.now names.old.names draft.old.last_goal draft.old.variables draft.old.nodes draft.old.reports entries) goal.number clause store.new shoens.new goals.new draft.new) }
+    requires makes { IsToMake store.old.held clauses.now.program is_full goal.task cell clause clauses.now.predicate (taken_places trial.old) trial.old.text made }
+    requires inside { MoveIn store.old.held clauses.now.predicate (taken_places trial.old) trial.old.text (Some made) }
+    ensures ok { OnOk result ((own : List ℕ × ℕ) (entries : ℕ × ℕ) → MayHave clauses.now.program.rules entries → IsFullFor (account_at own store.old.held goals.old.goals shoens.old clauses.now.program names.old.names draft.old.last_goal draft.old.variables draft.old.nodes draft.old.reports entries) goal.number clause is_full → IsReduced (account_at own store.old.held goals.old.goals shoens.old clauses.now.program names.old.names draft.old.last_goal draft.old.variables draft.old.nodes draft.old.reports entries) goal.number clause store.new shoens.new goals.new draft.new) }
     ensures back { CanGoBack shoens.old shoens.new }
     ensures grown { HasGrown store.old store.new }
     ensures goals { goals.new.goals ≡ goals.old.goals }
@@ -240,10 +228,21 @@ fn draft_made<C: CodeSource>(
     draft.removed = goal.number;
     let alive = goals.alive() - 1;
     do_or_spell(
-        store, goals, shoens, draft, walk, names, alive, predicate, made, trial, goal, cell,
+        store,
+        goals,
+        shoens,
+        draft,
+        walk,
+        names,
+        alive,
+        clauses.known(),
+        made,
+        trial,
+        goal,
+        cell,
     )?;
     finish(
-        store, goals, shoens, modules, &kind, &predicate, trial, draft, walk, mark, goal.shoen,
+        store, goals, shoens, clauses, trial, draft, walk, mark, goal.shoen,
     )
 }
 
@@ -288,23 +287,9 @@ fn draft_substitute<C: CodeSource>(
         module_name: None,
         cell: term,
     };
-    let predicate = predicate_of(modules, Kind::Nothing);
+    let clauses = Clauses::of_kind(modules, Kind::Nothing);
     draft_made(
-        store,
-        goals,
-        shoens,
-        modules,
-        names,
-        trial,
-        draft,
-        walk,
-        is_full,
-        goal,
-        cell,
-        clause,
-        Kind::Nothing,
-        predicate,
-        made,
+        store, goals, shoens, &clauses, names, trial, draft, walk, is_full, goal, cell, clause, made,
     )?;
     Ok(None)
 }
@@ -341,17 +326,13 @@ fn draft_move<C: CodeSource>(
     ensures names { names.new.names ≡ names.old.names }
     ensures room { IfOk result (λ refused. refused ≡ None → HasRoomFor names.new.room draft.new.name) }
 {
-    let kind = kind_of_qualified(store, cell);
-    let predicate = predicate_of(modules, kind);
-    let made = match move_to_make(
-        store, modules, kind, predicate, trial, is_full, cell, clause,
-    )? {
+    let clauses = Clauses::of_kind(modules, kind_of_qualified(store, cell));
+    let made = match move_to_make(store, &clauses, trial, is_full, cell, clause)? {
         Err(refusal) => return Ok(Some(refusal)),
         Ok(made) => made,
     };
     draft_made(
-        store, goals, shoens, modules, names, trial, draft, walk, is_full, goal, cell, clause,
-        kind, predicate, made,
+        store, goals, shoens, &clauses, names, trial, draft, walk, is_full, goal, cell, clause, made,
     )?;
     Ok(None)
 }

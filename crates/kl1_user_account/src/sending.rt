@@ -17,7 +17,8 @@ ghost use Rattle.kl1_user_account.specs.Sending.{AreAlike, Allows, Refuses, Puts
 use crate::counted::is_within;
 use crate::installing::begin_draft;
 use crate::limits::is_number;
-use crate::looking::{predicate_of, wake_told};
+use crate::clauses::Clauses;
+use crate::looking::wake_told;
 use kl1_codes::{CodeSource, CodedModules};
 use kl1_goals::{GoalTable, Rules};
 use kl1_goals_moves::{Kind, Trial};
@@ -144,14 +145,12 @@ pub(crate) fn wake_bound<C: CodeSource>(
 {
     draft.told.clear();
     store.tell(mark, &mut draft.told)?;
-    let predicate = predicate_of(modules, Kind::Nothing);
+    let clauses = Clauses::of_kind(modules, Kind::Nothing);
     wake_told(
         store,
         goals,
         shoens,
-        modules,
-        &Kind::Nothing,
-        &predicate,
+        &clauses,
         trial,
         0,
         &mut draft.told,

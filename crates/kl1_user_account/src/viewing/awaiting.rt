@@ -8,7 +8,7 @@ ghost use Rattle.kl1_codes.specs.Shelves.{Program};
 ghost use Rattle.kl1_user_effects.specs.Kept.{IsTaskIn, AreShoensIn};
 ghost use Rattle.kl1_user_account.specs.Viewed.{AwaitsMessage, Awaits, ListsAwaited};
 
-use crate::looking::predicate_of;
+use crate::clauses::predicate_of;
 use kl1_codes::{CodeSource, CodedModules};
 use kl1_goals::{Goal, Task};
 use kl1_goals_moves::{Trial, kind_of_qualified, standing_of, substitute_standing};

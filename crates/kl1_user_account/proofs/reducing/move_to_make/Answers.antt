@@ -14,20 +14,20 @@ use Rattle.kl1_user_account.proofs.reducing.move_to_make.Goals as goal
 pub returns-in_default-clause-refused : goal.returns-in_default-clause-refused
 returns-in_default-clause-refused g c a n w is task all room f suits =
     let h = c.args.store.now.held in
-    let ms = c.args.modules.now in
+    let ms = c.args.clauses.now.program in
     let x = c.args.cell in
     let b : Account = with_program a h ms in
     let kind = c.requires.is f suits.0 in
-    let P : Option (Move CellName) → Type 0 = λ m. MovesAs f h ms.rules (contents ms.loaded) (aim f h x) c.args.clause c.args.predicate (taken_places c.move_of.new.trial) c.move_of.new.trial.text m in
+    let P : Option (Move CellName) → Type 0 = λ m. MovesAs f h ms.rules (contents ms.loaded) (aim f h x) c.args.clause c.args.clauses.now.predicate (taken_places c.move_of.new.trial) c.move_of.new.trial.text m in
     steps_not f b n c.args.clause w is all
     (goal_does f b c.args.clause w x None task (subst P c.in_default.is ((rw c.rules.ensures at c.in_ok-made.ensures.moves) f suits.0.reads (contents ms.loaded) (aim f h x) kind (c.requires.has f suits.0 h (aim f h x) kind))))
 
 pub returns-then-is_full-clause-refused : goal.returns-then-is_full-clause-refused
 returns-then-is_full-clause-refused g c a n w is task all room f suits =
     let h = c.args.store.now.held in
-    let ms = c.args.modules.now in
+    let ms = c.args.clauses.now.program in
     let x = c.args.cell in
-    let p = c.args.predicate in
+    let p = c.args.clauses.now.predicate in
     let places = taken_places c.move_of.new.trial in
     let text = c.move_of.new.trial.text in
     let b : Account = with_program a h ms in
@@ -42,9 +42,9 @@ returns-then-is_full-clause-refused g c a n w is task all room f suits =
 pub returns-clause-makes : goal.returns-clause-makes
 returns-clause-makes g c =
     let h = c.args.store.now.held in
-    let ms = c.args.modules.now in
+    let ms = c.args.clauses.now.program in
     let x = c.args.cell in
-    let p = c.args.predicate in
+    let p = c.args.clauses.now.predicate in
     let places = taken_places c.move_of.new.trial in
     let text = c.move_of.new.trial.text in
     let I : Option (Move CellName) → Type 0 = λ m. MoveIn h p places text m in
