@@ -1,18 +1,11 @@
--- Clauses of one predicate, beside the modules of an account.
+-- Clauses of the predicate of goals of one kind.
 use Rattle.kl1_text.specs.declared.cell_name.CellName.{CellName}
 use Rattle.kl1_clause.specs.declared.predicate.Predicate.{Predicate}
 use Rattle.kl1_clause.specs.Predicates.{AreSome}
 use Rattle.kl1_goals_moves.specs.declared.kind.Kind.{Kind}
 use Rattle.kl1_codes.specs.Numbered.{Numbered}
-use Rattle.kl1_codes.specs.Shelves.{Program}
 use Rattle.kl1_user_account.specs.Looking.{Serves}
 use Rattle.std.specs.Prelude.{List}
-
--- an account's modules and rules, and the clauses of the predicate of goals of one kind
-pub record Served : Type 0 where
-  pub program : Program
-  pub kind : Kind CellName
-  pub predicate : Predicate CellName
 
 -- these are some clauses, and those of the predicate of goals of a kind
 pub record IsServed (modules : List Numbered) (kind : Kind CellName) (p : Predicate CellName) : Type 0 where

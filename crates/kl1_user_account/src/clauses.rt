@@ -11,13 +11,12 @@ ghost use Rattle.kl1_codes.specs.Finding.{contents};
 ghost use Rattle.kl1_user_effects.specs.Fitting.{Reading};
 ghost use Rattle.kl1_user_effects.specs.Works.{Knows};
 ghost use Rattle.kl1_user_account.specs.Looking.{Serves, calls_same};
+ghost use Rattle.kl1_user_account.specs.Serving.{IsServed};
 
 use kl1_clause::Predicate;
 use kl1_codes::{CodeSource, CodedModules};
-use kl1_goals::Rules;
 use kl1_goals_moves::{Call, Kind, or_none};
 use kl1_text::CellName;
-use std::marker::Model;
 
 /// The clauses of the predicate of a goal of a kind; none if there is no such predicate, or it is no call.
 #[inline(always)]
@@ -62,77 +61,27 @@ fn calls_same(call: Call<CellName>, kind: &Kind<CellName>) -> bool
 }
 
 /// An account's modules, with the clauses of the predicate of goals of one kind: of the same predicate they aren't looked up again.
-#[derive(Drop)]
-pub(crate) struct Clauses<'a, C: CodeSource> {
-    modules: &'a CodedModules<'a, C>,
-    known: Kind<CellName>,
-    predicate: Predicate<'a, CellName>,
+pub(crate) struct Clauses<'a, 'b, C: CodeSource> {
+    pub(crate) modules: &'a CodedModules<'b, C>,
+    pub(crate) known: Kind<CellName>,
+    pub(crate) predicate: Predicate<'a, CellName>,
 }
 
-impl<'a, C: CodeSource> Model for Clauses<'a, C> {
-    ghost use Rattle.kl1_user_account.specs.Serving.{Served};
-
-    ghost Value = { Served };
-
-    ghost use Rattle.kl1_user_account.specs.Serving.{IsServed};
-
-    ghost view = { λ c. record { program = c.modules.now; kind = c.known; predicate = c.predicate } };
-
-    ghost invariant = { λ c. IsServed c.modules.now.loaded c.known c.predicate };
-}
-
-impl<'a, C: CodeSource> Clauses<'a, C> {
-    /// The clauses of the predicate of goals of a kind.
-    #[inline(always)]
-    pub(crate) fn of_kind(modules: &'a CodedModules<'a, C>, kind: Kind<CellName>) -> Self
-        ensures is { result ≡ record { program = modules.now; kind = kind; predicate = result.predicate } }
-        ensures some { AreSome result.predicate.names.now result.predicate.clauses.now }
-        ensures has { (f : Reading) → Knows modules.now.loaded f → (h : Held CellName) (t : Term) → IsKind f h t kind → HasPredicate f h (contents modules.now.loaded) kind result.predicate }
-    {
-        Clauses {
-            modules,
-            known: kind,
-            predicate: predicate_of(modules, kind),
-        }
+/// The clauses of the predicate of goals of a kind.
+#[inline(always)]
+pub(crate) fn predicate_near<'a, C: CodeSource>(
+    clauses: &Clauses<'a, '_, C>,
+    kind: Kind<CellName>,
+) -> Predicate<'a, CellName>
+    requires served { IsServed clauses.now.modules.now.loaded clauses.now.known clauses.now.predicate }
+    ensures some { AreSome result.names.now result.clauses.now }
+    ensures serves { Serves clauses.now.modules.now.loaded kind result }
+{
+    let Kind::Calls(call) = clauses.known else {
+        return predicate_of(clauses.modules, kind);
+    };
+    if calls_same(call, &kind) {
+        return clauses.predicate;
     }
-
-    /// The rules of the account.
-    #[inline(always)]
-    pub(crate) fn rules(&self) -> Rules
-        ensures { result ≡ self.now.program.rules }
-    {
-        self.modules.rules()
-    }
-
-    /// The kind of those goals.
-    #[inline(always)]
-    pub(crate) fn kind(&self) -> Kind<CellName>
-        ensures { result ≡ self.now.kind }
-    {
-        self.known
-    }
-
-    /// The clauses that are known.
-    #[inline(always)]
-    pub(crate) fn known(&self) -> Predicate<'a, CellName>
-        ensures is { result ≡ self.now.predicate }
-        ensures some { AreSome result.names.now result.clauses.now }
-    {
-        self.predicate
-    }
-
-    /// The clauses of the predicate of goals of another kind.
-    #[inline(always)]
-    pub(crate) fn near(&self, kind: Kind<CellName>) -> Predicate<'a, CellName>
-        ensures some { AreSome result.names.now result.clauses.now }
-        ensures serves { Serves self.now.program.loaded kind result }
-    {
-        let Kind::Calls(call) = self.known else {
-            return predicate_of(self.modules, kind);
-        };
-        if calls_same(call, &kind) {
-            return self.predicate;
-        }
-        predicate_of(self.modules, kind)
-    }
+    predicate_of(clauses.modules, kind)
 }

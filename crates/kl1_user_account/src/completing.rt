@@ -8,6 +8,7 @@ ghost use Rattle.kl1_user_effects.specs.Installing.{AreNext};
 ghost use Rattle.kl1_user_account.specs.Looking.{WakesTold};
 ghost use Rattle.kl1_shoen.specs.Shoens.{is_enabled_at};
 ghost use Rattle.kl1_user_account.specs.Finishing.{LooksAgain, ShiftsFor, LetsStill, Finishes};
+ghost use Rattle.kl1_user_account.specs.Serving.{IsServed};
 
 use crate::clauses::Clauses;
 use crate::looking::{wake_added, wake_told};
@@ -25,7 +26,7 @@ fn wake_any<C: CodeSource>(
     store: &mut Store<CellName>,
     goals: &GoalTable<CellName>,
     shoens: &ShoenTree<CellName>,
-    clauses: &Clauses<'_, C>,
+    clauses: &Clauses<'_, '_, C>,
     trial: &mut Trial<CellName>,
     removed: u64,
     told: &mut Vec<u64>,
@@ -33,7 +34,8 @@ fn wake_any<C: CodeSource>(
 ) -> Result<(), AllocError>
     requires goals { AreGoalsIn store.old.held goals.now.goals }
     requires shoens { AreShoensIn store.old.held shoens.now.shoens }
-    ensures wakes { OnOk result (WakesTold clauses.now.program shoens.now.shoens store.old.held store.old.hooks store.new.hooks goals.now.goals removed told.old.items changes.old.items changes.new.items) }
+    requires served { IsServed clauses.now.modules.now.loaded clauses.now.known clauses.now.predicate }
+    ensures wakes { OnOk result (WakesTold clauses.now.modules.now shoens.now.shoens store.old.held store.old.hooks store.new.hooks goals.now.goals removed told.old.items changes.old.items changes.new.items) }
     ensures held { store.new.held ≡ store.old.held }
     ensures grown { HasGrown store.old store.new }
 {
@@ -62,7 +64,7 @@ fn look_again<C: CodeSource>(
     store: &mut Store<CellName>,
     goals: &GoalTable<CellName>,
     shoens: &ShoenTree<CellName>,
-    clauses: &Clauses<'_, C>,
+    clauses: &Clauses<'_, '_, C>,
     trial: &mut Trial<CellName>,
     draft: &mut Draft,
     mark: Point,
@@ -73,7 +75,8 @@ fn look_again<C: CodeSource>(
     requires shoens { AreShoensIn store.old.held shoens.now.shoens }
     requires lets { is_enabled_at shoens.now.shoens shoens.now.work letting ≡ true }
     requires changes { draft.old.changes.items ≡ [] }
-    ensures looks { OnOk result (LooksAgain clauses.now.program mark store.old store.new shoens.now goals.now.goals draft.old draft.new) }
+    requires served { IsServed clauses.now.modules.now.loaded clauses.now.known clauses.now.predicate }
+    ensures looks { OnOk result (LooksAgain clauses.now.modules.now mark store.old store.new shoens.now goals.now.goals draft.old draft.new) }
     ensures rest { OnOk result (draft.new ≡ record draft.old { changes = draft.new.changes; told = draft.new.told; added = draft.new.added }) }
     ensures held { store.new.held ≡ store.old.held }
     ensures grown { HasGrown store.old store.new }
@@ -147,7 +150,7 @@ pub(crate) fn finish<C: CodeSource>(
     store: &mut Store<CellName>,
     goals: &mut GoalTable<CellName>,
     shoens: &ShoenTree<CellName>,
-    clauses: &Clauses<'_, C>,
+    clauses: &Clauses<'_, '_, C>,
     trial: &mut Trial<CellName>,
     draft: &mut Draft,
     walk: &Walk,
@@ -163,7 +166,8 @@ pub(crate) fn finish<C: CodeSource>(
     requires stay { goals_left draft.old.added.items draft.old ≡ draft.old.added.items }
     requires known_shoens { goals.old.shoens ≤ length shoens.now.shoens }
     requires one_opens { length shoens.now.shoens ≤ goals.old.shoens + 1 }
-    ensures finishes { OnOk result (Finishes clauses.now.program mark store.old store.new shoens.now goals.old.goals goals.new walk.now.reached.items draft.old draft.new) }
+    requires served { IsServed clauses.now.modules.now.loaded clauses.now.known clauses.now.predicate }
+    ensures finishes { OnOk result (Finishes clauses.now.modules.now mark store.old store.new shoens.now goals.old.goals goals.new walk.now.reached.items draft.old draft.new) }
     ensures held { store.new.held ≡ store.old.held }
     ensures grown { HasGrown store.old store.new }
     ensures goals { goals.new.goals ≡ goals.old.goals }

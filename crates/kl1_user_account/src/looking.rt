@@ -14,8 +14,9 @@ ghost use Rattle.kl1_shoen_paths.specs.declared.shoen.Shoen.{Shoen};
 ghost use Rattle.kl1_codes.specs.Shelves.{Program};
 ghost use Rattle.kl1_user_effects.specs.Kept.{IsTaskIn, AreGoalsIn, AreShoensIn};
 ghost use Rattle.kl1_user_account.specs.Looking.{StandsBy, HearsAt, StandsAt, FindsOut, Wakes, WakesTold, LooksAtMost, LooksOnce, LooksAtOne, LooksAtAdded};
+ghost use Rattle.kl1_user_account.specs.Serving.{IsServed};
 
-use crate::clauses::Clauses;
+use crate::clauses::{Clauses, predicate_near};
 use kl1_clause::Predicate;
 use kl1_codes::CodeSource;
 use kl1_goals::{Goal, GoalTable, Rules, Task};
@@ -57,19 +58,20 @@ pub(crate) fn hung_standing(
 #[inline(always)]
 fn standing_at<C: CodeSource>(
     store: &mut Store<CellName>,
-    clauses: &Clauses<'_, C>,
+    clauses: &Clauses<'_, '_, C>,
     trial: &mut Trial<CellName>,
     number: u64,
     cell: Qualified<CellName>,
 ) -> Result<Option<u64>, AllocError>
     requires cell { IsIn store.old.held cell.cell }
-    ensures stands { IfOk result (λ standing. (shoens : List (Shoen CellName)) (shoen : ℕ) → StandsAt clauses.now.program shoens store.old.held store.new.hooks shoen (Reduces cell) (record { number = number; standing = standing })) }
+    requires served { IsServed clauses.now.modules.now.loaded clauses.now.known clauses.now.predicate }
+    ensures stands { IfOk result (λ standing. (shoens : List (Shoen CellName)) (shoen : ℕ) → StandsAt clauses.now.modules.now shoens store.old.held store.new.hooks shoen (Reduces cell) (record { number = number; standing = standing })) }
     ensures held { store.new.held ≡ store.old.held }
     ensures grown { HasGrown store.old store.new }
 {
     let kind = kind_of_qualified(store, cell);
-    let predicate = clauses.near(kind);
-    hung_standing(store, clauses.rules(), kind, predicate, trial, number)
+    let predicate = predicate_near(clauses, kind);
+    hung_standing(store, clauses.modules.rules(), kind, predicate, trial, number)
 }
 
 /// The clause by which monitor `number` can step that reads this control stream: 0, or none as long as it waits. The number is
@@ -140,13 +142,14 @@ pub(crate) fn substitute_hung(
 fn task_standing<C: CodeSource>(
     store: &mut Store<CellName>,
     shoens: &ShoenTree<CellName>,
-    clauses: &Clauses<'_, C>,
+    clauses: &Clauses<'_, '_, C>,
     trial: &mut Trial<CellName>,
     goal: &Goal<CellName>,
 ) -> Result<Option<u64>, AllocError>
     requires task { IsTaskIn store.old.held goal.now.task }
     requires shoens { AreShoensIn store.old.held shoens.now.shoens }
-    ensures stands { IfOk result (λ standing. StandsAt clauses.now.program shoens.now.shoens store.old.held store.new.hooks goal.now.shoen goal.now.task (record { number = goal.now.number; standing = standing })) }
+    requires served { IsServed clauses.now.modules.now.loaded clauses.now.known clauses.now.predicate }
+    ensures stands { IfOk result (λ standing. StandsAt clauses.now.modules.now shoens.now.shoens store.old.held store.new.hooks goal.now.shoen goal.now.task (record { number = goal.now.number; standing = standing })) }
     ensures held { store.new.held ≡ store.old.held }
     ensures grown { HasGrown store.old store.new }
 {
@@ -163,14 +166,15 @@ fn task_standing<C: CodeSource>(
 fn look_at_task<C: CodeSource>(
     store: &mut Store<CellName>,
     shoens: &ShoenTree<CellName>,
-    clauses: &Clauses<'_, C>,
+    clauses: &Clauses<'_, '_, C>,
     trial: &mut Trial<CellName>,
     goal: &Goal<CellName>,
     changes: &mut Vec<Change>,
 ) -> Result<(), AllocError>
     requires task { IsTaskIn store.old.held goal.now.task }
     requires shoens { AreShoensIn store.old.held shoens.now.shoens }
-    ensures finds { OnOk result (FindsOut clauses.now.program shoens.now.shoens store.old.held store.new.hooks goal.now.shoen goal.now.task goal.now.number changes.old.items changes.new.items) }
+    requires served { IsServed clauses.now.modules.now.loaded clauses.now.known clauses.now.predicate }
+    ensures finds { OnOk result (FindsOut clauses.now.modules.now shoens.now.shoens store.old.held store.new.hooks goal.now.shoen goal.now.task goal.now.number changes.old.items changes.new.items) }
     ensures held { store.new.held ≡ store.old.held }
     ensures grown { HasGrown store.old store.new }
 {
@@ -187,7 +191,7 @@ fn wake<C: CodeSource>(
     store: &mut Store<CellName>,
     goals: &GoalTable<CellName>,
     shoens: &ShoenTree<CellName>,
-    clauses: &Clauses<'_, C>,
+    clauses: &Clauses<'_, '_, C>,
     trial: &mut Trial<CellName>,
     removed: u64,
     number: u64,
@@ -195,7 +199,8 @@ fn wake<C: CodeSource>(
 ) -> Result<(), AllocError>
     requires goals { AreGoalsIn store.old.held goals.now.goals }
     requires shoens { AreShoensIn store.old.held shoens.now.shoens }
-    ensures wakes { OnOk result (Wakes clauses.now.program shoens.now.shoens store.old.held store.old.hooks store.new.hooks goals.now.goals removed number changes.old.items changes.new.items) }
+    requires served { IsServed clauses.now.modules.now.loaded clauses.now.known clauses.now.predicate }
+    ensures wakes { OnOk result (Wakes clauses.now.modules.now shoens.now.shoens store.old.held store.old.hooks store.new.hooks goals.now.goals removed number changes.old.items changes.new.items) }
     ensures one { OnOk result (LooksAtMost number changes.old.items changes.new.items) }
     ensures held { store.new.held ≡ store.old.held }
     ensures grown { HasGrown store.old store.new }
@@ -230,7 +235,7 @@ pub(crate) fn wake_told<C: CodeSource>(
     store: &mut Store<CellName>,
     goals: &GoalTable<CellName>,
     shoens: &ShoenTree<CellName>,
-    clauses: &Clauses<'_, C>,
+    clauses: &Clauses<'_, '_, C>,
     trial: &mut Trial<CellName>,
     removed: u64,
     told: &mut Vec<u64>,
@@ -238,7 +243,8 @@ pub(crate) fn wake_told<C: CodeSource>(
 ) -> Result<(), AllocError>
     requires goals { AreGoalsIn store.old.held goals.now.goals }
     requires shoens { AreShoensIn store.old.held shoens.now.shoens }
-    ensures wakes { OnOk result (WakesTold clauses.now.program shoens.now.shoens store.old.held store.old.hooks store.new.hooks goals.now.goals removed told.old.items changes.old.items changes.new.items) }
+    requires served { IsServed clauses.now.modules.now.loaded clauses.now.known clauses.now.predicate }
+    ensures wakes { OnOk result (WakesTold clauses.now.modules.now shoens.now.shoens store.old.held store.old.hooks store.new.hooks goals.now.goals removed told.old.items changes.old.items changes.new.items) }
     ensures once { OnOk result (LooksOnce changes.old.items changes.new.items) }
     ensures held { store.new.held ≡ store.old.held }
     ensures grown { HasGrown store.old store.new }
@@ -274,7 +280,7 @@ fn may_step(shoens: &ShoenTree<CellName>, letting: u64, goal: &Goal<CellName>) -
 fn look_at_added<C: CodeSource>(
     store: &mut Store<CellName>,
     shoens: &ShoenTree<CellName>,
-    clauses: &Clauses<'_, C>,
+    clauses: &Clauses<'_, '_, C>,
     trial: &mut Trial<CellName>,
     letting: u64,
     goal: &mut Goal<CellName>,
@@ -282,7 +288,8 @@ fn look_at_added<C: CodeSource>(
     requires task { IsTaskIn store.old.held goal.old.task }
     requires shoens { AreShoensIn store.old.held shoens.now.shoens }
     requires lets { is_enabled_at shoens.now.shoens shoens.now.work letting ≡ true }
-    ensures looks { OnOk result (LooksAtOne clauses.now.program shoens.now.shoens shoens.now.work store.old.held store.new.hooks goal.old goal.new) }
+    requires served { IsServed clauses.now.modules.now.loaded clauses.now.known clauses.now.predicate }
+    ensures looks { OnOk result (LooksAtOne clauses.now.modules.now shoens.now.shoens shoens.now.work store.old.held store.new.hooks goal.old goal.new) }
     ensures held { store.new.held ≡ store.old.held }
     ensures grown { HasGrown store.old store.new }
 {
@@ -298,7 +305,7 @@ fn look_at_added<C: CodeSource>(
 pub(crate) fn wake_added<C: CodeSource>(
     store: &mut Store<CellName>,
     shoens: &ShoenTree<CellName>,
-    clauses: &Clauses<'_, C>,
+    clauses: &Clauses<'_, '_, C>,
     trial: &mut Trial<CellName>,
     letting: u64,
     added: &mut Vec<Goal<CellName>>,
@@ -306,7 +313,8 @@ pub(crate) fn wake_added<C: CodeSource>(
     requires added { AreGoalsIn store.old.held added.old.items }
     requires shoens { AreShoensIn store.old.held shoens.now.shoens }
     requires lets { is_enabled_at shoens.now.shoens shoens.now.work letting ≡ true }
-    ensures looks { OnOk result (LooksAtAdded clauses.now.program shoens.now.shoens shoens.now.work store.old.held store.new.hooks added.old.items added.new.items) }
+    requires served { IsServed clauses.now.modules.now.loaded clauses.now.known clauses.now.predicate }
+    ensures looks { OnOk result (LooksAtAdded clauses.now.modules.now shoens.now.shoens shoens.now.work store.old.held store.new.hooks added.old.items added.new.items) }
     ensures held { store.new.held ≡ store.old.held }
     ensures grown { HasGrown store.old store.new }
 {

@@ -21,8 +21,9 @@ ghost use Rattle.kl1_user_account.specs.Keeping.{IsKept};
 ghost use Rattle.kl1_user_effects.specs.Drafts.{CanGoBack};
 ghost use Rattle.kl1_user_effects.specs.Installing.{IsBegun};
 ghost use Rattle.kl1_user_steps.specs.Spelling.{HasRoomFor};
+ghost use Rattle.kl1_user_account.specs.Serving.{IsServed};
 
-use crate::clauses::Clauses;
+use crate::clauses::{Clauses, predicate_of};
 use crate::completing::finish;
 use crate::limits::are_numbers;
 use kl1_codes::{CodeSource, CodedModules};
@@ -108,20 +109,21 @@ fn control_to_read(
 /// journal may be full, or why that is refused.
 fn move_to_make<C: CodeSource>(
     store: &Store<CellName>,
-    clauses: &Clauses<'_, C>,
+    clauses: &Clauses<'_, '_, C>,
     trial: &mut Trial<CellName>,
     is_full: bool,
     cell: Qualified<CellName>,
     clause: u64,
 ) -> Result<Result<Move<CellName>, Refusal>, AllocError>
-    requires kind { KindIn store.now.held clauses.now.kind }
-    requires is { (f : Reading) → Knows clauses.now.program.loaded f → IsKind f store.now.held (aim f store.now.held cell) clauses.now.kind }
-    requires has { (f : Reading) → Knows clauses.now.program.loaded f → (h : Held CellName) (t : Term) → IsKind f h t clauses.now.kind → HasPredicate f h (contents clauses.now.program.loaded) clauses.now.kind clauses.now.predicate }
-    ensures refused { IfOk result (λ o. IfErr o (NotMade store.now.held clauses.now.program is_full cell clause)) }
-    ensures makes { IfOk result (λ o. IfOk o (IsMade store.now.held clauses.now.program is_full cell clause clauses.now.predicate (taken_places trial.new) trial.new.text)) }
+    requires kind { KindIn store.now.held clauses.now.known }
+    requires is { (f : Reading) → Knows clauses.now.modules.now.loaded f → IsKind f store.now.held (aim f store.now.held cell) clauses.now.known }
+    requires has { (f : Reading) → Knows clauses.now.modules.now.loaded f → (h : Held CellName) (t : Term) → IsKind f h t clauses.now.known → HasPredicate f h (contents clauses.now.modules.now.loaded) clauses.now.known clauses.now.predicate }
+    requires served { IsServed clauses.now.modules.now.loaded clauses.now.known clauses.now.predicate }
+    ensures refused { IfOk result (λ o. IfErr o (NotMade store.now.held clauses.now.modules.now is_full cell clause)) }
+    ensures makes { IfOk result (λ o. IfOk o (IsMade store.now.held clauses.now.modules.now is_full cell clause clauses.now.predicate (taken_places trial.new) trial.new.text)) }
     ensures inside { IfOk result (λ o. IfOk o (λ made. MoveIn store.now.held clauses.now.predicate (taken_places trial.new) trial.new.text (Some made))) }
 {
-    let Some(made) = move_of(store, clauses.rules(), clauses.kind(), clauses.known(), clause, trial)? else {
+    let Some(made) = move_of(store, clauses.modules.rules(), clauses.known, clauses.predicate, clause, trial)? else {
         return Ok(Err(Refusal::Step));
     };
     if is_full {
@@ -170,7 +172,12 @@ fn draft_reading<C: CodeSource>(
     walk.reached.clear();
     read(store, goals, shoens, draft, walk, goal.shoen, control)?;
     draft.told.push(goal.number)?;
-    let clauses = Clauses::of_kind(modules, Kind::Nothing);
+    let predicate = predicate_of(modules, Kind::Nothing);
+    let clauses = Clauses {
+        modules,
+        known: Kind::Nothing,
+        predicate,
+    };
     finish(
         store,
         goals,
@@ -192,7 +199,7 @@ fn draft_made<C: CodeSource>(
     store: &mut Store<CellName>,
     goals: &mut GoalTable<CellName>,
     shoens: &mut ShoenTree<CellName>,
-    clauses: &Clauses<'_, C>,
+    clauses: &Clauses<'_, '_, C>,
     names: &mut AccountNames,
     trial: &mut Trial<CellName>,
     draft: &mut Draft,
@@ -205,14 +212,15 @@ fn draft_made<C: CodeSource>(
 ) -> Result<(), AllocError>
     requires steppable { IsSteppable goals.old.goals goal.number clause goal }
     requires level { goal.priority ≤ MONITOR_PRIORITY }
-    requires begun { IsBegun 0 clauses.now.program.rules draft.old.last_goal draft.old.variables draft.old.nodes draft.old.reports draft.old }
-    requires kept { (own : List ℕ × ℕ) (entries : ℕ × ℕ) → MayHave clauses.now.program.rules entries → IsKept (account_at own store.old.held goals.old.goals shoens.old clauses.now.program names.old.names draft.old.last_goal draft.old.variables draft.old.nodes draft.old.reports entries) store.old.hooks goals.old.shoens }
+    requires begun { IsBegun 0 clauses.now.modules.now.rules draft.old.last_goal draft.old.variables draft.old.nodes draft.old.reports draft.old }
+    requires kept { (own : List ℕ × ℕ) (entries : ℕ × ℕ) → MayHave clauses.now.modules.now.rules entries → IsKept (account_at own store.old.held goals.old.goals shoens.old clauses.now.modules.now names.old.names draft.old.last_goal draft.old.variables draft.old.nodes draft.old.reports entries) store.old.hooks goals.old.shoens }
     requires few { length shoens.old.work + 1 < 2 ^ 63 }
     requires begins { BeganWith shoens.old shoens.old.shoens shoens.old.work }
     requires cell { IsIn store.old.held cell.cell }
-    requires makes { IsToMake store.old.held clauses.now.program is_full goal.task cell clause clauses.now.predicate (taken_places trial.old) trial.old.text made }
+    requires makes { IsToMake store.old.held clauses.now.modules.now is_full goal.task cell clause clauses.now.predicate (taken_places trial.old) trial.old.text made }
     requires inside { MoveIn store.old.held clauses.now.predicate (taken_places trial.old) trial.old.text (Some made) }
-    ensures ok { OnOk result ((own : List ℕ × ℕ) (entries : ℕ × ℕ) → MayHave clauses.now.program.rules entries → IsFullFor (account_at own store.old.held goals.old.goals shoens.old clauses.now.program names.old.names draft.old.last_goal draft.old.variables draft.old.nodes draft.old.reports entries) goal.number clause is_full → IsReduced (account_at own store.old.held goals.old.goals shoens.old clauses.now.program names.old.names draft.old.last_goal draft.old.variables draft.old.nodes draft.old.reports entries) goal.number clause store.new shoens.new goals.new draft.new) }
+    requires served { IsServed clauses.now.modules.now.loaded clauses.now.known clauses.now.predicate }
+    ensures ok { OnOk result ((own : List ℕ × ℕ) (entries : ℕ × ℕ) → MayHave clauses.now.modules.now.rules entries → IsFullFor (account_at own store.old.held goals.old.goals shoens.old clauses.now.modules.now names.old.names draft.old.last_goal draft.old.variables draft.old.nodes draft.old.reports entries) goal.number clause is_full → IsReduced (account_at own store.old.held goals.old.goals shoens.old clauses.now.modules.now names.old.names draft.old.last_goal draft.old.variables draft.old.nodes draft.old.reports entries) goal.number clause store.new shoens.new goals.new draft.new) }
     ensures back { CanGoBack shoens.old shoens.new }
     ensures grown { HasGrown store.old store.new }
     ensures goals { goals.new.goals ≡ goals.old.goals }
@@ -235,7 +243,7 @@ fn draft_made<C: CodeSource>(
         walk,
         names,
         alive,
-        clauses.known(),
+        clauses.predicate,
         made,
         trial,
         goal,
@@ -287,7 +295,12 @@ fn draft_substitute<C: CodeSource>(
         module_name: None,
         cell: term,
     };
-    let clauses = Clauses::of_kind(modules, Kind::Nothing);
+    let predicate = predicate_of(modules, Kind::Nothing);
+    let clauses = Clauses {
+        modules,
+        known: Kind::Nothing,
+        predicate,
+    };
     draft_made(
         store, goals, shoens, &clauses, names, trial, draft, walk, is_full, goal, cell, clause, made,
     )?;
@@ -326,7 +339,13 @@ fn draft_move<C: CodeSource>(
     ensures names { names.new.names ≡ names.old.names }
     ensures room { IfOk result (λ refused. refused ≡ None → HasRoomFor names.new.room draft.new.name) }
 {
-    let clauses = Clauses::of_kind(modules, kind_of_qualified(store, cell));
+    let kind = kind_of_qualified(store, cell);
+    let predicate = predicate_of(modules, kind);
+    let clauses = Clauses {
+        modules,
+        known: kind,
+        predicate,
+    };
     let made = match move_to_make(store, &clauses, trial, is_full, cell, clause)? {
         Err(refusal) => return Ok(Some(refusal)),
         Ok(made) => made,

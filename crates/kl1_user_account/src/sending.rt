@@ -17,7 +17,7 @@ ghost use Rattle.kl1_user_account.specs.Sending.{AreAlike, Allows, Refuses, Puts
 use crate::counted::is_within;
 use crate::installing::begin_draft;
 use crate::limits::is_number;
-use crate::clauses::Clauses;
+use crate::clauses::{Clauses, predicate_of};
 use crate::looking::wake_told;
 use kl1_codes::{CodeSource, CodedModules};
 use kl1_goals::{GoalTable, Rules};
@@ -145,7 +145,12 @@ pub(crate) fn wake_bound<C: CodeSource>(
 {
     draft.told.clear();
     store.tell(mark, &mut draft.told)?;
-    let clauses = Clauses::of_kind(modules, Kind::Nothing);
+    let predicate = predicate_of(modules, Kind::Nothing);
+    let clauses = Clauses {
+        modules,
+        known: Kind::Nothing,
+        predicate,
+    };
     wake_told(
         store,
         goals,

@@ -8,7 +8,7 @@ use Rattle.kl1_user_account.proofs.completing.look_again.Goals as goal
 
 pub returns-clause-looks : goal.returns-clause-looks
 returns-clause-looks g c =
-    let ms = c.args.clauses.now.program in
+    let ms = c.args.clauses.now.modules.now in
     let tree = c.args.shoens.now in
     let now = c.args.store.now in
     let mid = c.wake_any.new.store in

@@ -9,4 +9,4 @@ returns-then-is_empty-clause-wakes g c =
     let told : c.args.told.now.items ≡ [] =
     let len : vec_len c.args.told.now ≡ 0 = search rules in
     nil_from_length c.args.told.now.items (omega (arith, len, c.args.told.now.ok.0)) in
-    none_woken c.args.clauses.now.program c.args.shoens.now.shoens c.args.store.now.held c.args.store.now.hooks c.args.goals.now.goals c.args.removed c.args.told.now.items c.args.changes.now.items told
+    none_woken c.args.clauses.now.modules.now c.args.shoens.now.shoens c.args.store.now.held c.args.store.now.hooks c.args.goals.now.goals c.args.removed c.args.told.now.items c.args.changes.now.items told

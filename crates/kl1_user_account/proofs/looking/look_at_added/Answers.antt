@@ -8,5 +8,5 @@ pub returns-clause-looks : goal.returns-clause-looks
 returns-clause-looks g c =
     let before = c.args.goal.now in
     let after : Goal CellName = record before { standing = c.in_ok-standing.standing; is_enabled = c.may_step-is_enabled.result } in
-    looks_at_one c.args.clauses.now.program c.args.shoens.now.shoens c.args.shoens.now.work c.args.store.now.held c.task_standing.new.store.hooks before after
+    looks_at_one c.args.clauses.now.modules.now c.args.shoens.now.shoens c.args.shoens.now.work c.args.store.now.held c.task_standing.new.store.hooks before after
     c.in_ok-standing.ensures.stands refl refl refl refl c.may_step-is_enabled.ensures

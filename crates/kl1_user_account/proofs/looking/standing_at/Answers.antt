@@ -11,13 +11,13 @@ use Rattle.kl1_user_account.proofs.looking.standing_at.Goals as goal
 
 pub returns-clause-stands : goal.returns-clause-stands
 returns-clause-stands g c =
-    let ms = c.args.clauses.now.program in
+    let ms = c.args.clauses.now.modules.now in
     let h = c.args.store.now.held in
     let hooks = c.hung_standing.new.store.hooks in
     let x = c.args.cell in
     let kind = c.kind_of_qualified-kind.result in
-    let p = c.near-predicate.result in
+    let p = c.predicate_near-predicate.result in
     let one : Option ℕ → Change = λ s. record { number = c.args.number; standing = s } in
     IfOk-weaker c.hung_standing.result (λ s. StandsBy ms.rules h hooks kind p (one s)) (λ s. (shoens : List (Shoen CellName)) (shoen : ℕ) → StandsAt ms shoens h hooks shoen (Reduces x) (one s))
-    (λ s found shoens shoen. stands_at ms shoens h hooks shoen x kind p (one s) c.kind_of_qualified-kind.ensures.kind (serves_has ms.loaded kind p c.near-predicate.ensures.serves) found)
+    (λ s found shoens shoen. stands_at ms shoens h hooks shoen x kind p (one s) c.kind_of_qualified-kind.ensures.kind (serves_has ms.loaded kind p c.predicate_near-predicate.ensures.serves) found)
     (rw c.rules.ensures at c.hung_standing.ensures.stands)

@@ -9,7 +9,7 @@ use Rattle.kl1_user_account.proofs.Told.{removed_wakes, absent_wakes, goal_wakes
 use Rattle.kl1_user_account.proofs.looking.wake.Goals as goal
 
 pub returns-then-number-removed-clause-wakes : goal.returns-then-number-removed-clause-wakes
-returns-then-number-removed-clause-wakes g c = removed_wakes c.args.clauses.now.program c.args.shoens.now.shoens c.args.store.now.held c.args.store.now.hooks c.args.goals.now.goals c.args.removed c.args.number c.args.changes.now.items c.if-number-removed.true
+returns-then-number-removed-clause-wakes g c = removed_wakes c.args.clauses.now.modules.now c.args.shoens.now.shoens c.args.store.now.held c.args.store.now.hooks c.args.goals.now.goals c.args.removed c.args.number c.args.changes.now.items c.if-number-removed.true
 
 pub returns-then-number-removed-clause-one : goal.returns-then-number-removed-clause-one
 returns-then-number-removed-clause-one g c = none_more c.args.number c.args.changes.now.items
@@ -21,11 +21,11 @@ pub look_at_task-requires-clause-task : goal.look_at_task-requires-clause-task
 look_at_task-requires-clause-task g c = task_in c.args.store.now.held (has_number c.args.number) c.args.goals.now.goals c.in-Some.goal c.requires.goals c.in-Some.ensures.goal
 
 pub returns-in-None-clause-wakes : goal.returns-in-None-clause-wakes
-returns-in-None-clause-wakes g c = absent_wakes c.args.clauses.now.program c.args.shoens.now.shoens c.args.store.now.held c.args.store.now.hooks c.args.goals.now.goals c.args.removed c.args.number c.args.changes.now.items c.in-None.ensures.goal
+returns-in-None-clause-wakes g c = absent_wakes c.args.clauses.now.modules.now c.args.shoens.now.shoens c.args.store.now.held c.args.store.now.hooks c.args.goals.now.goals c.args.removed c.args.number c.args.changes.now.items c.in-None.ensures.goal
 
 pub returns-in-Some-clause-wakes : goal.returns-in-Some-clause-wakes
 returns-in-Some-clause-wakes g c =
-    let ms = c.args.clauses.now.program in
+    let ms = c.args.clauses.now.modules.now in
     let shoens = c.args.shoens.now.shoens in
     let h = c.args.store.now.held in
     let goal = c.in-Some.goal in

@@ -6,11 +6,11 @@ use Rattle.kl1_user_account.proofs.Added.{StillLooks, none_looked, next_looked, 
 use Rattle.kl1_user_account.proofs.looking.wake_added.Goals as goal
 
 pub loop-place-init : goal.loop-place-init
-loop-place-init g c = none_looked c.args.clauses.now.program c.args.shoens.now.shoens c.args.shoens.now.work c.args.store.now c.args.added.now.items c.requires.added
+loop-place-init g c = none_looked c.args.clauses.now.modules.now c.args.shoens.now.shoens c.args.shoens.now.work c.args.store.now c.args.added.now.items c.requires.added
 
 pub loop-place-preserved : goal.loop-place-preserved
 loop-place-preserved g c =
-    let ms = c.args.clauses.now.program in
+    let ms = c.args.clauses.now.modules.now in
     let ss = c.args.shoens.now.shoens in
     let work = c.args.shoens.now.work in
     let now = c.loop-place.added.items in
@@ -26,5 +26,5 @@ loop-place-preserved g c =
 
 pub returns-clause-looks : goal.returns-clause-looks
 returns-clause-looks g c =
-    all_looked c.args.clauses.now.program c.args.shoens.now.shoens c.args.shoens.now.work c.args.store.now c.loop-place.store c.loop-place.place c.args.added.now.items c.loop-place.added.items
+    all_looked c.args.clauses.now.modules.now c.args.shoens.now.shoens c.args.shoens.now.work c.args.store.now c.loop-place.store c.loop-place.place c.args.added.now.items c.loop-place.added.items
     (omega (arith, c.loop-place-test.false, c.loop-place.invariant.count, c.loop-place.auto.place-end)) c.loop-place.invariant

@@ -15,7 +15,7 @@ pub overflow_sub-alive : goal.overflow_sub-alive
 overflow_sub-alive g c =
     let d = c.args.draft.now in
     let e : Draft = record d { removed = c.args.goal.number } in
-    let n = alive_left c.args.goal.number c.args.clauses.now.program.rules d.last_goal d.variables d.nodes d.reports c.alive-alive.result e c.args.goals.now.goals c.args.goal (begun_for c.args.goal.number c.args.clauses.now.program.rules d c.requires.begun) c.shoens-ordered.ensures.order c.requires.steppable.found (no_monitor c.args.goal c.args.cell c.requires.makes.task) c.alive-alive.ensures in
+    let n = alive_left c.args.goal.number c.args.clauses.now.modules.now.rules d.last_goal d.variables d.nodes d.reports c.alive-alive.result e c.args.goals.now.goals c.args.goal (begun_for c.args.goal.number c.args.clauses.now.modules.now.rules d c.requires.begun) c.shoens-ordered.ensures.order c.requires.steppable.found (no_monitor c.args.goal c.args.cell c.requires.makes.task) c.alive-alive.ensures in
     omega (arith, n)
 
 pub do_or_spell-requires-clause-cell : goal.do_or_spell-requires-clause-cell
@@ -32,7 +32,7 @@ do_or_spell-requires-clause-owned g c = found_holds (IsOwned (length c.args.shoe
 
 pub do_or_spell-requires-clause-begun : goal.do_or_spell-requires-clause-begun
 do_or_spell-requires-clause-begun g c =
-    let b = begun_for c.args.goal.number c.args.clauses.now.program.rules c.args.draft.now c.requires.begun in
+    let b = begun_for c.args.goal.number c.args.clauses.now.modules.now.rules c.args.draft.now c.requires.begun in
     let le = found_holds (λ g. g.number ≤ c.args.draft.now.last_goal) c.args.goal.number c.args.goals.now.goals c.args.goal (c.requires.kept ([], 0) (0, 0) (omega arith)).last c.requires.steppable.found in
     let r = b.removed_is in
     let l = b.last_is in
@@ -50,7 +50,7 @@ pub do_or_spell-requires-clause-alive : goal.do_or_spell-requires-clause-alive
 do_or_spell-requires-clause-alive g c =
     let d = c.args.draft.now in
     let e : Draft = record d { removed = c.args.goal.number } in
-    let n = alive_left c.args.goal.number c.args.clauses.now.program.rules d.last_goal d.variables d.nodes d.reports c.alive-alive.result e c.args.goals.now.goals c.args.goal (begun_for c.args.goal.number c.args.clauses.now.program.rules d c.requires.begun) c.shoens-ordered.ensures.order c.requires.steppable.found (no_monitor c.args.goal c.args.cell c.requires.makes.task) c.alive-alive.ensures in
+    let n = alive_left c.args.goal.number c.args.clauses.now.modules.now.rules d.last_goal d.variables d.nodes d.reports c.alive-alive.result e c.args.goals.now.goals c.args.goal (begun_for c.args.goal.number c.args.clauses.now.modules.now.rules d c.requires.begun) c.shoens-ordered.ensures.order c.requires.steppable.found (no_monitor c.args.goal c.args.cell c.requires.makes.task) c.alive-alive.ensures in
     omega (arith, n)
 
 pub do_or_spell-requires-clause-few : goal.do_or_spell-requires-clause-few
@@ -90,10 +90,10 @@ returns-clause-ok g c =
     let f = c.finish.ensures in
     on_ok_weaker c.finish.result
     (λ finishes own entries may room.
-    let a : Account = account_at own c.args.store.now.held c.args.goals.now.goals c.args.shoens.now c.args.clauses.now.program c.args.names.now.names n.last_goal n.variables n.nodes n.reports entries in
+    let a : Account = account_at own c.args.store.now.held c.args.goals.now.goals c.args.shoens.now c.args.clauses.now.modules.now c.args.names.now.names n.last_goal n.variables n.nodes n.reports entries in
     does_reduces a c.args.clause c.args.goals.now.shoens c.args.goal c.args.is_full c.args.cell c.args.clauses.now.predicate (taken_places c.args.trial.now) c.args.trial.now.text c.args.made c.mark-mark.result c.args.store.now c.do_or_spell.new.store c.finish.new.store c.args.shoens.now c.do_or_spell.new.shoens c.finish.new.goals c.do_or_spell.new.walk.reached.items e c.do_or_spell.new.draft c.finish.new.draft
     (c.requires.kept own entries may) c.requires.steppable c.requires.makes room c.requires.inside
-    refl refl refl c.requires.begins d.back c.mark-mark.ensures.point c.mark-mark.ensures.formed (begun_for c.args.goal.number c.args.clauses.now.program.rules n c.requires.begun)
+    refl refl refl c.requires.begins d.back c.mark-mark.ensures.point c.mark-mark.ensures.formed (begun_for c.args.goal.number c.args.clauses.now.modules.now.rules n c.requires.begun)
     d.does d.shoens d.leaves d.name d.spelled d.spared d.has d.rest d.grown d.hooks
     finishes f.held f.count)
     f.finishes

@@ -32,7 +32,7 @@ draft_made-requires-clause-cell g c =
 
 pub draft_made-requires-clause-makes : goal.draft_made-requires-clause-makes
 draft_made-requires-clause-makes g c =
-    goal_makes c.args.store.now.held c.args.modules.now c.args.is_full c.args.goal.task c.args.cell c.args.clause c.of_kind-clauses.result.predicate (taken_places c.move_to_make.new.trial) c.move_to_make.new.trial.text c.in-Ok.made c.requires.reduces (rw c.in-Ok.is at c.in_ok-refusal.ensures.makes)
+    goal_makes c.args.store.now.held c.args.modules.now c.args.is_full c.args.goal.task c.args.cell c.args.clause c.predicate_of-predicate.result (taken_places c.move_to_make.new.trial) c.move_to_make.new.trial.text c.in-Ok.made c.requires.reduces (rw c.in-Ok.is at c.in_ok-refusal.ensures.makes)
 
 pub draft_made-requires-clause-inside : goal.draft_made-requires-clause-inside
 draft_made-requires-clause-inside g c = rw c.in-Ok.is at c.in_ok-refusal.ensures.inside

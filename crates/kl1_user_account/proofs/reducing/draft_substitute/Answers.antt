@@ -58,11 +58,11 @@ draft_made-requires-clause-cell g c =
 
 pub draft_made-requires-clause-makes : goal.draft_made-requires-clause-makes
 draft_made-requires-clause-makes g c =
-    substitute_makes c.args.store.now.held c.args.modules.now c.args.is_full c.args.goal.task c.args.term c.args.clause c.of_kind-clauses.result.predicate (taken_places c.args.trial.now) c.args.trial.now.text c.substitute_move.result c.in-Some.made c.requires.substitutes c.in-Some.is c.substitute_move.ensures c.if-is_full.false
+    substitute_makes c.args.store.now.held c.args.modules.now c.args.is_full c.args.goal.task c.args.term c.args.clause c.predicate_of-predicate.result (taken_places c.args.trial.now) c.args.trial.now.text c.substitute_move.result c.in-Some.made c.requires.substitutes c.in-Some.is c.substitute_move.ensures c.if-is_full.false
 
 pub draft_made-requires-clause-inside : goal.draft_made-requires-clause-inside
 draft_made-requires-clause-inside g c =
-    inside_by c.args.store.now.held c.args.term c.args.clause c.of_kind-clauses.result.predicate (taken_places c.args.trial.now) c.args.trial.now.text c.substitute_move.result c.in-Some.made c.in-Some.is c.substitute_move.ensures
+    inside_by c.args.store.now.held c.args.term c.args.clause c.predicate_of-predicate.result (taken_places c.args.trial.now) c.args.trial.now.text c.substitute_move.result c.in-Some.made c.in-Some.is c.substitute_move.ensures
 
 pub returns-clause-ok : goal.returns-clause-ok
 returns-clause-ok g c own entries may room = c.in_ok-draft_made.ensures.ok own entries may room

@@ -14,7 +14,7 @@ use Rattle.kl1_user_account.proofs.reducing.move_to_make.Goals as goal
 pub returns-in_default-clause-refused : goal.returns-in_default-clause-refused
 returns-in_default-clause-refused g c a n w is task all room f suits =
     let h = c.args.store.now.held in
-    let ms = c.args.clauses.now.program in
+    let ms = c.args.clauses.now.modules.now in
     let x = c.args.cell in
     let b : Account = with_program a h ms in
     let kind = c.requires.is f suits.0 in
@@ -25,7 +25,7 @@ returns-in_default-clause-refused g c a n w is task all room f suits =
 pub returns-then-is_full-clause-refused : goal.returns-then-is_full-clause-refused
 returns-then-is_full-clause-refused g c a n w is task all room f suits =
     let h = c.args.store.now.held in
-    let ms = c.args.clauses.now.program in
+    let ms = c.args.clauses.now.modules.now in
     let x = c.args.cell in
     let p = c.args.clauses.now.predicate in
     let places = taken_places c.move_of.new.trial in
@@ -42,7 +42,7 @@ returns-then-is_full-clause-refused g c a n w is task all room f suits =
 pub returns-clause-makes : goal.returns-clause-makes
 returns-clause-makes g c =
     let h = c.args.store.now.held in
-    let ms = c.args.clauses.now.program in
+    let ms = c.args.clauses.now.modules.now in
     let x = c.args.cell in
     let p = c.args.clauses.now.predicate in
     let places = taken_places c.move_of.new.trial in
