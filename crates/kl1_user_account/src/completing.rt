@@ -42,9 +42,7 @@ fn wake_any<C: CodeSource>(
     if told.is_empty() {
         return Ok(());
     }
-    wake_told(
-        store, goals, shoens, clauses, trial, removed, told, changes,
-    )
+    wake_told(store, goals, shoens, clauses, trial, removed, told, changes)
 }
 
 /// Adds the numbers that hang on the variables that were bound since a point, with a first look whether any was.
@@ -94,14 +92,7 @@ fn look_again<C: CodeSource>(
         &mut draft.told,
         &mut draft.changes,
     )?;
-    wake_added(
-        store,
-        shoens,
-        clauses,
-        trial,
-        letting,
-        &mut draft.added,
-    )
+    wake_added(store, shoens, clauses, trial, letting, &mut draft.added)
 }
 
 /// Finds which shoens may let or hold back their goals other than before, if any may.
@@ -176,9 +167,7 @@ pub(crate) fn finish<C: CodeSource>(
     // Only for the proof: the shoens are numbered in order.
     let _numbered = shoens.len();
     let letting = still_lets(shoens, draft, walk, running);
-    look_again(
-        store, goals, shoens, clauses, trial, draft, mark, letting,
-    )?;
+    look_again(store, goals, shoens, clauses, trial, draft, mark, letting)?;
     find_shifts(shoens, draft, walk)?;
     goals.reserve(draft.added.len(), 1)
 }

@@ -71,7 +71,14 @@ fn standing_at<C: CodeSource>(
 {
     let kind = kind_of_qualified(store, cell);
     let predicate = predicate_near(clauses, kind);
-    hung_standing(store, clauses.modules.rules(), kind, predicate, trial, number)
+    hung_standing(
+        store,
+        clauses.modules.rules(),
+        kind,
+        predicate,
+        trial,
+        number,
+    )
 }
 
 /// The clause by which monitor `number` can step that reads this control stream: 0, or none as long as it waits. The number is
@@ -155,9 +162,7 @@ fn task_standing<C: CodeSource>(
 {
     match goal.task {
         Task::Monitor => monitor_standing(store, shoens, goal.number, goal.shoen),
-        Task::Reduces(cell) => {
-            standing_at(store, clauses, trial, goal.number, cell)
-        }
+        Task::Reduces(cell) => { standing_at(store, clauses, trial, goal.number, cell) }
         Task::Substitutes(term) => substitute_hung(store, trial, goal.number, term),
     }
 }
@@ -210,11 +215,7 @@ fn wake<C: CodeSource>(
     }
     match goals.get(number) {
         None => Ok(()),
-        Some(goal) => {
-            look_at_task(
-                store, shoens, clauses, trial, &goal, changes,
-            )
-        }
+        Some(goal) => { look_at_task(store, shoens, clauses, trial, &goal, changes) }
     }
 }
 
@@ -257,9 +258,7 @@ pub(crate) fn wake_told<C: CodeSource>(
             continue;
         }
         last = *number;
-        wake(
-            store, goals, shoens, clauses, trial, removed, last, changes,
-        )?;
+        wake(store, goals, shoens, clauses, trial, removed, last, changes)?;
     }
     Ok(())
 }
@@ -320,9 +319,7 @@ pub(crate) fn wake_added<C: CodeSource>(
 {
     for place in 0..added.len() {
         let goal = &mut added[place];
-        look_at_added(
-            store, shoens, clauses, trial, letting, goal,
-        )?;
+        look_at_added(store, shoens, clauses, trial, letting, goal)?;
     }
     Ok(())
 }

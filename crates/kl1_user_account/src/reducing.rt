@@ -123,7 +123,15 @@ fn move_to_make<C: CodeSource>(
     ensures makes { IfOk result (λ o. IfOk o (IsMade store.now.held clauses.now.modules.now is_full cell clause clauses.now.predicate (taken_places trial.new) trial.new.text)) }
     ensures inside { IfOk result (λ o. IfOk o (λ made. MoveIn store.now.held clauses.now.predicate (taken_places trial.new) trial.new.text (Some made))) }
 {
-    let Some(made) = move_of(store, clauses.modules.rules(), clauses.known, clauses.predicate, clause, trial)? else {
+    let Some(made) = move_of(
+        store,
+        clauses.modules.rules(),
+        clauses.known,
+        clauses.predicate,
+        clause,
+        trial,
+    )?
+    else {
         return Ok(Err(Refusal::Step));
     };
     if is_full {
@@ -178,17 +186,7 @@ fn draft_reading<C: CodeSource>(
         known: Kind::Nothing,
         predicate,
     };
-    finish(
-        store,
-        goals,
-        shoens,
-        &clauses,
-        trial,
-        draft,
-        walk,
-        mark,
-        0,
-    )?;
+    finish(store, goals, shoens, &clauses, trial, draft, walk, mark, 0)?;
     Ok(None)
 }
 
@@ -302,7 +300,8 @@ fn draft_substitute<C: CodeSource>(
         predicate,
     };
     draft_made(
-        store, goals, shoens, &clauses, names, trial, draft, walk, is_full, goal, cell, clause, made,
+        store, goals, shoens, &clauses, names, trial, draft, walk, is_full, goal, cell, clause,
+        made,
     )?;
     Ok(None)
 }
@@ -351,7 +350,8 @@ fn draft_move<C: CodeSource>(
         Ok(made) => made,
     };
     draft_made(
-        store, goals, shoens, &clauses, names, trial, draft, walk, is_full, goal, cell, clause, made,
+        store, goals, shoens, &clauses, names, trial, draft, walk, is_full, goal, cell, clause,
+        made,
     )?;
     Ok(None)
 }

@@ -14,10 +14,10 @@ ghost use Rattle.kl1_user_effects.specs.Drafts.{CanGoBack};
 ghost use Rattle.kl1_user_account.specs.Looking.{WakesTold};
 ghost use Rattle.kl1_user_account.specs.Sending.{AreAlike, Allows, Refuses, PutsOn, SendsAs};
 
+use crate::clauses::{Clauses, predicate_of};
 use crate::counted::is_within;
 use crate::installing::begin_draft;
 use crate::limits::is_number;
-use crate::clauses::{Clauses, predicate_of};
 use crate::looking::wake_told;
 use kl1_codes::{CodeSource, CodedModules};
 use kl1_goals::{GoalTable, Rules};
