@@ -9,6 +9,7 @@ ghost use Rattle.kl1_journal_entries.specs.Shown.{entry_shown, HasPrint};
 use crate::long_entry::LongEntry;
 use crate::packed_entry::PackedEntry;
 use kl1_model::Message;
+use kl1_term::Term;
 use kl1_user_events::{ClauseNo, GoalNo, ShoenNo};
 
 /// An entry of a journal.
@@ -22,6 +23,7 @@ pub enum Entry<'a> {
         low: u64,
         high: u64,
         goal: &'a [u8],
+        term: &'a Option<Term>,
     },
     /// A message sent to a shoen.
     Control {
@@ -40,6 +42,7 @@ pub enum Entry<'a> {
         shoen: ShoenNo,
         report: u64,
         goal: &'a [u8],
+        term: &'a Option<Term>,
     },
 }
 
@@ -55,11 +58,13 @@ pub(crate) fn shown_whole(whole: &LongEntry) -> Entry<'_>
             low,
             high,
             goal,
+            term,
         } => Entry::Start {
             allowance: *allowance,
             low: *low,
             high: *high,
             goal: goal.as_slice(),
+            term,
         },
         LongEntry::Control { shoen, message } => Entry::Control {
             shoen: ShoenNo(*shoen),
@@ -74,10 +79,12 @@ pub(crate) fn shown_whole(whole: &LongEntry) -> Entry<'_>
             shoen,
             report,
             goal,
+            term,
         } => Entry::Answer {
             shoen: ShoenNo(*shoen),
             report: *report,
             goal: goal.as_slice(),
+            term,
         },
     }
 }

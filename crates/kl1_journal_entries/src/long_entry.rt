@@ -1,6 +1,7 @@
 // Entries that are kept whole.
 
 use kl1_model::Message;
+use kl1_term::Term;
 
 /// An entry that is kept whole.
 #[derive(Drop)]
@@ -14,6 +15,7 @@ pub(crate) enum LongEntry {
         low: u64,
         high: u64,
         goal: Vec<u8>,
+        term: Option<Term>,
     },
     Control {
         shoen: u64,
@@ -29,5 +31,6 @@ pub(crate) enum LongEntry {
         shoen: u64,
         report: u64,
         goal: Vec<u8>,
+        term: Option<Term>,
     },
 }

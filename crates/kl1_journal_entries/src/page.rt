@@ -3,7 +3,7 @@
 ghost use Rattle.std.specs.Prelude.{◌≡◌, ◌<◌, length, slice_get, IfOk, Some};
 ghost use Rattle.kl1_model_server.specs.JournalText.{journal_lines, page_of};
 
-use crate::entry::shown_at;
+use crate::entry::{Entry, shown_at};
 use crate::journal::Journal;
 use crate::lines::{put_entry, put_first, put_name};
 use kl1_user_events::Listed;
@@ -60,5 +60,34 @@ impl Journal {
         ensures { IfOk result (λ lines. lines ≡ journal_lines self.now.journal) }
     {
         self.page(alloc, 1, self.count_lines())
+    }
+
+    /// Puts all lines but the first, each with its line feed.
+    pub fn put_lines(&self, out: &mut Vec<u8>) -> Result<(), AllocError> {
+        for name in self.names.as_slice() {
+            put_name(out, name)?;
+            out.push(b'\n')?;
+        }
+        for slot in self.slots.as_slice() {
+            put_entry(out, shown_at(self.wholes.as_slice(), *slot))?;
+            out.push(b'\n')?;
+        }
+        Ok(())
+    }
+
+    /// How many lines there are.
+    pub fn lines(&self) -> u64 {
+        self.count_lines()
+    }
+
+    /// The reductions of the last entry, if it is a run.
+    pub fn last_run(&self) -> u64 {
+        match self.slots.as_slice() {
+            [] => 0,
+            [.., last] => match shown_at(self.wholes.as_slice(), *last) {
+                Entry::Run(n) => n,
+                _ => 0,
+            },
+        }
     }
 }

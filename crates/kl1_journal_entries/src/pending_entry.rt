@@ -200,6 +200,7 @@ fn start_for(
             low,
             high,
             goal: text,
+            term: None,
         }),
     })
 }
@@ -312,6 +313,7 @@ fn answer_for(
             shoen,
             report,
             goal: text,
+            term: None,
         }),
     })
 }

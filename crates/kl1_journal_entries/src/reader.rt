@@ -16,7 +16,10 @@ use crate::loose::parse_entry;
 use crate::name::name_of;
 use crate::pending_entry::{PendingEntry, entry_for, run_for};
 use crate::text::next_line;
+use crate::long_entry::LongEntry;
 use kl1_model::limits::MOST_LINE_BYTES;
+use kl1_term::Term;
+use kl1_user_events::Event;
 use kl1_text::AtomText;
 use std::alloc::{AllocError, Global};
 
@@ -124,6 +127,15 @@ fn read_names<'a>(
     Ok(Some(Begun { journal, rest }))
 }
 
+/// Keeps a goal.
+fn keep_goal(journal: &mut Journal, goal: Term) {
+    match journal.wholes.last_mut() {
+        Some(LongEntry::Start { term, .. }) => *term = Some(goal),
+        Some(LongEntry::Answer { term, .. }) => *term = Some(goal),
+        _ => {}
+    }
+}
+
 /// A journal with the entries after its own whose lines this text is, if it is.
 fn read_entries(
     alloc: Global,
@@ -134,11 +146,16 @@ fn read_entries(
 {
     let mut rest = text;
     while let Some((line, after)) = next_line(rest) {
-        let Some(Found { prepared, .. }) = found_in(alloc, line)? else {
+        let Some(Found { prepared, deed }) = found_in(alloc, line)? else {
             return Ok(None);
         };
         journal.reserve()?;
         journal.put(prepared);
+        match deed {
+            Deed::Event(Event::Start { goal, .. }) => keep_goal(&mut journal, goal),
+            Deed::Event(Event::Answer { goal, .. }) => keep_goal(&mut journal, goal),
+            _ => {}
+        }
         rest = after;
     }
     if rest.is_empty() {

@@ -12,16 +12,10 @@ fn feed_place(text: &[u8]) -> usize
     ensures value { result ≡ place_of 10 text.now }
     ensures within { result ≤ length text.now }
 {
-    let mut place = 0;
-    let mut rest = text;
-    while let [first, others @ ..] = rest {
-        if *first == b'\n' {
-            return place;
-        }
-        place += 1;
-        rest = others;
+    match text.iter().position(|byte| *byte == b'\n') {
+        Some(place) => place,
+        None => text.len(),
     }
-    place
 }
 
 /// The bytes of a text from a place on.

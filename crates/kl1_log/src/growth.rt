@@ -136,20 +136,6 @@ fn put_heading(out: &mut Vec<u8>, rules: Rules, names: u64) -> Result<(), AllocE
     put_line(out, buffer.format(names).as_bytes())
 }
 
-/// The text of a journal with no session open; these are the lines of its text.
-fn shut_text(alloc: Global, journal: &Journal, lines: &[Vec<u8>]) -> Result<Vec<u8>, AllocError>
-    requires { map (λ t. t.items) lines.now ≡ journal_lines journal.now.journal }
-    ensures { IfOk result (λ bytes. bytes.items ≡ shut_text journal.now.journal) }
-{
-    let [_first, more @ ..] = lines else {
-        return Err(AllocError);
-    };
-    let mut bytes = Vec::new(alloc);
-    put_heading(&mut bytes, journal.rules(), journal.names().len() as u64)?;
-    put_lines(&mut bytes, more)?;
-    Ok(bytes)
-}
-
 /// The text of a journal, with no session open.
 #[tactic(auto, using(crate::proofs::GrownFiles::shut_file, crate::proofs::GrownFiles::begun_mark))]
 pub fn begun(alloc: Global, journal: &Journal) -> Result<Growth, AllocError>
@@ -159,10 +145,11 @@ pub fn begun(alloc: Global, journal: &Journal) -> Result<Growth, AllocError>
 {
     // This is called for the fact that it proves: the journal has a text that reads back.
     journal.shows_written();
-    let text = journal.text_lines(alloc)?;
-    let bytes = shut_text(alloc, journal, text.texts())?;
-    let run = last_run_of(alloc, text.texts())?;
-    let lines = text.len() as u64;
+    let mut bytes = Vec::new(alloc);
+    put_heading(&mut bytes, journal.rules(), journal.names().len() as u64)?;
+    journal.put_lines(&mut bytes)?;
+    let run = journal.last_run();
+    let lines = journal.lines();
     Ok(Growth {
         bytes,
         mark: Mark { lines, run },

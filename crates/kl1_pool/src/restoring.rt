@@ -61,9 +61,12 @@ pub(crate) trait RestoringHost: Host {
 }
 
 /// The goal whose print this is.
-fn goal_of(alloc: Global, print: &[u8]) -> Result<Term, AllocError>
+fn goal_of(alloc: Global, print: &[u8], term: &Option<Term>) -> Result<Term, AllocError>
     ensures { IfOk result (λ goal. goal ≡ goal_in print.now) }
 {
+    if let Some(term) = term {
+        return term.clone();
+    }
     match read_goal(alloc, print) {
         Ok(goal) => Ok(goal),
         // The print of a goal reads back: it is want of memory.
@@ -85,8 +88,9 @@ fn deed_for(alloc: Global, entry: Entry<'_>) -> Result<Deed, AllocError>
             low,
             high,
             goal,
+            term,
         } => {
-            let goal = goal_of(alloc, goal)?;
+            let goal = goal_of(alloc, goal, term)?;
             Ok(Deed::Event(Event::Start {
                 allowance,
                 low,
@@ -101,8 +105,9 @@ fn deed_for(alloc: Global, entry: Entry<'_>) -> Result<Deed, AllocError>
             shoen,
             report,
             goal,
+            term,
         } => {
-            let goal = goal_of(alloc, goal)?;
+            let goal = goal_of(alloc, goal, term)?;
             Ok(Deed::Event(Event::Answer {
                 shoen,
                 report,
