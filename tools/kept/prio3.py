@@ -23,7 +23,7 @@ def want(cwd, cmd, name="", VERB=""):
     if "clang" in cmd and not cwd.startswith("/tmp/rt-copy") and "rattle-native" not in cwd: return -11
     if "/tmp/tmp." in cmd or "/tmp/tmp." in cwd or ("clang" in cmd and cwd.startswith("/work/wt/h")): return -11
     if "rt-edit" in cwd: return -8
-    if cwd.startswith("/work/wt/hprog"): return -13
+    if cwd.startswith("/work/wt/hprog") or cwd.startswith("/work/wt/land"): return -15
     if cwd.startswith("/work/wt/hdoor"): return -14
     if cwd.startswith("/work/wt/hstart"): return -14
     if cwd.startswith("/work/wt/h"): return 4
