@@ -1,0 +1,4 @@
+pub mod Asks
+pub mod Ends
+pub mod Repairs
+pub mod Setups

@@ -1,0 +1,101 @@
+// An account is added.
+
+use crate::accounts::{Accounts, accounts_in};
+use crate::fault::Fault;
+use crate::folder::{ACCOUNTS, NEW_ACCOUNTS, path_in};
+use crate::lock::lock_folder;
+use crate::new_file::{sync_folder, write_new};
+use base64::engine::general_purpose::URL_SAFE_NO_PAD;
+use kl1_host_front::{put_account, read_sums};
+use kl1_model::limits::MOST_ACCOUNTS;
+use std::fs;
+use std::io::ErrorKind;
+use std::random::RandomSource;
+
+/// The random bytes of a key.
+const KEY_BYTES: usize = 24;
+
+/// A new key: random bytes as text.
+fn new_key(rt: &HostRuntime) -> Result<String, Fault> {
+    let mut bytes = [0u8; KEY_BYTES];
+    rt.fill_bytes(&mut bytes)?;
+    Ok(URL_SAFE_NO_PAD.encode(rt.alloc(), &bytes)?)
+}
+
+/// Refuses a name that an account has already, and one account more than there may be.
+fn refuse_used(rt: &HostRuntime, accounts: &Accounts, name: &str) -> Result<(), Fault> {
+    for key in &accounts.keys {
+        if key.name.as_slice() == name.as_bytes() {
+            let words = format!(in rt.alloc(); "there is an account {name} already")?;
+            return Err(Fault::Refused(words));
+        }
+    }
+    if accounts.keys.len() >= MOST_ACCOUNTS {
+        let words = format!(in rt.alloc(); "there are {MOST_ACCOUNTS} accounts already, the most")?;
+        return Err(Fault::Refused(words));
+    }
+    Ok(())
+}
+
+/// The file of accounts with one more at its end.
+fn text_with(
+    rt: &HostRuntime,
+    accounts: Accounts,
+    name: &str,
+    key: &str,
+) -> Result<Vec<u8>, Fault> {
+    let alloc = rt.alloc();
+    let count = accounts.keys.len();
+    let mut text = accounts.text;
+    if !text.is_empty() && !text.ends_with(b"\n") {
+        text.push(b'\n')?;
+    }
+    put_account(&mut text, name.as_bytes(), key.as_bytes())?;
+    match read_sums(alloc, text.as_slice())? {
+        // A name with a line feed in it could be two accounts.
+        Some(keys) if keys.len() - 1 == count => Ok(text),
+        _ => {
+            let words = format!(in alloc;
+                "'{}' is no name: one has a small letter, and then small letters and digits, at most 16 in all",
+                name.escape_debug()
+            )?;
+            Err(Fault::Bad(words))
+        }
+    }
+}
+
+/// Writes the file of accounts anew: a crash leaves the old one or the new one.
+fn write_accounts(rt: &HostRuntime, folder: &str, text: &[u8]) -> Result<(), Fault> {
+    let alloc = rt.alloc();
+    let new = path_in(alloc, folder, NEW_ACCOUNTS)?;
+    match fs::remove_file(rt, new.as_str()) {
+        Err(error) if error.kind() != ErrorKind::NotFound => return Err(error.into()),
+        _ => {}
+    }
+    write_new(rt, new.as_str(), text)?;
+    fs::rename(rt, new.as_str(), path_in(alloc, folder, ACCOUNTS)?.as_str())?;
+    sync_folder(rt, folder)?;
+    Ok(())
+}
+
+/// Adds an account, writes its key to standard output, and answers the program's status. The key is nowhere else.
+pub fn add_account(rt: &HostRuntime, folder: &str, name: &str) -> Result<u8, Fault> {
+    let _lock = lock_folder(
+        rt,
+        rt.alloc(),
+        folder,
+        "stop it first (kl1_host stop DIR), and run it again after that",
+    )?;
+    let accounts = accounts_in(rt, folder)?;
+    refuse_used(rt, &accounts, name)?;
+    let key = new_key(rt)?;
+    let before = accounts.text.len();
+    let text = text_with(rt, accounts, name, key.as_str())?;
+    write_accounts(rt, folder, text.as_slice())?;
+    if let Err(error) = println!(rt; "{key}") {
+        // Nobody has the key, so the account goes again.
+        write_accounts(rt, folder, text.get(..before).unwrap_or(text.as_slice()))?;
+        return Err(error.into());
+    }
+    Ok(0)
+}

@@ -1,0 +1,89 @@
+// What the program does while its host runs.
+
+use crate::control::Attendant;
+use crate::program::Program;
+use crate::web::disk_of;
+use kl1_host_front::{Number, put_account_status, put_host};
+use kl1_host_web::Machine;
+use kl1_host_work::{HostView, Performer};
+use kl1_session::Key;
+use std::alloc::AllocError;
+use std::random::RandomSource;
+use std::rt::Files;
+use std::sync::Wait;
+use std::time::Clock;
+
+/// The program with what can be seen of its host, and what does commands for it.
+#[derive(Drop)]
+pub struct Attending<'p, 'f, R, P: Performer, V: HostView>
+where
+    R: Wait + Clock + Eprint + Files + RandomSource,
+{
+    pub program: &'p Program<'f, R>,
+    pub performer: &'p mut P,
+    pub host: &'p V,
+    /// The second in which sessions of browsers were looked at last.
+    pub last: u64,
+}
+
+/// A number with its name.
+fn number(name: &'static [u8], number: u64) -> Number<'static> {
+    Number { name, number }
+}
+
+impl<R, P: Performer, V: HostView> Attending<'_, '_, R, P, V>
+where
+    R: Wait + Clock + Eprint + Files + RandomSource,
+{
+    /// Puts the line of an account after others.
+    fn put_account(&self, out: &mut Vec<u8>, account: usize, key: &Key) -> Result<(), AllocError> {
+        let program = self.program;
+        let name = key.name.as_slice();
+        let usage = self.host.usage(account)?;
+        let counted = self.host.counted(account)?;
+        let disk = disk_of(program.rt, program.alloc, program.folder, name)?;
+        let numbers = [
+            number(b"sessions", self.host.sessions(account)?),
+            number(b"entries", usage.entries.count),
+            number(b"events", counted.events),
+            number(b"steps", counted.steps),
+            number(b"disk", disk),
+            number(b"memory", self.host.bytes(account)?),
+            number(b"goals", usage.goals.count),
+            number(b"shoens", usage.shoens.count),
+            number(b"variables", usage.variables.count),
+            number(b"structures", usage.structures.count),
+        ];
+        put_account_status(out, name, &numbers, self.host.is_stopped(account))
+    }
+}
+
+impl<R, P: Performer, V: HostView> Attendant for Attending<'_, '_, R, P, V>
+where
+    R: Wait + Clock + Eprint + Files + RandomSource,
+{
+    fn put_status(&self, out: &mut Vec<u8>) -> Result<(), AllocError> {
+        let seconds = match self.program.begun.elapsed(self.program.rt) {
+            Ok(time) => time.as_secs(),
+            Err(_) => 0,
+        };
+        let numbers = [
+            number(b"seconds", seconds),
+            number(b"connections", self.host.connections() as u64),
+        ];
+        put_host(out, &numbers)?;
+        for (account, key) in self.program.keys.iter().enumerate() {
+            self.put_account(out, account, key)?;
+        }
+        Ok(())
+    }
+
+    /// Ends the sessions of browsers that made no request for too long.
+    fn tick(&mut self) {
+        let second = self.program.machine.seconds();
+        if second != self.last {
+            self.last = second;
+            self.program.end_idle(self.performer, self.host);
+        }
+    }
+}

@@ -1,0 +1,39 @@
+// One host at a time in a folder.
+
+use crate::fault::Fault;
+use crate::folder::{LOCK, path_in};
+use std::alloc::Global;
+use std::fs::{File, OpenOptions, TryLockError};
+use std::rt::Files;
+
+/// Takes the lock of a folder: who has it holds it until the file is closed. If another has it, these words tell what to do.
+pub fn lock_folder<R: Files<File = File>>(
+    rt: &R,
+    alloc: Global,
+    folder: &str,
+    advice: &str,
+) -> Result<File, Fault> {
+    let path = path_in(alloc, folder, LOCK)?;
+    let file = match OpenOptions::new()
+        .read(true)
+        .write(true)
+        .open(rt, path.as_str())
+    {
+        Ok(file) => file,
+        Err(error) => {
+            let words = format!(in alloc; "{path}: {error}; kl1_host init DIR makes a folder")?;
+            return Err(Fault::Bad(words));
+        }
+    };
+    match file.try_lock() {
+        Ok(()) => Ok(file),
+        Err(TryLockError::WouldBlock) => {
+            let words = format!(in alloc; "{folder}: a host runs there; {advice}")?;
+            Err(Fault::Refused(words))
+        }
+        Err(TryLockError::Error(error)) => {
+            let words = format!(in alloc; "{path}: {error}")?;
+            Err(Fault::Bad(words))
+        }
+    }
+}

@@ -1,0 +1,70 @@
+//! The server that stays: a folder with its settings, its accounts and their journals, and what is done with it.
+#![tactic(auto)]
+
+mod accounts;
+mod add;
+mod ask;
+mod attending;
+mod check;
+mod control;
+mod fault;
+mod folder;
+mod init;
+mod journals;
+mod last_line;
+mod lock;
+mod log;
+mod logins;
+mod machine;
+mod new_file;
+mod program;
+mod repair;
+mod run;
+mod settings;
+mod sockets;
+mod start_words;
+mod web;
+mod words;
+
+use crate::add::add_account;
+use crate::ask::ask_host;
+use crate::check::check_folder;
+use crate::fault::Fault;
+use crate::init::init_folder;
+use crate::run::run_folder;
+use crate::words::{Task, task_in, tell};
+use std::env;
+use std::process::ExitCode;
+
+fn main(rt: HostRuntime) -> ExitCode {
+    let done = match words_in(&rt) {
+        Ok(words) => match task_in(rt.alloc(), words.as_slice()) {
+            // A host waits for its threads, which only `main` may.
+            Ok(Task::Run { folder, repairs }) => run_folder(&rt, folder, repairs),
+            Ok(task) => do_task(&rt, task),
+            Err(error) => tell(&rt, &error),
+        },
+        Err(fault) => Err(fault),
+    };
+    match done {
+        Ok(status) => ExitCode::from(status),
+        Err(fault) => fault.tell(&rt),
+    }
+}
+
+/// The words of the program, of which the first is its name.
+fn words_in(rt: &HostRuntime) -> Result<Vec<String>, Fault> {
+    Ok(env::args(rt)?.collect(rt.alloc())?)
+}
+
+/// Does a task that waits for no thread, and answers the program's status.
+fn do_task(rt: &HostRuntime, task: Task<'_>) -> Result<u8, Fault> {
+    match task {
+        Task::Init(folder) => init_folder(rt, folder),
+        Task::Add { folder, name } => add_account(rt, folder, name),
+        Task::Check(folder) => check_folder(rt, folder),
+        Task::Status(folder) => ask_host(rt, folder, "status\n"),
+        Task::Stop(folder) => ask_host(rt, folder, "stop\n"),
+        Task::Run { .. } => Ok(0),
+    }
+}

@@ -1,0 +1,230 @@
+// What a host asks of this program.
+
+ghost use Rattle.std.specs.Prelude.{◌≡◌, length};
+ghost use Rattle.kl1_host.specs.Ends.{end_word};
+
+use crate::attending::Attending;
+use crate::control::answer_until_stop;
+use crate::log::Log;
+use crate::logins::LoginLog;
+use crate::machine::ThisMachine;
+use crate::web::{WebAccounts, is_local};
+use kl1_host_front::{Field, Pauses, PausingDoor, address_number};
+use kl1_host_web::{AskedRecord, Page, Service, SessionBook, Site};
+use kl1_host_work::{Front, HostEvent, HostView, Listeners, Performer};
+use kl1_lines::{Sink, Source};
+use kl1_session::{Disconnect, Key};
+use std::alloc::{AllocError, Global};
+use std::net::{Ipv4Addr, SocketAddr, SocketAddrV4, TcpListener};
+use std::os::unix::net::{UnixListener, UnixStream};
+use std::random::RandomSource;
+use std::rt::Files;
+use std::sync::{Mutex, Wait};
+use std::time::{Clock, Instant};
+
+/// The program around a host.
+#[derive(Drop)]
+pub struct Program<'f, R: Wait + Clock + Eprint + Files + RandomSource> {
+    pub rt: &'f R,
+    pub alloc: Global,
+    pub folder: &'f str,
+    pub keys: &'f [Key],
+    /// How many bytes an account may take.
+    pub memory_each: u64,
+    pub pauses: &'f Mutex<Pauses>,
+    /// The sessions of browsers.
+    pub sessions: &'f Mutex<SessionBook>,
+    /// The names by which browsers know the host.
+    pub sites: &'f [Site],
+    /// After how many seconds without a request a browser's session ends.
+    pub idle: u64,
+    pub machine: ThisMachine<'f, R>,
+    pub log: &'f Log<'f, R>,
+    pub listeners: Listeners<'f>,
+    /// Where it is asked how it goes, and to stop.
+    pub socket: &'f UnixListener,
+    pub begun: Instant,
+    /// Who asked it to stop, and waits for its end.
+    pub asker: &'f Mutex<Option<UnixStream>>,
+}
+
+/// The word for how a connection ended.
+fn end_of(ended: Disconnect) -> &'static [u8]
+    ensures { result.now ≡ end_word ended }
+{
+    match ended {
+        Disconnect::Bye => b"logout",
+        Disconnect::Ended => b"end",
+        Disconnect::Fault => b"fault",
+    }
+}
+
+impl<'f, R: Wait + Clock + Eprint + Files + RandomSource> Program<'f, R> {
+    /// Who lets in whoever connects from this address.
+    fn door_of(&self, address: SocketAddr) -> PausingDoor<'f, R, LoginLog<'f, R>>
+        ensures { result.keys.now ≡ self.now.keys.now }
+    {
+        PausingDoor {
+            rt: self.rt,
+            keys: self.keys,
+            pauses: self.pauses,
+            address: address_number(address.ip()),
+            teller: LoginLog {
+                log: self.log,
+                address,
+            },
+        }
+    }
+
+    /// The accounts of a host, for whoever asks from this address.
+    pub fn accounts_of<'p, 'w, P: Performer, V: HostView>(
+        &self,
+        address: SocketAddr,
+        performer: &'p mut P,
+        host: &'w V,
+    ) -> WebAccounts<'p, 'w, 'f, R, P, V> {
+        WebAccounts {
+            rt: self.rt,
+            alloc: self.alloc,
+            folder: self.folder,
+            most_bytes: self.memory_each,
+            door: self.door_of(address),
+            performer,
+            host,
+            record: AskedRecord::new(),
+        }
+    }
+
+    /// What browsers are served by.
+    pub fn service(&self, is_local: bool) -> Service<'_, R, ThisMachine<'f, R>> {
+        Service {
+            rt: self.rt,
+            alloc: self.alloc,
+            machine: &self.machine,
+            page: Page {
+                sessions: self.sessions,
+                sites: self.sites,
+                idle: self.idle,
+            },
+            is_local,
+        }
+    }
+
+    /// Ends the sessions of browsers that made no request for too long.
+    pub fn end_idle<P: Performer, V: HostView>(&self, performer: &mut P, host: &V) {
+        // No key is tried, so it counts for no address.
+        let address = SocketAddr::V4(SocketAddrV4::new(Ipv4Addr::LOCALHOST, 0));
+        let mut accounts = self.accounts_of(address, performer, host);
+        self.service(true).end_idle(&mut accounts);
+    }
+
+    /// The name of an account, by its number.
+    pub fn name_of(&self, account: usize) -> &[u8] {
+        match self.keys.get(account) {
+            Some(key) => key.name.as_slice(),
+            None => b"",
+        }
+    }
+
+    /// Tells that an account is restored.
+    fn tell_restored(&self, account: usize, entries: u64) {
+        if let Ok(text) = format!(in self.alloc; "{entries}") {
+            let account = Field {
+                name: b"account",
+                value: self.name_of(account),
+            };
+            let entries = Field {
+                name: b"entries",
+                value: text.as_bytes(),
+            };
+            self.log.tell(b"restored", &[account, entries]);
+        }
+    }
+
+    /// Tells that a host is ready, and where.
+    fn tell_ready(&self) -> Result<(), AllocError> {
+        let listen = local_of(self.alloc, self.listeners.clients)?;
+        let listen = Field {
+            name: b"listen",
+            value: listen.as_bytes(),
+        };
+        match self.listeners.browsers {
+            None => self.log.tell(b"ready", &[listen]),
+            Some(browsers) => {
+                let web = local_of(self.alloc, browsers)?;
+                let web = Field {
+                    name: b"web",
+                    value: web.as_bytes(),
+                };
+                self.log.tell(b"ready", &[listen, web]);
+            }
+        }
+        Ok(())
+    }
+}
+
+/// The address and the port at which something listens.
+fn local_of(alloc: Global, listener: &TcpListener) -> Result<String, AllocError> {
+    match listener.local_addr() {
+        Ok(address) => format!(in alloc; "{address}"),
+        Err(_) => format!(in alloc; "-"),
+    }
+}
+
+impl<'f, R: Wait + Clock + Eprint + Files + RandomSource + Sync> Front for Program<'f, R> {
+    type Entrance = PausingDoor<'f, R, LoginLog<'f, R>>;
+
+    ghost accounts = { λ p. length p.keys.now };
+
+    fn door(&self, address: SocketAddr) -> PausingDoor<'f, R, LoginLog<'f, R>> {
+        self.door_of(address)
+    }
+
+    fn tell(&self, event: HostEvent) {
+        match event {
+            HostEvent::Restored { account, entries } => self.tell_restored(account, entries),
+            HostEvent::Opened(_) => {}
+            HostEvent::TurnedAway(address) => self.log.tell_of(b"turned_away", address, &[]),
+            HostEvent::Closed(address, ended) => {
+                let how = Field {
+                    name: b"by",
+                    value: end_of(ended),
+                };
+                self.log.tell_of(b"closed", address, &[how])
+            }
+            HostEvent::Stopped { account, .. } => {
+                let who = Field {
+                    name: b"account",
+                    value: self.name_of(account),
+                };
+                self.log.tell(b"journal_fault", &[who])
+            }
+        }
+    }
+
+    fn serve_pages<S: Source, T: Sink, P: Performer, V: HostView>(
+        &self,
+        address: SocketAddr,
+        source: &mut S,
+        sink: &mut T,
+        performer: &mut P,
+        host: &V,
+    ) {
+        let mut accounts = self.accounts_of(address, performer, host);
+        self.service(is_local(address))
+            .serve(source, sink, &mut accounts);
+    }
+
+    fn attend<P: Performer, V: HostView>(&self, performer: &mut P, host: &V) {
+        let _ = self.tell_ready();
+        let mut attending = Attending {
+            program: self,
+            performer,
+            host,
+            last: 0,
+        };
+        let asker = answer_until_stop(self.rt, self.alloc, self.socket, &mut attending);
+        *self.asker.lock(self.rt) = Some(asker);
+        self.log.tell(b"stop", &[]);
+    }
+}

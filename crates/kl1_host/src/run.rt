@@ -1,0 +1,241 @@
+// A host runs.
+
+ghost use Rattle.kl1_host.specs.Setups.{IsSynced, IsSetUp};
+
+use crate::accounts::{Accounts, accounts_in};
+use crate::fault::Fault;
+use crate::folder::{SOCKET, path_in};
+use crate::journals::files_of;
+use crate::lock::lock_folder;
+use crate::log::Log;
+use crate::machine::ThisMachine;
+use crate::program::Program;
+use crate::repair::{cut_journal, word_of_now};
+use crate::settings::settings_of;
+use crate::sockets::{bind, socket_of};
+use crate::start_words::start_fault;
+use crate::web::sites_of;
+use kl1_host_front::{Field, Pauses, Settings, Sync as Syncs};
+use kl1_host_web::SessionBook;
+use kl1_host_work::{Limits, Listeners, Setup, StartFault, Syncing, run_host};
+use std::alloc::Global;
+use std::fs::{self, File};
+use std::net::{Net, TcpListener, TcpStream};
+use std::os::unix::net::{UnixListener, UnixStream};
+use std::random::RandomSource;
+use std::rt::Files;
+use std::sync::{Mutex, Wait};
+use std::thread::Threads;
+use std::time::{Clock, Duration, Instant};
+
+/// How long after a change it is written if no reply waits for it, in milliseconds.
+const WRITTEN_AFTER: u64 = 100;
+
+/// When journals are written, and whether replies wait for it.
+fn syncing_of(sync: Syncs) -> Syncing
+    ensures { IsSynced sync result }
+{
+    match sync {
+        Syncs::Always => Syncing {
+            replies_wait: true,
+            period: Duration::from_millis(WRITTEN_AFTER),
+        },
+        Syncs::Every(period) => Syncing {
+            replies_wait: false,
+            period: Duration::from_millis(period),
+        },
+        Syncs::Never => Syncing {
+            replies_wait: false,
+            period: Duration::from_secs(1),
+        },
+    }
+}
+
+/// How a host of this number of accounts is set up.
+fn setup_of(settings: &Settings, accounts: usize) -> Setup
+    ensures { IsSetUp settings.now accounts result }
+{
+    Setup {
+        workers: match settings.workers {
+            Some(workers) => workers as usize,
+            None => accounts,
+        },
+        connections: settings.connections as usize,
+        limits: Limits {
+            each: settings.connections_each as usize,
+            idle: Duration::from_millis(settings.idle),
+        },
+        syncing: syncing_of(settings.sync),
+        codes_each: settings.codes_each,
+        memory_each: settings.memory_each,
+    }
+}
+
+/// Runs a host until it is asked to stop. With `repairs` a journal with a fault goes on from what is before it.
+fn serve<R>(program: &Program<'_, R>, settings: &Settings, repairs: bool) -> Result<(), Fault>
+where
+    R: Net<Listener = TcpListener, Stream = TcpStream>
+        + Files<File = File>
+        + RandomSource
+        + Threads
+        + Wait
+        + Clock
+        + Eprint
+        + Sync,
+    R::Dir: Send + Sync,
+{
+    let (rt, alloc, keys) = (program.rt, program.alloc, program.keys);
+    let word = word_of_now(rt, alloc)?;
+    let repair = if repairs { Some(word.as_str()) } else { None };
+    let setup = setup_of(settings, keys.len());
+    // Each account needs one repair at most: what is before an entry that isn't accepted is accepted.
+    for _ in 0..keys.len().saturating_add(1) {
+        let files = files_of(program.log, program.folder, keys, repair)?;
+        match run_host(rt, alloc, program.listeners, program, files, setup) {
+            Ok(_files) => return Ok(()),
+            Err(StartFault::Unaccepted { account, line }) if repairs => {
+                let name = program.name_of(account);
+                cut_journal(rt, alloc, program.folder, name, line, word.as_str())?;
+                program.log.tell_repaired(name, line);
+            }
+            Err(fault) => return Err(start_fault(alloc, program.folder, keys, fault)?),
+        }
+    }
+    Err(Fault::Memory)
+}
+
+/// What a host needs of its folder, and where it listens.
+#[derive(Drop)]
+struct HostFolder {
+    settings: Settings,
+    accounts: Accounts,
+    clients: TcpListener,
+    browsers: Option<TcpListener>,
+    socket: UnixListener,
+}
+
+/// Looks at the settings and the accounts of a folder, and then listens.
+fn opened<R>(rt: &R, alloc: Global, folder: &str) -> Result<HostFolder, Fault>
+where
+    R: Net<Listener = TcpListener, Stream = TcpStream> + Files<File = File> + AllocGlobal,
+{
+    let settings = settings_of(rt, folder)?;
+    let accounts = accounts_in(rt, folder)?;
+    let clients = bind(rt, alloc, settings.listen.as_str())?;
+    let browsers = match &settings.web {
+        Some(address) => Some(bind(rt, alloc, address.as_str())?),
+        None => None,
+    };
+    let socket = socket_of(rt, alloc, folder)?;
+    Ok(HostFolder {
+        settings,
+        accounts,
+        clients,
+        browsers,
+        socket,
+    })
+}
+
+/// Runs a host with what is opened until it is asked to stop.
+fn run_opened<R>(
+    log: &Log<'_, R>,
+    folder: &str,
+    opened: &HostFolder,
+    repairs: bool,
+    asker: &Mutex<Option<UnixStream>>,
+) -> Result<(), Fault>
+where
+    R: Net<Listener = TcpListener, Stream = TcpStream>
+        + Files<File = File>
+        + RandomSource
+        + Threads
+        + Wait
+        + Clock
+        + Eprint
+        + Sync,
+    R::Dir: Send + Sync,
+{
+    let (rt, alloc, settings) = (log.rt, log.alloc, &opened.settings);
+    let pauses = Mutex::new(Pauses::new(alloc));
+    let sessions = Mutex::new(SessionBook::new(alloc)?);
+    let sites = sites_of(alloc, settings, opened.browsers.as_ref())?;
+    let program = Program {
+        rt,
+        alloc,
+        folder,
+        keys: opened.accounts.keys.as_slice(),
+        memory_each: settings.memory_each,
+        pauses: &pauses,
+        sessions: &sessions,
+        sites: sites.as_slice(),
+        idle: settings.idle / 1_000,
+        machine: ThisMachine { rt },
+        log,
+        listeners: Listeners {
+            clients: &opened.clients,
+            browsers: opened.browsers.as_ref(),
+        },
+        socket: &opened.socket,
+        begun: Instant::now(rt)?,
+        asker,
+    };
+    serve(&program, settings, repairs)
+}
+
+/// Runs the host of a folder, which is locked meanwhile, until it is asked to stop.
+fn run_locked<R>(
+    rt: &R,
+    folder: &str,
+    repairs: bool,
+    asker: &Mutex<Option<UnixStream>>,
+) -> Result<(), Fault>
+where
+    R: Net<Listener = TcpListener, Stream = TcpStream>
+        + Files<File = File>
+        + AllocGlobal
+        + RandomSource
+        + Threads
+        + Wait
+        + Clock
+        + Eprint
+        + Sync,
+    R::Dir: Send + Sync,
+{
+    let alloc = rt.alloc();
+    let _lock = lock_folder(rt, alloc, folder, "one host at a time")?;
+    let opened = opened(rt, alloc, folder)?;
+    let log = Log { rt, alloc };
+    let folder_field = Field {
+        name: b"folder",
+        value: folder.as_bytes(),
+    };
+    log.tell(b"start", &[folder_field]);
+    let ended = run_opened(&log, folder, &opened, repairs, asker);
+    let _ = fs::remove_file(rt, path_in(alloc, folder, SOCKET)?.as_str());
+    if ended.is_ok() {
+        log.tell(b"end", &[]);
+    }
+    ended
+}
+
+/// Runs the host of a folder until it is asked to stop, and answers the program's status. With `repairs` a journal with a fault goes on
+/// from what is before it, and what it was is kept beside it.
+pub fn run_folder<R>(rt: &R, folder: &str, repairs: bool) -> Result<u8, Fault>
+where
+    R: Net<Listener = TcpListener, Stream = TcpStream>
+        + Files<File = File>
+        + AllocGlobal
+        + RandomSource
+        + Threads
+        + Wait
+        + Clock
+        + Eprint
+        + Sync,
+    R::Dir: Send + Sync,
+{
+    let asker = Mutex::new(None);
+    run_locked(rt, folder, repairs, &asker)?;
+    // Who asked it to stop is told of its end only now, when another host may run.
+    drop(asker);
+    Ok(0)
+}

@@ -1,0 +1,48 @@
+// The settings of a folder.
+
+use crate::fault::Fault;
+use crate::folder::{SETTINGS, path_in};
+use kl1_host_front::{BadSettings, Settings, settings_in};
+use std::alloc::Global;
+use std::fs;
+use std::rt::Files;
+
+/// The words for settings that aren't taken.
+fn bad_settings(alloc: Global, path: &str, bad: &BadSettings) -> Result<Fault, Fault> {
+    let words = match bad {
+        BadSettings::Memory => return Ok(Fault::Memory),
+        BadSettings::Syntax { line, why } => format!(in alloc; "{path}:{line}: {why}")?,
+        BadSettings::Setting {
+            line: Some(line),
+            name,
+            why,
+        } => format!(in alloc;
+            "{path}:{line}: {} {}",
+            name.as_str().escape_debug(),
+            why.words()
+        )?,
+        BadSettings::Setting {
+            line: None,
+            name,
+            why,
+        } => format!(in alloc; "{path}: {} {}", name.as_str().escape_debug(), why.words())?,
+    };
+    Ok(Fault::Bad(words))
+}
+
+/// What the host of a folder is set to.
+pub fn settings_of<R: Files + AllocGlobal>(rt: &R, folder: &str) -> Result<Settings, Fault> {
+    let alloc = rt.alloc();
+    let path = path_in(alloc, folder, SETTINGS)?;
+    let text = match fs::read_to_string(rt, path.as_str()) {
+        Ok(text) => text,
+        Err(error) => {
+            let words = format!(in alloc; "{path}: {error}")?;
+            return Err(Fault::Bad(words));
+        }
+    };
+    match settings_in(alloc, text.as_str()) {
+        Ok(settings) => Ok(settings),
+        Err(bad) => Err(bad_settings(alloc, path.as_str(), &bad)?),
+    }
+}

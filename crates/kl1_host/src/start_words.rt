@@ -1,0 +1,70 @@
+// What is told of a host that doesn't start.
+
+use crate::fault::Fault;
+use crate::folder::JOURNALS;
+use kl1_host_journals::{LinkFault, OpenFault};
+use kl1_host_work::StartFault;
+use kl1_log::LogError;
+use kl1_session::Key;
+use std::alloc::Global;
+
+/// The path of the journal of an account, by its number.
+fn path_of(alloc: Global, folder: &str, keys: &[Key], account: usize) -> Result<String, Fault> {
+    let name = match keys.get(account) {
+        Some(key) => key.name.as_slice(),
+        None => b"",
+    };
+    Ok(format!(in alloc; "{folder}/{JOURNALS}/{}.journal", name.escape_ascii())?)
+}
+
+/// The fault of a journal's file that can't be opened.
+pub fn open_fault(alloc: Global, path: &str, fault: &OpenFault) -> Result<Fault, Fault> {
+    Ok(Fault::Refused(match fault {
+        OpenFault::Line(line) => format!(in alloc;
+            "{path}:{line}: no entry of a journal; kl1_host run DIR --repair keeps what is before it"
+        )?,
+        OpenFault::Failed(error) => format!(in alloc; "{path}: {error}")?,
+    }))
+}
+
+/// The fault of a host that doesn't start.
+pub fn start_fault(
+    alloc: Global,
+    folder: &str,
+    keys: &[Key],
+    fault: StartFault,
+) -> Result<Fault, Fault> {
+    Ok(match fault {
+        StartFault::Accounts => Fault::Bad(format!(in alloc;
+            "{folder}: there is no account yet; kl1_host add DIR NAME adds one"
+        )?),
+        StartFault::Unopened { account, fault } => {
+            open_fault(
+                alloc,
+                path_of(alloc, folder, keys, account)?.as_str(),
+                &fault,
+            )?
+        }
+        StartFault::Unaccepted { account, line } => {
+            let path = path_of(alloc, folder, keys, account)?;
+            Fault::Refused(format!(in alloc;
+                "{path}:{line}: an entry that isn't accepted; kl1_host run DIR --repair keeps what is before it"
+            )?)
+        }
+        StartFault::Unlinked {
+            fault: LinkFault::Memory,
+            ..
+        }
+        | StartFault::Memory => Fault::Memory,
+        StartFault::Unlinked { account, fault } => {
+            let path = path_of(alloc, folder, keys, account)?;
+            Fault::Bad(match fault {
+                LinkFault::Unread(error) | LinkFault::Unwritten(LogError::Failed(error)) => {
+                    format!(in alloc; "{path}: {error}")?
+                }
+                _ => format!(in alloc; "{path}: it can't be written")?,
+            })
+        }
+        StartFault::Threads => Fault::Bad(format!(in alloc; "no thread can be made")?),
+    })
+}

@@ -1,0 +1,224 @@
+// The accounts of a host, as browsers use them.
+
+ghost use Rattle.kl1_host_web.specs.Records.{asked_in};
+
+use crate::folder::{JOURNALS, path_in};
+use crate::logins::LoginLog;
+use kl1_command::{Command, Performed};
+use kl1_host_front::{PausingDoor, Settings, host_of};
+use kl1_host_web::{Accounts, AskedRecord, Measures, SessionBook, Site, Stop, Sums, Viewer};
+use kl1_host_work::{HostView, Performer};
+use kl1_session::Door;
+use kl1_user_events::{Extent, GoalNo, GoalView, Presence, ShoenNo, ShoenView, Usage};
+use std::alloc::{AllocError, Global};
+use std::fs;
+use std::net::{SocketAddr, TcpListener};
+use std::rt::Files;
+use std::snapshot::Snapshot;
+use std::sync::Wait;
+use std::time::Clock;
+
+/// A name of the host with the origin of its page.
+fn site(alloc: Global, host: &str) -> Result<Site, AllocError> {
+    let origin = format!(in alloc; "http://{host}")?;
+    Ok(Site {
+        host: Vec::from_slice(alloc, host.as_bytes())?,
+        origin: Vec::from_slice(alloc, origin.as_bytes())?,
+    })
+}
+
+/// The names of the host: what is set, the address where it listens, and `localhost` with the port.
+fn own_sites(
+    alloc: Global,
+    sites: &mut Vec<Site>,
+    web: &str,
+    listener: &TcpListener,
+) -> Result<(), AllocError> {
+    sites.push(site(alloc, web)?)?;
+    if let Ok(address) = listener.local_addr() {
+        let name = format!(in alloc; "{address}")?;
+        sites.push(site(alloc, name.as_str())?)?;
+        let name = format!(in alloc; "localhost:{}", address.port())?;
+        sites.push(site(alloc, name.as_str())?)?;
+    }
+    Ok(())
+}
+
+/// The names by which browsers know the host: its own, and where its page comes from if a proxy stands before it.
+pub fn sites_of(
+    alloc: Global,
+    settings: &Settings,
+    listener: Option<&TcpListener>,
+) -> Result<Vec<Site>, AllocError> {
+    let mut sites = Vec::new(alloc);
+    if let (Some(web), Some(listener)) = (&settings.web, listener) {
+        own_sites(alloc, &mut sites, web.as_str(), listener)?;
+    }
+    if let Some(page) = &settings.page
+        && let Some(host) = host_of(page.as_bytes())
+    {
+        sites.push(Site {
+            host: Vec::from_slice(alloc, host)?,
+            origin: Vec::from_slice(alloc, page.as_bytes())?,
+        })?;
+    }
+    Ok(sites)
+}
+
+/// Whether an address is of the machine of the host.
+pub fn is_local(address: SocketAddr) -> bool {
+    address.ip().to_canonical().is_loopback()
+}
+
+/// What shows an account of a host.
+#[derive(Drop)]
+pub struct AccountViewer<'w, V: HostView> {
+    host: &'w V,
+    account: usize,
+    most_bytes: u64,
+}
+
+impl<V: HostView> Viewer for AccountViewer<'_, V> {
+    fn shoens_from(&mut self, from: ShoenNo, count: usize) -> Result<Vec<ShoenView>, AllocError> {
+        self.host.shoens_from(self.account, from, count)
+    }
+
+    fn goals_from(&mut self, from: GoalNo, count: usize) -> Result<Vec<GoalView>, AllocError> {
+        self.host.goals_from(self.account, from, count)
+    }
+
+    fn goal_text(&mut self, goal: GoalNo, extent: Extent) -> Result<Option<Vec<u8>>, AllocError> {
+        self.host.goal_text(self.account, goal, extent)
+    }
+
+    fn awaited(&mut self, goal: GoalNo) -> Result<Option<Vec<u32>>, AllocError> {
+        self.host.awaited(self.account, goal)
+    }
+
+    fn presence(&mut self, goal: GoalNo, variable: u64, most: u64) -> Result<Presence, AllocError> {
+        self.host.presence(self.account, goal, variable, most)
+    }
+
+    fn usage(&mut self) -> Result<Usage, AllocError> {
+        self.host.usage(self.account)
+    }
+
+    fn stopped(&mut self) -> Option<Stop> {
+        if self.host.is_stopped(self.account) {
+            return Some(Stop::Disk);
+        }
+        match self.host.bytes(self.account) {
+            Ok(bytes) if bytes > self.most_bytes => Some(Stop::Memory),
+            _ => None,
+        }
+    }
+}
+
+/// The bytes of the journal of an account on disk; 0 if they can't be told.
+pub fn disk_of<R: Files>(
+    rt: &R,
+    alloc: Global,
+    folder: &str,
+    name: &[u8],
+) -> Result<u64, AllocError> {
+    let journals = path_in(alloc, folder, JOURNALS)?;
+    let path = format!(in alloc; "{journals}/{}.journal", name.escape_ascii())?;
+    Ok(match fs::metadata(rt, path.as_str()) {
+        Ok(attributes) => attributes.len(),
+        Err(_) => 0,
+    })
+}
+
+/// The accounts of a host, for one connection of a browser.
+#[derive(Drop)]
+pub struct WebAccounts<'p, 'w, 'f, R: Wait + Clock + Eprint + Files, P: Performer, V: HostView> {
+    pub rt: &'f R,
+    pub alloc: Global,
+    pub folder: &'f str,
+    pub most_bytes: u64,
+    pub door: PausingDoor<'f, R, LoginLog<'f, R>>,
+    pub performer: &'p mut P,
+    pub host: &'w V,
+    pub record: AskedRecord,
+}
+
+impl<'w, R: Wait + Clock + Eprint + Files, P: Performer, V: HostView> Accounts
+    for WebAccounts<'_, 'w, '_, R, P, V> {
+    type Viewer = AccountViewer<'w, V>;
+
+    ghost use Rattle.std.specs.Prelude.{length};
+    ghost use Rattle.kl1_session.specs.Views.{entries_view};
+    ghost use Rattle.kl1_host_front.specs.Sums.{opened_by_sum};
+    ghost use Rattle.kl1_host_web.specs.Records.{asked_in};
+
+    ghost house = { λ w. record { accounts = length w.door.keys.now; opens = opened_by_sum (entries_view w.door.keys.now) } };
+
+    ghost asked = { λ w. asked_in w.record };
+
+    fn count(&self) -> usize {
+        self.door.keys.len()
+    }
+
+    fn open(&mut self, name: &[u8], key: &[u8]) -> Option<usize> {
+        self.door.open(name, key)
+    }
+
+    fn put_name(&self, account: usize, out: &mut Vec<u8>) -> Result<(), AllocError> {
+        match self.door.keys.get(account) {
+            Some(key) => out.extend_from_slice(key.name.as_slice()),
+            None => Ok(()),
+        }
+    }
+
+    fn act(&mut self, account: usize, command: &Command) -> Performed {
+        let performed = self.performer.perform(account, command);
+        self.record
+            .did(Snapshot::of(&account), Snapshot::of(command), &performed);
+        performed
+    }
+
+    fn look(&mut self, account: usize) -> AccountViewer<'w, V> {
+        self.record.looked(account);
+        AccountViewer {
+            host: self.host,
+            account,
+            most_bytes: self.most_bytes,
+        }
+    }
+
+    fn note_search(&mut self, before: Snapshot<u64>, book: Snapshot<SessionBook>) {
+        self.record.sought(before, book);
+    }
+
+    fn measures(&self, account: usize) -> Measures {
+        let bytes = match self.door.keys.get(account) {
+            Some(key) => disk_of(self.rt, self.alloc, self.folder, key.name.as_slice()),
+            None => Ok(0),
+        };
+        Measures {
+            entries: match self.host.usage(account) {
+                Ok(usage) => usage.entries.count,
+                Err(_) => 0,
+            },
+            bytes: bytes.unwrap_or(0),
+        }
+    }
+
+    fn sums(&self) -> Sums {
+        let mut sums = Sums {
+            accounts: self.door.keys.len() as u64,
+            sessions: 0,
+            events: 0,
+            steps: 0,
+        };
+        for account in 0..self.door.keys.len() {
+            let sessions = self.host.sessions(account).unwrap_or(0);
+            sums.sessions = sums.sessions.saturating_add(sessions);
+            if let Ok(counted) = self.host.counted(account) {
+                sums.events = sums.events.saturating_add(counted.events);
+                sums.steps = sums.steps.saturating_add(counted.steps);
+            }
+        }
+        sums
+    }
+}
