@@ -8,13 +8,30 @@ use crate::log::Log;
 use crate::start_words::open_fault;
 use kl1_host_journals::open_in_folder;
 use kl1_host_work::AccountFile;
-use kl1_log::FolderFile;
+use kl1_log::{Disk, FolderFile};
+use kl1_model::limits::MOST_ACCOUNTS;
 use kl1_pool::{AccountName, Rules};
 use kl1_session::Key;
 use std::alloc::Global;
 use std::fs::File;
 use std::rt::Files;
+use std::thread;
+use std::thread::Threads;
 use std::time::Clock;
+
+/// The file of an account that was opened, and the line of the fault if its journal was repaired.
+#[derive(Drop)]
+struct OpenedFile<D: Disk> {
+    file: AccountFile<D>,
+    repaired: Option<u64>,
+}
+
+/// An account whose file is to be opened, and then what became of that.
+#[derive(Drop)]
+struct Opening<'k, D: Disk> {
+    key: &'k Key,
+    opened: Option<Result<OpenedFile<D>, Fault>>,
+}
 
 /// Opens the file of the journal of an account. With a word for the names of files in which what is repaired is kept, a fault is repaired.
 fn file_of<'r, R: Files<File = File> + Clock + Eprint>(
@@ -22,7 +39,7 @@ fn file_of<'r, R: Files<File = File> + Clock + Eprint>(
     folder: &str,
     key: &Key,
     repair: Option<&str>,
-) -> Result<AccountFile<FolderFile<&'r R>>, Fault> {
+) -> Result<OpenedFile<FolderFile<&'r R>>, Fault> {
     let alloc = log.alloc;
     let journals = path_in(alloc, folder, JOURNALS)?;
     let text = format!(in alloc; "{}", key.name.escape_ascii())?;
@@ -39,16 +56,14 @@ fn file_of<'r, R: Files<File = File> + Clock + Eprint>(
         repair,
     );
     match opened {
-        Ok((file, opened)) => {
-            if let Some(line) = opened.repaired {
-                log.tell_repaired(key.name.as_slice(), line);
-            }
-            Ok(AccountFile {
+        Ok((file, opened)) => Ok(OpenedFile {
+            file: AccountFile {
                 name,
                 file,
                 journal: opened.journal,
-            })
-        }
+            },
+            repaired: opened.repaired,
+        }),
         Err(fault) => {
             let path = format!(in alloc; "{journals}/{text}.journal")?;
             Err(open_fault(alloc, path.as_str(), &fault)?)
@@ -56,18 +71,68 @@ fn file_of<'r, R: Files<File = File> + Clock + Eprint>(
     }
 }
 
-/// Opens the files of the journals of accounts, in order, until one can't be opened.
-pub fn files_of<'r, R: Files<File = File> + Clock + Eprint>(
+/// Accounts whose files are to be opened.
+fn openings_of<'k, D: Disk + Drop>(
+    alloc: Global,
+    keys: &'k [Key],
+) -> Result<Vec<Opening<'k, D>>, Fault> {
+    let mut openings = Vec::with_capacity(alloc, keys.len())?;
+    for key in keys {
+        openings.push(Opening { key, opened: None })?;
+    }
+    Ok(openings)
+}
+
+/// Opens the file of the journal of an account.
+fn open_one<'r, R: Files<File = File> + Clock + Eprint>(
+    log: &Log<'r, R>,
+    folder: &str,
+    repair: Option<&str>,
+    opening: &mut Opening<'_, FolderFile<&'r R>>,
+) {
+    opening.opened = Some(file_of(log, folder, opening.key, repair));
+}
+
+/// Tells which journals were repaired, in the order of accounts.
+fn tell_repairs<R: Clock + Eprint, D: Disk>(log: &Log<'_, R>, openings: &[Opening<'_, D>]) {
+    for opening in openings {
+        if let Some(Ok(opened)) = &opening.opened
+            && let Some(line) = opened.repaired
+        {
+            log.tell_repaired(opening.key.name.as_slice(), line);
+        }
+    }
+}
+
+/// Opens the files of the journals of accounts side by side. If some can't be opened, the fault of the first of them is told.
+pub fn files_of<'r, R>(
     log: &Log<'r, R>,
     folder: &str,
     keys: &[Key],
     repair: Option<&str>,
 ) -> Result<Vec<AccountFile<FolderFile<&'r R>>>, Fault>
+where
+    R: Files<File = File> + Clock + Eprint + Threads + Sync,
+    R::Dir: Send + Sync,
     ensures { IfOk result (λ files. length keys.now ≤ vec_len files) }
 {
-    let mut files = Vec::with_capacity(log.alloc, keys.len())?;
-    for key in keys {
-        files.push(file_of(log, folder, key, repair)?)?;
+    let mut openings = openings_of(log.alloc, keys)?;
+    // Each account gets a thread: they are few, and their journals of unequal length.
+    thread::for_each_mut(
+        log.rt,
+        openings.as_mut_slice(),
+        MOST_ACCOUNTS,
+        &|_place: usize, opening: &mut Opening<'_, FolderFile<&R>>| open_one(
+            log, folder, repair, opening,
+        ),
+    );
+    tell_repairs(log, openings.as_slice());
+    let mut files = Vec::with_capacity(log.alloc, openings.len())?;
+    for opening in openings {
+        match opening.opened {
+            Some(opened) => files.push(opened?.file)?,
+            None => return Err(Fault::Memory),
+        }
     }
     // There is one for each, but no clause says so.
     if keys.len() > files.len() {
