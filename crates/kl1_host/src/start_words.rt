@@ -19,12 +19,12 @@ fn path_of(alloc: Global, folder: &str, keys: &[Key], account: usize) -> Result<
 
 /// The fault of a journal's file that can't be opened.
 pub fn open_fault(alloc: Global, path: &str, fault: &OpenFault) -> Result<Fault, Fault> {
-    Ok(Fault::Refused(match fault {
-        OpenFault::Line(line) => format!(in alloc;
+    Ok(match fault {
+        OpenFault::Line(line) => Fault::Refused(format!(in alloc;
             "{path}:{line}: no entry of a journal; kl1_host run DIR --repair keeps what is before it"
-        )?,
-        OpenFault::Failed(error) => format!(in alloc; "{path}: {error}")?,
-    }))
+        )?),
+        OpenFault::Failed(error) => Fault::Bad(format!(in alloc; "{path}: {error}")?),
+    })
 }
 
 /// The fault of a host that doesn't start.
