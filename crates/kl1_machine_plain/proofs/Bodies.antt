@@ -1,7 +1,7 @@
 -- Goals of bodies that come after the others.
 use Rattle.std.proofs.Common.{◌≡◌, ℕ, suc, ◌+◌, ◌<◌, ◌≤◌, ◌&&◌, not, Bool, true, false, List, [], ◌∷◌, ◌++◌, length, map, refl, sym, ap, ◌∙◌, arith, subst, append-nil, append_assoc}
 use Rattle.std.proofs.lemmas.List.{length-map}
-use Rattle.std.specs.Prelude.{find, nat_le, count_by, Option, Some, option_map, unwrap_or}
+use Rattle.std.specs.Prelude.{find, nat_le, count_by, Option, Some, None, option_map, unwrap_or}
 use Rattle.std.specs.List.{AllByRecursion, list_any}
 use Rattle.kl1_model.specs.Module.{goals_of}
 use Rattle.kl1_model.specs.Match.{Candidate}
@@ -11,6 +11,7 @@ use Rattle.kl1_model.specs.Instance.{body_priorities, body_variable}
 use Rattle.kl1_model.specs.State.{State, limits_of}
 use Rattle.kl1_model.specs.Reduction.{commits, or_exhaustion, committed, raised, moved}
 use Rattle.kl1_model.specs.Report.{exhaustion}
+use Rattle.kl1_model.specs.declared.limits.TheConstants.{MONITOR_PRIORITY}
 use Rattle.kl1_text.specs.Reading.{Reads}
 use Rattle.kl1_text.specs.declared.cell_name.CellName.{CellName}
 use Rattle.kl1_store.specs.declared.qualified.Qualified.{Qualified}
@@ -34,6 +35,7 @@ use Rattle.kl1_user_effects.specs.Kept.{IsOwned}
 use Rattle.kl1_user_effects.specs.Drafts.{goals_for}
 use Rattle.kl1_user_effects.specs.Moving.{priorities_by}
 use Rattle.kl1_user_effects.specs.Works.{Made, worked, Knows}
+use Rattle.kl1_user_effects.proofs.Arriving.{clipped_low}
 use Rattle.kl1_user_effects.proofs.Frames.{keeps_same}
 use Rattle.kl1_user_effects.proofs.Goals.{count_read}
 use Rattle.kl1_user_effects.proofs.Works.{turns_as}
@@ -42,7 +44,7 @@ use Rattle.kl1_machine_row.specs.Rows.{Rowed}
 use Rattle.kl1_machine_plain.specs.declared.machine.Machine.{Machine}
 use Rattle.kl1_machine_plain.specs.Machines.{made, IsMachine, Keeps}
 use Rattle.kl1_machine_plain.proofs.Keeping.{Grows}
-use Rattle.kl1_machine_plain.specs.Effects.{goal_at, with_goal, with_goals, Acts, ActsAs, Chosen, Commits}
+use Rattle.kl1_machine_plain.specs.Effects.{goal_at, with_goal, with_goals, Puts, Acts, ActsAs, Chosen, Commits}
 
 -- ---- goals of a body
 
@@ -80,6 +82,15 @@ no_monitors : (all : List (Goal CellName)) (last shoen : ℕ) (ps : List ℕ) (x
 no_monitors all last shoen ps [] = tt
 no_monitors all last shoen [] (x ∷ xs) = tt
 no_monitors all last shoen (p ∷ ps) (x ∷ xs) = (λ b. absurd (cc), no_monitors all (suc last) shoen ps xs)
+
+-- the priority of a goal of a body is one that a goal can have
+pub level_in : (h : Shoen CellName) (own : ℕ) (p : Option ℕ) → own ≤ MONITOR_PRIORITY → h.low ≤ MONITOR_PRIORITY → h.high ≤ MONITOR_PRIORITY → unwrap_or (option_map (clipped h.low h.high) p) own ≤ MONITOR_PRIORITY
+level_in h own None le a b = le
+level_in h own (Some n) le a b = clipped_low h.low h.high n a b
+
+-- after the goal for the first cell there are goals for the others to come
+pub with_next : (shoen p : ℕ) (ps : List ℕ) (x : Qualified CellName) (xs : List (Qualified CellName)) (m n : Machine) → Puts shoen p (Reduces x) m n → with_goals shoen ps xs n ≡ with_goals shoen (p ∷ ps) (x ∷ xs) m
+with_next shoen p ps x xs m n e = ap (with_goals shoen ps xs) e.is
 
 -- ---- whether there is room
 

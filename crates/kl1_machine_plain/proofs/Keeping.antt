@@ -50,6 +50,10 @@ keeps_back m n k p held hooks =
 pub keeps_tree : (m : Machine) (k : Kept CellName) (t : Tree CellName) (c : Counts) → Grows m k → t ≡ record m.shoens { shoens = t.shoens } → Keeps m (record m { store = k; shoens = t; counts = c })
 keeps_tree m k t c g e = record { grown = has_grown m.store k g.grown g.hooks; rest = ap (λ (u : Tree CellName). let z : Machine = record m { store = k; shoens = u; counts = c } in z) e }
 
+-- a tree whose shoens are others, or the same tree
+pub only_shoens : (s t : Tree CellName) (xs : List (Shoen CellName)) → t ≡ record s { shoens = xs } → t ≡ record s { shoens = t.shoens }
+only_shoens s t xs e = e ∙ ap (λ (ys : List (Shoen CellName)). let z : Tree CellName = record s { shoens = ys } in z) (sym (ap (λ (u : Tree CellName). u.shoens) e))
+
 -- and a table of which only goals are others
 pub keeps_goals : (m : Machine) (r : Rowed) (c : Counts) → r ≡ record m.goals { goals = r.goals } → Keeps m (record m { goals = r; counts = c })
 keeps_goals m r c e = record { grown = HasGrown-same m.store; rest = ap (λ (x : Rowed). let z : Machine = record m { goals = x; counts = c } in z) e }

@@ -10,7 +10,7 @@ use Rattle.kl1_user_effects.proofs.Works.{last_made}
 use Rattle.kl1_user_effects.proofs.States.{found_shoen_in, shoen_grown}
 use Rattle.kl1_machine_plain.specs.declared.machine.Machine.{Machine}
 use Rattle.kl1_machine_plain.specs.Effects.{Tells}
-use Rattle.kl1_machine_plain.proofs.Keeping.{keeps_same, keeps_store, keeps_tree}
+use Rattle.kl1_machine_plain.proofs.Keeping.{keeps_same, keeps_store, keeps_tree, only_shoens}
 use Rattle.kl1_machine_plain.proofs.Telling.{told_machine, tells, tells_by, tells_none}
 use Rattle.kl1_machine_plain.proofs.machine.Machine.tell.Goals as goal
 
@@ -72,3 +72,29 @@ returns-in-Dropped-clause-keeps c = keeps_store c.args.self.now c.append_report.
 
 pub returns-in_err-append_report-clause-keeps : goal.returns-in_err-append_report-clause-keeps
 returns-in_err-append_report-clause-keeps c = keeps_store c.args.self.now c.append_report.new.store (record { grown = c.append_report.ensures.grown; hooks = c.append_report.ensures.hooks })
+
+pub returns-in_ok-break_stream-in-Broken-clause-keeps : goal.returns-in_ok-break_stream-in-Broken-clause-keeps
+returns-in_ok-break_stream-in-Broken-clause-keeps c =
+    let m = c.args.self.now in
+    let a = c.in_ok-append_report.ensures in
+    keeps_tree m c.append_report.new.store c.break_stream.new.self m.counts (record { grown = a.grown; hooks = a.hooks }) (only_shoens m.shoens c.break_stream.new.self _ c.in_ok-break_stream-in-Broken.ensures.ok)
+
+pub returns-in_err-break_stream-in-Broken-clause-keeps : goal.returns-in_err-break_stream-in-Broken-clause-keeps
+returns-in_err-break_stream-in-Broken-clause-keeps c =
+    let m = c.args.self.now in
+    let a = c.in_ok-append_report.ensures in
+    keeps_tree m c.append_report.new.store c.break_stream.new.self m.counts (record { grown = a.grown; hooks = a.hooks }) (only_shoens m.shoens c.break_stream.new.self _ c.in_err-break_stream-in-Broken.ensures.err)
+
+pub returns-in_ok-set_tail-in-Sent-clause-keeps : goal.returns-in_ok-set_tail-in-Sent-clause-keeps
+returns-in_ok-set_tail-in-Sent-clause-keeps c =
+    let m = c.args.self.now in
+    let a = c.in_ok-append_report.ensures in
+    let G : Held CellName → Type 0 = λ h. Grown m.store.held h in
+    keeps_tree m c.keep_at_times.new.store c.set_tail.new.self (record m.counts { reports = m.counts.reports + 1 }) (record { grown = subst G (sym c.keep_at_times.ensures.held) a.grown; hooks = c.keep_at_times.ensures.hooks ∙ a.hooks })
+    (only_shoens m.shoens c.set_tail.new.self _ c.in_ok-set_tail-in-Sent.ensures.ok)
+
+pub returns-in_err-set_tail-in-Sent-clause-keeps : goal.returns-in_err-set_tail-in-Sent-clause-keeps
+returns-in_err-set_tail-in-Sent-clause-keeps c =
+    let m = c.args.self.now in
+    let a = c.in_ok-append_report.ensures in
+    keeps_tree m c.append_report.new.store c.set_tail.new.self m.counts (record { grown = a.grown; hooks = a.hooks }) (only_shoens m.shoens c.set_tail.new.self _ c.in_err-set_tail-in-Sent.ensures.err)
