@@ -2,10 +2,10 @@ use Rattle.kl1_machine_plain.proofs.Keeping.{begun_mark, went_back}
 use Rattle.kl1_machine_plain.proofs.machine.Machine.back.Goals as goal
 
 pub back-requires : goal.back-requires
-back-requires g c = (g.begun.store, (begun_mark g.begun c.args.self.now c.requires.begun c.requires.keeps, (c.requires.begun.formed, c.requires.keeps.grown)))
+back-requires g c = (g.begun.store, (begun_mark g.begun c.args.self.now c.requires.0 c.requires.1, (c.requires.0.formed, c.requires.1.grown)))
 
 pub returns : goal.returns
 returns g c =
     let b = g.begun in
-    let mark = begun_mark b c.args.self.now c.requires.begun c.requires.keeps in
-    went_back b c.args.self.now c.back.new.self c.back-2.new.self c.back-3.new.self c.requires.begun c.requires.keeps (c.back.ensures.held b.store mark c.requires.keeps.grown) (c.back.ensures.hooks b.store mark c.requires.keeps.grown) c.back-2.ensures c.back-3.ensures.shoens c.back-3.ensures.work
+    let mark = begun_mark b c.args.self.now c.requires.0 c.requires.1 in
+    went_back b c.args.self.now c.back.new.self c.back-2.new.self c.back-3.new.self c.requires.0 c.requires.1 (c.back.ensures.held b.store mark c.requires.1.grown) (c.back.ensures.hooks b.store mark c.requires.1.grown) c.back-2.ensures c.back-3.ensures.shoens c.back-3.ensures.work
