@@ -1,7 +1,7 @@
 -- Goals of bodies that come after the others.
-use Rattle.std.proofs.Common.{◌≡◌, ℕ, suc, ◌+◌, ◌<◌, ◌≤◌, ◌&&◌, not, Bool, true, false, List, [], ◌∷◌, ◌++◌, length, map, refl, sym, ap, ◌∙◌, arith, subst, append-nil, append_assoc}
+use Rattle.std.proofs.Common.{◌≡◌, ℕ, suc, ◌+◌, ◌-◌, ◌<◌, ◌≤◌, ◌&&◌, not, Bool, true, false, List, [], ◌∷◌, ◌++◌, length, map, refl, sym, ap, ◌∙◌, arith, subst, append-nil, append_assoc}
 use Rattle.std.proofs.lemmas.List.{length-map}
-use Rattle.std.specs.Prelude.{find, nat_le, count_by, Option, Some, None, option_map, unwrap_or}
+use Rattle.std.specs.Prelude.{find, nat_le, count_by, Option, Some, option_map, unwrap_or}
 use Rattle.std.specs.List.{AllByRecursion, list_any}
 use Rattle.kl1_model.specs.Module.{goals_of}
 use Rattle.kl1_model.specs.Match.{Candidate}
@@ -11,7 +11,6 @@ use Rattle.kl1_model.specs.Instance.{body_priorities, body_variable}
 use Rattle.kl1_model.specs.State.{State, limits_of}
 use Rattle.kl1_model.specs.Reduction.{commits, or_exhaustion, committed, raised, moved}
 use Rattle.kl1_model.specs.Report.{exhaustion}
-use Rattle.kl1_model.specs.declared.limits.TheConstants.{MONITOR_PRIORITY}
 use Rattle.kl1_text.specs.Reading.{Reads}
 use Rattle.kl1_text.specs.declared.cell_name.CellName.{CellName}
 use Rattle.kl1_store.specs.declared.qualified.Qualified.{Qualified}
@@ -35,7 +34,6 @@ use Rattle.kl1_user_effects.specs.Kept.{IsOwned}
 use Rattle.kl1_user_effects.specs.Drafts.{goals_for}
 use Rattle.kl1_user_effects.specs.Moving.{priorities_by}
 use Rattle.kl1_user_effects.specs.Works.{Made, worked, Knows}
-use Rattle.kl1_user_effects.proofs.Arriving.{clipped_low}
 use Rattle.kl1_user_effects.proofs.Frames.{keeps_same}
 use Rattle.kl1_user_effects.proofs.Goals.{count_read}
 use Rattle.kl1_user_effects.proofs.Works.{turns_as}
@@ -44,7 +42,7 @@ use Rattle.kl1_machine_row.specs.Rows.{Rowed}
 use Rattle.kl1_machine_plain.specs.declared.machine.Machine.{Machine}
 use Rattle.kl1_machine_plain.specs.Machines.{made, IsMachine, Keeps}
 use Rattle.kl1_machine_plain.proofs.Keeping.{Grows}
-use Rattle.kl1_machine_plain.specs.Effects.{goal_at, with_goal, with_goals, Puts, Acts, ActsAs, Chosen, Commits}
+use Rattle.kl1_machine_plain.specs.Effects.{goal_at, with_goal, with_goals, Acts, ActsAs, Chosen, Commits}
 
 -- ---- goals of a body
 
@@ -82,15 +80,6 @@ no_monitors : (all : List (Goal CellName)) (last shoen : ℕ) (ps : List ℕ) (x
 no_monitors all last shoen ps [] = tt
 no_monitors all last shoen [] (x ∷ xs) = tt
 no_monitors all last shoen (p ∷ ps) (x ∷ xs) = (λ b. absurd (cc), no_monitors all (suc last) shoen ps xs)
-
--- the priority of a goal of a body is one that a goal can have
-pub level_in : (h : Shoen CellName) (own : ℕ) (p : Option ℕ) → own ≤ MONITOR_PRIORITY → h.low ≤ MONITOR_PRIORITY → h.high ≤ MONITOR_PRIORITY → unwrap_or (option_map (clipped h.low h.high) p) own ≤ MONITOR_PRIORITY
-level_in h own None le a b = le
-level_in h own (Some n) le a b = clipped_low h.low h.high n a b
-
--- after the goal for the first cell there are goals for the others to come
-pub with_next : (shoen p : ℕ) (ps : List ℕ) (x : Qualified CellName) (xs : List (Qualified CellName)) (m n : Machine) → Puts shoen p (Reduces x) m n → with_goals shoen ps xs n ≡ with_goals shoen (p ∷ ps) (x ∷ xs) m
-with_next shoen p ps x xs m n e = ap (with_goals shoen ps xs) e.is
 
 -- ---- whether there is room
 
@@ -154,26 +143,26 @@ many_cells b goal m k sh ps cells n a f reads c candidate =
     ∙ count_read f k.held cells
 
 pub commits_body : (b : Chosen) (goal : Goal CellName) (x : Qualified CellName) (m : Machine) (k : Kept CellName) (sh : Shoen CellName) (ps : List (Option ℕ)) (cells : List (Qualified CellName)) (n : Needs) (u : Machine) → HasBody b goal m k sh ps cells n → IsMachine u →
-    u ≡ with_goals sh.number (priorities_by (Some sh) goal.priority ps) cells (record m { store = k }) → Commits b goal x m (with_needs n u)
+    u ≡ with_goals sh.number (priorities_by (Some sh) goal.priority ps) cells (with_needs n (record m { store = k })) → Commits b goal x m u
 commits_body b goal x m k sh ps cells n u a after is =
     let h = m.store.held in
     let qs = priorities_by (Some sh) goal.priority ps in
     let come = goals_for m.counts.last_goal sh.number qs cells in
-    let v = with_come sh.number qs cells (record m { store = k }) in
-    let C : Machine → Type 0 = λ y. IsMachine y → Commits b goal x m (with_needs n y) in
-    subst C (sym (is ∙ goals_are sh.number qs cells (record m { store = k })))
+    let v = with_come sh.number qs cells (with_needs n (record m { store = k })) in
+    let C : Machine → Type 0 = λ y. IsMachine y → Commits b goal x m y in
+    subst C (sym (is ∙ goals_are sh.number qs cells (with_needs n (record m { store = k }))))
     (λ machine. record {
       turns = λ ms c candidate.
           let B = commit_turns ms h k.held (made m) goal (Some sh) ps n.variables n.nodes cells c a.machine.inside a.grows.grown a.found a.owned a.inside (λ f knows. a.priorities f h b.places (c f) (candidate f knows)) (λ f knows. (a.needs f h b.places (c f) (candidate f knows)).variables)
           (λ f knows. (a.needs f h b.places (c f) (candidate f knows)).nodes) (λ f knows. a.body f knows.reads (c f) (candidate f knows)) in
           record {
-            inside = (needs_machine n v machine).inside;
+            inside = machine.inside;
             states = λ f knows s.
                 let d = a.needs f h b.places (c f) (candidate f knows) in
                 let S = worked f s h (made m) in
                 let many = many_cells b goal m k sh ps cells n a f knows.reads (c f) (candidate f knows) in
                 let last : m.counts.last_goal + length cells ≡ m.counts.last_goal + length come = ap (λ y. m.counts.last_goal + y) (sym (as_many m.counts.last_goal sh.number qs cells many)) in
-                let same : with_body (made m) goal.shoen qs cells n.variables n.nodes ≡ made (with_needs n v) =
+                let same : with_body (made m) goal.shoen qs cells n.variables n.nodes ≡ made v =
                 ap (λ y. with_body (made m) y qs cells n.variables n.nodes) (sym a.number)
                 ∙ ap (λ y. let z : Made = record (with_body (made m) sh.number qs cells n.variables n.nodes) { last_goal = y } in z) last in
                 ap (λ y. or_exhaustion y (goal_with (meaning f h) goal) (aim f h x) (committed (goal_with (meaning f h) goal) (c f) S) S)
@@ -182,7 +171,7 @@ commits_body b goal x m k sh ps cells n u a after is =
                 ∙ ap (λ (y : Made). worked f s k.held y) same;
           };
       acts = record {
-        machine = needs_machine n v machine;
+        machine = machine;
         grown = a.grows.grown;
         hooks = a.grows.hooks;
         comes = record { added = come; goals = refl; above = goals_for_above m.counts.last_goal m.counts.last_goal sh.number qs cells (omega arith); last = omega arith; met = no_monitors come m.counts.last_goal sh.number qs cells };

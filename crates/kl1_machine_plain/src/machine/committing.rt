@@ -107,18 +107,18 @@ impl Machine {
         }
         // Only for the proof: the shoens are numbered in order.
         let _numbered = self.shoens.len();
-        let Some(shoen) = self.shoens.lend(goal.shoen).copied() else {
+        let Some(lent) = self.shoens.lend(goal.shoen) else {
             unreachable!()
         };
+        let shoen = *lent;
         put_body(&mut self.store, predicate, place, trial, cells)?;
+        self.counts.variables += needs.variables;
+        self.counts.nodes += needs.nodes;
         self.put_each(
             &shoen,
             goal.priority,
             priorities_of(predicate, place),
             cells,
-        )?;
-        self.counts.variables += needs.variables;
-        self.counts.nodes += needs.nodes;
-        Ok(())
+        )
     }
 }

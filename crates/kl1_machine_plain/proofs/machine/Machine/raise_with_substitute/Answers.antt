@@ -1,4 +1,4 @@
-use Rattle.std.proofs.Common.{◌≡◌, ℕ, Bool, sym, ◌∙◌, subst}
+use Rattle.std.proofs.Common.{◌≡◌, ℕ, Bool, sym, ◌∙◌, arith, subst}
 use Rattle.std.proofs.lemmas.Result.{on_ok_weaker}
 use Rattle.kl1_text.specs.declared.cell_name.CellName.{CellName}
 use Rattle.kl1_store.specs.declared.cell.Cell.TheVariants.{Variable}
@@ -6,9 +6,8 @@ use Rattle.kl1_store.specs.Sound.{Grown}
 use Rattle.kl1_store.specs.Held.{Held}
 use Rattle.kl1_store.proofs.Grows.{Grown-same, Grown-trans}
 use Rattle.kl1_goals.specs.declared.task.Task.TheVariants.{Substitutes}
-use Rattle.kl1_user_effects.specs.Kept.{IsOwned}
 use Rattle.kl1_user_effects.proofs.Substituting.{asked, next_still, next_there, next_grown, has_grown}
-use Rattle.kl1_machine_plain.specs.Effects.{Tells, Puts, goal_at}
+use Rattle.kl1_machine_plain.specs.Effects.{Tells, Puts}
 use Rattle.kl1_machine_plain.proofs.Keeping.{Grows, keeps_store, keeps_then, keeps_back, grown_machine}
 use Rattle.kl1_machine_plain.proofs.Raising.{Asks, asks_grows, asks_task, raised_asked, raised_unasked}
 use Rattle.kl1_machine_plain.proofs.machine.Machine.raise_with_substitute.Goals as goal
@@ -45,8 +44,9 @@ put-requires-clause-task c =
 
 pub put-requires-clause-shoen : goal.put-requires-clause-shoen
 put-requires-clause-shoen c =
-    let O : ℕ → Type 0 = λ n. IsOwned n (goal_at 0 c.args.goal.shoen c.args.goal.priority (Substitutes (Variable _))) in
-    subst O (sym c.in_ok-tell.ensures.ok.reports.count) (record { low = c.requires.owned.low; high = c.requires.owned.high })
+    let high = c.requires.owned.high in
+    let count = c.in_ok-tell.ensures.ok.reports.count in
+    record { low = c.requires.owned.low; high = omega (arith, high, count) }
 
 pub returns-then-branch-clause-ok : goal.returns-then-branch-clause-ok
 returns-then-branch-clause-ok c =

@@ -1,4 +1,4 @@
-use Rattle.std.proofs.Common.{◌≡◌, ℕ, suc, ◌+◌, ap, sym, ◌∙◌, arith, subst}
+use Rattle.std.proofs.Common.{◌≡◌, ℕ, suc, ◌+◌, true, ap, sym, ◌∙◌, arith, subst}
 use Rattle.kl1_shoen.specs.Shoens.{Tree}
 use Rattle.kl1_text.specs.declared.cell_name.CellName.{CellName}
 use Rattle.kl1_store.specs.Held.{Held}
@@ -32,7 +32,7 @@ pub returns-in-Dropped-clause-ok : goal.returns-in-Dropped-clause-ok
 returns-in-Dropped-clause-ok c =
     let a = c.in_ok-append_report.ensures in
     tells c.args.self.now c.append_report.new.store c.args.number c.args.message c.in-Some.shoen Dropped
-    (record { machine = c.requires.machine; found = sym c.lend.ensures.value ∙ (sym c.copied.ensures ∙ c.in-Some.is); grows = record { grown = a.grown; hooks = a.hooks }; told_as = rw c.limits.ensures.value at (rw c.in-Dropped.is at a.told) })
+    (record { machine = c.requires.machine; found = sym c.lend.ensures.value ∙ (sym c.copied.ensures ∙ c.in-Some.is); grows = record { grown = a.grown; hooks = a.hooks }; told_as = rw c.in-Dropped.is at a.told })
 
 pub returns-in_ok-break_stream-in-Broken-clause-ok : goal.returns-in_ok-break_stream-in-Broken-clause-ok
 returns-in_ok-break_stream-in-Broken-clause-ok c =
@@ -51,7 +51,7 @@ returns-in_ok-set_tail-in-Sent-clause-ok c =
     let held = sym c.keep_at_times.ensures.held in
     let G : Held CellName → Type 0 = λ h. Grown m.store.held h in
     let D : Held CellName → Type 0 = λ h. ToldAs built m.store.held h sh.tail sh.is_broken (last_made m.rules m.counts.reports) c.args.message (Sent next) in
-    let R : ℕ → Type 0 = λ r. Tells n c.args.message m (record m { store = l; shoens = c.set_tail.new.self; counts = record m.counts { reports = r } }) _ in
+    let R : ℕ → Type 0 = λ r. Tells n c.args.message m (record m { store = l; shoens = c.set_tail.new.self; counts = record m.counts { reports = r } }) true in
     let one : suc m.counts.reports ≡ m.counts.reports + 1 = omega arith in
     subst R one
     (tells_by m l n c.args.message sh (Sent next) c.set_tail.new.self c.in_ok-set_tail-in-Sent.ensures.ok
