@@ -6,3 +6,4 @@ pub mod Tabling
 pub mod Flagging
 pub mod Linking
 pub mod Chaining
+pub mod Rowing

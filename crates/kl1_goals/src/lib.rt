@@ -2,7 +2,9 @@
 #![tactic(auto)]
 
 mod chains;
+mod begun;
 mod goal;
+mod goal_row;
 mod goal_table;
 mod places;
 mod room;
@@ -11,6 +13,7 @@ mod tally;
 mod task;
 
 pub use goal::Goal;
+pub use goal_row::GoalRow;
 pub use goal_table::GoalTable;
 pub use kl1_model::Rules;
 pub use room::make_room;

@@ -38,7 +38,7 @@ pub(crate) fn count_upto<N: NameValue>(slots: &Vec<Slot<N>>, number: u64) -> usi
 
 /// Whether all places have a lesser number.
 #[inline]
-fn ends_before<N: NameValue>(slots: &Vec<Slot<N>>, number: u64) -> bool
+pub(crate) fn ends_before<N: NameValue>(slots: &Vec<Slot<N>>, number: u64) -> bool
     requires { Ascend 0 (numbers_of slots.now.items) }
     ensures { result ≡ true → AreBelow number (numbers_of slots.now.items) }
 {

@@ -1,0 +1,108 @@
+-- A table that can be put back.
+use Rattle.std.proofs.Common.{◌≡◌, ℕ, ◌≤◌, List, [], ◌∷◌, length, take, map, refl, sym, ap, ◌∙◌, subst, arith}
+use Rattle.std.proofs.lemmas.List.{length-set, length-take-le}
+use Rattle.kl1_shoen_paths.specs.declared.tracked.Was.{Was}
+use Rattle.kl1_shoen_paths.specs.Tracked.{put_back}
+use Rattle.kl1_shoen_paths.proofs.Putting.{put_whole}
+use Rattle.kl1_goals.specs.declared.goal.Goal.{Goal}
+use Rattle.kl1_goals.specs.declared.slot.Slot.{Slot}
+use Rattle.kl1_goals.specs.declared.tally.Tally.{Tally}
+use Rattle.kl1_goals.specs.declared.begun.Begun.{Begun}
+use Rattle.kl1_goals.specs.Slots.{rank_in, goals_in, AreSlots}
+use Rattle.kl1_goals.specs.Tallies.{tally_at}
+use Rattle.kl1_goals.specs.Chains.{AreChained, HaveSameCounts}
+use Rattle.kl1_goals.specs.Keeping.{IsTable}
+use Rattle.kl1_goals.specs.Rows.{Rowed, IsRow, places_then, kept_then}
+use Rattle.kl1_goals.proofs.Linking.{tally_counts}
+use Rattle.kl1_goals.proofs.Tabling.{empty_table}
+
+-- a beginning of a table as it is
+pub record Begins {N : Type 0} (ss : List (Slot N)) (empty : ℕ) (ts : List Tally) (alive : ℕ) (b : Begun N) : Type 0 where
+  pub slots : b.slots.items ≡ []
+  pub places : b.places ≡ length ss
+  pub empty_is : b.empty ≡ empty
+  pub tallies : b.tallies.items ≡ []
+  pub shoens : b.shoens ≡ length ts
+  pub alive_is : b.alive ≡ alive
+
+pub begun_places : {N : Type 0} (ss : List (Slot N)) (empty : ℕ) (ts : List Tally) (alive : ℕ) (b : Begun N) → Begins ss empty ts alive b → places_then b ss ≡ ss
+begun_places ss empty ts alive b i = put_whole b.slots.items ss b.places i.slots (omega (arith, i.places))
+
+pub begun_kept : {N : Type 0} (ss : List (Slot N)) (empty : ℕ) (ts : List Tally) (alive : ℕ) (b : Begun N) → Begins ss empty ts alive b → kept_then b ts ≡ ts
+begun_kept ss empty ts alive b i = put_whole b.tallies.items ts b.shoens i.tallies (omega (arith, i.shoens))
+
+-- a table whose event begins
+pub begun_row : {N : Type 0} (ss : List (Slot N)) (empty : ℕ) (ranks : List ℕ) (ts : List Tally) (alive : ℕ) (b : Begun N) → IsTable ss empty ranks ts alive → Begins ss empty ts alive b → IsRow ss empty ranks ts alive b
+begun_row ss empty ranks ts alive b h i =
+    let places = begun_places ss empty ts alive b i in
+    let kept = begun_kept ss empty ts alive b i in
+    let T : List ℕ → Type 0 = λ rs. IsTable ss empty rs ts alive in
+    record {
+      now = h;
+      was = rw (places, kept, i.empty_is, i.alive_is) (subst T h.slots.ranked h);
+      places = omega (arith, i.places);
+      shoens = omega (arith, i.shoens);
+    }
+
+pub put_back_length : {A : Type 0} (ws : List (Was A)) (xs : List A) → length (put_back ws xs) ≡ length xs
+put_back_length [] xs = refl
+put_back_length (w ∷ ws) xs = length-set (put_back ws xs) w.place w.value ∙ put_back_length ws xs
+
+pub none_row : {N : Type 0} (b : Begun N) → Begins {N = N} [] 0 [] 0 b → IsRow {N = N} [] 0 [] [] 0 b
+none_row {N = N} b i = begun_row [] 0 [] [] 0 b (empty_table {N = N}) i
+
+-- a table of which empty places were dropped
+pub tidied_table : {N : Type 0} (ss us : List (Slot N)) (empty fewer : ℕ) (ranks more : List ℕ) (ts vs : List Tally) (alive : ℕ) → IsTable ss empty ranks ts alive → AreSlots us fewer more → AreChained us vs → HaveSameCounts ts vs → goals_in us ≡ goals_in ss →
+    IsTable us fewer more vs alive
+tidied_table ss us empty fewer ranks more ts vs alive h slots chained counts goals = record {
+  slots = slots;
+  tallied = λ n. rw goals (tally_counts n (goals_in ss) (tally_at ts n) (tally_at vs n) (h.tallied n) (counts.counts n));
+  chained = chained;
+  alive = rw goals h.alive;
+}
+
+-- ---- a table that was put back
+
+-- what a beginning is after all that was noted is put back
+pub record IsSpent {N : Type 0} (b c : Begun N) : Type 0 where
+  pub slots : c.slots.items ≡ []
+  pub tallies : c.tallies.items ≡ []
+  pub places : c.places ≡ b.places
+  pub empty : c.empty ≡ b.empty
+  pub shoens : c.shoens ≡ b.shoens
+  pub alive : c.alive ≡ b.alive
+
+pub places_length : {N : Type 0} (ss : List (Slot N)) (empty : ℕ) (ranks : List ℕ) (ts : List Tally) (alive : ℕ) (b : Begun N) → IsRow ss empty ranks ts alive b → length (places_then b ss) ≡ b.places
+places_length ss empty ranks ts alive b r = put_back_length b.slots.items (take b.places ss) ∙ length-take-le b.places ss r.places
+
+pub kept_length : {N : Type 0} (ss : List (Slot N)) (empty : ℕ) (ranks : List ℕ) (ts : List Tally) (alive : ℕ) (b : Begun N) → IsRow ss empty ranks ts alive b → length (kept_then b ts) ≡ b.shoens
+kept_length ss empty ranks ts alive b r = put_back_length b.tallies.items (take b.shoens ts) ∙ length-take-le b.shoens ts r.shoens
+
+pub spent_begins : {N : Type 0} (ss : List (Slot N)) (empty : ℕ) (ranks : List ℕ) (ts : List Tally) (alive : ℕ) (b c : Begun N) → IsRow ss empty ranks ts alive b → IsSpent b c → Begins (places_then b ss) b.empty (kept_then b ts) b.alive c
+spent_begins ss empty ranks ts alive b c r i = record {
+  slots = i.slots;
+  places = i.places ∙ sym (places_length ss empty ranks ts alive b r);
+  empty_is = i.empty;
+  tallies = i.tallies;
+  shoens = i.shoens ∙ sym (kept_length ss empty ranks ts alive b r);
+  alive_is = i.alive;
+}
+
+pub back_row : {N : Type 0} (ss us : List (Slot N)) (empty : ℕ) (ranks more : List ℕ) (ts vs : List Tally) (alive : ℕ) (b c : Begun N) → IsRow ss empty ranks ts alive b → us ≡ places_then b ss → vs ≡ kept_then b ts → more ≡ map rank_in us → IsSpent b c →
+    IsRow us b.empty more vs b.alive c
+back_row ss us empty ranks more ts vs alive b c r places kept ranked i =
+    let P : List ℕ → Type 0 = λ rs. IsRow (places_then b ss) b.empty rs (kept_then b ts) b.alive c in
+    rw (places, kept) (subst P (sym (ranked ∙ ap (map rank_in) places)) (begun_row (places_then b ss) b.empty (map rank_in (places_then b ss)) (kept_then b ts) b.alive c r.was (spent_begins ss empty ranks ts alive b c r i)))
+
+rowed_is : {N : Type 0} (gs bs : List (Goal N)) (n m : ℕ) (r : Rowed N) → gs ≡ r.goals → bs ≡ r.begun → n ≡ r.shoens → m ≡ r.begun_shoens → let z : Rowed N = record { goals = gs; begun = bs; shoens = n; begun_shoens = m } in z ≡ r
+rowed_is gs bs n m r a b c d = rw (a, b, c, d) refl
+
+-- what is seen of a table that was put back
+pub back_view : {N : Type 0} (ss us : List (Slot N)) (empty : ℕ) (ranks : List ℕ) (ts vs : List Tally) (alive : ℕ) (b c : Begun N) → IsRow ss empty ranks ts alive b → us ≡ places_then b ss → vs ≡ kept_then b ts → IsSpent b c →
+    let new : Rowed N = record { goals = goals_in us; begun = goals_in (places_then c us); shoens = length vs; begun_shoens = c.shoens } in
+    let was : Rowed N = record { goals = goals_in (places_then b ss); begun = goals_in (places_then b ss); shoens = b.shoens; begun_shoens = b.shoens } in
+    new ≡ was
+back_view {N = N} ss us empty ranks ts vs alive b c r places kept i =
+    let e = begun_places (places_then b ss) b.empty (kept_then b ts) b.alive c (spent_begins ss empty ranks ts alive b c r i) in
+    let was : Rowed N = record { goals = goals_in (places_then b ss); begun = goals_in (places_then b ss); shoens = b.shoens; begun_shoens = b.shoens } in
+    rowed_is (goals_in us) (goals_in (places_then c us)) (length vs) c.shoens was (ap goals_in places) (ap (λ xs. goals_in (places_then c xs)) places ∙ ap goals_in e) (ap (λ (xs : List Tally). length xs) kept ∙ kept_length ss empty ranks ts alive b r) i.shoens

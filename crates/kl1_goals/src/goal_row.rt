@@ -1,0 +1,112 @@
+// A table of goals that can be put back to what it was when an event began.
+
+ghost use Rattle.std.specs.Prelude.{◌≡◌, ◌+◌, ◌≤◌, ℕ, not, List, [], ◌∷◌, ◌++◌, map, option_map, OnOk, OnErr};
+ghost use Rattle.std.specs.List.{filter, find, list_any, count_by};
+ghost use Rattle.kl1_goals.specs.Lists.{has_number, is_other, is_after, is_monitor, is_monitor_of, is_goal_of, is_in, stood_by, enabled_in};
+ghost use Rattle.kl1_goals.specs.Readies.{first_from, chosen, stands};
+ghost use Rattle.kl1_goals.specs.Tables.{IsNext, IsKnown, AreInOrder, AreSingle};
+
+use crate::begun::{Begun, note_slot, note_tally};
+use crate::goal::Goal;
+use crate::places::{append, bury, ends_before, held_place, rank_all, stand, tidy};
+use crate::room::make_room;
+use crate::slot::Slot;
+use crate::tally::{Tally, exchange_last, lower, lower_alive, raise, raise_alive};
+use kl1_queue::ReadyQueue;
+use kl1_shoen_paths::put_all_back;
+use kl1_text::NameValue;
+use std::alloc::{AllocError, Global};
+use std::marker::Model;
+
+/// The goals of an account in order of number, as they are and as they were when the event began, and its shoens, counted from 1.
+///
+/// A goal that is removed leaves its place empty; empty places are dropped when an event begins.
+#[derive(Drop)]
+pub struct GoalRow<N: NameValue> {
+    slots: Vec<Slot<N>>,
+    empty: usize,
+    queue: ReadyQueue,
+    tallies: Vec<Tally>,
+    alive: u64,
+    seen: usize,
+    begun: Begun<N>,
+}
+
+impl<N: NameValue> Model for GoalRow<N> {
+    ghost use Rattle.std.specs.Prelude.{length};
+    ghost use Rattle.kl1_goals.specs.Slots.{goals_in};
+    ghost use Rattle.kl1_goals.specs.Rows.{Rowed, IsRow, places_then};
+
+    ghost Value = { Rowed N };
+
+    ghost view = { λ t. record {
+      goals = goals_in t.slots.items;
+      begun = goals_in (places_then t.begun t.slots.items);
+      shoens = length t.tallies.items;
+      begun_shoens = t.begun.shoens;
+    } };
+
+    ghost invariant = { λ t. IsRow t.slots.items t.empty t.queue.ranks t.tallies.items t.alive t.begun };
+}
+
+impl<N: NameValue> GoalRow<N> {
+    /// No goals and no shoens.
+    pub fn new(alloc: Global) -> Self
+        ensures { result ≡ record { goals = []; begun = []; shoens = 0; begun_shoens = 0 } }
+    {
+        GoalRow {
+            slots: Vec::new(alloc),
+            empty: 0,
+            queue: ReadyQueue::new(alloc),
+            tallies: Vec::new(alloc),
+            alive: 0,
+            seen: 0,
+            begun: Begun {
+                slots: Vec::new(alloc),
+                places: 0,
+                empty: 0,
+                tallies: Vec::new(alloc),
+                shoens: 0,
+                alive: 0,
+            },
+        }
+    }
+
+    /// Marks the goals as they are: `back` comes back to this.
+    pub fn begin(&mut self)
+        ensures { self.new ≡ record self.old { begun = self.old.goals; begun_shoens = self.old.shoens } }
+    {
+        tidy(
+            &mut self.slots,
+            &mut self.empty,
+            &mut self.queue,
+            &mut self.tallies,
+        );
+        self.begun.slots.clear();
+        self.begun.places = self.slots.len();
+        self.begun.empty = self.empty;
+        self.begun.tallies.clear();
+        self.begun.shoens = self.tallies.len();
+        self.begun.alive = self.alive;
+    }
+
+    /// Takes back all that was done since the event began, without memory.
+    pub fn back(&mut self)
+        ensures { self.new ≡ record self.old { goals = self.old.begun; shoens = self.old.begun_shoens } }
+    {
+        self.slots.truncate(self.begun.places);
+        put_all_back(&mut self.slots, &mut self.begun.slots);
+        self.tallies.truncate(self.begun.shoens);
+        put_all_back(&mut self.tallies, &mut self.begun.tallies);
+        self.empty = self.begun.empty;
+        self.alive = self.begun.alive;
+        rank_all(&self.slots, &mut self.queue);
+    }
+
+    /// How many goals there are other than monitors.
+    pub fn alive(&self) -> u64
+        ensures { result ≡ count_by (λ g. not (is_monitor g)) self.now.goals }
+    {
+        self.alive
+    }
+}
