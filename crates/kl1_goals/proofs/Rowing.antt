@@ -1,6 +1,8 @@
 -- A table that can be put back.
-use Rattle.std.proofs.Common.{◌≡◌, ℕ, ◌≤◌, List, [], ◌∷◌, length, take, map, refl, sym, ap, ◌∙◌, subst, arith}
-use Rattle.std.proofs.lemmas.List.{length-set, length-take-le}
+use Rattle.std.proofs.Common.{◌≡◌, ℕ, suc, ◌-◌, ◌<◌, ◌≤◌, inl, inr, get_or, set, List, [], ◌∷◌, length, take, map, refl, sym, ap, ◌∙◌, subst, arith}
+use Rattle.std.proofs.lemmas.List.{length-set, length-take-le, ext_get_or, get_or-set_other}
+use Rattle.std.proofs.lemmas.Grind.{get_or-set_at}
+use Rattle.std.proofs.lemmas.Bool.{cases_eq}
 use Rattle.kl1_shoen_paths.specs.declared.tracked.Was.{Was}
 use Rattle.kl1_shoen_paths.specs.Tracked.{put_back}
 use Rattle.kl1_shoen_paths.proofs.Putting.{put_whole}
@@ -9,7 +11,7 @@ use Rattle.kl1_goals.specs.declared.slot.Slot.{Slot}
 use Rattle.kl1_goals.specs.declared.tally.Tally.{Tally}
 use Rattle.kl1_goals.specs.declared.begun.Begun.{Begun}
 use Rattle.kl1_goals.specs.Slots.{rank_in, goals_in, AreSlots}
-use Rattle.kl1_goals.specs.Tallies.{tally_at}
+use Rattle.kl1_goals.specs.Tallies.{nothing, tally_at}
 use Rattle.kl1_goals.specs.Chains.{AreChained, HaveSameCounts}
 use Rattle.kl1_goals.specs.Keeping.{IsTable}
 use Rattle.kl1_goals.specs.Rows.{Rowed, IsRow, places_then, kept_then}
@@ -60,6 +62,38 @@ tidied_table ss us empty fewer ranks more ts vs alive h slots chained counts goa
   chained = chained;
   alive = rw goals h.alive;
 }
+
+-- ---- a table that changes
+
+-- what was noted still says what a table was when the event began
+pub record HasNoted {N : Type 0} (ss us : List (Slot N)) (ts vs : List Tally) (b c : Begun N) : Type 0 where
+  pub slots : places_then c us ≡ places_then b ss
+  pub tallies : kept_then c vs ≡ kept_then b ts
+  pub places : c.places ≡ b.places
+  pub empty : c.empty ≡ b.empty
+  pub shoens : c.shoens ≡ b.shoens
+  pub alive : c.alive ≡ b.alive
+  pub longer : length ss ≤ length us
+  pub more : length ts ≤ length vs
+
+pub moved_row : {N : Type 0} (ss us : List (Slot N)) (empty fewer : ℕ) (ranks more : List ℕ) (ts vs : List Tally) (alive count : ℕ) (b c : Begun N) → IsRow ss empty ranks ts alive b → IsTable us fewer more vs count → HasNoted ss us ts vs b c → IsRow us fewer more vs count c
+moved_row ss us empty fewer ranks more ts vs alive count b c r h n = record {
+  now = h;
+  was = rw (n.slots, n.tallies, n.empty, n.alive) r.was;
+  places = let p = r.places in let q = n.longer in omega (arith, p, q, n.places);
+  shoens = let p = r.shoens in let q = n.more in omega (arith, p, q, n.shoens);
+}
+
+-- tallies of which one is another
+pub tallies_set : (ts vs : List Tally) (n : ℕ) → 0 < n → length vs ≡ length ts → n ≤ length ts → ((m : ℕ) → (m ≡ n → ⊥) → tally_at vs m ≡ tally_at ts m) → vs ≡ set ts (n - 1) (tally_at vs n)
+tallies_set ts vs n low same high others = ext_get_or nothing vs (set ts (n - 1) (tally_at vs n)) (same ∙ sym (length-set ts (n - 1) (tally_at vs n))) at
+  where
+    here : (k : ℕ) → k ≡ n - 1 → get_or vs k nothing ≡ get_or (set ts (n - 1) (tally_at vs n)) k nothing
+    here k e = let one : suc k ≡ n = omega (arith, e, low) in ap (λ m. tally_at vs m) one ∙ sym (get_or-set_at ts (n - 1) k (tally_at vs n) nothing e (omega (arith, low, high)))
+    other : (k : ℕ) → (k ≡ n - 1 → ⊥) → get_or vs k nothing ≡ get_or (set ts (n - 1) (tally_at vs n)) k nothing
+    other k ne = others (suc k) (λ e. ne (omega (arith, e))) ∙ sym (get_or-set_other ts (n - 1) k (tally_at vs n) nothing ne)
+    at : (k : ℕ) → k < length vs → get_or vs k nothing ≡ get_or (set ts (n - 1) (tally_at vs n)) k nothing
+    at k lt = elim (cases_eq k (n - 1)) [ inl e ↦ here k e | inr e ↦ other k e ]
 
 -- ---- a table that was put back
 

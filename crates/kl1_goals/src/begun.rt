@@ -1,6 +1,6 @@
 // What a table of goals was when an event began.
 
-ghost use Rattle.std.specs.Prelude.{◌≡◌, ◌-◌, ◌<◌, ◌≤◌, set, length, OnOk, OnErr};
+ghost use Rattle.std.specs.Prelude.{◌≡◌, ◌-◌, ◌<◌, ◌≤◌, set, length, OnOk};
 ghost use Rattle.kl1_goals.specs.declared.slot.Slot.{Slot};
 ghost use Rattle.kl1_goals.specs.declared.tally.Tally.{Tally};
 ghost use Rattle.kl1_goals.specs.Rows.{places_then, kept_then};
@@ -31,7 +31,7 @@ pub(crate) fn note_slot<N: NameValue>(
 ) -> Result<(), AllocError>
     requires { place < length slots.now.items }
     ensures ok { OnOk result ((s : Slot N) → places_then begun.new (set slots.now.items place s) ≡ places_then begun.old slots.now.items) }
-    ensures err { OnErr result (begun.new.slots.items ≡ begun.old.slots.items) }
+    ensures same { places_then begun.new slots.now.items ≡ places_then begun.old slots.now.items }
     ensures rest { begun.new ≡ record begun.old { slots = begun.new.slots } }
 {
     let value = slots[place];
@@ -48,7 +48,7 @@ pub(crate) fn note_tally<N: NameValue>(
     requires low { 0 < shoen }
     requires high { shoen ≤ length tallies.now.items }
     ensures ok { OnOk result ((t : Tally) → kept_then begun.new (set tallies.now.items (shoen - 1) t) ≡ kept_then begun.old tallies.now.items) }
-    ensures err { OnErr result (begun.new.tallies.items ≡ begun.old.tallies.items) }
+    ensures same { kept_then begun.new tallies.now.items ≡ kept_then begun.old tallies.now.items }
     ensures rest { begun.new ≡ record begun.old { tallies = begun.new.tallies } }
 {
     let place = shoen as usize - 1;

@@ -18,6 +18,9 @@ use kl1_text::NameValue;
 use std::alloc::{AllocError, Global};
 use std::marker::Model;
 
+/// How many places there can be.
+const MOST: usize = 0xffff_fffe;
+
 /// The goals of an account in order of number, as they are and as they were when the event began, and its shoens, counted from 1.
 ///
 /// A goal that is removed leaves its place empty; empty places are dropped when an event begins.
@@ -108,5 +111,43 @@ impl<N: NameValue> GoalRow<N> {
         ensures { result ≡ count_by (λ g. not (is_monitor g)) self.now.goals }
     {
         self.alive
+    }
+
+    /// Puts a goal after all others. A number that isn't above all that were there since the event began is refused as for want of memory.
+    pub fn put(&mut self, goal: Goal<N>) -> Result<(), AllocError>
+        requires next { IsNext goal self.old.goals self.old.shoens }
+        ensures ok { OnOk result (self.new.goals ≡ self.old.goals ++ goal ∷ []) }
+        ensures rest { self.new ≡ record self.old { goals = self.new.goals } }
+    {
+        if !ends_before(&self.slots, goal.number) || self.slots.len() >= MOST {
+            return Err(AllocError);
+        }
+        make_room(&mut self.slots, 1)?;
+        self.queue.reserve(1)?;
+        note_tally(&mut self.begun, &self.tallies, goal.shoen)?;
+        let last = self.slots.len() as u32 + 1;
+        let before = exchange_last(&mut self.tallies, goal.shoen, last);
+        append(&mut self.slots, self.empty, &mut self.queue, &goal, before);
+        raise(&mut self.tallies, &goal);
+        self.alive = raise_alive(self.alive, &goal);
+        Ok(())
+    }
+
+    /// Removes the goal with number `number`, if there is one.
+    pub fn remove(&mut self, number: u64) -> Result<(), AllocError>
+        ensures ok { OnOk result (self.new.goals ≡ filter (is_other number) self.old.goals) }
+        ensures rest { self.new ≡ record self.old { goals = self.new.goals } }
+    {
+        let Some(place) = held_place(&self.slots, self.seen, number) else {
+            return Ok(());
+        };
+        note_slot(&mut self.begun, &self.slots, place)?;
+        let goal = self.slots[place].goal;
+        note_tally(&mut self.begun, &self.tallies, goal.shoen)?;
+        self.seen = place;
+        bury(&mut self.slots, &mut self.empty, &mut self.queue, place);
+        lower(&mut self.tallies, &goal);
+        self.alive = lower_alive(self.alive, &goal);
+        Ok(())
     }
 }
