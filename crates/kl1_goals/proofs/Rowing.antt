@@ -1,21 +1,25 @@
 -- A table that can be put back.
-use Rattle.std.proofs.Common.{◌≡◌, ℕ, suc, ◌-◌, ◌<◌, ◌≤◌, inl, inr, get_or, set, List, [], ◌∷◌, length, take, map, refl, sym, ap, ◌∙◌, subst, arith}
-use Rattle.std.proofs.lemmas.List.{length-set, length-take-le, ext_get_or, get_or-set_other}
+use Rattle.std.proofs.Common.{◌≡◌, ℕ, suc, ◌-◌, ◌<◌, ◌≤◌, ◌==◌, cond, inl, inr, get_or, set, List, [], ◌∷◌, ◌++◌, length, take, map, refl, sym, ap, ◌∙◌, subst, arith}
+use Rattle.std.proofs.lemmas.List.{length-set, length_push, length-take-le, ext_get_or, get_or-set_other}
 use Rattle.std.proofs.lemmas.Grind.{get_or-set_at}
-use Rattle.std.proofs.lemmas.Bool.{cases_eq}
+use Rattle.std.proofs.lemmas.Bool.{cases_eq, ne_eqb}
 use Rattle.kl1_shoen_paths.specs.declared.tracked.Was.{Was}
 use Rattle.kl1_shoen_paths.specs.Tracked.{put_back}
-use Rattle.kl1_shoen_paths.proofs.Putting.{put_whole}
+use Rattle.kl1_shoen_paths.proofs.Putting.{put_whole, take_push}
 use Rattle.kl1_goals.specs.declared.goal.Goal.{Goal}
 use Rattle.kl1_goals.specs.declared.slot.Slot.{Slot}
 use Rattle.kl1_goals.specs.declared.tally.Tally.{Tally}
 use Rattle.kl1_goals.specs.declared.begun.Begun.{Begun}
-use Rattle.kl1_goals.specs.Slots.{rank_in, goals_in, AreSlots}
-use Rattle.kl1_goals.specs.Tallies.{nothing, tally_at}
+use Rattle.kl1_goals.specs.Lists.{is_monitor}
+use Rattle.kl1_goals.specs.Slots.{rank_in, goals_in, emptied, changed_at, AreSlots, IsWithout}
+use Rattle.kl1_goals.specs.Tallies.{nothing, tally_at, lowered}
 use Rattle.kl1_goals.specs.Chains.{AreChained, HaveSameCounts}
 use Rattle.kl1_goals.specs.Keeping.{IsTable}
 use Rattle.kl1_goals.specs.Rows.{Rowed, IsRow, places_then, kept_then}
-use Rattle.kl1_goals.proofs.Linking.{tally_counts}
+use Rattle.kl1_goals.proofs.Linking.{tally_counts, chained_lowered}
+use Rattle.kl1_goals.proofs.Chaining.{changed_set, chained_emptied}
+use Rattle.kl1_goals.proofs.Shoens.{lowered_tally}
+use Rattle.kl1_goals.proofs.Flagging.{alive_lowered}
 use Rattle.kl1_goals.proofs.Tabling.{empty_table}
 
 -- a beginning of a table as it is
@@ -65,6 +69,9 @@ tidied_table ss us empty fewer ranks more ts vs alive h slots chained counts goa
 
 -- ---- a table that changes
 
+rowed_is : {N : Type 0} (gs bs : List (Goal N)) (n m : ℕ) (r : Rowed N) → gs ≡ r.goals → bs ≡ r.begun → n ≡ r.shoens → m ≡ r.begun_shoens → let z : Rowed N = record { goals = gs; begun = bs; shoens = n; begun_shoens = m } in z ≡ r
+rowed_is gs bs n m r a b c d = rw (a, b, c, d) refl
+
 -- what was noted still says what a table was when the event began
 pub record HasNoted {N : Type 0} (ss us : List (Slot N)) (ts vs : List Tally) (b c : Begun N) : Type 0 where
   pub slots : places_then c us ≡ places_then b ss
@@ -84,6 +91,46 @@ moved_row ss us empty fewer ranks more ts vs alive count b c r h n = record {
   shoens = let p = r.shoens in let q = n.more in omega (arith, p, q, n.shoens);
 }
 
+noted_none : {N : Type 0} (ss : List (Slot N)) (ts : List Tally) (b : Begun N) → HasNoted ss ss ts ts b b
+noted_none ss ts b = record { slots = refl; tallies = refl; places = refl; empty = refl; shoens = refl; alive = refl; longer = omega arith; more = omega arith }
+
+-- a place that stands after all that were there
+pub noted_push : {N : Type 0} (ss : List (Slot N)) (t : Slot N) (ts : List Tally) (b : Begun N) → b.places ≤ length ss → HasNoted ss (ss ++ t ∷ []) ts ts b b
+noted_push ss t ts b le = record { slots = ap (put_back b.slots.items) (take_push ss t b.places le); tallies = refl; places = refl; empty = refl; shoens = refl; alive = refl; longer = omega (arith, length_push ss t); more = omega arith }
+
+pub noted_slots : {N : Type 0} (ss us : List (Slot N)) (ts : List Tally) (b c : Begun N) → c ≡ record b { slots = c.slots } → places_then c us ≡ places_then b ss → length ss ≤ length us → HasNoted ss us ts ts b c
+noted_slots {N = N} ss us ts b c rest slots longer = record {
+  slots = slots;
+  tallies = ap (λ (x : Begun N). kept_then x ts) rest;
+  places = ap (λ (x : Begun N). x.places) rest;
+  empty = ap (λ (x : Begun N). x.empty) rest;
+  shoens = ap (λ (x : Begun N). x.shoens) rest;
+  alive = ap (λ (x : Begun N). x.alive) rest;
+  longer = longer;
+  more = omega arith;
+}
+
+pub noted_tallies : {N : Type 0} (ss us : List (Slot N)) (ts vs : List Tally) (b c d : Begun N) → HasNoted ss us ts ts b c → d ≡ record c { tallies = d.tallies } → kept_then d vs ≡ kept_then c ts → length ts ≤ length vs → HasNoted ss us ts vs b d
+noted_tallies {N = N} ss us ts vs b c d n rest tallies more = record {
+  slots = ap (λ (x : Begun N). places_then x us) rest ∙ n.slots;
+  tallies = tallies ∙ n.tallies;
+  places = ap (λ (x : Begun N). x.places) rest ∙ n.places;
+  empty = ap (λ (x : Begun N). x.empty) rest ∙ n.empty;
+  shoens = ap (λ (x : Begun N). x.shoens) rest ∙ n.shoens;
+  alive = ap (λ (x : Begun N). x.alive) rest ∙ n.alive;
+  longer = n.longer;
+  more = more;
+}
+
+-- what is seen of a table of which no other shoens are known
+pub noted_view : {N : Type 0} (ss us : List (Slot N)) (ts vs : List Tally) (b c : Begun N) → HasNoted ss us ts vs b c → length vs ≡ length ts →
+    let new : Rowed N = record { goals = goals_in us; begun = goals_in (places_then c us); shoens = length vs; begun_shoens = c.shoens } in
+    let was : Rowed N = record { goals = goals_in us; begun = goals_in (places_then b ss); shoens = length ts; begun_shoens = b.shoens } in
+    new ≡ was
+noted_view {N = N} ss us ts vs b c n e =
+    let was : Rowed N = record { goals = goals_in us; begun = goals_in (places_then b ss); shoens = length ts; begun_shoens = b.shoens } in
+    rowed_is (goals_in us) (goals_in (places_then c us)) (length vs) c.shoens was refl (ap goals_in n.slots) e n.shoens
+
 -- tallies of which one is another
 pub tallies_set : (ts vs : List Tally) (n : ℕ) → 0 < n → length vs ≡ length ts → n ≤ length ts → ((m : ℕ) → (m ≡ n → ⊥) → tally_at vs m ≡ tally_at ts m) → vs ≡ set ts (n - 1) (tally_at vs n)
 tallies_set ts vs n low same high others = ext_get_or nothing vs (set ts (n - 1) (tally_at vs n)) (same ∙ sym (length-set ts (n - 1) (tally_at vs n))) at
@@ -94,6 +141,30 @@ tallies_set ts vs n low same high others = ext_get_or nothing vs (set ts (n - 1)
     other k ne = others (suc k) (λ e. ne (omega (arith, e))) ∙ sym (get_or-set_other ts (n - 1) k (tally_at vs n) nothing ne)
     at : (k : ℕ) → k < length vs → get_or vs k nothing ≡ get_or (set ts (n - 1) (tally_at vs n)) k nothing
     at k lt = elim (cases_eq k (n - 1)) [ inl e ↦ here k e | inr e ↦ other k e ]
+
+-- a table without a goal
+pub removed_table : {N : Type 0} (ss us : List (Slot N)) (empty fewer : ℕ) (ranks more : List ℕ) (ts vs : List Tally) (alive k : ℕ) (x : Slot N) → IsTable ss empty ranks ts alive → AreSlots us fewer more → us ≡ changed_at emptied k ss → IsWithout x.goal (goals_in ss) (goals_in us) → length vs ≡ length ts →
+    ((n : ℕ) → tally_at vs n ≡ cond (n == x.goal.shoen) (lowered x.goal (tally_at ts n)) (tally_at ts n)) → IsTable us fewer more vs (cond (is_monitor x.goal) alive (alive - 1))
+removed_table ss us empty fewer ranks more ts vs alive k x h slots emptied_is without same is = record {
+  slots = slots;
+  tallied = λ n. rw (is n) (lowered_tally n x.goal (goals_in ss) (goals_in us) (tally_at ts n) without (h.tallied n));
+  chained = chained_lowered us ts vs x.goal (chained_emptied ss us k ts h.chained emptied_is) same is;
+  alive = alive_lowered x.goal (goals_in ss) (goals_in us) alive without h.alive;
+}
+
+lowered_other : {N : Type 0} (ts vs : List Tally) (x : Slot N) → ((n : ℕ) → tally_at vs n ≡ cond (n == x.goal.shoen) (lowered x.goal (tally_at ts n)) (tally_at ts n)) → (n : ℕ) → (n ≡ x.goal.shoen → ⊥) → tally_at vs n ≡ tally_at ts n
+lowered_other ts vs x is n ne = is n ∙ rw (ne_eqb n x.goal.shoen ne) refl
+
+-- what was noted before a goal was removed
+pub removed_noted : {N : Type 0} (ss us : List (Slot N)) (ts vs : List Tally) (b c d : Begun N) (k : ℕ) (x : Slot N) → k < length ss → get_or ss k x ≡ x → us ≡ changed_at emptied k ss → 0 < x.goal.shoen → x.goal.shoen ≤ length ts → length vs ≡ length ts →
+    ((n : ℕ) → tally_at vs n ≡ cond (n == x.goal.shoen) (lowered x.goal (tally_at ts n)) (tally_at ts n)) → c ≡ record b { slots = c.slots } → ((s : Slot N) → places_then c (set ss k s) ≡ places_then b ss) → d ≡ record c { tallies = d.tallies } →
+    ((t : Tally) → kept_then d (set ts (x.goal.shoen - 1) t) ≡ kept_then c ts) → HasNoted ss us ts vs b d
+removed_noted {N = N} ss us ts vs b c d k x within at emptied_is low high same is slot_rest slots tally_rest tallies =
+    let us_is : us ≡ set ss k (emptied x) = emptied_is ∙ sym (changed_set emptied ss k x within at) in
+    let vs_is : vs ≡ set ts (x.goal.shoen - 1) (tally_at vs x.goal.shoen) = tallies_set ts vs x.goal.shoen low same high (lowered_other ts vs x is) in
+    noted_tallies ss us ts vs b c d
+    (noted_slots ss us ts b c slot_rest (ap (places_then c) us_is ∙ slots (emptied x)) (omega (arith, ap (λ (xs : List (Slot N)). length xs) us_is, length-set ss k (emptied x))))
+    tally_rest (ap (kept_then d) vs_is ∙ tallies (tally_at vs x.goal.shoen)) (omega (arith, same))
 
 -- ---- a table that was put back
 
@@ -128,8 +199,6 @@ back_row ss us empty ranks more ts vs alive b c r places kept ranked i =
     let P : List ℕ → Type 0 = λ rs. IsRow (places_then b ss) b.empty rs (kept_then b ts) b.alive c in
     rw (places, kept) (subst P (sym (ranked ∙ ap (map rank_in) places)) (begun_row (places_then b ss) b.empty (map rank_in (places_then b ss)) (kept_then b ts) b.alive c r.was (spent_begins ss empty ranks ts alive b c r i)))
 
-rowed_is : {N : Type 0} (gs bs : List (Goal N)) (n m : ℕ) (r : Rowed N) → gs ≡ r.goals → bs ≡ r.begun → n ≡ r.shoens → m ≡ r.begun_shoens → let z : Rowed N = record { goals = gs; begun = bs; shoens = n; begun_shoens = m } in z ≡ r
-rowed_is gs bs n m r a b c d = rw (a, b, c, d) refl
 
 -- what is seen of a table that was put back
 pub back_view : {N : Type 0} (ss us : List (Slot N)) (empty : ℕ) (ranks : List ℕ) (ts vs : List Tally) (alive : ℕ) (b c : Begun N) → IsRow ss empty ranks ts alive b → us ≡ places_then b ss → vs ≡ kept_then b ts → IsSpent b c →
