@@ -1,5 +1,5 @@
 -- A table that can be put back.
-use Rattle.std.proofs.Common.{◌≡◌, ℕ, suc, ◌-◌, ◌<◌, ◌≤◌, ◌==◌, cond, inl, inr, get_or, set, List, [], ◌∷◌, ◌++◌, length, take, map, refl, sym, ap, ◌∙◌, subst, arith}
+use Rattle.std.proofs.Common.{◌≡◌, ℕ, suc, ◌+◌, ◌-◌, ◌^◌, ◌<◌, ◌≤◌, ◌==◌, cond, inl, inr, get_or, set, List, [], ◌∷◌, ◌++◌, length, take, map, refl, sym, ap, ◌∙◌, subst, arith}
 use Rattle.std.proofs.lemmas.List.{length-set, length_push, length-take-le, ext_get_or, get_or-set_other}
 use Rattle.std.proofs.lemmas.Grind.{get_or-set_at}
 use Rattle.std.proofs.lemmas.Bool.{cases_eq, ne_eqb}
@@ -12,14 +12,16 @@ use Rattle.kl1_goals.specs.declared.tally.Tally.{Tally}
 use Rattle.kl1_goals.specs.declared.begun.Begun.{Begun}
 use Rattle.kl1_goals.specs.Lists.{is_monitor}
 use Rattle.kl1_goals.specs.Slots.{rank_in, goals_in, emptied, changed_at, AreSlots, IsWithout}
-use Rattle.kl1_goals.specs.Tallies.{nothing, tally_at, lowered}
+use Rattle.kl1_goals.specs.Tallies.{nothing, tally_at, lowered, raised}
 use Rattle.kl1_goals.specs.Chains.{AreChained, HaveSameCounts}
+use Rattle.kl1_goals.specs.Tables.{IsNext}
 use Rattle.kl1_goals.specs.Keeping.{IsTable}
 use Rattle.kl1_goals.specs.Rows.{Rowed, IsRow, places_then, kept_then}
-use Rattle.kl1_goals.proofs.Linking.{tally_counts, chained_lowered}
+use Rattle.kl1_goals.proofs.Linking.{tally_counts, counts_exchanged, chained_push, chained_raised, chained_lowered, last_here, last_other}
+use Rattle.kl1_goals.proofs.Changing.{linked_to}
 use Rattle.kl1_goals.proofs.Chaining.{changed_set, chained_emptied}
-use Rattle.kl1_goals.proofs.Shoens.{lowered_tally}
-use Rattle.kl1_goals.proofs.Flagging.{alive_lowered}
+use Rattle.kl1_goals.proofs.Shoens.{lowered_tally, raised_tally}
+use Rattle.kl1_goals.proofs.Flagging.{alive_lowered, alive_raised}
 use Rattle.kl1_goals.proofs.Tabling.{empty_table}
 
 -- a beginning of a table as it is
@@ -91,7 +93,7 @@ moved_row ss us empty fewer ranks more ts vs alive count b c r h n = record {
   shoens = let p = r.shoens in let q = n.more in omega (arith, p, q, n.shoens);
 }
 
-noted_none : {N : Type 0} (ss : List (Slot N)) (ts : List Tally) (b : Begun N) → HasNoted ss ss ts ts b b
+pub noted_none : {N : Type 0} (ss : List (Slot N)) (ts : List Tally) (b : Begun N) → HasNoted ss ss ts ts b b
 noted_none ss ts b = record { slots = refl; tallies = refl; places = refl; empty = refl; shoens = refl; alive = refl; longer = omega arith; more = omega arith }
 
 -- a place that stands after all that were there
@@ -165,6 +167,31 @@ removed_noted {N = N} ss us ts vs b c d k x within at emptied_is low high same i
     noted_tallies ss us ts vs b c d
     (noted_slots ss us ts b c slot_rest (ap (places_then c) us_is ∙ slots (emptied x)) (omega (arith, ap (λ (xs : List (Slot N)). length xs) us_is, length-set ss k (emptied x))))
     tally_rest (ap (kept_then d) vs_is ∙ tallies (tally_at vs x.goal.shoen)) (omega (arith, same))
+
+-- a table with a goal more, after the others
+pub added_table : {N : Type 0} (ss us : List (Slot N)) (empty : ℕ) (ranks more : List ℕ) (ts xs vs : List Tally) (alive before : ℕ) (g : Goal N) → IsTable ss empty ranks ts alive → IsNext g (goals_in ss) (length ts) → length ss + 1 < 2 ^ 32 → AreSlots us empty more → us ≡ ss ++ linked_to before g ∷ [] → goals_in us ≡ goals_in ss ++ g ∷ [] →
+    before ≡ (tally_at ts g.shoen).last → ((n : ℕ) → tally_at xs n ≡ cond (n == g.shoen) (record (tally_at ts n) { last = length ss + 1 }) (tally_at ts n)) → length xs ≡ length ts → ((n : ℕ) → tally_at vs n ≡ cond (n == g.shoen) (raised g (tally_at xs n)) (tally_at xs n)) → length vs ≡ length xs →
+    IsTable us empty more vs (cond (is_monitor g) alive (alive + 1))
+added_table ss us empty ranks more ts xs vs alive before g h next room slots us_is goals before_is linked same counted length_is =
+    let gs = goals_in ss in
+    let place = linked_to before g in
+    let counts = counts_exchanged ts xs g.shoen _ linked same in
+    let chained = chained_push ss place ts xs h.chained room next.low next.high before_is same (last_here ts xs g.shoen _ linked) (last_other ts xs g.shoen _ linked) in
+    record {
+      slots = slots;
+      tallied = λ n. rw (goals, counted n) (raised_tally n g gs (tally_at xs n) (tally_counts n gs (tally_at ts n) (tally_at xs n) (h.tallied n) (counts.counts n)) next.monitor);
+      chained = rw us_is (chained_raised (ss ++ place ∷ []) xs vs g chained length_is counted);
+      alive = rw goals (alive_raised g gs alive h.alive);
+    }
+
+-- what was noted before a goal was put
+pub added_noted : {N : Type 0} (ss us : List (Slot N)) (ts xs vs : List Tally) (b d : Begun N) (before last : ℕ) (g : Goal N) → b.places ≤ length ss → us ≡ ss ++ linked_to before g ∷ [] → 0 < g.shoen → g.shoen ≤ length ts → ((n : ℕ) → tally_at xs n ≡ cond (n == g.shoen) (record (tally_at ts n) { last = last }) (tally_at ts n)) → length xs ≡ length ts →
+    ((n : ℕ) → tally_at vs n ≡ cond (n == g.shoen) (raised g (tally_at xs n)) (tally_at xs n)) → length vs ≡ length xs → d ≡ record b { tallies = d.tallies } → ((t : Tally) → kept_then d (set ts (g.shoen - 1) t) ≡ kept_then b ts) → HasNoted ss us ts vs b d
+added_noted {N = N} ss us ts xs vs b d before last g places us_is low high linked same counted length_is rest tallies =
+    let other : (n : ℕ) → (n ≡ g.shoen → ⊥) → tally_at vs n ≡ tally_at ts n = λ n ne. rw (counted n, ne_eqb n g.shoen ne, linked n, ne_eqb n g.shoen ne) refl in
+    let vs_is : vs ≡ set ts (g.shoen - 1) (tally_at vs g.shoen) = tallies_set ts vs g.shoen low (length_is ∙ same) high other in
+    let pushed : HasNoted ss us ts ts b b = rw us_is (noted_push ss (linked_to before g) ts b places) in
+    noted_tallies ss us ts vs b b d pushed rest (ap (kept_then d) vs_is ∙ tallies (tally_at vs g.shoen)) (omega (arith, same, length_is))
 
 -- ---- a table that was put back
 
