@@ -1,5 +1,5 @@
 -- A table that can be put back.
-use Rattle.std.proofs.Common.{◌≡◌, ℕ, suc, ◌+◌, ◌-◌, ◌^◌, ◌<◌, ◌≤◌, ◌==◌, cond, inl, inr, get_or, set, List, [], ◌∷◌, ◌++◌, length, take, map, refl, sym, ap, ◌∙◌, subst, arith}
+use Rattle.std.proofs.Common.{◌≡◌, ℕ, suc, ◌+◌, ◌-◌, ◌^◌, ◌<◌, ◌≤◌, ◌==◌, cond, inl, inr, get_or, set, List, [], ◌∷◌, ◌++◌, length, take, map, Option, refl, sym, ap, ◌∙◌, subst, arith}
 use Rattle.std.proofs.lemmas.List.{length-set, length_push, length-take-le, ext_get_or, get_or-set_other}
 use Rattle.std.proofs.lemmas.Grind.{get_or-set_at}
 use Rattle.std.proofs.lemmas.Bool.{cases_eq, ne_eqb}
@@ -11,7 +11,7 @@ use Rattle.kl1_goals.specs.declared.slot.Slot.{Slot}
 use Rattle.kl1_goals.specs.declared.tally.Tally.{Tally}
 use Rattle.kl1_goals.specs.declared.begun.Begun.{Begun}
 use Rattle.kl1_goals.specs.Lists.{is_monitor}
-use Rattle.kl1_goals.specs.Slots.{rank_in, goals_in, emptied, changed_at, AreSlots, IsWithout}
+use Rattle.kl1_goals.specs.Slots.{rank_in, goals_in, emptied, standing_in, changed_at, AreSlots, IsWithout}
 use Rattle.kl1_goals.specs.Tallies.{nothing, tally_at, lowered, raised}
 use Rattle.kl1_goals.specs.Chains.{AreChained, HaveSameCounts}
 use Rattle.kl1_goals.specs.Tables.{IsNext}
@@ -183,6 +183,16 @@ added_table ss us empty ranks more ts xs vs alive before g h next room slots us_
       chained = rw us_is (chained_raised (ss ++ place ∷ []) xs vs g chained length_is counted);
       alive = rw goals (alive_raised g gs alive h.alive);
     }
+
+-- a table of one shoen more
+pub noted_open : {N : Type 0} (ss : List (Slot N)) (t : Tally) (ts : List Tally) (b : Begun N) → b.shoens ≤ length ts → HasNoted ss ss ts (ts ++ t ∷ []) b b
+noted_open ss t ts b le = record { slots = refl; tallies = ap (put_back b.tallies.items) (take_push ts t b.shoens le); places = refl; empty = refl; shoens = refl; alive = refl; longer = omega arith; more = omega (arith, length_push ts t) }
+
+-- what was noted before a goal was given another clause
+pub stood_noted : {N : Type 0} (ss us : List (Slot N)) (ts : List Tally) (b c : Begun N) (k : ℕ) (clause : Option ℕ) (x : Slot N) → k < length ss → get_or ss k x ≡ x → us ≡ changed_at (standing_in clause) k ss → c ≡ record b { slots = c.slots } → ((s : Slot N) → places_then c (set ss k s) ≡ places_then b ss) → HasNoted ss us ts ts b c
+stood_noted {N = N} ss us ts b c k clause x within at is rest slots =
+    let us_is : us ≡ set ss k (standing_in clause x) = is ∙ sym (changed_set (standing_in clause) ss k x within at) in
+    noted_slots ss us ts b c rest (ap (places_then c) us_is ∙ slots (standing_in clause x)) (omega (arith, ap (λ (xs : List (Slot N)). length xs) us_is, length-set ss k (standing_in clause x)))
 
 -- what was noted before a goal was put
 pub added_noted : {N : Type 0} (ss us : List (Slot N)) (ts xs vs : List Tally) (b d : Begun N) (before last : ℕ) (g : Goal N) → b.places ≤ length ss → us ≡ ss ++ linked_to before g ∷ [] → 0 < g.shoen → g.shoen ≤ length ts → ((n : ℕ) → tally_at xs n ≡ cond (n == g.shoen) (record (tally_at ts n) { last = last }) (tally_at ts n)) → length xs ≡ length ts →

@@ -51,6 +51,10 @@ let_in n b s = record s { goal = enabled_in n b s.goal }
 abbrev pub emptied : {N : Type 0} → Slot N → Slot N
 emptied s = record s { is_held = false }
 
+-- a place whose goal could step by this clause from now on
+abbrev pub standing_in : {N : Type 0} → Option ℕ → Slot N → Slot N
+standing_in clause s = record s { goal = record s.goal { standing = clause } }
+
 -- places of which one is changed
 abbrev pub changed_at : {N : Type 0} → (Slot N → Slot N) → ℕ → List (Slot N) → List (Slot N)
 changed_at f k [] = []

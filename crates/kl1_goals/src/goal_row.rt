@@ -1,17 +1,17 @@
 // A table of goals that can be put back to what it was when an event began.
 
-ghost use Rattle.std.specs.Prelude.{◌≡◌, ◌+◌, ◌≤◌, ℕ, not, List, [], ◌∷◌, ◌++◌, map, option_map, OnOk, OnErr};
+ghost use Rattle.std.specs.Prelude.{◌≡◌, ◌+◌, ◌<◌, not, [], ◌∷◌, ◌++◌, None, map, option_map, IfSome, OnOk};
 ghost use Rattle.std.specs.List.{filter, find, list_any, count_by};
-ghost use Rattle.kl1_goals.specs.Lists.{has_number, is_other, is_after, is_monitor, is_monitor_of, is_goal_of, is_in, stood_by, enabled_in};
+ghost use Rattle.kl1_goals.specs.Lists.{has_number, is_other, is_after, is_monitor, is_monitor_of, is_goal_of, stood_by};
 ghost use Rattle.kl1_goals.specs.Readies.{first_from, chosen, stands};
 ghost use Rattle.kl1_goals.specs.Tables.{IsNext, IsKnown, AreInOrder, AreSingle};
 
 use crate::begun::{Begun, note_slot, note_tally};
 use crate::goal::Goal;
-use crate::places::{append, bury, ends_before, held_place, rank_all, stand, tidy};
+use crate::places::{append, bury, count_upto, ends_before, first_held, held_place, rank_all, stand, tidy};
 use crate::room::make_room;
 use crate::slot::Slot;
-use crate::tally::{Tally, exchange_last, lower, lower_alive, raise, raise_alive};
+use crate::tally::{Tally, exchange_last, lower, lower_alive, raise, raise_alive, tally_of};
 use kl1_queue::ReadyQueue;
 use kl1_shoen_paths::put_all_back;
 use kl1_text::NameValue;
@@ -113,6 +113,39 @@ impl<N: NameValue> GoalRow<N> {
         self.alive
     }
 
+    /// One shoen more is known, without goals: its number is the next.
+    pub fn open(&mut self) -> Result<(), AllocError>
+        ensures ok { OnOk result (self.new.shoens ≡ self.old.shoens + 1) }
+        ensures rest { self.new ≡ record self.old { shoens = self.new.shoens } }
+    {
+        self.tallies.push(Tally {
+            goals: 0,
+            monitor: None,
+            last: 0,
+        })?;
+        Ok(())
+    }
+
+    /// From now on goal `number` has this clause by which it could step, or none.
+    pub fn set_standing(&mut self, number: u64, standing: Option<u64>) -> Result<(), AllocError>
+        ensures ok { OnOk result (self.new.goals ≡ map (stood_by number standing) self.old.goals) }
+        ensures rest { self.new ≡ record self.old { goals = self.new.goals } }
+    {
+        let Some(place) = held_place(&self.slots, self.seen, number) else {
+            return Ok(());
+        };
+        note_slot(&mut self.begun, &self.slots, place)?;
+        self.seen = place;
+        stand(
+            &mut self.slots,
+            self.empty,
+            &mut self.queue,
+            place,
+            standing,
+        );
+        Ok(())
+    }
+
     /// Puts a goal after all others. A number that isn't above all that were there since the event began is refused as for want of memory.
     pub fn put(&mut self, goal: Goal<N>) -> Result<(), AllocError>
         requires next { IsNext goal self.old.goals self.old.shoens }
@@ -149,5 +182,97 @@ impl<N: NameValue> GoalRow<N> {
         lower(&mut self.tallies, &goal);
         self.alive = lower_alive(self.alive, &goal);
         Ok(())
+    }
+
+    /// Removes the monitor of a shoen, if it has one.
+    pub fn remove_monitor(&mut self, shoen: u64) -> Result<(), AllocError>
+        ensures ok { OnOk result (self.new.goals ≡ filter (λ g. not (is_monitor_of shoen g)) self.old.goals) }
+        ensures rest { self.new ≡ record self.old { goals = self.new.goals } }
+    {
+        let tally = tally_of(&self.tallies, shoen);
+        match tally.monitor {
+            None => Ok(()),
+            Some(number) => self.remove(number),
+        }
+    }
+
+    /// How many shoens are known.
+    pub fn shoens(&self) -> usize
+        ensures shoens { result ≡ self.now.shoens }
+        ensures order { AreInOrder self.now.goals }
+        ensures single { AreSingle self.now.goals }
+    {
+        self.tallies.len()
+    }
+
+    /// The goal with number `number`.
+    pub fn get(&self, number: u64) -> Option<Goal<N>>
+        ensures goal { result ≡ find (has_number number) self.now.goals }
+        ensures number { IfSome result (λ g. g.number ≡ number) }
+        ensures known { IfSome result (λ g. IsKnown g self.now.shoens) }
+        ensures order { AreInOrder self.now.goals }
+    {
+        match held_place(&self.slots, self.seen, number) {
+            None => None,
+            Some(place) => Some(self.slots[place].goal),
+        }
+    }
+
+    /// The first goal with a number above this one.
+    pub fn after(&self, number: u64) -> Option<Goal<N>>
+        ensures goal { result ≡ find (is_after number) self.now.goals }
+        ensures number { IfSome result (λ g. number < g.number) }
+        ensures known { IfSome result (λ g. IsKnown g self.now.shoens) }
+        ensures order { AreInOrder self.now.goals }
+    {
+        let from = count_upto(&self.slots, number);
+        first_held(&self.slots, from)
+    }
+
+    /// How many goals a shoen has other than its monitor.
+    pub fn count(&self, shoen: u64) -> u64
+        ensures { result ≡ count_by (is_goal_of shoen) self.now.goals }
+    {
+        tally_of(&self.tallies, shoen).goals as u64
+    }
+
+    /// Which goal goes first of those that can step, by the greatest priority, then by the least number, and its clause.
+    pub fn pick(&self) -> Option<(u64, u64)>
+        ensures { result ≡ option_map chosen (first_from None self.now.goals) }
+    {
+        match self.queue.first() {
+            None => None,
+            Some(place) => {
+                let goal = self.slots[place].goal;
+                match goal.standing {
+                    None => None,
+                    Some(clause) => Some((goal.number, clause)),
+                }
+            }
+        }
+    }
+
+    /// Whether a goal can step.
+    pub fn is_any_ready(&self) -> bool
+        ensures { result ≡ list_any stands self.now.goals }
+    {
+        match self.queue.first() {
+            None => false,
+            Some(_) => true,
+        }
+    }
+
+    /// Whether a shoen has a goal other than its monitor and goal `number`.
+    pub fn has_goal_beside(&self, shoen: u64, number: u64) -> bool
+        ensures { result ≡ list_any (is_goal_of shoen) (filter (is_other number) self.now.goals) }
+    {
+        let count = tally_of(&self.tallies, shoen).goals;
+        if count != 1 {
+            return count > 1;
+        }
+        match held_place(&self.slots, self.seen, number) {
+            None => true,
+            Some(place) => !self.slots[place].goal.is_goal_of(shoen),
+        }
     }
 }

@@ -5,7 +5,7 @@ ghost use Rattle.std.specs.List.{filter, find};
 ghost use Rattle.kl1_model.specs.declared.limits.TheConstants.{MONITOR_PRIORITY};
 ghost use Rattle.kl1_goals.specs.Lists.{has_number, is_other, stood_by, number_of};
 ghost use Rattle.kl1_goals.specs.Tables.{Ascend, AreBefore};
-ghost use Rattle.kl1_goals.specs.Slots.{numbers_of, goals_in, first_of, rank_in, level_in, emptied, changed_at, AreLow, AreBelow, IsCut, IsPlace, IsAbsent, AreSlots, IsHeldAt, IsEmptyEnd, IsWithout};
+ghost use Rattle.kl1_goals.specs.Slots.{numbers_of, goals_in, first_of, rank_in, level_in, emptied, standing_in, changed_at, AreLow, AreBelow, IsCut, IsPlace, IsAbsent, AreSlots, IsHeldAt, IsEmptyEnd, IsWithout};
 ghost use Rattle.kl1_goals.specs.Chains.{shape_in, before_in, AreChained, HaveSameCounts};
 
 use crate::chains::{forget_last, link_all, unlink_last};
@@ -201,6 +201,7 @@ pub(crate) fn stand<N: NameValue>(
     requires slots { AreSlots slots.old.items empty queue.old.ranks }
     requires place { (s : Slot N) × IsHeldAt slots.old.items s.goal.number place s }
     ensures slots { AreSlots slots.new.items empty queue.new.ranks }
+    ensures stood { slots.new.items ≡ changed_at (standing_in standing) place slots.old.items }
     ensures shapes { map shape_in slots.new.items ≡ map shape_in slots.old.items }
     ensures links { map before_in slots.new.items ≡ map before_in slots.old.items }
     ensures goals { (s : Slot N) → IsHeldAt slots.old.items s.goal.number place s → goals_in slots.new.items ≡ map (stood_by s.goal.number standing) (goals_in slots.old.items) }

@@ -1,0 +1,4 @@
+mod Keeping
+mod Telling
+mod Raising
+mod Bodies
