@@ -139,8 +139,10 @@ tallies_set ts vs n low same high others = ext_get_or nothing vs (set ts (n - 1)
   where
     here : (k : ℕ) → k ≡ n - 1 → get_or vs k nothing ≡ get_or (set ts (n - 1) (tally_at vs n)) k nothing
     here k e = let one : suc k ≡ n = omega (arith, e, low) in ap (λ m. tally_at vs m) one ∙ sym (get_or-set_at ts (n - 1) k (tally_at vs n) nothing e (omega (arith, low, high)))
+
     other : (k : ℕ) → (k ≡ n - 1 → ⊥) → get_or vs k nothing ≡ get_or (set ts (n - 1) (tally_at vs n)) k nothing
     other k ne = others (suc k) (λ e. ne (omega (arith, e))) ∙ sym (get_or-set_other ts (n - 1) k (tally_at vs n) nothing ne)
+
     at : (k : ℕ) → k < length vs → get_or vs k nothing ≡ get_or (set ts (n - 1) (tally_at vs n)) k nothing
     at k lt = elim (cases_eq k (n - 1)) [ inl e ↦ here k e | inr e ↦ other k e ]
 
@@ -235,7 +237,6 @@ pub back_row : {N : Type 0} (ss us : List (Slot N)) (empty : ℕ) (ranks more : 
 back_row ss us empty ranks more ts vs alive b c r places kept ranked i =
     let P : List ℕ → Type 0 = λ rs. IsRow (places_then b ss) b.empty rs (kept_then b ts) b.alive c in
     rw (places, kept) (subst P (sym (ranked ∙ ap (map rank_in) places)) (begun_row (places_then b ss) b.empty (map rank_in (places_then b ss)) (kept_then b ts) b.alive c r.was (spent_begins ss empty ranks ts alive b c r i)))
-
 
 -- what is seen of a table that was put back
 pub back_view : {N : Type 0} (ss us : List (Slot N)) (empty : ℕ) (ranks : List ℕ) (ts vs : List Tally) (alive : ℕ) (b c : Begun N) → IsRow ss empty ranks ts alive b → us ≡ places_then b ss → vs ≡ kept_then b ts → IsSpent b c →

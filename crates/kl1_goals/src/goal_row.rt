@@ -8,7 +8,9 @@ ghost use Rattle.kl1_goals.specs.Tables.{IsNext, IsKnown, AreInOrder, AreSingle}
 
 use crate::begun::{Begun, note_slot, note_tally};
 use crate::goal::Goal;
-use crate::places::{append, bury, count_upto, ends_before, first_held, held_place, rank_all, stand, tidy};
+use crate::places::{
+    append, bury, count_upto, ends_before, first_held, held_place, rank_all, stand, tidy,
+};
 use crate::room::make_room;
 use crate::slot::Slot;
 use crate::tally::{Tally, exchange_last, lower, lower_alive, raise, raise_alive, tally_of};

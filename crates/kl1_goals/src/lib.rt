@@ -1,8 +1,8 @@
 //! The goals of an account in order of number, and which of those that can step goes first.
 #![tactic(auto)]
 
-mod chains;
 mod begun;
+mod chains;
 mod goal;
 mod goal_row;
 mod goal_table;

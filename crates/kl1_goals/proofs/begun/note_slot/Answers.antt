@@ -1,4 +1,4 @@
-use Rattle.std.proofs.Common.{List, [], ◌∷◌, ◌++◌, get_or, take, set, sym, ap, ◌∙◌}
+use Rattle.std.proofs.Common.{[], ◌∷◌, ◌++◌, get_or, take, set, sym, ap, ◌∙◌}
 use Rattle.std.proofs.lemmas.List.{set-get_or}
 use Rattle.kl1_shoen_paths.specs.declared.tracked.Was.{Was}
 use Rattle.kl1_shoen_paths.specs.Tracked.{put_back}
