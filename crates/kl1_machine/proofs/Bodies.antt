@@ -116,7 +116,7 @@ pub needs_machine : (n : Needs) (m : Machine) → IsMachine m → IsMachine (wit
 needs_machine n m i = let w = i.inside in record { inside = record { some = w.some; goals = w.goals; shoens = w.shoens; owned = w.owned }; last = i.last; known = i.known }
 
 pub needs_keep : (n : Needs) (m u : Machine) → Keeps m u → Keeps m (with_needs n u)
-needs_keep n m u p = record { grown = p.grown; rest = ap (with_needs n) p.rest }
+needs_keep n m u p = record { grown = p.grown; trail = p.trail }
 
 -- the body of a clause that a goal of a machine has chosen is in a store, and there is room for it
 pub record HasBody (b : Chosen) (goal : Goal CellName) (m : Machine) (k : Kept CellName) (sh : Shoen CellName) (ps : List (Option ℕ)) (cells : List (Qualified CellName)) (n : Needs) : Type 0 where

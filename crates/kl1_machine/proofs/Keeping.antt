@@ -1,5 +1,5 @@
 -- What stays of a machine, and that it stays one.
-use Rattle.std.proofs.Common.{◌≡◌, ℕ, suc, ◌+◌, ◌<◌, ◌++◌, ◌∷◌, [], List, length, refl, sym, ap, ◌∙◌, arith, subst}
+use Rattle.std.proofs.Common.{◌≡◌, ℕ, suc, ◌+◌, Bool, false, ◌<◌, ◌++◌, ◌∷◌, [], List, length, refl, sym, ap, ◌∙◌, arith, subst}
 use Rattle.kl1_text.specs.declared.cell_name.CellName.{CellName}
 use Rattle.kl1_store.specs.Held.{Held}
 use Rattle.kl1_store.specs.Sound.{Grown}
@@ -18,19 +18,16 @@ use Rattle.kl1_user_effects.proofs.Works.{grown_made}
 use Rattle.kl1_goals.specs.Rows.{Rowed}
 use Rattle.kl1_machine.specs.declared.counts.Counts.{Counts}
 use Rattle.kl1_machine.specs.declared.machine.Machine.{Machine}
-use Rattle.kl1_machine.specs.Machines.{made, IsMachine, Keeps, IsBegun, IsBack}
+use Rattle.kl1_machine.specs.Machines.{made, IsMachine, Trail, trail_of, Keeps, IsBegun, IsBack}
 use Rattle.kl1_machine.specs.Effects.{goal_at, with_goal, Puts}
 
 -- ---- what stays
 
 pub keeps_same : (m : Machine) → Keeps m m
-keeps_same m = record { grown = HasGrown-same m.store; rest = refl }
+keeps_same m = record { grown = HasGrown-same m.store; trail = refl }
 
 pub keeps_then : (m n o : Machine) → Keeps m n → Keeps n o → Keeps m o
-keeps_then m n o p q = record {
-  grown = HasGrown-trans m.store n.store o.store p.grown q.grown;
-  rest = q.rest ∙ ap (λ (x : Machine). let z : Machine = record x { store = o.store; goals = record x.goals { goals = o.goals.goals }; shoens = record x.shoens { shoens = o.shoens.shoens }; counts = o.counts } in z) p.rest;
-}
+keeps_then m n o p q = record { grown = HasGrown-trans m.store n.store o.store p.grown q.grown; trail = q.trail ∙ p.trail }
 
 -- a machine's store has grown, by no hook
 pub record Grows (m : Machine) (k : Kept CellName) : Type 0 where
@@ -38,17 +35,17 @@ pub record Grows (m : Machine) (k : Kept CellName) : Type 0 where
   pub hooks : k.hooks ≡ m.store.hooks
 
 pub keeps_store : (m : Machine) (k : Kept CellName) → Grows m k → Keeps m (record m { store = k })
-keeps_store m k g = record { grown = has_grown m.store k g.grown g.hooks; rest = refl }
+keeps_store m k g = record { grown = has_grown m.store k g.grown g.hooks; trail = refl }
 
 -- a store that went back to what it was
 pub keeps_back : (m n : Machine) (k : Kept CellName) → Keeps m n → k.held ≡ m.store.held → k.hooks ≡ m.store.hooks → Keeps m (record n { store = k })
 keeps_back m n k p held hooks =
     let G : Held CellName → Type 0 = λ h. Grown m.store.held h in
-    record { grown = has_grown m.store k (subst G (sym held) (Grown-same m.store.held)) hooks; rest = ap (λ (x : Machine). let z : Machine = record x { store = k } in z) p.rest }
+    record { grown = has_grown m.store k (subst G (sym held) (Grown-same m.store.held)) hooks; trail = p.trail }
 
 -- and a tree of which only shoens are others
 pub keeps_tree : (m : Machine) (k : Kept CellName) (t : Tree CellName) (c : Counts) → Grows m k → t ≡ record m.shoens { shoens = t.shoens } → Keeps m (record m { store = k; shoens = t; counts = c })
-keeps_tree m k t c g e = record { grown = has_grown m.store k g.grown g.hooks; rest = ap (λ (u : Tree CellName). let z : Machine = record m { store = k; shoens = u; counts = c } in z) e }
+keeps_tree m k t c g e = record { grown = has_grown m.store k g.grown g.hooks; trail = ap (λ (u : Tree CellName). let z : Machine = record m { store = k; shoens = u; counts = c } in trail_of z) e }
 
 -- a tree whose shoens are others, or the same tree
 pub only_shoens : (s t : Tree CellName) (xs : List (Shoen CellName)) → t ≡ record s { shoens = xs } → t ≡ record s { shoens = t.shoens }
@@ -56,7 +53,7 @@ only_shoens s t xs e = e ∙ ap (λ (ys : List (Shoen CellName)). let z : Tree C
 
 -- and a table of which only goals are others
 pub keeps_goals : (m : Machine) (r : Rowed CellName) (c : Counts) → r ≡ record m.goals { goals = r.goals } → Keeps m (record m { goals = r; counts = c })
-keeps_goals m r c e = record { grown = HasGrown-same m.store; rest = ap (λ (x : Rowed CellName). let z : Machine = record m { goals = x; counts = c } in z) e }
+keeps_goals m r c e = record { grown = HasGrown-same m.store; trail = ap (λ (x : Rowed CellName). let z : Machine = record m { goals = x; counts = c } in trail_of z) e }
 
 -- ---- that it is a machine
 
@@ -99,22 +96,23 @@ puts_one m r shoen priority n task i inside own number goals rest =
 -- ---- back to where an event began
 
 pub begun_mark : (b m : Machine) → IsBegun b → Keeps b m → m.mark ≡ point_of b.store
-begun_mark b m i k = ap (λ (x : Machine). x.mark) k.rest ∙ i.mark
+begun_mark b m i k = ap (λ (x : Trail). x.mark) k.trail ∙ i.mark
 
 pub went_back : (b m : Machine) (k : Kept CellName) (r : Rowed CellName) (t : Tree CellName) → IsBegun b → Keeps b m → k.held ≡ b.store.held → k.hooks ≡ b.store.hooks → r ≡ record m.goals { goals = m.goals.begun; shoens = m.goals.begun_shoens } → t.shoens ≡ m.shoens.kept → t.work ≡ m.shoens.kept_work →
-    IsBack b (record m { store = k; goals = r; shoens = t; counts = m.begun })
+    IsBack b (record m { store = k; goals = r; shoens = t; counts = m.begun; shifts = false })
 went_back b m k r t i p held hooks goals shoens work =
-    let known : m.goals.begun_shoens ≡ b.goals.shoens = ap (λ (x : Machine). x.goals.begun_shoens) p.rest ∙ i.goal_shoens in
-    let begun : m.goals.begun ≡ b.goals.goals = ap (λ (x : Machine). x.goals.begun) p.rest ∙ i.goals in
-    let counts : m.begun ≡ b.counts = ap (λ (x : Machine). x.begun) p.rest ∙ i.counts in
+    let begun : m.goals.begun ≡ b.goals.goals = ap (λ (x : Trail). x.goals) p.trail ∙ i.goals in
+    let known : m.goals.begun_shoens ≡ b.goals.shoens = ap (λ (x : Trail). x.goal_shoens) p.trail ∙ i.goal_shoens in
+    let table : List (Goal CellName) → ℕ → List (Goal CellName) → ℕ → Rowed CellName = λ gs n bs o. record { goals = gs; begun = bs; shoens = n; begun_shoens = o } in
+    let stands : Trail → Counts → Bool → Machine = λ x c s. record { rules = x.rules; store = k; goals = r; shoens = t; names = x.names; name = x.name; counts = c; mark = x.mark; begun = x.begun; shifts = s } in
     record {
       held = held;
       hooks = hooks;
       goals = goals
-          ∙ ap (λ (x : Machine). let z : Rowed CellName = record x.goals { goals = m.goals.begun; shoens = m.goals.begun_shoens } in z) p.rest
-          ∙ ap (λ (gs : List (Goal CellName)). let z : Rowed CellName = record b.goals { goals = gs; shoens = m.goals.begun_shoens } in z) begun
-          ∙ ap (λ (n : ℕ). let z : Rowed CellName = record b.goals { shoens = n } in z) known;
-      shoens = shoens ∙ ap (λ (x : Machine). x.shoens.kept) p.rest ∙ i.shoens;
-      work = work ∙ ap (λ (x : Machine). x.shoens.kept_work) p.rest ∙ i.work;
-      rest = ap (λ (x : Machine). let z : Machine = record x { store = k; goals = r; shoens = t; counts = m.begun } in z) p.rest ∙ ap (λ (c : Counts). let z : Machine = record b { store = k; goals = r; shoens = t; counts = c } in z) counts;
+          ∙ ap (λ (x : Trail). table m.goals.begun m.goals.begun_shoens x.goals x.goal_shoens) p.trail
+          ∙ ap (λ gs. table gs m.goals.begun_shoens b.goals.begun b.goals.begun_shoens) begun
+          ∙ ap (λ n. table b.goals.goals n b.goals.begun b.goals.begun_shoens) known;
+      shoens = shoens ∙ ap (λ (x : Trail). x.shoens) p.trail ∙ i.shoens;
+      work = work ∙ ap (λ (x : Trail). x.work) p.trail ∙ i.work;
+      rest = ap (λ (x : Trail). stands x x.begun false) p.trail ∙ ap (λ c. stands (trail_of b) c false) i.counts ∙ ap (λ s. stands (trail_of b) b.counts s) (sym i.shifts);
     }

@@ -2,3 +2,4 @@ mod Keeping
 mod Telling
 mod Raising
 mod Bodies
+mod Sincing

@@ -1,2 +1,3 @@
 pub mod Machines
 pub mod Effects
+pub mod Since

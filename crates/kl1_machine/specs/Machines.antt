@@ -1,11 +1,18 @@
 -- What holds of a machine, and what its calls keep.
-use Rattle.std.specs.Prelude.{◌≡◌, length}
+use Rattle.std.specs.Prelude.{◌≡◌, ℕ, false, Option, List, length}
+use Rattle.kl1_model.specs.declared.rules.Rules.{Rules}
+use Rattle.kl1_text.specs.declared.cell_name.CellName.{CellName}
+use Rattle.kl1_store.specs.declared.point.Point.{Point}
 use Rattle.kl1_store.specs.Sound.{IsFormed}
 use Rattle.kl1_store.specs.Hooks.{point_of, HasGrown}
+use Rattle.kl1_goals.specs.declared.goal.Goal.{Goal}
+use Rattle.kl1_shoen_paths.specs.declared.shoen.Shoen.{Shoen}
 use Rattle.kl1_user_effects.specs.Account.{texts_of}
+use Rattle.kl1_user_effects.specs.Naming.{NameShelf}
 use Rattle.kl1_user_effects.specs.Kept.{AreUpTo}
 use Rattle.kl1_user_effects.specs.Drafts.{names_with}
 use Rattle.kl1_user_effects.specs.Works.{Made, IsMadeIn}
+use Rattle.kl1_machine.specs.declared.counts.Counts.{Counts}
 use Rattle.kl1_machine.specs.declared.machine.Machine.{Machine}
 
 -- what is made of an account
@@ -29,11 +36,35 @@ pub record IsMachine (m : Machine) : Type 0 where
   pub last : AreUpTo m.counts.last_goal m.goals.goals
   pub known : m.goals.shoens ≡ length m.shoens.shoens
 
--- what was when the event began is still there to go back to: the store has grown, and nothing else has changed but the goals, the
--- shoens, and what is counted
+-- what no event touches before it ends: what the machine goes back to, the rules and the names
+pub record Trail : Type 0 where
+  pub rules : Rules
+  pub mark : Point
+  pub begun : Counts
+  pub goals : List (Goal CellName)
+  pub goal_shoens : ℕ
+  pub shoens : List (Shoen CellName)
+  pub work : List ℕ
+  pub names : NameShelf
+  pub name : Option (List ℕ)
+
+abbrev pub trail_of : Machine → Trail
+trail_of m = record {
+  rules = m.rules;
+  mark = m.mark;
+  begun = m.begun;
+  goals = m.goals.begun;
+  goal_shoens = m.goals.begun_shoens;
+  shoens = m.shoens.kept;
+  work = m.shoens.kept_work;
+  names = m.names;
+  name = m.name;
+}
+
+-- what was when the event began is still there to go back to: the store has grown, and the trail is what it was
 pub record Keeps (m n : Machine) : Type 0 where
   pub grown : HasGrown m.store n.store
-  pub rest : n ≡ record m { store = n.store; goals = record m.goals { goals = n.goals.goals }; shoens = record m.shoens { shoens = n.shoens.shoens }; counts = n.counts }
+  pub trail : trail_of n ≡ trail_of m
 
 -- an event has begun with this machine: its parts that go back go back to what it has
 pub record IsBegun (b : Machine) : Type 0 where
@@ -44,6 +75,7 @@ pub record IsBegun (b : Machine) : Type 0 where
   pub shoens : b.shoens.kept ≡ b.shoens.shoens
   pub work : b.shoens.kept_work ≡ b.shoens.work
   pub counts : b.begun ≡ b.counts
+  pub shifts : b.shifts ≡ false
 
 -- a machine went back: what it has is what it had when the event began
 pub record IsBack (b m : Machine) : Type 0 where

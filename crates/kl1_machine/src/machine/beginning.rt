@@ -1,6 +1,6 @@
 // Where events begin.
 
-ghost use Rattle.std.specs.Prelude.{◌≡◌};
+ghost use Rattle.std.specs.Prelude.{◌≡◌, false};
 ghost use Rattle.kl1_store.specs.Hooks.{point_of};
 ghost use Rattle.kl1_machine.specs.declared.machine.Machine.{Machine};
 ghost use Rattle.kl1_machine.specs.Machines.{Keeps, IsBegun, IsBack};
@@ -11,7 +11,7 @@ impl Machine {
     /// Marks where an event begins: `back` comes back to this.
     pub fn begin(&mut self)
         ensures begun { IsBegun self.new }
-        ensures same { self.new ≡ record self.old { mark = point_of self.old.store; goals = record self.old.goals { begun = self.old.goals.goals; begun_shoens = self.old.goals.shoens }; shoens = record self.old.shoens { kept = self.old.shoens.shoens; kept_work = self.old.shoens.work }; begun = self.old.counts; shifts = self.new.shifts } }
+        ensures same { self.new ≡ record self.old { mark = point_of self.old.store; goals = record self.old.goals { begun = self.old.goals.goals; begun_shoens = self.old.goals.shoens }; shoens = record self.old.shoens { kept = self.old.shoens.shoens; kept_work = self.old.shoens.work }; begun = self.old.counts; shifts = false } }
     {
         self.mark = self.store.mark();
         self.goals.begin();
@@ -31,5 +31,6 @@ impl Machine {
         self.goals.back();
         self.shoens.back();
         self.counts = self.begun;
+        self.shifts = false;
     }
 }
