@@ -58,7 +58,7 @@ come_then b m n p q = record {
 }
 
 pub since_same : (b : Machine) → Since b b
-since_same b = record { keeps = keeps_same b; hooks = refl; come = come_same b; flags = λ e k. refl }
+since_same b = record { keeps = keeps_same b; hooks = refl; come = come_same b; flags = λ e k le. refl }
 
 -- a store that grows, by no hook, changes nothing of it
 pub since_store : (b m : Machine) (k : Kept CellName) → Grows m k → Since b m → Since b (record m { store = k })

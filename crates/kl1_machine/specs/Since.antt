@@ -1,9 +1,9 @@
 -- What an event has done to a machine since it began.
-use Rattle.std.specs.Prelude.{◌≡◌, ℕ, ◌<◌, ◌≤◌, Bool, false, List, ◌++◌}
+use Rattle.std.specs.Prelude.{◌≡◌, ◌<◌, ◌≤◌, Bool, false, List, ◌++◌}
 use Rattle.std.specs.List.{filter, AllByRecursion}
 use Rattle.kl1_text.specs.declared.cell_name.CellName.{CellName}
 use Rattle.kl1_goals.specs.declared.goal.Goal.{Goal}
-use Rattle.kl1_shoen.specs.Shoens.{is_enabled_at}
+use Rattle.kl1_user_effects.specs.Frames.{SameFlags}
 use Rattle.kl1_user_effects.specs.Leaving.{AreMet}
 use Rattle.kl1_machine.specs.declared.machine.Machine.{Machine}
 use Rattle.kl1_machine.specs.Machines.{Keeps}
@@ -18,13 +18,9 @@ pub record HasCome (b n : Machine) : Type 0 where
   pub last : b.counts.last_goal ≤ n.counts.last_goal
   pub met : AreMet added
 
--- goals of each shoen may step as they might
-abbrev pub SameFlags : Machine → Machine → Type 0
-SameFlags b n = (k : ℕ) → is_enabled_at n.shoens.shoens n.shoens.work k ≡ is_enabled_at b.shoens.shoens b.shoens.work k
-
 -- what an event has done to a machine `b` since it began
 pub record Since (b n : Machine) : Type 0 where
   pub keeps : Keeps b n
   pub hooks : n.store.hooks ≡ b.store.hooks
   pub come : HasCome b n
-  pub flags : n.shifts ≡ false → SameFlags b n
+  pub flags : n.shifts ≡ false → SameFlags b.shoens n.shoens

@@ -1,4 +1,3 @@
-use Rattle.kl1_machine.proofs.Sincing.{since_same}
 use Rattle.kl1_machine.proofs.Keeping.{begun_mark, went_back}
 use Rattle.kl1_machine.proofs.machine.Machine.back.Goals as goal
 
