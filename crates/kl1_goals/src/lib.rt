@@ -9,9 +9,13 @@ mod room;
 mod slot;
 mod tally;
 mod task;
+mod trailed_table;
+mod trailing;
+mod was;
 
 pub use goal::Goal;
 pub use goal_table::GoalTable;
 pub use kl1_model::Rules;
 pub use room::make_room;
 pub use task::Task;
+pub use trailed_table::TrailedTable;
