@@ -1,6 +1,6 @@
 // The places of a table, in order of number, with the queue over them.
 
-ghost use Rattle.std.specs.Prelude.{◌≡◌, ◌+◌, ◌-◌, ◌<◌, ◌≤◌, ℕ, true, None, List, [], ◌∷◌, ◌++◌, length, map, drop, get_or, nat_lt, MatchOption, vec_len, vec_capacity};
+ghost use Rattle.std.specs.Prelude.{◌≡◌, ◌+◌, ◌-◌, ◌<◌, ◌≤◌, ℕ, true, false, None, List, [], ◌∷◌, ◌++◌, length, map, drop, get_or, nat_lt, MatchOption, vec_len, vec_capacity};
 ghost use Rattle.std.specs.List.{filter, find};
 ghost use Rattle.kl1_model.specs.declared.limits.TheConstants.{MONITOR_PRIORITY};
 ghost use Rattle.kl1_goals.specs.Lists.{has_number, is_other, stood_by, looked_at, number_of};

@@ -113,6 +113,7 @@ pub(crate) fn put_slots_back<N: NameValue>(
 }
 
 /// Puts back what was kept of shoens, the last first.
+#[tactic(auto, using(crate::proofs::Noted::put_last, crate::proofs::Noted::set_past))]
 pub(crate) fn put_tallies_back(tallies: &mut Vec<Tally>, marks: &mut Vec<Was<Tally>>)
     ensures tallies { tallies.new.items ≡ put_back marks.old.items tallies.old.items }
     ensures marks { marks.new.items ≡ [] }
