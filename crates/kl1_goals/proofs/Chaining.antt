@@ -11,6 +11,7 @@ use Rattle.kl1_goals.specs.Tables.{Ascend}
 use Rattle.kl1_goals.specs.Slots.{goals_in, level_in, rank_in, let_in, emptied, changed_at, AreLow, AreSlots}
 use Rattle.kl1_goals.specs.Tallies.{tally_at, unlinked, left}
 use Rattle.kl1_goals.specs.Chains.{Shape, shoen_in, before_in, holds_in, is_due, shape_in, unlinked_in, shoen_at, before_at, last_at, Holds, IsLink, IsEmptyLink, AreLinked, AreKnown, AreChained, HoldsLess, HaveSameCounts}
+use Rattle.kl1_goals.proofs.Changing.{standing_by}
 use Rattle.kl1_goals.proofs.Linking.{known_at, link_less, less_length, linked_less, chained_less, less_less, link_past, link_nearer, chained_take, no_link}
 
 -- what a list of a function of the places has at a place that was read
@@ -368,6 +369,10 @@ less_shaped ss ts e = record {
   shoens = same_fields shape_in (λ (h : Shape). h.shoen) ss ts e;
   holds = λ n k t. sym (ap (λ l. get_or l k false) (same_fields shape_in (λ (h : Shape). h.is_held && h.shoen == n) ss ts e)) ∙ t;
 }
+
+-- a place whose goal stands by a clause
+abbrev pub standing_in_place : {N : Type 0} → Option ℕ → Slot N → Slot N
+standing_in_place clause s = record { goal = standing_by clause s.goal; is_held = s.is_held; before = s.before }
 
 -- a place with another link
 abbrev pub relinked : {N : Type 0} → ℕ → Slot N → Slot N

@@ -10,9 +10,8 @@ use Rattle.kl1_goals.specs.Lists.{is_other, has_number, is_after, stood_by, numb
 use Rattle.kl1_goals.specs.Tables.{Ascend, AreBefore}
 use Rattle.kl1_goals.specs.Slots.{goals_in, first_of, numbers_of, number_in, level_in, rank_in, AreLow, AreBelow, IsCut, IsAbsent, IsHeldAt, IsWithout, AreSlots, IsEmptyEnd, held_in, priority_in, emptied}
 use Rattle.kl1_goals.specs.Readies.{stands}
-use Rattle.kl1_goals.specs.Trailed.{EndsHeld}
 use Rattle.kl1_queue.specs.Ranks.{IsPriority}
-use Rattle.kl1_goals.proofs.Orders.{ascend_from, ascend_push, below_end, low_push}
+use Rattle.kl1_goals.proofs.Orders.{ascend_from, ascend_push, low_push}
 
 -- a number that isn't another
 pub other_number : (m n : ℕ) → (m ≡ n → ⊥) → (m == n) ≡ false
@@ -248,36 +247,10 @@ pub not_true : (b : Bool) → not b ≡ true → b ≡ false
 not_true false e = refl
 not_true true e = absurd (false≢true e)
 
-pub not_false : (b : Bool) → not b ≡ false → b ≡ true
-not_false true e = refl
-not_false false e = absurd (false≢true (sym e))
-
 pub empty_end : {N : Type 0} (ss : List (Slot N)) (k : ℕ) (s : Slot N) → length ss ≡ k + 1 → get_or ss k s ≡ s → s.is_held ≡ false → IsEmptyEnd ss
 empty_end ss k s w e h =
     let one : length ss - 1 ≡ k = omega (arith, w) in
     record { some = omega (arith, w); goals = rw one (goals_taken ss k s w e h) }
-
--- places of which the last has a goal
-before_on : {N : Type 0} (n : ℕ) (b : Bool) (g : Goal N) (gs : List (Goal N)) → AreBefore n (cond b (g ∷ gs) gs) → AreBefore n gs
-before_on n false g gs h = h
-before_on n true g gs h = h.1
-
-before_here : {N : Type 0} (n : ℕ) (b : Bool) (g : Goal N) (gs : List (Goal N)) → b ≡ true → AreBefore n (cond b (g ∷ gs) gs) → g.number < n
-before_here n true g gs e h = h.0
-before_here n false g gs e h = absurd (false≢true e)
-
-before_last : {N : Type 0} (n k : ℕ) (ss : List (Slot N)) (s : Slot N) → length ss ≡ k + 1 → get_or ss k s ≡ s → s.is_held ≡ true → AreBefore n (goals_in ss) → s.goal.number < n
-before_last {N = N} n zero [] s w e h b = absurd (omega (arith, w))
-before_last {N = N} n (suc k) [] s w e h b = absurd (omega (arith, w))
-before_last {N = N} n zero (t ∷ ss) s w e h b = rw (← e) (before_here n t.is_held t.goal (goals_in ss) (ap held_in e ∙ h) b)
-before_last n (suc k) (t ∷ ss) s w e h b = before_last n k ss s (omega (arith, w)) e h (before_on n t.is_held t.goal (goals_in ss) b)
-
-pub held_end : {N : Type 0} (ss : List (Slot N)) (k : ℕ) (s : Slot N) → length ss ≡ k + 1 → s ≡ get_or ss k s → s.is_held ≡ true → Ascend 0 (numbers_of ss) → EndsHeld ss
-held_end ss k s w e h a = λ n b. below_end (numbers_of ss) k n a (omega (arith, w, length-map ss number_in)) (omega (arith, before_last n k ss s w (sym e) h b, field_read number_in ss k s (omega (arith, w)) e))
-
-pub none_end : {N : Type 0} (ss : List (Slot N)) → length ss ≡ 0 → EndsHeld ss
-none_end [] w = λ n b. tt
-none_end (s ∷ ss) w = absurd (omega (arith, w))
 
 ascend_take : (from k : ℕ) (ns : List ℕ) → Ascend from ns → Ascend from (take k ns)
 ascend_take from zero ns a = tt

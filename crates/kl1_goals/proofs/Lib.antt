@@ -6,6 +6,4 @@ pub mod Tabling
 pub mod Flagging
 pub mod Linking
 pub mod Chaining
-pub mod Looking
-pub mod Noted
-pub mod Backing
+pub mod Rowing

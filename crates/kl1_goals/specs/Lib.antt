@@ -5,4 +5,4 @@ pub mod Slots
 pub mod Tallies
 pub mod Chains
 pub mod Keeping
-pub mod Trailed
+pub mod Rows

@@ -47,17 +47,13 @@ rank_in s = rank_of (priority_in s)
 abbrev pub let_in : {N : Type 0} → ℕ → Bool → Slot N → Slot N
 let_in n b s = record s { goal = enabled_in n b s.goal }
 
--- a place whose goal could step by this clause from now on
-abbrev pub standing_in : {N : Type 0} → Option ℕ → Slot N → Slot N
-standing_in clause s = record s { goal = record s.goal { standing = clause } }
-
--- a place whose goal could step by this clause and may step, or may not, from now on
-abbrev pub looked_in : {N : Type 0} → Option ℕ → Bool → Slot N → Slot N
-looked_in clause b s = record s { goal = record s.goal { standing = clause; is_enabled = b } }
-
 -- a place without its goal
 abbrev pub emptied : {N : Type 0} → Slot N → Slot N
 emptied s = record s { is_held = false }
+
+-- a place whose goal could step by this clause from now on
+abbrev pub standing_in : {N : Type 0} → Option ℕ → Slot N → Slot N
+standing_in clause s = record s { goal = record s.goal { standing = clause } }
 
 -- places of which one is changed
 abbrev pub changed_at : {N : Type 0} → (Slot N → Slot N) → ℕ → List (Slot N) → List (Slot N)

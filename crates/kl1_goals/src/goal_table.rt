@@ -20,7 +20,7 @@ use std::alloc::{AllocError, Global};
 use std::marker::Model;
 
 /// How many places there can be.
-pub(crate) const MOST: usize = 0xffff_ffff;
+const MOST: usize = 0xffff_ffff;
 
 /// The goals of an account in order of number, each with the clause by which it could step and whether it may, and its shoens,
 /// counted from 1.
@@ -29,12 +29,12 @@ pub(crate) const MOST: usize = 0xffff_ffff;
 /// more than three quarters. `seen` is the place in which a goal was found last to change it: a hint of where it may be.
 #[derive(Drop)]
 pub struct GoalTable<N: NameValue> {
-    pub(crate) slots: Vec<Slot<N>>,
-    pub(crate) empty: usize,
-    pub(crate) queue: ReadyQueue,
-    pub(crate) tallies: Vec<Tally>,
-    pub(crate) alive: u64,
-    pub(crate) seen: usize,
+    slots: Vec<Slot<N>>,
+    empty: usize,
+    queue: ReadyQueue,
+    tallies: Vec<Tally>,
+    alive: u64,
+    seen: usize,
 }
 
 impl<N: NameValue> Model for GoalTable<N> {

@@ -1,21 +1,20 @@
 //! The goals of an account in order of number, and which of those that can step goes first.
 #![tactic(auto)]
 
+mod begun;
 mod chains;
 mod goal;
+mod goal_row;
 mod goal_table;
 mod places;
 mod room;
 mod slot;
 mod tally;
 mod task;
-mod trailed_table;
-mod trailing;
-mod was;
 
 pub use goal::Goal;
+pub use goal_row::GoalRow;
 pub use goal_table::GoalTable;
 pub use kl1_model::Rules;
 pub use room::make_room;
 pub use task::Task;
-pub use trailed_table::TrailedTable;

@@ -1,12 +1,11 @@
 // The places of a table, in order of number, with the queue over them.
 
-ghost use Rattle.std.specs.Prelude.{◌≡◌, ◌+◌, ◌-◌, ◌<◌, ◌≤◌, ℕ, true, false, None, List, [], ◌∷◌, ◌++◌, length, map, drop, get_or, nat_lt, MatchOption, vec_len, vec_capacity};
+ghost use Rattle.std.specs.Prelude.{◌≡◌, ◌+◌, ◌-◌, ◌<◌, ◌≤◌, ℕ, true, None, List, [], ◌∷◌, ◌++◌, length, map, drop, get_or, nat_lt, MatchOption, vec_len, vec_capacity};
 ghost use Rattle.std.specs.List.{filter, find};
 ghost use Rattle.kl1_model.specs.declared.limits.TheConstants.{MONITOR_PRIORITY};
-ghost use Rattle.kl1_goals.specs.Lists.{has_number, is_other, stood_by, looked_at, number_of};
+ghost use Rattle.kl1_goals.specs.Lists.{has_number, is_other, stood_by, number_of};
 ghost use Rattle.kl1_goals.specs.Tables.{Ascend, AreBefore};
-ghost use Rattle.kl1_goals.specs.Slots.{numbers_of, goals_in, first_of, rank_in, level_in, emptied, changed_at, standing_in, looked_in, AreLow, AreBelow, IsCut, IsPlace, IsAbsent, AreSlots, IsHeldAt, IsEmptyEnd, IsWithout};
-ghost use Rattle.kl1_goals.specs.Trailed.{EndsHeld};
+ghost use Rattle.kl1_goals.specs.Slots.{numbers_of, goals_in, first_of, rank_in, level_in, emptied, standing_in, changed_at, AreLow, AreBelow, IsCut, IsPlace, IsAbsent, AreSlots, IsHeldAt, IsEmptyEnd, IsWithout};
 ghost use Rattle.kl1_goals.specs.Chains.{shape_in, before_in, AreChained, HaveSameCounts};
 
 use crate::chains::{forget_last, link_all, unlink_last};
@@ -39,7 +38,7 @@ pub(crate) fn count_upto<N: NameValue>(slots: &Vec<Slot<N>>, number: u64) -> usi
 
 /// Whether all places have a lesser number.
 #[inline]
-fn ends_before<N: NameValue>(slots: &Vec<Slot<N>>, number: u64) -> bool
+pub(crate) fn ends_before<N: NameValue>(slots: &Vec<Slot<N>>, number: u64) -> bool
     requires { Ascend 0 (numbers_of slots.now.items) }
     ensures { result ≡ true → AreBelow number (numbers_of slots.now.items) }
 {
@@ -201,8 +200,8 @@ pub(crate) fn stand<N: NameValue>(
 )
     requires slots { AreSlots slots.old.items empty queue.old.ranks }
     requires place { (s : Slot N) × IsHeldAt slots.old.items s.goal.number place s }
-    ensures changed { slots.new.items ≡ changed_at (standing_in standing) place slots.old.items }
     ensures slots { AreSlots slots.new.items empty queue.new.ranks }
+    ensures stood { slots.new.items ≡ changed_at (standing_in standing) place slots.old.items }
     ensures shapes { map shape_in slots.new.items ≡ map shape_in slots.old.items }
     ensures links { map before_in slots.new.items ≡ map before_in slots.old.items }
     ensures goals { (s : Slot N) → IsHeldAt slots.old.items s.goal.number place s → goals_in slots.new.items ≡ map (stood_by s.goal.number standing) (goals_in slots.old.items) }
@@ -212,30 +211,6 @@ pub(crate) fn stand<N: NameValue>(
 {
     let slot = &mut slots[place];
     slot.goal.standing = standing;
-    match slot.priority() {
-        None => queue.remove(place),
-        Some(priority) => queue.put(place, priority),
-    }
-}
-
-/// A goal that is there may step, or may not, and has the clause by which it can step.
-pub(crate) fn look_at<N: NameValue>(
-    slots: &mut Vec<Slot<N>>,
-    empty: usize,
-    queue: &mut ReadyQueue,
-    place: usize,
-    standing: Option<u64>,
-    is_enabled: bool,
-)
-    requires slots { AreSlots slots.old.items empty queue.old.ranks }
-    requires place { (s : Slot N) × IsHeldAt slots.old.items s.goal.number place s }
-    ensures changed { slots.new.items ≡ changed_at (looked_in standing is_enabled) place slots.old.items }
-    ensures slots { AreSlots slots.new.items empty queue.new.ranks }
-    ensures goals { (s : Slot N) → IsHeldAt slots.old.items s.goal.number place s → goals_in slots.new.items ≡ map (looked_at s.goal.number standing is_enabled) (goals_in slots.old.items) }
-{
-    let slot = &mut slots[place];
-    slot.goal.standing = standing;
-    slot.goal.is_enabled = is_enabled;
     match slot.priority() {
         None => queue.remove(place),
         Some(priority) => queue.put(place, priority),
@@ -285,9 +260,8 @@ pub(crate) fn compact<N: NameValue>(
 
 /// Whether there is a last place and it is empty.
 #[inline]
-pub(crate) fn ends_empty<N: NameValue>(slots: &Vec<Slot<N>>) -> bool
-    ensures empty { result ≡ true → IsEmptyEnd slots.now.items }
-    ensures held { result ≡ false → Ascend 0 (numbers_of slots.now.items) → EndsHeld slots.now.items }
+fn ends_empty<N: NameValue>(slots: &Vec<Slot<N>>) -> bool
+    ensures { result ≡ true → IsEmptyEnd slots.now.items }
 {
     let count = slots.len();
     if count == 0 {
@@ -310,7 +284,6 @@ fn trim<N: NameValue>(
     ensures chained { AreChained slots.new.items tallies.new.items }
     ensures counts { HaveSameCounts tallies.old.items tallies.new.items }
     ensures goals { goals_in slots.new.items ≡ goals_in slots.old.items }
-    ensures ends { EndsHeld slots.new.items }
     ensures len { vec_len slots.new ≤ vec_len slots.old }
     ensures capacity { vec_capacity slots.new ≡ vec_capacity slots.old }
     ensures room { queue.old.room ≤ queue.new.room }
@@ -340,7 +313,6 @@ pub(crate) fn tidy<N: NameValue>(
     ensures chained { AreChained slots.new.items tallies.new.items }
     ensures counts { HaveSameCounts tallies.old.items tallies.new.items }
     ensures goals { goals_in slots.new.items ≡ goals_in slots.old.items }
-    ensures ends { EndsHeld slots.new.items }
     ensures len { vec_len slots.new ≤ vec_len slots.old }
     ensures capacity { vec_capacity slots.new ≡ vec_capacity slots.old }
     ensures room { queue.old.room ≤ queue.new.room }

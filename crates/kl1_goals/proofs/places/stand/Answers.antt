@@ -6,7 +6,7 @@ use Rattle.kl1_goals.specs.Slots.{level_in, standing_in}
 use Rattle.kl1_goals.specs.Chains.{shape_in, before_in}
 use Rattle.kl1_goals.proofs.Orders.{low_at}
 use Rattle.kl1_goals.proofs.Changing.{same_read, field_read, slots_stood, stood_at, standing_by, priority_low}
-use Rattle.kl1_goals.proofs.Chaining.{changed_set, changed_same}
+use Rattle.kl1_goals.proofs.Chaining.{changed_set, changed_same, standing_in_place}
 use Rattle.kl1_goals.proofs.places.stand.Goals as goal
 
 pub priority-requires : goal.priority-requires
@@ -66,32 +66,32 @@ pub returns-in-None-clause-shapes : goal.returns-in-None-clause-shapes
 returns-in-None-clause-shapes g c =
     let ss = c.args.slots.now.items in
     let x = c.index_mut-slot.result.now in
-    let change = standing_in {N = g.row.N.Denot} c.args.standing in
+    let change = standing_in_place {N = g.row.N.Denot} c.args.standing in
     rw (changed_set change ss c.args.place x c.requires.place.1.within (sym c.index_mut-slot.ensures.value)) (changed_same shape_in change (λ s. refl) c.args.place ss)
 
 pub returns-in-None-clause-links : goal.returns-in-None-clause-links
 returns-in-None-clause-links g c =
     let ss = c.args.slots.now.items in
     let x = c.index_mut-slot.result.now in
-    let change = standing_in {N = g.row.N.Denot} c.args.standing in
+    let change = standing_in_place {N = g.row.N.Denot} c.args.standing in
     rw (changed_set change ss c.args.place x c.requires.place.1.within (sym c.index_mut-slot.ensures.value)) (changed_same before_in change (λ s. refl) c.args.place ss)
 
 pub returns-in-Some-clause-shapes : goal.returns-in-Some-clause-shapes
 returns-in-Some-clause-shapes g c =
     let ss = c.args.slots.now.items in
     let x = c.index_mut-slot.result.now in
-    let change = standing_in {N = g.row.N.Denot} c.args.standing in
+    let change = standing_in_place {N = g.row.N.Denot} c.args.standing in
     rw (changed_set change ss c.args.place x c.requires.place.1.within (sym c.index_mut-slot.ensures.value)) (changed_same shape_in change (λ s. refl) c.args.place ss)
 
 pub returns-in-Some-clause-links : goal.returns-in-Some-clause-links
 returns-in-Some-clause-links g c =
     let ss = c.args.slots.now.items in
     let x = c.index_mut-slot.result.now in
-    let change = standing_in {N = g.row.N.Denot} c.args.standing in
+    let change = standing_in_place {N = g.row.N.Denot} c.args.standing in
     rw (changed_set change ss c.args.place x c.requires.place.1.within (sym c.index_mut-slot.ensures.value)) (changed_same before_in change (λ s. refl) c.args.place ss)
 
-pub returns-in-None-clause-changed : goal.returns-in-None-clause-changed
-returns-in-None-clause-changed g c = changed_set (standing_in c.args.standing) c.args.slots.now.items c.args.place c.index_mut-slot.result.now c.requires.place.1.within (sym c.index_mut-slot.ensures.value)
+pub returns-in-None-clause-stood : goal.returns-in-None-clause-stood
+returns-in-None-clause-stood g c = changed_set (standing_in c.args.standing) c.args.slots.now.items c.args.place c.index_mut-slot.result.now c.requires.place.1.within (sym c.index_mut-slot.ensures.value)
 
-pub returns-in-Some-clause-changed : goal.returns-in-Some-clause-changed
-returns-in-Some-clause-changed g c = changed_set (standing_in c.args.standing) c.args.slots.now.items c.args.place c.index_mut-slot.result.now c.requires.place.1.within (sym c.index_mut-slot.ensures.value)
+pub returns-in-Some-clause-stood : goal.returns-in-Some-clause-stood
+returns-in-Some-clause-stood g c = changed_set (standing_in c.args.standing) c.args.slots.now.items c.args.place c.index_mut-slot.result.now c.requires.place.1.within (sym c.index_mut-slot.ensures.value)

@@ -4,15 +4,15 @@ use Rattle.kl1_goals.proofs.Linking.{counts_counts}
 use Rattle.kl1_goals.proofs.places.trim.Goals as goal
 
 pub overflow_sub-empty : goal.overflow_sub-empty
-overflow_sub-empty g c = empty_counted c.loop-slots.slots.items c.loop-slots.empty c.loop-slots.queue.ranks c.loop-slots.invariant.slots (c.ends_empty.ensures.empty c.loop-slots-test.true)
+overflow_sub-empty g c = empty_counted c.loop-slots.slots.items c.loop-slots.empty c.loop-slots.queue.ranks c.loop-slots.invariant.slots (c.ends_empty.ensures c.loop-slots-test.true)
 
 pub unlink_last-requires-clause-some : goal.unlink_last-requires-clause-some
-unlink_last-requires-clause-some g c = (c.ends_empty.ensures.empty c.loop-slots-test.true).some
+unlink_last-requires-clause-some g c = (c.ends_empty.ensures c.loop-slots-test.true).some
 
 pub loop-slots-preserved : goal.loop-slots-preserved
 loop-slots-preserved g c =
     let l = c.loop-slots in
-    let end = c.ends_empty.ensures.empty c.loop-slots-test.true in
+    let end = c.ends_empty.ensures c.loop-slots-test.true in
     let count : l.slots.len ≡ length l.slots.items = omega (arith, l.slots.ok.0) in
     let some = empty_counted l.slots.items l.empty l.queue.ranks l.invariant.slots end in
     record {
@@ -26,6 +26,3 @@ loop-slots-preserved g c =
       tallies_len = c.unlink_last.ensures.len ∙ l.invariant.tallies_len;
       tallies_capacity = c.unlink_last.ensures.capacity ∙ l.invariant.tallies_capacity;
     }
-
-pub returns-clause-ends : goal.returns-clause-ends
-returns-clause-ends g c = c.ends_empty.ensures.held c.loop-slots-test.false c.loop-slots.invariant.slots.ascend
