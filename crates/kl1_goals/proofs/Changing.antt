@@ -247,6 +247,10 @@ pub not_true : (b : Bool) → not b ≡ true → b ≡ false
 not_true false e = refl
 not_true true e = absurd (false≢true e)
 
+pub not_false : (b : Bool) → not b ≡ false → b ≡ true
+not_false true e = refl
+not_false false e = absurd (false≢true (sym e))
+
 pub empty_end : {N : Type 0} (ss : List (Slot N)) (k : ℕ) (s : Slot N) → length ss ≡ k + 1 → get_or ss k s ≡ s → s.is_held ≡ false → IsEmptyEnd ss
 empty_end ss k s w e h =
     let one : length ss - 1 ≡ k = omega (arith, w) in

@@ -7,3 +7,5 @@ pub mod Flagging
 pub mod Linking
 pub mod Chaining
 pub mod Rowing
+pub mod Looking
+pub mod Walking

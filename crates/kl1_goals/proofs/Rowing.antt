@@ -1,5 +1,5 @@
 -- A table that can be put back.
-use Rattle.std.proofs.Common.{◌≡◌, ℕ, suc, ◌+◌, ◌-◌, ◌^◌, ◌<◌, ◌≤◌, ◌==◌, cond, inl, inr, get_or, set, List, [], ◌∷◌, ◌++◌, length, take, map, Option, refl, sym, ap, ◌∙◌, subst, arith}
+use Rattle.std.proofs.Common.{◌≡◌, ℕ, suc, ◌+◌, ◌-◌, ◌^◌, ◌<◌, ◌≤◌, ◌==◌, Bool, cond, inl, inr, get_or, set, List, [], ◌∷◌, ◌++◌, length, take, map, Option, refl, sym, ap, ◌∙◌, subst, arith}
 use Rattle.std.proofs.lemmas.List.{length-set, length_push, length-take-le, ext_get_or, get_or-set_other}
 use Rattle.std.proofs.lemmas.Grind.{get_or-set_at}
 use Rattle.std.proofs.lemmas.Bool.{cases_eq, ne_eqb}
@@ -11,7 +11,7 @@ use Rattle.kl1_goals.specs.declared.slot.Slot.{Slot}
 use Rattle.kl1_goals.specs.declared.tally.Tally.{Tally}
 use Rattle.kl1_goals.specs.declared.begun.Begun.{Begun}
 use Rattle.kl1_goals.specs.Lists.{is_monitor}
-use Rattle.kl1_goals.specs.Slots.{rank_in, goals_in, emptied, standing_in, changed_at, AreSlots, IsWithout}
+use Rattle.kl1_goals.specs.Slots.{rank_in, goals_in, emptied, standing_in, looked_in, changed_at, AreSlots, IsWithout}
 use Rattle.kl1_goals.specs.Tallies.{nothing, tally_at, lowered, raised}
 use Rattle.kl1_goals.specs.Chains.{AreChained, HaveSameCounts}
 use Rattle.kl1_goals.specs.Tables.{IsNext}
@@ -195,6 +195,12 @@ pub stood_noted : {N : Type 0} (ss us : List (Slot N)) (ts : List Tally) (b c : 
 stood_noted {N = N} ss us ts b c k clause x within at is rest slots =
     let us_is : us ≡ set ss k (standing_in clause x) = is ∙ sym (changed_set (standing_in clause) ss k x within at) in
     noted_slots ss us ts b c rest (ap (places_then c) us_is ∙ slots (standing_in clause x)) (omega (arith, ap (λ (xs : List (Slot N)). length xs) us_is, length-set ss k (standing_in clause x)))
+
+-- what was noted before a goal was given another clause and may step, or may not
+pub looked_noted : {N : Type 0} (ss us : List (Slot N)) (ts : List Tally) (b c : Begun N) (k : ℕ) (clause : Option ℕ) (e : Bool) (x : Slot N) → k < length ss → get_or ss k x ≡ x → us ≡ changed_at (looked_in clause e) k ss → c ≡ record b { slots = c.slots } → ((s : Slot N) → places_then c (set ss k s) ≡ places_then b ss) → HasNoted ss us ts ts b c
+looked_noted {N = N} ss us ts b c k clause e x within at is rest slots =
+    let us_is : us ≡ set ss k (looked_in clause e x) = is ∙ sym (changed_set (looked_in clause e) ss k x within at) in
+    noted_slots ss us ts b c rest (ap (places_then c) us_is ∙ slots (looked_in clause e x)) (omega (arith, ap (λ (xs : List (Slot N)). length xs) us_is, length-set ss k (looked_in clause e x)))
 
 -- what was noted before a goal was put
 pub added_noted : {N : Type 0} (ss us : List (Slot N)) (ts xs vs : List Tally) (b d : Begun N) (before last : ℕ) (g : Goal N) → b.places ≤ length ss → us ≡ ss ++ linked_to before g ∷ [] → 0 < g.shoen → g.shoen ≤ length ts → ((n : ℕ) → tally_at xs n ≡ cond (n == g.shoen) (record (tally_at ts n) { last = last }) (tally_at ts n)) → length xs ≡ length ts →

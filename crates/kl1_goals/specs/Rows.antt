@@ -1,10 +1,12 @@
 -- A table of goals that can be put back to what it was when an event began.
-use Rattle.std.specs.Prelude.{ℕ, ◌≤◌, List, take, length, map}
+use Rattle.std.specs.Prelude.{◌≡◌, ℕ, ◌<◌, ◌≤◌, not, List, take, length, map}
+use Rattle.std.specs.List.{filter}
 use Rattle.kl1_shoen_paths.specs.Tracked.{put_back}
 use Rattle.kl1_goals.specs.declared.goal.Goal.{Goal}
 use Rattle.kl1_goals.specs.declared.slot.Slot.{Slot}
 use Rattle.kl1_goals.specs.declared.tally.Tally.{Tally}
 use Rattle.kl1_goals.specs.declared.begun.Begun.{Begun}
+use Rattle.kl1_goals.specs.Lists.{is_in, is_other}
 use Rattle.kl1_goals.specs.Slots.{rank_in}
 use Rattle.kl1_goals.specs.Keeping.{IsTable}
 
@@ -29,3 +31,8 @@ pub record IsRow {N : Type 0} (ss : List (Slot N)) (empty : ℕ) (ranks : List �
   pub was : IsTable (places_then b ss) b.empty (map rank_in (places_then b ss)) (kept_then b ts) b.alive
   pub places : b.places ≤ length ss
   pub shoens : b.shoens ≤ length ts
+
+-- a goal of a shoen by its number: without it the goals are fewer, and as many are of other shoens
+pub record IsOfShoen {N : Type 0} (shoen number : ℕ) (goals : List (Goal N)) : Type 0 where
+  pub rest : filter (λ g. not (is_in shoen g)) (filter (is_other number) goals) ≡ filter (λ g. not (is_in shoen g)) goals
+  pub fewer : length (filter (is_other number) goals) < length goals

@@ -1,15 +1,18 @@
 // A table of goals that can be put back to what it was when an event began.
 
-ghost use Rattle.std.specs.Prelude.{◌≡◌, ◌+◌, ◌<◌, not, [], ◌∷◌, ◌++◌, None, map, option_map, IfSome, OnOk};
+ghost use Rattle.std.specs.Prelude.{◌≡◌, ◌+◌, ◌<◌, not, [], ◌∷◌, ◌++◌, None, map, option_map, IfSome, IfOk, OnOk, MatchOption};
 ghost use Rattle.std.specs.List.{filter, find, list_any, count_by};
-ghost use Rattle.kl1_goals.specs.Lists.{has_number, is_other, is_after, is_monitor, is_monitor_of, is_goal_of, stood_by};
+ghost use Rattle.kl1_goals.specs.Lists.{has_number, is_other, is_after, is_monitor, is_monitor_of, is_goal_of, is_in, stood_by, looked_at, enabled_in};
 ghost use Rattle.kl1_goals.specs.Readies.{first_from, chosen, stands};
 ghost use Rattle.kl1_goals.specs.Tables.{IsNext, IsKnown, AreInOrder, AreSingle};
+ghost use Rattle.kl1_goals.specs.Rows.{IsOfShoen};
 
 use crate::begun::{Begun, note_slot, note_tally};
 use crate::goal::Goal;
+use crate::goal_table::GoalTable;
+use crate::noting::{let_each_step, relink};
 use crate::places::{
-    append, bury, count_upto, ends_before, first_held, held_place, rank_all, stand, tidy,
+    append, bury, count_upto, ends_before, first_held, held_place, look_at, rank_all, stand, tidy,
 };
 use crate::room::make_room;
 use crate::slot::Slot;
@@ -74,6 +77,62 @@ impl<N: NameValue> GoalRow<N> {
                 shoens: 0,
                 alive: 0,
             },
+        }
+    }
+
+    /// The goals and shoens of a table, as an event begins.
+    pub fn over(table: GoalTable<N>) -> Self
+        ensures { result ≡ record { goals = table.goals; begun = table.goals; shoens = table.shoens; begun_shoens = table.shoens } }
+    {
+        let GoalTable {
+            slots,
+            empty,
+            queue,
+            tallies,
+            alive,
+            seen,
+        } = table;
+        let alloc = *slots.allocator();
+        let begun = Begun {
+            slots: Vec::new(alloc),
+            places: slots.len(),
+            empty,
+            tallies: Vec::new(alloc),
+            shoens: tallies.len(),
+            alive,
+        };
+        GoalRow {
+            slots,
+            empty,
+            queue,
+            tallies,
+            alive,
+            seen,
+            begun,
+        }
+    }
+
+    /// The goals and shoens, as a table that isn't put back.
+    pub fn into_table(self) -> GoalTable<N>
+        ensures goals { result.goals ≡ self.goals }
+        ensures shoens { result.shoens ≡ self.shoens }
+    {
+        let GoalRow {
+            slots,
+            empty,
+            queue,
+            tallies,
+            alive,
+            seen,
+            begun: _,
+        } = self;
+        GoalTable {
+            slots,
+            empty,
+            queue,
+            tallies,
+            alive,
+            seen,
         }
     }
 
@@ -148,6 +207,32 @@ impl<N: NameValue> GoalRow<N> {
         Ok(())
     }
 
+    /// From now on goal `number` has this clause by which it could step, or none, and may step, or may not.
+    pub fn look(
+        &mut self,
+        number: u64,
+        standing: Option<u64>,
+        is_enabled: bool,
+    ) -> Result<(), AllocError>
+        ensures ok { OnOk result (self.new.goals ≡ map (looked_at number standing is_enabled) self.old.goals) }
+        ensures rest { self.new ≡ record self.old { goals = self.new.goals } }
+    {
+        let Some(place) = held_place(&self.slots, self.seen, number) else {
+            return Ok(());
+        };
+        note_slot(&mut self.begun, &self.slots, place)?;
+        self.seen = place;
+        look_at(
+            &mut self.slots,
+            self.empty,
+            &mut self.queue,
+            place,
+            standing,
+            is_enabled,
+        );
+        Ok(())
+    }
+
     /// Puts a goal after all others. A number that isn't above all that were there since the event began is refused as for want of memory.
     pub fn put(&mut self, goal: Goal<N>) -> Result<(), AllocError>
         requires next { IsNext goal self.old.goals self.old.shoens }
@@ -196,6 +281,47 @@ impl<N: NameValue> GoalRow<N> {
             None => Ok(()),
             Some(number) => self.remove(number),
         }
+    }
+
+    /// From now on the goals of a shoen other than its monitor may step, or may not.
+    pub fn enable(&mut self, shoen: u64, is_enabled: bool) -> Result<(), AllocError>
+        ensures ok { OnOk result (self.new.goals ≡ map (enabled_in shoen is_enabled) self.old.goals) }
+        ensures rest { self.new ≡ record self.old { goals = self.new.goals } }
+    {
+        let link = relink(&mut self.begun, &self.slots, &mut self.tallies, shoen)?;
+        let_each_step(
+            &mut self.begun,
+            &mut self.slots,
+            &mut self.queue,
+            link,
+            shoen,
+            is_enabled,
+        )
+    }
+
+    /// The number of the last goal of a shoen, its monitor included, if it has any.
+    fn last_of(&mut self, shoen: u64) -> Result<Option<u64>, AllocError>
+        ensures same { self.new ≡ self.old }
+        ensures last { IfOk result (λ last. MatchOption last (self.old.goals ≡ filter (λ g. not (is_in shoen g)) self.old.goals) (λ number. IsOfShoen shoen number self.old.goals)) }
+    {
+        let link = relink(&mut self.begun, &self.slots, &mut self.tallies, shoen)?;
+        if link == 0 {
+            return Ok(None);
+        }
+        let place = link as usize - 1;
+        self.seen = place;
+        Ok(Some(self.slots[place].goal.number))
+    }
+
+    /// Removes the goals of a shoen, its monitor too.
+    pub fn remove_all(&mut self, shoen: u64) -> Result<(), AllocError>
+        ensures ok { OnOk result (self.new.goals ≡ filter (λ g. not (is_in shoen g)) self.old.goals) }
+        ensures rest { self.new ≡ record self.old { goals = self.new.goals } }
+    {
+        while let Some(number) = self.last_of(shoen)? {
+            self.remove(number)?;
+        }
+        Ok(())
     }
 
     /// How many shoens are known.

@@ -6,6 +6,7 @@ mod chains;
 mod goal;
 mod goal_row;
 mod goal_table;
+mod noting;
 mod places;
 mod room;
 mod slot;
