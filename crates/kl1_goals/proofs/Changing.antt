@@ -261,7 +261,7 @@ ascend_take from zero ns a = tt
 ascend_take from (suc k) [] a = tt
 ascend_take from (suc k) (n ∷ ns) a = (a.0, ascend_take (suc n) k ns a.1)
 
-low_take : (k : ℕ) (ps : List ℕ) → AreLow ps → AreLow (take k ps)
+pub low_take : (k : ℕ) (ps : List ℕ) → AreLow ps → AreLow (take k ps)
 low_take zero ps a = tt
 low_take (suc k) [] a = tt
 low_take (suc k) (p ∷ ps) a = (a.0, low_take k ps a.1)

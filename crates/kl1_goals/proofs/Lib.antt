@@ -9,3 +9,4 @@ pub mod Chaining
 pub mod Rowing
 pub mod Looking
 pub mod Walking
+pub mod Capping

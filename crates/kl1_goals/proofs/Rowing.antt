@@ -74,6 +74,15 @@ tidied_table ss us empty fewer ranks more ts vs alive h slots chained counts goa
 rowed_is : {N : Type 0} (gs bs : List (Goal N)) (n m : ℕ) (r : Rowed N) → gs ≡ r.goals → bs ≡ r.begun → n ≡ r.shoens → m ≡ r.begun_shoens → let z : Rowed N = record { goals = gs; begun = bs; shoens = n; begun_shoens = m } in z ≡ r
 rowed_is gs bs n m r a b c d = rw (a, b, c, d) refl
 
+-- what is seen of a table whose event begins
+pub begun_view : {N : Type 0} (ss : List (Slot N)) (empty : ℕ) (ts : List Tally) (alive : ℕ) (b : Begun N) → Begins ss empty ts alive b →
+    let new : Rowed N = record { goals = goals_in ss; begun = goals_in (places_then b ss); shoens = length ts; begun_shoens = b.shoens } in
+    let was : Rowed N = record { goals = goals_in ss; begun = goals_in ss; shoens = length ts; begun_shoens = length ts } in
+    new ≡ was
+begun_view {N = N} ss empty ts alive b i =
+    let was : Rowed N = record { goals = goals_in ss; begun = goals_in ss; shoens = length ts; begun_shoens = length ts } in
+    rowed_is (goals_in ss) (goals_in (places_then b ss)) (length ts) b.shoens was refl (ap goals_in (begun_places ss empty ts alive b i)) refl i.shoens
+
 -- what was noted still says what a table was when the event began
 pub record HasNoted {N : Type 0} (ss us : List (Slot N)) (ts vs : List Tally) (b c : Begun N) : Type 0 where
   pub slots : places_then c us ≡ places_then b ss

@@ -10,9 +10,9 @@ ghost use Rattle.kl1_goals.specs.Rows.{IsOfShoen};
 use crate::begun::{Begun, note_slot, note_tally};
 use crate::goal::Goal;
 use crate::goal_table::GoalTable;
-use crate::noting::{let_each_step, relink};
+use crate::noting::{cut_ranks, let_each_step, put_slots_back, relink};
 use crate::places::{
-    append, bury, count_upto, ends_before, first_held, held_place, look_at, rank_all, stand, tidy,
+    append, bury, count_upto, ends_before, first_held, held_place, look_at, stand, tidy,
 };
 use crate::room::make_room;
 use crate::slot::Slot;
@@ -159,12 +159,12 @@ impl<N: NameValue> GoalRow<N> {
         ensures { self.new ≡ record self.old { goals = self.old.begun; shoens = self.old.begun_shoens } }
     {
         self.slots.truncate(self.begun.places);
-        put_all_back(&mut self.slots, &mut self.begun.slots);
+        cut_ranks(&mut self.queue, self.begun.places);
+        put_slots_back(&mut self.slots, &mut self.queue, &mut self.begun.slots);
         self.tallies.truncate(self.begun.shoens);
         put_all_back(&mut self.tallies, &mut self.begun.tallies);
         self.empty = self.begun.empty;
         self.alive = self.begun.alive;
-        rank_all(&self.slots, &mut self.queue);
     }
 
     /// How many goals there are other than monitors.

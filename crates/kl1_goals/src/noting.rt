@@ -1,8 +1,10 @@
-// Walks along the places of a shoen, with what they change noted.
+// Walks along the places of a shoen, with what they change noted, and what was noted put back.
 
-ghost use Rattle.std.specs.Prelude.{◌≡◌, ◌-◌, ◌<◌, true, false, length, map, get_or, OnOk, IfOk};
+ghost use Rattle.std.specs.Prelude.{◌≡◌, ◌-◌, ◌<◌, true, false, [], length, map, take, set, get_or, OnOk, IfOk};
+ghost use Rattle.kl1_queue.specs.Ranks.{rank_of, IsPriority};
+ghost use Rattle.kl1_shoen_paths.specs.Tracked.{put_back};
 ghost use Rattle.kl1_goals.specs.Lists.{enabled_in};
-ghost use Rattle.kl1_goals.specs.Slots.{goals_in, level_in, rank_in, held_in, AreLow};
+ghost use Rattle.kl1_goals.specs.Slots.{goals_in, level_in, rank_in, capped_in, held_in, AreLow};
 ghost use Rattle.kl1_goals.specs.Chains.{shape_in, IsLink, AreLinked, AreChained, HaveSameCounts};
 ghost use Rattle.kl1_goals.specs.Rows.{places_then, kept_then};
 
@@ -10,7 +12,9 @@ use crate::begun::{Begun, note_slot, note_tally};
 use crate::chains::{held_link, let_step};
 use crate::slot::Slot;
 use crate::tally::{Tally, exchange_last, tally_of};
+use kl1_model::limits::MONITOR_PRIORITY;
 use kl1_queue::ReadyQueue;
+use kl1_shoen_paths::Was;
 use kl1_text::NameValue;
 use std::alloc::AllocError;
 
@@ -70,4 +74,62 @@ pub(crate) fn let_each_step<N: NameValue>(
         link = before;
     }
     Ok(())
+}
+
+/// The priority of the goal, if it is there and can step, and none if the priority is above a monitor's.
+fn capped_priority<N: NameValue>(slot: &Slot<N>) -> Option<u16>
+    ensures rank { rank_of result ≡ capped_in slot.now }
+    ensures priority { IsPriority result }
+{
+    if slot.goal.priority > MONITOR_PRIORITY {
+        return None;
+    }
+    slot.priority()
+}
+
+/// Puts back what stood at one place.
+fn put_slot_back<N: NameValue>(
+    slots: &mut Vec<Slot<N>>,
+    queue: &mut ReadyQueue,
+    place: usize,
+    slot: Slot<N>,
+)
+    requires place { place < length slots.old.items }
+    requires ranks { queue.old.ranks ≡ map capped_in slots.old.items }
+    ensures slots { slots.new.items ≡ set slots.old.items place slot }
+    ensures ranks { queue.new.ranks ≡ map capped_in slots.new.items }
+{
+    slots[place] = slot;
+    match capped_priority(&slot) {
+        None => queue.remove(place),
+        Some(priority) => queue.put(place, priority),
+    }
+}
+
+/// Puts back what stood at each of these places, the last first. No priority that is put back at last is above a monitor's.
+pub(crate) fn put_slots_back<N: NameValue>(
+    slots: &mut Vec<Slot<N>>,
+    queue: &mut ReadyQueue,
+    was: &mut Vec<Was<Slot<N>>>,
+)
+    requires low { AreLow (map level_in slots.old.items) }
+    requires ranks { queue.old.ranks ≡ map rank_in slots.old.items }
+    ensures slots { slots.new.items ≡ put_back was.old.items slots.old.items }
+    ensures ranks { AreLow (map level_in slots.new.items) → queue.new.ranks ≡ map rank_in slots.new.items }
+    ensures was { was.new.items ≡ [] }
+{
+    while let Some(last) = was.pop() {
+        if last.place < slots.len() {
+            put_slot_back(slots, queue, last.place, last.value);
+        }
+    }
+}
+
+/// Drops the ranks of the places from `count` on.
+pub(crate) fn cut_ranks(queue: &mut ReadyQueue, count: usize)
+    ensures ranks { queue.new.ranks ≡ take count queue.old.ranks }
+{
+    while queue.len() > count {
+        queue.drop_last();
+    }
 }

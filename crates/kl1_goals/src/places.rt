@@ -5,7 +5,7 @@ ghost use Rattle.std.specs.List.{filter, find};
 ghost use Rattle.kl1_model.specs.declared.limits.TheConstants.{MONITOR_PRIORITY};
 ghost use Rattle.kl1_goals.specs.Lists.{has_number, is_other, stood_by, looked_at, number_of};
 ghost use Rattle.kl1_goals.specs.Tables.{Ascend, AreBefore};
-ghost use Rattle.kl1_goals.specs.Slots.{numbers_of, goals_in, first_of, rank_in, level_in, emptied, standing_in, changed_at, AreLow, AreBelow, IsCut, IsPlace, IsAbsent, AreSlots, IsHeldAt, IsEmptyEnd, IsWithout};
+ghost use Rattle.kl1_goals.specs.Slots.{numbers_of, goals_in, first_of, rank_in, level_in, emptied, standing_in, looked_in, changed_at, AreLow, AreBelow, IsCut, IsPlace, IsAbsent, AreSlots, IsHeldAt, IsEmptyEnd, IsWithout};
 ghost use Rattle.kl1_goals.specs.Chains.{shape_in, before_in, AreChained, HaveSameCounts};
 
 use crate::chains::{forget_last, link_all, unlink_last};

@@ -57,11 +57,11 @@ returns-then-link-eq0-clause-same g c =
 pub returns-then-link-eq0-clause-last : goal.returns-then-link-eq0-clause-last
 returns-then-link-eq0-clause-last g c =
     let s = c.self.inside in
-    rw (← c.self.view_is) (none_linked c.args.shoen c.in_ok-relink.field-0 s.slots.items c.in_ok-relink.ensures.link c.if-link-eq0.true)
+    rw (← c.self.view_is) (none_linked c.args.shoen c.in_ok-link.link s.slots.items c.in_ok-link.ensures.link c.if-link-eq0.true)
 
 pub returns-clause-last : goal.returns-clause-last
 returns-clause-last g c =
     let s = c.self.inside in
-    let l = c.in_ok-relink.field-0 in
+    let l = c.in_ok-link.link in
     let one : l ≡ suc (l - 1) = omega (arith, c.if-link-eq0.false) in
-    rw (← c.self.view_is) (last_linked c.args.shoen l (l - 1) s.slots.items c.index.result.now c.self.invariant.now.slots.ascend c.in_ok-relink.ensures.link one c.index.ensures (c.in_ok-relink.ensures.held (omega (arith, c.if-link-eq0.false))))
+    rw (← c.self.view_is) (last_linked c.args.shoen l (l - 1) s.slots.items c.index.result.now c.self.invariant.now.slots.ascend c.in_ok-link.ensures.link one c.index.ensures (c.in_ok-link.ensures.held (omega (arith, c.if-link-eq0.false))))
