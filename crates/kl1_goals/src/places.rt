@@ -237,7 +237,7 @@ pub(crate) fn look_at<N: NameValue>(
     slot.goal.is_enabled = is_enabled;
     match slot.priority() {
         None => queue.remove(place),
-        Some(priority) => queue.put(place, priority),
+        Some(ready) => queue.put(place, ready),
     }
 }
 

@@ -16,7 +16,7 @@ priority-requires g c = priority_at c.args.slots.now.items c.args.place c.index_
 pub put-requires-clause-priority : goal.put-requires-clause-priority
 put-requires-clause-priority g c =
     let x = c.index_mut-slot.result.now in
-    priority_low (looked_in c.args.standing c.args.is_enabled x) (Some c.in-Some.priority) (priority_at c.args.slots.now.items c.args.place x c.requires.slots.low c.requires.place.1.within c.index_mut-slot.ensures.value) c.in-Some.ensures
+    priority_low (looked_in c.args.standing c.args.is_enabled x) (Some c.in-Some.ready) (priority_at c.args.slots.now.items c.args.place x c.requires.slots.low c.requires.place.1.within c.index_mut-slot.ensures.value) c.in-Some.ensures
 
 pub returns-in-None-clause-changed : goal.returns-in-None-clause-changed
 returns-in-None-clause-changed g c = changed_set (looked_in c.args.standing c.args.is_enabled) c.args.slots.now.items c.args.place c.index_mut-slot.result.now c.requires.place.1.within (sym c.index_mut-slot.ensures.value)
