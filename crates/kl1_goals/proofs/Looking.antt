@@ -1,12 +1,11 @@
 -- Goals of which one is changed in place, but for its number, its task, its shoen and its priority.
-use Rattle.std.proofs.Common.{◌≡◌, ℕ, zero, suc, ◌<◌, ◌≤◌, ◌==◌, Bool, not, true, false, cond, List, [], ◌∷◌, Option, None, length, get_or, map, refl, sym, ◌∙◌, ap, subst, arith, eq-eqb}
+use Rattle.std.proofs.Common.{◌≡◌, ℕ, zero, suc, ◌<◌, ◌==◌, Bool, true, false, cond, List, [], ◌∷◌, Option, None, length, get_or, map, refl, sym, ◌∙◌, ap, arith, eq-eqb}
 use Rattle.std.specs.List.{filter, find}
-use Rattle.std.proofs.lemmas.Bool.{false≢true}
 use Rattle.std.proofs.lemmas.List.{length-map}
 use Rattle.kl1_goals.specs.declared.goal.Goal.{Goal}
 use Rattle.kl1_goals.specs.declared.slot.Slot.{Slot}
 use Rattle.kl1_goals.specs.declared.tally.Tally.{Tally}
-use Rattle.kl1_goals.specs.Lists.{has_number, is_monitor, is_goal_of, is_monitor_of, number_of, looked_at}
+use Rattle.kl1_goals.specs.Lists.{has_number, is_goal_of, is_monitor_of, number_of, looked_at}
 use Rattle.kl1_goals.specs.Tables.{Ascend}
 use Rattle.kl1_goals.specs.Tallies.{IsTally}
 use Rattle.kl1_goals.specs.Slots.{goals_in, numbers_of, number_in, looked_in, changed_at, held_in}

@@ -1,13 +1,13 @@
 -- What is so of a table after a walk along the places of a shoen.
-use Rattle.std.proofs.Common.{◌≡◌, ℕ, suc, ◌+◌, ◌-◌, ◌<◌, ◌≤◌, not, Bool, true, false, List, [], ◌∷◌, length, get_or, set, map, refl, sym, ap, ◌∙◌, subst, arith}
+use Rattle.std.proofs.Common.{◌≡◌, ℕ, suc, ◌-◌, ◌<◌, ◌≤◌, not, Bool, true, false, List, length, get_or, set, map, refl, sym, ap, ◌∙◌, subst, arith}
 use Rattle.std.specs.List.{filter}
 use Rattle.std.proofs.lemmas.List.{length-map}
 use Rattle.kl1_goals.specs.declared.goal.Goal.{Goal}
 use Rattle.kl1_goals.specs.declared.slot.Slot.{Slot}
 use Rattle.kl1_goals.specs.declared.tally.Tally.{Tally}
-use Rattle.kl1_goals.specs.Lists.{is_monitor, is_monitor_of, is_goal_of, is_in, is_other, number_of, enabled_in}
+use Rattle.kl1_goals.specs.Lists.{is_monitor_of, is_goal_of, is_in, number_of, enabled_in}
 use Rattle.kl1_goals.specs.Tables.{Ascend}
-use Rattle.kl1_goals.specs.Slots.{goals_in, numbers_of, rank_in, held_in, emptied, AreSlots, IsHeldAt}
+use Rattle.kl1_goals.specs.Slots.{goals_in, numbers_of, rank_in, held_in, emptied}
 use Rattle.kl1_goals.specs.Tallies.{tally_at, IsTally}
 use Rattle.kl1_goals.specs.Chains.{shape_in, last_at, IsLink, AreLinked, AreChained, HaveSameCounts}
 use Rattle.kl1_goals.specs.Keeping.{IsTable}

@@ -1,5 +1,5 @@
 use Rattle.std.proofs.Common.{set, ap, ◌∙◌}
-use Rattle.kl1_queue.specs.Ranks.{Queued, rank_of}
+use Rattle.kl1_queue.specs.Ranks.{Queued}
 use Rattle.kl1_goals.proofs.Capping.{capped_set}
 use Rattle.kl1_goals.proofs.noting.put_slot_back.Goals as goal
 

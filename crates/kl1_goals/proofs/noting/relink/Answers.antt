@@ -1,4 +1,4 @@
-use Rattle.std.proofs.Common.{◌≡◌, ◌<◌, ◌≤◌, length, refl, ap, ◌∙◌}
+use Rattle.std.proofs.Common.{length, refl, ap, ◌∙◌}
 use Rattle.std.proofs.lemmas.Bool.{ne_eqb}
 use Rattle.kl1_goals.specs.declared.tally.Tally.{Tally}
 use Rattle.kl1_goals.specs.Tallies.{tally_at}

@@ -4,7 +4,7 @@ use Rattle.kl1_queue.specs.Ranks.{Queued, rank_of}
 use Rattle.kl1_goals.specs.declared.slot.Slot.{Slot}
 use Rattle.kl1_goals.specs.Lists.{looked_at}
 use Rattle.kl1_goals.specs.Slots.{goals_in, looked_in}
-use Rattle.kl1_goals.proofs.Changing.{same_read, slots_changed, priority_low}
+use Rattle.kl1_goals.proofs.Changing.{slots_changed, priority_low}
 use Rattle.kl1_goals.proofs.Chaining.{changed_set}
 use Rattle.kl1_goals.proofs.Flagging.{priority_at}
 use Rattle.kl1_goals.proofs.Looking.{looked_goals}

@@ -1,6 +1,6 @@
-use Rattle.std.proofs.Common.{refl, sym, ap, ◌∙◌, arith}
-use Rattle.kl1_goals.proofs.Rowing.{HasNoted, moved_row, noted_slots, noted_tallies, noted_none, noted_view}
-use Rattle.kl1_goals.proofs.Walking.{relinked_table, let_table, length_shaped, let_noted}
+use Rattle.std.proofs.Common.{arith}
+use Rattle.kl1_goals.proofs.Rowing.{moved_row, noted_tallies, noted_none, noted_view}
+use Rattle.kl1_goals.proofs.Walking.{relinked_table, let_table, let_noted}
 use Rattle.kl1_goals.proofs.goal_row.GoalRow.enable.Goals as goal
 
 pub invariant_of-self : goal.invariant_of-self

@@ -1,4 +1,4 @@
-use Rattle.std.proofs.Common.{◌≡◌, suc, ◌-◌, refl, sym, ap, ◌∙◌, arith}
+use Rattle.std.proofs.Common.{◌≡◌, suc, ◌-◌, arith}
 use Rattle.kl1_goals.proofs.Rowing.{moved_row, noted_tallies, noted_none, noted_view}
 use Rattle.kl1_goals.proofs.Walking.{relinked_table, none_linked, last_linked}
 use Rattle.kl1_goals.proofs.goal_row.GoalRow.last_of.Goals as goal
