@@ -1,6 +1,6 @@
 // The accounts of a folder.
 
-use crate::fault::Fault;
+use crate::fault::{Fault, fault_in_folder};
 use crate::folder::{ACCOUNTS, path_in};
 use kl1_host_front::{bad_line, read_sums};
 use kl1_session::Key;
@@ -22,10 +22,7 @@ pub fn accounts_in<R: Files + AllocGlobal>(rt: &R, folder: &str) -> Result<Accou
     let path = path_in(alloc, folder, ACCOUNTS)?;
     let text = match fs::read(rt, path.as_str()) {
         Ok(text) => text,
-        Err(error) => {
-            let words = format!(in alloc; "{path}: {error}; kl1_host init DIR makes a folder")?;
-            return Err(Fault::Bad(words));
-        }
+        Err(error) => return Err(fault_in_folder(alloc, path.as_str(), &error)),
     };
     if text.is_empty() {
         return Ok(Accounts {

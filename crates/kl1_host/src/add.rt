@@ -1,7 +1,7 @@
 // An account is added.
 
 use crate::accounts::{Accounts, accounts_in};
-use crate::fault::Fault;
+use crate::fault::{Fault, at_path, fault_at};
 use crate::folder::{ACCOUNTS, NEW_ACCOUNTS, path_in};
 use crate::lock::lock_folder;
 use crate::new_file::{sync_folder, write_new};
@@ -69,13 +69,16 @@ fn write_accounts(rt: &HostRuntime, folder: &str, text: &[u8]) -> Result<(), Fau
     let alloc = rt.alloc();
     let new = path_in(alloc, folder, NEW_ACCOUNTS)?;
     match fs::remove_file(rt, new.as_str()) {
-        Err(error) if error.kind() != ErrorKind::NotFound => return Err(error.into()),
+        Err(error) if error.kind() != ErrorKind::NotFound => {
+            return Err(fault_at(alloc, new.as_str(), &error));
+        }
         _ => {}
     }
-    write_new(rt, new.as_str(), text)?;
-    fs::rename(rt, new.as_str(), path_in(alloc, folder, ACCOUNTS)?.as_str())?;
-    sync_folder(rt, folder)?;
-    Ok(())
+    write_new(rt, alloc, new.as_str(), text)?;
+    let path = path_in(alloc, folder, ACCOUNTS)?;
+    let renamed = fs::rename(rt, new.as_str(), path.as_str());
+    at_path(alloc, path.as_str(), renamed)?;
+    sync_folder(rt, alloc, folder)
 }
 
 /// Adds an account, writes its key to standard output, and answers the program's status. The key is nowhere else.

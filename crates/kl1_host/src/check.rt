@@ -2,7 +2,7 @@
 
 use crate::accounts::accounts_in;
 use crate::fault::{Fault, REFUSED};
-use crate::folder::{JOURNALS, path_in};
+use crate::folder::journal_in;
 use crate::last_line::LastLine;
 use crate::settings::settings_of;
 use kl1_codes::PlainCodes;
@@ -95,7 +95,7 @@ fn tell_whole(
 /// Replays the journal of an account, and tells what it has, or where it is at fault; answers whether it is sound.
 fn check_journal(rt: &HostRuntime, folder: &str, name: &str) -> Result<bool, Fault> {
     let alloc = rt.alloc();
-    let file = format!(in alloc; "{folder}/{JOURNALS}/{name}.journal")?;
+    let file = journal_in(alloc, folder, name.as_bytes())?;
     let text = match fs::read(rt, file.as_str()) {
         Ok(text) => text,
         Err(error) if error.kind() == ErrorKind::NotFound => {

@@ -30,3 +30,8 @@ pub const FILE_MODE: u32 = 0o600;
 pub fn path_in(alloc: Global, folder: &str, name: &str) -> Result<String, AllocError> {
     format!(in alloc; "{folder}/{name}")
 }
+
+/// The path of the journal of the account of this name.
+pub fn journal_in(alloc: Global, folder: &str, name: &[u8]) -> Result<String, AllocError> {
+    format!(in alloc; "{folder}/{JOURNALS}/{}.journal", name.escape_ascii())
+}

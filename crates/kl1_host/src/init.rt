@@ -1,49 +1,88 @@
 // A folder is made.
 
-use crate::fault::Fault;
+use crate::fault::{Fault, at_path, fault_at};
 use crate::folder::{ACCOUNTS, FOLDER_MODE, JOURNALS, LOCK, SETTINGS, path_in};
 use crate::new_file::{sync_folder, write_new};
 use kl1_host_front::FIRST_SETTINGS;
+use std::alloc::AllocError;
 use std::fs::{self, DirBuilder, Permissions};
 use std::io::ErrorKind;
 use std::os::unix::fs::{DirBuilderExt, PermissionsExt};
 
+/// The files of a folder that was just made, and what is in them.
+const FIRST_FILES: [(&str, &str); 3] = [(SETTINGS, FIRST_SETTINGS), (ACCOUNTS, ""), (LOCK, "")];
+
 /// Whether nothing is in a folder.
 fn is_empty(rt: &HostRuntime, folder: &str) -> Result<bool, Fault> {
-    Ok(fs::read_dir(rt, folder)?.next().is_none())
+    Ok(
+        at_path(rt.alloc(), folder, fs::read_dir(rt, folder))?
+            .next()
+            .is_none(),
+    )
 }
 
-/// Makes a folder for its owner alone. One that is there already is taken if nothing is in it.
-fn make_folder(rt: &HostRuntime, folder: &str) -> Result<(), Fault> {
+/// Makes a folder for its owner alone, and tells whether it is new: one that is there already is taken if nothing is in it.
+fn make_folder(rt: &HostRuntime, folder: &str) -> Result<bool, Fault> {
     match DirBuilder::new().mode(FOLDER_MODE).create(rt, folder) {
-        Ok(()) => Ok(()),
+        Ok(()) => Ok(true),
         Err(error) if error.kind() == ErrorKind::AlreadyExists => {
             if !is_empty(rt, folder)? {
                 let words = format!(in rt.alloc(); "{folder}: there is something in it already")?;
                 return Err(Fault::Refused(words));
             }
-            fs::set_permissions(rt, folder, Permissions::from_mode(FOLDER_MODE))?;
-            Ok(())
+            let mode = Permissions::from_mode(FOLDER_MODE);
+            at_path(rt.alloc(), folder, fs::set_permissions(rt, folder, mode))?;
+            Ok(false)
         }
-        Err(error) => {
-            let words = format!(in rt.alloc(); "{folder}: {error}")?;
-            Err(Fault::Bad(words))
-        }
+        Err(error) => Err(fault_at(rt.alloc(), folder, &error)),
     }
 }
 
-/// Makes a folder with settings and without an account, and answers the program's status.
-pub fn init_folder(rt: &HostRuntime, folder: &str) -> Result<u8, Fault> {
+/// Makes the first files of a folder, and counts those that are made.
+fn make_files(rt: &HostRuntime, folder: &str, made: &mut usize) -> Result<(), Fault> {
     let alloc = rt.alloc();
-    make_folder(rt, folder)?;
-    let settings = path_in(alloc, folder, SETTINGS)?;
-    write_new(rt, settings.as_str(), FIRST_SETTINGS.as_bytes())?;
-    write_new(rt, path_in(alloc, folder, ACCOUNTS)?.as_str(), b"")?;
-    write_new(rt, path_in(alloc, folder, LOCK)?.as_str(), b"")?;
+    for (name, text) in &FIRST_FILES {
+        let path = path_in(alloc, folder, name)?;
+        write_new(rt, alloc, path.as_str(), text.as_bytes())?;
+        *made = made.saturating_add(1);
+    }
+    sync_folder(rt, alloc, folder)
+}
+
+/// Removes the first files of a folder, of which this many were made.
+fn remove_files(rt: &HostRuntime, folder: &str, made: usize) -> Result<(), AllocError> {
+    for (place, (name, _)) in FIRST_FILES.iter().enumerate() {
+        if place < made {
+            let _ = fs::remove_file(rt, path_in(rt.alloc(), folder, name)?.as_str());
+        }
+    }
+    Ok(())
+}
+
+/// Makes what is in a folder. If that fails, what was made goes again.
+fn fill_folder(rt: &HostRuntime, folder: &str) -> Result<(), Fault> {
+    let alloc = rt.alloc();
     let journals = path_in(alloc, folder, JOURNALS)?;
-    DirBuilder::new()
+    let created = DirBuilder::new()
         .mode(FOLDER_MODE)
-        .create(rt, journals.as_str())?;
-    sync_folder(rt, folder)?;
+        .create(rt, journals.as_str());
+    at_path(alloc, journals.as_str(), created)?;
+    let mut made = 0;
+    let filled = make_files(rt, folder, &mut made);
+    if filled.is_err() {
+        let _ = remove_files(rt, folder, made);
+        let _ = fs::remove_dir(rt, journals.as_str());
+    }
+    filled
+}
+
+/// Makes a folder with settings and without an account, and answers the program's status. If that fails, what was made goes again.
+pub fn init_folder(rt: &HostRuntime, folder: &str) -> Result<u8, Fault> {
+    let is_new = make_folder(rt, folder)?;
+    let filled = fill_folder(rt, folder);
+    if is_new && filled.is_err() {
+        let _ = fs::remove_dir(rt, folder);
+    }
+    filled?;
     Ok(0)
 }

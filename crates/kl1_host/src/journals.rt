@@ -3,7 +3,7 @@
 ghost use Rattle.std.specs.Prelude.{◌≤◌, length, vec_len, IfOk};
 
 use crate::fault::Fault;
-use crate::folder::{JOURNALS, path_in};
+use crate::folder::{JOURNALS, journal_in, path_in};
 use crate::log::Log;
 use crate::start_words::open_fault;
 use kl1_host_journals::open_in_folder;
@@ -65,7 +65,7 @@ fn file_of<'r, R: Files<File = File> + Clock + Eprint>(
             repaired: opened.repaired,
         }),
         Err(fault) => {
-            let path = format!(in alloc; "{journals}/{text}.journal")?;
+            let path = journal_in(alloc, folder, key.name.as_slice())?;
             Err(open_fault(alloc, path.as_str(), &fault)?)
         }
     }

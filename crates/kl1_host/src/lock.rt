@@ -1,6 +1,6 @@
 // One host at a time in a folder.
 
-use crate::fault::Fault;
+use crate::fault::{Fault, fault_at, fault_in_folder};
 use crate::folder::{LOCK, path_in};
 use std::alloc::Global;
 use std::fs::{File, OpenOptions, TryLockError};
@@ -20,10 +20,7 @@ pub fn lock_folder<R: Files<File = File>>(
         .open(rt, path.as_str())
     {
         Ok(file) => file,
-        Err(error) => {
-            let words = format!(in alloc; "{path}: {error}; kl1_host init DIR makes a folder")?;
-            return Err(Fault::Bad(words));
-        }
+        Err(error) => return Err(fault_in_folder(alloc, path.as_str(), &error)),
     };
     match file.try_lock() {
         Ok(()) => Ok(file),
@@ -31,9 +28,6 @@ pub fn lock_folder<R: Files<File = File>>(
             let words = format!(in alloc; "{folder}: a host runs there; {advice}")?;
             Err(Fault::Refused(words))
         }
-        Err(TryLockError::Error(error)) => {
-            let words = format!(in alloc; "{path}: {error}")?;
-            Err(Fault::Bad(words))
-        }
+        Err(TryLockError::Error(error)) => Err(fault_at(alloc, path.as_str(), &error)),
     }
 }

@@ -13,6 +13,7 @@ use kl1_host_front::{Field, Pauses, PausingDoor, address_number};
 use kl1_host_web::{AskedRecord, Page, Service, SessionBook, Site};
 use kl1_host_work::{Front, HostEvent, HostView, Listeners, Performer};
 use kl1_lines::{Sink, Source};
+use kl1_log::LogError;
 use kl1_session::{Disconnect, Key};
 use std::alloc::{AllocError, Global};
 use std::net::{Ipv4Addr, SocketAddr, SocketAddrV4, TcpListener};
@@ -141,6 +142,25 @@ impl<'f, R: Wait + Clock + Eprint + Files + RandomSource> Program<'f, R> {
         }
     }
 
+    /// Tells that the file of an account can't be written, and why.
+    fn tell_stopped(&self, account: usize, error: &LogError) {
+        let who = Field {
+            name: b"account",
+            value: self.name_of(account),
+        };
+        match reason_of(self.alloc, error) {
+            Ok(words) => {
+                let why = Field {
+                    name: b"error",
+                    value: words.as_bytes(),
+                };
+                self.log.tell(b"journal_fault", &[who, why]);
+            }
+            // The reason alone is left out.
+            Err(_) => self.log.tell(b"journal_fault", &[who]),
+        }
+    }
+
     /// Tells that a host is ready, and where.
     fn tell_ready(&self) -> Result<(), AllocError> {
         let listen = local_of(self.alloc, self.listeners.clients)?;
@@ -160,6 +180,15 @@ impl<'f, R: Wait + Clock + Eprint + Files + RandomSource> Program<'f, R> {
             }
         }
         Ok(())
+    }
+}
+
+/// Why the file of an account can't be written.
+fn reason_of(alloc: Global, error: &LogError) -> Result<String, AllocError> {
+    match error {
+        LogError::Failed(error) => format!(in alloc; "{error}"),
+        LogError::Stopped => format!(in alloc; "it couldn't be written before"),
+        LogError::NotNext => format!(in alloc; "the entries aren't the next"),
     }
 }
 
@@ -192,13 +221,7 @@ impl<'f, R: Wait + Clock + Eprint + Files + RandomSource + Sync> Front for Progr
                 };
                 self.log.tell_of(b"closed", address, &[how])
             }
-            HostEvent::Stopped { account, .. } => {
-                let who = Field {
-                    name: b"account",
-                    value: self.name_of(account),
-                };
-                self.log.tell(b"journal_fault", &[who])
-            }
+            HostEvent::Stopped { account, error } => self.tell_stopped(account, &error),
         }
     }
 

@@ -3,14 +3,13 @@
 ghost use Rattle.std.specs.Prelude.{◌≡◌, ◌≤◌, length, take};
 ghost use Rattle.kl1_host.specs.Repairs.{lines_before};
 
-use crate::fault::Fault;
-use crate::folder::{FILE_MODE, JOURNALS};
+use crate::fault::{Fault, at_path, fault_at};
+use crate::folder::{JOURNALS, journal_in, path_in};
+use crate::new_file::{sync_folder, write_new};
 use kl1_journal_entries::next_line;
 use kl1_log::{Disk, FolderFile};
 use std::alloc::Global;
-use std::fs::{self, File, OpenOptions};
-use std::io::Write;
-use std::os::unix::fs::OpenOptionsExt;
+use std::fs::File;
 use std::rt::Files;
 use std::time::Clock;
 
@@ -51,19 +50,21 @@ pub fn cut_journal<R: Files<File = File>>(
     line: u64,
     word: &str,
 ) -> Result<(), Fault> {
-    let journals = format!(in alloc; "{folder}/{JOURNALS}")?;
+    let journals = path_in(alloc, folder, JOURNALS)?;
+    let path = journal_in(alloc, folder, name)?;
+    let path = path.as_str();
     let name = format!(in alloc; "{}", name.escape_ascii())?;
-    let mut disk = FolderFile::open(rt, alloc, journals.as_str(), name.as_str())?;
-    let bytes = disk.read(alloc)?;
-    let path = format!(in alloc; "{journals}/{name}.journal.{word}.{line}.bad")?;
-    let mut kept = OpenOptions::new()
-        .write(true)
-        .create_new(true)
-        .mode(FILE_MODE)
-        .open(rt, path.as_str())?;
-    kept.write_all(bytes.as_slice())?;
-    kept.sync_all()?;
-    fs::open(rt, journals.as_str())?.sync_all()?;
-    disk.cut(bytes_before(bytes.as_slice(), line))?;
-    Ok(())
+    let mut disk = match FolderFile::open(rt, alloc, journals.as_str(), name.as_str()) {
+        Ok(disk) => disk,
+        Err(error) => return Err(fault_at(alloc, path, &error)),
+    };
+    let bytes = match disk.read(alloc) {
+        Ok(bytes) => bytes,
+        Err(error) => return Err(fault_at(alloc, path, &error)),
+    };
+    let kept = format!(in alloc; "{path}.{word}.{line}.bad")?;
+    write_new(rt, alloc, kept.as_str(), bytes.as_slice())?;
+    sync_folder(rt, alloc, journals.as_str())?;
+    let cut = disk.cut(bytes_before(bytes.as_slice(), line));
+    at_path(alloc, path, cut)
 }

@@ -168,7 +168,7 @@ where
         pauses: &pauses,
         sessions: &sessions,
         sites: sites.as_slice(),
-        idle: settings.idle / 1_000,
+        idle: settings.idle.div_ceil(1_000),
         machine: ThisMachine { rt },
         log,
         listeners: Listeners {

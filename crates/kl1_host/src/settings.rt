@@ -1,6 +1,6 @@
 // The settings of a folder.
 
-use crate::fault::Fault;
+use crate::fault::{Fault, fault_in_folder};
 use crate::folder::{SETTINGS, path_in};
 use kl1_host_front::{BadSettings, Settings, settings_in};
 use std::alloc::Global;
@@ -36,10 +36,7 @@ pub fn settings_of<R: Files + AllocGlobal>(rt: &R, folder: &str) -> Result<Setti
     let path = path_in(alloc, folder, SETTINGS)?;
     let text = match fs::read_to_string(rt, path.as_str()) {
         Ok(text) => text,
-        Err(error) => {
-            let words = format!(in alloc; "{path}: {error}")?;
-            return Err(Fault::Bad(words));
-        }
+        Err(error) => return Err(fault_in_folder(alloc, path.as_str(), &error)),
     };
     match settings_in(alloc, text.as_str()) {
         Ok(settings) => Ok(settings),

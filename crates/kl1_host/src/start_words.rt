@@ -1,7 +1,7 @@
 // What is told of a host that doesn't start.
 
 use crate::fault::Fault;
-use crate::folder::JOURNALS;
+use crate::folder::journal_in;
 use kl1_host_journals::{LinkFault, OpenFault};
 use kl1_host_work::StartFault;
 use kl1_log::LogError;
@@ -14,7 +14,7 @@ fn path_of(alloc: Global, folder: &str, keys: &[Key], account: usize) -> Result<
         Some(key) => key.name.as_slice(),
         None => b"",
     };
-    Ok(format!(in alloc; "{folder}/{JOURNALS}/{}.journal", name.escape_ascii())?)
+    Ok(journal_in(alloc, folder, name)?)
 }
 
 /// The fault of a journal's file that can't be opened.

@@ -2,7 +2,7 @@
 
 ghost use Rattle.kl1_host_web.specs.Records.{asked_in};
 
-use crate::folder::{JOURNALS, path_in};
+use crate::folder::journal_in;
 use crate::logins::LoginLog;
 use kl1_command::{Command, Performed};
 use kl1_host_front::{PausingDoor, Settings, host_of};
@@ -121,8 +121,7 @@ pub fn disk_of<R: Files>(
     folder: &str,
     name: &[u8],
 ) -> Result<u64, AllocError> {
-    let journals = path_in(alloc, folder, JOURNALS)?;
-    let path = format!(in alloc; "{journals}/{}.journal", name.escape_ascii())?;
+    let path = journal_in(alloc, folder, name)?;
     Ok(match fs::metadata(rt, path.as_str()) {
         Ok(attributes) => attributes.len(),
         Err(_) => 0,
