@@ -9,20 +9,17 @@ use std::os::unix::net::UnixStream;
 /// The bytes of one read.
 const PIECE: usize = 4_096;
 
-/// What a call at the socket of a folder gave. A host that ends breaks the connections of those whom it hasn't answered.
-fn at_socket<T>(alloc: Global, folder: &str, path: &str, given: io::Result<T>) -> Result<T, Fault> {
-    match given {
-        Ok(value) => Ok(value),
-        Err(error) => match error.kind() {
-            ErrorKind::NotFound
-            | ErrorKind::ConnectionRefused
-            | ErrorKind::ConnectionReset
-            | ErrorKind::BrokenPipe => {
-                let words = format!(in alloc; "{folder}: no host runs there")?;
-                Err(Fault::Refused(words))
-            }
-            _ => Err(fault_at(alloc, path, &error)),
+/// The fault of a call at the socket of a folder. A host that ends breaks the connections of those whom it hasn't answered.
+fn fault_of(alloc: Global, folder: &str, path: &str, error: &io::Error) -> Fault {
+    match error.kind() {
+        ErrorKind::NotFound
+        | ErrorKind::ConnectionRefused
+        | ErrorKind::ConnectionReset
+        | ErrorKind::BrokenPipe => match format!(in alloc; "{folder}: no host runs there") {
+            Ok(words) => Fault::Refused(words),
+            Err(_) => Fault::Memory,
         },
+        _ => fault_at(alloc, path, error),
     }
 }
 
@@ -32,12 +29,20 @@ pub fn ask_host(rt: &HostRuntime, folder: &str, line: &str) -> Result<u8, Fault>
     let alloc = rt.alloc();
     let path = socket_in(alloc, folder)?;
     let path = path.as_str();
-    let mut stream = at_socket(alloc, folder, path, UnixStream::connect(rt, path))?;
-    at_socket(alloc, folder, path, stream.write_all(line.as_bytes()))?;
+    let mut stream = match UnixStream::connect(rt, path) {
+        Ok(stream) => stream,
+        Err(error) => return Err(fault_of(alloc, folder, path, &error)),
+    };
+    if let Err(error) = stream.write_all(line.as_bytes()) {
+        return Err(fault_of(alloc, folder, path, &error));
+    }
     let mut out = rt.stdout();
     let mut piece = [0u8; PIECE];
     for _ in 0..u64::MAX {
-        let count = at_socket(alloc, folder, path, stream.read(&mut piece))?;
+        let count = match stream.read(&mut piece) {
+            Ok(count) => count,
+            Err(error) => return Err(fault_of(alloc, folder, path, &error)),
+        };
         if count == 0 {
             break;
         }

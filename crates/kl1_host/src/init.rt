@@ -14,11 +14,8 @@ const FIRST_FILES: [(&str, &str); 3] = [(SETTINGS, FIRST_SETTINGS), (ACCOUNTS, "
 
 /// Whether nothing is in a folder.
 fn is_empty(rt: &HostRuntime, folder: &str) -> Result<bool, Fault> {
-    Ok(
-        at_path(rt.alloc(), folder, fs::read_dir(rt, folder))?
-            .next()
-            .is_none(),
-    )
+    let mut names = at_path(rt.alloc(), folder, fs::read_dir(rt, folder))?;
+    Ok(names.next().is_none())
 }
 
 /// Makes a folder for its owner alone, and tells whether it is new: one that is there already is taken if nothing is in it.
