@@ -1,12 +1,12 @@
 // A journal's file with what waits for it.
 
-ghost use Rattle.std.specs.Prelude.{◌≡◌, IfOk};
+ghost use Rattle.std.specs.Prelude.{◌≡◌, IfOk, IfErr};
 ghost use Rattle.kl1_log.specs.Batches.{text_of};
 ghost use Rattle.kl1_log.specs.LogFiles.{disk_of, account_of as account_of_file, changes_of as changes_of_file};
 ghost use Rattle.kl1_log.specs.Receipts.{account_of, changes_of};
 ghost use Rattle.kl1_log.specs.Waits.{taken_of, noted_of};
 ghost use Rattle.kl1_host_journals.specs.Notes.{waiting_of, generation_of};
-ghost use Rattle.kl1_host_journals.specs.Links.{IsUpToIf};
+ghost use Rattle.kl1_host_journals.specs.Links.{IsUpToIf, IsOfFile};
 
 use crate::notes::Notes;
 use crate::resting_file::RestingFile;
@@ -35,7 +35,13 @@ pub enum LinkFault {
 }
 
 impl From<AllocError> for LinkFault {
-    fn from(_refused: AllocError) -> Self {
+    ghost use Rattle.kl1_host_journals.specs.declared.linking.LinkFault.TheVariants.{Memory};
+
+    ghost from_gives = { λ _ e. e ≡ Memory };
+
+    fn from(_refused: AllocError) -> Self
+        ensures { result ≡ LinkFault.Memory }
+    {
         LinkFault::Memory
     }
 }
@@ -54,6 +60,7 @@ pub fn link<D: Disk + Drop>(
     ensures generation { IfOk result (λ l. generation_of l.notes ≡ generation) }
     ensures account { IfOk result (λ l. (account_of_file l.file ≡ account) × (account_of l.receipt ≡ account)) }
     ensures changes { IfOk result (λ l. (changes_of l.receipt ≡ noted_of (waiting_of l.notes)) × (changes_of_file l.file ≡ noted_of (waiting_of l.notes)) × (taken_of (waiting_of l.notes) ≡ noted_of (waiting_of l.notes))) }
+    ensures fault { IfErr result IsOfFile }
 {
     let mut disk = resting.into_disk();
     let bytes = match disk.read(alloc) {

@@ -1,5 +1,5 @@
 -- What the file of an account's journal shows.
-use Rattle.std.specs.Prelude.{⊤, ℕ, Result, Ok, Err}
+use Rattle.std.specs.Prelude.{⊤, ◌≡◌, ℕ, Bool, false, Result, Ok, Err}
 use Rattle.kl1_log.specs.declared.disk.Disk as disk
 use Rattle.kl1_log.specs.declared.log_file.LogFile.{LogFile}
 use Rattle.kl1_log.specs.declared.log_error.LogError.{LogError}
@@ -17,6 +17,13 @@ module _ {D : Type 0} {g : disk.Ghosts D} where
   -- how many changes are on disk
   abbrev pub changes_of : LogFile D g → ℕ
   changes_of f = f.changes
+
+-- why a batch isn't on disk, by whether the file may be used and by what it is to be the next: a call of the file failed before; it isn't
+-- the next; or a call failed now
+abbrev pub IsCause : Bool → Type 0 → LogError → Type 0
+IsCause usable next Stopped = usable ≡ false
+IsCause usable next NotNext = next → ⊥
+IsCause usable next (Failed error) = ⊤
 
 -- a call of the file failed
 abbrev pub IsFailed : {T : Type 0} → Result T LogError → Type 0
