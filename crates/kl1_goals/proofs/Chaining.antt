@@ -228,7 +228,7 @@ stays_on : {N : Type 0} (p : Goal N → Bool) (h : Bool) (g : Goal N) (gs hs : L
 stays_on p false g gs hs e = e
 stays_on p true g gs hs e = ap (λ l. cond (p g) (g ∷ l) l) e
 
-goals_emptied : {N : Type 0} (n k : ℕ) (ss : List (Slot N)) → k < length ss → shoen_at ss k ≡ n → filter (λ g. not (is_in n g)) (goals_in (changed_at emptied k ss)) ≡ filter (λ g. not (is_in n g)) (goals_in ss)
+pub goals_emptied : {N : Type 0} (n k : ℕ) (ss : List (Slot N)) → k < length ss → shoen_at ss k ≡ n → filter (λ g. not (is_in n g)) (goals_in (changed_at emptied k ss)) ≡ filter (λ g. not (is_in n g)) (goals_in ss)
 goals_emptied n k [] w e = refl
 goals_emptied n zero (s ∷ ss) w e = gone_on (λ g. not (is_in n g)) s.is_held s.goal (goals_in ss) (ap not (eq-eqb s.goal.shoen n e))
 goals_emptied n (suc k) (s ∷ ss) w e = stays_on (λ g. not (is_in n g)) s.is_held s.goal (goals_in (changed_at emptied k ss)) (goals_in ss) (goals_emptied n k ss (omega arith) e)

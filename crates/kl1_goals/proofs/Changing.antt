@@ -247,6 +247,10 @@ pub not_true : (b : Bool) → not b ≡ true → b ≡ false
 not_true false e = refl
 not_true true e = absurd (false≢true e)
 
+pub not_false : (b : Bool) → not b ≡ false → b ≡ true
+not_false true e = refl
+not_false false e = absurd (false≢true (sym e))
+
 pub empty_end : {N : Type 0} (ss : List (Slot N)) (k : ℕ) (s : Slot N) → length ss ≡ k + 1 → get_or ss k s ≡ s → s.is_held ≡ false → IsEmptyEnd ss
 empty_end ss k s w e h =
     let one : length ss - 1 ≡ k = omega (arith, w) in
@@ -257,7 +261,7 @@ ascend_take from zero ns a = tt
 ascend_take from (suc k) [] a = tt
 ascend_take from (suc k) (n ∷ ns) a = (a.0, ascend_take (suc n) k ns a.1)
 
-low_take : (k : ℕ) (ps : List ℕ) → AreLow ps → AreLow (take k ps)
+pub low_take : (k : ℕ) (ps : List ℕ) → AreLow ps → AreLow (take k ps)
 low_take zero ps a = tt
 low_take (suc k) [] a = tt
 low_take (suc k) (p ∷ ps) a = (a.0, low_take k ps a.1)

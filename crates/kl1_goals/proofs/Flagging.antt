@@ -74,7 +74,7 @@ alive_left n gs count gone h e =
     (omega (arith, h, both, these), omega (arith, h, both, these))
 
 -- what is kept of shoens, as goals are let step or not
-numbers_enabled : {N : Type 0} (n : ℕ) (b : Bool) (gs : List (Goal N)) → map number_of (map (enabled_in n b) gs) ≡ map number_of gs
+pub numbers_enabled : {N : Type 0} (n : ℕ) (b : Bool) (gs : List (Goal N)) → map number_of (map (enabled_in n b) gs) ≡ map number_of gs
 numbers_enabled n b [] = refl
 numbers_enabled n b (g ∷ gs) = ap (λ l. g.number ∷ l) (numbers_enabled n b gs)
 

@@ -86,7 +86,7 @@ after_if n gs None e = tt
 after_if n gs (Some g) e = ltb-true n g.number (found_passes (is_after n) gs g (sym e))
 
 -- a number that no goal has
-missing_head : {N : Type 0} (b : Bool) (g : Goal N) (o : Option (Goal N)) → cond b (Some g) o ≡ None → (b ≡ false) × (o ≡ None)
+pub missing_head : {N : Type 0} (b : Bool) (g : Goal N) (o : Option (Goal N)) → cond b (Some g) o ≡ None → (b ≡ false) × (o ≡ None)
 missing_head true g o e = absurd (cc)
 missing_head false g o e = (refl, e)
 

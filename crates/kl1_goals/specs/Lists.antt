@@ -49,3 +49,7 @@ is_in n g = g.shoen == n
 -- a goal, which may step from now on, or may not, if it is of a shoen and not its monitor
 abbrev pub enabled_in : {N : Type 0} → ℕ → Bool → Goal N → Goal N
 enabled_in n b g = record g { is_enabled = if is_goal_of n g then b else g.is_enabled }
+
+-- a goal, which could step by this clause and may step, or may not, from now on if it has the number
+abbrev pub looked_at : {N : Type 0} → ℕ → Option ℕ → Bool → Goal N → Goal N
+looked_at n clause b g = record g { standing = if g.number == n then clause else g.standing; is_enabled = if g.number == n then b else g.is_enabled }

@@ -1,5 +1,5 @@
 -- The places of a table.
-use Rattle.std.specs.Prelude.{◌≡◌, ℕ, zero, suc, ◌+◌, ◌-◌, ◌<◌, ◌≤◌, ◌&&◌, Bool, true, false, cond, List, [], ◌∷◌, map, take, length, get_or, Option, Some, None}
+use Rattle.std.specs.Prelude.{◌≡◌, ℕ, zero, suc, ◌+◌, ◌-◌, ◌<◌, ◌≤◌, ◌&&◌, nat_lt, if◌then◌else◌, Bool, true, false, cond, List, [], ◌∷◌, map, take, length, get_or, Option, Some, None}
 use Rattle.kl1_model.specs.declared.limits.TheConstants.{MONITOR_PRIORITY}
 use Rattle.kl1_queue.specs.Ranks.{rank_of}
 use Rattle.kl1_goals.specs.declared.goal.Goal.{Goal}
@@ -43,6 +43,10 @@ priority_in s = cond (s.is_held && stands s.goal) (Some s.goal.priority) None
 abbrev pub rank_in : {N : Type 0} → Slot N → ℕ
 rank_in s = rank_of (priority_in s)
 
+-- the rank of a place in the queue, 0 if its priority is above a monitor's
+abbrev pub capped_in : {N : Type 0} → Slot N → ℕ
+capped_in s = if nat_lt MONITOR_PRIORITY s.goal.priority then 0 else rank_in s
+
 -- a place whose goal may step from now on, or may not, if it is of a shoen and not its monitor
 abbrev pub let_in : {N : Type 0} → ℕ → Bool → Slot N → Slot N
 let_in n b s = record s { goal = enabled_in n b s.goal }
@@ -50,6 +54,14 @@ let_in n b s = record s { goal = enabled_in n b s.goal }
 -- a place without its goal
 abbrev pub emptied : {N : Type 0} → Slot N → Slot N
 emptied s = record s { is_held = false }
+
+-- a place whose goal could step by this clause from now on
+abbrev pub standing_in : {N : Type 0} → Option ℕ → Slot N → Slot N
+standing_in clause s = record s { goal = record s.goal { standing = clause } }
+
+-- a place whose goal could step by this clause and may step, or may not, from now on
+abbrev pub looked_in : {N : Type 0} → Option ℕ → Bool → Slot N → Slot N
+looked_in clause b s = record s { goal = record s.goal { standing = clause; is_enabled = b } }
 
 -- places of which one is changed
 abbrev pub changed_at : {N : Type 0} → (Slot N → Slot N) → ℕ → List (Slot N) → List (Slot N)

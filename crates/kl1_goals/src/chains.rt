@@ -1,9 +1,9 @@
 // The places of each shoen, linked from the last to the first.
 
-ghost use Rattle.std.specs.Prelude.{◌≡◌, ◌+◌, ◌-◌, ◌^◌, ◌<◌, ◌≤◌, ℕ, true, not, length, map, take, vec_len, vec_capacity};
+ghost use Rattle.std.specs.Prelude.{◌≡◌, ◌+◌, ◌-◌, ◌^◌, ◌<◌, ◌≤◌, ℕ, true, false, not, length, map, take, get_or, vec_len, vec_capacity};
 ghost use Rattle.std.specs.List.{filter};
 ghost use Rattle.kl1_goals.specs.Lists.{is_in, enabled_in};
-ghost use Rattle.kl1_goals.specs.Slots.{goals_in, level_in, rank_in, let_in, emptied, changed_at, AreLow, AreSlots};
+ghost use Rattle.kl1_goals.specs.Slots.{goals_in, level_in, rank_in, held_in, let_in, emptied, changed_at, AreLow, AreSlots};
 ghost use Rattle.kl1_goals.specs.Chains.{shoen_in, before_in, shape_in, unlinked_in, last_at, IsLink, IsEmptyLink, AreLinked, AreKnown, AreChained, HoldsLess, HaveSameCounts};
 
 use crate::places::bury;
@@ -15,7 +15,8 @@ use kl1_text::NameValue;
 /// Whether a link leads to an empty place.
 fn leads_to_empty<N: NameValue>(slots: &Vec<Slot<N>>, link: u32) -> bool
     requires { link ≤ length slots.now.items }
-    ensures { result ≡ true → IsEmptyLink slots.now.items link }
+    ensures empty { result ≡ true → IsEmptyLink slots.now.items link }
+    ensures held { result ≡ false → 0 < link → get_or (map held_in slots.now.items) (link - 1) false ≡ true }
 {
     if link == 0 {
         return false;
@@ -28,6 +29,7 @@ pub(crate) fn held_link<N: NameValue>(slots: &Vec<Slot<N>>, from: u32) -> u32
     requires links { AreLinked slots.now.items }
     requires within { from ≤ length slots.now.items }
     ensures within { result ≤ from }
+    ensures held { 0 < result → get_or (map held_in slots.now.items) (result - 1) false ≡ true }
     ensures link { (n after : ℕ) → IsLink slots.now.items n after from → IsLink slots.now.items n after result }
 {
     let mut link = from;
@@ -38,7 +40,7 @@ pub(crate) fn held_link<N: NameValue>(slots: &Vec<Slot<N>>, from: u32) -> u32
 }
 
 /// Lets the goal of a place step, or not, if it is of a shoen and not its monitor.
-fn let_step<N: NameValue>(
+pub(crate) fn let_step<N: NameValue>(
     slots: &mut Vec<Slot<N>>,
     queue: &mut ReadyQueue,
     place: usize,

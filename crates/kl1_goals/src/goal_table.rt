@@ -29,12 +29,12 @@ const MOST: usize = 0xffff_ffff;
 /// more than three quarters. `seen` is the place in which a goal was found last to change it: a hint of where it may be.
 #[derive(Drop)]
 pub struct GoalTable<N: NameValue> {
-    slots: Vec<Slot<N>>,
-    empty: usize,
-    queue: ReadyQueue,
-    tallies: Vec<Tally>,
-    alive: u64,
-    seen: usize,
+    pub(crate) slots: Vec<Slot<N>>,
+    pub(crate) empty: usize,
+    pub(crate) queue: ReadyQueue,
+    pub(crate) tallies: Vec<Tally>,
+    pub(crate) alive: u64,
+    pub(crate) seen: usize,
 }
 
 impl<N: NameValue> Model for GoalTable<N> {

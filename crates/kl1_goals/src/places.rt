@@ -3,9 +3,9 @@
 ghost use Rattle.std.specs.Prelude.{◌≡◌, ◌+◌, ◌-◌, ◌<◌, ◌≤◌, ℕ, true, None, List, [], ◌∷◌, ◌++◌, length, map, drop, get_or, nat_lt, MatchOption, vec_len, vec_capacity};
 ghost use Rattle.std.specs.List.{filter, find};
 ghost use Rattle.kl1_model.specs.declared.limits.TheConstants.{MONITOR_PRIORITY};
-ghost use Rattle.kl1_goals.specs.Lists.{has_number, is_other, stood_by, number_of};
+ghost use Rattle.kl1_goals.specs.Lists.{has_number, is_other, stood_by, looked_at, number_of};
 ghost use Rattle.kl1_goals.specs.Tables.{Ascend, AreBefore};
-ghost use Rattle.kl1_goals.specs.Slots.{numbers_of, goals_in, first_of, rank_in, level_in, emptied, changed_at, AreLow, AreBelow, IsCut, IsPlace, IsAbsent, AreSlots, IsHeldAt, IsEmptyEnd, IsWithout};
+ghost use Rattle.kl1_goals.specs.Slots.{numbers_of, goals_in, first_of, rank_in, level_in, emptied, standing_in, looked_in, changed_at, AreLow, AreBelow, IsCut, IsPlace, IsAbsent, AreSlots, IsHeldAt, IsEmptyEnd, IsWithout};
 ghost use Rattle.kl1_goals.specs.Chains.{shape_in, before_in, AreChained, HaveSameCounts};
 
 use crate::chains::{forget_last, link_all, unlink_last};
@@ -38,7 +38,7 @@ pub(crate) fn count_upto<N: NameValue>(slots: &Vec<Slot<N>>, number: u64) -> usi
 
 /// Whether all places have a lesser number.
 #[inline]
-fn ends_before<N: NameValue>(slots: &Vec<Slot<N>>, number: u64) -> bool
+pub(crate) fn ends_before<N: NameValue>(slots: &Vec<Slot<N>>, number: u64) -> bool
     requires { Ascend 0 (numbers_of slots.now.items) }
     ensures { result ≡ true → AreBelow number (numbers_of slots.now.items) }
 {
@@ -201,6 +201,7 @@ pub(crate) fn stand<N: NameValue>(
     requires slots { AreSlots slots.old.items empty queue.old.ranks }
     requires place { (s : Slot N) × IsHeldAt slots.old.items s.goal.number place s }
     ensures slots { AreSlots slots.new.items empty queue.new.ranks }
+    ensures stood { slots.new.items ≡ changed_at (standing_in standing) place slots.old.items }
     ensures shapes { map shape_in slots.new.items ≡ map shape_in slots.old.items }
     ensures links { map before_in slots.new.items ≡ map before_in slots.old.items }
     ensures goals { (s : Slot N) → IsHeldAt slots.old.items s.goal.number place s → goals_in slots.new.items ≡ map (stood_by s.goal.number standing) (goals_in slots.old.items) }
@@ -213,6 +214,30 @@ pub(crate) fn stand<N: NameValue>(
     match slot.priority() {
         None => queue.remove(place),
         Some(priority) => queue.put(place, priority),
+    }
+}
+
+/// A goal that is there may step, or may not, and has the clause by which it can step.
+pub(crate) fn look_at<N: NameValue>(
+    slots: &mut Vec<Slot<N>>,
+    empty: usize,
+    queue: &mut ReadyQueue,
+    place: usize,
+    standing: Option<u64>,
+    is_enabled: bool,
+)
+    requires slots { AreSlots slots.old.items empty queue.old.ranks }
+    requires place { (s : Slot N) × IsHeldAt slots.old.items s.goal.number place s }
+    ensures changed { slots.new.items ≡ changed_at (looked_in standing is_enabled) place slots.old.items }
+    ensures slots { AreSlots slots.new.items empty queue.new.ranks }
+    ensures goals { (s : Slot N) → IsHeldAt slots.old.items s.goal.number place s → goals_in slots.new.items ≡ map (looked_at s.goal.number standing is_enabled) (goals_in slots.old.items) }
+{
+    let slot = &mut slots[place];
+    slot.goal.standing = standing;
+    slot.goal.is_enabled = is_enabled;
+    match slot.priority() {
+        None => queue.remove(place),
+        Some(ready) => queue.put(place, ready),
     }
 }
 

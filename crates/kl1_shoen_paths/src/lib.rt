@@ -12,5 +12,5 @@ pub use children::ChildLists;
 pub use parents::{lent, parent_of};
 pub use raising::raise;
 pub use shoen::{Origin, Shoen};
-pub use tracked::{TrackedList, Was, item_at};
+pub use tracked::{TrackedList, Was, item_at, put_all_back};
 pub use walking::flag_of;

@@ -146,7 +146,7 @@ pub fn item_at<T: Copy>(items: &[T], place: usize) -> T
 
 /// Puts back what stood at each of these places, the last first.
 #[tactic(auto, using(crate::proofs::Putting::put_last, crate::proofs::Putting::put_beyond, crate::proofs::Putting::put_none))]
-fn put_all_back<T: Copy>(items: &mut Vec<T>, was: &mut Vec<Was<T>>)
+pub fn put_all_back<T: Copy>(items: &mut Vec<T>, was: &mut Vec<Was<T>>)
     ensures items { items.new.items ≡ put_back was.old.items items.old.items }
     ensures len { vec_len items.new ≡ vec_len items.old }
     ensures capacity { vec_capacity items.new ≡ vec_capacity items.old }

@@ -8,7 +8,7 @@ pub loop-link-smaller : goal.loop-link-smaller
 loop-link-smaller g c =
     let ss = c.args.slots.now.items in
     let k = c.loop-link.link - 1 in
-    let some = (c.leads_to_empty.ensures c.loop-link-test.true).some in
+    let some = (c.leads_to_empty.ensures.empty c.loop-link-test.true).some in
     let within : k < length ss = omega (arith, some, c.loop-link.invariant.within, c.requires.within) in
     omega (arith, some, field_read before_in ss k c.index.result.now within c.index.ensures, (c.requires.links k within).back)
 
@@ -17,7 +17,7 @@ loop-link-preserved g c =
     let ss = c.args.slots.now.items in
     let l = c.loop-link.link in
     let k = l - 1 in
-    let empty = c.leads_to_empty.ensures c.loop-link-test.true in
+    let empty = c.leads_to_empty.ensures.empty c.loop-link-test.true in
     let within : k < length ss = omega (arith, empty.some, c.loop-link.invariant.within, c.requires.within) in
     let one : l ≡ k + 1 = omega (arith, empty.some) in
     let read : before_at ss k ≡ c.index.result.now.before = field_read before_in ss k c.index.result.now within c.index.ensures in

@@ -2,7 +2,7 @@ use Rattle.std.proofs.Common.{Some, set, refl, sym, ◌∙◌, ap, arith}
 use Rattle.std.proofs.lemmas.List.{length-map}
 use Rattle.kl1_queue.specs.Ranks.{Queued, rank_of}
 use Rattle.kl1_goals.specs.declared.slot.Slot.{Slot}
-use Rattle.kl1_goals.specs.Slots.{level_in}
+use Rattle.kl1_goals.specs.Slots.{level_in, standing_in}
 use Rattle.kl1_goals.specs.Chains.{shape_in, before_in}
 use Rattle.kl1_goals.proofs.Orders.{low_at}
 use Rattle.kl1_goals.proofs.Changing.{same_read, field_read, slots_stood, stood_at, standing_by, priority_low}
@@ -89,3 +89,9 @@ returns-in-Some-clause-links g c =
     let x = c.index_mut-slot.result.now in
     let change = standing_in_place {N = g.row.N.Denot} c.args.standing in
     rw (changed_set change ss c.args.place x c.requires.place.1.within (sym c.index_mut-slot.ensures.value)) (changed_same before_in change (λ s. refl) c.args.place ss)
+
+pub returns-in-None-clause-stood : goal.returns-in-None-clause-stood
+returns-in-None-clause-stood g c = changed_set (standing_in c.args.standing) c.args.slots.now.items c.args.place c.index_mut-slot.result.now c.requires.place.1.within (sym c.index_mut-slot.ensures.value)
+
+pub returns-in-Some-clause-stood : goal.returns-in-Some-clause-stood
+returns-in-Some-clause-stood g c = changed_set (standing_in c.args.standing) c.args.slots.now.items c.args.place c.index_mut-slot.result.now c.requires.place.1.within (sym c.index_mut-slot.ensures.value)
