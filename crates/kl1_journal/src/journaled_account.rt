@@ -26,13 +26,26 @@ use std::alloc::{AllocError, Global};
 use std::marker::{Model, PhantomData};
 
 /// An account with its seat in a table of names, which knows just the account's names, and its journal, of which it is the replay.
-#[derive(Drop)]
 pub struct JournaledAccount<A: AtomSource, C: CodeSource> {
     user: UserState<A, C>,
     seat: A::Seat,
     journal: Journal,
     source: PhantomData<A>,
     alloc: Global,
+}
+
+/// Not derived, so that crates above don't prove the drop of each part again.
+impl<A: AtomSource, C: CodeSource> Drop for JournaledAccount<A, C> {
+    fn drop(self) {
+        let JournaledAccount {
+            user,
+            seat,
+            journal,
+            source: _,
+            alloc: _,
+        } = self;
+        let _ = (user, seat, journal);
+    }
 }
 
 impl<A: AtomSource, C: CodeSource> Model for JournaledAccount<A, C> {

@@ -26,7 +26,6 @@ pub struct Step {
 
 /// The shoens of an account, each at the place of its number, with what each was charged, and both as they were when the event
 /// began; the children of each; and the list that an abort writes, kept from one to the next.
-#[derive(Drop)]
 pub struct ShoenTree<N: NameValue> {
     shoens: CountedShoens<N>,
     charges: TrackedList<u64>,
@@ -34,6 +33,21 @@ pub struct ShoenTree<N: NameValue> {
     work: Work,
     kept_work: Work,
     below: Vec<u64>,
+}
+
+/// Not derived, so that crates above don't prove the drop of each part again.
+impl<N: NameValue> Drop for ShoenTree<N> {
+    fn drop(self) {
+        let ShoenTree {
+            shoens,
+            charges,
+            links,
+            work,
+            kept_work,
+            below,
+        } = self;
+        let _ = (shoens, charges, links, work, kept_work, below);
+    }
 }
 
 impl<N: NameValue> Model for ShoenTree<N> {

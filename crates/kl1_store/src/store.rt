@@ -45,7 +45,6 @@ use std::marker::Model;
 ///
 /// It holds at most 4,294,967,295 variables, as many structures and as many arguments; a growth beyond is refused as for
 /// want of memory.
-#[derive(Drop)]
 pub struct Store<N: NameValue> {
     cells: Cells<N>,
     levels: Levels,
@@ -54,6 +53,22 @@ pub struct Store<N: NameValue> {
     rests: Vec<Rest>,
     fingers: Fingers<N>,
     alloc: Global,
+}
+
+/// Not derived, so that crates above don't prove the drop of each part again.
+impl<N: NameValue> Drop for Store<N> {
+    fn drop(self) {
+        let Store {
+            cells,
+            levels,
+            scratch,
+            hooks,
+            rests,
+            fingers,
+            alloc: _,
+        } = self;
+        let _ = (cells, levels, scratch, hooks, rests, fingers);
+    }
 }
 
 impl<N: NameValue> Model for Store<N> {
