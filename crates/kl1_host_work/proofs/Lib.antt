@@ -1,2 +1,4 @@
+pub mod NamesInOrder
+pub mod OpenedByName
 pub mod Restarts
 pub mod UsedNames

@@ -1,6 +1,7 @@
 // Connections without end, each in a thread of its own.
 
-ghost use Rattle.std.specs.Prelude.{◌≡◌, ◌≤◌};
+ghost use Rattle.std.specs.Prelude.{◌≡◌};
+ghost use Rattle.kl1_host_work.specs.Fronts.{AreAccountsOf};
 
 use crate::connection::{serve_lines, serve_pages};
 use crate::front::{Front, HostEvent};
@@ -68,7 +69,7 @@ fn serve_client<'t, F: Front, W: Wait, R: Wait, K: PoolIds>(
     address: SocketAddr,
     share: &mut Share<K>,
 )
-    requires { F.accounts desk.now.front.now ≤ K.accounts }
+    requires { AreAccountsOf (F.names desk.now.front.now) K.names K.accounts }
 {
     desk.front.tell(HostEvent::Opened(address));
     let mut door = desk.front.door(address);
@@ -95,7 +96,7 @@ fn serve_visitor<'t, F: Front, W: Wait, R: Wait, K: PoolIds>(
     number: u64,
     share: Share<K>,
 )
-    requires { F.accounts desk.now.front.now ≤ K.accounts }
+    requires { AreAccountsOf (F.names desk.now.front.now) K.names K.accounts }
 {
     let mut share = share;
     match peers {
@@ -118,13 +119,13 @@ pub(crate) fn serve_each<'t, F: Front + Sync, N, R: Wait + Sync, K: PoolIds + Se
 where
     N: Net<Listener = TcpListener, Stream = TcpStream> + Threads + Wait + Clock + Sync,
     F::Entrance: Send,
-    requires { F.accounts desk.now.front.now ≤ K.accounts }
+    requires { AreAccountsOf (F.names desk.now.front.now) K.names K.accounts }
 {
     thread::scope(
         thread::scope_env(),
         rt,
         move |scope|
-            requires { F.accounts desk.now.front.now ≤ K.accounts }
+            requires { AreAccountsOf (F.names desk.now.front.now) K.names K.accounts }
         {
             for _ in rt.forever() {
                 let Some(share) = desk.lobby.share(rt) else {

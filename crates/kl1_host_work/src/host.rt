@@ -11,10 +11,12 @@ pub struct Syncing {
     pub period: Duration,
 }
 
-/// What all threads of a host share beside the pool: for each account, in order, its keeper and what it may still load.
+/// What all threads of a host share beside the pool: for each account, in order, its keeper and what it may still load, and how many bytes
+/// each may take.
 #[derive(Clone, Copy)]
 pub struct Host<'h> {
     pub keepers: &'h [Keeper],
     pub budgets: &'h [Budget],
     pub syncing: Syncing,
+    pub memory_each: u64,
 }

@@ -11,6 +11,7 @@ mod host;
 mod linking;
 mod lobby;
 mod noting;
+mod overruns;
 mod restoring;
 mod running;
 mod start_fault;
