@@ -1,4 +1,5 @@
 pub mod Asks
 pub mod Ends
+pub mod Openings
 pub mod Repairs
 pub mod Setups

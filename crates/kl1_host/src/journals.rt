@@ -1,9 +1,10 @@
 // The journals of a folder are opened.
 
-ghost use Rattle.std.specs.Prelude.{◌≡◌, IfOk, IsTrue};
+ghost use Rattle.std.specs.Prelude.{◌≡◌, ℕ, List, IfOk};
 ghost use Rattle.kl1_session.specs.Views.{entries_view};
 ghost use Rattle.kl1_host_work.specs.AccountFiles.{names_of};
 ghost use Rattle.kl1_host_work.specs.Fronts.{names_in};
+ghost use Rattle.kl1_host.specs.Openings.{keys_of, IsFileOf, IsTried, AreTriedFor};
 
 use crate::fault::Fault;
 use crate::folder::{JOURNALS, journal_in, path_in};
@@ -42,7 +43,9 @@ fn file_of<'r, R: Files<File = File> + Clock + Eprint>(
     folder: &str,
     key: &Key,
     repair: Option<&str>,
-) -> Result<OpenedFile<FolderFile<&'r R>>, Fault> {
+) -> Result<OpenedFile<FolderFile<&'r R>>, Fault>
+    ensures { IsFileOf key.now.name.items result }
+{
     let alloc = log.alloc;
     let journals = path_in(alloc, folder, JOURNALS)?;
     let text = format!(in alloc; "{}", key.name.escape_ascii())?;
@@ -75,10 +78,13 @@ fn file_of<'r, R: Files<File = File> + Clock + Eprint>(
 }
 
 /// Accounts whose files are to be opened.
+#[tactic(auto, using(crate::proofs::Gathering::key_more))]
 fn openings_of<'k, D: Disk + Drop>(
     alloc: Global,
     keys: &'k [Key],
-) -> Result<Vec<Opening<'k, D>>, Fault> {
+) -> Result<Vec<Opening<'k, D>>, Fault>
+    ensures { IfOk result (λ openings. keys_of openings.items ≡ keys.now) }
+{
     let mut openings = Vec::with_capacity(alloc, keys.len())?;
     for key in keys {
         openings.push(Opening { key, opened: None })?;
@@ -92,7 +98,9 @@ fn open_one<'r, R: Files<File = File> + Clock + Eprint>(
     folder: &str,
     repair: Option<&str>,
     opening: &mut Opening<'_, FolderFile<&'r R>>,
-) {
+)
+    ensures { IsTried opening.old opening.new }
+{
     opening.opened = Some(file_of(log, folder, opening.key, repair));
 }
 
@@ -107,43 +115,26 @@ fn tell_repairs<R: Clock + Eprint, D: Disk>(log: &Log<'_, R>, openings: &[Openin
     }
 }
 
-/// Whether a file is the one of the account of this key.
-fn is_of<D: Disk>(file: &AccountFile<D>, key: &Key) -> bool
-    ensures { IsTrue result → file.now.name ≡ key.now.name.items }
-{
-    file.name.text().unpacked().as_slice() == key.name.as_slice()
-}
-
 /// The files that were opened, or the fault of the first that wasn't.
-#[tactic(auto, using(crate::proofs::FilesOfKeys::next_of_keys, crate::proofs::FilesOfKeys::all_of_keys))]
+#[tactic(auto, using(crate::proofs::Gathering::none_yet, crate::proofs::Gathering::one_more, crate::proofs::Gathering::all_gathered))]
 fn gathered<D: Disk + Drop>(
     alloc: Global,
-    keys: &[Key],
     openings: Vec<Opening<'_, D>>,
 ) -> Result<Vec<AccountFile<D>>, Fault>
-    ensures { IfOk result (λ files. names_of files.items ≡ names_in (entries_view keys.now)) }
+    ensures { (names : List (List ℕ)) → AreTriedFor names openings.entry.items → IfOk result (λ files. names_of files.items ≡ names) }
 {
-    let mut openings = openings;
-    let mut files = Vec::with_capacity(alloc, keys.len())?;
-    for account in 0..keys.len() {
-        let opened = match openings.get_mut(account) {
-            Some(opening) => opening.opened.take(),
-            None => None,
-        };
-        let Some(opened) = opened else {
-            return Err(Fault::Memory);
-        };
-        let file = opened?.file;
-        // It always is; no clause says so of what threads have opened.
-        if !is_of(&file, &keys[account]) {
-            return Err(Fault::Memory);
+    let mut files = Vec::with_capacity(alloc, openings.len())?;
+    for opening in openings {
+        match opening.opened {
+            Some(opened) => files.push(opened?.file)?,
+            None => return Err(Fault::Memory),
         }
-        files.push(file)?;
     }
     Ok(files)
 }
 
 /// Opens the files of the journals of accounts side by side. If some can't be opened, the fault of the first of them is told.
+#[tactic(auto, using(crate::proofs::Gathering::all_tried))]
 pub fn files_of<'r, R>(
     log: &Log<'r, R>,
     folder: &str,
@@ -166,5 +157,5 @@ where
         ),
     );
     tell_repairs(log, openings.as_slice());
-    gathered(log.alloc, keys, openings)
+    gathered(log.alloc, openings)
 }

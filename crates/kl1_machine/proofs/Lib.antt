@@ -1,0 +1,5 @@
+mod Keeping
+mod Telling
+mod Raising
+mod Bodies
+mod Sincing

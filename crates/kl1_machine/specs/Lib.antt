@@ -1,0 +1,3 @@
+pub mod Machines
+pub mod Effects
+pub mod Since

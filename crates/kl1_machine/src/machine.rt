@@ -1,0 +1,29 @@
+// One machine: an account's parts. Each part that goes back keeps what was when the event began.
+
+mod beginning;
+mod committing;
+mod reporting;
+
+use crate::counts::Counts;
+use kl1_goals::{GoalRow, Rules};
+use kl1_shoen::ShoenTree;
+use kl1_store::{Point, Store};
+use kl1_text::{AtomText, CellName};
+use kl1_user_effects::AccountNames;
+
+/// An account's parts. An event changes them in place, and they go back if memory is refused.
+#[derive(Drop)]
+pub struct Machine {
+    pub rules: Rules,
+    pub store: Store<CellName>,
+    pub goals: GoalRow<CellName>,
+    pub shoens: ShoenTree<CellName>,
+    pub names: AccountNames,
+    pub name: Option<AtomText>,
+    pub counts: Counts,
+    /// How much the store held when the event began, and what was counted.
+    pub mark: Point,
+    pub begun: Counts,
+    /// Whether goals may be let or held back other than when the event began.
+    pub shifts: bool,
+}
