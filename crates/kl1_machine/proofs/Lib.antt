@@ -1,0 +1,11 @@
+mod Keeping
+mod Telling
+mod Raising
+mod Bodies
+mod Sincing
+mod Flags
+mod Shoens
+mod Unifying
+mod Opening
+mod Moving
+mod Starting
