@@ -1,0 +1,9 @@
+pub mod Machines
+pub mod Effects
+pub mod Since
+pub mod Ending
+pub mod Rested
+pub mod Serving
+pub mod Ready
+pub mod Rescheduling
+pub mod Sending
