@@ -1,0 +1,16 @@
+mod Keeping
+mod Telling
+mod Raising
+mod Bodies
+mod Sincing
+mod Ending
+mod Hearing
+mod Flags
+mod Shoens
+mod Late
+mod Naming
+mod Publishing
+mod Unifying
+mod Opening
+mod Moving
+mod Stepping
