@@ -25,11 +25,21 @@ use std::marker::{Model, PhantomData};
 
 /// One account, whose names are numbers of a table of names of this kind, and whose modules refer to codes in a source of codes of
 /// that kind.
-#[derive(Drop)]
 pub struct UserState<A: AtomSource, C: CodeSource> {
     account: Account<C>,
     source: PhantomData<A>,
     code_source: PhantomData<C>,
+}
+
+/// Not derived, so that crates above don't prove the drop of each part again.
+impl<A: AtomSource, C: CodeSource> Drop for UserState<A, C> {
+    fn drop(self) {
+        let UserState {
+            account: _account,
+            source: _,
+            code_source: _,
+        } = self;
+    }
 }
 
 impl<A: AtomSource, C: CodeSource> Model for UserState<A, C> {

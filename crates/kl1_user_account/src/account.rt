@@ -50,7 +50,6 @@ use std::marker::Model;
 
 /// One account, whose names are numbers of a table of names and whose modules refer to codes in a source of codes: its cells,
 /// goals, shoens, modules and names.
-#[derive(Drop)]
 pub struct Account<C: CodeSource> {
     name: AccountName,
     store: Store<CellName>,
@@ -72,6 +71,37 @@ pub struct Account<C: CodeSource> {
     numbers: Vec<CellName>,
     scratch: Scratch<CellName>,
     alloc: Global,
+}
+
+/// Not derived, so that crates above don't prove the drop of each part again.
+impl<C: CodeSource> Drop for Account<C> {
+    fn drop(self) {
+        let Account {
+            name,
+            store,
+            goals,
+            shoens,
+            modules,
+            names,
+            rules: _,
+            last_goal: _,
+            variables: _,
+            nodes: _,
+            reports: _,
+            entries: _,
+            run: _,
+            sessions: _,
+            trial,
+            draft,
+            walk,
+            numbers,
+            scratch,
+            alloc: _,
+        } = self;
+        let _ = (
+            name, store, goals, shoens, modules, names, trial, draft, walk, numbers, scratch,
+        );
+    }
 }
 
 impl<C: CodeSource> Model for Account<C> {
