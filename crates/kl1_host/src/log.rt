@@ -1,7 +1,7 @@
 // The log.
 
 use jiff::Timestamp;
-use kl1_host_front::{Field, Number, put_line};
+use kl1_host_front::{Field, put_line};
 use std::alloc::{AllocError, Global};
 use std::net::SocketAddr;
 use std::time::Clock;
@@ -78,44 +78,23 @@ impl<R: Eprint + Clock> Log<'_, R> {
         }
     }
 
-    /// The line of an event of the account of this name, with numbers.
-    fn line_of_account(
-        &self,
-        event: &[u8],
-        name: &[u8],
-        numbers: &[Number<'static>],
-    ) -> Result<Vec<u8>, AllocError> {
-        let mut line = self.line_of(event)?;
-        let account = Field {
-            name: b"account",
-            value: name,
-        };
-        add_fields(&mut line, &[account])?;
-        for number in numbers {
-            let text = format!(in self.alloc; "{}", number.number)?;
-            let field = Field {
-                name: number.name,
-                value: text.as_bytes(),
-            };
-            add_fields(&mut line, &[field])?;
-        }
-        Ok(line)
-    }
-
-    /// Tells an event of the account of this name, with numbers.
-    pub fn tell_account(&self, event: &[u8], name: &[u8], numbers: &[Number<'static>]) {
-        if let Ok(line) = self.line_of_account(event, name, numbers) {
-            self.write(line.as_slice());
-        }
-    }
-
     /// Tells that the journal of an account goes on from what is before this line.
     pub fn tell_repaired(&self, name: &[u8], line: u64) {
-        let line = Number {
-            name: b"line",
-            number: line,
-        };
-        self.tell_account(b"repaired", name, &[line]);
+        if let Ok(text) = format!(in self.alloc; "{line}") {
+            self.tell(
+                b"repaired",
+                &[
+                    Field {
+                        name: b"account",
+                        value: name,
+                    },
+                    Field {
+                        name: b"line",
+                        value: text.as_bytes(),
+                    },
+                ],
+            );
+        }
     }
 
     /// Tells an event.

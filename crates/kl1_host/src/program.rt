@@ -1,8 +1,6 @@
 // What a host asks of this program.
 
-ghost use Rattle.std.specs.Prelude.{◌≡◌};
-ghost use Rattle.kl1_session.specs.Views.{entries_view};
-ghost use Rattle.kl1_host_work.specs.Fronts.{names_in};
+ghost use Rattle.std.specs.Prelude.{◌≡◌, length};
 ghost use Rattle.kl1_host.specs.Ends.{end_word};
 
 use crate::attending::Attending;
@@ -11,7 +9,7 @@ use crate::log::Log;
 use crate::logins::LoginLog;
 use crate::machine::ThisMachine;
 use crate::web::{WebAccounts, is_local};
-use kl1_host_front::{Field, Number, Pauses, PausingDoor, address_number};
+use kl1_host_front::{Field, Pauses, PausingDoor, address_number};
 use kl1_host_web::{AskedRecord, Page, Service, SessionBook, Site};
 use kl1_host_work::{Front, HostEvent, HostView, Listeners, Performer};
 use kl1_lines::{Sink, Source};
@@ -131,12 +129,17 @@ impl<'f, R: Wait + Clock + Eprint + Files + RandomSource> Program<'f, R> {
 
     /// Tells that an account is restored.
     fn tell_restored(&self, account: usize, entries: u64) {
-        let entries = Number {
-            name: b"entries",
-            number: entries,
-        };
-        self.log
-            .tell_account(b"restored", self.name_of(account), &[entries]);
+        if let Ok(text) = format!(in self.alloc; "{entries}") {
+            let account = Field {
+                name: b"account",
+                value: self.name_of(account),
+            };
+            let entries = Field {
+                name: b"entries",
+                value: text.as_bytes(),
+            };
+            self.log.tell(b"restored", &[account, entries]);
+        }
     }
 
     /// Tells that the file of an account can't be written, and why.
@@ -156,20 +159,6 @@ impl<'f, R: Wait + Clock + Eprint + Files + RandomSource> Program<'f, R> {
             // The reason alone is left out.
             Err(_) => self.log.tell(b"journal_fault", &[who]),
         }
-    }
-
-    /// Tells that an account takes more bytes than it may, or no longer does.
-    fn tell_memory(&self, event: &[u8], account: usize, bytes: u64) {
-        let taken = Number {
-            name: b"bytes",
-            number: bytes,
-        };
-        let most = Number {
-            name: b"memory_each",
-            number: self.memory_each,
-        };
-        self.log
-            .tell_account(event, self.name_of(account), &[taken, most]);
     }
 
     /// Tells that a host is ready, and where.
@@ -214,9 +203,8 @@ fn local_of(alloc: Global, listener: &TcpListener) -> Result<String, AllocError>
 impl<'f, R: Wait + Clock + Eprint + Files + RandomSource + Sync> Front for Program<'f, R> {
     type Entrance = PausingDoor<'f, R, LoginLog<'f, R>>;
 
-    ghost names = { λ p. names_in (entries_view p.keys.now) };
+    ghost accounts = { λ p. length p.keys.now };
 
-    #[tactic(auto, using(crate::proofs::Doors::opened_by_name, kl1_host_work::proofs::NamesInOrder::length_names))]
     fn door(&self, address: SocketAddr) -> PausingDoor<'f, R, LoginLog<'f, R>> {
         self.door_of(address)
     }
@@ -234,12 +222,6 @@ impl<'f, R: Wait + Clock + Eprint + Files + RandomSource + Sync> Front for Progr
                 self.log.tell_of(b"closed", address, &[how])
             }
             HostEvent::Stopped { account, error } => self.tell_stopped(account, &error),
-            HostEvent::Full { account, bytes } => {
-                self.tell_memory(b"memory_full", account, bytes)
-            }
-            HostEvent::Freed { account, bytes } => {
-                self.tell_memory(b"memory_free", account, bytes)
-            }
         }
     }
 

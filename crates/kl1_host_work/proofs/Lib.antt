@@ -1,4 +1,2 @@
-pub mod NamesInOrder
-pub mod OpenedByName
 pub mod Restarts
 pub mod UsedNames

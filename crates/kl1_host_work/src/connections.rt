@@ -1,7 +1,6 @@
 // Connections without end, each in a thread of its own.
 
-ghost use Rattle.std.specs.Prelude.{◌≡◌};
-ghost use Rattle.kl1_host_work.specs.Fronts.{AreAccountsOf};
+ghost use Rattle.std.specs.Prelude.{◌≡◌, ◌≤◌};
 
 use crate::connection::{serve_lines, serve_pages};
 use crate::front::{Front, HostEvent};
@@ -69,7 +68,7 @@ fn serve_client<'t, F: Front, W: Wait, R: Wait, K: PoolIds>(
     address: SocketAddr,
     share: &mut Share<K>,
 )
-    requires { AreAccountsOf (F.names desk.now.front.now) K.names K.accounts }
+    requires { F.accounts desk.now.front.now ≤ K.accounts }
 {
     desk.front.tell(HostEvent::Opened(address));
     let mut door = desk.front.door(address);
@@ -96,7 +95,7 @@ fn serve_visitor<'t, F: Front, W: Wait, R: Wait, K: PoolIds>(
     number: u64,
     share: Share<K>,
 )
-    requires { AreAccountsOf (F.names desk.now.front.now) K.names K.accounts }
+    requires { F.accounts desk.now.front.now ≤ K.accounts }
 {
     let mut share = share;
     match peers {
@@ -119,13 +118,13 @@ pub(crate) fn serve_each<'t, F: Front + Sync, N, R: Wait + Sync, K: PoolIds + Se
 where
     N: Net<Listener = TcpListener, Stream = TcpStream> + Threads + Wait + Clock + Sync,
     F::Entrance: Send,
-    requires { AreAccountsOf (F.names desk.now.front.now) K.names K.accounts }
+    requires { F.accounts desk.now.front.now ≤ K.accounts }
 {
     thread::scope(
         thread::scope_env(),
         rt,
         move |scope|
-            requires { AreAccountsOf (F.names desk.now.front.now) K.names K.accounts }
+            requires { F.accounts desk.now.front.now ≤ K.accounts }
         {
             for _ in rt.forever() {
                 let Some(share) = desk.lobby.share(rt) else {

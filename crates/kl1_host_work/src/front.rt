@@ -1,7 +1,6 @@
 // What a host asks of the program around it.
 
-ghost use Rattle.std.specs.Prelude.{◌≡◌, ℕ, List, length};
-ghost use Rattle.kl1_host_work.specs.Fronts.{OpensByName};
+ghost use Rattle.std.specs.Prelude.{◌≡◌, ℕ};
 
 use kl1_command::{Command, Performed};
 use kl1_lines::{Sink, Source};
@@ -25,10 +24,6 @@ pub enum HostEvent {
     Closed(SocketAddr, Disconnect),
     /// An account's file can't be written: it gets nothing more, and the account no commands.
     Stopped { account: usize, error: LogError },
-    /// An account takes this many bytes, more than it may: it gets no more turns, and no commands that take memory.
-    Full { account: usize, bytes: u64 },
-    /// An account that took more bytes than it may takes this many now, and goes on: it was reset.
-    Freed { account: usize, bytes: u64 },
 }
 
 /// What can be seen of a host that runs. What looks at an account waits for one that is in the midst of a reduction, and gives an error if
@@ -99,13 +94,12 @@ pub trait Performer {
 pub trait Front {
     type Entrance: Door + Drop;
 
-    /// What the accounts are called, in the order of their numbers.
-    ghost names: { Self → List (List ℕ) };
+    /// How many accounts there are.
+    ghost accounts: { Self → ℕ };
 
-    /// Who lets in whoever connects from this address: by a name to the account that is called so, and to no other.
+    /// Who lets in whoever connects from this address.
     fn door(&self, address: SocketAddr) -> Self::Entrance
-        ensures accounts { Self.Entrance.accounts result ≡ length (names self.now) }
-        ensures names { OpensByName (Self.Entrance.opens result) (names self.now) };
+        ensures { Self.Entrance.accounts result ≡ accounts self.now };
 
     /// Takes in what a host tells.
     fn tell(&self, event: HostEvent);

@@ -11,12 +11,10 @@ pub struct Syncing {
     pub period: Duration,
 }
 
-/// What all threads of a host share beside the pool: for each account, in order, its keeper and what it may still load, and how many bytes
-/// each may take.
+/// What all threads of a host share beside the pool: for each account, in order, its keeper and what it may still load.
 #[derive(Clone, Copy)]
 pub struct Host<'h> {
     pub keepers: &'h [Keeper],
     pub budgets: &'h [Budget],
     pub syncing: Syncing,
-    pub memory_each: u64,
 }

@@ -11,7 +11,6 @@ mod host;
 mod linking;
 mod lobby;
 mod noting;
-mod overruns;
 mod restoring;
 mod running;
 mod start_fault;

@@ -121,7 +121,6 @@ fn stand<'t, D: Disk + Drop, W: Wait, R: Wait, K: PoolIds>(
 {
     let AccountFile { file, journal, .. } = found;
     let entries = restore_account(rt, alloc, pool, account, &journal, share)?;
-    drop(journal);
     match link_account(rt, alloc, pool, account, file) {
         Ok(linked) => Ok(Standing { linked, entries }),
         Err(fault) => Err(StartFault::Unlinked { account, fault }),

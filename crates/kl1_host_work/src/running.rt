@@ -1,18 +1,16 @@
 // The threads of a host.
 
-ghost use Rattle.kl1_host_work.specs.Fronts.{AreAccountsOf};
+ghost use Rattle.std.specs.Prelude.{◌≤◌};
 
 use crate::connections::{Desk, Peers, serve_each};
 use crate::front::{Front, HostEvent};
 use crate::handler::HostHandler;
 use crate::host::Host;
 use crate::noting::note;
-use crate::overruns::change_of;
 use crate::start_fault::StartFault;
 use crate::view::View;
 use kl1_host_journals::{Bell, FaultTeller, Keeper, Outgoing, Scribe};
 use kl1_log::{Disk, LogError, LogFile};
-use kl1_model::limits::MOST_ACCOUNTS;
 use kl1_pool::{Gate, Pool, PoolIds, Share, worker};
 use kl1_session::History;
 use std::alloc::{AllocError, Global};
@@ -22,9 +20,6 @@ use std::sync::Wait;
 use std::thread;
 use std::thread::Threads;
 use std::time::{Clock, Duration};
-
-/// After how many milliseconds accounts are looked at again at the latest, for the bytes that they take.
-const LOOKED_AT_AFTER: u64 = 1_000;
 
 /// The gate of the host's workers, which holds nobody.
 #[derive(Clone, Copy)]
@@ -69,44 +64,19 @@ fn note_all<'t, W: Wait, R: Wait, K: PoolIds>(rt: &W, pool: &Pool<'t, R, K>, hos
     }
 }
 
-/// Tells the front which accounts have come to take more bytes than they may since they were looked at last, and which no longer do.
-fn tell_changes<'t, F: Front, W: Wait, R: Wait, K: PoolIds>(
+/// Notes after each `period` what workers have done to accounts that nobody commands, until it is to end. It waits for an account that is
+/// in the midst of a reduction, and nobody waits for it.
+fn note_on<'t, W: Wait + Clock, R: Wait, K: PoolIds>(
     rt: &W,
-    desk: &Desk<'_, 't, F, R, K>,
-    over: &mut [bool],
-) {
-    let most = desk.host.memory_each;
-    for account in 0..desk.pool.accounts() {
-        if account < over.len()
-            && let Some(bytes) = desk.pool.bytes(rt, account)
-            && let Some(event) = change_of(over, account, bytes, most)
-        {
-            desk.front.tell(event);
-        }
-    }
-}
-
-/// Notes after each period what workers have done to accounts that nobody commands, and tells which accounts have come to take more bytes
-/// than they may, until it is to end. It waits for an account that is in the midst of a reduction, and nobody waits for it.
-fn watch<'t, F: Front, W: Wait + Clock, R: Wait, K: PoolIds>(
-    rt: &W,
-    desk: &Desk<'_, 't, F, R, K>,
+    pool: &Pool<'t, R, K>,
+    host: Host<'_>,
     until: &Bell,
 ) {
-    let mut over = [false; MOST_ACCOUNTS];
-    let period = desk.host.syncing.period;
-    let pause = period.min(Duration::from_millis(LOOKED_AT_AFTER));
-    let mut left = period;
     for _ in rt.forever() {
-        if until.wait(rt, pause) {
+        if until.wait(rt, host.syncing.period) {
             return;
         }
-        left = left.saturating_sub(pause);
-        if left.is_zero() {
-            note_all(rt, desk.pool, desk.host);
-            left = period;
-        }
-        tell_changes(rt, desk, &mut over);
+        note_all(rt, pool, host);
     }
 }
 
@@ -182,7 +152,7 @@ fn run_accounts<'t, F: Front + Sync, R, K: PoolIds + Send + Sync>(
 where
     R: Net<Listener = TcpListener, Stream = TcpStream> + Threads + Wait + Clock + Sync,
     F::Entrance: Send,
-    requires { AreAccountsOf (F.names desk.now.front.now) K.names K.accounts }
+    requires { F.accounts desk.now.front.now ≤ K.accounts }
 {
     let until = Bell::new();
     let until = &until;
@@ -190,7 +160,7 @@ where
         thread::scope_env(),
         rt,
         move |scope| -> bool
-            requires { AreAccountsOf (F.names desk.now.front.now) K.names K.accounts }
+            requires { F.accounts desk.now.front.now ≤ K.accounts }
         {
             let mut number = 0u64;
             for share in workers {
@@ -199,18 +169,18 @@ where
                 }
                 number = number.saturating_add(1);
             }
-            let noting = scope.spawn(move || watch(rt, desk, until));
+            let noting = scope.spawn(move || note_on(rt, desk.pool, desk.host, until));
             let clients = listeners.clients;
             let accepting = scope.spawn(
                 move ||
-                    requires { AreAccountsOf (F.names desk.now.front.now) K.names K.accounts }
+                    requires { F.accounts desk.now.front.now ≤ K.accounts }
                 { serve_each(rt, clients, Peers::Clients, desk) },
             );
             let mut all_are_there = noting.is_ok() && accepting.is_ok();
             if let Some(browsers) = listeners.browsers {
                 let showing = scope.spawn(
                     move ||
-                        requires { AreAccountsOf (F.names desk.now.front.now) K.names K.accounts }
+                        requires { F.accounts desk.now.front.now ≤ K.accounts }
                     { serve_each(rt, browsers, Peers::Browsers, desk) },
                 );
                 all_are_there = all_are_there && showing.is_ok();
@@ -310,7 +280,7 @@ fn run_noted<'t, F: Front + Sync, R, K: PoolIds + Send + Sync>(
 where
     R: Net<Listener = TcpListener, Stream = TcpStream> + Threads + Wait + Clock + Sync,
     F::Entrance: Send,
-    requires { AreAccountsOf (F.names desk.now.front.now) K.names K.accounts }
+    requires { F.accounts desk.now.front.now ≤ K.accounts }
 {
     let all_are_there = scribes_are_there && run_accounts(rt, listeners, desk, workers, attending);
     note_all(rt, desk.pool, desk.host);
@@ -333,7 +303,7 @@ pub(crate) fn run_threads<'t, F: Front + Sync, D: Disk + Drop + Send, R, K: Pool
 where
     R: Net<Listener = TcpListener, Stream = TcpStream> + Threads + Wait + Clock + Sync,
     F::Entrance: Send,
-    requires { AreAccountsOf (F.names desk.now.front.now) K.names K.accounts }
+    requires { F.accounts desk.now.front.now ≤ K.accounts }
 {
     let faults = Telling { front: desk.front };
     let scribes = scribes_of(desk.alloc, desk.host.keepers, files)?;
@@ -344,7 +314,7 @@ where
         desk.host.syncing.period,
         &faults,
         move |there: bool| -> bool
-            requires { AreAccountsOf (F.names desk.now.front.now) K.names K.accounts }
+            requires { F.accounts desk.now.front.now ≤ K.accounts }
         { run_noted(rt, listeners, desk, workers, attending, there) },
     )
 }

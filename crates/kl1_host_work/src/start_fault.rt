@@ -6,7 +6,7 @@ use std::alloc::{AllocError, AllocFailed};
 /// Why a host doesn't start.
 #[derive(Drop)]
 pub enum StartFault {
-    /// There are no accounts, or too many.
+    /// There are no accounts, or too many, or their number isn't that of the files.
     Accounts,
     /// The file of this account can't be opened.
     Unopened { account: usize, fault: OpenFault },

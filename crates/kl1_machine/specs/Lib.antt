@@ -1,0 +1,13 @@
+pub mod Machines
+pub mod Effects
+pub mod Since
+pub mod Ending
+pub mod Moving
+pub mod Rested
+pub mod Naming
+pub mod Serving
+pub mod Ready
+pub mod Rescheduling
+pub mod Reducing
+pub mod Stepping
+pub mod Exchanging
