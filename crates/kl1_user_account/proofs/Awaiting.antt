@@ -44,8 +44,8 @@ use Rattle.kl1_user_effects.specs.Settled.{control_at, control_with, front_with,
 use Rattle.kl1_user_effects.proofs.Aims.{kind_at}
 use Rattle.kl1_user_effects.proofs.States.{found_in}
 use Rattle.kl1_user_account.specs.Viewed.{AwaitsMessage, Awaits, ListsAwaited}
-use Rattle.kl1_user_account.proofs.Looks.{no_control}
-use Rattle.kl1_user_account.proofs.Steps.{finds_goal}
+use Rattle.kl1_user_account.proofs.Goals.{no_control}
+use Rattle.kl1_user_account.proofs.Goals.{finds_goal}
 
 -- what a reader of a control stream waits for, by what stands at its front
 pub message_awaits : (h : Held CellName) (x : Cell CellName) (vs : List ℕ) (c : Reading → control.Control) → ((f : Reading) → Reads built f → c f ≡ control_of (term_of f h x)) → ((f : Reading) → vs ≡ awaited_by_control (c f)) → AwaitsMessage h x vs

@@ -1,63 +1,31 @@
-pub mod SettledStays
-pub mod Waking
-pub mod Installs
 pub mod Stacks
 pub mod Prints
 pub mod Origins
 pub mod NameTexts
-pub mod Looks
-pub mod Restood
-pub mod Told
-pub mod Once
-pub mod Added
-pub mod GoalOrder
-pub mod Reached
 pub mod Loads
 pub mod Choosing
-pub mod LookedAt
-pub mod Drafted
-pub mod PutIn
-pub mod Steps
 pub mod StartLines
 pub mod PrintLengths
-pub mod Beyond
-pub mod Opened
-pub mod Streaming
 pub mod Begun
-pub mod TwoGoals
-pub mod StartHooks
 pub mod NamesOnce
-pub mod Started
 pub mod StartChecks
-pub mod MonitorStays
 pub mod StartSteps
-pub mod StartKept
-pub mod Flags
 pub mod Statuses
 pub mod Listing
-pub mod Finished
-pub mod Alike
-pub mod Messages
-pub mod Sent
-pub mod Drafting
-pub mod StartSettled
-pub mod ControlsKept
-pub mod Effected
-pub mod Exchanged
-pub mod Exchanges
-pub mod Swapping
-pub mod Spares
-pub mod Answered
 pub mod AnswerSteps
-pub mod AnswerKept
-pub mod Respelled
-pub mod Named
-pub mod ReducedKept
-pub mod ReducePut
-pub mod Reductions
 pub mod GivenNames
 mod Paging
 mod Awaiting
 mod Presences
 mod Called
 mod Texts
+mod Goals
+mod Counting
+mod Machines
+mod Reductions
+mod Messages
+mod Bringing
+mod Loaded
+mod Started
+mod Answered
+pub mod NameRows

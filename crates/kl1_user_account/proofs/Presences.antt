@@ -27,7 +27,7 @@ use Rattle.kl1_user_account.specs.declared.top.Top.{Top}
 use Rattle.kl1_user_account.specs.declared.top.Top.TheVariants as top
 use Rattle.kl1_user_account.specs.Tops.{node_with, count_at, stacked_terms, Takes}
 use Rattle.kl1_user_account.specs.Viewed.{is_variable_top, IsPresenceIn}
-use Rattle.kl1_user_account.proofs.Steps.{finds_goal}
+use Rattle.kl1_user_account.proofs.Goals.{finds_goal}
 
 -- what is known of a variable after at most `most` of these parts were looked at
 abbrev pub look : ℕ → List NodeCode → ℕ → Presence

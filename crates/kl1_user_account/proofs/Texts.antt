@@ -11,7 +11,7 @@ use Rattle.kl1_user_events.specs.declared.goal_view.Extent.{Extent}
 use Rattle.kl1_user_events.specs.Viewing.{goal_text, term_in, text_of}
 use Rattle.kl1_user_effects.specs.Fitting.{Reading}
 use Rattle.kl1_user_effects.specs.Account.{Account, meaning, task_with, goal_with, state_of}
-use Rattle.kl1_user_account.proofs.Steps.{finds_goal}
+use Rattle.kl1_user_account.proofs.Goals.{finds_goal}
 
 same_task : (x y : model.Goal) → Some x ≡ Some y → x.task ≡ y.task
 same_task x y e = let same : x ≡ y = cc in ap (λ (z : model.Goal). z.task) same

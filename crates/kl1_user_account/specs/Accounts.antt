@@ -9,17 +9,17 @@ use Rattle.kl1_user_account.specs.Keeping.{CountsWork}
 abbrev pub kept_in : {C R : Type 0} → Inside C R → Account
 kept_in u = record {
   own_name = u.name;
-  rules = u.rules;
-  held = u.store.held;
-  goals = u.goals.goals;
-  shoens = u.shoens.shoens;
-  work = u.shoens.work;
+  rules = u.machine.rules;
+  held = u.machine.store.held;
+  goals = u.machine.goals.goals;
+  shoens = u.machine.shoens.shoens;
+  work = u.machine.shoens.work;
   modules = u.modules.loaded;
-  names = u.names.names;
-  last_goal = u.last_goal;
-  variables = u.variables;
-  nodes = u.nodes;
-  reports = u.reports;
+  names = u.machine.names.names;
+  last_goal = u.machine.counts.last_goal;
+  variables = u.machine.counts.variables;
+  nodes = u.machine.counts.nodes;
+  reports = u.machine.counts.reports;
   entries = u.entries;
   run = u.run;
   sessions = u.sessions;
@@ -27,4 +27,4 @@ kept_in u = record {
 
 -- what always holds of the fields
 abbrev pub IsKept : {C R : Type 0} → Inside C R → Type 0
-IsKept u = keeping.IsKept (kept_in u) u.store.hooks u.goals.shoens × CountsWork (length u.shoens.work) u.entries u.run
+IsKept u = keeping.IsKept (kept_in u) u.machine.store.hooks u.machine.goals.shoens × CountsWork (length u.machine.shoens.work) u.entries u.run

@@ -1,24 +1,21 @@
--- Answers from the console: when they are refused, and what they draft.
-use Rattle.std.specs.Prelude.{◌≡◌, ℕ, ◌+◌, ◌-◌, ◌<◌, nat_lt, nat_le, ◌&&◌, Bool, true, false, List, [], length, map, Some}
+-- Answers from the console: when they are refused.
+use Rattle.std.specs.Prelude.{◌≡◌, ℕ, ◌+◌, ◌<◌, nat_lt, nat_le, ◌&&◌, Bool, true, false, List, [], length, Some}
 use Rattle.kl1_model.specs.declared.rules.Rules.{Rules}
 use Rattle.kl1_model.specs.declared.life.Life.TheVariants.{Living}
 use Rattle.kl1_model.specs.declared.limits.TheConstants.{MOST_NAMES}
-use Rattle.kl1_model.specs.Term.{Term, replace}
+use Rattle.kl1_model.specs.Term.{Term}
 use Rattle.kl1_model.specs.Meaning.{highest}
 use Rattle.kl1_model.specs.Nodes.{structures_of}
 use Rattle.kl1_model.specs.State.{State, has_substitutes, names_of, with_names}
 use Rattle.kl1_model.specs.Event.{answer, refuse}
 use Rattle.kl1_model.specs.Answering.{may_answer, unanswered_at}
-use Rattle.kl1_model.specs.Opening.{with_next_variables}
 use Rattle.kl1_model.specs.Step.{step}
 use Rattle.kl1_user_events.specs.declared.refusal.Refusal.{Refusal}
 use Rattle.kl1_user_events.specs.Views.{refusal_of}
 use Rattle.kl1_text.specs.Reading.{Reads}
 use Rattle.kl1_text.specs.declared.cell_name.CellName.{CellName}
 use Rattle.kl1_atoms.specs.declared.known.Known.{Known}
-use Rattle.kl1_store.specs.declared.cell.Cell.{Cell}
-use Rattle.kl1_store.specs.Held.{Held, IsIn}
-use Rattle.kl1_store.specs.Hooks.{Kept}
+use Rattle.kl1_store.specs.Held.{Held}
 use Rattle.kl1_store.specs.Unbound.{IsUnbound}
 use Rattle.kl1_clause.specs.NameList.{with_texts}
 use Rattle.kl1_goals.specs.declared.goal.Goal.{Goal}
@@ -26,17 +23,11 @@ use Rattle.kl1_shoen_paths.specs.declared.shoen.Origin.{Origin}
 use Rattle.kl1_shoen_paths.specs.declared.shoen.Shoen.{Shoen}
 use Rattle.kl1_shoen.specs.Shoens.{shoen_in}
 use Rattle.kl1_user_effects.specs.Fitting.{Reading, built}
-use Rattle.kl1_codes.specs.Shelves.{Program}
-use Rattle.kl1_user_effects.specs.declared.draft.Change.{Change}
 use Rattle.kl1_user_effects.specs.Account.{meaning, texts_of, with_kept}
-use Rattle.kl1_user_effects.specs.Works.{Knows}
-use Rattle.kl1_user_effects.specs.Drafts.{restood}
-use Rattle.kl1_user_effects.specs.Settled.{AreSettled}
 use Rattle.kl1_user_account.specs.declared.counted.Counted.{Counted}
 use Rattle.kl1_user_account.specs.declared.answerable.Answering.{Answering}
 use Rattle.kl1_user_account.specs.declared.answerable.Answering.TheVariants.{Refused, Coded}
 use Rattle.kl1_user_account.specs.Starting.{HasNames}
-use Rattle.kl1_user_account.specs.Exchanging.{AreSpared}
 
 -- whether a goal with `variables` variables and `nodes` structures can be an answer beside what is counted
 abbrev pub has_room_to_answer_beside : Counted → ℕ → ℕ → Bool
@@ -68,11 +59,3 @@ pub record IsAnswerable (rules : Rules) (h : Held CellName) (ss : List (Shoen Ce
 abbrev pub AnswersAs : Rules → Held CellName → List (Shoen CellName) → List Known → Counted → ℕ → ℕ → Term → Answering → Type 0
 AnswersAs rules h ss names counted n report goal (Refused r) = RefusesAnswer rules h ss names counted n report goal r
 AnswersAs rules h ss names counted n report goal (Coded code v) = IsAnswerable rules h ss names counted n report goal code v
-
--- an answer is drafted: its goal, whose variables come after those that were there, was built with these numbers for its names and stands in
--- place of variable `v`, and what hangs on that was looked at
-pub record IsAnswered (program : Program) (known : List Known) (goal : Term) (spares : List CellName) (v : ℕ) (old new : Kept CellName) (goals : List (Goal CellName)) (ss : List (Shoen CellName)) (changes : List Change) : Type 0 where
-  pub spared : AreSpared known 0 (with_names [] (names_of goal)) spares
-  pub variables : new.held.variables ≡ old.held.variables + highest goal
-  pub means : (f : Reading) → Reads built f → map f spares ≡ with_names [] (names_of goal) → (x : Cell CellName) → IsIn old.held x → meaning f new.held x ≡ replace v (with_next_variables (old.held.variables - 1) goal) (meaning f old.held x)
-  pub settles : (f : Reading) → Knows program.loaded f → AreSettled f old.hooks old.held program ss goals → AreSettled f new.hooks new.held program ss (restood changes goals)

@@ -1,15 +1,10 @@
-pub mod Waking
 pub mod Keeping
 pub mod Accounts
-pub mod Looking
 pub mod Tops
 pub mod Loadings
-pub mod Reducing
 pub mod Starting
 pub mod Asked
-pub mod Finishing
-pub mod Sending
 pub mod Beginning
-pub mod Exchanging
 pub mod Answering
 pub mod Viewed
+pub mod NameRows

@@ -1,5 +1,5 @@
 -- What comes of a load.
-use Rattle.std.specs.Prelude.{◌≡◌, ℕ, ◌<◌, ◌≤◌, Bool, false, List, [], ◌∷◌, ◌++◌, length, Option, Some, None, is_some}
+use Rattle.std.specs.Prelude.{◌≡◌, ℕ, ◌<◌, ◌≤◌, Bool, false, List, length, map, Option, Some, None, is_some}
 use Rattle.kl1_model.specs.declared.limits.TheConstants.{MOST_NAMES, MOST_MODULES}
 use Rattle.kl1_model.specs.Match.{module_of}
 use Rattle.kl1_model.specs.State.{State}
@@ -7,27 +7,21 @@ use Rattle.kl1_model.specs.Module.{good}
 use Rattle.kl1_model.specs.Event.{load, loaded, refuse, is_full, with_entry}
 use Rattle.kl1_model.specs.Step.{step, load_module}
 use Rattle.kl1_model.specs.code.Steps.{with_module}
-use Rattle.kl1_text.specs.declared.cell_name.CellName.{CellName}
 use Rattle.kl1_atoms.specs.declared.known.Known.{Known}
-use Rattle.kl1_store.specs.Hooks.{Hook}
-use Rattle.kl1_store.specs.Held.{Held}
 use Rattle.kl1_clause.specs.NameList.{with_texts}
-use Rattle.kl1_goals.specs.declared.goal.Goal.{Goal}
-use Rattle.kl1_shoen_paths.specs.declared.shoen.Shoen.{Shoen}
 use Rattle.kl1_codes.specs.Numbered.{Numbered, own_names, number_of}
 use Rattle.kl1_codes.specs.Finding.{contents, is_numbered}
-use Rattle.kl1_codes.specs.Shelves.{Program, with_last}
-use Rattle.kl1_user_effects.specs.declared.draft.Change.{Change}
 use Rattle.kl1_user_account.specs.declared.loading.Loading.{Loading}
 use Rattle.kl1_user_account.specs.declared.loading.Loading.TheVariants.{Refused, Drafted}
 use Rattle.kl1_user_events.specs.declared.refusal.Refusal.{Refusal}
-use Rattle.kl1_user_effects.specs.Fitting.{Reading}
 use Rattle.kl1_user_effects.specs.Account.{texts_of}
 use Rattle.kl1_user_effects.specs.Naming.{ReadsDraft}
-use Rattle.kl1_user_effects.specs.Works.{Knows}
-use Rattle.kl1_user_effects.specs.Drafts.{restood}
-use Rattle.kl1_user_effects.specs.Settled.{AreSettled}
 use Rattle.kl1_user_events.specs.Views.{refusal_of}
+use Rattle.kl1_store.specs.Hooks.{point_of}
+use Rattle.kl1_codes.specs.Shelves.{Program, with_last}
+use Rattle.kl1_machine.specs.declared.machine.Machine.{Machine}
+use Rattle.kl1_machine.specs.Machines.{IsBack}
+use Rattle.kl1_machine.specs.Rescheduling.{unready, Reschedules, AllSettled}
 
 -- a state with these modules and names, whose journal is full or not
 pub record HasModules (s : State) (ms : List Numbered) (names : List Known) (full : Bool) : Type 0 where
@@ -69,6 +63,30 @@ abbrev pub StandsIn : {C R : Type 0} → (ℕ × ℕ → Type 0) → Loading C R
 StandsIn has (Refused r) = Unit {0}
 StandsIn has (Drafted d) = has d.place
 
--- all goals are settled with a drafted module beside the others, after these changes
-abbrev pub Settles : Program → Numbered → List (Shoen CellName) → List Hook → Held CellName → List (Goal CellName) → List Change → Type 0
-Settles program d shoens hooks h goals changes = (f : Reading) → Knows (program.loaded ++ d ∷ []) f → AreSettled f hooks h (with_last program d) shoens (restood changes goals)
+-- an event has begun with a machine
+abbrev pub BeginsFrom : Machine → Machine → Type 0
+BeginsFrom m b =
+    b ≡ record m {
+      mark = point_of m.store;
+      goals = record m.goals { begun = m.goals.goals; begun_shoens = m.goals.shoens };
+      shoens = record m.shoens { kept = m.shoens.shoens; kept_work = m.shoens.work };
+      begun = m.counts;
+      name = None;
+      spelled = None;
+      told = b.told;
+      shifts = false;
+    }
+
+-- an event has begun with a machine, and all goals were looked at with a drafted module beside the others
+pub record LooksBeside (program : Program) (d : Numbered) (m r : Machine) : Type 0 where
+  pub begun : Machine
+  pub begins : BeginsFrom m begun
+  pub looks : Reschedules begun r
+  pub settled : AllSettled (with_last program d) r
+  pub flags : map unready r.goals.goals ≡ map unready begun.goals.goals
+
+-- an event has begun with a machine, and it went back
+pub record GoesBack (m r : Machine) : Type 0 where
+  pub begun : Machine
+  pub begins : BeginsFrom m begun
+  pub back : IsBack begun r

@@ -4,25 +4,20 @@ ghost use Rattle.std.specs.Prelude.{◌≡◌, ◌↔◌, ℕ, ◌≤◌, ◌<�
 ghost use Rattle.kl1_model.specs.declared.limits.TheConstants.{MOST_SOURCE_BYTES};
 ghost use Rattle.kl1_model.specs.Module.{read_module, good};
 ghost use Rattle.kl1_atoms.specs.Names.{AreNames};
-ghost use Rattle.kl1_store.specs.Hooks.{HasGrown};
 ghost use Rattle.kl1_codes.specs.Numbered.{AreRead, ArePlaced, own_names, number_of};
 ghost use Rattle.kl1_codes.specs.Finding.{is_numbered};
 ghost use Rattle.kl1_user_effects.specs.Fitting.{Reading, Fits};
-ghost use Rattle.kl1_user_effects.specs.Kept.{AreGoalsIn, AreShoensIn};
 ghost use Rattle.kl1_user_effects.specs.Naming.{AreSmall, ReadsDraft};
-ghost use Rattle.kl1_user_effects.specs.Drafts.{restood};
-ghost use Rattle.kl1_user_account.specs.Loadings.{DraftsAs, LoadsAs, StandsIn, Settles};
+ghost use Rattle.kl1_machine.specs.Machines.{IsMachine};
+ghost use Rattle.kl1_user_account.specs.Loadings.{DraftsAs, LoadsAs, StandsIn, LooksBeside, GoesBack};
 
-use crate::looking_beside::look_at_all;
 use kl1_clause::{Code, CodeFault};
 use kl1_codes::{CodeSource, CodedModule, CodedModules, Loaded, Modules, number_by};
-use kl1_goals::{GoalTable, Rules};
 use kl1_goals_moves::Trial;
+use kl1_machine::Machine;
 use kl1_model::limits::{MOST_MODULES, MOST_SOURCE_BYTES};
-use kl1_shoen::ShoenTree;
-use kl1_store::Store;
-use kl1_text::CellName;
-use kl1_user_effects::{AccountNames, Change, draft_row};
+use kl1_text::{AtomText, CellName};
+use kl1_user_effects::{AccountNames, draft_row};
 use kl1_user_events::Refusal;
 use std::alloc::{AllocError, Global};
 
@@ -160,103 +155,62 @@ pub(crate) fn draft_module<C: CodeSource>(
     }
 }
 
-/// Looks at all goals beside a drafted module, and makes room for what is to be put in place: the result has room for the
-/// numbers of its names. If memory is refused, more may hang.
-fn prepare_parts<C: CodeSource>(
+/// An empty row with room for the numbers of these names, for which there is room among the names of an account then.
+pub(crate) fn row_for(
     alloc: Global,
-    store: &mut Store<CellName>,
-    goals: &GoalTable<CellName>,
-    shoens: &ShoenTree<CellName>,
-    rules: Rules,
-    modules: &mut Modules<C>,
-    codes: &C,
     names: &mut AccountNames,
-    trial: &mut Trial<CellName>,
-    draft: &CodedModule<'_, C>,
-    changes: &mut Vec<Change>,
+    texts: &[AtomText],
 ) -> Result<Vec<CellName>, AllocError>
-    requires placed { ArePlaced (C.has codes.now) modules.old.loaded }
-    requires new { is_numbered modules.old.loaded (number_of draft.now) ≡ false }
-    requires goals { AreGoalsIn store.old.held goals.now.goals }
-    requires shoens { AreShoensIn store.old.held shoens.now.shoens }
-    ensures settles { OnOk result (Settles (record { rules = rules; loaded = modules.old.loaded }) draft.now shoens.now.shoens store.new.hooks store.old.held goals.now.goals changes.new.items) }
     ensures row { IfOk result (λ row. row.items ≡ []) }
-    ensures row_room { IfOk result (λ row. length (own_names draft.now.content) ≤ vec_capacity row) }
-    ensures modules { modules.new.loaded ≡ modules.old.loaded }
-    ensures module_room { OnOk result (0 < modules.new.room) }
+    ensures row_room { IfOk result (λ row. length texts.now ≤ vec_capacity row) }
+    ensures room { OnOk result (length texts.now ≤ names.new.room) }
     ensures names { names.new.names ≡ names.old.names }
-    ensures name_room { OnOk result (length (own_names draft.now.content) ≤ names.new.room) }
-    ensures held { store.new.held ≡ store.old.held }
-    ensures grown { HasGrown store.old store.new }
 {
-    changes.clear();
-    let coded = CodedModules::over(rules, modules, codes);
-    look_at_all(store, goals, shoens, &coded, draft, trial, changes)?;
-    let count = draft.code().names().len();
-    modules.reserve(1)?;
-    names.reserve(count)?;
-    Vec::with_capacity(alloc, count)
+    names.reserve(texts.len())?;
+    Vec::with_capacity(alloc, texts.len())
 }
 
-/// Like `prepare_parts`; on an error no hook is added.
-pub(crate) fn prepare<C: CodeSource>(
-    alloc: Global,
-    store: &mut Store<CellName>,
-    goals: &GoalTable<CellName>,
-    shoens: &ShoenTree<CellName>,
-    rules: Rules,
-    modules: &mut Modules<C>,
+/// Looks at all goals of a machine with a drafted module beside the others: an event begins, and each goal gets the clause by which it can
+/// step then. If memory is refused, the machine goes back.
+pub(crate) fn look_beside<C: CodeSource>(
+    machine: &mut Machine,
+    modules: &Modules<C>,
     codes: &C,
-    names: &mut AccountNames,
+    draft: &Loaded<C>,
     trial: &mut Trial<CellName>,
-    draft: &CodedModule<'_, C>,
-    changes: &mut Vec<Change>,
-) -> Result<Vec<CellName>, AllocError>
-    requires placed { ArePlaced (C.has codes.now) modules.old.loaded }
-    requires new { is_numbered modules.old.loaded (number_of draft.now) ≡ false }
-    requires goals { AreGoalsIn store.old.held goals.now.goals }
-    requires shoens { AreShoensIn store.old.held shoens.now.shoens }
-    ensures settles { OnOk result (Settles (record { rules = rules; loaded = modules.old.loaded }) draft.now shoens.now.shoens store.new.hooks store.old.held goals.now.goals changes.new.items) }
-    ensures row { IfOk result (λ row. row.items ≡ []) }
-    ensures row_room { IfOk result (λ row. length (own_names draft.now.content) ≤ vec_capacity row) }
-    ensures modules { modules.new.loaded ≡ modules.old.loaded }
-    ensures module_room { OnOk result (0 < modules.new.room) }
-    ensures names { names.new.names ≡ names.old.names }
-    ensures name_room { OnOk result (length (own_names draft.now.content) ≤ names.new.room) }
-    ensures held { store.new.held ≡ store.old.held }
-    ensures hooks { OnErr result (store.new.hooks ≡ store.old.hooks) }
+) -> Result<(), AllocError>
+    requires machine { IsMachine machine.old }
+    requires placed { ArePlaced (C.has codes.now) modules.now.loaded }
+    requires of { C.has codes.now draft.now.place }
+    requires new { is_numbered modules.now.loaded (number_of draft.now) ≡ false }
+    ensures ok { OnOk result (LooksBeside (record { rules = machine.old.rules; loaded = modules.now.loaded }) draft.now machine.old machine.new) }
+    ensures err { OnErr result (GoesBack machine.old machine.new) }
 {
-    let mark = store.mark();
-    match prepare_parts(
-        alloc, store, goals, shoens, rules, modules, codes, names, trial, draft, changes,
-    ) {
-        Ok(row) => Ok(row),
+    let coded = CodedModules::over(machine.rules, modules, codes);
+    let loaded = CodedModule::over(draft, codes);
+    machine.begin();
+    match machine.reschedule_for_load(&coded, &loaded, trial) {
+        Ok(()) => Ok(()),
         Err(memory) => {
-            store.back(mark);
+            machine.back();
             Err(memory)
         }
     }
 }
 
-/// Puts a drafted module after the others, under these numbers of its names, and each changed goal as it was found.
-pub(crate) fn install_module<C: CodeSource>(
-    goals: &mut GoalTable<CellName>,
+/// Puts a drafted module after the others, under these numbers of its names.
+pub(crate) fn push_module<C: CodeSource>(
     modules: &mut Modules<C>,
     codes: &C,
     mut draft: Loaded<C>,
     row: &[CellName],
-    changes: &[Change],
 )
     requires of { C.has codes.now draft.place }
     requires count { length row.now ≡ length (own_names draft.content) }
     requires room { 0 < modules.old.room }
     requires new { is_numbered modules.old.loaded (number_of (record draft { row = row.now })) ≡ false }
-    ensures goals { goals.new ≡ record goals.old { goals = restood changes.now goals.old.goals } }
     ensures modules { modules.new.loaded ≡ modules.old.loaded ++ record draft { row = row.now } ∷ [] }
 {
     draft.renumber(codes, row);
     modules.push(draft);
-    for change in changes {
-        goals.set_standing(change.number, change.standing);
-    }
 }

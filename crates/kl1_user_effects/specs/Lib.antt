@@ -15,5 +15,4 @@ pub mod Wholes
 pub mod Late
 pub mod Frames
 pub mod Outlines
-pub mod Leaving
 pub mod Reports

@@ -8,20 +8,21 @@ ghost use Rattle.kl1_model.specs.Step.{step};
 ghost use Rattle.kl1_store.specs.Held.{nothing_held, with_variable};
 ghost use Rattle.kl1_user_effects.specs.Account.{state_of};
 ghost use Rattle.kl1_user_effects.specs.Fitting.{Reading, Fits};
-ghost use Rattle.kl1_user_effects.specs.Naming.{AreSmall, IsNameList, Keeps};
-ghost use Rattle.kl1_user_account.specs.Beginning.{begun};
+ghost use Rattle.kl1_user_effects.specs.Naming.{AreSmall, Keeps};
+ghost use Rattle.kl1_user_account.specs.Beginning.{IsNameList, begun};
 
 use crate::account::Account;
 use crate::account_name::AccountName;
 use kl1_atoms::AtomSource;
 use kl1_codes::{CodeSource, Modules};
-use kl1_goals::{GoalTable, Rules};
+use kl1_goals::{GoalRow, Rules};
 use kl1_goals_moves::Trial;
+use kl1_machine::{Counts, Machine, PathScan};
 use kl1_match::Scratch;
 use kl1_shoen::ShoenTree;
 use kl1_store::Store;
 use kl1_text::{AtomText, CellName};
-use kl1_user_effects::{AccountNames, Draft, Walk, publish};
+use kl1_user_effects::{AccountNames, publish};
 use std::alloc::{AllocError, Global};
 use std::mem;
 
@@ -84,11 +85,11 @@ impl<C: CodeSource> Account<C> {
         requires { store.held ≡ with_variable nothing_held }
         ensures { self.new ≡ begun self.old.own_name self.old.rules self.old.names self.old.sessions }
     {
-        let names = mem::replace(&mut self.names, AccountNames::new(self.alloc));
+        let names = mem::replace(&mut self.machine.names, AccountNames::new(self.alloc));
         *self = Account::blank(
             self.alloc,
             self.name,
-            self.rules,
+            self.machine.rules,
             store,
             names,
             self.sessions,
@@ -110,25 +111,37 @@ impl<C: CodeSource> Account<C> {
         requires small { AreSmall names.names }
         ensures { result ≡ begun name rules names.names sessions }
     {
-        Account {
-            name,
-            store,
-            goals: GoalTable::new(alloc),
-            shoens: ShoenTree::new(alloc),
-            modules: Modules::new(alloc),
-            names,
-            rules,
+        let counts = Counts {
             last_goal: 0,
             variables: 0,
             nodes: 0,
             reports: 0,
+        };
+        let mark = store.mark();
+        let machine = Machine {
+            rules,
+            store,
+            goals: GoalRow::new(alloc),
+            shoens: ShoenTree::new(alloc),
+            names,
+            name: None,
+            spelled: None,
+            counts,
+            mark,
+            begun: counts,
+            told: Vec::new(alloc),
+            shifts: false,
+        };
+        Account {
+            name,
+            machine,
+            modules: Modules::new(alloc),
             entries: 0,
             run: 0,
             sessions,
             trial: Trial::new(alloc),
-            draft: Draft::new(alloc),
-            walk: Walk::new(alloc),
-            numbers: Vec::new(alloc),
+            scan: PathScan::new(alloc),
+            cells: Vec::new(alloc),
             scratch: Scratch::new(alloc),
             alloc,
         }

@@ -33,15 +33,21 @@ impl<C: CodeSource> Account<C> {
         ensures { IfOk result (λ views. (f : Reading) → views.items ≡ shoen_page (state_of f self.now) from count) }
     {
         // Only for the proof: the shoens are numbered in order.
-        let _numbered = self.shoens.len();
-        shoens_from(self.alloc, &self.shoens, &self.goals, from, count)
+        let _numbered = self.machine.shoens.len();
+        shoens_from(
+            self.alloc,
+            &self.machine.shoens,
+            &self.machine.goals,
+            from,
+            count,
+        )
     }
 
     /// What is shown of the goals with numbers from one on, of the first `count` of them.
     pub fn goals_from(&self, from: u64, count: usize) -> Result<Vec<GoalView>, AllocError>
         ensures { IfOk result (λ views. (f : Reading) → Fits self.now.names f → views.items ≡ goal_page (state_of f self.now) from count) }
     {
-        goals_from(self.alloc, &self.goals, from, count)
+        goals_from(self.alloc, &self.machine.goals, from, count)
     }
 
     /// The text of the goal of shoen `number`, as started, with what is bound now, cut or whole; `None` if the console started no shoen
@@ -59,11 +65,18 @@ impl<C: CodeSource> Account<C> {
         ensures keeps { Keeps A.is_of A.place A.knows A.published names.old names.new seat.old seat.new }
         ensures knows { A.knows seat.new ≡ self.now.names }
     {
-        match self.shoens.origin_at(number) {
+        match self.machine.shoens.origin_at(number) {
             None => Ok(None),
             Some(origin) => {
                 let most = most_of(extent);
-                let text = print_cell(self.alloc, names, seat, &self.store, origin.goal, most)?;
+                let text = print_cell(
+                    self.alloc,
+                    names,
+                    seat,
+                    &self.machine.store,
+                    origin.goal,
+                    most,
+                )?;
                 Ok(Some(text))
             }
         }
@@ -83,9 +96,16 @@ impl<C: CodeSource> Account<C> {
         ensures keeps { Keeps A.is_of A.place A.knows A.published names.old names.new seat.old seat.new }
         ensures knows { A.knows seat.new ≡ self.now.names }
     {
-        match self.goals.get(number) {
+        match self.machine.goals.get(number) {
             None => Ok(None),
-            Some(goal) => print_task(self.alloc, names, seat, &self.store, goal.task, extent),
+            Some(goal) => print_task(
+                self.alloc,
+                names,
+                seat,
+                &self.machine.store,
+                goal.task,
+                extent,
+            ),
         }
     }
 
@@ -95,11 +115,17 @@ impl<C: CodeSource> Account<C> {
         requires { ArePlaced (C.has codes.now) self.now.modules }
         ensures { IfOk result (λ awaited. (f : Reading) → Fits self.now.names f → AreAwaited (state_of f self.now) number (option_map (λ numbers. numbers.items) awaited)) }
     {
-        match self.goals.get(number) {
+        match self.machine.goals.get(number) {
             None => Ok(None),
             Some(goal) => {
-                let modules = CodedModules::over(self.rules, &self.modules, codes);
-                let awaited = awaited_by(self.alloc, &self.store, &self.shoens, &modules, &goal)?;
+                let modules = CodedModules::over(self.machine.rules, &self.modules, codes);
+                let awaited = awaited_by(
+                    self.alloc,
+                    &self.machine.store,
+                    &self.machine.shoens,
+                    &modules,
+                    &goal,
+                )?;
                 Ok(Some(awaited))
             }
         }
@@ -110,9 +136,9 @@ impl<C: CodeSource> Account<C> {
     pub fn presence(&self, number: u64, variable: u64, most: u64) -> Result<Presence, AllocError>
         ensures { IfOk result (λ presence. (f : Reading) → IsPresence variable most (goal_term (state_of f self.now) number) presence) }
     {
-        match self.goals.get(number) {
+        match self.machine.goals.get(number) {
             None => Ok(Presence::Absent),
-            Some(goal) => presence_of(self.alloc, &self.store, goal.task, variable, most),
+            Some(goal) => presence_of(self.alloc, &self.machine.store, goal.task, variable, most),
         }
     }
 
@@ -120,14 +146,14 @@ impl<C: CodeSource> Account<C> {
     pub fn usage(&self) -> Usage
         ensures { (f : Reading) → result ≡ usage_of (state_of f self.now) }
     {
-        let most = self.rules.limits();
+        let most = self.machine.rules.limits();
         Usage {
-            goals: used(self.goals.alive(), most.goals),
-            names: used(self.names.len() as u64, MOST_NAMES as u64),
-            shoens: used(self.shoens.len(), most.shoens),
-            variables: used(self.variables, most.variables),
-            structures: used(self.nodes, most.nodes),
-            reports: used(self.reports, most.reports),
+            goals: used(self.machine.goals.alive(), most.goals),
+            names: used(self.machine.names.len() as u64, MOST_NAMES as u64),
+            shoens: used(self.machine.shoens.len(), most.shoens),
+            variables: used(self.machine.counts.variables, most.variables),
+            structures: used(self.machine.counts.nodes, most.nodes),
+            reports: used(self.machine.counts.reports, most.reports),
             entries: used(self.entries, most.entries),
         }
     }

@@ -1,176 +1,164 @@
-use Rattle.std.proofs.Common.{◌≡◌, ℕ, suc, ◌+◌, List, [], length, refl, sym, ap, ap₂, ◌∙◌, arith, subst}
+use Rattle.std.proofs.Common.{◌≡◌, suc, List, [], length, refl, sym, ap, ◌∙◌, subst, arith}
+use Rattle.kl1_model.specs.declared.limits.Limits.{Limits}
 use Rattle.kl1_model.specs.Goal.{is_goal}
 use Rattle.kl1_model.specs.Meaning.{highest, is_numbered}
 use Rattle.kl1_model.specs.Nodes.{structures_of}
+use Rattle.kl1_model.specs.Answering.{answered}
+use Rattle.kl1_model.specs.State.{State}
+use Rattle.kl1_model.specs.Event.{sent, Transition}
 use Rattle.kl1_text.specs.declared.cell_name.CellName.{CellName}
-use Rattle.kl1_atoms.specs.declared.known.Known.{Known}
-use Rattle.kl1_atoms.specs.Names.{AreNames}
 use Rattle.kl1_user_effects.specs.Fitting.{Reading}
 use Rattle.kl1_user_effects.specs.Account.{Account, state_of}
+use Rattle.kl1_machine.specs.declared.machine.Machine.{Machine}
+use Rattle.kl1_machine.specs.Machines.{Trail}
+use Rattle.kl1_machine.specs.Exchanging.{AreSpared}
 use Rattle.kl1_user_account.specs.Accounts.{kept_in}
+use Rattle.kl1_user_account.specs.Keeping.{IsKept}
 use Rattle.kl1_user_account.specs.Starting.{HasNames}
-use Rattle.kl1_user_account.specs.Exchanging.{held_exchanged, AreSpared}
-use Rattle.kl1_user_account.proofs.ReducePut.{counts_entry, counts_as, few_more, low_limits}
-use Rattle.kl1_user_account.proofs.AnswerSteps.{right_goal, right_numbered, refused_by, answerable_by, few_published}
-use Rattle.kl1_user_account.proofs.Exchanges.{spared_count}
-use Rattle.kl1_user_account.proofs.AnswerKept.{is_put, draft_leaves, draft_fits, answer_kept, answer_step, refused_answer, variables_within, nodes_within}
+use Rattle.kl1_user_account.specs.Answering.{IsAnswerable}
+use Rattle.kl1_user_account.proofs.Counting.{counts_as}
+use Rattle.kl1_user_account.proofs.Machines.{Aside, account_of, roomed_same}
+use Rattle.kl1_user_account.proofs.AnswerSteps.{right_numbered, right_goal, refused_by, answerable_by, few_published}
+use Rattle.kl1_user_account.proofs.Bringing.{noted_is, IsPut, put_same, put_is, put_kept, put_counts}
+use Rattle.kl1_user_account.proofs.Answered.{refused_answer, few_variables, few_nodes, answered_steps}
 use Rattle.kl1_user_account.proofs.account.Account.answer.Goals as goal
 
 pub returns-in-Refused-clause-step : goal.returns-in-Refused-clause-step
-returns-in-Refused-clause-step g c =
+returns-in-Refused-clause-step g c = λ f fits.
     let u = c.self.inside in
     let a = kept_in u in
-    let at : (f : Reading) → HasNames (state_of f a) a.names c.counted-counted.result = λ f. (let H : Account → Type 0 = λ z. HasNames (state_of f z) z.names c.counted-counted.result in subst H (sym c.self.view_is) (c.counted-counted.ensures f)) in
-    λ f fits. refused_answer a c.args.self.now c.counted-counted.result c.args.number c.args.report c.args.goal.now c.in-Refused.refusal c.self.view_is (refused_by u.rules u.store.held u.shoens.shoens u.names.names c.counted-counted.result c.args.number c.args.report c.args.goal.now c.in_ok-answering.answering c.in-Refused.refusal c.in-Refused.is c.in_ok-answering.ensures) at f fits.reads
+    let H : Account → Type 0 = λ z. (f : Reading) → HasNames (state_of f z) z.names c.counted-counted.result in
+    refused_answer a c.args.self.now c.counted-counted.result c.args.number c.args.report c.args.goal.now c.in-Refused.refusal c.self.view_is
+    (refused_by a.rules a.held a.shoens a.names c.counted-counted.result c.args.number c.args.report c.args.goal.now c.in_ok-answering.answering c.in-Refused.refusal c.in-Refused.is c.in_ok-answering.ensures)
+    (subst H (sym c.self.view_is) c.counted-counted.ensures) f fits.reads
 
-pub overflow_add-self-inside : goal.overflow_add-self-inside
-overflow_add-self-inside g c =
-    let u = c.self.inside in
-    let a = kept_in u in
-    let at : (f : Reading) → HasNames (state_of f a) a.names c.counted-counted.result = λ f. (let H : Account → Type 0 = λ z. HasNames (state_of f z) z.names c.counted-counted.result in subst H (sym c.self.view_is) (c.counted-counted.ensures f)) in
-    let may = answerable_by u.rules u.store.held u.shoens.shoens u.names.names c.counted-counted.result c.args.number c.args.report c.args.goal.now c.in-Coded.code c.in-Coded.variable c.in_ok-answering.answering c.in-Coded.is c.in_ok-answering.ensures in
-    let within = variables_within c.counted-counted.result (highest c.args.goal.now) (structures_of c.args.goal.now) may.keeps in
-    let top = c.highest.ensures in
-    let same : u.variables ≡ c.counted-counted.result.variables = (at (λ x. [])).variables_are in
-    let low = (low_limits u.rules c.counted-counted.result.most (sym (at (λ x. [])).most_are)).variables in
-    omega (arith, within, top, same, low)
-
-pub overflow_add-self-inside-2 : goal.overflow_add-self-inside-2
-overflow_add-self-inside-2 g c =
-    let u = c.self.inside in
-    let a = kept_in u in
-    let at : (f : Reading) → HasNames (state_of f a) a.names c.counted-counted.result = λ f. (let H : Account → Type 0 = λ z. HasNames (state_of f z) z.names c.counted-counted.result in subst H (sym c.self.view_is) (c.counted-counted.ensures f)) in
-    let may = answerable_by u.rules u.store.held u.shoens.shoens u.names.names c.counted-counted.result c.args.number c.args.report c.args.goal.now c.in-Coded.code c.in-Coded.variable c.in_ok-answering.answering c.in-Coded.is c.in_ok-answering.ensures in
-    let within = nodes_within c.counted-counted.result (highest c.args.goal.now) (structures_of c.args.goal.now) may.keeps in
-    let all = c.structures_of.ensures in
-    let same : u.nodes ≡ c.counted-counted.result.nodes = (at (λ x. [])).nodes_are in
-    let low = (low_limits u.rules c.counted-counted.result.most (sym (at (λ x. [])).most_are)).nodes in
-    omega (arith, within, all, same, low)
-
-pub note_entry-requires : goal.note_entry-requires
-note_entry-requires g c = few_more c.self.inside.rules c.self.inside.entries c.self.invariant.0.most
-
-pub draft_answer-drafted-requires-clause-some : goal.draft_answer-drafted-requires-clause-some
-draft_answer-drafted-requires-clause-some g c =
-    c.self.invariant.0.some
-
-pub draft_answer-drafted-requires-clause-goals : goal.draft_answer-drafted-requires-clause-goals
-draft_answer-drafted-requires-clause-goals g c =
-    c.self.invariant.0.goals
-
-pub draft_answer-drafted-requires-clause-order : goal.draft_answer-drafted-requires-clause-order
-draft_answer-drafted-requires-clause-order g c =
-    c.shoens-ordered.ensures.order
-
-pub draft_answer-drafted-requires-clause-first : goal.draft_answer-drafted-requires-clause-first
-draft_answer-drafted-requires-clause-first g c =
-    c.self.invariant.0.first
-
-pub draft_answer-drafted-requires-clause-shoens : goal.draft_answer-drafted-requires-clause-shoens
-draft_answer-drafted-requires-clause-shoens g c =
-    c.self.invariant.0.shoens
-
-pub draft_answer-drafted-requires-clause-unbound : goal.draft_answer-drafted-requires-clause-unbound
-draft_answer-drafted-requires-clause-unbound g c =
-    let u = c.self.inside in
-    let a = kept_in u in
-    let may = answerable_by u.rules u.store.held u.shoens.shoens u.names.names c.counted-counted.result c.args.number c.args.report c.args.goal.now c.in-Coded.code c.in-Coded.variable c.in_ok-answering.answering c.in-Coded.is c.in_ok-answering.ensures in
-    may.unbound
-
-pub draft_answer-drafted-requires-clause-goal : goal.draft_answer-drafted-requires-clause-goal
-draft_answer-drafted-requires-clause-goal g c =
-    let u = c.self.inside in
-    let a = kept_in u in
-    let may = answerable_by u.rules u.store.held u.shoens.shoens u.names.names c.counted-counted.result c.args.number c.args.report c.args.goal.now c.in-Coded.code c.in-Coded.variable c.in_ok-answering.answering c.in-Coded.is c.in_ok-answering.ensures in
+pub answer-answered-requires-clause-goal : goal.answer-answered-requires-clause-goal
+answer-answered-requires-clause-goal g c =
+    let a = kept_in c.self.inside in
+    let may = answerable_by a.rules a.held a.shoens a.names c.counted-counted.result c.args.number c.args.report c.args.goal.now c.in-Coded.code c.in-Coded.variable c.in_ok-answering.answering c.in-Coded.is c.in_ok-answering.ensures in
     ap is_goal may.code_is ∙ right_goal c.args.number c.args.report c.args.goal.now may.may
 
-pub draft_answer-drafted-requires-clause-numbered : goal.draft_answer-drafted-requires-clause-numbered
-draft_answer-drafted-requires-clause-numbered g c =
-    let u = c.self.inside in
-    let a = kept_in u in
-    let may = answerable_by u.rules u.store.held u.shoens.shoens u.names.names c.counted-counted.result c.args.number c.args.report c.args.goal.now c.in-Coded.code c.in-Coded.variable c.in_ok-answering.answering c.in-Coded.is c.in_ok-answering.ensures in
+pub answer-answered-requires-clause-numbered : goal.answer-answered-requires-clause-numbered
+answer-answered-requires-clause-numbered g c =
+    let a = kept_in c.self.inside in
+    let may = answerable_by a.rules a.held a.shoens a.names c.counted-counted.result c.args.number c.args.report c.args.goal.now c.in-Coded.code c.in-Coded.variable c.in_ok-answering.answering c.in-Coded.is c.in_ok-answering.ensures in
     ap is_numbered may.code_is ∙ right_numbered c.args.number c.args.report c.args.goal.now may.may
 
-pub draft_answer-drafted-requires-clause-count : goal.draft_answer-drafted-requires-clause-count
-draft_answer-drafted-requires-clause-count g c =
-    let u = c.self.inside in
-    let a = kept_in u in
-    let may = answerable_by u.rules u.store.held u.shoens.shoens u.names.names c.counted-counted.result c.args.number c.args.report c.args.goal.now c.in-Coded.code c.in-Coded.variable c.in_ok-answering.answering c.in-Coded.is c.in_ok-answering.ensures in
-    c.highest-2.ensures ∙ sym (ap highest may.code_is)
+pub answer-answered-requires-clause-variables : goal.answer-answered-requires-clause-variables
+answer-answered-requires-clause-variables g c =
+    let a = kept_in c.self.inside in
+    let may = answerable_by a.rules a.held a.shoens a.names c.counted-counted.result c.args.number c.args.report c.args.goal.now c.in-Coded.code c.in-Coded.variable c.in_ok-answering.answering c.in-Coded.is c.in_ok-answering.ensures in
+    c.highest.ensures ∙ sym (ap highest may.code_is)
 
-pub publish-requires-clause-few : goal.publish-requires-clause-few
-publish-requires-clause-few g c =
-    let u = c.self.inside in
-    let a = kept_in u in
-    let may = answerable_by u.rules u.store.held u.shoens.shoens u.names.names c.counted-counted.result c.args.number c.args.report c.args.goal.now c.in-Coded.code c.in-Coded.variable c.in_ok-answering.answering c.in-Coded.is c.in_ok-answering.ensures in
-    few_published u.names.names c.draft_answer-drafted.new.names.names c.args.goal.now c.in-Coded.code c.names-texts.result.now may.code_is c.names-texts.ensures.value c.draft_answer-drafted.ensures.names may.few
+pub answer-answered-requires-clause-nodes : goal.answer-answered-requires-clause-nodes
+answer-answered-requires-clause-nodes g c =
+    let a = kept_in c.self.inside in
+    let may = answerable_by a.rules a.held a.shoens a.names c.counted-counted.result c.args.number c.args.report c.args.goal.now c.in-Coded.code c.in-Coded.variable c.in_ok-answering.answering c.in-Coded.is c.in_ok-answering.ensures in
+    c.structures_of.ensures ∙ sym (ap structures_of may.code_is)
 
-pub install-requires : goal.install-requires
-install-requires g c =
-    let u = c.self.inside in
-    let a = kept_in u in
-    draft_fits a (u.variables + c.highest.result) (u.nodes + c.structures_of.result) c.begin_draft.new.draft c.draft_answer-drafted.new.draft c.begin_draft.ensures c.draft_answer-drafted.ensures.rest u.goals.goals u.goals.shoens u.goals.room u.goals.shoen_room
+pub answer-answered-requires-clause-few : goal.answer-answered-requires-clause-few
+answer-answered-requires-clause-few g c =
+    let a = kept_in c.self.inside in
+    let counted = c.counted-counted.result in
+    let may = answerable_by a.rules a.held a.shoens a.names counted c.args.number c.args.report c.args.goal.now c.in-Coded.code c.in-Coded.variable c.in_ok-answering.answering c.in-Coded.is c.in_ok-answering.ensures in
+    let H : Account → Type 0 = λ z. HasNames (state_of (λ x. []) z) z.names counted in
+    let at = subst H (sym c.self.view_is) (c.counted-counted.ensures (λ x. [])) in
+    few_variables a.rules counted c.args.goal.now c.begin.new.self.counts.variables c.highest.result at.most_are (ap (λ (z : Machine). z.counts.variables) c.begin.ensures.same ∙ at.variables_are) c.highest.ensures may.keeps
 
-pub exchange-requires-clause-length : goal.exchange-requires-clause-length
-exchange-requires-clause-length g c =
-    let spares = c.draft_answer-drafted.new.spares.items in
-    let T : List (List ℕ) → Type 0 = λ ts. AreSpared c.self.inside.names.names 0 ts spares in
-    let many : length spares ≡ length c.names-texts.result.now = spared_count _ 0 c.names-texts.result.now spares (subst T (sym c.names-texts.ensures.value) c.in-Ok.ensures.ok.spared) in
-    ap length c.as_slice-2.ensures.value ∙ c.publish.ensures.count ∙ sym (ap length c.as_slice.ensures.value ∙ many)
+pub answer-answered-requires-clause-small : goal.answer-answered-requires-clause-small
+answer-answered-requires-clause-small g c =
+    let a = kept_in c.self.inside in
+    let counted = c.counted-counted.result in
+    let may = answerable_by a.rules a.held a.shoens a.names counted c.args.number c.args.report c.args.goal.now c.in-Coded.code c.in-Coded.variable c.in_ok-answering.answering c.in-Coded.is c.in_ok-answering.ensures in
+    let H : Account → Type 0 = λ z. HasNames (state_of (λ x. []) z) z.names counted in
+    let at = subst H (sym c.self.view_is) (c.counted-counted.ensures (λ x. [])) in
+    few_nodes a.rules counted c.args.goal.now c.begin.new.self.counts.nodes c.structures_of.result at.most_are (ap (λ (z : Machine). z.counts.nodes) c.begin.ensures.same ∙ at.nodes_are) c.structures_of.ensures may.keeps
 
-pub exchange-requires-clause-room : goal.exchange-requires-clause-room
-exchange-requires-clause-room g c =
-    let spares = c.draft_answer-drafted.new.spares.items in
-    let T : List (List ℕ) → Type 0 = λ ts. AreSpared c.self.inside.names.names 0 ts spares in
-    let many : length spares ≡ length c.names-texts.result.now = spared_count _ 0 c.names-texts.result.now spares (subst T (sym c.names-texts.ensures.value) c.in-Ok.ensures.ok.spared) in
-    let same : length c.as_slice.result.now ≡ length spares = ap length c.as_slice.ensures.value in
-    omega (arith, c.in_ok-row.ensures.room, same, many)
+pub publish_names-requires-clause-few : goal.publish_names-requires-clause-few
+publish_names-requires-clause-few g c =
+    let a = kept_in c.self.inside in
+    let may = answerable_by a.rules a.held a.shoens a.names c.counted-counted.result c.args.number c.args.report c.args.goal.now c.in-Coded.code c.in-Coded.variable c.in_ok-answering.answering c.in-Coded.is c.in_ok-answering.ensures in
+    let last = c.answer-answered.new.self.names.names in
+    let same : last ≡ a.names = ap (λ (t : Trail). t.names.names) c.answer-answered.ensures.keeps.trail ∙ ap (λ (z : Machine). z.names.names) c.begin.ensures.same ∙ c.rows_for.ensures.names in
+    few_published a.names last c.args.goal.now c.in-Coded.code c.names-texts.result.now may.code_is c.names-texts.ensures.value same may.few
 
 pub invariant_of-self-2 : goal.invariant_of-self-2
 invariant_of-self-2 g c =
     let u = c.self.inside in
+    let m = u.machine in
     let a = kept_in u in
-    let at : (f : Reading) → HasNames (state_of f a) a.names c.counted-counted.result = λ f. (let H : Account → Type 0 = λ z. HasNames (state_of f z) z.names c.counted-counted.result in subst H (sym c.self.view_is) (c.counted-counted.ensures f)) in
-    let may = answerable_by u.rules u.store.held u.shoens.shoens u.names.names c.counted-counted.result c.args.number c.args.report c.args.goal.now c.in-Coded.code c.in-Coded.variable c.in_ok-answering.answering c.in-Coded.is c.in_ok-answering.ensures in
-    let d = c.draft_answer-drafted.new.draft in
-    let old = u.store in
-    let new = c.draft_answer-drafted.new.store in
-    let known = c.draft_answer-drafted.new.names.names in
-    let more = c.publish.new.known.names in
-    let spares = c.draft_answer-drafted.new.spares.items in
-    let numbers = c.publish.new.row.items in
+    let w : Machine = record m { names = c.rows_for.new.names } in
+    let counted = c.counted-counted.result in
+    let code = c.in-Coded.code in
+    let x : Aside = record { own_name = u.name; modules = u.modules.loaded; entries = u.entries; run = u.run; sessions = u.sessions } in
+    let may = answerable_by a.rules a.held a.shoens a.names counted c.args.number c.args.report c.args.goal.now code c.in-Coded.variable c.in_ok-answering.answering c.in-Coded.is c.in_ok-answering.ensures in
+    let H : Account → Type 0 = λ z. HasNames (state_of (λ y. []) z) z.names counted in
+    let at = subst H (sym c.self.view_is) (c.counted-counted.ensures (λ y. [])) in
+    let room = may.room in
+    let have = at.entries_are in
+    let most = ap (λ (l : Limits). l.entries) at.most_are in
+    let change : State → State = answered c.in-Coded.variable code in
     let texts = c.names-texts.result.now in
-    let vs : u.variables + c.highest.result ≡ u.variables + highest c.args.goal.now = ap (λ m. u.variables + m) c.highest.ensures in
-    let ns : u.nodes + c.structures_of.result ≡ u.nodes + structures_of c.args.goal.now = ap (λ m. u.nodes + m) c.structures_of.ensures in
-    let one : AreNames more = (let N : List Known → Type 0 = λ ks. AreNames ks in subst N c.publish.ensures.knows (g.met.A.AtomSource.one_to_one c.publish.new.names c.publish.new.seat c.publish.ensures.keeps.of)) in
-    let p = is_put a c.args.number c.args.report c.in-Coded.variable c.args.goal.now c.in-Coded.code c.counted-counted.result spares numbers texts known more old new (u.variables + c.highest.result) (u.nodes + c.structures_of.result) c.begin_draft.new.draft d
-    refl may (rw c.over.ensures at c.in-Ok.ensures.ok) c.draft_answer-drafted.ensures.grown.held c.names-texts.ensures.value c.names-texts.ensures.names c.draft_answer-drafted.ensures.names c.publish.ensures.texts c.publish.ensures.row c.publish.ensures.fits one c.publish.ensures.small c.begin_draft.ensures c.draft_answer-drafted.ensures.rest vs ns in
-    let held = c.exchange.ensures.held ∙ ap₂ (λ (xs ys : List CellName). held_exchanged xs ys new.held) c.as_slice.ensures.value c.as_slice-2.ensures.value in
-    let goals = c.install.ensures.goals ∙ draft_leaves a (u.variables + c.highest.result) (u.nodes + c.structures_of.result) c.begin_draft.new.draft d c.begin_draft.ensures c.draft_answer-drafted.ensures.rest c.self.invariant.0.first in
-    let w = counts_entry (length u.shoens.work) u.entries u.run c.self.invariant.1 in (
-      answer_kept a u.store.hooks c.exchange.new.store.hooks u.goals.shoens c.install.new.goals.shoens c.args.number c.args.report c.in-Coded.variable c.args.goal.now c.in-Coded.code c.counted-counted.result spares numbers more old new d c.exchange.new.store.held c.install.new.goals.goals d.variables d.nodes c.note_entry.new.entries c.note_entry.new.run c.self.invariant.0 p at refl held goals refl refl c.note_entry.ensures.entries c.note_entry.ensures.run c.exchange.ensures.hooks c.install.ensures.count,
-      counts_as (length u.shoens.work) (suc u.entries) c.note_entry.new.entries 0 c.note_entry.new.run c.note_entry.ensures.entries c.note_entry.ensures.run w,
+    let spares = c.as_slice-spares.result.now in
+    let numbers = c.publish_names.new.numbers.items in
+    let A : List CellName → Type 0 = λ cs. AreSpared m.names.names 0 texts cs in
+    let p : IsPut x change code texts spares numbers m w c.begin.new.self c.answer-answered.new.self c.publish_names.new.self = record {
+      kept = c.self.invariant.0;
+      roomed = roomed_same m w refl c.rows_for.ensures.names;
+      begins = c.begin.ensures.same;
+      brings = c.in-Ok.ensures.ok;
+      rested = rw c.over-modules.ensures at c.in-Ok.ensures.rested;
+      keeps = c.answer-answered.ensures.keeps;
+      spared = subst A (sym c.as_slice-spares.ensures.value) c.in_ok-rows.ensures.rows.spared;
+      texts_are = c.names-texts.ensures.value;
+      list = c.names-texts.ensures.names;
+      published = c.publish_names.ensures.published;
+      room = omega (arith, room, have, most);
+    } in
+    let n = c.publish_names.new.self in
+    let K : Aside → Type 0 = λ y. IsKept (account_of y n) n.store.hooks n.goals.shoens in (
+      subst K (sym (noted_is x c.note_entry.new.entries c.note_entry.new.run c.note_entry.ensures.entries c.note_entry.ensures.run)) (put_kept x change code texts spares numbers m w c.begin.new.self c.answer-answered.new.self n p),
+      counts_as (length n.shoens.work) (suc u.entries) c.note_entry.new.entries 0 c.note_entry.new.run c.note_entry.ensures.entries c.note_entry.ensures.run (put_counts x change code texts spares numbers m w c.begin.new.self c.answer-answered.new.self n p c.self.invariant.1),
     )
 
 pub returns-clause-step : goal.returns-clause-step
 returns-clause-step g c =
     let u = c.self.inside in
+    let m = u.machine in
     let a = kept_in u in
-    let at : (f : Reading) → HasNames (state_of f a) a.names c.counted-counted.result = λ f. (let H : Account → Type 0 = λ z. HasNames (state_of f z) z.names c.counted-counted.result in subst H (sym c.self.view_is) (c.counted-counted.ensures f)) in
-    let may = answerable_by u.rules u.store.held u.shoens.shoens u.names.names c.counted-counted.result c.args.number c.args.report c.args.goal.now c.in-Coded.code c.in-Coded.variable c.in_ok-answering.answering c.in-Coded.is c.in_ok-answering.ensures in
-    let d = c.draft_answer-drafted.new.draft in
-    let old = u.store in
-    let new = c.draft_answer-drafted.new.store in
-    let known = c.draft_answer-drafted.new.names.names in
-    let more = c.publish.new.known.names in
-    let spares = c.draft_answer-drafted.new.spares.items in
-    let numbers = c.publish.new.row.items in
+    let w : Machine = record m { names = c.rows_for.new.names } in
+    let counted = c.counted-counted.result in
+    let code = c.in-Coded.code in
+    let x : Aside = record { own_name = u.name; modules = u.modules.loaded; entries = u.entries; run = u.run; sessions = u.sessions } in
+    let may = answerable_by a.rules a.held a.shoens a.names counted c.args.number c.args.report c.args.goal.now code c.in-Coded.variable c.in_ok-answering.answering c.in-Coded.is c.in_ok-answering.ensures in
+    let H : Account → Type 0 = λ z. HasNames (state_of (λ y. []) z) z.names counted in
+    let at = subst H (sym c.self.view_is) (c.counted-counted.ensures (λ y. [])) in
+    let room = may.room in
+    let have = at.entries_are in
+    let most = ap (λ (l : Limits). l.entries) at.most_are in
+    let change : State → State = answered c.in-Coded.variable code in
     let texts = c.names-texts.result.now in
-    let vs : u.variables + c.highest.result ≡ u.variables + highest c.args.goal.now = ap (λ m. u.variables + m) c.highest.ensures in
-    let ns : u.nodes + c.structures_of.result ≡ u.nodes + structures_of c.args.goal.now = ap (λ m. u.nodes + m) c.structures_of.ensures in
-    let one : AreNames more = (let N : List Known → Type 0 = λ ks. AreNames ks in subst N c.publish.ensures.knows (g.met.A.AtomSource.one_to_one c.publish.new.names c.publish.new.seat c.publish.ensures.keeps.of)) in
-    let p = is_put a c.args.number c.args.report c.in-Coded.variable c.args.goal.now c.in-Coded.code c.counted-counted.result spares numbers texts known more old new (u.variables + c.highest.result) (u.nodes + c.structures_of.result) c.begin_draft.new.draft d
-    refl may (rw c.over.ensures at c.in-Ok.ensures.ok) c.draft_answer-drafted.ensures.grown.held c.names-texts.ensures.value c.names-texts.ensures.names c.draft_answer-drafted.ensures.names c.publish.ensures.texts c.publish.ensures.row c.publish.ensures.fits one c.publish.ensures.small c.begin_draft.ensures c.draft_answer-drafted.ensures.rest vs ns in
-    let held = c.exchange.ensures.held ∙ ap₂ (λ (xs ys : List CellName). held_exchanged xs ys new.held) c.as_slice.ensures.value c.as_slice-2.ensures.value in
-    let goals = c.install.ensures.goals ∙ draft_leaves a (u.variables + c.highest.result) (u.nodes + c.structures_of.result) c.begin_draft.new.draft d c.begin_draft.ensures c.draft_answer-drafted.ensures.rest c.self.invariant.0.first in
-    answer_step a c.args.self.now u.store.hooks u.goals.shoens c.args.number c.args.report c.in-Coded.variable c.args.goal.now c.in-Coded.code c.counted-counted.result spares numbers more old new d c.exchange.new.store.held c.install.new.goals.goals d.variables d.nodes c.note_entry.new.entries c.note_entry.new.run c.self.view_is c.self.invariant.0 p at held goals refl refl c.note_entry.ensures.entries c.note_entry.ensures.run
+    let spares = c.as_slice-spares.result.now in
+    let numbers = c.publish_names.new.numbers.items in
+    let A : List CellName → Type 0 = λ cs. AreSpared m.names.names 0 texts cs in
+    let p : IsPut x change code texts spares numbers m w c.begin.new.self c.answer-answered.new.self c.publish_names.new.self = record {
+      kept = c.self.invariant.0;
+      roomed = roomed_same m w refl c.rows_for.ensures.names;
+      begins = c.begin.ensures.same;
+      brings = c.in-Ok.ensures.ok;
+      rested = rw c.over-modules.ensures at c.in-Ok.ensures.rested;
+      keeps = c.answer-answered.ensures.keeps;
+      spared = subst A (sym c.as_slice-spares.ensures.value) c.in_ok-rows.ensures.rows.spared;
+      texts_are = c.names-texts.ensures.value;
+      list = c.names-texts.ensures.names;
+      published = c.publish_names.ensures.published;
+      room = omega (arith, room, have, most);
+    } in
+    let b = c.begin.new.self in
+    let r = c.answer-answered.new.self in
+    let n = c.publish_names.new.self in
+    let S : Account → Type 0 = λ z. IsAnswerable z.rules z.held z.shoens z.names counted c.args.number c.args.report c.args.goal.now code c.in-Coded.variable in
+    let R : Reading → Aside → Transition = λ f y. record { state = state_of f (account_of y n); reply = sent } in
+    λ f fits.
+    answered_steps x counted c.args.number c.args.report c.in-Coded.variable c.args.goal.now code spares numbers b r n c.args.self.now ((put_same x change code texts spares numbers m w b r n p).account x ∙ c.self.view_is) (put_is x change code texts spares numbers m w b r n p) c.counted-counted.ensures (subst S c.self.view_is may) f fits fits.reads
+    ∙ ap (R f) (sym (noted_is x c.note_entry.new.entries c.note_entry.new.run c.note_entry.ensures.entries c.note_entry.ensures.run))

@@ -1,6 +1,6 @@
 use Rattle.std.proofs.Common.{refl}
 use Rattle.kl1_user_account.specs.Accounts.{kept_in}
-use Rattle.kl1_user_account.proofs.StartSettled.{counts}
+use Rattle.kl1_user_account.proofs.Counting.{counts}
 use Rattle.kl1_user_account.proofs.account.Account.counted.Goals as goal
 
 pub returns : goal.returns

@@ -7,12 +7,12 @@ use Rattle.kl1_user_events.specs.Viewing.{goal_text, term_in, text_of}
 use Rattle.kl1_user_effects.specs.Fitting.{Reading, Fits}
 use Rattle.kl1_user_effects.specs.Account.{Account, meaning, task_with, state_of}
 use Rattle.kl1_user_account.specs.Accounts.{kept_in}
-use Rattle.kl1_user_account.proofs.Told.{task_in}
+use Rattle.kl1_user_account.proofs.Goals.{task_in}
 use Rattle.kl1_user_account.proofs.Texts.{task_named, no_text, some_text}
 use Rattle.kl1_user_account.proofs.account.Account.goal_text.Goals as goal
 
 pub print_task-requires-clause-task : goal.print_task-requires-clause-task
-print_task-requires-clause-task g c = task_in c.self.inside.store.held (has_number c.args.number) c.self.inside.goals.goals c.in-Some.goal c.self.invariant.0.goals c.in-Some.ensures.goal
+print_task-requires-clause-task g c = task_in c.self.inside.machine.store.held (has_number c.args.number) c.self.inside.machine.goals.goals c.in-Some.goal c.self.invariant.0.goals c.in-Some.ensures.goal
 
 pub print_task-requires-clause-named : goal.print_task-requires-clause-named
 print_task-requires-clause-named g c =
@@ -31,7 +31,7 @@ returns-in-Some-clause-text g c =
     let u = c.self.inside in
     let x = c.in-Some.goal in
     let ks = g.A.AtomSource.knows c.args.seat.now in
-    IfOk-weaker c.print_task.result (λ shown. (f : Reading) → Fits ks f → option_map (λ text. text.items) shown ≡ option_map (text_of c.args.extent) (term_in (task_with (meaning f u.store.held) x.task)))
+    IfOk-weaker c.print_task.result (λ shown. (f : Reading) → Fits ks f → option_map (λ text. text.items) shown ≡ option_map (text_of c.args.extent) (term_in (task_with (meaning f u.machine.store.held) x.task)))
     (λ shown. (f : Reading) → Fits c.args.self.now.names f → option_map (λ text. text.items) shown ≡ goal_text c.args.extent (state_of f c.args.self.now) c.args.number)
     (λ shown is f fits.
     let F : List Known → Type 0 = λ ns. Fits ns f in

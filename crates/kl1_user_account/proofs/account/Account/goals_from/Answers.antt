@@ -14,7 +14,7 @@ pub returns : goal.returns
 returns g c =
     let u = c.self.inside in
     let i = c.self.invariant.0 in
-    IfOk-weaker c.goals_from.result (λ views. views.items ≡ map goal_shown (take c.args.count (filter (is_after (c.args.from - 1)) u.goals.goals))) (λ views. (f : Reading) → Fits c.args.self.now.names f → views.items ≡ goal_page (state_of f c.args.self.now) c.args.from c.args.count)
+    IfOk-weaker c.goals_from.result (λ views. views.items ≡ map goal_shown (take c.args.count (filter (is_after (c.args.from - 1)) u.machine.goals.goals))) (λ views. (f : Reading) → Fits c.args.self.now.names f → views.items ≡ goal_page (state_of f c.args.self.now) c.args.from c.args.count)
     (λ views e f fits.
     let F : Account → Type 0 = λ z. Fits z.names f in
-    goals_shown f (kept_in u) c.args.self.now u.store.hooks c.args.from c.args.count views.items c.self.view_is (i.settled f (subst F (sym c.self.view_is) fits)) i.enabled i.first e) c.goals_from.ensures
+    goals_shown f (kept_in u) c.args.self.now u.machine.store.hooks c.args.from c.args.count views.items c.self.view_is (i.settled f (subst F (sym c.self.view_is) fits)) i.enabled i.first e) c.goals_from.ensures

@@ -1,0 +1,224 @@
+-- What messages to shoens do to a machine, and what monitors read.
+use Rattle.std.proofs.Common.{◌≡◌, ℕ, suc, ◌+◌, ◌-◌, ◌<◌, ◌≤◌, ◌==◌, not, ◌&&◌, ◌||◌, Bool, true, false, if◌then◌else◌, List, [], ◌∷◌, length, map, drop, get_or, refl, sym, ap, ap₂, ◌∙◌, subst}
+use Rattle.std.specs.Prelude.{find, Option, Some, option_map}
+use Rattle.std.specs.List.{filter}
+use Rattle.std.proofs.lemmas.List.{drop_more, drop_all}
+use Rattle.kl1_model.specs.declared.life.Life.TheVariants.{Aborted}
+use Rattle.kl1_model.specs.Module.{is_among}
+use Rattle.kl1_model.specs.State as model
+use Rattle.kl1_model.specs.State.{State, change_shoen, is_living}
+use Rattle.kl1_model.specs.Tree.{path_within}
+use Rattle.kl1_model.specs.Report.{report, close, exception, illegal_input, stopped_report, resumed_report, aborted_report}
+use Rattle.kl1_model.specs.Ending.{without_monitor, ended_below}
+use Rattle.kl1_model.specs.declared.message.Message.TheVariants.{Stop, Start, Abort, Allow}
+use Rattle.kl1_model.specs.declared.message.Message.{Message}
+use Rattle.kl1_model.specs.Control.{tells, tells_other, breaks_off}
+use Rattle.kl1_model.specs.Reduction.{obeyed, heard, with_control}
+use Rattle.kl1_model.specs.code.Steps as steps
+use Rattle.kl1_model.specs.code.Steps.{stopped_of, resumed_of, allowed_more}
+use Rattle.kl1_text.specs.declared.cell_name.CellName.{CellName}
+use Rattle.kl1_store.specs.declared.cell.Cell.{Cell}
+use Rattle.kl1_store.specs.Held.{Held, IsIn}
+use Rattle.kl1_goals.specs.declared.goal.Goal.{Goal}
+use Rattle.kl1_goals.specs.Lists.{is_in, is_monitor_of}
+use Rattle.kl1_shoen_paths.specs.declared.shoen.Shoen.{Shoen}
+use Rattle.kl1_shoen.specs.Shoens.{has_number, changed, is_on_path_in, aborted_below_in, AreBelow}
+use Rattle.kl1_user_effects.specs.Account.{Means, meaning, goal_with, shoen_with}
+use Rattle.kl1_user_effects.specs.Drafts.{is_of_any}
+use Rattle.kl1_user_effects.specs.Works.{worked}
+use Rattle.kl1_user_effects.proofs.Below.{below_tells}
+use Rattle.kl1_user_effects.proofs.Effects.{halted, allowing, controlled}
+use Rattle.kl1_user_effects.proofs.Goals.{all_stay, below_read}
+use Rattle.kl1_user_effects.proofs.Walking.{parents_read, path_read}
+use Rattle.kl1_user_effects.proofs.Works.{finds, changes}
+use Rattle.kl1_machine.specs.declared.machine.Machine.{Machine}
+use Rattle.kl1_machine.specs.Machines.{made, IsMachine}
+use Rattle.kl1_machine.specs.Effects.{Becomes, TurnsAs, having_goals, having_shoens, shifting_shoens}
+use Rattle.kl1_machine.proofs.Ending.{as_then, as_same, as_none, changed_as, unmonitored}
+
+-- ---- a shoen that is stopped, or goes on
+
+-- what a shoen that is found leads to
+found_as : (after : Option model.Shoen → State → State) (m n : Machine) (k : ℕ) (o : Option (Shoen CellName)) → find (has_number k) m.shoens.shoens ≡ o → TurnsAs (λ f. after (option_map (shoen_with (meaning f m.store.held)) o)) m n →
+    TurnsAs (λ f s. after (model.shoen_at k s.shoens) s) m n
+found_as after m n k o is p =
+    let h = m.store.held in
+    as_same (λ f. after (option_map (shoen_with (meaning f h)) o)) (λ f s. after (model.shoen_at k s.shoens) s) m n
+    (λ f s. ap (λ (x : Option model.Shoen). after x (worked f s h (made m))) (finds s (meaning f h) (h.variables - 1) (made m) k o is)) p
+
+-- one for which a message does nothing
+pub unmoved : (after : Option model.Shoen → State → State) (m : Machine) (k : ℕ) (o : Option (Shoen CellName)) → IsMachine m → find (has_number k) m.shoens.shoens ≡ o → ((t : Means) (s : State) → after (option_map (shoen_with t) o) s ≡ s) →
+    TurnsAs (λ f s. after (model.shoen_at k s.shoens) s) m m
+unmoved after m k o i is same =
+    let h = m.store.held in
+    found_as after m m k o is (as_same (λ f s. s) (λ f. after (option_map (shoen_with (meaning f h)) o)) m m (λ f s. same (meaning f h) (worked f s h (made m))) (as_none m i))
+
+-- one that is halted, or no longer
+halts : (b : Bool) (m n : Machine) (k : ℕ) → IsMachine m → Becomes (shifting_shoens (changed k (halted b) m.shoens.shoens) m) n → TurnsAs (λ f. change_shoen k (λ x. record x { is_stopped = b })) m n
+halts b m n k i becomes =
+    changed_as m n k (halted b) (λ x. record x { is_stopped = b }) i (λ s a. record { control = a.control; tail = a.tail; origin = a.origin; low = a.low; high = a.high }) (λ f s. refl) becomes
+
+pub stopped : (m n u : Machine) (k : ℕ) (sh : Shoen CellName) → IsMachine m → find (has_number k) m.shoens.shoens ≡ Some sh → sh.is_stopped ≡ false → Becomes (shifting_shoens (changed k (halted true) m.shoens.shoens) m) n → TurnsAs (λ f. report k stopped_report) n u →
+    TurnsAs (λ f. obeyed k Stop) m u
+stopped m n u k sh i there goes becomes p =
+    let h = m.store.held in
+    let does : State → State = λ s. report k stopped_report (change_shoen k (λ x. record x { is_stopped = true }) s) in
+    found_as (λ o s. stopped_of o k s) m u k (Some sh) there
+    (as_same (λ f. does) (λ f. stopped_of (Some (shoen_with (meaning f h) sh)) k) m u (λ f s. ap (λ b. if b then worked f s h (made m) else does (worked f s h (made m))) goes)
+    (as_then (λ f. change_shoen k (λ x. record x { is_stopped = true })) (λ f. report k stopped_report) m n u (halts true m n k i becomes) p))
+
+pub resumed : (m n u : Machine) (k : ℕ) (sh : Shoen CellName) → IsMachine m → find (has_number k) m.shoens.shoens ≡ Some sh → sh.is_stopped ≡ true → Becomes (shifting_shoens (changed k (halted false) m.shoens.shoens) m) n → TurnsAs (λ f. report k resumed_report) n u →
+    TurnsAs (λ f. obeyed k Start) m u
+resumed m n u k sh i there stays becomes p =
+    let h = m.store.held in
+    let does : State → State = λ s. report k resumed_report (change_shoen k (λ x. record x { is_stopped = false }) s) in
+    found_as (λ o s. resumed_of o k s) m u k (Some sh) there
+    (as_same (λ f. does) (λ f. resumed_of (Some (shoen_with (meaning f h) sh)) k) m u (λ f s. ap (λ b. if b then does (worked f s h (made m)) else worked f s h (made m)) stays)
+    (as_then (λ f. change_shoen k (λ x. record x { is_stopped = false })) (λ f. report k resumed_report) m n u (halts false m n k i becomes) p))
+
+-- one whose allowance grows
+pub allowed : (m n : Machine) (k extra : ℕ) → IsMachine m → Becomes (shifting_shoens (changed k (allowing extra) m.shoens.shoens) m) n → TurnsAs (λ f. obeyed k (Allow extra)) m n
+allowed m n k extra i becomes = changed_as m n k (allowing extra) (allowed_more extra) i (λ s a. record { control = a.control; tail = a.tail; origin = a.origin; low = a.low; high = a.high }) (λ f s. refl) becomes
+
+-- ---- goals of shoens that go
+
+-- goals of none of these shoens
+abbrev pub rid_of : List ℕ → List (Goal CellName) → List (Goal CellName)
+rid_of ns gs = filter (λ g. not (is_of_any ns g)) gs
+
+one_more : (n : ℕ) (ns : List ℕ) (gs : List (Goal CellName)) → rid_of ns (filter (λ g. not (is_in n g)) gs) ≡ rid_of (n ∷ ns) gs
+one_more n ns [] = refl
+one_more n ns (g ∷ gs) = by_case (g.shoen == n) (one_more n ns gs)
+  where
+    by_case : (b : Bool) → rid_of ns (filter (λ k. not (is_in n k)) gs) ≡ rid_of (n ∷ ns) gs →
+        rid_of ns (if not b then g ∷ filter (λ k. not (is_in n k)) gs else filter (λ k. not (is_in n k)) gs) ≡ (if not (b || is_among g.shoen ns) then g ∷ rid_of (n ∷ ns) gs else rid_of (n ∷ ns) gs)
+    by_case true e = e
+    by_case false e = ap (λ (ks : List (Goal CellName)). if not (is_among g.shoen ns) then g ∷ ks else ks) e
+
+-- the goals of the shoens up to a place are gone
+pub record IsRid (ns : List ℕ) (i : ℕ) (m u : Machine) : Type 0 where
+  pub goals : rid_of (drop i ns) u.goals.goals ≡ rid_of ns m.goals.goals
+  pub rest : u ≡ having_goals u.goals.goals m
+  pub machine : IsMachine u
+
+pub first_rid : (ns : List ℕ) (m : Machine) → IsMachine m → IsRid ns 0 m m
+first_rid ns m i = record { goals = refl; rest = refl; machine = i }
+
+pub next_rid : (ns : List ℕ) (i : ℕ) (m u v : Machine) → i < length ns → IsRid ns i m u → Becomes (having_goals (filter (λ g. not (is_in (get_or ns i 0) g)) u.goals.goals) u) v → IsRid ns (i + 1) m v
+next_rid ns i m u v lt r b =
+    let goals : v.goals.goals ≡ filter (λ g. not (is_in (get_or ns i 0) g)) u.goals.goals = ap (λ (x : Machine). x.goals.goals) b.is in
+    record {
+      goals = ap (rid_of (drop (i + 1) ns)) goals ∙ one_more (get_or ns i 0) (drop (i + 1) ns) u.goals.goals ∙ ap (λ (ks : List ℕ). rid_of ks u.goals.goals) (sym (drop_more ns i 0 lt)) ∙ r.goals;
+      rest = b.is ∙ ap (λ (gs : List (Goal CellName)). having_goals gs u) (sym goals) ∙ ap (having_goals v.goals.goals) r.rest;
+      machine = b.machine;
+    }
+
+pub last_rid : (ns : List ℕ) (i : ℕ) (m u : Machine) → length ns ≤ i → IsRid ns i m u → Becomes (having_goals (rid_of ns m.goals.goals) m) u
+last_rid ns i m u le r = record {
+  is = r.rest ∙ ap (λ (gs : List (Goal CellName)). having_goals gs m) (sym (all_stay u.goals.goals) ∙ ap (λ (ks : List ℕ). rid_of ks u.goals.goals) (sym (drop_all i ns le)) ∙ r.goals);
+  machine = r.machine;
+}
+
+-- ---- aborts: as `kl1_user_effects` has it, where these are private
+
+if_aborted : (c : Bool) (t : Means) (h : Shoen CellName) → (if c then record (shoen_with t h) { life = Aborted } else shoen_with t h) ≡ shoen_with t (if c then record h { life = Aborted } else h)
+if_aborted true t h = refl
+if_aborted false t h = refl
+
+aborted_read : (t : Means) (all : List (Shoen CellName)) (n : ℕ) (ss : List (Shoen CellName)) → map (steps.aborted_below (map (shoen_with t) all) n) (map (shoen_with t) ss) ≡ map (shoen_with t) (map (aborted_below_in all n) ss)
+aborted_read t all n [] = refl
+aborted_read t all n (h ∷ ss) =
+    ap₂ (λ (k : model.Shoen) (ks : List model.Shoen). k ∷ ks)
+    (ap (λ (ns : List ℕ). if is_living h.life && is_among n ns then record (shoen_with t h) { life = Aborted } else shoen_with t h) (path_read t all h.number) ∙ if_aborted (is_living h.life && is_on_path_in all n h.number) t h)
+    (aborted_read t all n ss)
+
+aborted_count : (all : List (Shoen CellName)) (n : ℕ) (ss : List (Shoen CellName)) → length (map (aborted_below_in all n) ss) ≡ length ss
+aborted_count all n [] = refl
+aborted_count all n (s ∷ ss) = ap suc (aborted_count all n ss)
+
+-- a machine with a shoen and all below it aborted, and their goals gone
+abbrev pub with_aborted : ℕ → List ℕ → Machine → Machine
+with_aborted k below m = shifting_shoens (map (aborted_below_in m.shoens.shoens k) m.shoens.shoens) (having_goals (rid_of below m.goals.goals) m)
+
+aborts : (m : Machine) (k : ℕ) (below : List ℕ) → IsMachine m → AreBelow m.shoens.shoens k below → IsMachine (with_aborted k below m) → TurnsAs (λ f. ended_below k) m (with_aborted k below m)
+aborts m k below i b j =
+    let ss = m.shoens.shoens in
+    let h = m.store.held in
+    record {
+      turns = λ ms. record {
+        inside = j.inside;
+        states = λ f knows s.
+            let t = meaning f h in
+            let S = worked f s h (made m) in
+            let left = rid_of below m.goals.goals in
+            ap (λ (ps : List ℕ). let z : State = record S { goals = filter (λ g. not (is_among k (path_within g.shoen ps g.shoen))) S.goals; shoens = map (steps.aborted_below S.shoens k) S.shoens } in z) (parents_read t ss)
+            ∙ ap (λ (gs : List model.Goal). let z : State = record S { goals = gs; shoens = map (steps.aborted_below S.shoens k) S.shoens } in z) (below_read t (is_on_path_in ss k) below m.goals.goals (below_tells k ss below m.goals.goals b i.inside.owned))
+            ∙ ap (λ (xs : List model.Shoen). let z : State = record S { goals = map (goal_with t) left; shoens = xs } in z) (aborted_read t ss k ss)
+            ∙ ap (λ c. let z : State = record S { goals = map (goal_with t) left; shoens = map (shoen_with t) (map (aborted_below_in ss k) ss); last_shoen = c } in z) (sym (aborted_count ss k ss));
+      };
+      machine = j;
+      named = record { name = refl; spelled = refl };
+    }
+
+-- one step after the other
+pub aborts_after : (m n u : Machine) (k : ℕ) (below : List ℕ) → IsMachine m → AreBelow m.shoens.shoens k below → Becomes (having_goals (rid_of below m.goals.goals) m) n → Becomes (shifting_shoens (map (aborted_below_in n.shoens.shoens k) n.shoens.shoens) n) u → TurnsAs (λ f. ended_below k) m u
+aborts_after m n u k below i b gone ended =
+    let A : Machine → Machine = λ x. shifting_shoens (map (aborted_below_in x.shoens.shoens k) x.shoens.shoens) x in
+    let T : Machine → Type 0 = λ x. IsMachine x → TurnsAs (λ f. ended_below k) m x in
+    subst T (sym (ended.is ∙ ap A gone.is)) (aborts m k below i b) ended.machine
+
+pub aborted : (m u v w : Machine) (k : ℕ) → TurnsAs (λ f. ended_below k) m u → TurnsAs (λ f. report k aborted_report) u v → TurnsAs (λ f. close k) v w → TurnsAs (λ f. obeyed k Abort) m w
+aborted m u v w k ends told closed =
+    as_then (λ f s. report k aborted_report (ended_below k s)) (λ f. close k) m v w (as_then (λ f. ended_below k) (λ f. report k aborted_report) m u v ends told) closed
+
+-- ---- what monitors read
+
+-- a machine of which a shoen has another control stream, and which has told this
+abbrev pub with_controlled : ℕ → Cell CellName → Machine → Machine → Machine
+with_controlled k x n m = record (having_shoens (changed k (controlled x) m.shoens.shoens) m) { told = n.told }
+
+same_held : (k : ℕ) (x : Cell CellName) (m n : Machine) → Becomes (with_controlled k x n m) n → n.store.held ≡ m.store.held
+same_held k x m n b = ap (λ (y : Machine). y.store.held) b.is
+
+controls : (m n : Machine) (k : ℕ) (x : Cell CellName) → Becomes (with_controlled k x n m) n → TurnsAs (λ f. with_control k (meaning f m.store.held x)) m n
+controls m n k x b =
+    let h = m.store.held in
+    let T : Machine → Type 0 = λ y. IsMachine y → TurnsAs (λ f. with_control k (meaning f h x)) m y in
+    subst T (sym b.is)
+    (λ j. record {
+      turns = λ ms. record {
+        inside = j.inside;
+        states = λ f knows s. changes s (meaning f h) (h.variables - 1) (made m) k (controlled x) (λ y. record y { control = meaning f h x }) (λ y. refl);
+      };
+      machine = j;
+      named = record { name = refl; spelled = refl };
+    })
+    b.machine
+
+-- a message, and what is left of the stream
+pub told : (m n u : Machine) (k : ℕ) (message : Message) (x : Cell CellName) → Becomes (with_controlled k x n m) n → TurnsAs (λ f. obeyed k message) n u → TurnsAs (λ f. heard k (tells message (meaning f m.store.held x))) m u
+told m n u k message x b p = as_then (λ f. with_control k (meaning f m.store.held x)) (λ f. obeyed k message) m n u (controls m n k x b) p
+
+-- another element, and what is left of the stream
+pub told_other : (m n u : Machine) (k : ℕ) (y x : Cell CellName) → Becomes (with_controlled k x n m) n → TurnsAs (λ f. report k (exception illegal_input (meaning f n.store.held y))) n u →
+    TurnsAs (λ f. heard k (tells_other (meaning f m.store.held y) (meaning f m.store.held x))) m u
+told_other m n u k y x b p =
+    let h = m.store.held in
+    let P : Held CellName → Type 0 = λ l. TurnsAs (λ f. report k (exception illegal_input (meaning f l y))) n u in
+    as_then (λ f. with_control k (meaning f h x)) (λ f. report k (exception illegal_input (meaning f h y))) m n u (controls m n k x b) (subst P (same_held k x m n b) p)
+
+-- what is no stream
+pub broken_off : (m n u : Machine) (k : ℕ) (y : Cell CellName) → Becomes (having_goals (filter (λ g. not (is_monitor_of k g)) m.goals.goals) m) n → TurnsAs (λ f. report k (exception illegal_input (meaning f n.store.held y))) n u →
+    TurnsAs (λ f. heard k (breaks_off (meaning f m.store.held y))) m u
+broken_off m n u k y b p =
+    let h = m.store.held in
+    let P : Held CellName → Type 0 = λ l. TurnsAs (λ f. report k (exception illegal_input (meaning f l y))) n u in
+    as_then (λ f. without_monitor k) (λ f. report k (exception illegal_input (meaning f h y))) m n u (unmonitored m n k b) (subst P (ap (λ (x : Machine). x.store.held) b.is) p)
+
+-- a cell of a store is one after the control stream of a shoen was set
+pub still_in : (m n : Machine) (k : ℕ) (x y : Cell CellName) → Becomes (with_controlled k x n m) n → IsIn m.store.held y → IsIn n.store.held y
+still_in m n k x y b i = let P : Held CellName → Type 0 = λ l. IsIn l y in subst P (sym (same_held k x m n b)) i
+
+-- or after a monitor went
+pub still_left : (m n : Machine) (k : ℕ) (y : Cell CellName) → Becomes (having_goals (filter (λ g. not (is_monitor_of k g)) m.goals.goals) m) n → IsIn m.store.held y → IsIn n.store.held y
+still_left m n k y b i = let P : Held CellName → Type 0 = λ l. IsIn l y in subst P (sym (ap (λ (x : Machine). x.store.held) b.is)) i

@@ -1,0 +1,94 @@
+-- A name that is published.
+use Rattle.std.proofs.Common.{◌≡◌, ℕ, ◌+◌, ◌≤◌, ◌<◌, ◌^◌, true, List, [], ◌∷◌, length, Option, Some, None, refl, sym, ap, ◌∙◌, subst, inr, arith}
+use Rattle.std.proofs.lemmas.Bool.{leb-true}
+use Rattle.std.proofs.lemmas.List.{length-map, length_push, map-append}
+use Rattle.kl1_model.specs.declared.limits.TheConstants.{MOST_NAMES}
+use Rattle.kl1_model.specs.State.{with_name}
+use Rattle.kl1_text.specs.declared.atom_no.AtomNo.{AtomNo}
+use Rattle.kl1_text.specs.declared.cell_name.CellName.{CellName}
+use Rattle.kl1_atoms.specs.declared.known.Known.{Known}
+use Rattle.kl1_atoms.specs.Names.{number_by, Adds, HasRoom}
+use Rattle.kl1_atoms.specs.Knowing.{still_known}
+use Rattle.kl1_store.specs.declared.cell.Cell.TheVariants.{Atom}
+use Rattle.kl1_store.specs.Constants.{Rebinds}
+use Rattle.kl1_store.specs.Hooks.{Kept}
+use Rattle.kl1_user_effects.specs.declared.spelled.Spelled.{Spelled}
+use Rattle.kl1_user_effects.specs.Account.{texts_of}
+use Rattle.kl1_user_effects.specs.Naming.{NameShelf, AreSmall}
+use Rattle.kl1_user_effects.specs.Calling.{keeps_names, IsNewName}
+use Rattle.kl1_user_effects.proofs.KnownNames.{added_new}
+use Rattle.kl1_user_effects.proofs.DraftRows.{push_below}
+use Rattle.kl1_user_effects.proofs.NumberRows.{fits_less}
+use Rattle.kl1_user_effects.proofs.Calling.{new_named}
+use Rattle.kl1_machine.specs.declared.machine.Machine.{Machine}
+use Rattle.kl1_machine.specs.Machines.{made}
+use Rattle.kl1_machine.specs.Naming.{Patches, CanPublish, IsNamed, Publishes}
+
+-- a name that is new, which the account may use
+pub new_name : (ks : List Known) (name : Option (List ℕ)) (t : List ℕ) → name ≡ Some t → IsNewName ks name → (number_by ks t ≡ None) × (keeps_names ks t ≡ true)
+new_name ks name t is new = let n : IsNewName ks (Some t) = subst (λ (o : Option (List ℕ)). IsNewName ks o) is new in n.1
+
+-- there is room for it in a table
+pub room_for_name : (ks : List Known) (t : List ℕ) → number_by ks t ≡ None → keeps_names ks t ≡ true → HasRoom ks t
+room_for_name ks t new keeps =
+    let few : length (with_name (texts_of ks) t) ≤ MOST_NAMES = leb-true (length (with_name (texts_of ks) t)) MOST_NAMES keeps in
+    let count : length (with_name (texts_of ks) t) ≡ length ks + 1 = ap length (new_named ks t new) ∙ length_push (texts_of ks) t ∙ ap (λ (k : ℕ). k + 1) (length-map ks (λ (k : Known). k.text)) in
+    inr (omega (arith, few, count))
+
+-- an account has these names, if a name of it got this number, which is none of the spare ones
+pub record IsNumbered (known more : List Known) (name : Option (List ℕ)) (k : CellName) : Type 0 where
+  pub named : IsNamed known more name k
+  pub small : AreSmall more
+
+-- the names with one that has got its number
+pub named_one : (ks more : List Known) (t : List ℕ) (a : AtomNo) (k : CellName) → number_by ks t ≡ None → AreSmall ks → a.number < 2 ^ 32 → k.number ≡ a.number → Adds ks t a more → IsNumbered ks more (Some t) k
+named_one ks more t a k new small low number adds = record {
+  named = record {
+    texts = ap texts_of (adds.known ∙ added_new ks t a new) ∙ map-append (λ (x : Known). x.text) ks (record { text = t; number = a } ∷ []);
+    fits = fits_less ks more (still_known ks t a more adds);
+    reads = λ f fit. ap (λ n. f (record { number = n })) number ∙ fit.texts t a.number adds.number;
+  };
+  small = subst AreSmall (sym (adds.known ∙ added_new ks t a new)) (push_below (2 ^ 32) ks (record { text = t; number = a }) small low);
+}
+
+-- no name is published if there is none
+pub published_none : (m : Machine) → m.name ≡ None → CanPublish m → Publishes m m
+published_none m none can =
+    let spelled : m.spelled ≡ None = can.has none in
+    record {
+      number = record { number = 0 };
+      named = subst (λ (o : Option (List ℕ)). IsNamed m.names.names m.names.names o (record { number = 0 })) (sym none) (let n : IsNamed m.names.names m.names.names None (record { number = 0 }) = record { texts = refl; fits = λ f fits. fits; reads = λ f fits. tt } in n);
+      small = can.small;
+      patches = subst (λ (o : Option Spelled). Patches o (record { number = 0 }) m.store.held m.store.held) (sym spelled) refl;
+      hooks = refl;
+      rest = ap (λ (o : Option (List ℕ)). let z : Machine = record m { name = o } in z) none ∙ ap (λ (o : Option Spelled). let z : Machine = record m { name = None; spelled = o } in z) spelled;
+    }
+
+-- a name is published that no variable becomes
+pub published_alone : (m : Machine) (names : NameShelf) (t : List ℕ) (k : CellName) → m.name ≡ Some t → m.spelled ≡ None → IsNumbered m.names.names names.names (Some t) k → Publishes m (record m { names = names; name = None })
+published_alone m names t k is none numbered = record {
+  number = k;
+  named = subst (λ (o : Option (List ℕ)). IsNamed m.names.names names.names o k) (sym is) numbered.named;
+  small = numbered.small;
+  patches = subst (λ (o : Option Spelled). Patches o k m.store.held m.store.held) (sym none) refl;
+  hooks = refl;
+  rest = ap (λ (o : Option Spelled). let z : Machine = record m { names = names; name = None; spelled = o } in z) none;
+}
+
+-- a name is published that a variable becomes
+pub published_at : (m : Machine) (names : NameShelf) (store : Kept CellName) (t : List ℕ) (k : CellName) (s : Spelled) → m.name ≡ Some t → m.spelled ≡ Some s → IsNumbered m.names.names names.names (Some t) k → Rebinds s.before.sizes s.variable (Atom k) m.store.held store.held → store.hooks ≡ m.store.hooks →
+    Publishes m (record m { store = store; names = names; name = None; spelled = None })
+published_at m names store t k s is spelled numbered rebinds hooks = record {
+  number = k;
+  named = subst (λ (o : Option (List ℕ)). IsNamed m.names.names names.names o k) (sym is) numbered.named;
+  small = numbered.small;
+  patches = subst (λ (o : Option Spelled). Patches o k m.store.held store.held) (sym spelled) rebinds;
+  hooks = hooks;
+  rest = refl;
+}
+
+-- what is made stays
+pub published_made : (m n : Machine) → Publishes m n → made n ≡ made m
+published_made m n p =
+    ap made p.rest
+    ∙ ap (λ (ns : List (List ℕ)). record (made m) { names = ns }) p.named.texts

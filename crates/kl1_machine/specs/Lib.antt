@@ -1,0 +1,17 @@
+pub mod Machines
+pub mod Effects
+pub mod Since
+pub mod Ending
+pub mod Rested
+pub mod Serving
+pub mod Ready
+pub mod Rescheduling
+pub mod Moving
+pub mod Exchanging
+pub mod Naming
+pub mod Reducing
+pub mod Sending
+pub mod Starting
+pub mod Stepping
+pub mod Plain
+pub mod Bringing

@@ -1,6 +1,0 @@
-pub mod FlagsStay
-pub mod Leavings
-pub mod FlagsKept
-pub mod NewNames
-pub mod Published
-pub mod Spelled
