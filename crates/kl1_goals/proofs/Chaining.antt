@@ -2,17 +2,17 @@
 use Rattle.std.proofs.Common.{◌≡◌, ℕ, zero, suc, ◌+◌, ◌<◌, ◌≤◌, ◌==◌, ◌&&◌, ◌⊎◌, not, Bool, true, false, cond, List, [], ◌∷◌, Option, length, get_or, set, take, map, refl, sym, ◌∙◌, ap, subst, arith, inl, inr}
 use Rattle.std.specs.List.{filter}
 use Rattle.std.proofs.lemmas.Bool.{false≢true, cases_lt, cases_eq, ne_eqb, eq-eqb}
-use Rattle.std.proofs.lemmas.List.{get_or-map, get_or_past, set-get_or, length-map}
+use Rattle.std.proofs.lemmas.List.{get_or-map, get_or_past, length-map}
 use Rattle.kl1_goals.specs.declared.goal.Goal.{Goal}
 use Rattle.kl1_goals.specs.declared.slot.Slot.{Slot}
 use Rattle.kl1_goals.specs.declared.tally.Tally.{Tally}
 use Rattle.kl1_goals.specs.Lists.{is_in, is_goal_of, enabled_in}
 use Rattle.kl1_goals.specs.Tables.{Ascend}
-use Rattle.kl1_goals.specs.Slots.{goals_in, level_in, rank_in, let_in, emptied, changed_at, AreLow, AreSlots}
+use Rattle.kl1_goals.specs.Slots.{goals_in, numbers_of, number_in, level_in, rank_in, let_in, emptied, changed_at, AreLow, AreBelow, AreSlots}
 use Rattle.kl1_goals.specs.Tallies.{tally_at, unlinked, left}
 use Rattle.kl1_goals.specs.Chains.{Shape, shoen_in, before_in, holds_in, is_due, shape_in, unlinked_in, shoen_at, before_at, last_at, Holds, IsLink, IsEmptyLink, AreLinked, AreKnown, AreChained, HoldsLess, HaveSameCounts}
 use Rattle.kl1_goals.proofs.Changing.{standing_by}
-use Rattle.kl1_goals.proofs.Linking.{known_at, link_less, less_length, linked_less, chained_less, less_less, link_past, link_nearer, chained_take, no_link}
+use Rattle.kl1_goals.proofs.Linking.{known_at, link_less, linked_less, chained_less, link_past, link_nearer, chained_take, no_link}
 
 -- what a list of a function of the places has at a place that was read
 pub read_at : {N X : Type 0} (f : Slot N → X) (ss : List (Slot N)) (k : ℕ) (s : Slot N) (d : X) → k < length ss → s ≡ get_or ss k s → get_or (map f ss) k d ≡ f s
@@ -247,35 +247,8 @@ none_held n (s ∷ ss) f = left_on n s.is_held s (goals_in ss) refl (f 0 (omega 
 pub emptied_first : {N : Type 0} (n : ℕ) (ss : List (Slot N)) (l : ℕ) → IsLink ss n (length ss) l → EmptiedFrom n ss ss l
 emptied_first n ss l h = record { rest = h; less = record { shoens = refl; holds = λ m k e. e }; links = refl; goals = refl }
 
-pub emptied_next : {N : Type 0} (n : ℕ) (old now then' : List (Slot N)) (link k b : ℕ) → AreLinked old → EmptiedFrom n old now link → link ≡ k + 1 → then' ≡ changed_at emptied k now → b ≡ before_at then' k → EmptiedFrom n old then' b
-emptied_next n old now then' link k b linked h one is before =
-    let new = changed_at emptied k now in
-    let size : k < length now = omega (arith, one, h.rest.back) in
-    let less = changed_less emptied k now (λ s. refl) (λ m s e. absurd (false≢true e)) in
-    let all = less_less old now new h.less less in
-    let links = changed_same before_in emptied (λ s. refl) k now ∙ h.links in
-    let many = changed_length emptied k now in
-    let own = h.rest.own k (omega (arith, one)) in
-    let shoen : shoen_at new k ≡ n = ap (λ m. get_or m k 0) less.shoens ∙ own in
-    let L : ℕ → Type 0 = λ i. IsLink now n (length now) i in
-    let rest : IsLink new n (length new) (suc k) = rw many (link_less now new n (length now) (suc k) less (subst L (omega (arith, one)) h.rest)) in
-    let empty : Holds new n k → ⊥ = λ e. false≢true (sym (changed_here (holds_in n) emptied false false (λ s. refl) k now size) ∙ e) in
-    let link : IsLink new n k (before_at new k) = rw shoen at (linked_less old new all links linked k (omega (arith, size, many))) in
-    let to : b ≡ before_at new k = before ∙ ap (λ l. before_at l k) is in
-    rw (is, to) (record {
-      rest = link_past new n (length new) k (before_at new k) rest empty link;
-      less = all;
-      links = links;
-      goals = goals_emptied n k now size own ∙ h.goals;
-    })
-
 pub emptied_last : {N : Type 0} (n : ℕ) (old now : List (Slot N)) (link : ℕ) → EmptiedFrom n old now link → link ≡ 0 → goals_in now ≡ filter (λ g. not (is_in n g)) (goals_in old)
 emptied_last n old now link h e = none_held n now (λ j w. h.rest.none j (omega (arith, e)) w) ∙ h.goals
-
-pub emptied_same : {N : Type 0} (ss : List (Slot N)) (k : ℕ) (s : Slot N) → k < length ss → s ≡ get_or ss k s → s.is_held ≡ false → ss ≡ changed_at emptied k ss
-emptied_same {N = N} ss k s w e h =
-    let gone : (b : Bool) → b ≡ false → record { goal = s.goal; is_held = b; before = s.before } ≡ emptied s = λ b f. rw f refl in
-    sym (set-get_or ss k s) ∙ ap (set ss k) (sym e ∙ gone s.is_held h) ∙ changed_set emptied ss k s w (sym e)
 
 -- the last place is left
 left_unlinked_if : (c : Bool) (t : Tally) (b : ℕ) → unlinked (cond c (record t { last = b }) t) ≡ unlinked t
@@ -303,21 +276,6 @@ chained_left ss ts us m s b h size count own before is =
 -- links to last places that are forgotten
 abbrev pub forgets : {N : Type 0} (ss : List (Slot N)) (ts us : List Tally) (place : ℕ) → Type 0
 forgets ss ts us place = (n : ℕ) → (last_at us n ≡ 0) ⊎ ((last_at us n ≡ last_at ts n) × ((j : ℕ) → j < place → shoen_at ss j ≡ n → ⊥))
-
-pub forget_next : {N : Type 0} (ss : List (Slot N)) (ts us vs : List Tally) (place s : ℕ) → forgets ss ts us place → s ≡ shoen_at ss place → last_at vs s ≡ 0 → ((n : ℕ) → (n ≡ s → ⊥) → last_at vs n ≡ last_at us n) → forgets ss ts vs (place + 1)
-forget_next ss ts us vs place s h own here other = λ n. elim (cases_eq n s) [
-  | inl e ↦ inl (rw e here)
-  | inr e ↦ elim (h n) [
-    | inl z ↦ inl (other n e ∙ z)
-    | inr p ↦ inr (
-      other n e ∙ p.0,
-      λ j w f. elim (cases_eq j place) [
-        | inl c ↦ e (sym f ∙ ap (shoen_at ss) c ∙ sym own)
-        | inr c ↦ p.1 j (omega (arith, w, c)) f
-      ],
-    )
-  ]
-]
 
 pub forget_end : {N : Type 0} (ss : List (Slot N)) (ts us : List Tally) (place : ℕ) → AreChained ss ts → forgets ss ts us place → length ss ≤ place → (n : ℕ) → last_at us n ≡ 0
 forget_end ss ts us place h f w n = elim (f n) [
@@ -383,6 +341,17 @@ low_shaped ss ts e a =
     let L : List ℕ → Type 0 = λ ps. AreLow ps in
     subst L (sym (same_fields shape_in (λ (h : Shape). h.priority) ss ts e)) a
 
+pub below_shaped : {N : Type 0} (n : ℕ) (ss ts : List (Slot N)) → map shape_in ts ≡ map shape_in ss → AreBelow n (numbers_of ss) → AreBelow n (numbers_of ts)
+below_shaped n ss ts e b =
+    let B : List ℕ → Type 0 = λ ns. AreBelow n ns in
+    subst B (sym (same_fields shape_in (λ (h : Shape). h.number) ss ts e)) b
+
+-- places of which one is changed, but for its number
+pub below_changed : {N : Type 0} (n k : ℕ) (f : Slot N → Slot N) (ss ts : List (Slot N)) → ts ≡ changed_at f k ss → ((s : Slot N) → number_in (f s) ≡ number_in s) → AreBelow n (numbers_of ss) → AreBelow n (numbers_of ts)
+below_changed n k f ss ts is same b =
+    let B : List ℕ → Type 0 = λ ns. AreBelow n ns in
+    subst B (sym (ap (map number_in) is ∙ changed_same number_in f same k ss)) b
+
 pub relinked_low : {N : Type 0} (old now : List (Slot N)) (k l : ℕ) (x : Slot N) → map shape_in now ≡ map shape_in old → AreLow (map level_in old) → k < length now → x ≡ get_or now k x → AreLow (map level_in (set now k (relinked l x)))
 relinked_low old now k l x e a w r = rw (changed_set (relinked l) now k x w (sym r), changed_same level_in (relinked l) (λ s. refl) k now) (low_shaped old now e a)
 
@@ -394,12 +363,6 @@ settled_at n b now then' k l x w r e = e ∙ ap (changed_at (let_in n b) k) (cha
 
 pub linked_here : {N : Type 0} (n : ℕ) (b : Bool) (old now : List (Slot N)) (link k l : ℕ) → LetFrom n b old now link → link ≡ k + 1 → before_at now k ≡ l → IsLink now n k l
 linked_here n b old now link k l h one e = rw (← e, ← h.own k (omega (arith, one))) (h.links k (omega (arith, one, h.within)))
-
-pub emptied_back : {N : Type 0} (n : ℕ) (old now then' : List (Slot N)) (link k b : ℕ) → AreLinked old → EmptiedFrom n old now link → link ≡ k + 1 → then' ≡ changed_at emptied k now → b ≡ before_at then' k → b ≤ k
-emptied_back n old now then' link k b linked h one is before =
-    let links = changed_same before_in emptied (λ s. refl) k now ∙ h.links in
-    let same : b ≡ before_at old k = before ∙ ap (λ l. before_at l k) is ∙ ap (λ l. get_or l k 0) links in
-    omega (arith, same, (linked k (omega (arith, one, h.rest.back, less_length old now h.less))).back)
 
 pub read_known : {N : Type 0} (old now : List (Slot N)) (most k : ℕ) (x : Slot N) → AreKnown most (map shoen_in old) → map unlinked_in now ≡ map unlinked_in old → k < length now → x ≡ get_or now k x → (0 < x.goal.shoen) × (x.goal.shoen ≤ most)
 read_known old now most k x a e w r =

@@ -7,11 +7,11 @@ use Rattle.kl1_model.specs.declared.limits.TheConstants.{MONITOR_PRIORITY}
 use Rattle.kl1_goals.specs.declared.goal.Goal.{Goal}
 use Rattle.kl1_goals.specs.declared.slot.Slot.{Slot}
 use Rattle.kl1_goals.specs.Lists.{is_other, has_number, is_after, stood_by, number_of}
-use Rattle.kl1_goals.specs.Tables.{Ascend, AreBefore}
+use Rattle.kl1_goals.specs.Tables.{Ascend}
 use Rattle.kl1_goals.specs.Slots.{goals_in, first_of, numbers_of, number_in, level_in, rank_in, AreLow, AreBelow, IsCut, IsAbsent, IsHeldAt, IsWithout, AreSlots, IsEmptyEnd, held_in, priority_in, emptied}
 use Rattle.kl1_goals.specs.Readies.{stands}
 use Rattle.kl1_queue.specs.Ranks.{IsPriority}
-use Rattle.kl1_goals.proofs.Orders.{ascend_from, ascend_push, low_push}
+use Rattle.kl1_goals.proofs.Orders.{ascend_from, ascend_push, low_push, below_more, below_push, below_take}
 
 -- a number that isn't another
 pub other_number : (m n : ℕ) → (m ≡ n → ⊥) → (m == n) ≡ false
@@ -203,10 +203,24 @@ pub length_kept : {N : Type 0} (ss : List (Slot N)) → length (filter held_in s
 length_kept [] = refl
 length_kept (s ∷ ss) = length_on s (filter held_in ss) (goals_in ss) s.is_held (length_kept ss)
 
--- all goals below a number
-pub below_goals : {N : Type 0} (n : ℕ) (gs : List (Goal N)) → AreBefore n gs → AreBelow n (map number_of gs)
-below_goals n [] a = tt
-below_goals n (g ∷ gs) a = (a.0, below_goals n gs a.1)
+below_on : {N : Type 0} (n : ℕ) (s : Slot N) (ss : List (Slot N)) (b : Bool) → s.goal.number < n → AreBelow n (numbers_of ss) → AreBelow n (numbers_of (cond b (s ∷ ss) ss))
+below_on n s ss false p a = a
+below_on n s ss true p a = (p, a)
+
+-- places below a number, without the empty ones
+pub below_kept : {N : Type 0} (n : ℕ) (ss : List (Slot N)) → AreBelow n (numbers_of ss) → AreBelow n (numbers_of (filter held_in ss))
+below_kept n [] a = tt
+below_kept n (s ∷ ss) a = below_on n s (filter held_in ss) s.is_held a.0 (below_kept n ss a.1)
+
+-- and the first of them
+pub below_taken : {N : Type 0} (n k : ℕ) (ss ts : List (Slot N)) → ts ≡ take k ss → AreBelow n (numbers_of ss) → AreBelow n (numbers_of ts)
+below_taken n k ss ts t b = let B : List ℕ → Type 0 = λ ns. AreBelow n ns in rw t (subst B (take-map number_in k ss) (below_take n k (numbers_of ss) b))
+
+-- and with a goal after them
+pub below_added : {N : Type 0} (last : ℕ) (ss : List (Slot N)) (g : Goal N) (before : ℕ) → AreBelow (suc last) (numbers_of ss) → last < g.number → AreBelow (suc g.number) (numbers_of (ss ++ linked_to before g ∷ []))
+below_added {N = N} last ss g before b lt =
+    let s : Slot N = linked_to before g in
+    rw (map_push number_in ss s) (below_push (suc g.number) g.number (numbers_of ss) (below_more (suc last) (suc g.number) (numbers_of ss) (omega (arith, lt)) b) (omega arith))
 
 -- places with a goal more
 pub slots_push : {N : Type 0} (ss : List (Slot N)) (empty : ℕ) (ranks more : List ℕ) (g : Goal N) (before : ℕ) → AreSlots ss empty ranks → AreBelow g.number (numbers_of ss) → g.priority ≤ MONITOR_PRIORITY →

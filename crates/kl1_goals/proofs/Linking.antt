@@ -68,9 +68,6 @@ chained_less ss ts us w b h = record {
   lasts = λ n. rw (less_length ss ts w) (link_less ss ts n (length ss) (last_at us n) w (h.lasts n));
 }
 
-pub less_less : {N : Type 0} (ss ts us : List (Slot N)) → HoldsLess ss ts → HoldsLess ts us → HoldsLess ss us
-less_less ss ts us v w = record { shoens = w.shoens ∙ v.shoens; holds = λ n k h. v.holds n k (w.holds n k h) }
-
 known_more : (most more : ℕ) (ns : List ℕ) → AreKnown most ns → most ≤ more → AreKnown more ns
 known_more most more [] a w = tt
 known_more most more (n ∷ ns) a w = (a.0, (omega (arith, a.1.0, w), known_more most more ns a.1.1 w))
@@ -253,8 +250,3 @@ chained_raised ss ts us g h e is = chained_more ss ts us h (omega (arith, e)) (�
 
 pub chained_lowered : {N : Type 0} (ss : List (Slot N)) (ts us : List Tally) (g : Goal N) → AreChained ss ts → length us ≡ length ts → ((n : ℕ) → tally_at us n ≡ cond (n == g.shoen) (lowered g (tally_at ts n)) (tally_at ts n)) → AreChained ss us
 chained_lowered ss ts us g h e is = chained_more ss ts us h (omega (arith, e)) (λ n. ap (λ (t : Tally). t.last) (is n) ∙ lowered_last_if (n == g.shoen) (is_monitor g) (tally_at ts n))
-
--- a shoen whose goals went is linked to no place
-pub chained_forgotten : {N : Type 0} (ss : List (Slot N)) (ts us : List Tally) (s : ℕ) → AreChained ss ts → IsLink ss s (length ss) 0 → length us ≡ length ts → ((n : ℕ) → tally_at us n ≡ cond (n == s) nothing (tally_at ts n)) → AreChained ss us
-chained_forgotten ss ts us s h link e is =
-    chained_one ss ts us s 0 h e link (ap (λ (t : Tally). t.last) (is s) ∙ rw (eq-eqb s s refl) refl) (λ n ne. ap (λ (t : Tally). t.last) (is n) ∙ rw (ne_eqb n s ne) refl)

@@ -1,5 +1,5 @@
 -- A whole table.
-use Rattle.std.proofs.Common.{◌≡◌, ℕ, zero, suc, ◌<◌, ◌≤◌, ◌==◌, Bool, not, true, false, cond, nat_lt, List, [], ◌∷◌, ◌++◌, Option, Some, None, IfSome, Result, Ok, Err, OnOk, length, map, refl, sym, ◌∙◌, ap, arith, inl, inr}
+use Rattle.std.proofs.Common.{◌≡◌, ℕ, zero, suc, ◌<◌, ◌≤◌, ◌==◌, Bool, not, true, false, cond, nat_lt, List, [], ◌∷◌, ◌++◌, Option, Some, None, IfSome, length, map, refl, sym, ◌∙◌, ap, arith, inl, inr}
 use Rattle.std.specs.List.{filter, find, list_any}
 use Rattle.std.proofs.lemmas.Bool.{ltb-true, lt-ltb, le-ltb, cases_lt}
 use Rattle.std.proofs.lemmas.List.{length_push}
@@ -7,7 +7,7 @@ use Rattle.kl1_model.specs.declared.limits.TheConstants.{MONITOR_PRIORITY}
 use Rattle.kl1_goals.specs.declared.goal.Goal.{Goal}
 use Rattle.kl1_goals.specs.declared.slot.Slot.{Slot}
 use Rattle.kl1_goals.specs.declared.tally.Tally.{Tally}
-use Rattle.kl1_goals.specs.Lists.{has_number, is_other, is_after, is_goal_of, number_of, stood_by}
+use Rattle.kl1_goals.specs.Lists.{has_number, is_other, is_after, number_of, stood_by}
 use Rattle.kl1_goals.specs.Tables.{Ascend, IsKnown}
 use Rattle.kl1_goals.specs.Slots.{goals_in, level_in, AreLow}
 use Rattle.kl1_goals.specs.Tallies.{nothing, tally_at, IsTally}
@@ -98,10 +98,6 @@ pub missing_stood : {N : Type 0} (n : ℕ) (clause : Option ℕ) (gs : List (Goa
 missing_stood n clause [] e = refl
 missing_stood n clause (g ∷ gs) e = let m = missing_head (g.number == n) g (find (has_number n) gs) e in rw m.0 (ap (λ l. g ∷ l) (missing_stood n clause gs m.1))
 
--- how many goals a shoen has, by what is kept of it
-pub goals_counted : {N : Type 0} (n : ℕ) (ss : List (Slot N)) (empty : ℕ) (ranks : List ℕ) (ts : List Tally) (alive : ℕ) (t : Tally) (gs : List (Goal N)) → IsTable ss empty ranks ts alive → t ≡ tally_at ts n → goals_in ss ≡ gs → t.goals ≡ length (filter (is_goal_of n) gs)
-goals_counted n ss empty ranks ts alive t gs h e s = ap (λ (u : Tally). u.goals) e ∙ (h.tallied n).goals ∙ ap (λ l. length (filter (is_goal_of n) l)) s
-
 -- if not just one goal passes, it doesn't matter whether one that is left out does
 most_left : (b : Bool) (count : ℕ) → (count ≡ 1 → ⊥) → nat_lt 1 count ≡ nat_lt (cond b 1 0) count
 most_left true count w = refl
@@ -126,8 +122,3 @@ any_missing p n count gs f e one = ap (nat_lt 0) (sym one ∙ e) ∙ sym (any_co
 pub any_one : {N : Type 0} (p : Goal N → Bool) (n count : ℕ) (gs : List (Goal N)) (g : Goal N) → Ascend 0 (map number_of gs) → find (has_number n) gs ≡ Some g → count ≡ length (filter p gs) → count ≡ 1 →
     not (p g) ≡ list_any p (filter (is_other n) gs)
 any_one p n count gs g a f e one = one_fallen (p g) ∙ any_beside p (p g) n 1 gs g a f (sym one ∙ e) refl
-
--- a fact holds if a call succeeds
-pub on_always : {T E P : Type 0} (r : Result T E) → P → OnOk r P
-on_always (Ok x) p = p
-on_always (Err e) p = tt

@@ -6,19 +6,18 @@ use Rattle.kl1_goals.specs.declared.goal.Goal.{Goal}
 use Rattle.kl1_goals.specs.declared.slot.Slot.{Slot}
 use Rattle.kl1_goals.specs.declared.tally.Tally.{Tally}
 use Rattle.kl1_goals.specs.Lists.{is_monitor_of, is_goal_of, is_in, number_of, enabled_in}
-use Rattle.kl1_goals.specs.Tables.{Ascend}
+use Rattle.kl1_goals.specs.Tables.{Ascend, IsOfShoen}
 use Rattle.kl1_goals.specs.Slots.{goals_in, numbers_of, rank_in, held_in, emptied}
 use Rattle.kl1_goals.specs.Tallies.{tally_at, IsTally}
 use Rattle.kl1_goals.specs.Chains.{shape_in, last_at, IsLink, AreLinked, AreChained, HaveSameCounts}
-use Rattle.kl1_goals.specs.Keeping.{IsTable}
 use Rattle.kl1_goals.specs.declared.begun.Begun.{Begun}
-use Rattle.kl1_goals.specs.Rows.{places_then, kept_then, IsOfShoen}
+use Rattle.kl1_goals.specs.Keeping.{IsTable, places_then, kept_then}
 use Rattle.kl1_goals.proofs.Changing.{without_at, length_without}
 use Rattle.kl1_goals.proofs.Shoens.{filter_stood}
 use Rattle.kl1_goals.proofs.Flagging.{is_alive, enabled_tally, alive_enabled, numbers_enabled}
 use Rattle.kl1_goals.proofs.Linking.{last_known, chained_less, tally_counts}
 use Rattle.kl1_goals.proofs.Chaining.{read_at, changed_set, emptied_first, emptied_last, goals_emptied, slots_shaped, less_shaped}
-use Rattle.kl1_goals.proofs.Rowing.{HasNoted, noted_none, noted_tallies}
+use Rattle.kl1_goals.proofs.Restoring.{HasNoted, noted_none, noted_tallies}
 
 -- a shoen that is linked past empty places is known
 pub linked_known : (ts : List Tally) (n last link : ℕ) → link ≤ last → last ≡ last_at ts n → (link ≡ last → ⊥) → (0 < n) × (n ≤ length ts)
@@ -88,6 +87,7 @@ let_noted {N = N} ss us ts vs b c d tally_rest tallies slot_rest slots many shap
       empty = ap (λ (x : Begun N). x.empty) slot_rest ∙ n.empty;
       shoens = ap (λ (x : Begun N). x.shoens) slot_rest ∙ n.shoens;
       alive = ap (λ (x : Begun N). x.alive) slot_rest ∙ n.alive;
+      last = ap (λ (x : Begun N). x.last) slot_rest ∙ n.last;
       longer = omega (arith, length_shaped ss us shapes);
       more = omega (arith, many);
     }

@@ -6,7 +6,7 @@ ghost use Rattle.kl1_shoen_paths.specs.Tracked.{put_back};
 ghost use Rattle.kl1_goals.specs.Lists.{enabled_in};
 ghost use Rattle.kl1_goals.specs.Slots.{goals_in, level_in, rank_in, capped_in, held_in, AreLow};
 ghost use Rattle.kl1_goals.specs.Chains.{shape_in, IsLink, AreLinked, AreChained, HaveSameCounts};
-ghost use Rattle.kl1_goals.specs.Rows.{places_then, kept_then};
+ghost use Rattle.kl1_goals.specs.Keeping.{places_then, kept_then};
 
 use crate::begun::{Begun, note_slot, note_tally};
 use crate::chains::{held_link, let_step};

@@ -41,18 +41,18 @@ use Rattle.kl1_machine.specs.Effects.{goal_at, with_goal, with_goals, Becomes, T
 
 -- ---- goals of a body
 
--- a machine with these goals more, and this last number
-abbrev with_row : List (Goal CellName) → ℕ → Machine → Machine
-with_row gs n m = record m { goals = record m.goals { goals = gs }; counts = record m.counts { last_goal = n } }
+-- a machine with these goals, the greatest number that was put, and the last number
+abbrev with_row : List (Goal CellName) → ℕ → ℕ → Machine → Machine
+with_row gs l n m = record m { goals = record m.goals { goals = gs; last = l }; counts = record m.counts { last_goal = n } }
 
 -- a machine with goals for cells more, each with the next number
 abbrev with_come : ℕ → List ℕ → List (Qualified CellName) → Machine → Machine
-with_come shoen ps xs m = with_row (m.goals.goals ++ goals_for m.counts.last_goal shoen ps xs) (m.counts.last_goal + length (goals_for m.counts.last_goal shoen ps xs)) m
+with_come shoen ps xs m = with_row (m.goals.goals ++ goals_for m.counts.last_goal shoen ps xs) (with_goals shoen ps xs m).goals.last (m.counts.last_goal + length (goals_for m.counts.last_goal shoen ps xs)) m
 
-none_more : (m : Machine) → m ≡ with_row (m.goals.goals ++ []) (m.counts.last_goal + 0) m
+none_more : (m : Machine) → m ≡ with_row (m.goals.goals ++ []) m.goals.last (m.counts.last_goal + 0) m
 none_more m =
     let e : m.counts.last_goal ≡ m.counts.last_goal + 0 = omega arith in
-    ap (λ gs. with_row gs m.counts.last_goal m) (sym (append-nil m.goals.goals)) ∙ ap (λ n. with_row (m.goals.goals ++ []) n m) e
+    ap (λ gs. with_row gs m.goals.last m.counts.last_goal m) (sym (append-nil m.goals.goals)) ∙ ap (λ n. with_row (m.goals.goals ++ []) m.goals.last n m) e
 
 goals_are : (shoen : ℕ) (ps : List ℕ) (xs : List (Qualified CellName)) (m : Machine) → with_goals shoen ps xs m ≡ with_come shoen ps xs m
 goals_are shoen ps [] m = none_more m
@@ -60,10 +60,11 @@ goals_are shoen [] (x ∷ xs) m = none_more m
 goals_are shoen (p ∷ ps) (x ∷ xs) m =
     let g = goal_at (suc m.counts.last_goal) shoen p (Reduces x) in
     let more = goals_for (suc m.counts.last_goal) shoen ps xs in
+    let last = (with_goals shoen ps xs (with_goal g m)).goals.last in
     let e : suc m.counts.last_goal + length more ≡ m.counts.last_goal + suc (length more) = omega arith in
     goals_are shoen ps xs (with_goal g m)
-    ∙ ap (λ gs. with_row gs (suc m.counts.last_goal + length more) m) (append_assoc m.goals.goals (g ∷ []) more)
-    ∙ ap (λ n. with_row (m.goals.goals ++ (g ∷ more)) n m) e
+    ∙ ap (λ gs. with_row gs last (suc m.counts.last_goal + length more) m) (append_assoc m.goals.goals (g ∷ []) more)
+    ∙ ap (λ n. with_row (m.goals.goals ++ (g ∷ more)) last n m) e
 
 as_many : (last shoen : ℕ) (ps : List ℕ) (xs : List (Qualified CellName)) → length ps ≡ length xs → length (goals_for last shoen ps xs) ≡ length xs
 as_many last shoen [] [] e = refl
@@ -104,7 +105,7 @@ abbrev pub with_needs : Needs → Machine → Machine
 with_needs n m = record m { counts = record m.counts { variables = m.counts.variables + n.variables; nodes = m.counts.nodes + n.nodes } }
 
 pub needs_machine : (n : Needs) (m : Machine) → IsMachine m → IsMachine (with_needs n m)
-needs_machine n m i = let w = i.inside in record { inside = record { some = w.some; goals = w.goals; shoens = w.shoens; owned = w.owned }; last = i.last; known = i.known }
+needs_machine n m i = let w = i.inside in record { inside = record { some = w.some; goals = w.goals; shoens = w.shoens; owned = w.owned }; last = i.last; placed = i.placed; known = i.known }
 
 pub needs_keep : (n : Needs) (m u : Machine) → Keeps m u → Keeps m (with_needs n u)
 needs_keep n m u p = record { grown = p.grown; trail = p.trail }

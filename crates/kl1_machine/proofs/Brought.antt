@@ -154,6 +154,7 @@ module _ (change : State → State) (goal : Term) (spares numbers : List CellNam
           owned = w.owned;
         };
         last = i.last;
+        placed = i.placed;
         known = i.known;
       }
 

@@ -1,5 +1,5 @@
 -- What stays of a machine, and that it stays one.
-use Rattle.std.proofs.Common.{◌≡◌, ℕ, suc, ◌+◌, Bool, false, ◌<◌, ◌++◌, ◌∷◌, [], List, Option, None, length, refl, sym, ap, ◌∙◌, arith, subst}
+use Rattle.std.proofs.Common.{◌≡◌, ℕ, suc, ◌+◌, Bool, false, ◌++◌, ◌∷◌, [], List, Option, None, length, refl, sym, ap, ◌∙◌, arith, subst}
 use Rattle.std.specs.Global.{Vec}
 use Rattle.kl1_text.specs.declared.cell_name.CellName.{CellName}
 use Rattle.kl1_store.specs.Held.{Held}
@@ -9,15 +9,14 @@ use Rattle.kl1_store.specs.Hooks.{Kept, point_of}
 use Rattle.kl1_store_hooks.proofs.Hooked.{HasGrown-same, HasGrown-trans}
 use Rattle.kl1_goals.specs.declared.task.Task.{Task}
 use Rattle.kl1_goals.specs.declared.goal.Goal.{Goal}
-use Rattle.kl1_goals.specs.Tables.{AreBefore}
 use Rattle.kl1_shoen_paths.specs.declared.shoen.Shoen.{Shoen}
 use Rattle.kl1_shoen.specs.Shoens.{Tree}
 use Rattle.kl1_user_effects.specs.declared.spelled.Spelled.{Spelled}
-use Rattle.kl1_user_effects.specs.Kept.{IsTaskIn, IsOwned, AreUpTo}
+use Rattle.kl1_user_effects.specs.Kept.{IsTaskIn, IsOwned}
 use Rattle.kl1_user_effects.proofs.Goals.{goals_in_append, owned_append, up_to_append, up_to_more}
 use Rattle.kl1_user_effects.proofs.Substituting.{has_grown}
 use Rattle.kl1_user_effects.proofs.Works.{grown_made}
-use Rattle.kl1_goals.specs.Rows.{Rowed}
+use Rattle.kl1_goals.specs.Tables.{Tabled}
 use Rattle.kl1_machine.specs.declared.counts.Counts.{Counts}
 use Rattle.kl1_machine.specs.declared.machine.Machine.{Machine}
 use Rattle.kl1_machine.specs.Machines.{made, IsMachine, Trail, trail_of, Keeps, IsBegun, IsBack}
@@ -54,21 +53,13 @@ pub only_shoens : (s t : Tree CellName) (xs : List (Shoen CellName)) → t ≡ r
 only_shoens s t xs e = e ∙ ap (λ (ys : List (Shoen CellName)). let z : Tree CellName = record s { shoens = ys } in z) (sym (ap (λ (u : Tree CellName). u.shoens) e))
 
 -- and a table of which only goals are others
-pub keeps_goals : (m : Machine) (r : Rowed CellName) (c : Counts) → r ≡ record m.goals { goals = r.goals } → Keeps m (record m { goals = r; counts = c })
-keeps_goals m r c e = record { grown = HasGrown-same m.store; trail = ap (λ (x : Rowed CellName). let z : Machine = record m { goals = x; counts = c } in trail_of z) e }
+pub keeps_goals : (m : Machine) (r : Tabled CellName) (c : Counts) → r ≡ record m.goals { goals = r.goals } → Keeps m (record m { goals = r; counts = c })
+keeps_goals m r c e = record { grown = HasGrown-same m.store; trail = ap (λ (x : Tabled CellName). let z : Machine = record m { goals = x; counts = c } in trail_of z) e }
 
 -- ---- that it is a machine
 
 pub grown_machine : (m : Machine) (k : Kept CellName) → Grows m k → IsMachine m → IsMachine (record m { store = k })
-grown_machine m k g i = record { inside = grown_made m.store.held k.held (made m) g.grown i.inside; last = i.last; known = i.known }
-
-before_up : (last n : ℕ) (gs : List (Goal CellName)) → last < n → AreUpTo last gs → AreBefore n gs
-before_up last n [] lt a = tt
-before_up last n (g ∷ gs) lt a = let le = a.0 in (omega (arith, le, lt), before_up last n gs lt a.1)
-
--- goals of a machine have lesser numbers than the next
-pub all_before : (m : Machine) (n : ℕ) → n ≡ m.counts.last_goal + 1 → IsMachine m → AreBefore n m.goals.goals
-all_before m n e i = before_up m.counts.last_goal n m.goals.goals (omega (arith, e)) i.last
+grown_machine m k g i = record { inside = grown_made m.store.held k.held (made m) g.grown i.inside; last = i.last; placed = i.placed; known = i.known }
 
 put_machine : (m : Machine) (g : Goal CellName) → g.number ≡ suc m.counts.last_goal → IsTaskIn m.store.held g.task → IsOwned (length m.shoens.shoens) g → IsMachine m → IsMachine (with_goal g m)
 put_machine m g number task own w =
@@ -81,40 +72,49 @@ put_machine m g number task own w =
         owned = owned_append (length m.shoens.shoens) m.goals.goals (g ∷ []) i.owned (own, tt);
       };
       last = up_to_append g.number m.goals.goals (g ∷ []) (up_to_more m.counts.last_goal g.number m.goals.goals (omega (arith, number)) w.last) (omega arith, tt);
+      placed = omega arith;
       known = w.known;
     }
 
 -- a goal that was put
-pub puts_one : (m : Machine) (r : Rowed CellName) (shoen priority n : ℕ) (task : Task CellName) → IsMachine m → IsTaskIn m.store.held task → IsOwned (length m.shoens.shoens) (goal_at 0 shoen priority task) → n ≡ m.counts.last_goal + 1 → r.goals ≡ m.goals.goals ++ goal_at n shoen priority task ∷ [] →
-    r ≡ record m.goals { goals = r.goals } → Puts shoen priority task m (record m { goals = r; counts = record m.counts { last_goal = n } })
-puts_one m r shoen priority n task i inside own number goals rest =
+pub puts_one : (m : Machine) (r : Tabled CellName) (shoen priority n : ℕ) (task : Task CellName) → IsMachine m → IsTaskIn m.store.held task → IsOwned (length m.shoens.shoens) (goal_at 0 shoen priority task) → n ≡ m.counts.last_goal + 1 →
+    r.goals ≡ m.goals.goals ++ goal_at n shoen priority task ∷ [] → r.last ≡ n → r ≡ record m.goals { goals = r.goals; last = r.last } → Puts shoen priority task m (record m { goals = r; counts = record m.counts { last_goal = n } })
+puts_one m r shoen priority n task i inside own number goals last rest =
     let next : n ≡ suc m.counts.last_goal = omega (arith, number) in
     let P : Machine → Type 0 = λ x. Puts shoen priority task m x in
     let C : ℕ → Machine = λ k. with_goal (goal_at k shoen priority task) m in
+    let T : List (Goal CellName) → ℕ → Tabled CellName = λ gs l. record m.goals { goals = gs; last = l } in
+    let put : r ≡ T (m.goals.goals ++ goal_at n shoen priority task ∷ []) n = rest ∙ ap (λ gs. T gs r.last) goals ∙ ap (T (m.goals.goals ++ goal_at n shoen priority task ∷ [])) last in
     let is : record m { goals = r; counts = record m.counts { last_goal = n } } ≡ C (suc m.counts.last_goal) =
-    ap (λ (x : Rowed CellName). let z : Machine = record m { goals = x; counts = record m.counts { last_goal = n } } in z) (rest ∙ ap (λ (gs : List (Goal CellName)). let z : Rowed CellName = record m.goals { goals = gs } in z) goals) ∙ ap C next in
+    ap (λ (x : Tabled CellName). let z : Machine = record m { goals = x; counts = record m.counts { last_goal = n } } in z) put ∙ ap C next in
     subst P (sym is) (record { is = refl; machine = put_machine m (goal_at (suc m.counts.last_goal) shoen priority task) refl inside (record { low = own.low; high = own.high }) i })
+
+-- a table to which a goal may have come
+pub keeps_put : (m : Machine) (r : Tabled CellName) (c : Counts) → r ≡ record m.goals { goals = r.goals; last = r.last } → Keeps m (record m { goals = r; counts = c })
+keeps_put m r c e = record { grown = HasGrown-same m.store; trail = ap (λ (x : Tabled CellName). let z : Machine = record m { goals = x; counts = c } in trail_of z) e }
 
 -- ---- back to where an event began
 
 pub begun_mark : (b m : Machine) → IsBegun b → Keeps b m → m.mark ≡ point_of b.store
 begun_mark b m i k = ap (λ (x : Trail). x.mark) k.trail ∙ i.mark
 
-pub went_back : (b m : Machine) (k : Kept CellName) (r : Rowed CellName) (t : Tree CellName) (u : Vec ℕ) → IsBegun b → Keeps b m → k.held ≡ b.store.held → k.hooks ≡ b.store.hooks → r ≡ record m.goals { goals = m.goals.begun; shoens = m.goals.begun_shoens } → t.shoens ≡ m.shoens.kept → t.work ≡ m.shoens.kept_work → u.items ≡ [] →
+pub went_back : (b m : Machine) (k : Kept CellName) (r : Tabled CellName) (t : Tree CellName) (u : Vec ℕ) → IsBegun b → Keeps b m → k.held ≡ b.store.held → k.hooks ≡ b.store.hooks → r ≡ record m.goals { goals = m.goals.begun; shoens = m.goals.begun_shoens; last = m.goals.begun_last } → t.shoens ≡ m.shoens.kept → t.work ≡ m.shoens.kept_work → u.items ≡ [] →
     IsBack b (record m { store = k; goals = r; shoens = t; counts = m.begun; name = None; spelled = None; told = u; shifts = false })
 went_back b m k r t u i p held hooks goals shoens work none =
     let begun : m.goals.begun ≡ b.goals.goals = ap (λ (x : Trail). x.goals) p.trail ∙ i.goals in
     let known : m.goals.begun_shoens ≡ b.goals.shoens = ap (λ (x : Trail). x.goal_shoens) p.trail ∙ i.goal_shoens in
-    let table : List (Goal CellName) → ℕ → List (Goal CellName) → ℕ → Rowed CellName = λ gs n bs o. record { goals = gs; begun = bs; shoens = n; begun_shoens = o } in
+    let last : m.goals.begun_last ≡ b.goals.last = ap (λ (x : Trail). x.goal_last) p.trail ∙ i.goal_last in
+    let table : List (Goal CellName) → ℕ → ℕ → List (Goal CellName) → ℕ → ℕ → Tabled CellName = λ gs n l bs o k. record { goals = gs; shoens = n; last = l; begun = bs; begun_shoens = o; begun_last = k } in
     let stands : Trail → Counts → Option (List ℕ) → Option Spelled → Bool → Machine =
     λ x c name spelled s. record { rules = x.rules; store = k; goals = r; shoens = t; names = x.names; name = name; spelled = spelled; counts = c; mark = x.mark; begun = x.begun; told = u; shifts = s } in
     record {
       held = held;
       hooks = hooks;
       goals = goals
-          ∙ ap (λ (x : Trail). table m.goals.begun m.goals.begun_shoens x.goals x.goal_shoens) p.trail
-          ∙ ap (λ gs. table gs m.goals.begun_shoens b.goals.begun b.goals.begun_shoens) begun
-          ∙ ap (λ n. table b.goals.goals n b.goals.begun b.goals.begun_shoens) known;
+          ∙ ap (λ (x : Trail). table m.goals.begun m.goals.begun_shoens m.goals.begun_last x.goals x.goal_shoens x.goal_last) p.trail
+          ∙ ap (λ gs. table gs m.goals.begun_shoens m.goals.begun_last b.goals.begun b.goals.begun_shoens b.goals.begun_last) begun
+          ∙ ap (λ n. table b.goals.goals n m.goals.begun_last b.goals.begun b.goals.begun_shoens b.goals.begun_last) known
+          ∙ ap (λ l. table b.goals.goals b.goals.shoens l b.goals.begun b.goals.begun_shoens b.goals.begun_last) last;
       shoens = shoens ∙ ap (λ (x : Trail). x.shoens) p.trail ∙ i.shoens;
       work = work ∙ ap (λ (x : Trail). x.work) p.trail ∙ i.work;
       told = none;

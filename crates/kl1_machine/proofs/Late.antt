@@ -100,7 +100,7 @@ late_torn m n v i is =
     let turns : Turns (λ f. B) m (with_torn n m) = λ ms. changed_turns ms h w n torn (λ x. record x { is_broken = true }) i.inside (λ s k. record { control = k.control; tail = k.tail; origin = k.origin; low = k.low; high = k.high }) (λ r s. refl) in
     late_as v (λ f. B) (λ f. break_at v n) m (with_torn n m)
     (λ f s. found_leads m n f s (λ o. break_of o v n) ∙ break_by (option_map (shoen_with (meaning f h)) (find (has_number n) m.shoens.shoens)) v n (worked f s h w) true (is f))
-    (record { turns = turns; machine = record { inside = (turns []).inside; last = i.last; known = i.known ∙ sym (changed_count n torn m.shoens.shoens) }; named = record { name = refl; spelled = refl }; free = free_same v h })
+    (record { turns = turns; machine = record { inside = (turns []).inside; last = i.last; placed = i.placed; known = i.known ∙ sym (changed_count n torn m.shoens.shoens) }; named = record { name = refl; spelled = refl }; free = free_same v h })
 
 -- a stream whose tail doesn't become a name stays as it is
 pub late_untorn : (m : Machine) (n v : ℕ) → IsMachine m → IsTail v n false m → LateAs v (λ f. break_at v n) m m

@@ -10,7 +10,7 @@ use Rattle.kl1_store_hooks.proofs.Hooked.{HasGrown-same, HasGrown-trans, grown_a
 use Rattle.kl1_goals.specs.declared.goal.Goal.{Goal}
 use Rattle.kl1_goals.specs.declared.task.Task.{Task}
 use Rattle.kl1_goals.specs.Lists.{number_of, has_number}
-use Rattle.kl1_goals.specs.Rows.{Rowed}
+use Rattle.kl1_goals.specs.Tables.{Tabled}
 use Rattle.kl1_goals.specs.Tables.{Ascend, AreInOrder}
 use Rattle.kl1_codes.specs.Shelves.{Program}
 use Rattle.kl1_user_effects.specs.Fitting.{Reading}
@@ -123,6 +123,7 @@ looks_machine m n l i =
         owned = looked_hold (IsOwned (length m.shoens.shoens)) (λ g o b p. record { low = p.low; high = p.high }) n.goals.goals m.goals.goals l.goals w.owned;
       });
       last = looked_hold (λ g. g.number ≤ m.counts.last_goal) (λ g o b p. p) n.goals.goals m.goals.goals l.goals i.last;
+      placed = i.placed;
       known = i.known;
     })
 
@@ -162,8 +163,8 @@ pub record IsLook (program : Program) (m : Machine) (k : Kept CellName) (n : ℕ
   pub ready : IsReadyAt program m.shoens.shoens m.store.held k.hooks n goal.shoen goal.task o
 
 -- a table of which only the goals are others
-pub row_of : (m : Machine) (r : Rowed CellName) (gs : List (Goal CellName)) → r ≡ record m.goals { goals = r.goals } → r.goals ≡ gs → r ≡ record m.goals { goals = gs }
-row_of m r gs rest is = rest ∙ ap (λ (xs : List (Goal CellName)). let z : Rowed CellName = record m.goals { goals = xs } in z) is
+pub row_of : (m : Machine) (r : Tabled CellName) (gs : List (Goal CellName)) → r ≡ record m.goals { goals = r.goals } → r.goals ≡ gs → r ≡ record m.goals { goals = gs }
+row_of m r gs rest is = rest ∙ ap (λ (xs : List (Goal CellName)). let z : Tabled CellName = record m.goals { goals = xs } in z) is
 
 -- goals that are settled but for those of some numbers are so but for those of more
 pub settled_but_more : (f : Reading) (program : Program) (m : Machine) (r q : ℕ → Bool) → ((k : ℕ) → q k ≡ false → r k ≡ false) → AreSettledBut r f program m → AreSettledBut q f program m
@@ -177,5 +178,5 @@ settled_but_none f program m n r q none others all =
     m.goals.goals (none_of n m.goals.goals none) all
 
 -- a store that has grown, and a table of which only goals are others
-pub row_keeps : (m : Machine) (k : Kept CellName) (r : Rowed CellName) → HasGrown m.store k → r ≡ record m.goals { goals = r.goals } → Keeps m (record m { store = k; goals = r })
-row_keeps m k r grown e = record { grown = grown; trail = ap (λ (x : Rowed CellName). let z : Machine = record m { store = k; goals = x } in trail_of z) e }
+pub row_keeps : (m : Machine) (k : Kept CellName) (r : Tabled CellName) → HasGrown m.store k → r ≡ record m.goals { goals = r.goals } → Keeps m (record m { store = k; goals = r })
+row_keeps m k r grown e = record { grown = grown; trail = ap (λ (x : Tabled CellName). let z : Machine = record m { store = k; goals = x } in trail_of z) e }

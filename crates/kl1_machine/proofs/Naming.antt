@@ -232,7 +232,7 @@ spares m k v p i formed within free at is hooks =
       bound = is;
       hooks = hooks;
       rest = refl;
-      machine = record { inside = grown.inside; last = grown.last; known = grown.known };
+      machine = record { inside = grown.inside; last = grown.last; placed = grown.placed; known = grown.known };
     }
 
 -- if a variable is bound to a number that is read as a text, it is replaced by this text

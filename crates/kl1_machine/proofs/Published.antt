@@ -1,5 +1,5 @@
 -- What a reduction has left when its name is published.
-use Rattle.std.proofs.Common.{◌≡◌, ℕ, ◌<◌, ◌&&◌, false, List, [], ◌∷◌, ◌++◌, length, refl, sym, ap, ◌∙◌, subst}
+use Rattle.std.proofs.Common.{◌≡◌, ℕ, ◌<◌, ◌≤◌, ◌&&◌, false, List, [], ◌∷◌, ◌++◌, length, refl, sym, ap, ◌∙◌, subst}
 use Rattle.std.specs.Prelude.{Option, Some, None}
 use Rattle.std.specs.List.{AllByRecursion}
 use Rattle.kl1_model.specs.State as model
@@ -210,6 +210,7 @@ module _ (program : Program) (n c : ℕ) (m u v : Machine) (rested : IsRested pr
       let inside : IsMadeIn v.store.held (made v) = subst W (sym (published_made u v p)) (made_patched u.spelled p.number u.store.held v.store.held (made u) can.last p.patches i.inside) in
       record {
         inside = inside;
+        placed = (let G : Machine → Type 0 = λ x. x.goals.last ≤ x.counts.last_goal in subst G (sym p.rest) i.placed);
         last = (let L : Machine → Type 0 = λ x. AreUpTo x.counts.last_goal x.goals.goals in subst L (sym p.rest) i.last);
         known = (let K : Machine → Type 0 = λ x. x.goals.shoens ≡ length x.shoens.shoens in subst K (sym p.rest) i.known);
       }

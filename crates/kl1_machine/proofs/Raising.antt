@@ -203,7 +203,7 @@ raised_unasked m k goal kind term message u b a tells held hooks =
     (unreported_turns ms h h w (made v) goal (text_of kind) term a.two (λ f knows s. unmade f ms knows s) (unmade_turns ms h w n (λ f. exception (text_of kind) (meaning f h term)) a.machine.inside (λ f knows s. unmade f ms knows s))) in
     let machine : IsMachine v =
     (let U : Machine → Type 0 = λ y. y.goals.shoens ≡ length y.shoens.shoens in
-    record { inside = (turns []).inside; last = a.machine.last; known = subst U is tells.machine.known }) in
+    record { inside = (turns []).inside; last = a.machine.last; placed = a.machine.placed; known = subst U is tells.machine.known }) in
     subst A (sym is) (record { turns = turns; machine = machine; named = record { name = refl; spelled = refl } })
 
 -- the new variable is a task's, and the goal's shoen is still there

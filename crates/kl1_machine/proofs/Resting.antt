@@ -136,7 +136,7 @@ shift_machine m n s i =
 pub steps_reschedule : (program : Program) (m t u v w : Machine) → IsMachine m → Steps program m t u v w → Reschedules m w
 steps_reschedule program m t u v w i s =
     let M : Machine → Type 0 = λ x. IsMachine x in
-    let told : IsMachine t = subst M (sym s.tells) (record { inside = record { some = i.inside.some; goals = i.inside.goals; shoens = i.inside.shoens; owned = i.inside.owned }; last = i.last; known = i.known }) in
+    let told : IsMachine t = subst M (sym s.tells) (record { inside = record { some = i.inside.some; goals = i.inside.goals; shoens = i.inside.shoens; owned = i.inside.owned }; last = i.last; placed = i.placed; known = i.known }) in
     let l = told_looks program m t u v w s in
     let first : map unlooked t.goals.goals ≡ map unlooked m.goals.goals = ap (λ (x : Machine). map unlooked x.goals.goals) s.tells in
     let held : t.store.held ≡ m.store.held = ap (λ (x : Machine). x.store.held) s.tells in
@@ -199,7 +199,7 @@ shifts_settled f program m n s a =
 pub told_machine : (m t : Machine) → t ≡ record m { told = t.told } → IsMachine m → IsMachine t
 told_machine m t tells i =
     let M : Machine → Type 0 = λ x. IsMachine x in
-    subst M (sym tells) (record { inside = record { some = i.inside.some; goals = i.inside.goals; shoens = i.inside.shoens; owned = i.inside.owned }; last = i.last; known = i.known })
+    subst M (sym tells) (record { inside = record { some = i.inside.some; goals = i.inside.goals; shoens = i.inside.shoens; owned = i.inside.owned }; last = i.last; placed = i.placed; known = i.known })
 
 pub told_keeps : (m t : Machine) → t ≡ record m { told = t.told } → Keeps m t
 told_keeps m t tells = let K : Machine → Type 0 = λ x. Keeps m x in subst K (sym tells) (record { grown = HasGrown-same m.store; trail = refl })

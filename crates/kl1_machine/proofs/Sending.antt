@@ -269,7 +269,7 @@ abbrev pub counting : ℕ → ℕ → Machine → Machine
 counting variables nodes m = record m { counts = record m.counts { variables = variables; nodes = nodes } }
 
 counted_machine : (variables nodes : ℕ) (m : Machine) → IsMachine m → IsMachine (counting variables nodes m)
-counted_machine variables nodes m i = let w = i.inside in record { inside = record { some = w.some; goals = w.goals; shoens = w.shoens; owned = w.owned }; last = i.last; known = i.known }
+counted_machine variables nodes m i = let w = i.inside in record { inside = record { some = w.some; goals = w.goals; shoens = w.shoens; owned = w.owned }; last = i.last; placed = i.placed; known = i.known }
 
 pub keeps_counting : (variables nodes : ℕ) (m u : Machine) → Keeps m u → Keeps m (counting variables nodes u)
 keeps_counting variables nodes m u p = record { grown = p.grown; trail = p.trail }

@@ -15,7 +15,7 @@ use Rattle.kl1_store.specs.Hooks.{Kept}
 use Rattle.kl1_store_hooks.proofs.Hooked.{HasGrown-same}
 use Rattle.kl1_goals.specs.declared.goal.Goal.{Goal}
 use Rattle.kl1_goals.specs.Lists.{is_monitor, is_monitor_of}
-use Rattle.kl1_goals.specs.Rows.{Rowed}
+use Rattle.kl1_goals.specs.Tables.{Tabled}
 use Rattle.kl1_shoen_paths.specs.declared.shoen.Shoen.{Shoen}
 use Rattle.kl1_shoen_paths.specs.declared.shoen.Origin.{Origin}
 use Rattle.kl1_shoen.specs.Shoens.{Tree, changed, aborted_below_in, AreNumbered, AreLower}
@@ -117,7 +117,7 @@ pub tree_machine : (m : Machine) (hs : List (Shoen CellName)) → AreShoensIn m.
 tree_machine m hs inside same i =
     let w = i.inside in
     let O : ℕ → Type 0 = λ n. AreOwned n m.goals.goals in
-    record { inside = record { some = w.some; goals = w.goals; shoens = inside; owned = subst O (sym same) w.owned }; last = i.last; known = i.known ∙ sym same }
+    record { inside = record { some = w.some; goals = w.goals; shoens = inside; owned = subst O (sym same) w.owned }; last = i.last; placed = i.placed; known = i.known ∙ sym same }
 
 pub changed_length : (n : ℕ) (f : Shoen CellName → Shoen CellName) (ss : List (Shoen CellName)) → length (changed n f ss) ≡ length ss
 changed_length n f [] = refl
@@ -132,7 +132,7 @@ pub becomes_shifting : (m : Machine) (t : Tree CellName) (hs : List (Shoen CellN
 becomes_shifting m t hs inside same i is =
     let P : Tree CellName → Type 0 = λ u. Becomes (shifting_shoens hs m) (record m { shoens = u; shifts = true }) in
     let j = tree_machine m hs inside same i in
-    subst P (sym is) (record { is = refl; machine = record { inside = let w = j.inside in record { some = w.some; goals = w.goals; shoens = w.shoens; owned = w.owned }; last = j.last; known = j.known } })
+    subst P (sym is) (record { is = refl; machine = record { inside = let w = j.inside in record { some = w.some; goals = w.goals; shoens = w.shoens; owned = w.owned }; last = j.last; placed = j.placed; known = j.known } })
 
 -- ---- another control stream
 
@@ -201,7 +201,7 @@ pub becomes_told : (m : Machine) (t : Tree CellName) (v : Vec ℕ) (hs : List (S
 becomes_told m t v hs inside same i is =
     let P : Tree CellName → Type 0 = λ u. Becomes (telling hs v m) (record m { shoens = u; told = v }) in
     let j = tree_machine m hs inside same i in
-    subst P (sym is) (record { is = refl; machine = record { inside = let w = j.inside in record { some = w.some; goals = w.goals; shoens = w.shoens; owned = w.owned }; last = j.last; known = j.known } })
+    subst P (sym is) (record { is = refl; machine = record { inside = let w = j.inside in record { some = w.some; goals = w.goals; shoens = w.shoens; owned = w.owned }; last = j.last; placed = j.placed; known = j.known } })
 
 -- ---- one shoen more
 
@@ -221,6 +221,7 @@ opened_machine m x room inside i =
     record {
       inside = record { some = w.some; goals = w.goals; shoens = shoens_more m.store.held m.shoens.shoens x w.shoens inside; owned = owned_more (length m.shoens.shoens) (length (m.shoens.shoens ++ x ∷ [])) m.goals.goals (omega (arith, more)) w.owned };
       last = i.last;
+      placed = i.placed;
       known = ap (λ n. n + 1) known ∙ sym more;
     }
 
@@ -282,7 +283,7 @@ since_reported b m k t n reports f g q tree i is s =
 -- ---- room for a shoen
 
 -- a tree made room, and took one shoen in; a table knows one more
-pub record IsOpened (m : Machine) (x : Shoen CellName) (t u : Tree CellName) (r : Rowed CellName) : Type 0 where
+pub record IsOpened (m : Machine) (x : Shoen CellName) (t u : Tree CellName) (r : Tabled CellName) : Type 0 where
   pub shoens : t.shoens ≡ m.shoens.shoens
   pub work : t.work ≡ m.shoens.work
   pub kept : t.kept ≡ m.shoens.kept
@@ -291,7 +292,7 @@ pub record IsOpened (m : Machine) (x : Shoen CellName) (t u : Tree CellName) (r 
   pub row : r ≡ record m.goals { shoens = r.shoens }
   pub count : r.shoens ≡ m.goals.shoens + 1
 
-opened_tree : (m : Machine) (x : Shoen CellName) (t u : Tree CellName) (r : Rowed CellName) → IsOpened m x t u r → u ≡ record m.shoens { shoens = m.shoens.shoens ++ x ∷ []; room = u.room }
+opened_tree : (m : Machine) (x : Shoen CellName) (t u : Tree CellName) (r : Tabled CellName) → IsOpened m x t u r → u ≡ record m.shoens { shoens = m.shoens.shoens ++ x ∷ []; room = u.room }
 opened_tree m x t u r o =
     let T : List (Shoen CellName) → List ℕ → List (Shoen CellName) → List ℕ → ℕ → Tree CellName = λ ss work kept kept_work room. record { shoens = ss ++ x ∷ []; work = work; kept = kept; kept_work = kept_work; room = room } in
     o.tree
@@ -301,30 +302,30 @@ opened_tree m x t u r o =
     ∙ ap (λ ws. T m.shoens.shoens m.shoens.work m.shoens.kept ws (t.room - 1)) o.kept_work
     ∙ ap (λ n. T m.shoens.shoens m.shoens.work m.shoens.kept m.shoens.kept_work n) (sym (ap (λ (v : Tree CellName). v.room) o.tree))
 
-opened_row : (m : Machine) (x : Shoen CellName) (t u : Tree CellName) (r : Rowed CellName) → IsOpened m x t u r → r ≡ record m.goals { shoens = m.goals.shoens + 1 }
-opened_row m x t u r o = o.row ∙ ap (λ n. let z : Rowed CellName = record m.goals { shoens = n } in z) o.count
+opened_row : (m : Machine) (x : Shoen CellName) (t u : Tree CellName) (r : Tabled CellName) → IsOpened m x t u r → r ≡ record m.goals { shoens = m.goals.shoens + 1 }
+opened_row m x t u r o = o.row ∙ ap (λ n. let z : Tabled CellName = record m.goals { shoens = n } in z) o.count
 
-opened_is : (m : Machine) (x : Shoen CellName) (t u : Tree CellName) (r : Rowed CellName) → IsOpened m x t u r → record m { shoens = u; goals = r } ≡ with_shoen x u.room m
+opened_is : (m : Machine) (x : Shoen CellName) (t u : Tree CellName) (r : Tabled CellName) → IsOpened m x t u r → record m { shoens = u; goals = r } ≡ with_shoen x u.room m
 opened_is m x t u r o =
     ap (λ (v : Tree CellName). let z : Machine = record m { shoens = v; goals = r } in z) (opened_tree m x t u r o)
-    ∙ ap (λ (q : Rowed CellName). let z : Machine = record (with_shoen x u.room m) { goals = q } in z) (opened_row m x t u r o)
+    ∙ ap (λ (q : Tabled CellName). let z : Machine = record (with_shoen x u.room m) { goals = q } in z) (opened_row m x t u r o)
 
-pub opened : (m : Machine) (x : Shoen CellName) (t u : Tree CellName) (r : Rowed CellName) → IsMachine m → IsShoenIn m.store.held x → IsOpened m x t u r → Becomes (with_shoen x u.room m) (record m { shoens = u; goals = r })
+pub opened : (m : Machine) (x : Shoen CellName) (t u : Tree CellName) (r : Tabled CellName) → IsMachine m → IsShoenIn m.store.held x → IsOpened m x t u r → Becomes (with_shoen x u.room m) (record m { shoens = u; goals = r })
 opened m x t u r i inside o =
     let P : Machine → Type 0 = λ n. IsMachine n in
     record { is = opened_is m x t u r o; machine = subst P (sym (opened_is m x t u r o)) (opened_machine m x u.room inside i) }
 
-pub opened_since : (b m : Machine) (x : Shoen CellName) (t u : Tree CellName) (r : Rowed CellName) → IsTree m.shoens → IsMachine m → IsOpened m x t u r → Since b m → Since b (record m { shoens = u; goals = r })
+pub opened_since : (b m : Machine) (x : Shoen CellName) (t u : Tree CellName) (r : Tabled CellName) → IsTree m.shoens → IsMachine m → IsOpened m x t u r → Since b m → Since b (record m { shoens = u; goals = r })
 opened_since b m x t u r tree i o s = let P : Machine → Type 0 = λ n. Since b n in subst P (sym (opened_is m x t u r o)) (since_opened b m x u.room tree i s)
 
-pub keeps_opening : (m : Machine) (t : Tree CellName) (r : Rowed CellName) → t.kept ≡ m.shoens.kept → t.kept_work ≡ m.shoens.kept_work → r ≡ record m.goals { shoens = r.shoens } → Keeps m (record m { shoens = t; goals = r })
+pub keeps_opening : (m : Machine) (t : Tree CellName) (r : Tabled CellName) → t.kept ≡ m.shoens.kept → t.kept_work ≡ m.shoens.kept_work → r ≡ record m.goals { shoens = r.shoens } → Keeps m (record m { shoens = t; goals = r })
 keeps_opening m t r kept work row =
-    let T : List (Shoen CellName) → List ℕ → List (Goal CellName) → ℕ → Trail = λ ss ws gs n. record (trail_of m) { shoens = ss; work = ws; goals = gs; goal_shoens = n } in
+    let T : List (Shoen CellName) → List ℕ → List (Goal CellName) → ℕ → ℕ → Trail = λ ss ws gs n l. record (trail_of m) { shoens = ss; work = ws; goals = gs; goal_shoens = n; goal_last = l } in
     record {
       grown = HasGrown-same m.store;
-      trail = ap (λ ss. T ss t.kept_work r.begun r.begun_shoens) kept
-          ∙ ap (λ ws. T m.shoens.kept ws r.begun r.begun_shoens) work
-          ∙ ap (λ (q : Rowed CellName). T m.shoens.kept m.shoens.kept_work q.begun q.begun_shoens) row;
+      trail = ap (λ ss. T ss t.kept_work r.begun r.begun_shoens r.begun_last) kept
+          ∙ ap (λ ws. T m.shoens.kept ws r.begun r.begun_shoens r.begun_last) work
+          ∙ ap (λ (q : Tabled CellName). T m.shoens.kept m.shoens.kept_work q.begun q.begun_shoens q.begun_last) row;
     }
 
 -- ---- a charge that is done
@@ -334,7 +335,7 @@ charges m t n reached shifts i is e so =
     let u : Tree CellName = record m.shoens { work = n ∷ m.shoens.work } in
     let now : any_reached n m.shoens.shoens (n ∷ m.shoens.work) ≡ reached = sym (e ∙ ap (λ (v : Tree CellName). any_reached n v.shoens v.work) is) in
     let P : Tree CellName → Type 0 = λ v. Charges n m (record m { shoens = v; shifts = shifts }) reached in
-    let machine : IsMachine (record m { shoens = u; shifts = shifts }) = record { inside = (let w = i.inside in record { some = w.some; goals = w.goals; shoens = w.shoens; owned = w.owned }); last = i.last; known = i.known } in
+    let machine : IsMachine (record m { shoens = u; shifts = shifts }) = record { inside = (let w = i.inside in record { some = w.some; goals = w.goals; shoens = w.shoens; owned = w.owned }); last = i.last; placed = i.placed; known = i.known } in
     subst P (sym is) (record { reached_is = now; is = ap (λ (b : Bool). let z : Machine = record m { shoens = u; shifts = b } in z) so; turns = λ ms. record { inside = machine.inside; states = λ f knows s. refl }; machine = machine })
 
 pub charged_since : (b m : Machine) (t : Tree CellName) (n : ℕ) (reached shifts : Bool) → t ≡ record m.shoens { work = n ∷ m.shoens.work } → reached ≡ any_reached n t.shoens t.work → shifts ≡ (m.shifts || reached) → length m.shoens.work ≤ length b.shoens.work → Since b m → Since b (record m { shoens = t; shifts = shifts })

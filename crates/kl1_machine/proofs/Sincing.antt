@@ -8,7 +8,7 @@ use Rattle.kl1_store.specs.Hooks.{Kept}
 use Rattle.kl1_goals.specs.declared.task.Task.{Task}
 use Rattle.kl1_goals.specs.declared.goal.Goal.{Goal}
 use Rattle.kl1_goals.specs.Lists.{is_monitor}
-use Rattle.kl1_goals.specs.Rows.{Rowed}
+use Rattle.kl1_goals.specs.Tables.{Tabled}
 use Rattle.kl1_user_effects.specs.declared.spelled.Spelled.{Spelled}
 use Rattle.kl1_user_effects.specs.Settled.{control_at}
 use Rattle.kl1_user_effects.proofs.Goals.{filter_append, filter_in, filter_owned, filter_up_to}
@@ -172,26 +172,27 @@ fewer_machine m p i =
     record {
       inside = record { some = w.some; goals = filter_in m.store.held p m.goals.goals w.goals; shoens = w.shoens; owned = filter_owned (length m.shoens.shoens) p m.goals.goals w.owned };
       last = filter_up_to m.counts.last_goal p m.goals.goals i.last;
+      placed = i.placed;
       known = i.known;
     }
 
-goals_are : (r s : Rowed CellName) (gs : List (Goal CellName)) → s ≡ record r { goals = s.goals } → s.goals ≡ gs → s ≡ record r { goals = gs }
-goals_are r s gs rest is = rest ∙ ap (λ (hs : List (Goal CellName)). let z : Rowed CellName = record r { goals = hs } in z) is
+goals_are : (r s : Tabled CellName) (gs : List (Goal CellName)) → s ≡ record r { goals = s.goals } → s.goals ≡ gs → s ≡ record r { goals = gs }
+goals_are r s gs rest is = rest ∙ ap (λ (hs : List (Goal CellName)). let z : Tabled CellName = record r { goals = hs } in z) is
 
-pub fewer_becomes : (m : Machine) (r : Rowed CellName) (p : Goal CellName → Bool) → IsMachine m → r ≡ record m.goals { goals = r.goals } → r.goals ≡ filter p m.goals.goals → Becomes (having_goals (filter p m.goals.goals) m) (record m { goals = r })
+pub fewer_becomes : (m : Machine) (r : Tabled CellName) (p : Goal CellName → Bool) → IsMachine m → r ≡ record m.goals { goals = r.goals } → r.goals ≡ filter p m.goals.goals → Becomes (having_goals (filter p m.goals.goals) m) (record m { goals = r })
 fewer_becomes m r p i rest is =
-    let P : Rowed CellName → Type 0 = λ s. Becomes (having_goals (filter p m.goals.goals) m) (record m { goals = s }) in
+    let P : Tabled CellName → Type 0 = λ s. Becomes (having_goals (filter p m.goals.goals) m) (record m { goals = s }) in
     subst P (sym (goals_are m.goals r (filter p m.goals.goals) rest is)) (record { is = refl; machine = fewer_machine m p i })
 
-pub fewer_since : (b m : Machine) (r : Rowed CellName) (p : Goal CellName → Bool) → r ≡ record m.goals { goals = r.goals } → r.goals ≡ filter p m.goals.goals → Since b m → Since b (record m { goals = r })
+pub fewer_since : (b m : Machine) (r : Tabled CellName) (p : Goal CellName → Bool) → r ≡ record m.goals { goals = r.goals } → r.goals ≡ filter p m.goals.goals → Since b m → Since b (record m { goals = r })
 fewer_since b m r p rest is s =
-    let P : Rowed CellName → Type 0 = λ q. Since b (record m { goals = q }) in
+    let P : Tabled CellName → Type 0 = λ q. Since b (record m { goals = q }) in
     subst P (sym (goals_are m.goals r (filter p m.goals.goals) rest is)) (since_fewer b m p s)
 
 -- ---- a new name
 
 pub named_machine : (m : Machine) (text : List ℕ) → IsMachine m → Becomes (record m { name = Some text }) (record m { name = Some text })
-named_machine m text i = record { is = refl; machine = let w = i.inside in record { inside = record { some = w.some; goals = w.goals; shoens = w.shoens; owned = w.owned }; last = i.last; known = i.known } }
+named_machine m text i = record { is = refl; machine = let w = i.inside in record { inside = record { some = w.some; goals = w.goals; shoens = w.shoens; owned = w.owned }; last = i.last; placed = i.placed; known = i.known } }
 
 pub since_named : (b m : Machine) (text : List ℕ) → Since b m → Since b (record m { name = Some text })
 since_named b m text s = record {

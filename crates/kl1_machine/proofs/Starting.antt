@@ -371,7 +371,7 @@ counted_as goal m variables nodes many small =
 
 -- counts leave a machine one, and what stays
 pub counts_machine : (m : Machine) (variables nodes : ℕ) → IsMachine m → IsMachine (record m { counts = record m.counts { variables = variables; nodes = nodes } })
-counts_machine m variables nodes i = let w = i.inside in record { inside = record { some = w.some; goals = w.goals; shoens = w.shoens; owned = w.owned }; last = i.last; known = i.known }
+counts_machine m variables nodes i = let w = i.inside in record { inside = record { some = w.some; goals = w.goals; shoens = w.shoens; owned = w.owned }; last = i.last; placed = i.placed; known = i.known }
 
 pub counts_keep : (m n : Machine) (variables nodes : ℕ) → Keeps m n → Keeps m (record n { counts = record n.counts { variables = variables; nodes = nodes } })
 counts_keep m n variables nodes p = record { grown = p.grown; trail = p.trail }

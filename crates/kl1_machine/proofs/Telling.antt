@@ -108,7 +108,7 @@ tells m k n x sh Dropped a =
       told_is = told_as m k n x sh Dropped a;
       dropped = λ b. ap (with_shoens m k) (unheard_same n m.shoens sh a.found d.0);
       keeps = same_free m.store.held k.held m.shoens.shoens n d.1;
-      machine = record { inside = (heard_turns m k n x sh Dropped a []).inside; last = a.machine.last; known = a.machine.known };
+      machine = record { inside = (heard_turns m k n x sh Dropped a []).inside; last = a.machine.last; placed = a.machine.placed; known = a.machine.known };
       named = record { name = refl; spelled = refl };
       grown = a.grows.grown;
       count = refl;
@@ -121,7 +121,7 @@ tells m k n x sh Broken a =
       told_is = told_as m k n x sh Broken a;
       dropped = λ b. ap (with_shoens m k) (unheard_torn n m.shoens sh a.found d.whole);
       keeps = same_free m.store.held k.held m.shoens.shoens n d.same;
-      machine = record { inside = (heard_turns m k n x sh Broken a []).inside; last = a.machine.last; known = a.machine.known ∙ sym count };
+      machine = record { inside = (heard_turns m k n x sh Broken a []).inside; last = a.machine.last; placed = a.machine.placed; known = a.machine.known ∙ sym count };
       named = record { name = refl; spelled = refl };
       grown = a.grows.grown;
       count = count;
@@ -134,7 +134,7 @@ tells m k n x sh (Sent next) a =
       told_is = told_as m k n x sh (Sent next) a;
       dropped = λ b. absurd (cc);
       keeps = sent_free m.store.held k.held m.shoens.shoens n sh (last_made m.rules m.counts.reports) x next a.found d;
-      machine = record { inside = (heard_turns m k n x sh (Sent next) a []).inside; last = a.machine.last; known = a.machine.known ∙ sym count };
+      machine = record { inside = (heard_turns m k n x sh (Sent next) a []).inside; last = a.machine.last; placed = a.machine.placed; known = a.machine.known ∙ sym count };
       named = record { name = refl; spelled = refl };
       grown = a.grows.grown;
       count = count;

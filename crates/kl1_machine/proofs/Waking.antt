@@ -9,7 +9,7 @@ use Rattle.kl1_model.specs.Module.{is_among}
 use Rattle.kl1_text.specs.declared.cell_name.CellName.{CellName}
 use Rattle.kl1_store.specs.Hooks.{Kept}
 use Rattle.kl1_store.specs.Held.{Held}
-use Rattle.kl1_goals.specs.Rows.{Rowed}
+use Rattle.kl1_goals.specs.Tables.{Tabled}
 use Rattle.kl1_goals.specs.declared.goal.Goal.{Goal}
 use Rattle.kl1_goals.specs.Lists.{has_number, stood_by}
 use Rattle.kl1_codes.specs.Shelves.{Program}
@@ -31,9 +31,9 @@ one_less : (n : ℕ) (q : ℕ → Bool) (k : ℕ) → q k ≡ false → (k ≡ n
 one_less n q k e other = ap (λ b. (b || false) || q k) (ne_eqb k n other) ∙ e
 
 -- the goal of a number was looked at
-pub wakes_one : (program : Program) (m : Machine) (k : Kept CellName) (r : Rowed CellName) (n : ℕ) (goal : Goal CellName) (o : Option ℕ) → IsLook program m k n goal o → r ≡ record m.goals { goals = map (stood_by n o) m.goals.goals } → Wakes program (n ∷ []) m (record m { store = k; goals = r })
+pub wakes_one : (program : Program) (m : Machine) (k : Kept CellName) (r : Tabled CellName) (n : ℕ) (goal : Goal CellName) (o : Option ℕ) → IsLook program m k n goal o → r ≡ record m.goals { goals = map (stood_by n o) m.goals.goals } → Wakes program (n ∷ []) m (record m { store = k; goals = r })
 wakes_one program m k r n goal o look row =
-    let W : Rowed CellName → Type 0 = λ x. Wakes program (n ∷ []) m (record m { store = k; goals = x }) in
+    let W : Tabled CellName → Type 0 = λ x. Wakes program (n ∷ []) m (record m { store = k; goals = x }) in
     subst W (sym row) (record {
       looks = record { goals = stood_unlooked n o m.goals.goals; held = look.held; grown = look.grown; rest = refl };
       flags = stood_unready n o m.goals.goals;

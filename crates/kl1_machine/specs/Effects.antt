@@ -71,7 +71,7 @@ pub record Charges (n : ℕ) (m u : Machine) (reached : Bool) : Type 0 where
 
 -- a machine with a goal more, after the others
 abbrev pub with_goal : Goal CellName → Machine → Machine
-with_goal g m = record m { goals = record m.goals { goals = m.goals.goals ++ g ∷ [] }; counts = record m.counts { last_goal = g.number } }
+with_goal g m = record m { goals = record m.goals { goals = m.goals.goals ++ g ∷ []; last = g.number }; counts = record m.counts { last_goal = g.number } }
 
 -- goals more for these cells, each with its priority
 abbrev pub with_goals : ℕ → List ℕ → List (Qualified CellName) → Machine → Machine

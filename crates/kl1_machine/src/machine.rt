@@ -25,7 +25,7 @@ mod unifying;
 use crate::counts::Counts;
 pub use answering::Answer;
 pub use ending::PathScan;
-use kl1_goals::{GoalRow, Rules};
+use kl1_goals::{GoalTable, Rules};
 use kl1_shoen::ShoenTree;
 use kl1_store::{Point, Store};
 use kl1_text::{AtomText, CellName};
@@ -38,7 +38,7 @@ pub use starting::Start;
 pub struct Machine {
     pub rules: Rules,
     pub store: Store<CellName>,
-    pub goals: GoalRow<CellName>,
+    pub goals: GoalTable<CellName>,
     pub shoens: ShoenTree<CellName>,
     pub names: AccountNames,
     /// A name that is new to the account, and the variable that becomes it, if one does.

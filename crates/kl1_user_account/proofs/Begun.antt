@@ -13,11 +13,12 @@ use Rattle.kl1_user_effects.specs.Naming.{AreSmall}
 use Rattle.kl1_user_account.specs.Beginning.{begun}
 use Rattle.kl1_user_account.specs.Keeping.{IsKept, CountsWork}
 
-pub begun_kept : (a : Account) (hooks : List Hook) (known : ℕ) → a ≡ begun a.own_name a.rules a.names a.sessions → AreSmall a.names → known ≡ 0 → IsKept a hooks known
-begun_kept a hooks known is small none =
-    let K : ℕ → Type 0 = λ n. IsKept a hooks n in
-    let A : Account → Type 0 = λ z. IsKept z hooks 0 in
-    subst K (sym none) (subst A (sym is) (record {
+pub begun_kept : (a : Account) (hooks : List Hook) (known put : ℕ) → a ≡ begun a.own_name a.rules a.names a.sessions → AreSmall a.names → known ≡ 0 → put ≡ 0 → IsKept a hooks known put
+begun_kept a hooks known put is small none never =
+    let K : ℕ → Type 0 = λ n. IsKept a hooks n 0 in
+    let L : ℕ → Type 0 = λ n. IsKept a hooks known n in
+    let A : Account → Type 0 = λ z. IsKept z hooks 0 0 in
+    subst L (sym never) (subst K (sym none) (subst A (sym is) (record {
       some = omega arith;
       goals = tt;
       owned = tt;
@@ -25,13 +26,14 @@ begun_kept a hooks known is small none =
       count = refl;
       first = tt;
       last = tt;
+      placed = omega arith;
       most = omega arith;
       settled = λ f fits. tt;
       enabled = tt;
       rows = λ f fits. tt;
       named = λ f g one two. refl;
       small = small;
-    }))
+    })))
 
 -- an account of these parts, in which nothing has happened
 abbrev blank_of : List ℕ → Rules → List Known → ℕ → Held CellName → List (Goal CellName) → List (Shoen CellName) → List ℕ → List Numbered → Account
@@ -54,17 +56,17 @@ blank_of own rules names sessions held goals shoens work modules = record {
 }
 
 -- it holds of one whose parts are empty
-pub blank_kept : (own : List ℕ) (rules : Rules) (names : List Known) (sessions : ℕ) (held : Held CellName) (goals : List (Goal CellName)) (shoens : List (Shoen CellName)) (work : List ℕ) (modules : List Numbered) (hooks : List Hook) (known : ℕ) →
-    held ≡ with_variable nothing_held → goals ≡ [] → shoens ≡ [] → work ≡ [] → modules ≡ [] → AreSmall names → known ≡ 0 → IsKept (blank_of own rules names sessions held goals shoens work modules) hooks known
-blank_kept own rules names sessions held goals shoens work modules hooks known h g s w m small none =
+pub blank_kept : (own : List ℕ) (rules : Rules) (names : List Known) (sessions : ℕ) (held : Held CellName) (goals : List (Goal CellName)) (shoens : List (Shoen CellName)) (work : List ℕ) (modules : List Numbered) (hooks : List Hook) (known put : ℕ) →
+    held ≡ with_variable nothing_held → goals ≡ [] → shoens ≡ [] → work ≡ [] → modules ≡ [] → AreSmall names → known ≡ 0 → put ≡ 0 → IsKept (blank_of own rules names sessions held goals shoens work modules) hooks known put
+blank_kept own rules names sessions held goals shoens work modules hooks known put h g s w m small none never =
     let F = blank_of own rules names sessions in
-    begun_kept (F held goals shoens work modules) hooks known
+    begun_kept (F held goals shoens work modules) hooks known put
     (ap (λ (x : Held CellName). F x goals shoens work modules) h
     ∙ ap (λ (x : List (Goal CellName)). F (with_variable nothing_held) x shoens work modules) g
     ∙ ap (λ (x : List (Shoen CellName)). F (with_variable nothing_held) [] x work modules) s
     ∙ ap (λ (x : List ℕ). F (with_variable nothing_held) [] [] x modules) w
     ∙ ap (λ (x : List Numbered). F (with_variable nothing_held) [] [] [] x) m)
-    small none
+    small none never
 
 pub begun_counts : (work entries run : ℕ) → work ≡ 0 → entries ≡ 0 → run ≡ 0 → CountsWork work entries run
 begun_counts work entries run w e r = record { longest = omega (arith, r); all = omega (arith, w, e); last = λ lt. absurd (omega (arith, lt, r)) }

@@ -31,7 +31,7 @@ noted_is x entries run e r = ap₂ (λ i j. let y : Aside = record x { entries =
 
 -- an event began with machine `b`, came to `r` by a change of states that brings a goal, and to `n` when the goal's names were published
 pub record IsBrought (x : Aside) (change : State → State) (goal : Term) (spares numbers : List CellName) (b r n : Machine) : Type 0 where
-  pub kept : IsKept (account_of x b) b.store.hooks b.goals.shoens
+  pub kept : IsKept (account_of x b) b.store.hooks b.goals.shoens b.goals.last
   pub published : IsPublished change goal spares numbers b r n
   pub rested : IsRested (program_in x b) r
   pub room : x.entries < (limits_of b.rules).entries
@@ -53,7 +53,7 @@ module _ (x : Aside) (change : State → State) (goal : Term) (spares numbers : 
       ∙ sym (state_is f (noted x) n no_name)
 
   -- what always holds of an account holds
-  pub brought_kept : IsKept (account_of (noted x) n) n.store.hooks n.goals.shoens
+  pub brought_kept : IsKept (account_of (noted x) n) n.store.hooks n.goals.shoens n.goals.last
   brought_kept =
       let rested = published_rested change goal spares numbers b r n p.published (program_in x b) p.rested in
       let more = ap (λ (rules : Rules). (limits_of rules).entries) same_rules in
@@ -76,7 +76,7 @@ module _ (x : Aside) (change : State → State) (goal : Term) (spares numbers : 
 -- an event began with machine `b`, in an account with machine `m`, in which there was room for names then, in `w`; it brought a goal, with
 -- these numbers for its names, which were published then
 pub record IsPut (x : Aside) (change : State → State) (goal : Term) (texts : List (List ℕ)) (spares numbers : List CellName) (m w b r n : Machine) : Type 0 where
-  pub kept : IsKept (account_of x m) m.store.hooks m.goals.shoens
+  pub kept : IsKept (account_of x m) m.store.hooks m.goals.shoens m.goals.last
   pub roomed : IsSame m w
   pub begins : BeginsFrom w b
   pub brings : Brings change goal spares b r
@@ -120,7 +120,7 @@ module _ (x : Aside) (change : State → State) (goal : Term) (texts : List (Lis
       }
 
   -- what always holds of the account after it
-  pub put_kept : IsKept (account_of (noted x) n) n.store.hooks n.goals.shoens
+  pub put_kept : IsKept (account_of (noted x) n) n.store.hooks n.goals.shoens n.goals.last
   put_kept = brought_kept x change goal spares numbers b r n put_is
 
   pub put_counts : CountsWork (length m.shoens.work) x.entries x.run → CountsWork (length n.shoens.work) (suc x.entries) 0

@@ -48,7 +48,7 @@ settled_by f hooks h rules ms ns ss (x ∷ gs) e a =
 
 -- an account was about to load this module, with machine `b`; all goals were looked at again, and the module's names were published
 pub record IsLoaded (x : Aside) (source : List ℕ) (d : Numbered) (b r : Machine) (names : NameShelf) (row : List CellName) : Type 0 where
-  pub kept : IsKept (account_of x b) b.store.hooks b.goals.shoens
+  pub kept : IsKept (account_of x b) b.store.hooks b.goals.shoens b.goals.last
   pub draft : IsDraftOf x.modules b.names.names (has_no_room (account_of x b)) source d
   pub looks : Reschedules b r
   pub settled : AllSettled (with_last (program_in x b) d) r
@@ -115,7 +115,7 @@ module _ (x : Aside) (source : List ℕ) (d : Numbered) (b r : Machine) (names :
       let M : Machine → Type 0 = λ z. IsMachine z in
       let i : IsMachine (looked_of b r) = subst M p.looks.rest p.looks.machine in
       record {
-        machine = record { inside = record { some = i.inside.some; goals = i.inside.goals; shoens = i.inside.shoens; owned = i.inside.owned }; last = i.last; known = i.known };
+        machine = record { inside = record { some = i.inside.some; goals = i.inside.goals; shoens = i.inside.shoens; owned = i.inside.owned }; last = i.last; placed = i.placed; known = i.known };
         rules = refl;
         first = looked_hold (λ g. 0 < g.number) (λ g o c q. q) r.goals.goals b.goals.goals p.looks.goals p.kept.first;
         rows = λ f fits. read_more f x.modules (record d { row = row }) (p.kept.rows f (p.fits f fits)) (p.numbers f fits);
@@ -123,10 +123,10 @@ module _ (x : Aside) (source : List ℕ) (d : Numbered) (b r : Machine) (names :
         enabled = unready_hold (IsEnabled b.shoens.shoens b.shoens.work) (λ g o q. q) r.goals.goals b.goals.goals p.flags p.kept.enabled;
       }
 
-  pub loaded_kept : IsKept (account_of (with_loaded x d row) (record r { names = names })) r.store.hooks r.goals.shoens
+  pub loaded_kept : IsKept (account_of (with_loaded x d row) (record r { names = names })) r.store.hooks r.goals.shoens r.goals.last
   loaded_kept =
       let y = with_loaded x d row in
-      let K : Machine → Type 0 = λ z. IsKept (account_of y (record z { names = names })) z.store.hooks z.goals.shoens in
+      let K : Machine → Type 0 = λ z. IsKept (account_of y (record z { names = names })) z.store.hooks z.goals.shoens z.goals.last in
       let A : Machine → (f : Reading) → State = λ z f. state_of f (account_of y (record z { names = names })) in
       let steps : (f g : Reading) → Fits names.names f → Fits names.names g → A r f ≡ A r g = λ f g one two.
       ap (λ (t : Transition). t.state) (sym (loaded_steps f))
@@ -151,7 +151,7 @@ module _ (x : Aside) (source : List ℕ) (d : Numbered) (b r : Machine) (names :
 -- an account with machine `m` was about to load this module; there was room for its names then, in `w`, and all goals were looked at; then
 -- the names were published
 pub record Loads (x : Aside) (source : List ℕ) (d : Numbered) (m w r : Machine) (names : NameShelf) (row : List CellName) : Type 0 where
-  pub kept : IsKept (account_of x m) m.store.hooks m.goals.shoens
+  pub kept : IsKept (account_of x m) m.store.hooks m.goals.shoens m.goals.last
   pub roomed : IsSame m w
   pub draft : IsDraftOf x.modules m.names.names (has_no_room (account_of x m)) source d
   pub beside : LooksBeside (record { rules = w.rules; loaded = x.modules }) d w r
@@ -186,7 +186,7 @@ module _ (x : Aside) (source : List ℕ) (d : Numbered) (m w r : Machine) (names
       }
 
   -- what always holds of the account after it
-  pub load_kept : IsKept (account_of (with_loaded x d row) (record r { names = names })) r.store.hooks r.goals.shoens
+  pub load_kept : IsKept (account_of (with_loaded x d row) (record r { names = names })) r.store.hooks r.goals.shoens r.goals.last
   load_kept = loaded_kept x source d b r names row load_is
 
   pub load_counts : CountsWork (length m.shoens.work) x.entries x.run → CountsWork (length r.shoens.work) (suc x.entries) 0

@@ -5,7 +5,7 @@ use Rattle.kl1_model.specs.Rules.{limits_of}
 use Rattle.kl1_model.specs.State.{State}
 use Rattle.kl1_store.specs.Held.{Held}
 use Rattle.kl1_store.specs.Hooks.{Hook, point_of}
-use Rattle.kl1_goals.specs.Rows.{Rowed}
+use Rattle.kl1_goals.specs.Tables.{Tabled}
 use Rattle.kl1_text.specs.declared.cell_name.CellName.{CellName}
 use Rattle.kl1_atoms.specs.declared.known.Known.{Known}
 use Rattle.kl1_shoen_paths.specs.declared.shoen.Shoen.{Shoen}
@@ -83,9 +83,9 @@ state_is f x m none = ap (λ (o : Option (List ℕ)). worked f (state_aside x m.
 -- ---- what holds of the one holds of the other
 
 -- the machine of an account rests
-pub kept_rested : (x : Aside) (m : Machine) → IsKept (account_of x m) m.store.hooks m.goals.shoens → IsRested (program_in x m) m
+pub kept_rested : (x : Aside) (m : Machine) → IsKept (account_of x m) m.store.hooks m.goals.shoens m.goals.last → IsRested (program_in x m) m
 kept_rested x m k = record {
-  machine = record { inside = record { some = k.some; goals = k.goals; shoens = k.shoens; owned = k.owned }; last = k.last; known = k.count };
+  machine = record { inside = record { some = k.some; goals = k.goals; shoens = k.shoens; owned = k.owned }; last = k.last; placed = k.placed; known = k.count };
   rules = refl;
   first = k.first;
   rows = k.rows;
@@ -94,7 +94,7 @@ kept_rested x m k = record {
 }
 
 -- readings of the names read the same of it
-pub kept_alike : (x : Aside) (m : Machine) → IsKept (account_of x m) m.store.hooks m.goals.shoens → ReadsAlike m
+pub kept_alike : (x : Aside) (m : Machine) → IsKept (account_of x m) m.store.hooks m.goals.shoens m.goals.last → ReadsAlike m
 kept_alike x m k = λ f g one two s.
     ap (λ (z : State). let y : State = record (worked f s m.store.held (made m)) { goals = z.goals; shoens = z.shoens } in y) (k.named f g one two)
 
@@ -103,7 +103,7 @@ pub rested_by : (p q : Program) (m : Machine) → p ≡ q → IsRested p m → I
 rested_by p q m e r = subst (λ (z : Program). IsRested z m) e r
 
 -- what always holds holds of an account whose machine rests
-pub rested_kept : (x : Aside) (m : Machine) → IsRested (program_in x m) m → x.entries ≤ (limits_of m.rules).entries → AreSmall m.names.names → ((f g : Reading) → Fits m.names.names f → Fits m.names.names g → state_of f (account_of x m) ≡ state_of g (account_of x m)) → IsKept (account_of x m) m.store.hooks m.goals.shoens
+pub rested_kept : (x : Aside) (m : Machine) → IsRested (program_in x m) m → x.entries ≤ (limits_of m.rules).entries → AreSmall m.names.names → ((f g : Reading) → Fits m.names.names f → Fits m.names.names g → state_of f (account_of x m) ≡ state_of g (account_of x m)) → IsKept (account_of x m) m.store.hooks m.goals.shoens m.goals.last
 rested_kept x m r most small named = record {
   some = r.machine.inside.some;
   goals = r.machine.inside.goals;
@@ -112,6 +112,7 @@ rested_kept x m r most small named = record {
   count = r.machine.known;
   first = r.first;
   last = r.machine.last;
+  placed = r.machine.placed;
   most = most;
   settled = r.settled;
   enabled = r.enabled;
@@ -127,27 +128,29 @@ pub record IsSame (m b : Machine) : Type 0 where
   pub account : (x : Aside) → account_of x b ≡ account_of x m
   pub hooks : b.store.hooks ≡ m.store.hooks
   pub known : b.goals.shoens ≡ m.goals.shoens
+  pub placed : b.goals.last ≡ m.goals.last
 
 pub same_self : (m : Machine) → IsSame m m
-same_self m = record { account = λ x. refl; hooks = refl; known = refl }
+same_self m = record { account = λ x. refl; hooks = refl; known = refl; placed = refl }
 
 pub same_then : (m b c : Machine) → IsSame m b → IsSame b c → IsSame m c
-same_then m b c one two = record { account = λ x. two.account x ∙ one.account x; hooks = two.hooks ∙ one.hooks; known = two.known ∙ one.known }
+same_then m b c one two = record { account = λ x. two.account x ∙ one.account x; hooks = two.hooks ∙ one.hooks; known = two.known ∙ one.known; placed = two.placed ∙ one.placed }
 
 -- what always holds stays
-pub same_kept : (x : Aside) (m b : Machine) → IsSame m b → IsKept (account_of x m) m.store.hooks m.goals.shoens → IsKept (account_of x b) b.store.hooks b.goals.shoens
+pub same_kept : (x : Aside) (m b : Machine) → IsSame m b → IsKept (account_of x m) m.store.hooks m.goals.shoens m.goals.last → IsKept (account_of x b) b.store.hooks b.goals.shoens b.goals.last
 same_kept x m b s k =
-    let A : Account → Type 0 = λ z. IsKept z m.store.hooks m.goals.shoens in
-    let H : List Hook → Type 0 = λ hs. IsKept (account_of x b) hs m.goals.shoens in
-    let N : ℕ → Type 0 = λ n. IsKept (account_of x b) b.store.hooks n in
-    subst N (sym s.known) (subst H (sym s.hooks) (subst A (sym (s.account x)) k))
+    let A : Account → Type 0 = λ z. IsKept z m.store.hooks m.goals.shoens m.goals.last in
+    let H : List Hook → Type 0 = λ hs. IsKept (account_of x b) hs m.goals.shoens m.goals.last in
+    let N : ℕ → Type 0 = λ n. IsKept (account_of x b) b.store.hooks n m.goals.last in
+    let L : ℕ → Type 0 = λ n. IsKept (account_of x b) b.store.hooks b.goals.shoens n in
+    subst L (sym s.placed) (subst N (sym s.known) (subst H (sym s.hooks) (subst A (sym (s.account x)) k)))
 
 -- the charged work is counted as before
 pub same_counts : (x : Aside) (m b : Machine) → IsSame m b → CountsWork (length m.shoens.work) x.entries x.run → CountsWork (length b.shoens.work) x.entries x.run
 same_counts x m b s c = subst (λ n. CountsWork n x.entries x.run) (sym (ap (λ (a : Account). length a.work) (s.account x))) c
 
 -- all that always holds of an account
-pub same_both : (x : Aside) (m b : Machine) → IsSame m b → IsKept (account_of x m) m.store.hooks m.goals.shoens × CountsWork (length m.shoens.work) x.entries x.run → IsKept (account_of x b) b.store.hooks b.goals.shoens × CountsWork (length b.shoens.work) x.entries x.run
+pub same_both : (x : Aside) (m b : Machine) → IsSame m b → IsKept (account_of x m) m.store.hooks m.goals.shoens m.goals.last × CountsWork (length m.shoens.work) x.entries x.run → IsKept (account_of x b) b.store.hooks b.goals.shoens b.goals.last × CountsWork (length b.shoens.work) x.entries x.run
 same_both x m b s k = (same_kept x m b s k.0, same_counts x m b s k.1)
 
 -- a machine that has room for more names is the same
@@ -156,13 +159,14 @@ roomed_same m b is names = record {
   account = λ x. ap (account_of x) is ∙ ap (λ (ks : List Known). let a : Account = record (account_of x m) { names = ks } in a) names;
   hooks = ap (λ (z : Machine). z.store.hooks) is;
   known = ap (λ (z : Machine). z.goals.shoens) is;
+  placed = ap (λ (z : Machine). z.goals.last) is;
 }
 
 -- a machine with which an event has begun
 abbrev pub begun_from : Machine → Machine → Machine
 begun_from m b = record m {
   mark = point_of m.store;
-  goals = record m.goals { begun = m.goals.goals; begun_shoens = m.goals.shoens };
+  goals = record m.goals { begun = m.goals.goals; begun_shoens = m.goals.shoens; begun_last = m.goals.last };
   shoens = record m.shoens { kept = m.shoens.shoens; kept_work = m.shoens.work };
   begun = m.counts;
   name = None;
@@ -172,7 +176,7 @@ begun_from m b = record m {
 }
 
 pub begun_same : (m b : Machine) → b ≡ begun_from m b → IsSame m b
-begun_same m b is = record { account = λ x. ap (account_of x) is; hooks = ap (λ (z : Machine). z.store.hooks) is; known = ap (λ (z : Machine). z.goals.shoens) is }
+begun_same m b is = record { account = λ x. ap (account_of x) is; hooks = ap (λ (z : Machine). z.store.hooks) is; known = ap (λ (z : Machine). z.goals.shoens) is; placed = ap (λ (z : Machine). z.goals.last) is }
 
 -- a machine that went back is the same as the event began with
 pub back_same : (b m : Machine) → IsBack b m → IsSame b m
@@ -180,11 +184,12 @@ back_same b m i = record {
   account = λ x.
       ap (account_of x) i.rest
       ∙ ap (λ (h : Held CellName). let a : Account = record (account_of x m) { rules = b.rules; held = h; names = b.names.names; last_goal = b.counts.last_goal; variables = b.counts.variables; nodes = b.counts.nodes; reports = b.counts.reports } in a) i.held
-      ∙ ap (λ (r : Rowed CellName). let a : Account = record (account_of x b) { goals = r.goals; shoens = m.shoens.shoens; work = m.shoens.work } in a) i.goals
+      ∙ ap (λ (r : Tabled CellName). let a : Account = record (account_of x b) { goals = r.goals; shoens = m.shoens.shoens; work = m.shoens.work } in a) i.goals
       ∙ ap (λ (ss : List (Shoen CellName)). let a : Account = record (account_of x b) { shoens = ss; work = m.shoens.work } in a) i.shoens
       ∙ ap (λ (ws : List ℕ). let a : Account = record (account_of x b) { work = ws } in a) i.work;
   hooks = i.hooks;
-  known = ap (λ (r : Rowed CellName). r.shoens) i.goals;
+  known = ap (λ (r : Tabled CellName). r.shoens) i.goals;
+  placed = ap (λ (r : Tabled CellName). r.last) i.goals;
 }
 
 -- what is there to go back to, if an event that began with this machine has kept it
@@ -197,10 +202,10 @@ under b m is keeps = record { begun = b; is = is; keeps = keeps }
 pub record Begins (x : Aside) (m b : Machine) : Type 0 where
   pub same : IsSame m b
   pub begun : IsBegun b
-  pub kept : IsKept (account_of x b) b.store.hooks b.goals.shoens
+  pub kept : IsKept (account_of x b) b.store.hooks b.goals.shoens b.goals.last
   pub counted : CountsWork (length b.shoens.work) x.entries x.run
 
-pub begins : (x : Aside) (m b : Machine) (names : NameShelf) → names.names ≡ m.names.names → b ≡ begun_from (record m { names = names }) b → IsBegun b → IsKept (account_of x m) m.store.hooks m.goals.shoens × CountsWork (length m.shoens.work) x.entries x.run → Begins x m b
+pub begins : (x : Aside) (m b : Machine) (names : NameShelf) → names.names ≡ m.names.names → b ≡ begun_from (record m { names = names }) b → IsBegun b → IsKept (account_of x m) m.store.hooks m.goals.shoens m.goals.last × CountsWork (length m.shoens.work) x.entries x.run → Begins x m b
 begins x m b names same is begun k =
     let s = same_then m (record m { names = names }) b (roomed_same m (record m { names = names }) refl same) (begun_same (record m { names = names }) b is) in
     record { same = s; begun = begun; kept = same_kept x m b s k.0; counted = same_counts x m b s k.1 }
@@ -210,7 +215,7 @@ pub begun_rested : (x : Aside) (m b : Machine) (program : Program) → Begins x 
 begun_rested x m b program g is = rested_by (program_in x b) program b (sym is) (kept_rested x b g.kept)
 
 -- what always holds of an account whose machine went back
-pub back_both : (x : Aside) (m b n : Machine) → Begins x m b → IsBack b n → IsKept (account_of x n) n.store.hooks n.goals.shoens × CountsWork (length n.shoens.work) x.entries x.run
+pub back_both : (x : Aside) (m b n : Machine) → Begins x m b → IsBack b n → IsKept (account_of x n) n.store.hooks n.goals.shoens n.goals.last × CountsWork (length n.shoens.work) x.entries x.run
 back_both x m b n g i = same_both x b n (back_same b n i) (g.kept, g.counted)
 
 -- and it is what it was
@@ -218,7 +223,7 @@ pub back_account : (x : Aside) (m b n : Machine) → Begins x m b → IsBack b n
 back_account x m b n g i = (back_same b n i).account x ∙ g.same.account x
 
 -- what always holds of an account whose machine is as when the event began
-pub still_both : (x : Aside) (m b n : Machine) → Begins x m b → n ≡ b → IsKept (account_of x n) n.store.hooks n.goals.shoens × CountsWork (length n.shoens.work) x.entries x.run
+pub still_both : (x : Aside) (m b n : Machine) → Begins x m b → n ≡ b → IsKept (account_of x n) n.store.hooks n.goals.shoens n.goals.last × CountsWork (length n.shoens.work) x.entries x.run
 still_both x m b n g is =
-    let P : Machine → Type 0 = λ z. IsKept (account_of x z) z.store.hooks z.goals.shoens × CountsWork (length z.shoens.work) x.entries x.run in
+    let P : Machine → Type 0 = λ z. IsKept (account_of x z) z.store.hooks z.goals.shoens z.goals.last × CountsWork (length z.shoens.work) x.entries x.run in
     subst P (sym is) (g.kept, g.counted)

@@ -41,10 +41,10 @@ sent_step x y program m u a n message is none s same f reads =
     ap (λ (b : Account). step (state_of f b) (control n message)) (sym is) ∙ sent_steps x program m u n message none s f reads ∙ ap (λ (z : Aside). T (state_of f (account_of z u))) (sym same)
 
 -- all that always holds of an account holds after it
-pub sent_kept : (x y : Aside) (program : Program) (m u : Machine) (n : ℕ) (message : Message) → program ≡ program_in x m → m.name ≡ None → Keeps m u → Sends program x.entries n message m u → y ≡ entered x → IsKept (account_of x m) m.store.hooks m.goals.shoens →
-    IsKept (account_of y u) u.store.hooks u.goals.shoens
+pub sent_kept : (x y : Aside) (program : Program) (m u : Machine) (n : ℕ) (message : Message) → program ≡ program_in x m → m.name ≡ None → Keeps m u → Sends program x.entries n message m u → y ≡ entered x → IsKept (account_of x m) m.store.hooks m.goals.shoens m.goals.last →
+    IsKept (account_of y u) u.store.hooks u.goals.shoens u.goals.last
 sent_kept x y program m u n message is none keeps s same k =
-    let K : Aside → Type 0 = λ z. IsKept (account_of z u) u.store.hooks u.goals.shoens in
+    let K : Aside → Type 0 = λ z. IsKept (account_of z u) u.store.hooks u.goals.shoens u.goals.last in
     let names : u.names ≡ m.names = ap (λ (t : Trail). t.names) keeps.trail in
     let rules : u.rules ≡ m.rules = ap (λ (t : Trail). t.rules) keeps.trail in
     let at : program ≡ program_in (entered x) u = is ∙ ap (λ (r : Rules). let p : Program = record { rules = r; loaded = x.modules } in p) (sym rules) in

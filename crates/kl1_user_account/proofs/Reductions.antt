@@ -119,7 +119,7 @@ most_entries r y room most same =
     subst (λ n. n ≤ most_of) (sym (ap (λ (x : Aside). x.entries) same)) (room_for (needs_one r.in_run r.aside.run) r.aside.entries most_of full most)
 
 -- all that always holds of an account holds after it
-pub reduced_kept : (r : Reduction) (program : Program) (v : Machine) (y : Aside) → program ≡ program_in r.aside r.machine → r.full ≡ false → IsReduced program r.number r.clause r.machine v → r.aside.entries ≤ (limits_of r.machine.rules).entries → y ≡ noted r.in_run r.aside → IsKept (account_of y v) v.store.hooks v.goals.shoens
+pub reduced_kept : (r : Reduction) (program : Program) (v : Machine) (y : Aside) → program ≡ program_in r.aside r.machine → r.full ≡ false → IsReduced program r.number r.clause r.machine v → r.aside.entries ≤ (limits_of r.machine.rules).entries → y ≡ noted r.in_run r.aside → IsKept (account_of y v) v.store.hooks v.goals.shoens v.goals.last
 reduced_kept r program v y is room done most same =
     let rules : v.rules ≡ r.machine.rules = sym done.rested.rules ∙ ap (λ (p : Program). p.rules) is in
     let at : program ≡ program_in y v = is ∙ ap (λ (k : Rules). let p : Program = record { rules = k; loaded = r.aside.modules } in p) (sym rules) ∙ ap (λ (x : Aside). program_in x v) (sym same) in

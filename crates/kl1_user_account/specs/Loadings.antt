@@ -68,7 +68,7 @@ abbrev pub BeginsFrom : Machine → Machine → Type 0
 BeginsFrom m b =
     b ≡ record m {
       mark = point_of m.store;
-      goals = record m.goals { begun = m.goals.goals; begun_shoens = m.goals.shoens };
+      goals = record m.goals { begun = m.goals.goals; begun_shoens = m.goals.shoens; begun_last = m.goals.last };
       shoens = record m.shoens { kept = m.shoens.shoens; kept_work = m.shoens.work };
       begun = m.counts;
       name = None;

@@ -24,7 +24,7 @@ use crate::printing::print_cell;
 use itoa::Buffer;
 use kl1_atoms::AtomSource;
 use kl1_codes::{CodeSource, CodedModule, CodedModules};
-use kl1_goals::GoalRow;
+use kl1_goals::GoalTable;
 use kl1_model::limits::{MOST_LISTED, MOST_PRINTED_BYTES};
 use kl1_model::{Condition, Life};
 use kl1_shoen::{Shoen, ShoenTree};
@@ -54,7 +54,7 @@ pub(crate) fn condition_of(shoen: &Shoen<CellName>, charged: u64) -> Condition
 }
 
 /// How many goals these shoens have other than their monitors. None of them may stand twice.
-fn alive_in(goals: &GoalRow<CellName>, shoens: &[u64]) -> u64
+fn alive_in(goals: &GoalTable<CellName>, shoens: &[u64]) -> u64
     requires { AllPairs (λ a b. a ≢ b) shoens.now }
     ensures { result ≡ count_by (is_alive_in shoens.now) goals.now.goals }
 {
@@ -71,7 +71,7 @@ fn alive_in(goals: &GoalRow<CellName>, shoens: &[u64]) -> u64
 pub(crate) fn status_of(
     alloc: Global,
     shoens: &ShoenTree<CellName>,
-    goals: &GoalRow<CellName>,
+    goals: &GoalTable<CellName>,
     number: u64,
 ) -> Result<Reply, AllocError>
     requires { AreOwned (length shoens.now.shoens) goals.now.goals }

@@ -11,7 +11,7 @@ impl Machine {
     /// Marks where an event begins: `back` comes back to this.
     pub fn begin(&mut self)
         ensures begun { IsBegun self.new }
-        ensures same { self.new ≡ record self.old { mark = point_of self.old.store; goals = record self.old.goals { begun = self.old.goals.goals; begun_shoens = self.old.goals.shoens }; shoens = record self.old.shoens { kept = self.old.shoens.shoens; kept_work = self.old.shoens.work }; begun = self.old.counts; name = None; spelled = None; told = self.new.told; shifts = false } }
+        ensures same { self.new ≡ record self.old { mark = point_of self.old.store; goals = record self.old.goals { begun = self.old.goals.goals; begun_shoens = self.old.goals.shoens; begun_last = self.old.goals.last }; shoens = record self.old.shoens { kept = self.old.shoens.shoens; kept_work = self.old.shoens.work }; begun = self.old.counts; name = None; spelled = None; told = self.new.told; shifts = false } }
     {
         self.mark = self.store.mark();
         self.goals.begin();

@@ -16,7 +16,7 @@ use crate::call_cache::CallCache;
 use crate::machine::Machine;
 use crate::ready_clause::{may_step, ready_clause};
 use kl1_codes::CodeSource;
-use kl1_goals::GoalRow;
+use kl1_goals::GoalTable;
 use kl1_goals_moves::Trial;
 use kl1_shoen::Shift;
 use kl1_text::CellName;
@@ -35,7 +35,7 @@ fn put_in_order(numbers: &mut Vec<u64>)
 }
 
 /// Lets the goals of shoens step, or holds them back, one shift after another.
-fn enable_each(goals: &mut GoalRow<CellName>, shifts: &[Shift]) -> Result<(), AllocError>
+fn enable_each(goals: &mut GoalTable<CellName>, shifts: &[Shift]) -> Result<(), AllocError>
     ensures ok { OnOk result (goals.new.goals ≡ shifted_by shifts.now goals.old.goals) }
     ensures rest { goals.new ≡ record goals.old { goals = goals.new.goals } }
 {

@@ -15,7 +15,7 @@ use crate::account::Account;
 use crate::account_name::AccountName;
 use kl1_atoms::AtomSource;
 use kl1_codes::{CodeSource, Modules};
-use kl1_goals::{GoalRow, Rules};
+use kl1_goals::{GoalTable, Rules};
 use kl1_goals_moves::Trial;
 use kl1_machine::{Counts, Machine, PathScan};
 use kl1_match::Scratch;
@@ -121,7 +121,7 @@ impl<C: CodeSource> Account<C> {
         let machine = Machine {
             rules,
             store,
-            goals: GoalRow::new(alloc),
+            goals: GoalTable::new(alloc),
             shoens: ShoenTree::new(alloc),
             names,
             name: None,

@@ -31,8 +31,5 @@ loop-place-preserved g c =
       chained = rw (take_more_set ss l.place (change x) within) (chained_next ss (change x) l.tallies.items us l.place l.invariant.chained (omega (arith, within)) (omega (arith, within, size, c.requires.few)) known.0 (omega (arith, known.1, l.invariant.counts.length)) c.exchange_last-slot.ensures.was c.exchange_last-slot.ensures.tallies c.exchange_last-slot.ensures.length);
       slots = rw is (changed_same unlinked_in change (λ s. refl) l.place ss) ∙ l.invariant.slots;
       slots_len = l.invariant.slots_len;
-      slots_capacity = l.invariant.slots_capacity;
       counts = counts_counts c.args.tallies.now.items l.tallies.items us l.invariant.counts (counts_exchanged l.tallies.items us x.goal.shoen (l.place + 1) c.exchange_last-slot.ensures.tallies c.exchange_last-slot.ensures.length);
-      len = c.exchange_last-slot.ensures.len ∙ l.invariant.len;
-      capacity = c.exchange_last-slot.ensures.capacity ∙ l.invariant.capacity;
     }

@@ -2,9 +2,9 @@ use Rattle.std.proofs.Common.{length, refl, ap, ◌∙◌}
 use Rattle.std.proofs.lemmas.Bool.{ne_eqb}
 use Rattle.kl1_goals.specs.declared.tally.Tally.{Tally}
 use Rattle.kl1_goals.specs.Tallies.{tally_at}
-use Rattle.kl1_goals.specs.Rows.{kept_then}
+use Rattle.kl1_goals.specs.Keeping.{kept_then}
 use Rattle.kl1_goals.proofs.Linking.{chained_one, last_here, last_other}
-use Rattle.kl1_goals.proofs.Rowing.{tallies_set}
+use Rattle.kl1_goals.proofs.Restoring.{tallies_set}
 use Rattle.kl1_goals.proofs.Walking.{linked_known}
 use Rattle.kl1_goals.proofs.noting.relink.Goals as goal
 

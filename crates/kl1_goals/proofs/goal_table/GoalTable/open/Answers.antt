@@ -1,7 +1,13 @@
+use Rattle.std.proofs.Common.{[], ◌∷◌, ◌++◌}
+use Rattle.kl1_goals.specs.Tallies.{nothing}
 use Rattle.kl1_goals.proofs.Tabling.{opened_table}
+use Rattle.kl1_goals.proofs.Restoring.{moved_tables, noted_open}
 use Rattle.kl1_goals.proofs.goal_table.GoalTable.open.Goals as goal
 
-pub invariant_of-self : goal.invariant_of-self
-invariant_of-self g c =
+pub invariant_of-self-2 : goal.invariant_of-self-2
+invariant_of-self-2 g c =
     let s = c.self.inside in
-    rw c.push_reserved.ensures.items (opened_table s.slots.items s.empty s.queue.ranks s.tallies.items s.alive c.self.invariant)
+    let ss = s.slots.items in
+    let ts = s.tallies.items in
+    rw c.in_ok-push.ensures.items
+    (moved_tables ss ss s.empty s.empty s.queue.ranks s.queue.ranks ts (ts ++ nothing ∷ []) s.alive s.alive s.last s.last s.begun s.begun c.self.invariant (opened_table ss s.empty s.queue.ranks ts s.alive c.self.invariant.now) c.self.invariant.below (noted_open ss nothing ts s.begun c.self.invariant.shoens))

@@ -1,7 +1,7 @@
 use Rattle.std.proofs.Common.{ℕ, map, refl, sym, ◌∙◌, subst}
 use Rattle.std.proofs.lemmas.Result.{on_ok_weaker}
 use Rattle.kl1_text.specs.declared.cell_name.CellName.{CellName}
-use Rattle.kl1_goals.specs.Rows.{Rowed}
+use Rattle.kl1_goals.specs.Tables.{Tabled}
 use Rattle.kl1_goals.specs.Lists.{has_number, looked_at}
 use Rattle.kl1_user_effects.specs.Kept.{IsTaskIn}
 use Rattle.kl1_machine.specs.Ready.{IsReadyAt}
@@ -30,7 +30,7 @@ returns-clause-ok g c j next =
     let x = c.in-Some.goal in
     let o = c.in_ok-clause.clause in
     let may = c.may_step-is_enabled.result in
-    let W : Rowed CellName → Type 0 = λ r. Schedules p j n m (record m { store = k; goals = r }) in
+    let W : Tabled CellName → Type 0 = λ r. Schedules p j n m (record m { store = k; goals = r }) in
     let R : ℕ → Type 0 = λ i. IsReadyAt p m.shoens.shoens m.store.held k.hooks i x.shoen x.task o in
     on_ok_weaker c.look.result
     (λ is. subst W (sym (row_of m c.look.new.self (map (looked_at n o may) m.goals.goals) c.look.ensures.rest is))

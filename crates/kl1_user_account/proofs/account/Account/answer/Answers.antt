@@ -116,7 +116,7 @@ invariant_of-self-2 g c =
       room = omega (arith, room, have, most);
     } in
     let n = c.publish_names.new.self in
-    let K : Aside → Type 0 = λ y. IsKept (account_of y n) n.store.hooks n.goals.shoens in (
+    let K : Aside → Type 0 = λ y. IsKept (account_of y n) n.store.hooks n.goals.shoens n.goals.last in (
       subst K (sym (noted_is x c.note_entry.new.entries c.note_entry.new.run c.note_entry.ensures.entries c.note_entry.ensures.run)) (put_kept x change code texts spares numbers m w c.begin.new.self c.answer-answered.new.self n p),
       counts_as (length n.shoens.work) (suc u.entries) c.note_entry.new.entries 0 c.note_entry.new.run c.note_entry.ensures.entries c.note_entry.ensures.run (put_counts x change code texts spares numbers m w c.begin.new.self c.answer-answered.new.self n p c.self.invariant.1),
     )

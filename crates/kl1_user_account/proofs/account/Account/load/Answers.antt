@@ -149,7 +149,7 @@ invariant_of-self-2 g c =
       fits = c.publish.ensures.fits;
     } in
     let n : Machine = record r { names = names } in
-    let K : Aside → Type 0 = λ y. IsKept (account_of y n) n.store.hooks n.goals.shoens in
+    let K : Aside → Type 0 = λ y. IsKept (account_of y n) n.store.hooks n.goals.shoens n.goals.last in
     let is = after x d row c.reserve.new.self.loaded c.push_module.new.modules.loaded c.note_entry.new.entries c.note_entry.new.run c.push_module.ensures.modules c.reserve.ensures.loaded c.note_entry.ensures.entries c.note_entry.ensures.run in (
       subst K (sym is) (load_kept x c.args.source.now d m w r names row p),
       counts_as (length n.shoens.work) (suc u.entries) c.note_entry.new.entries 0 c.note_entry.new.run c.note_entry.ensures.entries c.note_entry.ensures.run (load_counts x c.args.source.now d m w r names row p c.self.invariant.1),
