@@ -34,6 +34,10 @@ pub(crate) fn note_slot<N: NameValue>(
     ensures same { places_then begun.new slots.now.items ≡ places_then begun.old slots.now.items }
     ensures rest { begun.new ≡ record begun.old { slots = begun.new.slots } }
 {
+    // A place that came since the event began goes, with what stands there, when the table goes back.
+    if begun.places <= place {
+        return Ok(());
+    }
     let value = slots[place];
     begun.slots.push(Was { place, value })?;
     Ok(())

@@ -1,6 +1,6 @@
 // A table of goals that can be put back to what it was when an event began.
 
-ghost use Rattle.std.specs.Prelude.{◌≡◌, ◌+◌, ◌<◌, not, [], ◌∷◌, ◌++◌, None, map, option_map, IfSome, IfOk, OnOk, MatchOption};
+ghost use Rattle.std.specs.Prelude.{◌≡◌, ◌+◌, ◌<◌, not, [], ◌∷◌, ◌++◌, None, map, option_copied, option_map, IfSome, IfOk, OnOk, MatchOption};
 ghost use Rattle.std.specs.List.{filter, find, list_any, count_by};
 ghost use Rattle.kl1_goals.specs.Lists.{has_number, is_other, is_after, is_monitor, is_monitor_of, is_goal_of, is_in, stood_by, looked_at, enabled_in};
 ghost use Rattle.kl1_goals.specs.Readies.{first_from, chosen, stands};
@@ -343,6 +343,19 @@ impl<N: NameValue> GoalRow<N> {
         match held_place(&self.slots, self.seen, number) {
             None => None,
             Some(place) => Some(self.slots[place].goal),
+        }
+    }
+
+    /// The goal with number `number`, lent.
+    pub fn lend(&self, number: u64) -> Option<&Goal<N>>
+        ensures goal { option_copied result ≡ find (has_number number) self.now.goals }
+        ensures number { IfSome result (λ g. g.now.number ≡ number) }
+        ensures known { IfSome result (λ g. IsKnown g.now self.now.shoens) }
+        ensures order { AreInOrder self.now.goals }
+    {
+        match held_place(&self.slots, self.seen, number) {
+            None => None,
+            Some(place) => Some(&self.slots[place].goal),
         }
     }
 

@@ -1,5 +1,5 @@
 -- Changes of states one after another, goals that go, and shoens that end.
-use Rattle.std.proofs.Common.{◌≡◌, ℕ, ◌+◌, ◌<◌, ◌≤◌, drop, get_or, not, ◌&&◌, ◌||◌, Bool, true, false, if◌then◌else◌, List, [], ◌∷◌, ◌++◌, length, refl, sym, ap, ◌∙◌, subst, append-nil, zero-add, arith}
+use Rattle.std.proofs.Common.{◌≡◌, ℕ, ◌+◌, ◌<◌, ◌≤◌, drop, get_or, not, ◌||◌, Bool, true, false, if◌then◌else◌, List, [], ◌∷◌, ◌++◌, length, refl, sym, ap, ◌∙◌, subst, append-nil, zero-add, arith}
 use Rattle.std.specs.Prelude.{cond, count_by, nat_lt, OnOk}
 use Rattle.std.specs.declared.result.Result.{Result}
 use Rattle.std.proofs.lemmas.Bool.{lt-ltb}
@@ -14,9 +14,9 @@ use Rattle.kl1_model.specs.Report.{report, report_each, close, exhausted_report,
 use Rattle.kl1_model.specs.Ending.{without_monitor, ending_of, newly_exhausted, settle, after_reduction, terminate_each}
 use Rattle.kl1_text.specs.declared.cell_name.CellName.{CellName}
 use Rattle.kl1_goals.specs.declared.goal.Goal.{Goal}
-use Rattle.kl1_goals.specs.Lists.{is_monitor_of, is_goal_of}
+use Rattle.kl1_goals.specs.Lists.{is_monitor_of}
 use Rattle.kl1_shoen_paths.specs.declared.shoen.Shoen.{Shoen}
-use Rattle.kl1_shoen.specs.Shoens.{Tree, changed, path_in, lives_in, is_living_child_of}
+use Rattle.kl1_shoen.specs.Shoens.{Tree, changed, path_in}
 use Rattle.kl1_shoen_paths.proofs.Paths.{path_zero}
 use Rattle.kl1_codes.specs.Numbered.{Numbered}
 use Rattle.kl1_user_effects.specs.Fitting.{Reading}
@@ -25,7 +25,7 @@ use Rattle.kl1_user_effects.specs.Kept.{IsShoenIn}
 use Rattle.kl1_user_effects.specs.Works.{worked}
 use Rattle.kl1_user_effects.specs.Works as works
 use Rattle.kl1_user_effects.specs.Endings.{ended_each, finished, finished_each}
-use Rattle.kl1_user_effects.specs.Walks.{terminated, ends_in, ending_in, ended_in, reached_in, EndsOne}
+use Rattle.kl1_user_effects.specs.Walks.{terminated, ends_in, ended_in, reached_in, EndsOne}
 use Rattle.kl1_user_effects.proofs.Apart.{terminates_apart, settles_apart}
 use Rattle.kl1_user_effects.proofs.Ends.{StillEnds, first_end, next_end, last_end}
 use Rattle.kl1_user_effects.proofs.Goals.{monitors_read}
@@ -89,20 +89,6 @@ any_counted p (g ∷ gs) = ap (nat_lt 0) (sum_by-cons (λ (z : Goal CellName). c
     by_case : (b : Bool) → nat_lt 0 (count_by p gs) ≡ list_any p gs → nat_lt 0 (cond b 1 0 + count_by p gs) ≡ (b || list_any p gs)
     by_case true e = some_more (count_by p gs)
     by_case false e = ap (nat_lt 0) (zero-add (count_by p gs)) ∙ e
-
--- a shoen with a goal doesn't end
-kept_one : (goals : List (Goal CellName)) (n : ℕ) (ss : List (Shoen CellName)) → list_any (is_goal_of n) goals ≡ true → ending_in goals (n ∷ []) ss ≡ []
-kept_one goals n ss has = ap (λ b. if lives_in ss n && not b && not (list_any (is_living_child_of n) ss) then n ∷ [] else []) has ∙ by_case (lives_in ss n) (list_any (is_living_child_of n) ss)
-  where
-    by_case : (b c : Bool) → (if b && not true && not c then n ∷ [] else []) ≡ []
-    by_case true c = refl
-    by_case false c = refl
-
--- of a path of one shoen, which has a goal, none ends
-pub kept_alone : (m : Machine) (n up : ℕ) → path_in m.shoens.shoens n ≡ n ∷ path_in m.shoens.shoens up → up ≡ 0 → list_any (is_goal_of n) m.goals.goals ≡ true → ending_in m.goals.goals (path_in m.shoens.shoens n) m.shoens.shoens ≡ []
-kept_alone m n up path e has =
-    let ss = m.shoens.shoens in
-    ap (λ (ps : List ℕ). ending_in m.goals.goals ps ss) (path ∙ ap (λ (ps : List ℕ). n ∷ ps) (path_zero up ss e)) ∙ kept_one m.goals.goals n ss has
 
 -- ---- goals that go
 

@@ -100,7 +100,8 @@ found_case : (c : Bool) (a : ℕ) (r h : Shoen CellName) (o : Option (Shoen Cell
 found_case true a r h o e f k = let same : r ≡ h = cc in sym (ap (λ (x : Shoen CellName). x.number) same) ∙ eqb-true r.number a e
 found_case false a r h o e f k = k f
 
-found_number : (a : ℕ) (ss : List (Shoen CellName)) (h : Shoen CellName) → find (has_number a) ss ≡ Some h → h.number ≡ a
+-- a shoen that is found has the number
+pub found_number : (a : ℕ) (ss : List (Shoen CellName)) (h : Shoen CellName) → find (has_number a) ss ≡ Some h → h.number ≡ a
 found_number a [] h e = absurd (cc)
 found_number a (r ∷ ss) h e = found_case (r.number == a) a r h (find (has_number a) ss) refl e (found_number a ss h)
 

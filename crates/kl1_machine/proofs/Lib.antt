@@ -40,3 +40,4 @@ mod PlainStays
 pub mod Brought
 mod NamesOnce
 pub mod Published
+pub mod Calm

@@ -33,7 +33,7 @@ use Rattle.kl1_user_effects.proofs.Substituting.{replaced_turns}
 use Rattle.kl1_machine.specs.declared.machine.Machine.{Machine}
 use Rattle.kl1_machine.specs.Machines.{made, IsMachine}
 use Rattle.kl1_machine.specs.Effects.{Turns, goal_at, with_goal, KeepsName, Puts, Charges, TurnsAs, Commits}
-use Rattle.kl1_machine.specs.Moving.{UnifiesAs, OpensChild, Making, TurnsBy, MovesAs, RunsAs}
+use Rattle.kl1_machine.specs.Moving.{UnifiesAs, OpensChild, Making, TurnsBy, MovesAs}
 use Rattle.kl1_machine.specs.Naming.{NamesAs}
 
 -- what is found of a move is the move
@@ -140,6 +140,14 @@ moves_giving_way a goal x m n is none i inside own p =
     p.machine)
 
 -- ---- a move with the charge before it, and what comes after it
+
+-- a goal has made a move as `MovesAs` tells, after a charge of its shoen; then shoens of its path have reported that they are exhausted, or
+-- have terminated
+pub record RunsAs (a : Making) (goal : Goal CellName) (x : Qualified CellName) (m n : Machine) : Type 0 where
+  pub turns : TurnsBy a (λ f k s. after_reduction goal.shoen (moved (goal_with (meaning f m.store.held) goal) (aim f m.store.held x) k (charge goal.shoen s))) m n
+  pub machine : IsMachine n
+  pub name : n.name ≡ name_for a.move m.names.names a.text
+  pub spelled : n.spelled ≡ m.spelled
 
 pub runs : (a : Making) (goal : Goal CellName) (x : Qualified CellName) (m c u v : Machine) (reached : Bool) → Charges goal.shoen m c reached → MovesAs a goal x c u → TurnsAs (λ f. after_reduction goal.shoen) u v → RunsAs a goal x m v
 runs a goal x m c u v reached charges moves ends =

@@ -32,9 +32,10 @@ use Rattle.kl1_user_effects.specs.Moving.{ReadsMove, name_for}
 use Rattle.kl1_user_effects.proofs.Works.{turns_as}
 use Rattle.kl1_machine.specs.declared.machine.Machine.{Machine}
 use Rattle.kl1_machine.specs.Machines.{made}
-use Rattle.kl1_machine.specs.Moving.{Making, IsMade, RunsAs}
+use Rattle.kl1_machine.specs.Moving.{Making, IsMade}
 use Rattle.kl1_machine.specs.Naming.{CanBecome, CannotBecome, BindsName, BindsNone, with_text, IsBoundLast, HoldsSpare, Patches, HasName, MakesName}
 use Rattle.kl1_machine.specs.Stepping.{ReadsText, ReadsAll, StepsAs}
+use Rattle.kl1_machine.proofs.Moving.{RunsAs}
 use Rattle.kl1_machine.proofs.Naming.{names_are}
 
 -- ---- a move by which no variable becomes a name

@@ -2,8 +2,6 @@
 use Rattle.std.specs.Prelude.{◌≡◌, ℕ, List, Some}
 use Rattle.kl1_model.specs.State.{State}
 use Rattle.kl1_model.specs.Unify.{mgu}
-use Rattle.kl1_model.specs.Tree.{charge}
-use Rattle.kl1_model.specs.Ending.{after_reduction}
 use Rattle.kl1_model.specs.Opening.{with_shoen, open_shoen}
 use Rattle.kl1_model.specs.Reduction as model
 use Rattle.kl1_model.specs.Reduction.{equation, unified, opens, moved}
@@ -75,13 +73,6 @@ TurnsBy a change m n =
 -- has been used
 pub record MovesAs (a : Making) (goal : Goal CellName) (x : Qualified CellName) (m n : Machine) : Type 0 where
   pub turns : TurnsBy a (λ f k. moved (goal_with (meaning f m.store.held) goal) (aim f m.store.held x) k) m n
-  pub machine : IsMachine n
-  pub name : n.name ≡ name_for a.move m.names.names a.text
-  pub spelled : n.spelled ≡ m.spelled
-
--- the same after a charge of its shoen; then shoens of its path have reported that they are exhausted, or have terminated
-pub record RunsAs (a : Making) (goal : Goal CellName) (x : Qualified CellName) (m n : Machine) : Type 0 where
-  pub turns : TurnsBy a (λ f k s. after_reduction goal.shoen (moved (goal_with (meaning f m.store.held) goal) (aim f m.store.held x) k (charge goal.shoen s))) m n
   pub machine : IsMachine n
   pub name : n.name ≡ name_for a.move m.names.names a.text
   pub spelled : n.spelled ≡ m.spelled

@@ -1,13 +1,11 @@
 -- Walks along the path of a shoen, and which goals it has.
-use Rattle.std.proofs.Common.{◌≡◌, ℕ, not, ◌&&◌, Bool, true, false, if◌then◌else◌, List, [], ◌∷◌, ◌++◌, refl, sym, ap, ◌∙◌, subst}
+use Rattle.std.proofs.Common.{◌≡◌, ℕ, Bool, true, false, if◌then◌else◌, List, [], ◌∷◌, ◌++◌, refl, sym, ap, ◌∙◌, subst}
 use Rattle.std.proofs.lemmas.List.{append-nil, append_assoc}
-use Rattle.kl1_model.specs.Module.{is_among}
 use Rattle.kl1_text.specs.declared.cell_name.CellName.{CellName}
 use Rattle.kl1_goals.specs.declared.goal.Goal.{Goal}
 use Rattle.kl1_shoen_paths.specs.declared.shoen.Shoen.{Shoen}
-use Rattle.kl1_shoen.specs.Shoens.{Tree, changed, path_in, has_reached_in}
-use Rattle.kl1_shoen_paths.proofs.Paths.{path_zero}
-use Rattle.kl1_user_effects.specs.Walks.{terminated, ends_in, ending_in, ended_in, reached_in, EndsOne, EndsLives}
+use Rattle.kl1_shoen.specs.Shoens.{Tree, changed, path_in}
+use Rattle.kl1_user_effects.specs.Walks.{terminated, ends_in, ending_in, ended_in, EndsOne, EndsLives}
 use Rattle.kl1_user_effects.proofs.Walking.{path_ended}
 
 -- ---- lives that end along a path
@@ -67,16 +65,3 @@ last_end goals old now n at ending path i = record {
   ending_is = sym (append-nil ending) ∙ ap (λ (ps : List ℕ). ending ++ ending_in goals ps now.shoens) (sym path) ∙ i.left;
   tree_is = i.tree;
 }
-
-alone_in : (n up : ℕ) (ss : List (Shoen CellName)) → path_in ss n ≡ n ∷ path_in ss up → up ≡ 0 → path_in ss n ≡ n ∷ []
-alone_in n up ss path e = path ∙ ap (λ (ps : List ℕ). n ∷ ps) (path_zero up ss e)
-
-not_false : (b : Bool) → not b ≡ true → b ≡ false
-not_false true e = absurd (cc)
-not_false false e = refl
-
--- of a path of one shoen, which hasn't reached its allowance, none has
-pub unreached_alone : (ss : List (Shoen CellName)) (work ending : List ℕ) (n up : ℕ) (b : Bool) → path_in ss n ≡ n ∷ path_in ss up → up ≡ 0 → b ≡ has_reached_in ss work n → not b ≡ true → reached_in ss work ending (path_in ss n) ≡ []
-unreached_alone ss work ending n up b path e is far =
-    ap (λ (ps : List ℕ). reached_in ss work ending ps) (alone_in n up ss path e)
-    ∙ ap (λ c. if c && not (is_among n ending) then n ∷ [] else []) (sym is ∙ not_false b far)

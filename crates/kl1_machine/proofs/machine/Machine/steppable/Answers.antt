@@ -1,4 +1,5 @@
-use Rattle.std.proofs.Common.{sym, ◌∙◌}
+use Rattle.std.proofs.Common.{sym, ap, ◌∙◌}
+use Rattle.std.specs.Prelude.{option_copied}
 use Rattle.kl1_machine.proofs.Planned.{state_in, steps_syntax, steps_nowhere, steps_held, not_so}
 use Rattle.kl1_machine.proofs.machine.Machine.steppable.Goals as goal
 
@@ -7,8 +8,8 @@ returns-then-not-are_numbers-clause-refused c program full all f fits s is room 
 
 pub returns-in_default-clause-refused : goal.returns-in_default-clause-refused
 returns-in_default-clause-refused c program full all f fits s is room =
-    steps_nowhere f s c.args.self.now c.args.number c.args.clause (sym c.are_numbers.ensures ∙ c.if-not-are_numbers.false) (sym c.get.ensures.goal ∙ c.in_default.is)
+    steps_nowhere f s c.args.self.now c.args.number c.args.clause (sym c.are_numbers.ensures ∙ c.if-not-are_numbers.false) (sym c.lend.ensures.goal ∙ ap option_copied c.in_default.is)
 
 pub returns-then-not-goal-clause-refused : goal.returns-then-not-goal-clause-refused
 returns-then-not-goal-clause-refused c program full all f fits s is room =
-    steps_held f s c.args.self.now c.args.number c.args.clause c.in-Some.goal (sym c.are_numbers.ensures ∙ c.if-not-are_numbers.false) (sym c.get.ensures.goal ∙ c.in-Some.is) (not_so c.in-Some.goal.is_enabled c.if-not-goal.true) all
+    steps_held f s c.args.self.now c.args.number c.args.clause c.in-Some.goal.now (sym c.are_numbers.ensures ∙ c.if-not-are_numbers.false) (sym c.lend.ensures.goal ∙ ap option_copied c.in-Some.is) (not_so c.in-Some.goal.now.is_enabled c.if-not-goal.true) all
