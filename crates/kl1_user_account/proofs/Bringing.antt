@@ -14,8 +14,8 @@ use Rattle.kl1_user_effects.specs.Account.{Account, state_of}
 use Rattle.kl1_machine.specs.declared.machine.Machine.{Machine}
 use Rattle.kl1_machine.specs.Machines.{Keeps}
 use Rattle.kl1_machine.specs.Rested.{IsRested}
-use Rattle.kl1_machine.specs.Exchanging.{AreSpared, PublishesNames}
-use Rattle.kl1_machine.specs.Bringing.{Brings, IsPublished}
+use Rattle.kl1_machine.specs.Bringing.{PublishesNames, Brings, IsPublished}
+use Rattle.kl1_user_effects.specs.Exchanging.{AreSpared}
 use Rattle.kl1_machine.proofs.Brought.{published_states, published_rested, published_alike}
 use Rattle.kl1_user_account.specs.Keeping.{IsKept, CountsWork}
 use Rattle.kl1_user_account.specs.Loadings.{BeginsFrom}

@@ -1,18 +1,17 @@
 -- A reduction of an account, which its machine does.
-use Rattle.std.proofs.Common.{◌≡◌, ℕ, suc, ◌+◌, ◌≤◌, ◌==◌, not, ◌&&◌, ◌||◌, Bool, true, false, if◌then◌else◌, nat_lt, List, [], length, Option, Some, None, refl, sym, ap, ◌∙◌, subst, arith}
+use Rattle.std.proofs.Common.{◌≡◌, ℕ, suc, ◌+◌, ◌≤◌, ◌==◌, not, ◌&&◌, ◌||◌, Bool, true, false, if◌then◌else◌, nat_lt, [], length, Option, Some, None, refl, sym, ap, ◌∙◌, subst, arith}
 use Rattle.std.specs.Prelude.{MatchOption}
 use Rattle.std.proofs.lemmas.Bool.{ltb-true}
 use Rattle.kl1_model.specs.Choice.{is_in_run}
-use Rattle.kl1_model.specs.Event.{reduce, reduced, refuse, is_full, needs_entry, run_after, with_reduction, Transition}
+use Rattle.kl1_model.specs.Event.{reduce, reduced, is_full, needs_entry, run_after, with_reduction, Transition}
 use Rattle.kl1_model.specs.declared.rules.Rules.{Rules}
 use Rattle.kl1_model.specs.Rules.{limits_of}
 use Rattle.kl1_model.specs.State.{State}
 use Rattle.kl1_model.specs.Step.{step}
-use Rattle.kl1_atoms.specs.declared.known.Known.{Known}
 use Rattle.kl1_codes.specs.Finding.{contents}
 use Rattle.kl1_codes.specs.Shelves.{Program}
 use Rattle.kl1_user_events.specs.declared.refusal.Refusal.{Refusal}
-use Rattle.kl1_user_events.specs.Views.{reduced_or, refusal_of}
+use Rattle.kl1_user_events.specs.Views.{reduced_or}
 use Rattle.kl1_user_effects.specs.Fitting.{Reading, Fits}
 use Rattle.kl1_user_effects.specs.Account.{Account, state_of}
 use Rattle.kl1_user_effects.specs.Naming.{NameShelf}

@@ -6,7 +6,6 @@ ghost use Rattle.kl1_user_effects.specs.Kept.{AreShoensIn};
 ghost use Rattle.kl1_user_account.specs.Answering.{AnswersAs};
 
 use crate::counted::Counted;
-use crate::limits::are_numbers;
 use crate::line_length::fits_answer;
 use kl1_clause::{GoalCode, structures_of};
 use kl1_goals::Rules;
@@ -16,7 +15,7 @@ use kl1_store::Store;
 use kl1_stream::unanswered_at;
 use kl1_term::Term;
 use kl1_text::CellName;
-use kl1_user_effects::AccountNames;
+use kl1_user_effects::{AccountNames, are_numbers};
 use kl1_user_events::Refusal;
 use std::alloc::{AllocError, Global};
 

@@ -11,15 +11,15 @@ ghost use Rattle.kl1_machine.specs.declared.machine.Machine.{Machine};
 ghost use Rattle.kl1_machine.specs.Machines.{IsMachine, Keeps, IsBegun};
 ghost use Rattle.kl1_machine.specs.Since.{Since};
 ghost use Rattle.kl1_machine.specs.Rested.{IsRested};
-ghost use Rattle.kl1_machine.specs.Serving.{IsServed};
+ghost use Rattle.kl1_ready.specs.Serving.{IsServed};
 ghost use Rattle.kl1_machine.specs.Bringing.{Brings};
 
-use crate::call_cache::CallCache;
 use crate::machine::Machine;
 use kl1_clause::GoalCode;
 use kl1_codes::CodeSource;
 use kl1_goals_moves::Trial;
 use kl1_match::Scratch;
+use kl1_ready::CallCache;
 use kl1_store::Cell;
 use kl1_text::CellName;
 use std::alloc::AllocError;

@@ -12,8 +12,8 @@ use crate::account::Account;
 use crate::runs::note_entry;
 use kl1_codes::{CodeSource, CodedModules};
 use kl1_goals_moves::Kind;
-use kl1_machine::{CallCache, predicate_of};
 use kl1_model::Message;
+use kl1_ready::{CallCache, predicate_of};
 use kl1_user_events::Reply;
 use std::alloc::AllocError;
 

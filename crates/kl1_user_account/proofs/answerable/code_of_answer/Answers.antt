@@ -1,6 +1,6 @@
 use Rattle.std.proofs.Common.{◌&&◌, true, false, sym, ap, ap₂, ◌∙◌}
 use Rattle.kl1_model.specs.Answering.{may_answer}
-use Rattle.kl1_user_account.proofs.Origins.{origin_in}
+use Rattle.kl1_user_effects.proofs.Messages.{origin_in}
 use Rattle.kl1_user_account.proofs.AnswerSteps.{right_report, refused_wrong, refused_nowhere, refused_ended, refused_crowd, refused_limit, refused_full, refused_answered, answerable, few_code, room_code}
 use Rattle.kl1_user_account.proofs.answerable.code_of_answer.Goals as goal
 

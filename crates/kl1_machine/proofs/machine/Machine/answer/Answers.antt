@@ -1,7 +1,7 @@
 use Rattle.std.proofs.lemmas.Result.{on_ok_weaker}
 use Rattle.kl1_model.specs.Answering.{answered}
 use Rattle.kl1_machine.proofs.Keeping.{keeps_then}
-use Rattle.kl1_machine.proofs.Ready.{nobody_lets}
+use Rattle.kl1_ready.proofs.Ready.{nobody_lets}
 use Rattle.kl1_machine.proofs.Sincing.{since_same}
 use Rattle.kl1_machine.proofs.Brought.{brings_rescheduled}
 use Rattle.kl1_machine.proofs.machine.Machine.answer.Goals as goal

@@ -5,7 +5,7 @@ use Rattle.kl1_machine.specs.declared.machine.Machine.{Machine}
 use Rattle.kl1_machine.specs.Machines.{Trail}
 use Rattle.kl1_machine.proofs.Keeping.{keeps_then}
 use Rattle.kl1_machine.proofs.Sincing.{since_same}
-use Rattle.kl1_machine.proofs.Ready.{nobody_lets}
+use Rattle.kl1_ready.proofs.Ready.{nobody_lets}
 use Rattle.kl1_machine.proofs.Reduced.{only_monitor, heard_reduces, unnamed_publishes, charged_by}
 use Rattle.kl1_machine.proofs.machine.Machine.run_reading.Goals as goal
 

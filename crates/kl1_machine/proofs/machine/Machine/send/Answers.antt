@@ -3,10 +3,11 @@ use Rattle.kl1_model.specs.Sending.{sent_on}
 use Rattle.kl1_user_effects.specs.Account.{meaning}
 use Rattle.kl1_machine.specs.declared.machine.Machine.{Machine}
 use Rattle.kl1_machine.proofs.Keeping.{keeps_same, keeps_then}
-use Rattle.kl1_machine.proofs.Ready.{nobody_lets}
+use Rattle.kl1_ready.proofs.Ready.{nobody_lets}
 use Rattle.kl1_machine.proofs.Resting.{turns_rescheduled}
 use Rattle.kl1_machine.proofs.Sincing.{since_same}
-use Rattle.kl1_machine.proofs.Sending.{origin_in, sends_as}
+use Rattle.kl1_user_effects.proofs.Messages.{origin_in}
+use Rattle.kl1_machine.proofs.Sending.{sends_as}
 use Rattle.kl1_machine.proofs.machine.Machine.send.Goals as goal
 
 pub returns-in-Err-clause-ok : goal.returns-in-Err-clause-ok

@@ -11,7 +11,7 @@ use Rattle.kl1_user_effects.specs.Fitting.{Reading}
 use Rattle.kl1_user_effects.specs.Account.{Account, state_of}
 use Rattle.kl1_machine.specs.declared.machine.Machine.{Machine}
 use Rattle.kl1_machine.specs.Machines.{Trail}
-use Rattle.kl1_machine.specs.Exchanging.{AreSpared}
+use Rattle.kl1_user_effects.specs.Exchanging.{AreSpared}
 use Rattle.kl1_user_account.specs.Accounts.{kept_in}
 use Rattle.kl1_user_account.specs.Keeping.{IsKept}
 use Rattle.kl1_user_account.specs.Starting.{HasNames}
